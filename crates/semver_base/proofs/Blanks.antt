@@ -1,0 +1,41 @@
+-- Blanks at the front of a text.
+use Rattle.std.proofs.Common.{◌≡◌, ◌≤◌, ◌<◌, ℕ, List, [], ◌∷◌, ◌++◌, length, take, refl, sym, ap, ◌∙◌, arith, append_assoc, length-append}
+use Rattle.std.specs.Char.{is_not_whitespace}
+use Rattle.std.specs.Str.{EmptyOrStartsWithPassing, IsTrimStart, NonePass, NoCharPasses, encode_utf8_all}
+use Rattle.std.specs.Prelude.{encode_utf8}
+use Rattle.std.proofs.lemmas.Str.{encode_same, len_utf8_bounds, length-encode}
+use Rattle.std.proofs.lemmas.List.{take-append-drop}
+use Rattle.std.proofs.lemmas.Bool.{both_ways}
+use Rattle.semver_base.specs.Grammar.{IsLongest}
+use Rattle.semver_base.specs.Lexical.{IsBlanks}
+
+-- no blanks at the front are longer than those after which no blank follows
+no_longer : (cs ds rest b after : List ℕ) → NonePass is_not_whitespace cs → NonePass is_not_whitespace ds → EmptyOrStartsWithPassing is_not_whitespace rest after
+    → encode_utf8_all cs ++ b ≡ encode_utf8_all ds ++ rest → length (encode_utf8_all cs) ≤ length (encode_utf8_all ds)
+no_longer [] ds rest b after pa pf stop e = omega arith
+no_longer (c ∷ cs) [] rest b after pa pf stop e =
+    let split : encode_utf8 c ++ (encode_utf8_all cs ++ b) ≡ rest = sym (append_assoc (encode_utf8 c) (encode_utf8_all cs) b) ∙ e in
+    let size : 0 < length rest = omega (arith, ap length split, length-append (encode_utf8 c) (encode_utf8_all cs ++ b), length-encode c, len_utf8_bounds c) in
+    let next = stop size in
+    let same_char : c ≡ next.0 = (encode_same c next.0 (encode_utf8_all cs ++ b) after (split ∙ next.2)).0 in
+    absurd (both_ways (is_not_whitespace c) pa.0 (rw same_char next.1))
+no_longer (c ∷ cs) (d ∷ ds) rest b after pa pf stop e =
+    let split : encode_utf8 c ++ (encode_utf8_all cs ++ b) ≡ encode_utf8 d ++ (encode_utf8_all ds ++ rest) = sym (append_assoc (encode_utf8 c) (encode_utf8_all cs) b) ∙ (e ∙ append_assoc (encode_utf8 d) (encode_utf8_all ds) rest) in
+    let both = encode_same c d (encode_utf8_all cs ++ b) (encode_utf8_all ds ++ rest) split in
+    let tail = no_longer cs ds rest b after pa.1 pf.1 stop both.1 in
+    omega (arith, tail, ap (λ x. length (encode_utf8 x)) both.0, length-append (encode_utf8 c) (encode_utf8_all cs), length-append (encode_utf8 d) (encode_utf8_all ds))
+
+pub blanks_longest : (text rest : List ℕ) → IsTrimStart text rest → IsLongest IsBlanks text tt rest
+blanks_longest text rest h = record {
+  front = take h.0 text;
+  text_is = sym (take-append-drop h.0 text) ∙ ap (λ t. take h.0 text ++ t) (sym h.1);
+  stands = h.2;
+  longest = λ a b w e k.
+      (go a b e k, λ _. refl);
+}
+  where
+    go : (a b : List ℕ) → text ≡ a ++ b → NoCharPasses is_not_whitespace a → length a ≤ length (take h.0 text)
+    go a b e k =
+        let split : a ++ b ≡ take h.0 text ++ rest = sym e ∙ (sym (take-append-drop h.0 text) ∙ ap (λ t. take h.0 text ++ t) (sym h.1)) in
+        let chars_split : encode_utf8_all k.0 ++ b ≡ encode_utf8_all h.2.0 ++ rest = ap (λ t. t ++ b) k.1 ∙ (split ∙ ap (λ t. t ++ rest) (sym h.2.1)) in
+        omega (arith, no_longer k.0 h.2.0 rest b h.3.0 k.2 h.2.2 h.3.1 chars_split, ap length k.1, ap length h.2.1)

@@ -1,0 +1,9 @@
+pub mod Blanks
+pub mod Bytes
+pub mod Fronts
+pub mod Lists
+pub mod MeaningLemmas
+pub mod Numbers
+pub mod Parts
+pub mod PrecedenceLemmas
+pub mod Qualifiers

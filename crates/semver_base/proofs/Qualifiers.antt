@@ -1,0 +1,150 @@
+-- Pre-releases, builds and qualifiers at the front of a text.
+use Rattle.std.proofs.Common.{◌≡◌, ◌≤◌, ℕ, true, List, [], ◌∷◌, ◌++◌, length, Option, Some, None, refl, ap, ◌∙◌, arith, inl, inr, ◌==◌}
+use Rattle.std.specs.Prelude.{◌||◌, slice_index}
+use Rattle.std.specs.Char.{is_ascii_digit}
+use Rattle.std.specs.List.{list_all}
+use Rattle.std.proofs.lemmas.Bool.{and_from, or_left, or_right}
+use Rattle.std.proofs.lemmas.Bool.Decides.{nat_tests}
+use Rattle.semver_base.specs.Grammar.{IsLongest, IsSeen, HasNone, Optional, Reads}
+use Rattle.semver_base.specs.Lexical.{IsBuild, IsLooseNumber, IsLoosePre, IsNumberEnd, IsParts, IsPre, IsQualifier, or_none, qualifier_of}
+use Rattle.semver_base.specs.declared.lexical.values.Qualifier.{Qualifier}
+use Rattle.semver_base.specs.declared.lexical.values.Strictness.{Strictness}
+use Rattle.semver_base.specs.declared.lexical.values.Strictness.TheVariants.{Loose, Strict}
+use Rattle.semver_base.proofs.Fronts.{Apart, NoClash, NonEmpty, followed, joined, joined_none_first, mapped, marked_none, marked_other, marked_some, optional_none, optional_some}
+use Rattle.semver_base.proofs.Bytes.{BeginsBy, Disjoint, MadeOf, apart_by, begins_from_made, begins_wider, joined_begins_either, mapped_begins, goes_from_made, marked_begins, marked_made, optional_begins, optional_goes}
+use Rattle.semver_base.proofs.Parts.{is_parts_byte, parts_made, parts_some}
+use Rattle.semver_base.proofs.Numbers.{loose_begins, loose_end, loose_goes, loose_some}
+
+-- ---- loose pre-releases
+
+module _ {text rest : List ℕ} (e : text ≡ 45 ∷ rest) where
+  loose_some_marked : (v : List (List ℕ)) (end : List ℕ) → IsLongest IsParts rest v end → IsLongest IsLoosePre text v end
+  loose_some_marked v end p = record { front = 45 ∷ p.front; text_is = e ∙ ap (λ t. 45 ∷ t) p.text_is; stands = inl (refl, p.stands); longest = go }
+    where
+      go : (a b : List ℕ) (w : List (List ℕ)) → text ≡ a ++ b → IsLoosePre a w → (length a ≤ length (45 ∷ p.front)) × (length a ≡ length (45 ∷ p.front) → w ≡ v)
+      go [] b w f h = absurd h
+      go (x ∷ a) b w f h = elim h [
+        | inl k ↦ let tail : rest ≡ a ++ b = cc in let best = p.longest a b w tail k.1 in (omega (arith, best.0), λ s. best.1 (omega arith))
+        | inr k ↦ absurd (k.0 (cc))
+      ]
+
+  loose_none_marked : HasNone IsParts rest → HasNone IsLoosePre text
+  loose_none_marked p = record { none = go }
+    where
+      go : (a b : List ℕ) (w : List (List ℕ)) → text ≡ a ++ b → IsLoosePre a w → ⊥
+      go [] b w f h = h
+      go (x ∷ a) b w f h = elim h [
+        | inl k ↦ let tail : rest ≡ a ++ b = cc in p.none a b w tail k.1
+        | inr k ↦ k.0 (cc)
+      ]
+
+  loose_marked : (r : Option (List (List ℕ) × List ℕ)) → Reads IsParts rest r → Reads IsLoosePre text r
+  loose_marked None h = loose_none_marked h
+  loose_marked (Some p) h = loose_some_marked p.0 p.1 h
+
+module _ {text : List ℕ} (other : (rest : List ℕ) → text ≡ 45 ∷ rest → ⊥) where
+  loose_from_parts : (a b : List ℕ) (v : List (List ℕ)) → text ≡ a ++ b → IsParts a v → IsLoosePre a v
+  loose_from_parts [] b v e h = absurd (parts_some.some v h)
+  loose_from_parts (x ∷ a) b v e h = inr (λ same. other (a ++ b) (e ∙ ap (λ y. y ∷ (a ++ b)) same), h)
+
+  parts_from_loose : (a b : List ℕ) (v : List (List ℕ)) → text ≡ a ++ b → IsLoosePre a v → IsParts a v
+  parts_from_loose [] b v e h = absurd h
+  parts_from_loose (x ∷ a) b v e h = elim h [
+    | inl k ↦ absurd (other (a ++ b) (e ∙ ap (λ y. y ∷ (a ++ b)) k.0))
+    | inr k ↦ k.1
+  ]
+
+  loose_plain : (r : Option (List (List ℕ) × List ℕ)) → Reads IsParts text r → Reads IsLoosePre text r
+  loose_plain None h = record { none = λ a b w e k. h.none a b w e (parts_from_loose a b w e k) }
+  loose_plain (Some p) h = record {
+    front = h.front;
+    text_is = h.text_is;
+    stands = loose_from_parts h.front p.1 p.0 h.text_is h.stands;
+    longest = λ a b w e k. h.longest a b w e (parts_from_loose a b w e k);
+  }
+
+-- ---- what the readers answer
+
+pub pre_marked : (s : Strictness) (text rest : List ℕ) (r : Option (List (List ℕ) × List ℕ)) → text ≡ 45 ∷ rest → Reads IsParts rest r → Reads (IsPre s) text r
+pre_marked Loose text rest r e h = loose_marked e r h
+pre_marked Strict text rest None e h = marked_none e h
+pre_marked Strict text rest (Some p) e h = marked_some e h
+
+pub pre_plain : (s : Strictness) (text : List ℕ) (r : Option (List (List ℕ) × List ℕ)) → ((rest : List ℕ) → text ≡ 45 ∷ rest → ⊥) → (s ≡ Strict → ⊥) → Reads IsParts text r → Reads (IsPre s) text r
+pre_plain Loose text r other not h = loose_plain other r h
+pre_plain Strict text r other not h = absurd (not refl)
+
+pub pre_absent : (s : Strictness) (text : List ℕ) → ((rest : List ℕ) → text ≡ 45 ∷ rest → ⊥) → s ≡ Strict → HasNone (IsPre s) text
+pre_absent Loose text other e = cc e
+pre_absent Strict text other e = marked_other other
+
+pub build_marked : (text rest : List ℕ) (r : Option (List (List ℕ) × List ℕ)) → text ≡ 43 ∷ rest → Reads IsParts rest r → Reads IsBuild text r
+build_marked text rest None e h = marked_none e h
+build_marked text rest (Some p) e h = marked_some e h
+
+-- ---- with which bytes they begin and go on
+
+loose_made : MadeOf IsLoosePre is_parts_byte
+loose_made = record { made = go }
+  where
+    go : (text : List ℕ) (v : List (List ℕ)) → IsLoosePre text v → list_all is_parts_byte text ≡ true
+    go [] v h = refl
+    go (x ∷ rest) v h = elim h [
+      | inl k ↦ and_from (is_parts_byte x) (list_all is_parts_byte rest) (rw k.0 refl) (parts_made.made rest v k.1)
+      | inr k ↦ parts_made.made (x ∷ rest) v k.1
+    ]
+
+pub pre_made : (s : Strictness) → MadeOf (IsPre s) is_parts_byte
+pre_made Loose = loose_made
+pre_made Strict = marked_made parts_made 45 refl
+
+pub pre_some : (s : Strictness) → NonEmpty (IsPre s)
+pre_some Loose = record { some = λ v h. h }
+pre_some Strict = record { some = λ v h. h }
+
+plus_apart : Disjoint is_parts_byte (λ x. x == 43)
+plus_apart x h k = grind (arith, nat_tests)
+
+pre_build_apart : (s : Strictness) → Apart (Optional (IsPre s)) (Optional IsBuild)
+pre_build_apart s = apart_by is_parts_byte (λ x. x == 43) plus_apart (optional_goes (begins_from_made (pre_made s)) (goes_from_made (pre_made s))) (optional_begins (marked_begins 43))
+
+pub optional_read : {A : List ℕ → List (List ℕ) → Type 0} {text rest : List ℕ} {v : List (List ℕ)} → NonEmpty A → IsLongest A text v rest → IsSeen or_none (Optional A) text v rest
+optional_read {v = v} some p = record { value = Some v; longest = optional_some some p; seen = refl }
+
+pub optional_unread : {A : List ℕ → List (List ℕ) → Type 0} {text : List ℕ} → HasNone A text → IsSeen or_none (Optional A) text [] text
+optional_unread p = record { value = None; longest = optional_none p; seen = refl }
+
+pub qualifier_read : (s : Strictness) {text middle rest : List ℕ} {pre build : List (List ℕ)} → IsSeen or_none (Optional (IsPre s)) text pre middle → IsSeen or_none (Optional IsBuild) middle build rest → IsLongest (IsQualifier s) text (record { pre = pre; build = build }) rest
+qualifier_read s p q =
+    let both = mapped {f = qualifier_of} (followed (pre_build_apart s) p.longest q.longest) in
+    rw (p.seen, q.seen) both
+
+-- ---- a number and a qualifier
+
+-- a strict qualifier begins with no digit
+strict_begins : BeginsBy (IsQualifier Strict) (λ x. (x == 45) || (x == 43))
+strict_begins = mapped_begins (joined_begins_either
+    (optional_begins (begins_wider (λ x. x == 45) (λ x. (x == 45) || (x == 43)) (λ x h. or_left (x == 45) (x == 43) h) (marked_begins 45)))
+    (optional_begins (begins_wider (λ x. x == 43) (λ x. (x == 45) || (x == 43)) (λ x h. or_right (x == 45) (x == 43) h) (marked_begins 43))))
+
+no_strict_digit : Disjoint (λ x. (x == 45) || (x == 43)) is_ascii_digit
+no_strict_digit x h k = grind (arith, nat_tests)
+
+pub strict_no_digit : (x : ℕ) (more : List ℕ) (w : Qualifier) → IsQualifier Strict (x ∷ more) w → is_ascii_digit x ≡ true → ⊥
+strict_no_digit x more w h = no_strict_digit x (strict_begins.begins x (record { more = more; value = w; stands = h }))
+
+-- what follows a longest loose number doesn't go on with digits
+pub number_end : {text middle : List ℕ} {n : ℕ} (p : IsLongest IsLooseNumber text n middle) (q rest : List ℕ) → middle ≡ q ++ rest → IsNumberEnd p.front q
+number_end p [] rest e = λ d g. cc g
+number_end p (y ∷ q) rest e = λ d g. loose_end p y (q ++ rest) e g
+
+starts_digit : (a : List ℕ) (v : ℕ) → IsLooseNumber a v → is_ascii_digit (slice_index a 0) ≡ true
+starts_digit [] v h = absurd (loose_some.some v h)
+starts_digit (y ∷ a) v h = loose_begins.begins y (record { more = a; value = v; stands = h })
+
+-- the number that is taken goes on as long as it can
+pub number_clash : {W : Type 0} (B : List ℕ → W → Type 0) → NoClash IsNumberEnd IsLooseNumber B
+number_clash B = record {
+  apart = λ a m b x v u w short long h seam.
+      seam (starts_digit a v short) (loose_goes.goes x (record { front = a; more = m; short_value = v; long_value = u; short = short; long = long }));
+}

@@ -1,0 +1,10 @@
+use Rattle.std.specs.Char.{is_ascii_digit}
+use Rattle.std.proofs.Common.{rules}
+use Rattle.semver_base.proofs.Numbers.{cuts_run, run_boundary, digit_ascii}
+use Rattle.semver_base.proofs.lexical.split_digits.Goals as goal
+
+pub split_at-requires : goal.split_at-requires
+split_at-requires c = run_boundary is_ascii_digit digit_ascii c.args.text.now c.digits_len.result c.utf8.text (search rules)
+
+pub returns : goal.returns
+returns c = cuts_run is_ascii_digit c.args.text.now c.split_at.result.0.now c.split_at.result.1.now c.digits_len.result (search rules) c.split_at.ensures.front c.split_at.ensures.back

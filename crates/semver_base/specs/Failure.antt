@@ -1,0 +1,23 @@
+-- What a failure tells.
+use Rattle.std.specs.Prelude.{ℕ, List, Option, Some, None, codes}
+use Rattle.semver_base.specs.declared.failure.Refusal.{Refusal}
+use Rattle.semver_base.specs.declared.failure.Refusal.TheVariants.{UnexpectedCharacter, EmptyConstraint, MissingMinor, MissingPatch, NumberTooLarge, BoundTooLarge}
+
+-- the message of a failure; a failure with no texts is want of memory
+abbrev pub message_of : Option (List ℕ × Option (List ℕ)) → List ℕ
+message_of None = codes "Out of memory."
+message_of (Some texts) = texts.0
+
+-- the part of the text that a failure names
+abbrev pub snippet_of : Option (List ℕ × Option (List ℕ)) → Option (List ℕ)
+snippet_of None = None
+snippet_of (Some texts) = texts.1
+
+-- the line that tells of a refusal
+abbrev pub refusal_message : Refusal → List ℕ
+refusal_message UnexpectedCharacter = codes "Unexpected character."
+refusal_message EmptyConstraint = codes "Empty version constraint."
+refusal_message MissingMinor = codes "Missing minor version. Versions must be in the form MAJOR.MINOR.PATCH (ex. 1.0.0)."
+refusal_message MissingPatch = codes "Missing patch version. Versions must be in the form MAJOR.MINOR.PATCH (ex. 1.0.0)."
+refusal_message NumberTooLarge = codes "Number is too large."
+refusal_message BoundTooLarge = codes "Version bound is too large."

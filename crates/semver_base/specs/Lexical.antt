@@ -1,0 +1,99 @@
+-- The words of versions and requirements: blanks, numbers, parts, pre-releases, builds and qualifiers, as texts of
+-- bytes. Sources: SemVer 2.0.0, sections 2, 9 and 10, for numbers and identifiers; node-semver's range grammar, with
+-- its loose forms, for numbers with leading zeros and pre-releases without `-`.
+use Rattle.std.specs.Prelude.{◌≡◌, ◌<◌, ℕ, List, [], ◌∷◌, length, Bool, true, ◌||◌, ◌==◌, Option, Some, None, ◌⊎◌, slice_index, if◌then◌else◌, nat_lt, ◌^◌}
+use Rattle.std.specs.Char.{is_ascii_digit, is_ascii_alphanumeric, is_not_whitespace}
+use Rattle.std.specs.Str.{NoCharPasses}
+use Rattle.std.specs.Str.Parse.{digits_value}
+use Rattle.semver_base.specs.Grammar.{Followed, Listed, Mapped, Marked, Optional, Run}
+use Rattle.semver_base.specs.declared.lexical.values.Measured.{Measured}
+use Rattle.semver_base.specs.declared.lexical.values.Measured.TheVariants.{Fits, TooLarge}
+use Rattle.semver_base.specs.declared.lexical.values.Qualifier.{Qualifier}
+use Rattle.semver_base.specs.declared.lexical.values.Strictness.{Strictness}
+use Rattle.semver_base.specs.declared.lexical.values.Strictness.TheVariants.{Loose, Strict}
+
+-- the byte m alone
+abbrev pub IsByte : ℕ → List ℕ → Unit {0} → Type 0
+IsByte m text v = text ≡ m ∷ []
+
+-- ---- blanks
+
+-- characters of white space, or none
+abbrev pub IsBlanks : List ℕ → Unit {0} → Type 0
+IsBlanks text v = NoCharPasses is_not_whitespace text
+
+-- one or more
+abbrev pub IsSomeBlanks : List ℕ → Unit {0} → Type 0
+IsSomeBlanks text v = (0 < length text) × NoCharPasses is_not_whitespace text
+
+-- ---- numbers, of any size
+
+-- one or more digits
+abbrev pub IsLooseNumber : List ℕ → ℕ → Type 0
+IsLooseNumber = Mapped (digits_value 10) (Run is_ascii_digit)
+
+-- `0`, or a digit 1 to 9 and any digits after it
+pub record IsStrictNumber (text : List ℕ) (n : ℕ) : Type 0 where
+  pub digits : IsLooseNumber text n
+  pub no_leading_zero : slice_index text 0 ≡ 48 → length text ≡ 1
+
+abbrev pub IsNumber : Strictness → List ℕ → ℕ → Type 0
+IsNumber Loose = IsLooseNumber
+IsNumber Strict = IsStrictNumber
+
+-- no digit follows a number: before begins with a digit exactly where it is a number
+abbrev pub IsNumberEnd : List ℕ → List ℕ → Type 0
+IsNumberEnd before after = is_ascii_digit (slice_index before 0) ≡ true → is_ascii_digit (slice_index after 0) ≡ true → ⊥
+
+-- what 64 bits can tell of a number
+abbrev pub sized : ℕ → Measured ℕ
+sized n = if nat_lt n (2 ^ 64) then Fits n else TooLarge
+
+-- what was read, and None for what is too large, seen so
+abbrev pub measured_of : Option ℕ → Measured ℕ
+measured_of None = TooLarge
+measured_of (Some n) = Fits n
+
+-- ---- parts
+
+-- one of `0-9`, `A-Z`, `a-z` and `-`
+abbrev pub is_part_byte : ℕ → Bool
+is_part_byte b = is_ascii_alphanumeric b || (b == 45)
+
+abbrev pub IsPart : List ℕ → List ℕ → Type 0
+IsPart = Run is_part_byte
+
+-- parts with a dot between neighbours, and one at the end or none
+abbrev pub IsParts : List ℕ → List (List ℕ) → Type 0
+IsParts = Listed IsPart (IsByte 46)
+
+-- ---- qualifiers
+
+-- what begins with `-` loses exactly that; what begins with no `-` is parts as it stands
+abbrev pub IsLoosePre : List ℕ → List (List ℕ) → Type 0
+IsLoosePre [] ids = ⊥
+IsLoosePre (b ∷ rest) ids = ((b ≡ 45) × IsParts rest ids) ⊎ ((b ≡ 45 → ⊥) × IsParts (b ∷ rest) ids)
+
+-- `-`, and parts after it
+abbrev pub IsStrictPre : List ℕ → List (List ℕ) → Type 0
+IsStrictPre = Marked 45 IsParts
+
+abbrev pub IsPre : Strictness → List ℕ → List (List ℕ) → Type 0
+IsPre Loose = IsLoosePre
+IsPre Strict = IsStrictPre
+
+-- `+`, and parts after it
+abbrev pub IsBuild : List ℕ → List (List ℕ) → Type 0
+IsBuild = Marked 43 IsParts
+
+-- the identifiers, and none where there are no parts
+abbrev pub or_none : Option (List (List ℕ)) → List (List ℕ)
+or_none None = []
+or_none (Some ids) = ids
+
+abbrev pub qualifier_of : Option (List (List ℕ)) × Option (List (List ℕ)) → Qualifier
+qualifier_of v = record { pre = or_none v.0; build = or_none v.1 }
+
+-- an optional pre-release, and then an optional build
+abbrev pub IsQualifier : Strictness → List ℕ → Qualifier → Type 0
+IsQualifier s = Mapped qualifier_of (Followed (Optional (IsPre s)) (Optional IsBuild))

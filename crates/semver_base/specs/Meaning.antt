@@ -1,0 +1,83 @@
+-- What bounds hold, and which versions comparators, alternatives and trees of them mean. Source: node-semver's
+-- description of ranges and of pre-release tags.
+use Rattle.std.specs.Prelude.{ℕ, List, [], ◌∷◌, length, map, Bool, true, false, ◌==◌, ◌&&◌, ◌||◌, not}
+use Rattle.std.specs.List.{list_all, list_any}
+use Rattle.std.specs.Ordering.{is_ge, is_gt, is_le, is_lt}
+use Rattle.std.specs.declared.cmp.Ordering.{Ordering}
+use Rattle.semver_base.specs.Precedence.{precedence_cmp}
+use Rattle.semver_base.specs.declared.version.Version.{Version}
+use Rattle.semver_base.specs.declared.range.RangeBound.{RangeBound}
+use Rattle.semver_base.specs.declared.range.RangeBound.TheVariants as bound
+use Rattle.semver_base.specs.declared.range.VersionBoundKind.{VersionBoundKind}
+use Rattle.semver_base.specs.declared.range.VersionBoundKind.TheVariants as kind
+use Rattle.semver_base.specs.declared.range.VersionRange.{VersionRange}
+
+-- ---- bounds
+
+-- a version that compares so to a start is above it, or at it where the start is inclusive
+abbrev pub is_above : VersionBoundKind → Ordering → Bool
+is_above kind.Inclusive order = is_ge order
+is_above kind.Exclusive order = is_gt order
+
+-- a version that compares so to an end is below it, or at it where the end is inclusive
+abbrev pub is_below : VersionBoundKind → Ordering → Bool
+is_below kind.Inclusive order = is_le order
+is_below kind.Exclusive order = is_lt order
+
+abbrev pub start_holds : RangeBound → Version → Bool
+start_holds (bound.Version b) v = is_above b.kind (precedence_cmp v b.version)
+start_holds bound.Unbounded v = true
+
+abbrev pub end_holds : RangeBound → Version → Bool
+end_holds (bound.Version b) v = is_below b.kind (precedence_cmp v b.version)
+end_holds bound.Unbounded v = true
+
+-- the bound is a pre-release of the version's three numbers
+abbrev pub has_pre_of : RangeBound → Version → Bool
+has_pre_of (bound.Version b) v = not (length b.version.pre == 0)
+    && ((b.version.major == v.major) && ((b.version.minor == v.minor) && (b.version.patch == v.patch)))
+has_pre_of bound.Unbounded v = false
+
+-- ---- comparators: each is a pair of bounds
+
+abbrev pub bounds_hold : VersionRange → Version → Bool
+bounds_hold range v = start_holds range.start v && end_holds range.end v
+
+abbrev pub admits_pre : VersionRange → Version → Bool
+admits_pre range v = has_pre_of range.start v || has_pre_of range.end v
+
+abbrev pub is_release : Version → Bool
+is_release v = length v.pre == 0
+
+-- an alternative means the versions that the bounds of every comparator hold; a pre-release only where some bound of
+-- some comparator is a pre-release of its three numbers
+abbrev pub alternative_means : List VersionRange → Version → Bool
+alternative_means comparators v = list_all (λ range. bounds_hold range v) comparators
+    && (is_release v || list_any (λ range. admits_pre range v) comparators)
+
+-- a tree means what some alternative does
+abbrev pub tree_means : List (List VersionRange) → Version → Bool
+tree_means tree v = list_any (λ comparators. alternative_means comparators v) tree
+
+-- ranges, each as the alternative whose only comparator it is
+abbrev pub alternatives : List VersionRange → List (List VersionRange)
+alternatives ranges = map (λ range. range ∷ []) ranges
+
+-- ---- two ranges by name
+
+abbrev pub everything : VersionRange
+everything = record { start = bound.Unbounded; end = bound.Unbounded }
+
+-- a release of these three numbers
+abbrev pub release : ℕ → ℕ → ℕ → Version
+release major minor patch = record { major = major; minor = minor; patch = patch; pre = []; build = [] }
+
+abbrev pub from : Version → RangeBound
+from v = bound.Version (record { kind = kind.Inclusive; version = v })
+
+abbrev pub to_below : Version → RangeBound
+to_below v = bound.Version (record { kind = kind.Exclusive; version = v })
+
+-- from 0.0.0 to below 0.0.0
+abbrev pub nothing : VersionRange
+nothing = record { start = from (release 0 0 0); end = to_below (release 0 0 0) }

@@ -1,0 +1,151 @@
+//! Why a text or a bound was refused.
+
+ghost use Rattle.std.specs.Prelude.{◌≡◌, ◌↔◌, ◌⊎◌, IsTrue, IfOk, Some, None};
+ghost use Rattle.std.specs.Option.{option_copied};
+ghost use Rattle.semver_base.specs.Failure.{message_of, refusal_message, snippet_of};
+
+use crate::string::SmallStackString;
+use std::alloc::{AllocError, Global};
+use std::fmt;
+use std::marker::Model;
+
+/// The kinds of refusal of a version, a requirement or a bound, other than want of memory.
+#[derive(Clone, Copy, Debug, PartialEq, Eq)]
+pub enum Refusal {
+    /// The text is outside the grammar.
+    UnexpectedCharacter,
+    /// A requirement is blank, where that is no requirement.
+    EmptyConstraint,
+    /// No `.` follows the first number of a version.
+    MissingMinor,
+    /// No `.` follows the second number of a version.
+    MissingPatch,
+    /// A number is larger than 18446744073709551615.
+    NumberTooLarge,
+    /// A bound that is needed is larger than 18446744073709551615.
+    BoundTooLarge,
+}
+
+impl Refusal {
+    /// The line that tells of the refusal.
+    pub fn message(self) -> &'static str
+        ensures { result.now ≡ refusal_message self }
+    {
+        match self {
+            Refusal::UnexpectedCharacter => "Unexpected character.",
+            Refusal::EmptyConstraint => "Empty version constraint.",
+            Refusal::MissingMinor => {
+                "Missing minor version. Versions must be in the form MAJOR.MINOR.PATCH (ex. 1.0.0)."
+            }
+            Refusal::MissingPatch => {
+                "Missing patch version. Versions must be in the form MAJOR.MINOR.PATCH (ex. 1.0.0)."
+            }
+            Refusal::NumberTooLarge => "Number is too large.",
+            Refusal::BoundTooLarge => "Version bound is too large.",
+        }
+    }
+}
+
+/// Why a text or a bound was refused: a message and, for some refusals, the part of the text that is meant; or want
+/// of memory.
+///
+/// Contracts see a failure as an optional pair of the message and the optional part; none is want of memory. Two
+/// failures are equal where these are.
+#[derive(PartialEq, Eq, Debug, Drop)]
+pub struct ParseFailure {
+    texts: Option<(SmallStackString, Option<SmallStackString>)>,
+}
+
+impl Model for ParseFailure {
+    ghost use Rattle.std.specs.Prelude.{List, ℕ, Option};
+
+    ghost Value = { Option (List ℕ × Option (List ℕ)) };
+
+    ghost view = { λ f. f.texts };
+
+    ghost inverse = { λ texts. record { texts = texts } };
+}
+
+impl ParseFailure {
+    /// The failure with these texts, or want of memory where there is none for them.
+    pub fn with_texts(alloc: Global, message: &str, code_snippet: Option<&str>) -> ParseFailure
+        ensures { (result ≡ None) ⊎ (result ≡ Some (message.now, option_copied code_snippet.entry)) }
+    {
+        match copied(alloc, message, code_snippet) {
+            Ok(texts) => ParseFailure { texts: Some(texts) },
+            Err(_) => ParseFailure::memory(),
+        }
+    }
+
+    /// The failure that tells of `refusal` and names no part of the text, or want of memory.
+    pub fn of_refusal(alloc: Global, refusal: Refusal) -> ParseFailure
+        ensures { (result ≡ None) ⊎ (result ≡ Some (refusal_message refusal, None)) }
+    {
+        ParseFailure::with_texts(alloc, refusal.message(), None)
+    }
+
+    /// Want of memory.
+    pub fn memory() -> ParseFailure
+        ensures { result ≡ None }
+    {
+        ParseFailure { texts: None }
+    }
+
+    /// Whether memory was wanting.
+    pub fn is_memory(&self) -> bool
+        ensures { IsTrue result ↔ (self.now ≡ None) }
+    {
+        self.texts.is_none()
+    }
+
+    /// What is wrong; `Out of memory.` where memory was wanting.
+    pub fn message(&self) -> &str
+        ensures { result.now ≡ message_of self.now }
+    {
+        match &self.texts {
+            None => "Out of memory.",
+            Some((message, _)) => message.as_str(),
+        }
+    }
+
+    /// The part of the text that is meant, if the failure names one.
+    pub fn code_snippet(&self) -> Option<&str>
+        ensures { option_copied result ≡ snippet_of self.now }
+    {
+        match &self.texts {
+            None => None,
+            Some((_, None)) => None,
+            Some((_, Some(snippet))) => Some(snippet.as_str()),
+        }
+    }
+}
+
+fn copied(
+    alloc: Global,
+    message: &str,
+    code_snippet: Option<&str>,
+) -> Result<(SmallStackString, Option<SmallStackString>), AllocError>
+    ensures { IfOk result (λ t. t ≡ (message.now, option_copied code_snippet.entry)) }
+{
+    let message = SmallStackString::from_str(alloc, message)?;
+    match code_snippet {
+        None => Ok((message, None)),
+        Some(snippet) => Ok((message, Some(SmallStackString::from_str(alloc, snippet)?))),
+    }
+}
+
+impl From<AllocError> for ParseFailure {
+    ghost from_gives = { λ _ failure. failure ≡ None };
+
+    fn from(_error: AllocError) -> ParseFailure {
+        ParseFailure::memory()
+    }
+}
+
+impl fmt::Display for ParseFailure {
+    ghost output = { λ f. Some (message_of f) };
+
+    fn fmt<W: fmt::Write>(&self, f: &mut fmt::Formatter<W>) -> fmt::Result {
+        f.write_str(self.message())
+    }
+}

@@ -1,0 +1,211 @@
+//! The words that versions and requirements are made of, read from the front of a text.
+//!
+//! Each reader takes the longest front of the text that its grammar has, and answers what that front stands for and
+//! the rest of the text; it answers `None` where no front of the text is in the grammar. A text is read in one pass.
+
+ghost use Rattle.std.specs.Prelude.{◌≡◌, ◌<◌, ◌++◌, [], ◌∷◌, IfOk, OnOk, length};
+ghost use Rattle.std.specs.List.{take_while};
+ghost use Rattle.std.specs.Char.{is_ascii_digit};
+ghost use Rattle.semver_base.specs.Grammar.{CutsRun, IsAfter, IsLongest, IsSeen, Optional, Reads, ReadsAs, answer_of};
+ghost use Rattle.semver_base.specs.Lexical.{IsBlanks, IsBuild, IsLooseNumber, IsNumber, IsParts, IsPre, IsQualifier, IsStrictNumber, is_part_byte, measured_of, or_none, sized};
+
+pub mod values;
+
+use crate::string::CowVec;
+use crate::version::VersionPreOrBuild;
+use std::alloc::{AllocError, Global};
+use values::{Measured, Qualifier, Strictness};
+
+/// What follows the ASCII character `mark`, where the text begins with it.
+pub fn after(text: &str, mark: char) -> Option<&str>
+    requires { mark < 128 }
+    ensures { IsAfter mark text.now result }
+{
+    text.strip_prefix(mark)
+}
+
+/// What follows the blanks at the front; a blank is a character for which `char::is_whitespace` is true.
+pub fn after_blanks(text: &str) -> &str
+    ensures { IsLongest IsBlanks text.now tt result.now }
+{
+    text.trim_start()
+}
+
+// How many digits stand at the front.
+fn digits_len(bytes: &[u8]) -> usize
+    ensures { result ≡ length (take_while is_ascii_digit bytes.now) }
+{
+    bytes.iter().take_while(|b| b.is_ascii_digit()).count()
+}
+
+// The digits at the front, which may be none, and what follows them.
+fn split_digits(text: &str) -> (&str, &str)
+    ensures { CutsRun is_ascii_digit text.now result.0.now result.1.now }
+{
+    text.split_at(digits_len(text.as_bytes()))
+}
+
+fn is_part_byte(byte: u8) -> bool
+    ensures { result ≡ is_part_byte byte }
+{
+    byte.is_ascii_alphanumeric() || byte == b'-'
+}
+
+// How many bytes at the front belong to a part.
+fn part_len(bytes: &[u8]) -> usize
+    ensures { result ≡ length (take_while is_part_byte bytes.now) }
+{
+    bytes.iter().take_while(|b| is_part_byte(**b)).count()
+}
+
+// The part at the front, which may be empty, and what follows it.
+fn split_part(text: &str) -> (&str, &str)
+    ensures { CutsRun is_part_byte text.now result.0.now result.1.now }
+{
+    text.split_at(part_len(text.as_bytes()))
+}
+
+// What `parse` made of digits, as a number that fits or not.
+fn measured(number: Option<u64>) -> Measured<u64>
+    ensures { result ≡ measured_of number }
+{
+    match number {
+        Some(number) => Measured::Fits(number),
+        None => Measured::TooLarge,
+    }
+}
+
+/// One or more ASCII digits, leading zeros allowed.
+pub fn loose_number(text: &str) -> Option<(Measured<u64>, &str)>
+    ensures { ReadsAs sized IsLooseNumber text.now (answer_of result) }
+{
+    let (digits, rest) = split_digits(text);
+    if digits.is_empty() {
+        return None;
+    }
+    Some((measured(digits.parse::<u64>().ok()), rest))
+}
+
+/// `0`, or ASCII digits that don't begin with `0`.
+pub fn strict_number(text: &str) -> Option<(Measured<u64>, &str)>
+    ensures { ReadsAs sized IsStrictNumber text.now (answer_of result) }
+{
+    if let Some(rest) = after(text, '0') {
+        return Some((Measured::Fits(0), rest));
+    }
+    loose_number(text)
+}
+
+/// A number by either grammar.
+pub fn number(text: &str, strictness: Strictness) -> Option<(Measured<u64>, &str)>
+    ensures { ReadsAs sized (IsNumber strictness) text.now (answer_of result) }
+{
+    match strictness {
+        Strictness::Loose => loose_number(text),
+        Strictness::Strict => strict_number(text),
+    }
+}
+
+// Adds an identifier at the end.
+fn push_part(
+    alloc: Global,
+    parts: &mut CowVec<VersionPreOrBuild>,
+    part: &str,
+) -> Result<(), AllocError>
+    ensures { OnOk result (parts.new ≡ parts.old ++ part.now ∷ []) }
+{
+    parts.push(VersionPreOrBuild::from_str(alloc, part)?)
+}
+
+/// One or more parts, each one or more of `0-9`, `A-Z`, `a-z` and `-`, with a `.` between neighbours and at most one
+/// `.` at the end, which adds no part.
+pub fn parts(
+    alloc: Global,
+    text: &str,
+) -> Result<Option<(CowVec<VersionPreOrBuild>, &str)>, AllocError>
+    ensures { IfOk result (λ r. Reads IsParts text.now (answer_of r)) }
+{
+    let (first, mut rest) = split_part(text);
+    if first.is_empty() {
+        return Ok(None);
+    }
+    let mut ids = CowVec::new(alloc);
+    push_part(alloc, &mut ids, first)?;
+    while let Some(next) = after(rest, '.') {
+        let (id, more) = split_part(next);
+        if id.is_empty() {
+            return Ok(Some((ids, next)));
+        }
+        push_part(alloc, &mut ids, id)?;
+        rest = more;
+    }
+    Ok(Some((ids, rest)))
+}
+
+/// A pre-release: parts after a `-`, which the loose grammar lets be missing.
+pub fn pre(
+    alloc: Global,
+    text: &str,
+    strictness: Strictness,
+) -> Result<Option<(CowVec<VersionPreOrBuild>, &str)>, AllocError>
+    ensures { IfOk result (λ r. Reads (IsPre strictness) text.now (answer_of r)) }
+{
+    if let Some(rest) = after(text, '-') {
+        return parts(alloc, rest);
+    }
+    match strictness {
+        Strictness::Loose => parts(alloc, text),
+        Strictness::Strict => Ok(None),
+    }
+}
+
+/// A build: parts after a `+`.
+pub fn build(
+    alloc: Global,
+    text: &str,
+) -> Result<Option<(CowVec<VersionPreOrBuild>, &str)>, AllocError>
+    ensures { IfOk result (λ r. Reads IsBuild text.now (answer_of r)) }
+{
+    match after(text, '+') {
+        Some(rest) => parts(alloc, rest),
+        None => Ok(None),
+    }
+}
+
+fn optional_pre(
+    alloc: Global,
+    text: &str,
+    strictness: Strictness,
+) -> Result<(CowVec<VersionPreOrBuild>, &str), AllocError>
+    ensures { IfOk result (λ r. IsSeen or_none (Optional (IsPre strictness)) text.now r.0 r.1.now) }
+{
+    match pre(alloc, text, strictness)? {
+        Some(read) => Ok(read),
+        None => Ok((CowVec::new(alloc), text)),
+    }
+}
+
+fn optional_build(
+    alloc: Global,
+    text: &str,
+) -> Result<(CowVec<VersionPreOrBuild>, &str), AllocError>
+    ensures { IfOk result (λ r. IsSeen or_none (Optional IsBuild) text.now r.0 r.1.now) }
+{
+    match build(alloc, text)? {
+        Some(read) => Ok(read),
+        None => Ok((CowVec::new(alloc), text)),
+    }
+}
+
+/// An optional pre-release, and then an optional build. The front may be empty, so there always is one.
+pub fn qualifier(
+    alloc: Global,
+    text: &str,
+    strictness: Strictness,
+) -> Result<(Qualifier, &str), AllocError>
+    ensures { IfOk result (λ r. IsLongest (IsQualifier strictness) text.now r.0 r.1.now) }
+{
+    let (pre, rest) = optional_pre(alloc, text, strictness)?;
+    let (build, rest) = optional_build(alloc, rest)?;
+    Ok((Qualifier { pre, build }, rest))
+}

@@ -1,0 +1,44 @@
+//! The values that the words of versions and requirements stand for.
+
+ghost use Rattle.std.specs.Prelude.{◌≡◌, []};
+
+use crate::string::CowVec;
+use crate::version::VersionPreOrBuild;
+use std::alloc::Global;
+
+/// Which grammar a word is read by.
+#[derive(Clone, Copy, Debug, PartialEq, Eq)]
+pub enum Strictness {
+    /// Numbers may have leading zeros, and a pre-release may lack its `-`.
+    Loose,
+    /// A number has no leading zero, and a pre-release begins with `-`.
+    Strict,
+}
+
+/// What was read, where each number of it is at most 18446744073709551615.
+#[derive(Clone, Copy, Debug, PartialEq, Eq, Drop)]
+pub enum Measured<T> {
+    /// The value.
+    Fits(T),
+    /// Some number of the value is larger than that.
+    TooLarge,
+}
+
+/// The pre-release and the build of a version, each a list of identifiers that may be empty.
+#[derive(Drop)]
+pub struct Qualifier {
+    pub pre: CowVec<VersionPreOrBuild>,
+    pub build: CowVec<VersionPreOrBuild>,
+}
+
+impl Qualifier {
+    /// No pre-release and no build.
+    pub fn new(alloc: Global) -> Self
+        ensures { result ≡ record { pre = []; build = [] } }
+    {
+        Qualifier {
+            pre: CowVec::new(alloc),
+            build: CowVec::new(alloc),
+        }
+    }
+}

@@ -1,0 +1,12 @@
+//! Versions, ranges of versions and partial versions, and the words that they are written in.
+//!
+//! The lowest crate of the port of `deno_semver`. Its modules, bottom up: `string`, texts and lists; `failure`, why
+//! something was refused; `version`; `lexical`, the words at the front of a text; `range`; `partial`.
+#![tactic(auto)]
+
+pub mod failure;
+pub mod lexical;
+pub mod partial;
+pub mod range;
+pub mod string;
+pub mod version;

@@ -1,0 +1,217 @@
+//! Partial versions, whose components may be wildcards, and the ranges that they stand for.
+
+ghost use Rattle.std.specs.Prelude.{◌≡◌, ◌+◌, ◌∷◌, [], IfOk, IfErr, OnOk, true};
+ghost use Rattle.semver_base.specs.Meaning.{from, release, to_below};
+ghost use Rattle.semver_base.specs.PartialTable.{IsBoundRefusal, all_fit, between, caret, equal, greater_range, lowest, or_zero, tilde};
+
+use crate::failure::{ParseFailure, Refusal};
+use crate::range::{RangeBound, VersionBoundKind, VersionRange};
+use crate::string::CowVec;
+use crate::version::{Version, VersionPreOrBuild};
+use std::alloc::{AllocError, Global};
+
+/// A component of a partial version.
+#[derive(Clone, Copy, Debug, PartialEq, Eq)]
+pub enum XRange {
+    /// `x`, `X`, `*` or a component that is missing.
+    Wildcard,
+    /// A number.
+    Val(u64),
+}
+
+/// A version whose components may be wildcards.
+#[derive(Drop)]
+pub struct Partial {
+    pub major: XRange,
+    pub minor: XRange,
+    pub patch: XRange,
+    pub pre: CowVec<VersionPreOrBuild>,
+    pub build: CowVec<VersionPreOrBuild>,
+}
+
+// A wildcard counts as 0.
+fn or_zero(component: XRange) -> u64
+    ensures { result ≡ or_zero component }
+{
+    match component {
+        XRange::Wildcard => 0,
+        XRange::Val(number) => number,
+    }
+}
+
+// The number after this one.
+fn raised(alloc: Global, number: u64) -> Result<u64, ParseFailure>
+    ensures raised { IfOk result (λ n. n ≡ number + 1) }
+    ensures fits { OnOk result (all_fit ((number + 1) ∷ []) ≡ true) }
+    ensures refused { IfErr result (IsBoundRefusal ((number + 1) ∷ [])) }
+{
+    match number.checked_add(1) {
+        Some(number) => Ok(number),
+        None => Err(ParseFailure::of_refusal(alloc, Refusal::BoundTooLarge)),
+    }
+}
+
+fn release(alloc: Global, major: u64, minor: u64, patch: u64) -> Version
+    ensures { result ≡ release major minor patch }
+{
+    Version {
+        major,
+        minor,
+        patch,
+        pre: CowVec::new(alloc),
+        build: CowVec::new(alloc),
+    }
+}
+
+impl Partial {
+    // `M.m.p-pre+build`, with wildcards as 0.
+    fn lowest(&self) -> Result<Version, AllocError>
+        ensures { IfOk result (λ version. version ≡ lowest self.now) }
+    {
+        Ok(Version {
+            major: or_zero(self.major),
+            minor: or_zero(self.minor),
+            patch: or_zero(self.patch),
+            pre: self.pre.copy()?,
+            build: self.build.copy()?,
+        })
+    }
+
+    /// The start from the lowest version that the partial names, wildcards as 0.
+    ///
+    /// It is an error only where no memory is left.
+    pub fn as_lower_bound(&self, _alloc: Global) -> Result<RangeBound, AllocError>
+        ensures { IfOk result (λ bound. bound ≡ from (lowest self.now)) }
+    {
+        Ok(RangeBound::inclusive(self.lowest()?))
+    }
+
+    // From the lower bound to below a release.
+    fn lower_to_below(
+        &self,
+        alloc: Global,
+        major: u64,
+        minor: u64,
+        patch: u64,
+    ) -> Result<VersionRange, AllocError>
+        ensures { IfOk result (λ range. range ≡ between (from (lowest self.now)) (to_below (release major minor patch))) }
+    {
+        Ok(VersionRange {
+            start: self.as_lower_bound(alloc)?,
+            end: RangeBound::exclusive(release(alloc, major, minor, patch)),
+        })
+    }
+
+    /// The range of `~` and the partial: patches may grow, or minors where none is given (node-semver, "Tilde
+    /// Ranges").
+    ///
+    /// The refusal "Version bound is too large." comes exactly where the raised number is past 18446744073709551615;
+    /// any other failure is want of memory.
+    pub fn as_tilde_version_range(&self, alloc: Global) -> Result<VersionRange, ParseFailure>
+        ensures range { IfOk result (λ range. range ≡ (tilde self.now).range) }
+        ensures fits { OnOk result (all_fit (tilde self.now).sums ≡ true) }
+        ensures refused { IfErr result (IsBoundRefusal (tilde self.now).sums) }
+    {
+        match (self.major, self.minor) {
+            (XRange::Wildcard, _) => Ok(VersionRange::all()),
+            (XRange::Val(major), XRange::Wildcard) => {
+                let next = raised(alloc, major)?;
+                Ok(self.lower_to_below(alloc, next, 0, 0)?)
+            }
+            (XRange::Val(major), XRange::Val(minor)) => {
+                let next = raised(alloc, minor)?;
+                Ok(self.lower_to_below(alloc, major, next, 0)?)
+            }
+        }
+    }
+
+    /// The range of `^` and the partial: what is right of the leftmost number that isn't 0 may grow (node-semver,
+    /// "Caret Ranges").
+    ///
+    /// The refusal "Version bound is too large." comes exactly where the raised number is past 18446744073709551615;
+    /// any other failure is want of memory.
+    pub fn as_caret_version_range(&self, alloc: Global) -> Result<VersionRange, ParseFailure>
+        ensures range { IfOk result (λ range. range ≡ (caret self.now).range) }
+        ensures fits { OnOk result (all_fit (caret self.now).sums ≡ true) }
+        ensures refused { IfErr result (IsBoundRefusal (caret self.now).sums) }
+    {
+        match (self.major, self.minor, self.patch) {
+            (XRange::Wildcard, _, _) => Ok(VersionRange::all()),
+            (XRange::Val(0), XRange::Val(0), XRange::Wildcard) => {
+                Ok(self.lower_to_below(alloc, 0, 1, 0)?)
+            }
+            (XRange::Val(0), XRange::Val(0), XRange::Val(patch)) => {
+                let next = raised(alloc, patch)?;
+                Ok(self.lower_to_below(alloc, 0, 0, next)?)
+            }
+            (XRange::Val(0), XRange::Val(minor), _) => {
+                let next = raised(alloc, minor)?;
+                Ok(self.lower_to_below(alloc, 0, next, 0)?)
+            }
+            (XRange::Val(major), _, _) => {
+                let next = raised(alloc, major)?;
+                Ok(self.lower_to_below(alloc, next, 0, 0)?)
+            }
+        }
+    }
+
+    /// The versions that the partial names, where a wildcard stands for every number; the start is of this kind.
+    ///
+    /// The refusal "Version bound is too large." comes exactly where the raised number is past 18446744073709551615;
+    /// any other failure is want of memory.
+    pub fn as_greater_range(
+        &self,
+        alloc: Global,
+        kind: VersionBoundKind,
+    ) -> Result<VersionRange, ParseFailure>
+        ensures range { IfOk result (λ range. range ≡ (greater_range kind self.now).range) }
+        ensures fits { OnOk result (all_fit (greater_range kind self.now).sums ≡ true) }
+        ensures refused { IfErr result (IsBoundRefusal (greater_range kind self.now).sums) }
+    {
+        let patch = or_zero(self.patch);
+        let (start, end) = match (self.major, self.minor, self.patch) {
+            (XRange::Wildcard, _, _) => return Ok(VersionRange::all()),
+            (XRange::Val(major), XRange::Wildcard, _) => {
+                let next = raised(alloc, major)?;
+                (
+                    release(alloc, major, 0, patch),
+                    RangeBound::exclusive(release(alloc, next, 0, patch)),
+                )
+            }
+            (XRange::Val(major), XRange::Val(minor), XRange::Wildcard) => {
+                let next = raised(alloc, minor)?;
+                (
+                    release(alloc, major, minor, 0),
+                    RangeBound::exclusive(release(alloc, major, next, 0)),
+                )
+            }
+            (XRange::Val(major), XRange::Val(minor), XRange::Val(patch)) => (
+                release(alloc, major, minor, patch),
+                RangeBound::version(kind, release(alloc, major, minor, patch)),
+            ),
+        };
+        Ok(VersionRange {
+            start: RangeBound::version(kind, start),
+            end,
+        })
+    }
+
+    /// The range of `=` and the partial, or of the partial alone: the one version, or where it has wildcards all that
+    /// they stand for.
+    ///
+    /// The refusal "Version bound is too large." comes exactly where the raised number is past 18446744073709551615;
+    /// any other failure is want of memory.
+    pub fn as_equal_range(&self, alloc: Global) -> Result<VersionRange, ParseFailure>
+        ensures range { IfOk result (λ range. range ≡ (equal self.now).range) }
+        ensures fits { OnOk result (all_fit (equal self.now).sums ≡ true) }
+        ensures refused { IfErr result (IsBoundRefusal (equal self.now).sums) }
+    {
+        match (self.major, self.minor, self.patch) {
+            (XRange::Val(_), XRange::Val(_), XRange::Val(_)) => Ok(VersionRange {
+                start: RangeBound::inclusive(self.lowest()?),
+                end: RangeBound::inclusive(self.lowest()?),
+            }),
+            _ => self.as_greater_range(alloc, VersionBoundKind::Inclusive),
+        }
+    }
+}
