@@ -1,13 +1,19 @@
 -- Blanks at the front of a text.
-use Rattle.std.proofs.Common.{◌≡◌, ◌≤◌, ◌<◌, ℕ, List, [], ◌∷◌, ◌++◌, length, take, refl, sym, ap, ◌∙◌, arith, append_assoc, length-append}
-use Rattle.std.specs.Char.{is_not_whitespace}
+use Rattle.std.proofs.Common.{◌≡◌, ◌≤◌, ◌<◌, ℕ, Bool, true, List, [], ◌∷◌, ◌++◌, length, take, get_or, refl, sym, ap, ◌∙◌, arith, inl, inr, append_assoc, append-nil, length-append}
+use Rattle.std.specs.Prelude.{◌||◌, nat_le}
+use Rattle.std.specs.Char.{is_not_whitespace, is_whitespace}
+use Rattle.std.specs.List.{list_all}
 use Rattle.std.specs.Str.{EmptyOrStartsWithPassing, IsTrimStart, NonePass, NoCharPasses, encode_utf8_all}
 use Rattle.std.specs.Prelude.{encode_utf8}
-use Rattle.std.proofs.lemmas.Str.{encode_same, len_utf8_bounds, length-encode}
+use Rattle.std.proofs.lemmas.Str.{encode_same, inside_one, len_utf8_bounds, length-encode}
+use Rattle.std.proofs.lemmas.List.Sums.{list_all-from_AllPass}
+use Rattle.std.proofs.lemmas.List.Elements.{All-from_get_or}
 use Rattle.std.proofs.lemmas.List.{take-append-drop}
-use Rattle.std.proofs.lemmas.Bool.{both_ways}
-use Rattle.semver_base.specs.Grammar.{IsLongest}
-use Rattle.semver_base.specs.Lexical.{IsBlanks}
+use Rattle.std.proofs.lemmas.Bool.{both_ways, cases_lt, le-leb, not-false, or_left, or_right}
+use Rattle.semver_base.specs.Grammar.{HasNone, IsLongest}
+use Rattle.semver_base.specs.Lexical.{IsBlanks, IsSomeBlanks}
+use Rattle.semver_base.proofs.Fronts.{narrowed}
+use Rattle.semver_base.proofs.Bytes.{MadeOf, list_all-append}
 
 -- no blanks at the front are longer than those after which no blank follows
 no_longer : (cs ds rest b after : List ℕ) → NonePass is_not_whitespace cs → NonePass is_not_whitespace ds → EmptyOrStartsWithPassing is_not_whitespace rest after
@@ -39,3 +45,33 @@ blanks_longest text rest h = record {
         let split : a ++ b ≡ take h.0 text ++ rest = sym e ∙ (sym (take-append-drop h.0 text) ∙ ap (λ t. take h.0 text ++ t) (sym h.1)) in
         let chars_split : encode_utf8_all k.0 ++ b ≡ encode_utf8_all h.2.0 ++ rest = ap (λ t. t ++ b) k.1 ∙ (split ∙ ap (λ t. t ++ rest) (sym h.2.1)) in
         omega (arith, no_longer k.0 h.2.0 rest b h.3.0 k.2 h.2.2 h.3.1 chars_split, ap length k.1, ap length h.2.1)
+
+-- ---- the bytes of blanks
+
+abbrev pub is_blank_byte : ℕ → Bool
+is_blank_byte b = is_whitespace b || nat_le 128 b
+
+blank_bytes : (c : ℕ) → is_whitespace c ≡ true → list_all is_blank_byte (encode_utf8 c) ≡ true
+blank_bytes c white = list_all-from_AllPass is_blank_byte (encode_utf8 c) (All-from_get_or (λ b. is_blank_byte b ≡ true) (encode_utf8 c) 0 each)
+  where
+    each : (k : ℕ) → k < length (encode_utf8 c) → is_blank_byte (get_or (encode_utf8 c) k 0) ≡ true
+    each k h = elim (cases_lt (get_or (encode_utf8 c) k 0) 128) [
+      | inl low ↦ let same_char : get_or (encode_utf8 c) k 0 ≡ c = sym (inside_one c [] (encode_utf8 c) k (sym (append-nil (encode_utf8 c))) h low) in
+          or_left (is_whitespace (get_or (encode_utf8 c) k 0)) (nat_le 128 (get_or (encode_utf8 c) k 0)) (rw same_char white)
+      | inr high ↦ or_right (is_whitespace (get_or (encode_utf8 c) k 0)) (nat_le 128 (get_or (encode_utf8 c) k 0)) (le-leb 128 (get_or (encode_utf8 c) k 0) high)
+    ]
+
+all_blank : (cs : List ℕ) → NonePass is_not_whitespace cs → list_all is_blank_byte (encode_utf8_all cs) ≡ true
+all_blank [] h = refl
+all_blank (c ∷ cs) h = list_all-append is_blank_byte (encode_utf8 c) (encode_utf8_all cs) (blank_bytes c (not-false (is_whitespace c) h.0)) (all_blank cs h.1)
+
+pub blanks_made : MadeOf IsBlanks is_blank_byte
+blanks_made = record { made = λ text v h. rw (← h.1) (all_blank h.0 h.2) }
+
+-- ---- one or more blanks
+
+pub some_blanks : (text rest : List ℕ) → IsLongest IsBlanks text tt rest → length rest < length text → IsLongest IsSomeBlanks text tt rest
+some_blanks text rest p less = narrowed IsSomeBlanks (λ a w h. h.1) p (omega (arith, less, ap length p.text_is, length-append p.front rest), p.stands)
+
+pub no_blanks : (text rest : List ℕ) → IsLongest IsBlanks text tt rest → length text ≤ length rest → HasNone IsSomeBlanks text
+no_blanks text rest p same_size = record { none = λ a b w e h. omega (arith, h.0, (p.longest a b tt e h.1).0, ap length p.text_is, length-append p.front rest, same_size) }

@@ -236,6 +236,28 @@ one_value {V} {R} {text} {v} {w} read h k = go read.0 read.1
         let two = p.longest text [] w whole k in
         one.1 (omega (arith, one.0)) ∙ sym (two.1 (omega (arith, one.0)))
 
+-- the longest front is one, with its value and what follows it
+pub one_front : {V : Type 0} {R : List ℕ → V → Type 0} {text rest end : List ℕ} {v w : V} → IsLongest R text v rest → IsLongest R text w end → (v ≡ w) × (rest ≡ end)
+one_front {V} {R} {text} {rest} {end} {v} {w} p q =
+    let shorter_first = (q.longest p.front rest v p.text_is p.stands).0 in
+    let first = p.longest q.front end w q.text_is q.stands in
+    let even : length p.front ≡ length q.front = omega (arith, shorter_first, first.0) in
+    (sym (first.1 (sym even)), (same_fronts p.front q.front rest end (sym p.text_is ∙ q.text_is) even).1)
+
+-- a front that a text of B follows is the longest, where no text of A goes on with a byte with which B begins
+pub rest_is : {V W : Type 0} {A : List ℕ → V → Type 0} {B : List ℕ → W → Type 0} {text middle : List ℕ} {v : V} → Apart A B → NonEmpty B → IsLongest A text v middle → (a b : List ℕ) (u : V) (w : W) → text ≡ a ++ b → A a u → B b w → b ≡ middle
+rest_is {V} {W} {A} {B} {text} {middle} {v} apart some p a b u w e h k = elim (fronts a p.front b middle (sym e ∙ p.text_is)) [
+  | same one two ↦ two
+  | shorter x more one two ↦ absurd (begins b more x two k (rw one at p.stands))
+  | longer x more one two ↦ absurd (omega (arith, (p.longest a b u e h).0, ap length one, length-append p.front (x ∷ more)))
+]
+  where
+    begins : (b more : List ℕ) (x : ℕ) → b ≡ (x ∷ more) ++ middle → B b w → A (a ++ (x ∷ more)) v → ⊥
+    begins [] more x two k long = cc two
+    begins (y ∷ b) more x two k long =
+        let same_byte : y ≡ x = cc in
+        apart.apart x (record { front = a; more = more; short_value = u; long_value = v; short = h; long = long }) (record { more = b; value = w; stands = rw same_byte at k })
+
 -- both have a front, and the first has the longer one
 pub either_longer : {V : Type 0} {A B : List ℕ → V → Type 0} {text rest more : List ℕ} {v w : V} → IsLongest A text v rest → IsLongest B text w more → length rest < length more → IsLongest (Either A B) text v rest
 either_longer {V} {A} {B} {text} {rest} {more} {v} p q less = record { front = p.front; text_is = p.text_is; stands = this p.stands; longest = go }

@@ -7,3 +7,4 @@ pub mod Numbers
 pub mod Parts
 pub mod PrecedenceLemmas
 pub mod Qualifiers
+pub mod VersionReading

@@ -15,10 +15,10 @@ byte_longest m text rest e = record { front = m ∷ []; text_is = e; stands = re
 pub byte_none : (m : ℕ) (text : List ℕ) → ((rest : List ℕ) → text ≡ m ∷ rest → ⊥) → HasNone (IsByte m) text
 byte_none m text other = record { none = λ a b w e h. other b (e ∙ ap (λ t. t ++ b) h) }
 
-byte_begins : (m : ℕ) → BeginsBy (IsByte m) (λ x. x == m)
+pub byte_begins : (m : ℕ) → BeginsBy (IsByte m) (λ x. x == m)
 byte_begins m = record { begins = λ x b. eq-eqb x m (cc b.stands) }
 
-byte_goes : (m : ℕ) → GoesBy (IsByte m) (λ x. false)
+pub byte_goes : (m : ℕ) → GoesBy (IsByte m) (λ x. false)
 byte_goes m = record { goes = λ x b. go x b.front b.more b.short b.long }
   where
     go : (x : ℕ) (a more : List ℕ) → a ≡ m ∷ [] → a ++ (x ∷ more) ≡ m ∷ [] → false ≡ true
@@ -26,7 +26,7 @@ byte_goes m = record { goes = λ x b. go x b.front b.more b.short b.long }
     go x (y ∷ []) more h k = cc k
     go x (y ∷ z ∷ a) more h k = cc h
 
-byte_some : (m : ℕ) → NonEmpty (IsByte m)
+pub byte_some : (m : ℕ) → NonEmpty (IsByte m)
 byte_some m = record { some = λ v h. cc h }
 
 part_no_dot : (x : ℕ) → is_part_byte x ≡ true → (x == 46) ≡ true → ⊥

@@ -5,4 +5,6 @@ pub mod Meaning
 pub mod PartialTable
 pub mod Precedence
 pub mod PrecedenceLaws
+pub mod VersionGrammar
+pub mod VersionSteps
 pub mod VersionText

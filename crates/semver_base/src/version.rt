@@ -1,19 +1,51 @@
-//! Versions and their precedence.
+//! Versions: how they are read, and their precedence.
 
-ghost use Rattle.std.specs.Prelude.{◌≡◌, ◌↔◌, refl, IfOk, []};
+ghost use Rattle.std.specs.Prelude.{◌≡◌, ◌↔◌, ◌⊎◌, refl, Result, Ok, Err, IfOk, IfErr, IsTrue, [], None, Some};
+ghost use Rattle.std.specs.Str.{trim};
 ghost use Rattle.std.specs.Cmp.{IsTotalOrder};
 ghost use Rattle.std.specs.Cmp.Lexicographic.{slice_cmp};
 ghost use Rattle.std.specs.Ordering.{as_partial_cmp};
+ghost use Rattle.semver_base.specs.declared.failure.Refusal.{Refusal};
+ghost use Rattle.semver_base.specs.Grammar.{IsLongest, IsSeen, Optional, Marked};
+ghost use Rattle.semver_base.specs.Lexical.{IsBlanks, IsByte};
+ghost use Rattle.semver_base.specs.VersionGrammar.{IsLead, IsVersionAnswer, IsVersionOutcome, IsVersionRefusal, ignored, version_failure};
+ghost use Rattle.semver_base.specs.VersionSteps.{IsFittingNumber, IsFittingTriple, IsNumberRefusal, IsReadVersion, IsTripleRefusal};
 ghost use Rattle.semver_base.specs.Precedence.{identifier_cmp, number_of, pre_cmp, precedence_cmp, version_cmp};
 ghost use Rattle.semver_base.specs.PrecedenceLaws.{version_po, version_ties, version_total, SamePrecedence};
 
+use crate::failure::{ParseFailure, Refusal};
+use crate::lexical;
+use crate::lexical::values::{Measured, Strictness};
 use crate::string::{CowVec, SmallStackString};
 use std::alloc::{AllocError, Global};
 use std::cmp::Ordering;
+use thiserror::Error;
 
+/// An identifier of a pre-release or a build.
 pub type VersionPreOrBuild = SmallStackString;
 
-/// A version.
+/// A version could not be read.
+#[derive(PartialEq, Eq, Debug, Drop, Error)]
+#[error("Invalid version")]
+pub struct VersionParseError {
+    #[source]
+    pub source: ParseFailure,
+}
+
+impl VersionParseError {
+    /// Whether memory was wanting.
+    pub fn is_memory(&self) -> bool
+        ensures { IsTrue result ↔ (self.now.source ≡ None) }
+    {
+        self.source.is_memory()
+    }
+}
+
+/// A version of SemVer 2.0.0: three numbers, the identifiers of its pre-release and those of its build, either of
+/// which may be none.
+///
+/// Versions are equal where all of this is. Their order is precedence, where versions that it leaves equal are in the
+/// dictionary order of their builds.
 #[derive(PartialEq, Eq, Hash, Drop)]
 pub struct Version {
     pub major: u64,
@@ -37,7 +69,26 @@ impl Version {
         }
     }
 
-    /// The same version again.
+    /// The version that a text stands for: an optional `=`, blanks, an optional `v`, blanks, three numbers with `.`
+    /// between, then an optional pre-release and an optional build, with blanks of any kind around it all (SemVer
+    /// 2.0.0, section 2, in node-semver's loose form).
+    ///
+    /// The first fault from the left decides the error: a number past 18446744073709551615, a missing `.` after the
+    /// first or the second number, whose failure shows the whole trimmed text, or anything else that is outside the
+    /// grammar. Want of memory is an error too.
+    pub fn parse_standard(alloc: Global, text: &str) -> Result<Version, VersionParseError>
+        ensures read { IfOk result (λ version. IsVersionOutcome (trim text.now) (Ok version)) }
+        ensures refused { IfErr result (λ error. IsVersionRefusal (trim text.now) error.source) }
+        ensures answer { (outcome : Result Version Refusal) → IsVersionOutcome (trim text.now) outcome
+            → IsVersionAnswer (λ (error : VersionParseError). error.source) (trim text.now) outcome result }
+    {
+        match read(alloc, text.trim()) {
+            Ok(version) => Ok(version),
+            Err(source) => Err(VersionParseError { source }),
+        }
+    }
+
+    /// The same version again. It is an error only where no memory is left.
     pub fn copy(&self) -> Result<Version, AllocError>
         ensures { IfOk result (λ v. v ≡ self.now) }
     {
@@ -50,7 +101,8 @@ impl Version {
         })
     }
 
-    /// The order of precedence, in which the build has no part.
+    /// The order of precedence, in which the build has no part (SemVer 2.0.0, section 11). Numeric identifiers of the
+    /// same value are ordered by their text, and digits past 18446744073709551615 are a text.
     pub fn cmp_precedence(&self, other: &Version) -> Ordering
         ensures value { result ≡ precedence_cmp self.now other.now }
         ensures equal { (result ≡ Ordering.Equal) ↔ SamePrecedence self.now other.now }
@@ -62,6 +114,95 @@ impl Version {
             .then(self.patch.cmp(&other.patch))
             .then(cmp_pre(self.pre.as_slice(), other.pre.as_slice()))
     }
+}
+
+// What follows an `=` at the front, or the whole text.
+fn after_equals(text: &str) -> &str
+    ensures { IsSeen ignored (Optional (IsByte 61)) text.now tt result.now }
+{
+    match lexical::after(text, '=') {
+        Some(rest) => rest,
+        None => text,
+    }
+}
+
+// What follows a `v` and blanks at the front, or the whole text.
+fn after_v(text: &str) -> &str
+    ensures { IsSeen ignored (Optional (Marked 118 IsBlanks)) text.now tt result.now }
+{
+    match lexical::after(text, 'v') {
+        Some(rest) => lexical::after_blanks(rest),
+        None => text,
+    }
+}
+
+// What follows the lead.
+fn after_lead(text: &str) -> &str
+    ensures { IsLongest IsLead text.now tt result.now }
+{
+    after_v(lexical::after_blanks(after_equals(text)))
+}
+
+// The number at the front, where it fits.
+fn fitting_number(text: &str) -> Result<(u64, &str), Refusal>
+    ensures read { IfOk result (λ r. IsFittingNumber text.now r.0 r.1.now) }
+    ensures refused { IfErr result (IsNumberRefusal text.now) }
+{
+    match lexical::loose_number(text) {
+        None => Err(Refusal::UnexpectedCharacter),
+        Some((Measured::TooLarge, _)) => Err(Refusal::NumberTooLarge),
+        Some((Measured::Fits(number), rest)) => Ok((number, rest)),
+    }
+}
+
+// The three numbers at the front, where they fit.
+fn triple(text: &str) -> Result<((u64, (u64, u64)), &str), Refusal>
+    ensures read { IfOk result (λ r. IsFittingTriple text.now r.0 r.1.now) }
+    ensures refused { IfErr result (IsTripleRefusal text.now) }
+{
+    let (major, rest) = fitting_number(text)?;
+    let Some(rest) = lexical::after(rest, '.') else {
+        return Err(Refusal::MissingMinor);
+    };
+    let (minor, rest) = fitting_number(rest)?;
+    let Some(rest) = lexical::after(rest, '.') else {
+        return Err(Refusal::MissingPatch);
+    };
+    let (patch, rest) = fitting_number(rest)?;
+    Ok(((major, (minor, patch)), rest))
+}
+
+// The failure of a refused version text.
+fn failure(alloc: Global, refusal: Refusal, text: &str) -> ParseFailure
+    ensures { (result ≡ None) ⊎ (result ≡ version_failure refusal text.now) }
+{
+    let snippet = match refusal {
+        Refusal::MissingMinor | Refusal::MissingPatch => Some(text),
+        _ => None,
+    };
+    ParseFailure::with_texts(alloc, refusal.message(), snippet)
+}
+
+// The version that a trimmed text stands for.
+fn read(alloc: Global, text: &str) -> Result<Version, ParseFailure>
+    ensures read { IfOk result (IsReadVersion text.now) }
+    ensures refused { IfErr result (IsVersionRefusal text.now) }
+{
+    let ((major, (minor, patch)), rest) = match triple(after_lead(text)) {
+        Ok(read) => read,
+        Err(refusal) => return Err(failure(alloc, refusal, text)),
+    };
+    let (qualifier, rest) = lexical::qualifier(alloc, rest, Strictness::Loose)?;
+    if !rest.is_empty() {
+        return Err(failure(alloc, Refusal::UnexpectedCharacter, text));
+    }
+    Ok(Version {
+        major,
+        minor,
+        patch,
+        pre: qualifier.pre,
+        build: qualifier.build,
+    })
 }
 
 // The number that an identifier is, if it is one.

@@ -1,0 +1,12 @@
+use Rattle.semver_base.specs.declared.version.VersionParseError.{VersionParseError}
+use Rattle.semver_base.proofs.VersionReading.{read_answer, read_outcome, refused_answer}
+use Rattle.semver_base.proofs.version.Version.parse_standard.Goals as goal
+
+pub returns-in-Ok-clause-read : goal.returns-in-Ok-clause-read
+returns-in-Ok-clause-read c = rw c.trim.ensures.trim at (read_outcome c.in-Ok.ensures.read)
+
+pub returns-in-Ok-clause-answer : goal.returns-in-Ok-clause-answer
+returns-in-Ok-clause-answer c = rw c.trim.ensures.trim at (read_answer (λ (error : VersionParseError). error.source) c.trim.result.now c.in-Ok.version c.in-Ok.ensures.read)
+
+pub returns-in-Err-clause-answer : goal.returns-in-Err-clause-answer
+returns-in-Err-clause-answer c = rw c.trim.ensures.trim at (refused_answer (λ (error : VersionParseError). error.source) c.trim.result.now (record { source = c.in-Err.source }) c.in-Err.ensures.refused)

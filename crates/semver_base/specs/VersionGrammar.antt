@@ -1,0 +1,90 @@
+-- The grammar of version texts, and which fault of a text is the first from the left. Source: SemVer 2.0.0, section 2
+-- and its grammar, in the loose form of node-semver: leading `=`, `v` and zeros, a pre-release without `-`.
+use Rattle.std.specs.Prelude.{◌≡◌, ◌≤◌, ◌<◌, ◌^◌, ℕ, List, [], ◌∷◌, Bool, true, ◌&&◌, Option, Some, None, Result, Ok, Err, ◌⊎◌, MatchResult, IsErrAnd, slice_index}
+use Rattle.std.specs.Char.{is_ascii_digit}
+use Rattle.semver_base.specs.Failure.{refusal_message}
+use Rattle.semver_base.specs.Grammar.{After, Followed, IsLongest, Joined, Mapped, Marked, Optional}
+use Rattle.semver_base.specs.Lexical.{IsBlanks, IsByte, IsLooseNumber, IsQualifier}
+use Rattle.semver_base.specs.declared.failure.Refusal.{Refusal}
+use Rattle.semver_base.specs.declared.failure.Refusal.TheVariants.{UnexpectedCharacter, EmptyConstraint, MissingMinor, MissingPatch, NumberTooLarge, BoundTooLarge}
+use Rattle.semver_base.specs.declared.lexical.values.Qualifier.{Qualifier}
+use Rattle.semver_base.specs.declared.lexical.values.Strictness.TheVariants.{Loose}
+use Rattle.semver_base.specs.declared.version.Version.{Version}
+
+-- ---- the grammar
+
+abbrev pub ignored : Option (Unit {0}) → Unit {0}
+ignored v = tt
+
+-- an optional `=`, blanks, and optionally a `v` with blanks after it
+abbrev pub IsLead : List ℕ → Unit {0} → Type 0
+IsLead = Mapped ignored (After (Optional (IsByte 61)) (After IsBlanks (Optional (Marked 118 IsBlanks))))
+
+-- three numbers with dots between
+abbrev pub IsTriple : List ℕ → ℕ × (ℕ × ℕ) → Type 0
+IsTriple = Followed IsLooseNumber (Marked 46 (Followed IsLooseNumber (Marked 46 IsLooseNumber)))
+
+-- no digit follows the last number
+abbrev pub NoDigitFollows : List ℕ → List ℕ → Type 0
+NoDigitFollows before after = is_ascii_digit (slice_index after 0) ≡ true → ⊥
+
+abbrev pub version_of : (ℕ × (ℕ × ℕ)) × Qualifier → Version
+version_of v = record { major = v.0.0; minor = v.0.1.0; patch = v.0.1.1; pre = v.1.pre; build = v.1.build }
+
+-- the lead, three numbers, and an optional pre-release and build
+abbrev pub IsVersion : List ℕ → Version → Type 0
+IsVersion = Mapped version_of (After IsLead (Joined NoDigitFollows IsTriple (IsQualifier Loose)))
+
+-- ---- faults
+
+pub record AllNumbersFit (v : Version) : Type 0 where
+  pub major : v.major < 2 ^ 64
+  pub minor : v.minor < 2 ^ 64
+  pub patch : v.patch < 2 ^ 64
+
+-- the text doesn't begin with a `.`
+abbrev pub LacksDot : List ℕ → Type 0
+LacksDot text = (rest : List ℕ) → text ≡ 46 ∷ rest → ⊥
+
+-- the first fault of numbers with dots between, each number as long as it goes; missing has the refusal for each dot
+-- that has to come
+pub data IsNumberFault : List Refusal → List ℕ → Refusal → Type 0 where
+  too_large : {missing : List Refusal} {text rest : List ℕ} {n : ℕ} → IsLongest IsLooseNumber text n rest → 2 ^ 64 ≤ n → IsNumberFault missing text NumberTooLarge
+  no_dot : {refusal : Refusal} {missing : List Refusal} {text rest : List ℕ} {n : ℕ} → IsLongest IsLooseNumber text n rest → n < 2 ^ 64 → LacksDot rest → IsNumberFault (refusal ∷ missing) text refusal
+  later : {refusal fault : Refusal} {missing : List Refusal} {text rest : List ℕ} {n : ℕ} → IsLongest IsLooseNumber text n (46 ∷ rest) → n < 2 ^ 64 → IsNumberFault missing rest fault → IsNumberFault (refusal ∷ missing) text fault
+
+-- a number that is too large or a component that is missing is the first fault of the text
+pub record IsFirstFault (text : List ℕ) (fault : Refusal) : Type 0 where
+  pub rest : List ℕ
+  pub lead : IsLongest IsLead text tt rest
+  pub fault_of_rest : IsNumberFault (MissingMinor ∷ MissingPatch ∷ []) rest fault
+
+-- what a trimmed text stands for: a version, the refusal of its first fault, or any other text
+pub data IsVersionOutcome (text : List ℕ) : Result Version Refusal → Type 0 where
+  is_version : {v : Version} → IsVersion text v → AllNumbersFit v → IsVersionOutcome text (Ok v)
+  is_fault : {fault : Refusal} → IsFirstFault text fault → IsVersionOutcome text (Err fault)
+  is_outside : ((v : Version) → IsVersion text v → ⊥) → ((fault : Refusal) → IsFirstFault text fault → ⊥) → IsVersionOutcome text (Err UnexpectedCharacter)
+
+-- ---- answers
+
+-- a missing component shows the whole text
+abbrev pub version_snippet : Refusal → List ℕ → Option (List ℕ)
+version_snippet MissingMinor text = Some text
+version_snippet MissingPatch text = Some text
+version_snippet UnexpectedCharacter text = None
+version_snippet EmptyConstraint text = None
+version_snippet NumberTooLarge text = None
+version_snippet BoundTooLarge text = None
+
+-- what a failure shows of a refusal
+abbrev pub version_failure : Refusal → List ℕ → Option (List ℕ × Option (List ℕ))
+version_failure fault text = Some (refusal_message fault, version_snippet fault text)
+
+-- the failure is want of memory, or shows the refusal that the text has as its outcome
+abbrev pub IsVersionRefusal : List ℕ → Option (List ℕ × Option (List ℕ)) → Type 0
+IsVersionRefusal text failure = (failure ≡ None) ⊎ ((fault : Refusal) × IsVersionOutcome text (Err fault) × (failure ≡ version_failure fault text))
+
+-- the answer to a text with this outcome, want of memory aside; source is the failure in the error
+abbrev pub IsVersionAnswer : {E : Type 0} → (E → Option (List ℕ × Option (List ℕ))) → List ℕ → Result Version Refusal → Result Version E → Type 0
+IsVersionAnswer source text (Ok v) result = MatchResult result (λ version. version ≡ v) (λ e. source e ≡ None)
+IsVersionAnswer source text (Err fault) result = IsErrAnd result (λ e. (source e ≡ None) ⊎ (source e ≡ version_failure fault text))

@@ -1,0 +1,49 @@
+-- What the steps of the version reader answer.
+use Rattle.std.specs.Prelude.{◌≡◌, ◌≤◌, ◌<◌, ◌^◌, ℕ, List, [], ◌∷◌, true, ◌⊎◌, slice_index}
+use Rattle.std.specs.Char.{is_ascii_digit}
+use Rattle.semver_base.specs.Grammar.{HasNone, IsLongest}
+use Rattle.semver_base.specs.Lexical.{IsLooseNumber}
+use Rattle.semver_base.specs.VersionGrammar.{AllNumbersFit, IsNumberFault, IsTriple, IsVersion}
+use Rattle.semver_base.specs.declared.version.Version.{Version}
+use Rattle.semver_base.specs.declared.failure.Refusal.{Refusal}
+use Rattle.semver_base.specs.declared.failure.Refusal.TheVariants.{UnexpectedCharacter, MissingMinor, MissingPatch, NumberTooLarge}
+
+-- the longest number at the front, which fits
+pub record IsFittingNumber (text : List ℕ) (n : ℕ) (rest : List ℕ) : Type 0 where
+  pub number : IsLongest IsLooseNumber text n rest
+  pub fits : n < 2 ^ 64
+
+-- the longest number at the front doesn't fit
+pub record HasLargeNumber (text : List ℕ) : Type 0 where
+  pub n : ℕ
+  pub rest : List ℕ
+  pub number : IsLongest IsLooseNumber text n rest
+  pub large : 2 ^ 64 ≤ n
+
+abbrev pub IsNumberRefusal : List ℕ → Refusal → Type 0
+IsNumberRefusal text refusal = ((refusal ≡ NumberTooLarge) × HasLargeNumber text) ⊎ ((refusal ≡ UnexpectedCharacter) × HasNone IsLooseNumber text)
+
+-- the longest three numbers at the front, which fit
+pub record IsFittingTriple (text : List ℕ) (v : ℕ × (ℕ × ℕ)) (rest : List ℕ) : Type 0 where
+  pub triple : IsLongest IsTriple text v rest
+  pub major_fits : v.0 < 2 ^ 64
+  pub minor_fits : v.1.0 < 2 ^ 64
+  pub patch_fits : v.1.1 < 2 ^ 64
+  pub no_digit : is_ascii_digit (slice_index rest 0) ≡ true → ⊥
+
+-- what the numbers of a version may have as their first fault
+abbrev pub IsFaultOfNumbers : List ℕ → Refusal → Type 0
+IsFaultOfNumbers = IsNumberFault (MissingMinor ∷ MissingPatch ∷ [])
+
+-- no three numbers stand at the front, and nothing of them has a fault of its own
+pub record IsOutsideTriple (text : List ℕ) : Type 0 where
+  pub no_triple : HasNone IsTriple text
+  pub no_fault : (fault : Refusal) → IsFaultOfNumbers text fault → ⊥
+
+abbrev pub IsTripleRefusal : List ℕ → Refusal → Type 0
+IsTripleRefusal text refusal = IsFaultOfNumbers text refusal ⊎ ((refusal ≡ UnexpectedCharacter) × IsOutsideTriple text)
+
+-- the whole text is the longest front that is a version, and its numbers fit
+pub record IsReadVersion (text : List ℕ) (v : Version) : Type 0 where
+  pub longest : IsLongest IsVersion text v []
+  pub fits : AllNumbersFit v
