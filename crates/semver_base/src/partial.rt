@@ -2,7 +2,7 @@
 
 ghost use Rattle.std.specs.Prelude.{◌≡◌, ◌+◌, ◌∷◌, [], IfOk, IfErr, OnOk, true};
 ghost use Rattle.semver_base.specs.Meaning.{from, release, to_below};
-ghost use Rattle.semver_base.specs.PartialTable.{IsBoundRefusal, all_fit, between, caret, equal, greater_range, lowest, or_zero, tilde};
+ghost use Rattle.semver_base.specs.PartialTable.{IsBoundRefusal, all_fit, between, caret, equal, greater_range, greater_than, less_than, lowest, or_zero, pre_of, tilde, upper, without_build};
 
 use crate::failure::{ParseFailure, Refusal};
 use crate::range::{RangeBound, VersionBoundKind, VersionRange};
@@ -213,5 +213,196 @@ impl Partial {
             }),
             _ => self.as_greater_range(alloc, VersionBoundKind::Inclusive),
         }
+    }
+
+    /// The end up to the highest version that the partial names, which ends a hyphen range (node-semver, "Hyphen
+    /// Ranges"). It is absent where the major version is a wildcard.
+    ///
+    /// The refusal "Version bound is too large." comes exactly where the raised number is past 18446744073709551615;
+    /// any other failure is want of memory.
+    pub fn as_upper_bound(&self, alloc: Global) -> Result<RangeBound, ParseFailure>
+        ensures bound { IfOk result (λ bound. bound ≡ (upper self.now).end) }
+        ensures fits { OnOk result (all_fit (upper self.now).sums ≡ true) }
+        ensures refused { IfErr result (IsBoundRefusal (upper self.now).sums) }
+    {
+        match (self.major, self.minor, self.patch) {
+            (XRange::Wildcard, _, _) => Ok(RangeBound::Unbounded),
+            (XRange::Val(major), XRange::Wildcard, patch) => {
+                let next = raised(alloc, major)?;
+                Ok(RangeBound::exclusive(release(alloc, next, 0, or_zero(patch))))
+            }
+            (XRange::Val(major), XRange::Val(minor), XRange::Wildcard) => {
+                let next = raised(alloc, minor)?;
+                Ok(RangeBound::exclusive(release(alloc, major, next, 0)))
+            }
+            (XRange::Val(_), XRange::Val(_), XRange::Val(_)) => {
+                Ok(RangeBound::inclusive(self.without_build(alloc)?))
+            }
+        }
+    }
+
+    // `M.m.p-pre`, with wildcards as 0.
+    fn without_build(&self, alloc: Global) -> Result<Version, AllocError>
+        ensures { IfOk result (λ version. version ≡ without_build self.now) }
+    {
+        self.pre_release_of(
+            alloc,
+            or_zero(self.major),
+            or_zero(self.minor),
+            or_zero(self.patch),
+        )
+    }
+
+    // The version of these three numbers with the partial's pre-release.
+    fn pre_release_of(
+        &self,
+        alloc: Global,
+        major: u64,
+        minor: u64,
+        patch: u64,
+    ) -> Result<Version, AllocError>
+        ensures { IfOk result (λ version. version ≡ pre_of self.now major minor patch) }
+    {
+        Ok(Version {
+            major,
+            minor,
+            patch,
+            pre: self.pre.copy()?,
+            build: CowVec::new(alloc),
+        })
+    }
+
+    /// The range of `>=` and the partial where `kind` is inclusive, of `>` where it is exclusive (node-semver's
+    /// primitives).
+    ///
+    /// The refusal "Version bound is too large." comes exactly where a number that is raised is past
+    /// 18446744073709551615; any other failure is want of memory.
+    pub fn as_greater_than(
+        &self,
+        alloc: Global,
+        kind: VersionBoundKind,
+    ) -> Result<VersionRange, ParseFailure>
+        ensures range { IfOk result (λ range. range ≡ (greater_than kind self.now).range) }
+        ensures fits { OnOk result (all_fit (greater_than kind self.now).sums ≡ true) }
+        ensures refused { IfErr result (IsBoundRefusal (greater_than kind self.now).sums) }
+    {
+        match kind {
+            VersionBoundKind::Inclusive => Ok(self.at_least(alloc)?),
+            VersionBoundKind::Exclusive => self.above(alloc),
+        }
+    }
+
+    // The range of `>=`.
+    fn at_least(&self, alloc: Global) -> Result<VersionRange, AllocError>
+        ensures { IfOk result (λ range. range ≡ (greater_than VersionBoundKind.Inclusive self.now).range) }
+    {
+        match self.major {
+            XRange::Wildcard => Ok(VersionRange::all()),
+            XRange::Val(_) => Ok(VersionRange {
+                start: RangeBound::inclusive(self.without_build(alloc)?),
+                end: RangeBound::Unbounded,
+            }),
+        }
+    }
+
+    // The range of `>`.
+    fn above(&self, alloc: Global) -> Result<VersionRange, ParseFailure>
+        ensures range { IfOk result (λ range. range ≡ (greater_than VersionBoundKind.Exclusive self.now).range) }
+        ensures fits { OnOk result (all_fit (greater_than VersionBoundKind.Exclusive self.now).sums ≡ true) }
+        ensures refused { IfErr result (IsBoundRefusal (greater_than VersionBoundKind.Exclusive self.now).sums) }
+    {
+        let start = match (self.major, self.minor, self.patch) {
+            (XRange::Wildcard, _, _) => return Ok(VersionRange::none(alloc)),
+            (XRange::Val(major), XRange::Wildcard, patch) => {
+                let next = raised(alloc, major)?;
+                RangeBound::inclusive(release(alloc, next, 0, or_zero(patch)))
+            }
+            (XRange::Val(major), XRange::Val(minor), XRange::Wildcard) => {
+                let next = raised(alloc, minor)?;
+                RangeBound::inclusive(release(alloc, major, next, 0))
+            }
+            (XRange::Val(_), XRange::Val(_), XRange::Val(_)) => {
+                RangeBound::exclusive(self.without_build(alloc)?)
+            }
+        };
+        Ok(VersionRange {
+            start,
+            end: RangeBound::Unbounded,
+        })
+    }
+
+    /// The range of `<=` and the partial where `kind` is inclusive, of `<` where it is exclusive; both start at 0.0.0
+    /// (node-semver's primitives).
+    ///
+    /// The refusal "Version bound is too large." comes exactly where a number that is raised is past
+    /// 18446744073709551615; any other failure is want of memory.
+    pub fn as_less_than(
+        &self,
+        alloc: Global,
+        kind: VersionBoundKind,
+    ) -> Result<VersionRange, ParseFailure>
+        ensures range { IfOk result (λ range. range ≡ (less_than kind self.now).range) }
+        ensures fits { OnOk result (all_fit (less_than kind self.now).sums ≡ true) }
+        ensures refused { IfErr result (IsBoundRefusal (less_than kind self.now).sums) }
+    {
+        match kind {
+            VersionBoundKind::Inclusive => self.at_most(alloc),
+            VersionBoundKind::Exclusive => Ok(self.below(alloc)?),
+        }
+    }
+
+    // The range of `<=`.
+    fn at_most(&self, alloc: Global) -> Result<VersionRange, ParseFailure>
+        ensures range { IfOk result (λ range. range ≡ (less_than VersionBoundKind.Inclusive self.now).range) }
+        ensures fits { OnOk result (all_fit (less_than VersionBoundKind.Inclusive self.now).sums ≡ true) }
+        ensures refused { IfErr result (IsBoundRefusal (less_than VersionBoundKind.Inclusive self.now).sums) }
+    {
+        let end = match (self.major, self.minor, self.patch) {
+            (XRange::Wildcard, _, _) => return Ok(VersionRange::all()),
+            (XRange::Val(major), XRange::Wildcard, XRange::Wildcard) => {
+                let next = raised(alloc, major)?;
+                RangeBound::exclusive(release(alloc, next, 0, 0))
+            }
+            (XRange::Val(major), XRange::Wildcard, XRange::Val(patch)) => {
+                let next = raised(alloc, major)?;
+                RangeBound::exclusive(self.pre_release_of(alloc, next, 0, patch)?)
+            }
+            (XRange::Val(major), XRange::Val(minor), XRange::Wildcard) => {
+                let next = raised(alloc, minor)?;
+                RangeBound::exclusive(release(alloc, major, next, 0))
+            }
+            (XRange::Val(_), XRange::Val(_), XRange::Val(_)) => {
+                RangeBound::inclusive(self.without_build(alloc)?)
+            }
+        };
+        Ok(from_zero(alloc, end))
+    }
+
+    // The range of `<`.
+    fn below(&self, alloc: Global) -> Result<VersionRange, AllocError>
+        ensures { IfOk result (λ range. range ≡ (less_than VersionBoundKind.Exclusive self.now).range) }
+    {
+        let end = match (self.major, self.minor, self.patch) {
+            (XRange::Wildcard, _, _) => return Ok(VersionRange::none(alloc)),
+            (XRange::Val(major), XRange::Wildcard, XRange::Wildcard) => release(alloc, major, 0, 0),
+            (XRange::Val(major), XRange::Wildcard, XRange::Val(patch)) => {
+                self.pre_release_of(alloc, major, 0, patch)?
+            }
+            (XRange::Val(major), XRange::Val(minor), XRange::Wildcard) => {
+                release(alloc, major, minor, 0)
+            }
+            (XRange::Val(_), XRange::Val(_), XRange::Val(_)) => self.without_build(alloc)?,
+        };
+        Ok(from_zero(alloc, RangeBound::exclusive(end)))
+    }
+}
+
+// The range from 0.0.0 to this end.
+fn from_zero(alloc: Global, end: RangeBound) -> VersionRange
+    ensures { result ≡ between (from (release 0 0 0)) end }
+{
+    VersionRange {
+        start: RangeBound::inclusive(release(alloc, 0, 0, 0)),
+        end,
     }
 }
