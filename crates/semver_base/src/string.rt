@@ -68,7 +68,7 @@ impl SmallStackString {
     pub fn eq_str(&self, other: &str) -> bool
         ensures { IsTrue result ↔ (self.now ≡ other.now) }
     {
-        self.as_str() == other
+        other == self.as_str()
     }
 
     /// The same text again. It is an error only where no memory is left.
