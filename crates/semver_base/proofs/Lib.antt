@@ -1,10 +1,15 @@
 pub mod Blanks
 pub mod Bytes
+pub mod ClampLemmas
+pub mod ClampMeaning
 pub mod Fronts
 pub mod Lists
 pub mod MeaningLemmas
 pub mod Numbers
+pub mod Orders
+pub mod OverlapLemmas
 pub mod Parts
 pub mod PrecedenceLemmas
 pub mod Qualifiers
+pub mod Triples
 pub mod VersionReading

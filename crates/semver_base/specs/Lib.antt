@@ -1,7 +1,9 @@
+pub mod Clamp
 pub mod Failure
 pub mod Grammar
 pub mod Lexical
 pub mod Meaning
+pub mod Overlap
 pub mod PartialTable
 pub mod Precedence
 pub mod PrecedenceLaws

@@ -1,12 +1,16 @@
 //! Ranges of versions: what their bounds hold, and which versions they match.
 
-ghost use Rattle.std.specs.Prelude.{◌≡◌, ◌∷◌, [], IfOk};
+ghost use Rattle.std.specs.Prelude.{◌≡◌, ◌∷◌, ◌⊎◌, [], IfOk};
+ghost use Rattle.std.specs.Bool.{OnFalse, OnTrue};
 ghost use Rattle.std.specs.List.{list_any};
-ghost use Rattle.semver_base.specs.Meaning.{alternative_means, alternatives, end_holds, everything, has_pre_of, nothing, start_holds, tree_means};
+ghost use Rattle.semver_base.specs.Clamp.{clamped, clamped_end, clamped_start, of_tied, stopped_at, HaveCrossed, HoldsBoth, HoldsNothing, MatchesBoth, MeansBoth};
+ghost use Rattle.semver_base.specs.Meaning.{alternative_means, alternatives, bounds_hold, end_holds, everything, has_pre_of, nothing, start_holds, tree_means};
+ghost use Rattle.semver_base.specs.Overlap.{ends_at_zero, overlap, some_overlap, starts_before, HoldNothingTogether, HoldsNoRelease, MatchNothingTogether};
 
 use crate::string::{CowItem, CowVec};
 use crate::version::Version;
 use std::alloc::{AllocError, Global};
+use std::cmp::Ordering;
 
 /// Whether a bound holds its own version.
 #[derive(Clone, Copy, Debug, PartialEq, Eq, Hash)]
@@ -132,6 +136,89 @@ impl RangeBound {
             }
         }
     }
+
+    // Of two bounds that tie, this one, of the kind `kind`, where it is exclusive, and else the other.
+    fn of_tied(&self, kind: VersionBoundKind, other: &RangeBound) -> Result<RangeBound, AllocError>
+        ensures { IfOk result (λ bound. bound ≡ of_tied kind self.now other.now) }
+    {
+        match kind {
+            VersionBoundKind::Exclusive => self.copy(),
+            VersionBoundKind::Inclusive => other.copy(),
+        }
+    }
+
+    /// The start of what two ranges with these starts both hold: the greater start by precedence, and of two that tie
+    /// this one where it is exclusive and else the other. An absent start gives the other one.
+    ///
+    /// It is an error only where no memory is left.
+    pub fn clamp_start(&self, _alloc: Global, other: &RangeBound) -> Result<RangeBound, AllocError>
+        ensures { IfOk result (λ bound. bound ≡ clamped_start self.now other.now) }
+    {
+        match (self, other) {
+            (RangeBound::Unbounded, _) => other.copy(),
+            (RangeBound::Version(_), RangeBound::Unbounded) => self.copy(),
+            (RangeBound::Version(own), RangeBound::Version(others)) => {
+                match own.version.cmp_precedence(&others.version) {
+                    Ordering::Less => other.copy(),
+                    Ordering::Equal => self.of_tied(own.kind, other),
+                    Ordering::Greater => self.copy(),
+                }
+            }
+        }
+    }
+
+    /// The end of what two ranges with these ends both hold: the lesser end by precedence, and of two that tie this
+    /// one where it is exclusive and else the other. An absent end gives the other one.
+    ///
+    /// It is an error only where no memory is left.
+    pub fn clamp_end(&self, _alloc: Global, other: &RangeBound) -> Result<RangeBound, AllocError>
+        ensures { IfOk result (λ bound. bound ≡ clamped_end self.now other.now) }
+    {
+        match (self, other) {
+            (RangeBound::Unbounded, _) => other.copy(),
+            (RangeBound::Version(_), RangeBound::Unbounded) => self.copy(),
+            (RangeBound::Version(own), RangeBound::Version(others)) => {
+                match own.version.cmp_precedence(&others.version) {
+                    Ordering::Less => self.copy(),
+                    Ordering::Equal => self.of_tied(own.kind, other),
+                    Ordering::Greater => other.copy(),
+                }
+            }
+        }
+    }
+
+    // This start, where it lies below the end. One past the end stops there and holds nothing, and an inclusive one at
+    // the end becomes the end.
+    fn stopped_at(&self, end: &RangeBound) -> Result<RangeBound, AllocError>
+        ensures { IfOk result (λ bound. bound ≡ stopped_at self.now end.now) }
+    {
+        match (self, end) {
+            (RangeBound::Version(start), RangeBound::Version(stop)) => {
+                match start.version.cmp_precedence(&stop.version) {
+                    Ordering::Less => self.copy(),
+                    Ordering::Equal => self.of_tied(start.kind, end),
+                    Ordering::Greater => Ok(RangeBound::exclusive(stop.version.copy()?)),
+                }
+            }
+            (_, _) => self.copy(),
+        }
+    }
+
+    // Whether this start lies below the end, or at it where both are inclusive.
+    fn starts_before(&self, end: &RangeBound) -> bool
+        ensures { result ≡ starts_before self.now end.now }
+    {
+        match (self, end) {
+            (RangeBound::Version(start), RangeBound::Version(stop)) => {
+                let ordering = start.version.cmp_precedence(&stop.version);
+                match (start.kind, stop.kind) {
+                    (VersionBoundKind::Inclusive, VersionBoundKind::Inclusive) => ordering.is_le(),
+                    (_, _) => ordering.is_lt(),
+                }
+            }
+            (_, _) => true,
+        }
+    }
 }
 
 impl VersionRange {
@@ -176,6 +263,67 @@ impl VersionRange {
             end: self.end.copy()?,
         })
     }
+
+    /// The range of what both ranges hold: the greater start and the lesser end.
+    ///
+    /// A start that has passed the end becomes an exclusive start at the end's version: such a range holds nothing,
+    /// nor does any range that it is clamped to. An inclusive start at the end becomes a copy of the end. A
+    /// pre-release matches where the bounds of both ranges hold it and one of the four bounds is a pre-release of its
+    /// three numbers, as where both stand side by side (node-semver, "Prerelease Tags").
+    ///
+    /// It is an error only where no memory is left.
+    pub fn clamp(&self, alloc: Global, other: &VersionRange) -> Result<VersionRange, AllocError>
+        ensures value { IfOk result (λ range. range ≡ clamped self.now other.now) }
+        ensures bounds { IfOk result (HoldsBoth self.now other.now) }
+        ensures means { IfOk result (MeansBoth self.now other.now) }
+        ensures releases { IfOk result (MatchesBoth self.now other.now) }
+        ensures crossed { IfOk result (λ range. HaveCrossed self.now other.now → HoldsNothing range) }
+        ensures stays_empty { IfOk result (λ range. HoldsNothing self.now ⊎ HoldsNothing other.now → HoldsNothing range) }
+    {
+        let start = self.start.clamp_start(alloc, &other.start)?;
+        let end = self.end.clamp_end(alloc, &other.end)?;
+        let start = start.stopped_at(&end)?;
+        Ok(VersionRange { start, end })
+    }
+
+    /// Whether the end is exclusive and at the numbers 0.0.0, whatever its pre-release, so that no release matches. The
+    /// end of [`VersionRange::none`] is such a one.
+    #[tactic(auto, using(crate::proofs::OverlapLemmas::ends_no_release))]
+    pub fn is_none(&self) -> bool
+        ensures value { result ≡ ends_at_zero self.now.end }
+        ensures no_release { OnTrue result (HoldsNoRelease self.now) }
+    {
+        match &self.end {
+            RangeBound::Unbounded => false,
+            RangeBound::Version(end) => {
+                end.kind == VersionBoundKind::Exclusive
+                    && end.version.major == 0
+                    && end.version.minor == 0
+                    && end.version.patch == 0
+            }
+        }
+    }
+
+    /// Whether the version stands between both bounds, be it a pre-release or not.
+    pub fn intersects_version(&self, version: &Version) -> bool
+        ensures { result ≡ bounds_hold self.now version.now }
+    {
+        self.start.holds_as_start(version) && self.end.holds_as_end(version)
+    }
+
+    /// Whether the two ranges overlap: each start lies below the other's end, or at it with both bounds inclusive. An
+    /// absent bound is infinite.
+    ///
+    /// Only those pairs of bounds are compared, so a range whose start is above its own end can overlap another. Where
+    /// the ranges don't overlap, no version stands between the bounds of both.
+    #[tactic(auto, using(crate::proofs::OverlapLemmas::range_no_common))]
+    pub fn intersects_range(&self, other: &VersionRange) -> bool
+        ensures value { result ≡ overlap self.now other.now }
+        ensures symmetric { result ≡ overlap other.now self.now }
+        ensures no_common { OnFalse result (HoldNothingTogether self.now other.now) }
+    {
+        self.start.starts_before(&other.end) && other.start.starts_before(&self.end)
+    }
 }
 
 impl CowItem for VersionRange {
@@ -204,5 +352,30 @@ impl VersionRangeSet {
         ensures { IfOk result (λ set. set ≡ self.now) }
     {
         Ok(VersionRangeSet(self.0.copy()?))
+    }
+
+    // Whether the range overlaps some range of the set.
+    fn overlaps(&self, range: &VersionRange) -> bool
+        ensures { result ≡ list_any (λ own. overlap range.now own) self.now.0 }
+    {
+        self.0.iter().any(|own| range.intersects_range(own))
+    }
+
+    // Whether some range overlaps some range of the other set.
+    fn has_overlap(&self, other: &VersionRangeSet) -> bool
+        ensures { result ≡ some_overlap self.now.0 other.now.0 }
+    {
+        self.0.iter().any(|range| other.overlaps(range))
+    }
+
+    /// Whether some range of the one set overlaps some range of the other. Where none does, no version matches both
+    /// sets.
+    #[tactic(auto, using(crate::proofs::OverlapLemmas::set_no_common, crate::proofs::OverlapLemmas::some_overlap_swap))]
+    pub fn intersects_set(&self, other: &VersionRangeSet) -> bool
+        ensures value { result ≡ some_overlap self.now.0 other.now.0 }
+        ensures symmetric { result ≡ some_overlap other.now.0 self.now.0 }
+        ensures no_common { OnFalse result (MatchNothingTogether self.now.0 other.now.0) }
+    {
+        self.has_overlap(other)
     }
 }

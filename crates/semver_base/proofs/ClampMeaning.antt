@@ -1,0 +1,195 @@
+-- What a clamped range means, pre-releases included.
+use Rattle.std.proofs.Common.{◌≡◌, ◌&&◌, ◌||◌, [], ◌∷◌, Bool, true, false, refl, sym, ap, ◌∙◌, inl, inr}
+use Rattle.std.proofs.lemmas.Bool.{cases_Bool}
+use Rattle.std.specs.Cmp.{both_ways}
+use Rattle.std.specs.Ordering.{is_le}
+use Rattle.std.specs.declared.cmp.Ordering.{Ordering}
+use Rattle.std.specs.declared.cmp.Ordering.TheVariants.{Less, Equal, Greater}
+use Rattle.semver_base.specs.Clamp.{clamped, clamped_end, clamped_start, greater_of, lesser_of, of_tied, stopped_at, stopped_by, MatchesBoth, MeansBoth}
+use Rattle.semver_base.specs.Meaning.{admits_pre, alternative_means, bounds_hold, end_holds, has_pre_of, is_release, start_holds}
+use Rattle.semver_base.specs.Precedence.{precedence_cmp}
+use Rattle.semver_base.specs.PrecedenceLaws.{precedence_total}
+use Rattle.semver_base.specs.declared.version.Version.{Version}
+use Rattle.semver_base.specs.declared.range.RangeBound.{RangeBound}
+use Rattle.semver_base.specs.declared.range.RangeBound.TheVariants as bound
+use Rattle.semver_base.specs.declared.range.VersionBound.{VersionBound}
+use Rattle.semver_base.specs.declared.range.VersionBoundKind.{VersionBoundKind}
+use Rattle.semver_base.specs.declared.range.VersionBoundKind.TheVariants as kind
+use Rattle.semver_base.specs.declared.range.VersionRange.{VersionRange}
+use Rattle.semver_base.proofs.ClampLemmas.{above_ge, below_le, clamped_bounds, end_both, passed_holds, start_both}
+use Rattle.semver_base.proofs.Orders.{and_both, and_first, and_second, and_true, le_turned, or_cases, or_false, or_first, or_second, same_where, turned}
+use Rattle.semver_base.proofs.Triples.{end_between, start_between}
+
+-- ---- a bound that admits a version, once dropped
+
+start_le : (x : VersionBound) (v : Version) → start_holds (bound.Version x) v ≡ true → is_le (precedence_cmp x.version v) ≡ true
+start_le x v h = le_turned precedence_total v x.version (above_ge x.kind (precedence_cmp v x.version) h)
+
+end_le : (x : VersionBound) (v : Version) → end_holds (bound.Version x) v ≡ true → is_le (precedence_cmp v x.version) ≡ true
+end_le x v h = below_le x.kind (precedence_cmp v x.version) h
+
+le_by : (r : Ordering) → r ≡ Less → is_le r ≡ true
+le_by r e = rw e refl
+
+le_tied : (r : Ordering) → r ≡ Equal → is_le r ≡ true
+le_tied r e = rw e refl
+
+tied_admits : (k : VersionBoundKind) (first second : RangeBound) (v : Version) → has_pre_of first v ≡ true → has_pre_of second v ≡ true → has_pre_of (of_tied k first second) v ≡ true
+tied_admits kind.Exclusive first second v h k = h
+tied_admits kind.Inclusive first second v h k = k
+
+tied_from : (k : VersionBoundKind) (first second : RangeBound) (v : Version) → has_pre_of (of_tied k first second) v ≡ true → (has_pre_of first v || has_pre_of second v) ≡ true
+tied_from kind.Exclusive first second v h = or_first _ _ h
+tied_from kind.Inclusive first second v h = or_second _ _ h
+
+-- where the first of two starts that hold the pre-release v admits it, so does the greater
+start_kept_first : (s t : RangeBound) (v : Version) → is_release v ≡ false → start_holds t v ≡ true → has_pre_of s v ≡ true → has_pre_of (clamped_start s t) v ≡ true
+start_kept_first bound.Unbounded t v pre held h = cc h
+start_kept_first (bound.Version x) bound.Unbounded v pre held h = h
+start_kept_first (bound.Version x) (bound.Version y) v pre held h = go (precedence_cmp x.version y.version) refl
+  where
+    go : (r : Ordering) → precedence_cmp x.version y.version ≡ r → has_pre_of (greater_of r x.kind (bound.Version x) (bound.Version y)) v ≡ true
+    go Less e = start_between x.version y.version v pre h (le_by _ e) (start_le y v held)
+    go Equal e = tied_admits x.kind (bound.Version x) (bound.Version y) v h (start_between x.version y.version v pre h (le_tied _ e) (start_le y v held))
+    go Greater e = h
+
+start_kept_second : (s t : RangeBound) (v : Version) → is_release v ≡ false → start_holds s v ≡ true → has_pre_of t v ≡ true → has_pre_of (clamped_start s t) v ≡ true
+start_kept_second bound.Unbounded t v pre held h = h
+start_kept_second (bound.Version x) bound.Unbounded v pre held h = cc h
+start_kept_second (bound.Version x) (bound.Version y) v pre held h = go (precedence_cmp x.version y.version) refl
+  where
+    go : (r : Ordering) → precedence_cmp x.version y.version ≡ r → has_pre_of (greater_of r x.kind (bound.Version x) (bound.Version y)) v ≡ true
+    go Less e = h
+    go Equal e = tied_admits x.kind (bound.Version x) (bound.Version y) v (start_between y.version x.version v pre h (le_tied _ (turned precedence_total x.version y.version Equal e)) (start_le x v held)) h
+    go Greater e = start_between y.version x.version v pre h (le_by _ (turned precedence_total x.version y.version Greater e)) (start_le x v held)
+
+-- where the first of two ends that hold v admits it, so does the lesser
+end_kept_first : (s t : RangeBound) (v : Version) → end_holds t v ≡ true → has_pre_of s v ≡ true → has_pre_of (clamped_end s t) v ≡ true
+end_kept_first bound.Unbounded t v held h = cc h
+end_kept_first (bound.Version x) bound.Unbounded v held h = h
+end_kept_first (bound.Version x) (bound.Version y) v held h = go (precedence_cmp x.version y.version) refl
+  where
+    go : (r : Ordering) → precedence_cmp x.version y.version ≡ r → has_pre_of (lesser_of r x.kind (bound.Version x) (bound.Version y)) v ≡ true
+    go Less e = h
+    go Equal e = tied_admits x.kind (bound.Version x) (bound.Version y) v h (end_between x.version y.version v h (end_le y v held) (le_tied _ (turned precedence_total x.version y.version Equal e)))
+    go Greater e = end_between x.version y.version v h (end_le y v held) (le_by _ (turned precedence_total x.version y.version Greater e))
+
+end_kept_second : (s t : RangeBound) (v : Version) → end_holds s v ≡ true → has_pre_of t v ≡ true → has_pre_of (clamped_end s t) v ≡ true
+end_kept_second bound.Unbounded t v held h = h
+end_kept_second (bound.Version x) bound.Unbounded v held h = cc h
+end_kept_second (bound.Version x) (bound.Version y) v held h = go (precedence_cmp x.version y.version) refl
+  where
+    go : (r : Ordering) → precedence_cmp x.version y.version ≡ r → has_pre_of (lesser_of r x.kind (bound.Version x) (bound.Version y)) v ≡ true
+    go Less e = end_between y.version x.version v h (end_le x v held) (le_by _ e)
+    go Equal e = tied_admits x.kind (bound.Version x) (bound.Version y) v (end_between y.version x.version v h (end_le x v held) (le_tied _ e)) h
+    go Greater e = h
+
+-- a start that stops at the end admits what it did, of what both hold
+stop_kept : (s e : RangeBound) (v : Version) → is_release v ≡ false → start_holds s v ≡ true → end_holds e v ≡ true → has_pre_of s v ≡ true → has_pre_of (stopped_at s e) v ≡ true
+stop_kept bound.Unbounded e v pre above below h = cc h
+stop_kept (bound.Version x) bound.Unbounded v pre above below h = h
+stop_kept (bound.Version x) (bound.Version y) v pre above below h = go (precedence_cmp x.version y.version) refl
+  where
+    go : (r : Ordering) → precedence_cmp x.version y.version ≡ r → has_pre_of (stopped_by r x y) v ≡ true
+    go Less e = h
+    go Equal e =
+        let reached : is_le (precedence_cmp y.version v) ≡ true = sym (ap is_le (precedence_total.congr x.version y.version v e)) ∙ start_le x v above in
+        tied_admits x.kind (bound.Version x) (bound.Version y) v h (start_between x.version y.version v pre h (le_tied _ e) reached)
+    go Greater e =
+        let none = rw (above, below) at (passed_holds x.kind y.kind x.version y.version v e) in
+        cc none
+
+-- ---- what a chosen bound admits, one of the two admits
+
+start_from : (s t : RangeBound) (v : Version) → has_pre_of (clamped_start s t) v ≡ true → (has_pre_of s v || has_pre_of t v) ≡ true
+start_from bound.Unbounded t v h = h
+start_from (bound.Version x) bound.Unbounded v h = or_first _ _ h
+start_from (bound.Version x) (bound.Version y) v h = go (precedence_cmp x.version y.version) h
+  where
+    go : (r : Ordering) → has_pre_of (greater_of r x.kind (bound.Version x) (bound.Version y)) v ≡ true → (has_pre_of (bound.Version x) v || has_pre_of (bound.Version y) v) ≡ true
+    go Less h = or_second _ _ h
+    go Equal h = tied_from x.kind (bound.Version x) (bound.Version y) v h
+    go Greater h = or_first _ _ h
+
+end_from : (s t : RangeBound) (v : Version) → has_pre_of (clamped_end s t) v ≡ true → (has_pre_of s v || has_pre_of t v) ≡ true
+end_from bound.Unbounded t v h = h
+end_from (bound.Version x) bound.Unbounded v h = or_first _ _ h
+end_from (bound.Version x) (bound.Version y) v h = go (precedence_cmp x.version y.version) h
+  where
+    go : (r : Ordering) → has_pre_of (lesser_of r x.kind (bound.Version x) (bound.Version y)) v ≡ true → (has_pre_of (bound.Version x) v || has_pre_of (bound.Version y) v) ≡ true
+    go Less h = or_first _ _ h
+    go Equal h = tied_from x.kind (bound.Version x) (bound.Version y) v h
+    go Greater h = or_second _ _ h
+
+stop_from : (s e : RangeBound) (v : Version) → has_pre_of (stopped_at s e) v ≡ true → (has_pre_of s v || has_pre_of e v) ≡ true
+stop_from bound.Unbounded e v h = cc h
+stop_from (bound.Version x) bound.Unbounded v h = or_first _ _ h
+stop_from (bound.Version x) (bound.Version y) v h = go (precedence_cmp x.version y.version) h
+  where
+    go : (r : Ordering) → has_pre_of (stopped_by r x y) v ≡ true → (has_pre_of (bound.Version x) v || has_pre_of (bound.Version y) v) ≡ true
+    go Less h = or_first _ _ h
+    go Equal h = tied_from x.kind (bound.Version x) (bound.Version y) v h
+    go Greater h = or_second _ _ h
+
+-- ---- ranges
+
+-- one of two starts, or one of two ends, among all four bounds
+by_starts : (a b c d : Bool) → (a || c) ≡ true → ((a || b) || ((c || d) || false)) ≡ true
+by_starts true b c d h = refl
+by_starts false b c d h = or_second b _ (or_first _ _ (or_first c d h))
+
+by_ends : (a b c d : Bool) → (b || d) ≡ true → ((a || b) || ((c || d) || false)) ≡ true
+by_ends a true c d h = or_first _ _ (or_second a true refl)
+by_ends a false c d h = or_second _ _ (or_first _ _ (or_second c d h))
+
+admits_from : (a b : VersionRange) (v : Version) → admits_pre (clamped a b) v ≡ true → (admits_pre a v || (admits_pre b v || false)) ≡ true
+admits_from a b v h = elim (or_cases _ _ h) [
+  | inl start ↦ elim (or_cases _ _ (stop_from (clamped_start a.start b.start) (clamped_end a.end b.end) v start)) [
+    | inl first ↦ by_starts _ (has_pre_of a.end v) _ (has_pre_of b.end v) (start_from a.start b.start v first)
+    | inr second ↦ by_ends (has_pre_of a.start v) _ (has_pre_of b.start v) _ (end_from a.end b.end v second)
+  ]
+  | inr end ↦ by_ends (has_pre_of a.start v) _ (has_pre_of b.start v) _ (end_from a.end b.end v end)
+]
+
+admits_kept : (a b : VersionRange) (v : Version) → is_release v ≡ false → bounds_hold a v ≡ true → bounds_hold b v ≡ true
+    → (admits_pre a v || (admits_pre b v || false)) ≡ true → admits_pre (clamped a b) v ≡ true
+admits_kept a b v pre ha hb h = elim (or_cases _ _ h) [
+  | inl first ↦ elim (or_cases _ _ first) [
+    | inl start ↦ starts (start_kept_first a.start b.start v pre (and_first _ _ hb) start)
+    | inr end ↦ ends (end_kept_first a.end b.end v (and_second _ _ hb) end)
+  ]
+  | inr second ↦ elim (or_cases _ _ (sym (or_false (admits_pre b v)) ∙ second)) [
+    | inl start ↦ starts (start_kept_second a.start b.start v pre (and_first _ _ ha) start)
+    | inr end ↦ ends (end_kept_second a.end b.end v (and_second _ _ ha) end)
+  ]
+]
+  where
+    starts : has_pre_of (clamped_start a.start b.start) v ≡ true → admits_pre (clamped a b) v ≡ true
+    starts k =
+        let above : (start_holds a.start v && start_holds b.start v) ≡ true = and_both _ _ (and_first _ (end_holds a.end v) ha) (and_first _ (end_holds b.end v) hb) in
+        let below : (end_holds a.end v && end_holds b.end v) ≡ true = and_both _ _ (and_second (start_holds a.start v) _ ha) (and_second (start_holds b.start v) _ hb) in
+        or_first _ _ (stop_kept (clamped_start a.start b.start) (clamped_end a.end b.end) v pre (start_both a.start b.start v ∙ above) (end_both a.end b.end v ∙ below) k)
+
+    ends : has_pre_of (clamped_end a.end b.end) v ≡ true → admits_pre (clamped a b) v ≡ true
+    ends k = or_second _ _ k
+
+-- a clamped range means what the two mean as comparators of one alternative
+pub clamped_means : (a b : VersionRange) → MeansBoth a b (clamped a b)
+clamped_means a b v = same_where _ _ _ _ held admitted
+  where
+    held : (bounds_hold (clamped a b) v && true) ≡ (bounds_hold a v && (bounds_hold b v && true))
+    held = and_true (bounds_hold (clamped a b) v) ∙ clamped_bounds a b v ∙ ap (λ (w : Bool). bounds_hold a v && w) (sym (and_true (bounds_hold b v)))
+
+    admitted : (bounds_hold a v && (bounds_hold b v && true)) ≡ true
+        → (is_release v || (admits_pre (clamped a b) v || false)) ≡ (is_release v || (admits_pre a v || (admits_pre b v || false)))
+    admitted both = elim (cases_Bool (is_release v)) [
+      | inl release ↦ rw release refl
+      | inr pre ↦ rw pre (or_false (admits_pre (clamped a b) v) ∙ both_ways _ _ (admits_from a b v) (admits_kept a b v pre (and_first _ _ both) (and_first _ _ (and_second _ _ both))))
+    ]
+
+alone : (range : VersionRange) (v : Version) → is_release v ≡ true → alternative_means (range ∷ []) v ≡ bounds_hold range v
+alone range v release = rw release (and_true (bounds_hold range v && true) ∙ and_true (bounds_hold range v))
+
+-- a release matches a clamped range where it matches both
+pub clamped_matches : (a b : VersionRange) → MatchesBoth a b (clamped a b)
+clamped_matches a b v release = alone (clamped a b) v release ∙ clamped_bounds a b v ∙ sym (rw (alone a v release, alone b v release) refl)

@@ -1,0 +1,167 @@
+-- Overlap is symmetric, and what two ranges both hold makes them overlap.
+use Rattle.std.proofs.Common.{◌≡◌, ◌&&◌, ◌||◌, ◌==◌, ◌<◌, ℕ, length, arith, List, [], ◌∷◌, Bool, true, false, refl, sym, ap, ◌∙◌, inl, inr}
+use Rattle.std.proofs.lemmas.Bool.{cases_Bool}
+use Rattle.std.proofs.lemmas.Bool.Decides.{nat_tests}
+use Rattle.std.proofs.lemmas.Cmp.{ranked}
+use Rattle.std.specs.Bool.{OnFalse, OnTrue}
+use Rattle.std.specs.List.{list_any}
+use Rattle.std.specs.Ordering.{is_gt, is_le, is_lt, nat_cmp, ordering_then, MatchOrdering}
+use Rattle.std.specs.declared.cmp.Ordering.{Ordering}
+use Rattle.std.specs.declared.cmp.Ordering.TheVariants.{Less, Equal, Greater}
+use Rattle.semver_base.specs.Meaning.{alternative_means, alternatives, bounds_hold, end_holds, is_above, is_below, is_release, start_holds, tree_means}
+use Rattle.semver_base.specs.Overlap.{ends_at_zero, is_exclusive, lies_below, overlap, some_overlap, starts_before, HoldNothingTogether, HoldsNoRelease, MatchNothingTogether}
+use Rattle.semver_base.specs.Precedence.{precedence_cmp, pre_cmp}
+use Rattle.semver_base.specs.PrecedenceLaws.{precedence_total}
+use Rattle.semver_base.specs.declared.version.Version.{Version}
+use Rattle.semver_base.specs.declared.range.RangeBound.{RangeBound}
+use Rattle.semver_base.specs.declared.range.RangeBound.TheVariants as bound
+use Rattle.semver_base.specs.declared.range.VersionBoundKind.{VersionBoundKind}
+use Rattle.semver_base.specs.declared.range.VersionBoundKind.TheVariants as kind
+use Rattle.semver_base.specs.declared.range.VersionRange.{VersionRange}
+use Rattle.semver_base.proofs.MeaningLemmas.{any_alternatives}
+use Rattle.semver_base.proofs.Orders.{and_both, and_false, and_first, and_second, and_swap, le_le, le_less, le_turned, less_le, or_cases, or_first, or_second, turned}
+
+-- ---- ranges
+
+greater_from : (r : Ordering) → is_gt r ≡ true → r ≡ Greater
+greater_from Less h = cc h
+greater_from Equal h = cc h
+greater_from Greater h = refl
+
+less_from : (r : Ordering) → is_lt r ≡ true → r ≡ Less
+less_from Less h = refl
+less_from Equal h = cc h
+less_from Greater h = cc h
+
+end_le : (k : VersionBoundKind) (r : Ordering) → is_below k r ≡ true → is_le r ≡ true
+end_le kind.Inclusive r h = h
+end_le kind.Exclusive r h = rw (less_from r h) refl
+
+-- a start and an end that hold one version
+held_between : (k l : VersionBoundKind) (x y v : Version) → is_above k (precedence_cmp v x) ≡ true → is_below l (precedence_cmp v y) ≡ true → lies_below k l (precedence_cmp x y) ≡ true
+held_between kind.Exclusive l x y v h e =
+    let above : precedence_cmp x v ≡ Less = turned precedence_total v x Greater (greater_from _ h) in
+    ap is_lt (less_le precedence_total x v y above (end_le l _ e))
+held_between kind.Inclusive kind.Inclusive x y v h e = le_le precedence_total x v y (le_turned precedence_total v x h) e
+held_between kind.Inclusive kind.Exclusive x y v h e = ap is_lt (le_less precedence_total x v y (le_turned precedence_total v x h) (less_from _ e))
+
+held_by : (s e : RangeBound) (v : Version) → start_holds s v ≡ true → end_holds e v ≡ true → starts_before s e ≡ true
+held_by bound.Unbounded e v h k = refl
+held_by (bound.Version x) bound.Unbounded v h k = refl
+held_by (bound.Version x) (bound.Version y) v h k = held_between x.kind y.kind x.version y.version v h k
+
+-- two ranges that hold one version overlap
+held_overlap : (a b : VersionRange) (v : Version) → bounds_hold a v ≡ true → bounds_hold b v ≡ true → overlap a b ≡ true
+held_overlap a b v h k = and_both (starts_before a.start b.end) (starts_before b.start a.end)
+    (held_by a.start b.end v (and_first _ _ h) (and_second _ _ k))
+    (held_by b.start a.end v (and_first _ _ k) (and_second _ _ h))
+
+-- ranges that do not overlap hold nothing together
+pub range_no_common : (result : Bool) (a b : VersionRange) → result ≡ overlap a b → OnFalse result (HoldNothingTogether a b)
+range_no_common true a b e = tt
+range_no_common false a b e = λ v. elim (cases_Bool (bounds_hold a v && bounds_hold b v)) [
+  | inl both ↦ let over : overlap a b ≡ true = held_overlap a b v (and_first (bounds_hold a v) _ both) (and_second _ (bounds_hold b v) both) in cc
+  | inr none ↦ none
+]
+
+-- ---- sets
+
+overlap_swap : (a b : VersionRange) → overlap a b ≡ overlap b a
+overlap_swap a b = and_swap (starts_before a.start b.end) (starts_before b.start a.end)
+
+any_none : {X : Type 0} (xs : List X) → false ≡ list_any (λ (x : X). false) xs
+any_none [] = refl
+any_none (x ∷ xs) = any_none xs
+
+or_grouped : (a b c d : Bool) → ((a || b) || (c || d)) ≡ ((a || c) || (b || d))
+or_grouped true b c d = refl
+or_grouped false true true d = refl
+or_grouped false true false d = refl
+or_grouped false false c d = refl
+
+any_or : {X : Type 0} (p q : X → Bool) (xs : List X) → (list_any p xs || list_any q xs) ≡ list_any (λ x. p x || q x) xs
+any_or p q [] = refl
+any_or p q (x ∷ xs) = or_grouped (p x) (list_any p xs) (q x) (list_any q xs) ∙ ap (λ (b : Bool). (p x || q x) || b) (any_or p q xs)
+
+-- some pair, in either order
+any_swap : {X Y : Type 0} (test : X → Y → Bool) (xs : List X) (ys : List Y)
+    → list_any (λ x. list_any (λ y. test x y) ys) xs ≡ list_any (λ y. list_any (λ x. test x y) xs) ys
+any_swap test [] ys = any_none ys
+any_swap test (x ∷ xs) ys = ap (λ (b : Bool). list_any (λ y. test x y) ys || b) (any_swap test xs ys) ∙ any_or (λ y. test x y) (λ y. list_any (λ z. test z y) xs) ys
+
+pub some_overlap_swap : (some others : List VersionRange) → some_overlap some others ≡ some_overlap others some
+some_overlap_swap some others = any_swap overlap some others
+    ∙ ap (λ (test : VersionRange → VersionRange → Bool). list_any (λ b. list_any (λ a. test b a) some) others) (λ i b a. overlap_swap a b i)
+
+any_from : {X : Type 0} (p q : X → Bool) → ((x : X) → p x ≡ true → q x ≡ true) → (xs : List X) → list_any p xs ≡ true → list_any q xs ≡ true
+any_from p q passes [] h = cc h
+any_from p q passes (x ∷ xs) h = elim (or_cases (p x) (list_any p xs) h) [
+  | inl here ↦ or_first _ _ (passes x here)
+  | inr later ↦ or_second (q x) _ (any_from p q passes xs later)
+]
+
+matches_held : (range : VersionRange) (v : Version) → alternative_means (range ∷ []) v ≡ true → bounds_hold range v ≡ true
+matches_held range v h = and_first _ true (and_first (bounds_hold range v && true) _ h)
+
+-- two sets that match one version have ranges that overlap
+matched_overlap : (some others : List VersionRange) (v : Version) → tree_means (alternatives some) v ≡ true → tree_means (alternatives others) v ≡ true → some_overlap some others ≡ true
+matched_overlap some others v h k =
+    any_from (λ a. alternative_means (a ∷ []) v) (λ a. list_any (λ b. overlap a b) others)
+    (λ a first. any_from (λ b. alternative_means (b ∷ []) v) (λ b. overlap a b)
+    (λ b second. held_overlap a b v (matches_held a v first) (matches_held b v second)) others (any_alternatives others v ∙ k))
+    some (any_alternatives some v ∙ h)
+
+-- sets that do not overlap match nothing together
+pub set_no_common : (result : Bool) (some others : List VersionRange) → result ≡ some_overlap some others → OnFalse result (MatchNothingTogether some others)
+set_no_common true some others e = tt
+set_no_common false some others e = λ v. elim (cases_Bool (tree_means (alternatives some) v && tree_means (alternatives others) v)) [
+  | inl both ↦ let over : some_overlap some others ≡ true = matched_overlap some others v (and_first (tree_means (alternatives some) v) _ both) (and_second _ (tree_means (alternatives others) v) both) in cc
+  | inr none ↦ none
+]
+
+-- ---- an end at 0.0.0
+
+not_less_then : (r s : Ordering) → is_lt r ≡ false → (r ≡ Equal → is_lt s ≡ false) → is_lt (ordering_then r s) ≡ false
+not_less_then Less s h k = h
+not_less_then Equal s h k = k refl
+not_less_then Greater s h k = refl
+
+not_below_zero : (m n : ℕ) → (n == 0) ≡ true → is_lt (nat_cmp m n) ≡ false
+not_below_zero m n zero = go (nat_cmp m n) (ranked m n (nat_cmp m n) refl)
+  where
+    go : (r : Ordering) → MatchOrdering r (m < n) (m ≡ n) (n < m) → is_lt r ≡ false
+    go Less below = let none : n ≡ 0 = grind (arith, nat_tests) in absurd (omega arith)
+    go Equal same = refl
+    go Greater above = refl
+
+not_none : (x : List ℕ) (xs : List (List ℕ)) → (length (x ∷ xs) == 0) ≡ false
+not_none x xs = grind (arith, nat_tests)
+
+release_not_less : (xs ys : List (List ℕ)) → (length xs == 0) ≡ true → is_lt (pre_cmp xs ys) ≡ false
+release_not_less [] [] h = refl
+release_not_less [] (y ∷ ys) h = rw (not_none y ys) refl
+release_not_less (x ∷ xs) ys h = let some = not_none x xs in cc (some, h)
+
+-- no release is below a version of the numbers 0.0.0
+not_below_zeros : (v zero : Version) → is_release v ≡ true → (zero.major == 0) ≡ true → (zero.minor == 0) ≡ true → (zero.patch == 0) ≡ true → is_lt (precedence_cmp v zero) ≡ false
+not_below_zeros v zero release major minor patch =
+    not_less_then _ _ (not_below_zero v.major zero.major major) (λ _.
+    not_less_then _ _ (not_below_zero v.minor zero.minor minor) (λ _.
+    not_less_then _ _ (not_below_zero v.patch zero.patch patch) (λ _. release_not_less v.pre zero.pre release)))
+
+exclusive_lt : (k : VersionBoundKind) (r : Ordering) → is_exclusive k ≡ true → is_lt r ≡ false → is_below k r ≡ false
+exclusive_lt kind.Inclusive r h e = cc h
+exclusive_lt kind.Exclusive r h e = e
+
+-- a range that ends at 0.0.0 holds no release
+pub ends_no_release : (result : Bool) (range : VersionRange) → result ≡ ends_at_zero range.end → OnTrue result (HoldsNoRelease range)
+ends_no_release false range e = tt
+ends_no_release true range e = λ v release. rw (go range.end v release (sym e)) (and_false (start_holds range.start v))
+  where
+    go : (end : RangeBound) (v : Version) → is_release v ≡ true → ends_at_zero end ≡ true → end_holds end v ≡ false
+    go bound.Unbounded v release h = cc h
+    go (bound.Version x) v release h =
+        let rest = and_second (is_exclusive x.kind) _ h in
+        let rest1 = and_second (x.version.major == 0) _ rest in
+        exclusive_lt x.kind (precedence_cmp v x.version) (and_first (is_exclusive x.kind) _ h)
+        (not_below_zeros v x.version release (and_first (x.version.major == 0) _ rest) (and_first (x.version.minor == 0) _ rest1) (and_second (x.version.minor == 0) _ rest1))

@@ -1,0 +1,94 @@
+-- What stands between two pre-releases of the same three numbers.
+use Rattle.std.proofs.Common.{◌≡◌, ◌==◌, ◌≤◌, ℕ, List, length, Bool, true, false, not, refl, sym, ◌∙◌, arith}
+use Rattle.std.proofs.lemmas.Bool.Decides.{nat_tests}
+use Rattle.std.proofs.lemmas.Cmp.{nat_cmp_total, tied_itself}
+use Rattle.std.specs.Ordering.{is_le, nat_cmp}
+use Rattle.std.specs.declared.cmp.Ordering.TheVariants.{Equal}
+use Rattle.semver_base.specs.Meaning.{has_pre_of, is_release}
+use Rattle.semver_base.specs.PartialTable.{bound_at}
+use Rattle.semver_base.specs.Precedence.{precedence_cmp, release_rank}
+use Rattle.semver_base.specs.declared.version.Version.{Version}
+use Rattle.semver_base.specs.declared.range.VersionBoundKind.TheVariants as kind
+use Rattle.semver_base.proofs.Orders.{and_first, and_second, le_from, le_then_first, le_then_second}
+
+-- the same three numbers
+record SameNumbers (x y : Version) : Type 0 where
+  pub major : x.major ≡ y.major
+  pub minor : x.minor ≡ y.minor
+  pub patch : x.patch ≡ y.patch
+
+number_between : (a b c : ℕ) → a ≡ c → is_le (nat_cmp a b) ≡ true → is_le (nat_cmp b c) ≡ true → a ≡ b
+number_between a b c e lower upper = let first = le_from a b lower in let second = le_from b c upper in omega arith
+
+tied_numbers : (a b : ℕ) → a ≡ b → nat_cmp a b ≡ Equal
+tied_numbers a b e = rw e (tied_itself nat_cmp_total b)
+
+below_pre : (xs ys : List (List ℕ)) → is_le (nat_cmp (release_rank xs) (release_rank ys)) ≡ true → (length ys == 0) ≡ false → (length xs == 0) ≡ false
+below_pre xs ys h pre = go (length xs == 0) refl
+  where
+    go : (b : Bool) → (length xs == 0) ≡ b → b ≡ false
+    go false e = refl
+    go true e = let low : 1 ≤ 0 = le_from 1 0 (rw (e, pre) at h) in absurd (omega arith)
+
+-- what stands between two versions of three numbers, of which the upper is a pre-release, is a pre-release of them
+between : (low x high : Version) → SameNumbers low high → (length high.pre == 0) ≡ false
+    → is_le (precedence_cmp low x) ≡ true → is_le (precedence_cmp x high) ≡ true → SameNumbers low x × ((length x.pre == 0) ≡ false)
+between low x high same pre lower upper =
+    let major : low.major ≡ x.major = number_between low.major x.major high.major same.major (le_then_first _ _ lower) (le_then_first _ _ upper) in
+    let lower1 = le_then_second (nat_cmp low.major x.major) _ (tied_numbers _ _ major) lower in
+    let upper1 = le_then_second (nat_cmp x.major high.major) _ (tied_numbers _ _ (sym major ∙ same.major)) upper in
+    let minor : low.minor ≡ x.minor = number_between low.minor x.minor high.minor same.minor (le_then_first _ _ lower1) (le_then_first _ _ upper1) in
+    let lower2 = le_then_second (nat_cmp low.minor x.minor) _ (tied_numbers _ _ minor) lower1 in
+    let upper2 = le_then_second (nat_cmp x.minor high.minor) _ (tied_numbers _ _ (sym minor ∙ same.minor)) upper1 in
+    let patch : low.patch ≡ x.patch = number_between low.patch x.patch high.patch same.patch (le_then_first _ _ lower2) (le_then_first _ _ upper2) in
+    let upper3 = le_then_second (nat_cmp x.patch high.patch) _ (tied_numbers _ _ (sym patch ∙ same.patch)) upper2 in
+    (record { major = major; minor = minor; patch = patch }, below_pre x.pre high.pre (le_then_first _ _ upper3) pre)
+
+-- the bound's version is a pre-release of the version's three numbers
+abbrev pub pre_of : Version → Version → Bool
+pre_of x v = has_pre_of (bound_at kind.Inclusive x) v
+
+same_number : (a b : ℕ) → (a == b) ≡ true → a ≡ b
+same_number a b e = grind (arith, nat_tests)
+
+number_same : (a b : ℕ) → a ≡ b → (a == b) ≡ true
+number_same a b e = grind (arith, nat_tests)
+
+not_true : (a : Bool) → not a ≡ true → a ≡ false
+not_true false e = refl
+not_true true e = cc e
+
+pre_numbers : (x v : Version) → pre_of x v ≡ true → SameNumbers x v
+pre_numbers x v h =
+    let rest = and_second _ _ h in
+    let rest1 = and_second _ _ rest in
+    record {
+      major = same_number _ _ (and_first _ _ rest);
+      minor = same_number _ _ (and_first _ _ rest1);
+      patch = same_number _ _ (and_second _ _ rest1);
+    }
+
+pre_some : (x v : Version) → pre_of x v ≡ true → (length x.pre == 0) ≡ false
+pre_some x v h = not_true (length x.pre == 0) (and_first _ _ h)
+
+pre_from : (x v : Version) → SameNumbers x v → (length x.pre == 0) ≡ false → pre_of x v ≡ true
+pre_from x v same pre = rw (pre, number_same x.major v.major same.major, number_same x.minor v.minor same.minor, number_same x.patch v.patch same.patch) refl
+
+same_back : (x y : Version) → SameNumbers x y → SameNumbers y x
+same_back x y h = record { major = sym h.major; minor = sym h.minor; patch = sym h.patch }
+
+same_on : (x y z : Version) → SameNumbers x y → SameNumbers y z → SameNumbers x z
+same_on x y z h k = record { major = h.major ∙ k.major; minor = h.minor ∙ k.minor; patch = h.patch ∙ k.patch }
+
+-- a version between a start that admits the pre-release v and v itself admits v
+pub start_between : (x y v : Version) → is_release v ≡ false → pre_of x v ≡ true → is_le (precedence_cmp x y) ≡ true → is_le (precedence_cmp y v) ≡ true → pre_of y v ≡ true
+start_between x y v pre h lower upper =
+    let same = pre_numbers x v h in
+    let found = between x y v same pre lower upper in
+    pre_from y v (same_on y x v (same_back x y found.0) same) found.1
+
+-- a version between v and an end that admits it admits it
+pub end_between : (x y v : Version) → pre_of x v ≡ true → is_le (precedence_cmp v y) ≡ true → is_le (precedence_cmp y x) ≡ true → pre_of y v ≡ true
+end_between x y v h lower upper =
+    let found = between v y x (same_back x v (pre_numbers x v h)) (pre_some x v h) lower upper in
+    pre_from y v (same_back v y found.0) found.1

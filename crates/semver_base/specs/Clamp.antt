@@ -1,0 +1,95 @@
+-- The range of what two ranges both hold, and what it means.
+use Rattle.std.specs.Prelude.{◌≡◌, [], ◌∷◌, true, false, ◌&&◌}
+use Rattle.std.specs.declared.cmp.Ordering.{Ordering}
+use Rattle.std.specs.declared.cmp.Ordering.TheVariants.{Less, Equal, Greater}
+use Rattle.semver_base.specs.Meaning.{alternative_means, bounds_hold, is_release, to_below}
+use Rattle.semver_base.specs.Precedence.{precedence_cmp}
+use Rattle.semver_base.specs.declared.version.Version.{Version}
+use Rattle.semver_base.specs.declared.range.RangeBound.{RangeBound}
+use Rattle.semver_base.specs.declared.range.RangeBound.TheVariants as bound
+use Rattle.semver_base.specs.declared.range.VersionBound.{VersionBound}
+use Rattle.semver_base.specs.declared.range.VersionBoundKind.{VersionBoundKind}
+use Rattle.semver_base.specs.declared.range.VersionBoundKind.TheVariants as kind
+use Rattle.semver_base.specs.declared.range.VersionRange.{VersionRange}
+
+-- ---- one bound of two
+
+-- of two bounds at one place, the first where it is exclusive, and else the second
+abbrev pub of_tied : VersionBoundKind → RangeBound → RangeBound → RangeBound
+of_tied kind.Exclusive first second = first
+of_tied kind.Inclusive first second = second
+
+-- the greater of two bounds, where the first, of the kind k, compares so to the second
+abbrev pub greater_of : Ordering → VersionBoundKind → RangeBound → RangeBound → RangeBound
+greater_of Less k first second = second
+greater_of Equal k first second = of_tied k first second
+greater_of Greater k first second = first
+
+-- the lesser of the two
+abbrev pub lesser_of : Ordering → VersionBoundKind → RangeBound → RangeBound → RangeBound
+lesser_of Less k first second = first
+lesser_of Equal k first second = of_tied k first second
+lesser_of Greater k first second = second
+
+-- the greater start by precedence, where an absent one gives the other
+abbrev pub clamped_start : RangeBound → RangeBound → RangeBound
+clamped_start bound.Unbounded second = second
+clamped_start (bound.Version x) bound.Unbounded = bound.Version x
+clamped_start (bound.Version x) (bound.Version y) =
+    greater_of (precedence_cmp x.version y.version) x.kind (bound.Version x) (bound.Version y)
+
+-- the lesser end by precedence, where an absent one gives the other
+abbrev pub clamped_end : RangeBound → RangeBound → RangeBound
+clamped_end bound.Unbounded second = second
+clamped_end (bound.Version x) bound.Unbounded = bound.Version x
+clamped_end (bound.Version x) (bound.Version y) =
+    lesser_of (precedence_cmp x.version y.version) x.kind (bound.Version x) (bound.Version y)
+
+-- ---- a start and an end
+
+-- a start that compares so to the end. One past the end stops there and holds nothing; an inclusive one at the end
+-- becomes the end
+abbrev pub stopped_by : Ordering → VersionBound → VersionBound → RangeBound
+stopped_by Less start end = bound.Version start
+stopped_by Equal start end = of_tied start.kind (bound.Version start) (bound.Version end)
+stopped_by Greater start end = to_below end.version
+
+-- the start of a range, by its end
+abbrev pub stopped_at : RangeBound → RangeBound → RangeBound
+stopped_at (bound.Version start) (bound.Version end) = stopped_by (precedence_cmp start.version end.version) start end
+stopped_at start end = start
+
+-- the range of what both ranges hold
+abbrev pub clamped : VersionRange → VersionRange → VersionRange
+clamped a b = record {
+  start = stopped_at (clamped_start a.start b.start) (clamped_end a.end b.end);
+  end = clamped_end a.end b.end;
+}
+
+-- ---- what a clamped range means
+
+-- its bounds hold what the bounds of both hold
+abbrev pub HoldsBoth : VersionRange → VersionRange → VersionRange → Type 0
+HoldsBoth a b range = (v : Version) → bounds_hold range v ≡ (bounds_hold a v && bounds_hold b v)
+
+-- it means what the two mean as comparators of one alternative
+abbrev pub MeansBoth : VersionRange → VersionRange → VersionRange → Type 0
+MeansBoth a b range = (v : Version) → alternative_means (range ∷ []) v ≡ alternative_means (a ∷ b ∷ []) v
+
+-- a release matches it where it matches both
+abbrev pub MatchesBoth : VersionRange → VersionRange → VersionRange → Type 0
+MatchesBoth a b range = (v : Version) → is_release v ≡ true
+    → alternative_means (range ∷ []) v ≡ (alternative_means (a ∷ []) v && alternative_means (b ∷ []) v)
+
+-- no version stands between its bounds
+abbrev pub HoldsNothing : VersionRange → Type 0
+HoldsNothing range = (v : Version) → bounds_hold range v ≡ false
+
+-- the start is above the end
+abbrev pub HasPassed : RangeBound → RangeBound → Type 0
+HasPassed (bound.Version start) (bound.Version end) = precedence_cmp start.version end.version ≡ Greater
+HasPassed start end = ⊥
+
+-- the greater start of two ranges is above their lesser end
+abbrev pub HaveCrossed : VersionRange → VersionRange → Type 0
+HaveCrossed a b = HasPassed (clamped_start a.start b.start) (clamped_end a.end b.end)
