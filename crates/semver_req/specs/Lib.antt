@@ -1,0 +1,6 @@
+pub mod Comparators
+pub mod Outcome
+pub mod Partials
+pub mod Pieces
+pub mod Requirement
+pub mod Tag
