@@ -4,3 +4,4 @@ pub mod Partials
 pub mod Pieces
 pub mod Requirement
 pub mod Tag
+pub mod Strict

@@ -8,3 +8,4 @@ pub mod common;
 pub mod npm;
 pub mod range_set_or_tag;
 pub mod req;
+pub mod specifier;
