@@ -4,3 +4,4 @@ pub mod Outcomes
 pub mod Partials
 pub mod Places
 pub mod StrictRanges
+pub mod Signs

@@ -1,18 +1,21 @@
 -- Comparators as they are written, and the bounds that they stand for. Source: node-semver's range grammar
 -- (`primitive`, `tilde`, `caret`, `hyphen`), with the ignored signs and the leading `v` that npm accepts.
-use Rattle.std.specs.Prelude.{◌≡◌, ℕ, List, [], ◌∷◌, ◌++◌, Bool, ◌&&◌, Option, codes, map}
+use Rattle.std.specs.Prelude.{◌≡◌, ◌⊎◌, ℕ, List, [], ◌∷◌, ◌++◌, Bool, ◌&&◌, Option, codes, map, if◌then◌else◌}
 use Rattle.semver_base.specs.Grammar.{After, Before, Either, Followed, IsText, Mapped, Marked, Optional}
 use Rattle.semver_base.specs.Lexical.{IsBlanks, IsByte, IsSomeBlanks}
 use Rattle.semver_base.specs.Meaning.{from}
 use Rattle.semver_base.specs.PartialTable.{Line, all_fit, between, caret, equal, greater_than, less_than, lowest, tilde, upper}
+use Rattle.semver_base.specs.declared.lexical.values.Measured.{Measured}
+use Rattle.semver_base.specs.declared.lexical.values.Measured.TheVariants.{Fits, TooLarge}
 use Rattle.semver_base.specs.declared.partial.Partial.{Partial}
 use Rattle.semver_base.specs.declared.partial.XRange.{XRange}
 use Rattle.semver_base.specs.declared.partial.XRange.TheVariants.{Wildcard, Val}
 use Rattle.semver_base.specs.declared.range.VersionBoundKind.TheVariants as kind
 use Rattle.semver_base.specs.declared.range.VersionRange.{VersionRange}
-use Rattle.semver_req.specs.Partials.{IsPartial}
+use Rattle.semver_req.specs.Partials.{IsPartial, partial_fits}
 use Rattle.semver_req.specs.declared.common.values.Flavour.{Flavour}
 use Rattle.semver_req.specs.declared.common.values.Flavour.TheVariants.{Npm, Normal, Specifier}
+use Rattle.semver_req.specs.declared.common.values.Primitive.{Primitive}
 use Rattle.semver_req.specs.declared.common.values.PrimitiveKind.{PrimitiveKind}
 use Rattle.semver_req.specs.declared.common.values.PrimitiveKind.TheVariants.{GreaterThan, LessThan, GreaterThanOrEqual, LessThanOrEqual, Equal}
 
@@ -27,6 +30,24 @@ sign_text Equal = codes "="
 
 abbrev pub IsSign : List ℕ → PrimitiveKind → Type 0
 IsSign text sign = text ≡ sign_text sign
+
+-- the sign is with_equal, which a `=` at the front of text ends, or where there is none the sign alone; rest is what
+-- follows
+abbrev pub IsMaybeEqual : List ℕ → PrimitiveKind → PrimitiveKind → PrimitiveKind → List ℕ → Type 0
+IsMaybeEqual text alone with_equal sign rest = ((sign ≡ with_equal) × (text ≡ 61 ∷ rest)) ⊎ ((sign ≡ alone) × (rest ≡ text) × ((more : List ℕ) → text ≡ 61 ∷ more → ⊥))
+
+-- a sign, blanks and a partial version
+abbrev pub IsPrimitive : Flavour → List ℕ → PrimitiveKind × Partial → Type 0
+IsPrimitive f = Followed IsSign (After IsBlanks (IsPartial f))
+
+-- a sign and a partial version, unless a number in it is too large
+abbrev pub sized_primitive : PrimitiveKind × Partial → Measured Primitive
+sized_primitive v = if partial_fits v.1 then Fits (record { kind = v.0; partial = v.1 }) else TooLarge
+
+-- the same, of a partial version that is sized already
+abbrev pub primitive_of : PrimitiveKind → Measured Partial → Measured Primitive
+primitive_of kind (Fits p) = Fits (record { kind = kind; partial = p })
+primitive_of kind TooLarge = TooLarge
 
 -- ---- comparators as they are written
 
@@ -61,7 +82,7 @@ IsNpmCaret = Mapped Caret (After IsIgnored (Marked 94 IsLed))
 
 -- a sign, blanks and a partial
 abbrev pub IsSigned : Flavour → List ℕ → Comparator → Type 0
-IsSigned f = Mapped signed (Followed IsSign (After IsBlanks (IsPartial f)))
+IsSigned f = Mapped signed (IsPrimitive f)
 
 abbrev pub IsPlain : Flavour → List ℕ → Comparator → Type 0
 IsPlain f = Mapped Plain (IsPartial f)

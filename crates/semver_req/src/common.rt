@@ -1,4 +1,4 @@
-//! Partial versions, read from the front of a text or at a place in it.
+//! Partial versions and signs, read from the front of a text or at a place in it.
 //!
 //! Each reader takes the longest front that its grammar has, and answers what that front stands for and what follows
 //! it; it answers `None` where no front is in the grammar. A number that is too large is read to its end, so the rest
@@ -6,18 +6,19 @@
 
 ghost use Rattle.std.specs.Prelude.{◌≡◌, IfOk, IfSome, drop};
 ghost use Rattle.std.specs.Str.{IsCharBoundary};
-ghost use Rattle.semver_base.specs.Grammar.{IsAfterOne, IsLongest, IsSeen, Optional, ReadsAs, answer_of};
+ghost use Rattle.semver_base.specs.Grammar.{IsAfterOne, IsLongest, IsSeen, Optional, Reads, ReadsAs, answer_of};
 ghost use Rattle.semver_base.specs.Lexical.{IsQualifier};
+ghost use Rattle.semver_req.specs.Comparators.{IsMaybeEqual, IsPrimitive, IsSign, primitive_of, sized_primitive};
 ghost use Rattle.semver_req.specs.Partials.{IsComponent, IsPartial, IsPlainPartial, IsSecond, IsThird, answer_at, assembled, component_of, is_wildcard, second_or_none, sized_component, sized_partial, sized_second, sized_third, strictness_of, third_or_none};
 
 pub mod values;
 
 use semver_base::lexical;
-use semver_base::lexical::after;
+use semver_base::lexical::{after, after_blanks};
 use semver_base::lexical::values::{Measured, Qualifier};
 use semver_base::partial::{Partial, XRange};
 use std::alloc::{AllocError, Global};
-use values::Flavour;
+use values::{Flavour, Primitive, PrimitiveKind};
 
 // What follows a wildcard, where the text begins with one.
 fn wildcard(text: &str, flavour: Flavour) -> Option<&str>
@@ -200,6 +201,60 @@ pub fn partial_front(
     }
 }
 
+// The sign that begins with `mark`, where `rest` follows that.
+fn with_equal(rest: &str, alone: PrimitiveKind, with_equal: PrimitiveKind) -> (PrimitiveKind, &str)
+    ensures { IsMaybeEqual rest.now alone with_equal result.0 result.1.now }
+{
+    match after(rest, '=') {
+        Some(rest) => (with_equal, rest),
+        None => (alone, rest),
+    }
+}
+
+// The sign at the front, and what follows it.
+fn sign_front(text: &str) -> Option<(PrimitiveKind, &str)>
+    ensures { Reads IsSign text.now (answer_of result) }
+{
+    if let Some(rest) = after(text, '>') {
+        return Some(with_equal(
+            rest,
+            PrimitiveKind::GreaterThan,
+            PrimitiveKind::GreaterThanOrEqual,
+        ));
+    }
+    if let Some(rest) = after(text, '<') {
+        return Some(with_equal(rest, PrimitiveKind::LessThan, PrimitiveKind::LessThanOrEqual));
+    }
+    let rest = after(text, '=')?;
+    Some((PrimitiveKind::Equal, rest))
+}
+
+fn primitive_of(kind: PrimitiveKind, partial: Measured<Partial>) -> Measured<Primitive>
+    ensures { result ≡ primitive_of kind partial }
+{
+    match partial {
+        Measured::Fits(partial) => Measured::Fits(Primitive { kind, partial }),
+        Measured::TooLarge => Measured::TooLarge,
+    }
+}
+
+// The sign and the partial version at the front, and what follows them.
+fn primitive_front(
+    alloc: Global,
+    text: &str,
+    flavour: Flavour,
+) -> Result<Option<(Measured<Primitive>, &str)>, AllocError>
+    ensures { IfOk result (λ r. ReadsAs sized_primitive (IsPrimitive flavour) text.now (answer_of r)) }
+{
+    let Some((kind, rest)) = sign_front(text) else {
+        return Ok(None);
+    };
+    let Some((partial, rest)) = partial_front(alloc, after_blanks(rest), flavour)? else {
+        return Ok(None);
+    };
+    Ok(Some((primitive_of(kind, partial), rest)))
+}
+
 /// The partial version at the place in the text, and the place that it reaches.
 ///
 /// The value is `Measured::TooLarge` exactly where a number among the components is larger than
@@ -236,4 +291,35 @@ pub fn qualifier(
 {
     let (qualifier, rest) = lexical::qualifier(alloc, &text[place..], flavour.strictness())?;
     Ok((qualifier, text.len() - rest.len()))
+}
+
+/// The sign at the place in the text, and the place that it reaches.
+pub fn primitive_kind(text: &str, place: usize) -> Option<(PrimitiveKind, usize)>
+    requires { IsCharBoundary text.now place }
+    ensures value { Reads IsSign (drop place text.now) (answer_at text.now result) }
+    ensures reached { IfSome result (λ p. IsCharBoundary text.now p.1) }
+{
+    let (kind, rest) = sign_front(&text[place..])?;
+    Some((kind, text.len() - rest.len()))
+}
+
+/// The sign and the partial version at the place in the text, with blanks between them or none, and the place that
+/// they reach (node-semver's range grammar, `primitive`).
+///
+/// The value is `Measured::TooLarge` exactly where a number among the components is larger than
+/// 18446744073709551615. It is an error only where no memory is left.
+pub fn primitive(
+    alloc: Global,
+    text: &str,
+    place: usize,
+    flavour: Flavour,
+) -> Result<Option<(Measured<Primitive>, usize)>, AllocError>
+    requires { IsCharBoundary text.now place }
+    ensures value { IfOk result (λ r. ReadsAs sized_primitive (IsPrimitive flavour) (drop place text.now) (answer_at text.now r)) }
+    ensures reached { IfOk result (λ r. IfSome r (λ p. IsCharBoundary text.now p.1)) }
+{
+    match primitive_front(alloc, &text[place..], flavour)? {
+        Some((value, rest)) => Ok(Some((value, text.len() - rest.len()))),
+        None => Ok(None),
+    }
 }
