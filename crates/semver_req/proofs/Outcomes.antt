@@ -1,5 +1,5 @@
 -- The strict outcome of a text: there is only one, and what is answered to it.
-use Rattle.std.proofs.Common.{◌≡◌, ◌≤◌, ◌<◌, ℕ, Bool, true, false, List, [], ◌∷◌, ◌++◌, length, refl, sym, ap, ◌∙◌, arith, Result, Ok, Err, None, inl, inr}
+use Rattle.std.proofs.Common.{◌≡◌, ◌<◌, ℕ, true, false, List, [], ◌∷◌, length, refl, sym, ap, ◌∙◌, arith, Ok, Err, None, inl, inr}
 use Rattle.std.specs.Prelude.{◌⊎◌}
 use Rattle.semver_base.specs.Grammar.{HasNone, IsLongest}
 use Rattle.semver_base.specs.Meaning.{tree_means}
@@ -8,7 +8,6 @@ use Rattle.semver_base.proofs.Fronts.{same_fronts}
 use Rattle.semver_req.specs.Comparators.{Comparator, fits}
 use Rattle.semver_req.specs.Outcome.{IsStrictOutcome, whole, left_over, no_front, no_fit, IsStrictRange, IsTagOr, tag, no_tag, Outcome, Ranges, Tag, Refused, tree_ranges}
 use Rattle.semver_req.specs.Requirement.{Failure, IsStrictAnswer, IsStrictReading, IsStrictlyRead, MeansStrictTrees, Requirement, inner_means}
-use Rattle.semver_req.specs.Tag.{is_valid_tag}
 use Rattle.semver_req.specs.declared.range_set_or_tag.RangeSetOrTag.{RangeSetOrTag}
 
 -- ---- longest fronts

@@ -9,12 +9,12 @@ use Rattle.semver_base.specs.declared.lexical.values.Measured.TheVariants.{Fits,
 use Rattle.semver_base.specs.declared.lexical.values.Qualifier.{Qualifier}
 use Rattle.semver_base.specs.declared.partial.Partial.{Partial}
 use Rattle.semver_base.specs.declared.partial.XRange.{XRange}
-use Rattle.semver_base.specs.declared.partial.XRange.TheVariants.{Wildcard, Val}
+use Rattle.semver_base.specs.declared.partial.XRange.TheVariants.{Wildcard}
 use Rattle.semver_base.proofs.Fronts.{Apart, NonEmpty, either_none, either_that, either_this, marked_none, marked_other, followed, mapped, marked_some, optional_none, optional_some}
 use Rattle.semver_base.proofs.Bytes.{BeginsBy, Disjoint, apart_by, joined_begins, joined_some_text, mapped_begins, mapped_some_text, none_by_byte, marked_begins, optional_begins}
 use Rattle.semver_req.specs.Partials.{IsComponent, IsPartial, IsPlainPartial, IsSecond, IsThird, assembled, component_fits, partial_of, second_or_none, sized_component, sized_partial, sized_second, third_or_none}
 use Rattle.semver_req.specs.declared.common.values.Flavour.{Flavour}
-use Rattle.semver_req.specs.declared.common.values.Flavour.TheVariants.{Npm, Normal, Specifier}
+use Rattle.semver_req.specs.declared.common.values.Flavour.TheVariants.{Npm}
 use Rattle.semver_req.proofs.Components.{component_begins, component_goes, component_some, is_component_byte}
 
 -- an optional part, as its reader sees it

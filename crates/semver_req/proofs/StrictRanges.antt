@@ -1,8 +1,7 @@
 -- Strict ranges at the front of a text, and what is read of the text.
-use Rattle.std.proofs.Common.{◌≡◌, ◌<◌, ℕ, Bool, true, false, List, [], ◌∷◌, ◌++◌, length, Option, Some, None, Result, Ok, Err, refl, sym, ap, ◌∙◌, arith, inl, inr, ◌==◌}
-use Rattle.std.specs.Prelude.{◌||◌, ◌&&◌, ◌⊎◌, if◌then◌else◌, slice_index, IfErr}
+use Rattle.std.proofs.Common.{◌≡◌, ◌<◌, ℕ, Bool, true, false, List, [], ◌∷◌, ◌++◌, length, Some, None, Result, Ok, Err, refl, sym, ap, ◌∙◌, arith, inl, inr, ◌==◌}
+use Rattle.std.specs.Prelude.{◌||◌, ◌&&◌, ◌⊎◌, slice_index, IfErr}
 use Rattle.std.specs.Result.{IsErrAnd}
-use Rattle.std.specs.List.{list_all}
 use Rattle.std.proofs.lemmas.Bool.{cases_Bool, or_left, or_right}
 use Rattle.std.proofs.lemmas.Bool.Decides.{nat_tests}
 use Rattle.std.proofs.lemmas.List.{nil_from_length}
@@ -20,8 +19,8 @@ use Rattle.semver_base.specs.declared.partial.XRange.{XRange}
 use Rattle.semver_base.specs.declared.partial.XRange.TheVariants.{Wildcard, Val}
 use Rattle.semver_base.specs.declared.range.VersionRange.{VersionRange}
 use Rattle.semver_base.proofs.Fronts.{NonEmpty, either_none, either_that, either_this, mapped, mapped_none, marked_none, marked_other, marked_some}
-use Rattle.semver_base.proofs.Bytes.{BeginsBy, Disjoint, begins_from_made, begins_wider, either_begins, mapped_begins, mapped_some_text, marked_begins, none_by_byte}
-use Rattle.semver_req.specs.Comparators.{Comparator, Caret, Plain, Tilde, comparator_line, comparator_numbers, comparator_range, component_numbers, fits, numbers}
+use Rattle.semver_base.proofs.Bytes.{BeginsBy, Disjoint, begins_from_made, begins_wider, either_begins, mapped_begins, marked_begins, none_by_byte}
+use Rattle.semver_req.specs.Comparators.{Comparator, comparator_line, comparator_numbers, comparator_range, component_numbers, fits, numbers}
 use Rattle.semver_req.specs.Outcome.{IsStrictOutcome, whole, left_over, no_front, no_fit, IsStrictRange, IsTagOr, tag, no_tag, Outcome, Ranges, Tag, Refused}
 use Rattle.semver_req.specs.Partials.{IsPartial, component_fits, partial_fits, sized_partial}
 use Rattle.semver_req.specs.Requirement.{Failure, IsStrictReading, empty_constraint}
@@ -84,8 +83,8 @@ is_strict_byte x = is_component_byte x || ((x == 126) || (x == 94))
 strict_begins : BeginsBy IsStrictRange is_strict_byte
 strict_begins = either_begins
     (either_begins
-      (mapped_begins (begins_wider (λ x. x == 126) is_strict_byte (λ x h. or_right (is_component_byte x) ((x == 126) || (x == 94)) (or_left (x == 126) (x == 94) h)) (marked_begins 126)))
-      (mapped_begins (begins_wider (λ x. x == 94) is_strict_byte (λ x h. or_right (is_component_byte x) ((x == 126) || (x == 94)) (or_right (x == 126) (x == 94) h)) (marked_begins 94))))
+    (mapped_begins (begins_wider (λ x. x == 126) is_strict_byte (λ x h. or_right (is_component_byte x) ((x == 126) || (x == 94)) (or_left (x == 126) (x == 94) h)) (marked_begins 126)))
+    (mapped_begins (begins_wider (λ x. x == 94) is_strict_byte (λ x h. or_right (is_component_byte x) ((x == 126) || (x == 94)) (or_right (x == 126) (x == 94) h)) (marked_begins 94))))
     (mapped_begins (begins_wider is_component_byte is_strict_byte (λ x h. or_left (is_component_byte x) ((x == 126) || (x == 94)) h) (partial_begins Specifier)))
 
 strict_nonempty : NonEmpty IsStrictRange

@@ -1,7 +1,7 @@
 -- Comparators as they are written, and the bounds that they stand for. Source: node-semver's range grammar
 -- (`primitive`, `tilde`, `caret`, `hyphen`), with the ignored signs and the leading `v` that npm accepts.
-use Rattle.std.specs.Prelude.{◌≡◌, ◌⊎◌, ℕ, List, [], ◌∷◌, ◌++◌, Bool, ◌&&◌, Option, codes, map, if◌then◌else◌}
-use Rattle.semver_base.specs.Grammar.{After, Before, Either, Followed, IsText, Mapped, Marked, Optional}
+use Rattle.std.specs.Prelude.{◌≡◌, ◌⊎◌, ℕ, List, [], ◌∷◌, ◌++◌, Bool, ◌&&◌, Option, codes, if◌then◌else◌}
+use Rattle.semver_base.specs.Grammar.{After, Either, Followed, IsText, Mapped, Marked, Optional}
 use Rattle.semver_base.specs.Lexical.{IsBlanks, IsByte, IsSomeBlanks}
 use Rattle.semver_base.specs.Meaning.{from}
 use Rattle.semver_base.specs.PartialTable.{Line, all_fit, between, caret, equal, greater_than, less_than, lowest, tilde, upper}

@@ -1,6 +1,6 @@
 -- Partial versions as they are written in the three grammars of requirements. Numbers are of any size. Source:
 -- node-semver's range grammar (`xr`, `partial`, `qualifier`); the normalized and the strict grammar are narrower.
-use Rattle.std.specs.Prelude.{◌≡◌, ℕ, List, [], ◌∷◌, Bool, true, ◌||◌, ◌&&◌, ◌==◌, Option, Some, None, if◌then◌else◌, drop}
+use Rattle.std.specs.Prelude.{ℕ, List, [], Bool, true, ◌||◌, ◌&&◌, ◌==◌, Option, Some, None, if◌then◌else◌, drop}
 use Rattle.semver_base.specs.Grammar.{Either, Followed, Joined, Mapped, Marked, OneByte, Optional}
 use Rattle.semver_base.specs.Lexical.{IsNumber, IsNumberEnd, IsQualifier}
 use Rattle.semver_base.specs.PartialTable.{number_fits}

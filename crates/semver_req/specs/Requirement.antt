@@ -1,6 +1,6 @@
 -- What a requirement is, which versions it matches, and how a reader answers an outcome. Source: node-semver's
 -- description of ranges; a requirement may also be a tag, as in npm's package specifiers.
-use Rattle.std.specs.Prelude.{◌≡◌, ℕ, List, [], ◌∷◌, map, Bool, false, Option, Some, None, Result, Ok, Err, IsErr, MatchResult, ◌⊎◌}
+use Rattle.std.specs.Prelude.{◌≡◌, ℕ, List, [], ◌∷◌, Bool, false, Option, Some, None, Result, IsErr, MatchResult}
 use Rattle.semver_base.specs.Failure.{refusal_message}
 use Rattle.semver_base.specs.Meaning.{alternatives, tree_means}
 use Rattle.semver_base.specs.declared.failure.Refusal.TheVariants.{EmptyConstraint}

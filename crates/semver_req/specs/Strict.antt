@@ -1,5 +1,5 @@
 -- How the strict reader takes a text apart, and why it refuses one.
-use Rattle.std.specs.Prelude.{◌≡◌, ◌<◌, ℕ, List, ◌∷◌, length, Bool, true, false, Option, Some, None}
+use Rattle.std.specs.Prelude.{◌≡◌, ◌<◌, ℕ, List, ◌∷◌, length, true, false, Option, Some, None}
 use Rattle.semver_base.specs.Failure.{refusal_message}
 use Rattle.semver_base.specs.Grammar.{HasNone, IsLongest}
 use Rattle.semver_base.specs.Lexical.{IsBlanks}

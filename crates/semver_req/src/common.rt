@@ -14,8 +14,8 @@ ghost use Rattle.semver_req.specs.Partials.{IsComponent, IsPartial, IsPlainParti
 pub mod values;
 
 use semver_base::lexical;
-use semver_base::lexical::{after, after_blanks};
 use semver_base::lexical::values::{Measured, Qualifier};
+use semver_base::lexical::{after, after_blanks};
 use semver_base::partial::{Partial, XRange};
 use std::alloc::{AllocError, Global};
 use values::{Flavour, Primitive, PrimitiveKind};
@@ -60,11 +60,7 @@ fn component(text: &str, flavour: Flavour) -> Option<(Measured<XRange>, &str)>
 type Third = (Measured<XRange>, Qualifier);
 
 // `.`, a component and a qualifier.
-fn third(
-    alloc: Global,
-    text: &str,
-    flavour: Flavour,
-) -> Result<Option<(Third, &str)>, AllocError>
+fn third(alloc: Global, text: &str, flavour: Flavour) -> Result<Option<(Third, &str)>, AllocError>
     ensures { IfOk result (λ r. ReadsAs sized_third (IsThird flavour) text.now (answer_of r)) }
 {
     let Some(rest) = after(text, '.') else {
@@ -78,27 +74,22 @@ fn third(
 }
 
 // The third part, or a wildcard.
-fn optional_third(
-    alloc: Global,
-    text: &str,
-    flavour: Flavour,
-) -> Result<(Third, &str), AllocError>
+fn optional_third(alloc: Global, text: &str, flavour: Flavour) -> Result<(Third, &str), AllocError>
     ensures { IfOk result (λ r. IsSeen third_or_none (Optional (IsThird flavour)) text.now r.0 r.1.now) }
 {
     match third(alloc, text, flavour)? {
         Some(read) => Ok(read),
-        None => Ok(((Measured::Fits(XRange::Wildcard), Qualifier::new(alloc)), text)),
+        None => Ok((
+            (Measured::Fits(XRange::Wildcard), Qualifier::new(alloc)),
+            text,
+        )),
     }
 }
 
 type Second = (Measured<XRange>, Measured<XRange>, Qualifier);
 
 // `.`, a component, and then the third part or nothing.
-fn second(
-    alloc: Global,
-    text: &str,
-    flavour: Flavour,
-) -> Result<Option<(Second, &str)>, AllocError>
+fn second(alloc: Global, text: &str, flavour: Flavour) -> Result<Option<(Second, &str)>, AllocError>
     ensures { IfOk result (λ r. ReadsAs sized_second (IsSecond flavour) text.now (answer_of r)) }
 {
     let Some(rest) = after(text, '.') else {
@@ -171,10 +162,7 @@ fn plain_partial(
 }
 
 // A partial version, which may have a `v` before it.
-fn npm_partial(
-    alloc: Global,
-    text: &str,
-) -> Result<Option<(Measured<Partial>, &str)>, AllocError>
+fn npm_partial(alloc: Global, text: &str) -> Result<Option<(Measured<Partial>, &str)>, AllocError>
     ensures { IfOk result (λ r. ReadsAs sized_partial (IsPartial Flavour.Npm) text.now (answer_of r)) }
 {
     match after(text, 'v') {
@@ -223,7 +211,11 @@ fn sign_front(text: &str) -> Option<(PrimitiveKind, &str)>
         ));
     }
     if let Some(rest) = after(text, '<') {
-        return Some(with_equal(rest, PrimitiveKind::LessThan, PrimitiveKind::LessThanOrEqual));
+        return Some(with_equal(
+            rest,
+            PrimitiveKind::LessThan,
+            PrimitiveKind::LessThanOrEqual,
+        ));
     }
     let rest = after(text, '=')?;
     Some((PrimitiveKind::Equal, rest))

@@ -15,7 +15,9 @@ fn is_number(c: char) -> bool
 {
     matches!(
         GeneralCategory::for_char(c),
-        GeneralCategory::DecimalNumber | GeneralCategory::LetterNumber | GeneralCategory::OtherNumber
+        GeneralCategory::DecimalNumber
+            | GeneralCategory::LetterNumber
+            | GeneralCategory::OtherNumber
     )
 }
 
