@@ -1,0 +1,249 @@
+-- Strict ranges at the front of a text, and what is read of the text.
+use Rattle.std.proofs.Common.{◌≡◌, ◌<◌, ℕ, Bool, true, false, List, [], ◌∷◌, ◌++◌, length, Some, None, Result, Ok, Err, refl, sym, ap, ◌∙◌, arith, inl, inr, ◌==◌}
+use Rattle.std.specs.Prelude.{◌||◌, ◌&&◌, ◌⊎◌, slice_index, IfErr}
+use Rattle.std.specs.Result.{IsErrAnd}
+use Rattle.std.proofs.lemmas.Bool.{cases_Bool, or_left, or_right}
+use Rattle.std.proofs.lemmas.Bool.Decides.{nat_tests}
+use Rattle.std.proofs.lemmas.List.{nil_from_length}
+use Rattle.std.proofs.lemmas.List.Folds.{list_all-append}
+use Rattle.semver_base.specs.Failure.{message_of, refusal_message}
+use Rattle.semver_base.specs.Grammar.{this, that, HasNone, IsLongest, IsSeen}
+use Rattle.semver_base.specs.Lexical.{IsBlanks}
+use Rattle.semver_base.specs.PartialTable.{IsBoundRefusal, all_fit, number_fits}
+use Rattle.semver_base.specs.declared.failure.Refusal.{Refusal}
+use Rattle.semver_base.specs.declared.failure.Refusal.TheVariants.{BoundTooLarge, NumberTooLarge, UnexpectedCharacter}
+use Rattle.semver_base.specs.declared.lexical.values.Measured.{Measured}
+use Rattle.semver_base.specs.declared.lexical.values.Measured.TheVariants.{Fits, TooLarge}
+use Rattle.semver_base.specs.declared.partial.Partial.{Partial}
+use Rattle.semver_base.specs.declared.partial.XRange.{XRange}
+use Rattle.semver_base.specs.declared.partial.XRange.TheVariants.{Wildcard, Val}
+use Rattle.semver_base.specs.declared.range.VersionRange.{VersionRange}
+use Rattle.semver_base.proofs.Fronts.{NonEmpty, either_none, either_that, either_this, mapped, mapped_none, marked_none, marked_other, marked_some}
+use Rattle.semver_base.proofs.Bytes.{BeginsBy, Disjoint, begins_from_made, begins_wider, either_begins, mapped_begins, marked_begins, none_by_byte}
+use Rattle.semver_req.specs.Comparators.{Comparator, comparator_line, comparator_numbers, comparator_range, component_numbers, fits, numbers}
+use Rattle.semver_req.specs.Outcome.{IsStrictOutcome, whole, left_over, no_front, no_fit, IsStrictRange, IsTagOr, tag, no_tag, Outcome, Ranges, Tag, Refused}
+use Rattle.semver_req.specs.Partials.{IsPartial, component_fits, partial_fits, sized_partial}
+use Rattle.semver_req.specs.Requirement.{Failure, IsStrictReading, empty_constraint}
+use Rattle.semver_req.specs.Strict.{IsMarkCut, IsNoTag, no_memory_left, blank_no_tag, other_no_tag, IsStrictFront, IsStrictRefusal, memory_wanting, something_follows, blank_text, no_range, large_number, large_bound, marked_partial, unexpected_character}
+use Rattle.semver_req.specs.Tag.{is_valid_tag}
+use Rattle.semver_req.specs.declared.common.values.Flavour.TheVariants.{Specifier}
+use Rattle.semver_req.specs.declared.range_set_or_tag.RangeSetOrTag.{RangeSetOrTag}
+use Rattle.semver_req.specs.declared.range_set_or_tag.RangeSetOrTag.TheVariants as inner
+use Rattle.semver_req.specs.declared.specifier.Mark.{Mark}
+use Rattle.semver_req.specs.declared.specifier.Mark.TheVariants as mark
+use Rattle.semver_req.proofs.Blanks.{blanks_made, is_blank_byte}
+use Rattle.semver_req.proofs.Components.{is_component_byte}
+use Rattle.semver_req.proofs.Outcomes.{some_or_none}
+use Rattle.semver_req.proofs.Partials.{partial_begins, partial_some}
+
+-- ---- a mark and a partial version
+
+first_byte : {text a b : List ℕ} {x y : ℕ} → text ≡ x ∷ a → text ≡ y ∷ b → x ≡ y
+first_byte e f = ap (λ t. slice_index t 0) (sym e ∙ f)
+
+tilde_no_component : (x : ℕ) → x ≡ 126 → is_component_byte x ≡ true → ⊥
+tilde_no_component x e h = grind (arith, nat_tests)
+
+caret_no_component : (x : ℕ) → x ≡ 94 → is_component_byte x ≡ true → ⊥
+caret_no_component x e h = grind (arith, nat_tests)
+
+after_tilde : {text rest : List ℕ} → text ≡ 126 ∷ rest → HasNone (IsPartial Specifier) text
+after_tilde {text} e = none_by_byte (partial_some Specifier) (partial_begins Specifier) text (λ x t f k. tilde_no_component x (cc) k)
+
+after_caret : {text rest : List ℕ} → text ≡ 94 ∷ rest → HasNone (IsPartial Specifier) text
+after_caret {text} e = none_by_byte (partial_some Specifier) (partial_begins Specifier) text (λ x t f k. caret_no_component x (cc) k)
+
+pub strict_some : (m : Mark) {text rest end : List ℕ} {answer : Measured Partial} → IsMarkCut text m rest → IsSeen sized_partial (IsPartial Specifier) rest answer end → IsStrictFront text m answer end
+strict_some mark.Tilde e s = record {
+  partial = s.value;
+  longest = either_this (either_this (mapped (marked_some e s.longest)) (mapped_none (marked_other (λ r f. absurd (omega (arith, first_byte e f)))))) (mapped_none (after_tilde e));
+  seen = s.seen;
+}
+strict_some mark.Caret e s = record {
+  partial = s.value;
+  longest = either_this (either_that (mapped_none (marked_other (λ r f. absurd (omega (arith, first_byte e f))))) (mapped (marked_some e s.longest))) (mapped_none (after_caret e));
+  seen = s.seen;
+}
+strict_some mark.Absent e s = record {
+  partial = s.value;
+  longest = either_that (either_none (mapped_none (marked_other e.1)) (mapped_none (marked_other e.2))) (mapped (rw e.0 at s.longest));
+  seen = s.seen;
+}
+
+pub strict_none : (m : Mark) {text rest : List ℕ} → IsMarkCut text m rest → HasNone (IsPartial Specifier) rest → HasNone IsStrictRange text
+strict_none mark.Tilde e n = either_none (either_none (mapped_none (marked_none e n)) (mapped_none (marked_other (λ r f. absurd (omega (arith, first_byte e f)))))) (mapped_none (after_tilde e))
+strict_none mark.Caret e n = either_none (either_none (mapped_none (marked_other (λ r f. absurd (omega (arith, first_byte e f))))) (mapped_none (marked_none e n))) (mapped_none (after_caret e))
+strict_none mark.Absent e n = either_none (either_none (mapped_none (marked_other e.1)) (mapped_none (marked_other e.2))) (mapped_none (rw e.0 at n))
+
+-- ---- blanks begin with no strict range
+
+abbrev is_strict_byte : ℕ → Bool
+is_strict_byte x = is_component_byte x || ((x == 126) || (x == 94))
+
+strict_begins : BeginsBy IsStrictRange is_strict_byte
+strict_begins = either_begins
+    (either_begins
+    (mapped_begins (begins_wider (λ x. x == 126) is_strict_byte (λ x h. or_right (is_component_byte x) ((x == 126) || (x == 94)) (or_left (x == 126) (x == 94) h)) (marked_begins 126)))
+    (mapped_begins (begins_wider (λ x. x == 94) is_strict_byte (λ x h. or_right (is_component_byte x) ((x == 126) || (x == 94)) (or_right (x == 126) (x == 94) h)) (marked_begins 94))))
+    (mapped_begins (begins_wider is_component_byte is_strict_byte (λ x h. or_left (is_component_byte x) ((x == 126) || (x == 94)) h) (partial_begins Specifier)))
+
+strict_nonempty : NonEmpty IsStrictRange
+strict_nonempty = record { some = go }
+  where
+    go : (v : Comparator) → IsStrictRange [] v → ⊥
+    go v (this (this h)) = h.stands
+    go v (this (that h)) = h.stands
+    go v (that h) = (partial_some Specifier).some h.value h.stands
+
+no_blank_begins : Disjoint is_blank_byte is_strict_byte
+no_blank_begins x h k = grind (arith, nat_tests)
+
+pub blank_none : (text : List ℕ) → IsBlanks text tt → HasNone IsStrictRange text
+blank_none text b = none_by_byte strict_nonempty strict_begins text (λ x rest e k. no_blank_begins x ((begins_from_made blanks_made).begins x (record { more = rest; value = tt; stands = rw e at b })) k)
+
+-- ---- which ranges fit
+
+component_all : (x : XRange) → all_fit (component_numbers x) ≡ component_fits x
+component_all Wildcard = refl
+component_all (Val n) = elim (cases_Bool (number_fits n)) [ inl fits ↦ rw fits refl | inr over ↦ rw over refl ]
+
+numbers_all : (p : Partial) → all_fit (numbers p) ≡ partial_fits p
+numbers_all p =
+    list_all-append number_fits (component_numbers p.major ++ component_numbers p.minor) (component_numbers p.patch)
+    ∙ (ap (λ b. b && all_fit (component_numbers p.patch)) (list_all-append number_fits (component_numbers p.major) (component_numbers p.minor))
+    ∙ rw (component_all p.major, component_all p.minor, component_all p.patch) refl)
+
+marked_numbers : (m : Mark) (p : Partial) → all_fit (comparator_numbers (marked_partial m p)) ≡ partial_fits p
+marked_numbers mark.Tilde p = numbers_all p
+marked_numbers mark.Caret p = numbers_all p
+marked_numbers mark.Absent p = numbers_all p
+
+-- the longest front that is a strict range, whose numbers fit
+pub record FittingFront (text : List ℕ) (m : Mark) (p : Partial) (rest : List ℕ) : Type 0 where
+  pub longest : IsLongest IsStrictRange text (marked_partial m p) rest
+  pub numbers_fit : all_fit (comparator_numbers (marked_partial m p)) ≡ true
+
+-- the same, where some number doesn't fit
+pub record LargeFront (text : List ℕ) (m : Mark) (p : Partial) (rest : List ℕ) : Type 0 where
+  pub longest : IsLongest IsStrictRange text (marked_partial m p) rest
+  pub number_large : all_fit (comparator_numbers (marked_partial m p)) ≡ false
+
+pub fitting : {text rest : List ℕ} {m : Mark} {p : Partial} → IsStrictFront text m (Fits p) rest → FittingFront text m p rest
+fitting {text} {rest} {m} {p} f = elim (cases_Bool (partial_fits f.partial)) [
+  | inl fit ↦
+      let seen : Fits p ≡ Fits f.partial = f.seen ∙ rw fit refl in
+      let same : f.partial ≡ p = cc in
+      record { longest = rw same at f.longest; numbers_fit = marked_numbers m p ∙ (ap partial_fits (sym same) ∙ fit) }
+  | inr over ↦ let seen : Fits p ≡ TooLarge = f.seen ∙ rw over refl in absurd (cc seen)
+]
+
+pub too_large : {text rest : List ℕ} {m : Mark} {answer : Measured Partial} → answer ≡ TooLarge → (f : IsStrictFront text m answer rest) → LargeFront text m f.partial rest
+too_large {text} {rest} {m} e f = elim (cases_Bool (partial_fits f.partial)) [
+  | inl fit ↦ let seen : TooLarge ≡ Fits f.partial = sym e ∙ (f.seen ∙ rw fit refl) in absurd (cc seen)
+  | inr over ↦ record { longest = f.longest; number_large = marked_numbers m f.partial ∙ over }
+]
+
+-- ---- tags
+
+pub no_tag_of : (text : List ℕ) (refusal : Refusal) (failure : Failure) → (failure ≡ None) ⊎ (failure ≡ Some (refusal_message refusal, None)) → is_valid_tag text ≡ false → (IsBlanks text tt → ⊥) → IsNoTag text refusal failure
+no_tag_of text refusal failure (inl e) v b = rw e no_memory_left
+no_tag_of text refusal failure (inr e) v b = rw e (other_no_tag v b)
+
+pub blank_of : (text : List ℕ) (refusal : Refusal) (failure : Failure) → (failure ≡ None) ⊎ (failure ≡ empty_constraint) → is_valid_tag text ≡ false → IsBlanks text tt → IsNoTag text refusal failure
+blank_of text refusal failure (inl e) v b = rw e no_memory_left
+blank_of text refusal failure (inr e) v b = rw e (blank_no_tag v b)
+
+-- the text as a tag, where its outcome is what it is as a tag
+tag_reading : {text : List ℕ} {answer : RangeSetOrTag} → ((o : Outcome) → IsTagOr text o → IsStrictOutcome text o) → (answer ≡ inner.Tag text) × (is_valid_tag text ≡ true) → IsStrictReading text answer
+tag_reading {text} to h = record { outcome = Tag text; is_outcome = to (Tag text) (tag h.1); is_read = h.0 }
+
+module _ {text : List ℕ} (none : HasNone IsStrictRange text) where
+  pub none_reading : (answer : RangeSetOrTag) → (answer ≡ inner.Tag text) × (is_valid_tag text ≡ true) → IsStrictReading text answer
+  none_reading answer = tag_reading (λ o t. no_front none t)
+
+  pub none_refusal : (failure : Failure) → IsNoTag text UnexpectedCharacter failure → IsStrictRefusal text failure
+  none_refusal failure no_memory_left = memory_wanting
+  none_refusal failure (blank_no_tag v b) = blank_text none v b
+  none_refusal failure (other_no_tag v b) = no_range none v b
+
+and_false : (a b : Bool) → a ≡ false → (a && b) ≡ false
+and_false a b e = rw e refl
+
+and_true : (a b : Bool) → a ≡ true → (a && b) ≡ b
+and_true a b e = rw e refl
+
+module _ {text rest : List ℕ} {m : Mark} {p : Partial} (f : LargeFront text m p rest) where
+  unfit : fits (marked_partial m p) ≡ false
+  unfit = and_false _ _ f.number_large
+
+  pub number_reading : (answer : RangeSetOrTag) → (answer ≡ inner.Tag text) × (is_valid_tag text ≡ true) → IsStrictReading text answer
+  number_reading answer = tag_reading (λ o t. no_fit f.longest unfit t)
+
+  pub number_refusal : (failure : Failure) → IsNoTag text NumberTooLarge failure → IsStrictRefusal text failure
+  number_refusal failure no_memory_left = memory_wanting
+  number_refusal failure (blank_no_tag v b) = some_or_none f.longest (blank_none text b)
+  number_refusal failure (other_no_tag v b) = large_number f.longest f.number_large v
+
+module _ {text rest : List ℕ} {m : Mark} {p : Partial} (f : FittingFront text m p rest) where
+  fits_by : (b : Bool) → all_fit (comparator_line (marked_partial m p)).sums ≡ b → fits (marked_partial m p) ≡ b
+  fits_by b e = and_true _ _ f.numbers_fit ∙ e
+
+  -- some bound is too large, and memory wasn't wanting
+  over : (cause : Failure) → IsBoundRefusal (comparator_line (marked_partial m p)).sums cause → (cause ≡ None → ⊥) → all_fit (comparator_line (marked_partial m p)).sums ≡ false
+  over cause (inl e) other = absurd (other e)
+  over cause (inr h) other = h.1
+
+  module _ (cause : Failure) (refused : IsBoundRefusal (comparator_line (marked_partial m p)).sums cause) (other : cause ≡ None → ⊥) where
+    pub bound_reading : (answer : RangeSetOrTag) → (answer ≡ inner.Tag text) × (is_valid_tag text ≡ true) → IsStrictReading text answer
+    bound_reading answer = tag_reading (λ o t. no_fit f.longest (fits_by false (over cause refused other)) t)
+
+    pub bound_refusal : (failure : Failure) → IsNoTag text BoundTooLarge failure → IsStrictRefusal text failure
+    bound_refusal failure no_memory_left = memory_wanting
+    bound_refusal failure (blank_no_tag v b) = some_or_none f.longest (blank_none text b)
+    bound_refusal failure (other_no_tag v b) = large_bound f.longest f.numbers_fit (over cause refused other) v
+
+  pub whole_reading : (range : VersionRange) (answer : RangeSetOrTag) → all_fit (comparator_line (marked_partial m p)).sums ≡ true → (length rest == 0) ≡ true → range ≡ comparator_range (marked_partial m p) → answer ≡ inner.RangeSet (record { 0 = range ∷ [] }) → IsStrictReading text answer
+  whole_reading range answer e empty is answered = record {
+    outcome = Ranges ((marked_partial m p ∷ []) ∷ []);
+    is_outcome = whole (let nil : rest ≡ [] = nil_from_length rest (grind (arith, nat_tests)) in rw nil at f.longest) (fits_by true e);
+    is_read = answered ∙ ap (λ (r : VersionRange). inner.RangeSet (record { 0 = r ∷ [] })) is;
+  }
+
+  pub follows_refusal : all_fit (comparator_line (marked_partial m p)).sums ≡ true → (length rest == 0) ≡ false → (failure : Failure) → (failure ≡ None) ⊎ (failure ≡ unexpected_character) → IsStrictRefusal text failure
+  follows_refusal e full failure (inl h) = rw h memory_wanting
+  follows_refusal e full failure (inr h) = rw h (something_follows f.longest (fits_by true e) (let some : 0 < length rest = grind (arith, nat_tests) in some))
+
+-- ---- failures
+
+pub memory_err : {T : Type 0} (r : Result T Failure) (P : Failure → Type 0) → IsErrAnd r (λ f. f ≡ None) → P None → IfErr r P
+memory_err (Ok x) P h k = tt
+memory_err (Err f) P h k = rw h k
+
+-- ---- what refusals say
+
+pub refusal_outcome : {text : List ℕ} {failure : Failure} → IsStrictRefusal text failure → (failure ≡ None) ⊎ IsStrictOutcome text Refused
+refusal_outcome memory_wanting = inl refl
+refusal_outcome (something_follows p f some) = inr (left_over p f some)
+refusal_outcome (blank_text n v b) = inr (no_front n (no_tag v))
+refusal_outcome (no_range n v b) = inr (no_front n (no_tag v))
+refusal_outcome (large_number p l v) = inr (no_fit p (and_false _ _ l) (no_tag v))
+refusal_outcome (large_bound p f l v) = inr (no_fit p (and_true _ _ f ∙ l) (no_tag v))
+
+pub blank_refusal : {text : List ℕ} {failure : Failure} → IsBlanks text tt → IsStrictRefusal text failure → (failure ≡ None) ⊎ (failure ≡ empty_constraint)
+blank_refusal b memory_wanting = inl refl
+blank_refusal {text} b (something_follows p f some) = some_or_none p (blank_none text b)
+blank_refusal b (blank_text n v _) = inr refl
+blank_refusal b (no_range n v not) = absurd (not b)
+blank_refusal {text} b (large_number p l v) = some_or_none p (blank_none text b)
+blank_refusal {text} b (large_bound p f l v) = some_or_none p (blank_none text b)
+
+other_message : {T : Type 0} {a b : Failure} → length (message_of a) < length (message_of b) → a ≡ b → T
+other_message less e = absurd (omega (arith, ap (λ f. length (message_of f)) e))
+
+pub refusal_blank : {text : List ℕ} {failure : Failure} → IsStrictRefusal text failure → failure ≡ empty_constraint → IsBlanks text tt
+refusal_blank memory_wanting e = cc e
+refusal_blank (something_follows p f some) e = other_message (omega arith) e
+refusal_blank (blank_text n v b) e = b
+refusal_blank (no_range n v not) e = other_message (omega arith) e
+refusal_blank (large_number p l v) e = other_message (omega arith) e
+refusal_blank (large_bound p f l v) e = other_message (omega arith) (sym e)

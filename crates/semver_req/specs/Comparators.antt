@@ -1,0 +1,138 @@
+-- Comparators as they are written, and the bounds that they stand for. Source: node-semver's range grammar
+-- (`primitive`, `tilde`, `caret`, `hyphen`), with the ignored signs and the leading `v` that npm accepts.
+use Rattle.std.specs.Prelude.{◌≡◌, ◌⊎◌, ℕ, List, [], ◌∷◌, ◌++◌, Bool, ◌&&◌, Option, codes, if◌then◌else◌}
+use Rattle.semver_base.specs.Grammar.{After, Either, Followed, IsText, Mapped, Marked, Optional}
+use Rattle.semver_base.specs.Lexical.{IsBlanks, IsByte, IsSomeBlanks}
+use Rattle.semver_base.specs.Meaning.{from}
+use Rattle.semver_base.specs.PartialTable.{Line, all_fit, between, caret, equal, greater_than, less_than, lowest, tilde, upper}
+use Rattle.semver_base.specs.declared.lexical.values.Measured.{Measured}
+use Rattle.semver_base.specs.declared.lexical.values.Measured.TheVariants.{Fits, TooLarge}
+use Rattle.semver_base.specs.declared.partial.Partial.{Partial}
+use Rattle.semver_base.specs.declared.partial.XRange.{XRange}
+use Rattle.semver_base.specs.declared.partial.XRange.TheVariants.{Wildcard, Val}
+use Rattle.semver_base.specs.declared.range.VersionBoundKind.TheVariants as kind
+use Rattle.semver_base.specs.declared.range.VersionRange.{VersionRange}
+use Rattle.semver_req.specs.Partials.{IsPartial, partial_fits}
+use Rattle.semver_req.specs.declared.common.values.Flavour.{Flavour}
+use Rattle.semver_req.specs.declared.common.values.Flavour.TheVariants.{Npm, Normal, Specifier}
+use Rattle.semver_req.specs.declared.common.values.Primitive.{Primitive}
+use Rattle.semver_req.specs.declared.common.values.PrimitiveKind.{PrimitiveKind}
+use Rattle.semver_req.specs.declared.common.values.PrimitiveKind.TheVariants.{GreaterThan, LessThan, GreaterThanOrEqual, LessThanOrEqual, Equal}
+
+-- ---- signs
+
+abbrev pub sign_text : PrimitiveKind → List ℕ
+sign_text GreaterThan = codes ">"
+sign_text LessThan = codes "<"
+sign_text GreaterThanOrEqual = codes ">="
+sign_text LessThanOrEqual = codes "<="
+sign_text Equal = codes "="
+
+abbrev pub IsSign : List ℕ → PrimitiveKind → Type 0
+IsSign text sign = text ≡ sign_text sign
+
+-- the sign is with_equal, which a `=` at the front of text ends, or where there is none the sign alone; rest is what
+-- follows
+abbrev pub IsMaybeEqual : List ℕ → PrimitiveKind → PrimitiveKind → PrimitiveKind → List ℕ → Type 0
+IsMaybeEqual text alone with_equal sign rest = ((sign ≡ with_equal) × (text ≡ 61 ∷ rest)) ⊎ ((sign ≡ alone) × (rest ≡ text) × ((more : List ℕ) → text ≡ 61 ∷ more → ⊥))
+
+-- a sign, blanks and a partial version
+abbrev pub IsPrimitive : Flavour → List ℕ → PrimitiveKind × Partial → Type 0
+IsPrimitive f = Followed IsSign (After IsBlanks (IsPartial f))
+
+-- a sign and a partial version, unless a number in it is too large
+abbrev pub sized_primitive : PrimitiveKind × Partial → Measured Primitive
+sized_primitive v = if partial_fits v.1 then Fits (record { kind = v.0; partial = v.1 }) else TooLarge
+
+-- the same, of a partial version that is sized already
+abbrev pub primitive_of : PrimitiveKind → Measured Partial → Measured Primitive
+primitive_of kind (Fits p) = Fits (record { kind = kind; partial = p })
+primitive_of kind TooLarge = TooLarge
+
+-- ---- comparators as they are written
+
+pub data Comparator : Type 0 where
+  Tilde : Partial → Comparator
+  Caret : Partial → Comparator
+  Signed : PrimitiveKind → Partial → Comparator
+  Plain : Partial → Comparator
+  Hyphen : Partial → Partial → Comparator
+
+abbrev pub signed : PrimitiveKind × Partial → Comparator
+signed v = Signed v.0 v.1
+
+-- any number of `=`
+pub data IsEquals : List ℕ → Unit {0} → Type 0 where
+  no_more : IsEquals [] tt
+  one_more : {rest : List ℕ} → IsEquals rest tt → IsEquals (61 ∷ rest) tt
+
+-- what npm's grammar allows before the partial of a tilde or caret: any number of `=`, blanks, a `v`, blanks
+abbrev pub IsLed : List ℕ → Partial → Type 0
+IsLed = After IsEquals (After IsBlanks (After (Optional (IsByte 118)) (After IsBlanks (IsPartial Npm))))
+
+-- a sign that says nothing, with one or more blanks after it, or nothing
+abbrev pub IsIgnored : List ℕ → Option (PrimitiveKind × Unit {0}) → Type 0
+IsIgnored = Optional (Followed IsSign IsSomeBlanks)
+
+abbrev pub IsNpmTilde : List ℕ → Comparator → Type 0
+IsNpmTilde = Mapped Tilde (After IsIgnored (After (Either (IsText (codes "~>")) (IsText (codes "~"))) IsLed))
+
+abbrev pub IsNpmCaret : List ℕ → Comparator → Type 0
+IsNpmCaret = Mapped Caret (After IsIgnored (Marked 94 IsLed))
+
+-- a sign, blanks and a partial
+abbrev pub IsSigned : Flavour → List ℕ → Comparator → Type 0
+IsSigned f = Mapped signed (IsPrimitive f)
+
+abbrev pub IsPlain : Flavour → List ℕ → Comparator → Type 0
+IsPlain f = Mapped Plain (IsPartial f)
+
+-- `~` or `^` and a partial
+abbrev pub IsMarked : Flavour → List ℕ → Comparator → Type 0
+IsMarked f = Either (Mapped Tilde (Marked 126 (IsPartial f))) (Mapped Caret (Marked 94 (IsPartial f)))
+
+abbrev pub IsComparator : Flavour → List ℕ → Comparator → Type 0
+IsComparator Npm = Either (Either IsNpmTilde IsNpmCaret) (Either (IsSigned Npm) (IsPlain Npm))
+IsComparator Normal = Either (IsMarked Normal) (Either (IsSigned Normal) (IsPlain Normal))
+IsComparator Specifier = Either (IsMarked Specifier) (IsPlain Specifier)
+
+-- ---- what they stand for
+
+abbrev pub signed_line : PrimitiveKind → Partial → Line
+signed_line GreaterThan p = greater_than kind.Exclusive p
+signed_line LessThan p = less_than kind.Exclusive p
+signed_line GreaterThanOrEqual p = greater_than kind.Inclusive p
+signed_line LessThanOrEqual p = less_than kind.Inclusive p
+signed_line Equal p = equal p
+
+-- the bounds of a comparator, and the sums that they need
+abbrev pub comparator_line : Comparator → Line
+comparator_line (Tilde p) = tilde p
+comparator_line (Caret p) = caret p
+comparator_line (Signed sign p) = signed_line sign p
+comparator_line (Plain p) = equal p
+comparator_line (Hyphen p q) = record { range = between (from (lowest p)) (upper q).end; sums = (upper q).sums }
+
+abbrev pub comparator_range : Comparator → VersionRange
+comparator_range c = (comparator_line c).range
+
+-- ---- which fit
+
+abbrev pub component_numbers : XRange → List ℕ
+component_numbers Wildcard = []
+component_numbers (Val n) = n ∷ []
+
+-- the numbers among the components of a partial version
+abbrev pub numbers : Partial → List ℕ
+numbers p = component_numbers p.major ++ component_numbers p.minor ++ component_numbers p.patch
+
+abbrev pub comparator_numbers : Comparator → List ℕ
+comparator_numbers (Tilde p) = numbers p
+comparator_numbers (Caret p) = numbers p
+comparator_numbers (Signed sign p) = numbers p
+comparator_numbers (Plain p) = numbers p
+comparator_numbers (Hyphen p q) = numbers p ++ numbers q
+
+-- every number among the components, and every sum that the line needs, is at most 18446744073709551615
+abbrev pub fits : Comparator → Bool
+fits c = all_fit (comparator_numbers c) && all_fit (comparator_line c).sums

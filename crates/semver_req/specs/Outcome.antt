@@ -1,0 +1,66 @@
+-- What each reader makes of a text: the comparators of its alternatives, a tag, or a refusal. Source: node-semver's
+-- reading of range sets for the npm and the normalized reader; the strict reader is `deno_semver`'s own.
+use Rattle.std.specs.Prelude.{◌≡◌, ◌<◌, ℕ, List, [], ◌∷◌, length, map, Bool, true, false, ◌⊎◌}
+use Rattle.std.specs.List.{list_all}
+use Rattle.std.specs.Str.{IsTrim}
+use Rattle.semver_base.specs.Grammar.{HasNone, IsLongest}
+use Rattle.semver_base.specs.Lexical.{IsBlanks}
+use Rattle.semver_base.specs.declared.range.VersionRange.{VersionRange}
+use Rattle.semver_req.specs.Comparators.{Comparator, IsComparator, comparator_range, fits}
+use Rattle.semver_req.specs.Pieces.{ArePieces, IsPiece}
+use Rattle.semver_req.specs.Tag.{is_valid_tag}
+use Rattle.semver_req.specs.declared.common.values.Flavour.{Flavour}
+use Rattle.semver_req.specs.declared.common.values.Flavour.TheVariants.{Npm, Normal, Specifier}
+
+-- the tree of ranges has a list of comparators for each alternative, in order
+pub data Outcome : Type 0 where
+  Ranges : List (List Comparator) → Outcome
+  Tag : List ℕ → Outcome
+  Refused : Outcome
+
+-- the bounds of the comparators of a tree
+abbrev pub tree_ranges : List (List Comparator) → List (List VersionRange)
+tree_ranges tree = map (λ comparators. map comparator_range comparators) tree
+
+-- the text as a tag where it is a valid one, else a refusal
+pub data IsTagOr : List ℕ → Outcome → Type 0 where
+  tag : {text : List ℕ} → is_valid_tag text ≡ true → IsTagOr text (Tag text)
+  no_tag : {text : List ℕ} → is_valid_tag text ≡ false → IsTagOr text Refused
+
+-- ---- the npm and the normalized reader
+
+-- the piece is in the grammar, as comparators that all fit, or it is blanks before a `||`, which is everything
+abbrev pub IsGood : Flavour → Bool → List ℕ → List Comparator → Type 0
+IsGood f followed piece cs = (IsPiece f piece cs × (list_all fits cs ≡ true)) ⊎ ((followed ≡ true) × IsBlanks piece tt × (cs ≡ []))
+
+abbrev pub IsBad : Flavour → Bool → List ℕ → Type 0
+IsBad f followed piece = (cs : List Comparator) → IsGood f followed piece cs → ⊥
+
+-- the good ones of these pieces, in order
+pub data AreGoodOnes (f : Flavour) : Bool → List (List ℕ) → List (List Comparator) → Type 0 where
+  none_left : {b : Bool} → AreGoodOnes f b [] []
+  good : {b : Bool} {piece : List ℕ} {pieces : List (List ℕ)} {cs : List Comparator} {tree : List (List Comparator)} → IsGood f b piece cs → AreGoodOnes f false pieces tree → AreGoodOnes f b (piece ∷ pieces) (cs ∷ tree)
+  bad : {b : Bool} {piece : List ℕ} {pieces : List (List ℕ)} {tree : List (List Comparator)} → IsBad f b piece → AreGoodOnes f false pieces tree → AreGoodOnes f b (piece ∷ pieces) tree
+
+pub data IsOutcome : Flavour → List ℕ → Outcome → Type 0 where
+  -- exactly one piece
+  one_good : {f : Flavour} {text piece : List ℕ} {b : Bool} {cs : List Comparator} → ArePieces text b (piece ∷ []) → IsGood f b piece cs → IsOutcome f text (Ranges (cs ∷ []))
+  one_bad : {f : Flavour} {text piece trimmed : List ℕ} {b : Bool} {o : Outcome} → ArePieces text b (piece ∷ []) → IsBad f b piece → IsTrim piece trimmed → IsTagOr trimmed o → IsOutcome f text o
+  -- two or more: npm ignores bad ones, the normalized reader refuses the whole text for one
+  npm_many : {text one two : List ℕ} {more : List (List ℕ)} {b : Bool} {tree : List (List Comparator)} → ArePieces text b (one ∷ two ∷ more) → AreGoodOnes Npm b (one ∷ two ∷ more) tree → IsOutcome Npm text (Ranges tree)
+  normal_many : {text one two : List ℕ} {more : List (List ℕ)} {b : Bool} {tree : List (List Comparator)} → ArePieces text b (one ∷ two ∷ more) → AreGoodOnes Normal b (one ∷ two ∷ more) tree → length tree ≡ length (one ∷ two ∷ more) → IsOutcome Normal text (Ranges tree)
+  normal_refused : {text one two : List ℕ} {more : List (List ℕ)} {b : Bool} {tree : List (List Comparator)} → ArePieces text b (one ∷ two ∷ more) → AreGoodOnes Normal b (one ∷ two ∷ more) tree → length tree < length (one ∷ two ∷ more) → IsOutcome Normal text Refused
+
+-- ---- the strict reader
+
+-- the front of a text that the strict reader takes
+abbrev pub IsStrictRange : List ℕ → Comparator → Type 0
+IsStrictRange = IsComparator Specifier
+
+-- the longest front that is a strict range, where it fits, is the whole text or makes it refused; where there is no
+-- such front, or something in it doesn't fit, the whole text is a tag or refused
+pub data IsStrictOutcome : List ℕ → Outcome → Type 0 where
+  whole : {text : List ℕ} {c : Comparator} → IsLongest IsStrictRange text c [] → fits c ≡ true → IsStrictOutcome text (Ranges ((c ∷ []) ∷ []))
+  left_over : {text rest : List ℕ} {c : Comparator} → IsLongest IsStrictRange text c rest → fits c ≡ true → 0 < length rest → IsStrictOutcome text Refused
+  no_front : {text : List ℕ} {o : Outcome} → HasNone IsStrictRange text → IsTagOr text o → IsStrictOutcome text o
+  no_fit : {text rest : List ℕ} {c : Comparator} {o : Outcome} → IsLongest IsStrictRange text c rest → fits c ≡ false → IsTagOr text o → IsStrictOutcome text o

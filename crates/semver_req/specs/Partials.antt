@@ -1,0 +1,112 @@
+-- Partial versions as they are written in the three grammars of requirements. Numbers are of any size. Source:
+-- node-semver's range grammar (`xr`, `partial`, `qualifier`); the normalized and the strict grammar are narrower.
+use Rattle.std.specs.Prelude.{ℕ, List, [], Bool, true, ◌||◌, ◌&&◌, ◌==◌, Option, Some, None, if◌then◌else◌, drop}
+use Rattle.semver_base.specs.Grammar.{Either, Followed, Joined, Mapped, Marked, OneByte, Optional}
+use Rattle.semver_base.specs.Lexical.{IsNumber, IsNumberEnd, IsQualifier}
+use Rattle.semver_base.specs.PartialTable.{number_fits}
+use Rattle.semver_base.specs.declared.lexical.values.Measured.{Measured}
+use Rattle.semver_base.specs.declared.lexical.values.Measured.TheVariants.{Fits, TooLarge}
+use Rattle.semver_base.specs.declared.lexical.values.Qualifier.{Qualifier}
+use Rattle.semver_base.specs.declared.lexical.values.Strictness.{Strictness}
+use Rattle.semver_base.specs.declared.lexical.values.Strictness.TheVariants.{Loose, Strict}
+use Rattle.semver_base.specs.declared.partial.Partial.{Partial}
+use Rattle.semver_base.specs.declared.partial.XRange.{XRange}
+use Rattle.semver_base.specs.declared.partial.XRange.TheVariants.{Wildcard, Val}
+use Rattle.semver_req.specs.declared.common.values.Flavour.{Flavour}
+use Rattle.semver_req.specs.declared.common.values.Flavour.TheVariants.{Npm, Normal, Specifier}
+
+-- ---- components
+
+-- the strict grammar has strict numbers and pre-releases, the others loose ones
+abbrev pub strictness_of : Flavour → Strictness
+strictness_of Npm = Loose
+strictness_of Normal = Loose
+strictness_of Specifier = Strict
+
+-- `*`, and but for the normalized grammar `x` and `X`
+abbrev pub is_wildcard : Flavour → ℕ → Bool
+is_wildcard Npm b = (b == 42) || (b == 120) || (b == 88)
+is_wildcard Normal b = b == 42
+is_wildcard Specifier b = (b == 42) || (b == 120) || (b == 88)
+
+-- a wildcard or a number
+abbrev pub IsComponent : Flavour → List ℕ → XRange → Type 0
+IsComponent f text Wildcard = (b : ℕ) × OneByte (is_wildcard f) text b
+IsComponent f text (Val n) = IsNumber (strictness_of f) text n
+
+-- ---- partial versions
+
+-- `.`, a component and a qualifier, which may be empty; no digit follows a number
+abbrev pub IsThird : Flavour → List ℕ → XRange × Qualifier → Type 0
+IsThird f = Marked 46 (Joined IsNumberEnd (IsComponent f) (IsQualifier (strictness_of f)))
+
+-- `.` and a component, and then the third or nothing
+abbrev pub IsSecond : Flavour → List ℕ → XRange × Option (XRange × Qualifier) → Type 0
+IsSecond f = Marked 46 (Followed (IsComponent f) (Optional (IsThird f)))
+
+-- missing components are wildcards
+abbrev pub partial_of : XRange × Option (XRange × Option (XRange × Qualifier)) → Partial
+partial_of (m, None) = record { major = m; minor = Wildcard; patch = Wildcard; pre = []; build = [] }
+partial_of (m, Some (n, None)) = record { major = m; minor = n; patch = Wildcard; pre = []; build = [] }
+partial_of (m, Some (n, Some (p, q))) = record { major = m; minor = n; patch = p; pre = q.pre; build = q.build }
+
+-- a component, and then the second or nothing
+abbrev pub IsPlainPartial : Flavour → List ℕ → Partial → Type 0
+IsPlainPartial f = Mapped partial_of (Followed (IsComponent f) (Optional (IsSecond f)))
+
+-- before the first component npm's grammar allows one `v`
+abbrev pub IsPartial : Flavour → List ℕ → Partial → Type 0
+IsPartial Npm = Either (Marked 118 (IsPlainPartial Npm)) (IsPlainPartial Npm)
+IsPartial Normal = IsPlainPartial Normal
+IsPartial Specifier = IsPlainPartial Specifier
+
+-- ---- what 64 bits can tell of them
+
+abbrev pub component_fits : XRange → Bool
+component_fits Wildcard = true
+component_fits (Val n) = number_fits n
+
+abbrev pub sized_component : XRange → Measured XRange
+sized_component x = if component_fits x then Fits x else TooLarge
+
+abbrev pub partial_fits : Partial → Bool
+partial_fits p = component_fits p.major && component_fits p.minor && component_fits p.patch
+
+-- a partial version, unless a number in it is too large
+abbrev pub sized_partial : Partial → Measured Partial
+sized_partial p = if partial_fits p then Fits p else TooLarge
+
+-- ---- what the readers of their parts answer
+
+-- a number, measured, as a component
+abbrev pub component_of : Measured ℕ → Measured XRange
+component_of (Fits n) = Fits (Val n)
+component_of TooLarge = TooLarge
+
+abbrev pub sized_third : XRange × Qualifier → Measured XRange × Qualifier
+sized_third v = (sized_component v.0, v.1)
+
+-- a third part that is missing is a wildcard with no qualifier
+abbrev pub third_or_none : Option (XRange × Qualifier) → Measured XRange × Qualifier
+third_or_none None = (Fits Wildcard, record { pre = []; build = [] })
+third_or_none (Some v) = sized_third v
+
+-- the minor component, and the third part
+abbrev pub sized_second : XRange × Option (XRange × Qualifier) → Measured XRange × Measured XRange × Qualifier
+sized_second v = (sized_component v.0, (third_or_none v.1).0, (third_or_none v.1).1)
+
+abbrev pub second_or_none : Option (XRange × Option (XRange × Qualifier)) → Measured XRange × Measured XRange × Qualifier
+second_or_none None = (Fits Wildcard, Fits Wildcard, record { pre = []; build = [] })
+second_or_none (Some v) = sized_second v
+
+-- a partial version of its components, where none is too large
+abbrev pub assembled : Measured XRange → Measured XRange → Measured XRange → Qualifier → Measured Partial
+assembled (Fits m) (Fits n) (Fits p) q = Fits (record { major = m; minor = n; patch = p; pre = q.pre; build = q.build })
+assembled TooLarge n p q = TooLarge
+assembled (Fits m) TooLarge p q = TooLarge
+assembled (Fits m) (Fits n) TooLarge q = TooLarge
+
+-- the answer of a reader over a text and a place, as one over what follows the place
+abbrev pub answer_at : {X : Type 0} → List ℕ → Option (X × ℕ) → Option (X × List ℕ)
+answer_at text None = None
+answer_at text (Some p) = Some (p.0, drop p.1 text)

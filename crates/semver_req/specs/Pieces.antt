@@ -1,0 +1,64 @@
+-- The pieces of a requirement: how a text is cut at `||`, and which comparators a piece stands for. Source:
+-- node-semver's range grammar (`range-set`, `logical-or`, `range`), with the separators `&&` and `,` that npm accepts.
+use Rattle.std.specs.Prelude.{◌≡◌, ◌<◌, ◌≤◌, ℕ, List, [], ◌∷◌, ◌++◌, length, Bool, true, false, codes}
+use Rattle.semver_base.specs.Grammar.{After, Before, Either, Followed, IsLongest, IsText, Listed, Mapped, Marked}
+use Rattle.semver_base.specs.Lexical.{IsBlanks, IsSomeBlanks}
+use Rattle.semver_base.specs.declared.partial.Partial.{Partial}
+use Rattle.semver_req.specs.Comparators.{Comparator, Hyphen, IsComparator}
+use Rattle.semver_req.specs.Partials.{IsPartial}
+use Rattle.semver_req.specs.declared.common.values.Flavour.{Flavour}
+use Rattle.semver_req.specs.declared.common.values.Flavour.TheVariants.{Npm, Normal, Specifier}
+
+-- ---- a piece
+
+abbrev pub IsMark : List ℕ → Unit {0} → Type 0
+IsMark = Either (IsText (codes "&&")) (IsText (codes ","))
+
+-- between npm's comparators: `&&` or `,` with blanks on both sides or none, or one or more blanks
+abbrev pub IsNpmSeparator : List ℕ → Unit {0} → Type 0
+IsNpmSeparator = Either (After IsBlanks (After IsMark IsBlanks)) IsSomeBlanks
+
+abbrev pub hyphen : Partial × Partial → List Comparator
+hyphen v = Hyphen v.0 v.1 ∷ []
+
+-- two partials round a `-`, which has one or more blanks on both sides
+abbrev pub IsHyphen : List ℕ → List Comparator → Type 0
+IsHyphen = Mapped hyphen (Followed (IsPartial Npm) (After IsSomeBlanks (Marked 45 (After IsSomeBlanks (Before (IsPartial Npm) IsBlanks)))))
+
+-- a piece that is not empty
+abbrev pub IsFilled : Flavour → List ℕ → List Comparator → Type 0
+IsFilled Npm = Either IsHyphen (Listed (IsComparator Npm) IsNpmSeparator)
+IsFilled Normal = Listed (IsComparator Normal) IsSomeBlanks
+IsFilled Specifier = λ text comparators. ⊥
+
+-- nothing, which is everything, or a piece that is not empty
+abbrev pub IsPiece : Flavour → List ℕ → List Comparator → Type 0
+IsPiece f text [] = text ≡ []
+IsPiece f text (c ∷ cs) = IsFilled f text (c ∷ cs)
+
+-- ---- how a text is cut
+
+-- the text has no `||`
+abbrev pub HasNoBar : List ℕ → Type 0
+HasNoBar text = (a b : List ℕ) → text ≡ a ++ (124 ∷ 124 ∷ b) → ⊥
+
+-- the text is the piece, `||` and the rest, and no earlier place of it has a `||`
+pub record IsCutAt (text piece rest : List ℕ) : Type 0 where
+  pub text_is : text ≡ piece ++ (124 ∷ 124 ∷ rest)
+  pub leftmost : (a b : List ℕ) → text ≡ a ++ (124 ∷ 124 ∷ b) → length piece ≤ length a
+
+-- the text is blanks and then the rest, which begins with no blank
+pub record IsTrimmed (text rest : List ℕ) : Type 0 where
+  pub longest : IsLongest IsBlanks text tt rest
+
+-- the pieces of what follows a `||`: blanks that follow it belong to no piece, and what is then empty is no piece
+pub data AreMorePieces : List ℕ → List (List ℕ) → Type 0 where
+  no_piece : {text : List ℕ} → IsTrimmed text [] → AreMorePieces text []
+  last_piece : {text piece : List ℕ} → IsTrimmed text piece → 0 < length piece → HasNoBar piece → AreMorePieces text (piece ∷ [])
+  cut_piece : {text start piece rest : List ℕ} {pieces : List (List ℕ)} → IsTrimmed text start → IsCutAt start piece rest → AreMorePieces rest pieces → AreMorePieces text (piece ∷ pieces)
+
+-- the pieces of a text, cut at its leftmost `||`, the rest again, and so on; true where the first piece is followed by
+-- `||`
+pub data ArePieces : List ℕ → Bool → List (List ℕ) → Type 0 where
+  one_piece : {text : List ℕ} → HasNoBar text → ArePieces text false (text ∷ [])
+  first_cut : {text piece rest : List ℕ} {pieces : List (List ℕ)} → IsCutAt text piece rest → AreMorePieces rest pieces → ArePieces text true (piece ∷ pieces)

@@ -1,0 +1,26 @@
+-- Which texts are valid tags. Source: npm's rule that a tag is a text that needs no escape in a URL; letters and
+-- numbers are those of the tables of `unicode`.
+use Rattle.std.specs.Prelude.{ℕ, List, Bool, true, false, not, ◌&&◌, ◌||◌, ◌==◌}
+use Rattle.std.specs.Char.{is_whitespace}
+use Rattle.std.specs.List.{list_all}
+use Rattle.std.specs.Str.{chars}
+use Rattle.unicode.specs.Binary.{is_alphabetic}
+use Rattle.unicode.specs.GeneralCategory.{general_category}
+use Rattle.ucd_category.specs.declared.GeneralCategory.{GeneralCategory}
+use Rattle.ucd_category.specs.declared.GeneralCategory.TheVariants.{DecimalNumber, LetterNumber, OtherNumber}
+
+-- Nd, Nl or No
+abbrev pub is_number_category : GeneralCategory → Bool
+is_number_category DecimalNumber = true
+is_number_category LetterNumber = true
+is_number_category OtherNumber = true
+is_number_category _ = false
+
+-- a letter, a number, or one of `-`, `_`, `.` and `~`
+abbrev pub is_tag_character : ℕ → Bool
+is_tag_character c = is_alphabetic c || is_number_category (general_category c)
+    || ((c == 45) || (c == 95) || (c == 46) || (c == 126))
+
+-- the characters of a valid tag are such, and not all of them are blanks
+abbrev pub is_valid_tag : List ℕ → Bool
+is_valid_tag text = not (list_all is_whitespace (chars text)) && list_all is_tag_character (chars text)

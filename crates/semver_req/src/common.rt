@@ -1,0 +1,317 @@
+//! Partial versions and signs, read from the front of a text or at a place in it.
+//!
+//! Each reader takes the longest front that its grammar has, and answers what that front stands for and what follows
+//! it; it answers `None` where no front is in the grammar. A number that is too large is read to its end, so the rest
+//! is the same as if it fitted.
+
+ghost use Rattle.std.specs.Prelude.{◌≡◌, IfOk, IfSome, drop};
+ghost use Rattle.std.specs.Str.{IsCharBoundary};
+ghost use Rattle.semver_base.specs.Grammar.{IsAfterOne, IsLongest, IsSeen, Optional, Reads, ReadsAs, answer_of};
+ghost use Rattle.semver_base.specs.Lexical.{IsQualifier};
+ghost use Rattle.semver_req.specs.Comparators.{IsMaybeEqual, IsPrimitive, IsSign, primitive_of, sized_primitive};
+ghost use Rattle.semver_req.specs.Partials.{IsComponent, IsPartial, IsPlainPartial, IsSecond, IsThird, answer_at, assembled, component_of, is_wildcard, second_or_none, sized_component, sized_partial, sized_second, sized_third, strictness_of, third_or_none};
+
+pub mod values;
+
+use semver_base::lexical;
+use semver_base::lexical::values::{Measured, Qualifier};
+use semver_base::lexical::{after, after_blanks};
+use semver_base::partial::{Partial, XRange};
+use std::alloc::{AllocError, Global};
+use values::{Flavour, Primitive, PrimitiveKind};
+
+// What follows a wildcard, where the text begins with one.
+fn wildcard(text: &str, flavour: Flavour) -> Option<&str>
+    ensures { IsAfterOne (is_wildcard flavour) text.now result }
+{
+    if let Some(rest) = after(text, '*') {
+        return Some(rest);
+    }
+    if flavour == Flavour::Normal {
+        return None;
+    }
+    if let Some(rest) = after(text, 'x') {
+        return Some(rest);
+    }
+    after(text, 'X')
+}
+
+// A number as a component.
+fn component_of(number: Measured<u64>) -> Measured<XRange>
+    ensures { result ≡ component_of number }
+{
+    match number {
+        Measured::Fits(number) => Measured::Fits(XRange::Val(number)),
+        Measured::TooLarge => Measured::TooLarge,
+    }
+}
+
+// A wildcard or a number.
+fn component(text: &str, flavour: Flavour) -> Option<(Measured<XRange>, &str)>
+    ensures { ReadsAs sized_component (IsComponent flavour) text.now (answer_of result) }
+{
+    if let Some(rest) = wildcard(text, flavour) {
+        return Some((Measured::Fits(XRange::Wildcard), rest));
+    }
+    let (value, rest) = lexical::number(text, flavour.strictness())?;
+    Some((component_of(value), rest))
+}
+
+type Third = (Measured<XRange>, Qualifier);
+
+// `.`, a component and a qualifier.
+fn third(alloc: Global, text: &str, flavour: Flavour) -> Result<Option<(Third, &str)>, AllocError>
+    ensures { IfOk result (λ r. ReadsAs sized_third (IsThird flavour) text.now (answer_of r)) }
+{
+    let Some(rest) = after(text, '.') else {
+        return Ok(None);
+    };
+    let Some((patch, rest)) = component(rest, flavour) else {
+        return Ok(None);
+    };
+    let (qualifier, rest) = lexical::qualifier(alloc, rest, flavour.strictness())?;
+    Ok(Some(((patch, qualifier), rest)))
+}
+
+// The third part, or a wildcard.
+fn optional_third(alloc: Global, text: &str, flavour: Flavour) -> Result<(Third, &str), AllocError>
+    ensures { IfOk result (λ r. IsSeen third_or_none (Optional (IsThird flavour)) text.now r.0 r.1.now) }
+{
+    match third(alloc, text, flavour)? {
+        Some(read) => Ok(read),
+        None => Ok((
+            (Measured::Fits(XRange::Wildcard), Qualifier::new(alloc)),
+            text,
+        )),
+    }
+}
+
+type Second = (Measured<XRange>, Measured<XRange>, Qualifier);
+
+// `.`, a component, and then the third part or nothing.
+fn second(alloc: Global, text: &str, flavour: Flavour) -> Result<Option<(Second, &str)>, AllocError>
+    ensures { IfOk result (λ r. ReadsAs sized_second (IsSecond flavour) text.now (answer_of r)) }
+{
+    let Some(rest) = after(text, '.') else {
+        return Ok(None);
+    };
+    let Some((minor, rest)) = component(rest, flavour) else {
+        return Ok(None);
+    };
+    let ((patch, qualifier), rest) = optional_third(alloc, rest, flavour)?;
+    Ok(Some(((minor, patch, qualifier), rest)))
+}
+
+// What follows the first component, or wildcards.
+fn optional_second(
+    alloc: Global,
+    text: &str,
+    flavour: Flavour,
+) -> Result<(Second, &str), AllocError>
+    ensures { IfOk result (λ r. IsSeen second_or_none (Optional (IsSecond flavour)) text.now r.0 r.1.now) }
+{
+    match second(alloc, text, flavour)? {
+        Some(read) => Ok(read),
+        None => Ok((
+            (
+                Measured::Fits(XRange::Wildcard),
+                Measured::Fits(XRange::Wildcard),
+                Qualifier::new(alloc),
+            ),
+            text,
+        )),
+    }
+}
+
+// The partial version of these components, where none is too large.
+fn assemble(
+    major: Measured<XRange>,
+    minor: Measured<XRange>,
+    patch: Measured<XRange>,
+    qualifier: Qualifier,
+) -> Measured<Partial>
+    ensures { result ≡ assembled major minor patch qualifier }
+{
+    match (major, minor, patch) {
+        (Measured::Fits(major), Measured::Fits(minor), Measured::Fits(patch)) => {
+            Measured::Fits(Partial {
+                major,
+                minor,
+                patch,
+                pre: qualifier.pre,
+                build: qualifier.build,
+            })
+        }
+        _ => Measured::TooLarge,
+    }
+}
+
+// A partial version with no `v` before it.
+fn plain_partial(
+    alloc: Global,
+    text: &str,
+    flavour: Flavour,
+) -> Result<Option<(Measured<Partial>, &str)>, AllocError>
+    ensures { IfOk result (λ r. ReadsAs sized_partial (IsPlainPartial flavour) text.now (answer_of r)) }
+{
+    let Some((major, rest)) = component(text, flavour) else {
+        return Ok(None);
+    };
+    let ((minor, patch, qualifier), rest) = optional_second(alloc, rest, flavour)?;
+    Ok(Some((assemble(major, minor, patch, qualifier), rest)))
+}
+
+// A partial version, which may have a `v` before it.
+fn npm_partial(alloc: Global, text: &str) -> Result<Option<(Measured<Partial>, &str)>, AllocError>
+    ensures { IfOk result (λ r. ReadsAs sized_partial (IsPartial Flavour.Npm) text.now (answer_of r)) }
+{
+    match after(text, 'v') {
+        Some(rest) => plain_partial(alloc, rest, Flavour::Npm),
+        None => plain_partial(alloc, text, Flavour::Npm),
+    }
+}
+
+/// The partial version at the front of the text, and what follows it (node-semver's range grammar, `partial`).
+///
+/// The value is `Measured::TooLarge` exactly where a number among the components is larger than
+/// 18446744073709551615. It is an error only where no memory is left.
+pub fn partial_front(
+    alloc: Global,
+    text: &str,
+    flavour: Flavour,
+) -> Result<Option<(Measured<Partial>, &str)>, AllocError>
+    ensures { IfOk result (λ r. ReadsAs sized_partial (IsPartial flavour) text.now (answer_of r)) }
+{
+    match flavour {
+        Flavour::Npm => npm_partial(alloc, text),
+        Flavour::Normal => plain_partial(alloc, text, Flavour::Normal),
+        Flavour::Specifier => plain_partial(alloc, text, Flavour::Specifier),
+    }
+}
+
+// The sign that begins with `mark`, where `rest` follows that.
+fn with_equal(rest: &str, alone: PrimitiveKind, with_equal: PrimitiveKind) -> (PrimitiveKind, &str)
+    ensures { IsMaybeEqual rest.now alone with_equal result.0 result.1.now }
+{
+    match after(rest, '=') {
+        Some(rest) => (with_equal, rest),
+        None => (alone, rest),
+    }
+}
+
+// The sign at the front, and what follows it.
+fn sign_front(text: &str) -> Option<(PrimitiveKind, &str)>
+    ensures { Reads IsSign text.now (answer_of result) }
+{
+    if let Some(rest) = after(text, '>') {
+        return Some(with_equal(
+            rest,
+            PrimitiveKind::GreaterThan,
+            PrimitiveKind::GreaterThanOrEqual,
+        ));
+    }
+    if let Some(rest) = after(text, '<') {
+        return Some(with_equal(
+            rest,
+            PrimitiveKind::LessThan,
+            PrimitiveKind::LessThanOrEqual,
+        ));
+    }
+    let rest = after(text, '=')?;
+    Some((PrimitiveKind::Equal, rest))
+}
+
+fn primitive_of(kind: PrimitiveKind, partial: Measured<Partial>) -> Measured<Primitive>
+    ensures { result ≡ primitive_of kind partial }
+{
+    match partial {
+        Measured::Fits(partial) => Measured::Fits(Primitive { kind, partial }),
+        Measured::TooLarge => Measured::TooLarge,
+    }
+}
+
+// The sign and the partial version at the front, and what follows them.
+fn primitive_front(
+    alloc: Global,
+    text: &str,
+    flavour: Flavour,
+) -> Result<Option<(Measured<Primitive>, &str)>, AllocError>
+    ensures { IfOk result (λ r. ReadsAs sized_primitive (IsPrimitive flavour) text.now (answer_of r)) }
+{
+    let Some((kind, rest)) = sign_front(text) else {
+        return Ok(None);
+    };
+    let Some((partial, rest)) = partial_front(alloc, after_blanks(rest), flavour)? else {
+        return Ok(None);
+    };
+    Ok(Some((primitive_of(kind, partial), rest)))
+}
+
+/// The partial version at the place in the text, and the place that it reaches.
+///
+/// The value is `Measured::TooLarge` exactly where a number among the components is larger than
+/// 18446744073709551615. It is an error only where no memory is left.
+pub fn partial(
+    alloc: Global,
+    text: &str,
+    place: usize,
+    flavour: Flavour,
+) -> Result<Option<(Measured<Partial>, usize)>, AllocError>
+    requires { IsCharBoundary text.now place }
+    ensures value { IfOk result (λ r. ReadsAs sized_partial (IsPartial flavour) (drop place text.now) (answer_at text.now r)) }
+    ensures reached { IfOk result (λ r. IfSome r (λ p. IsCharBoundary text.now p.1)) }
+{
+    match partial_front(alloc, &text[place..], flavour)? {
+        Some((value, rest)) => Ok(Some((value, text.len() - rest.len()))),
+        None => Ok(None),
+    }
+}
+
+/// The qualifier at the place in the text, which may be empty, and the place that it reaches (node-semver's range
+/// grammar, `qualifier`).
+///
+/// It is an error only where no memory is left.
+pub fn qualifier(
+    alloc: Global,
+    text: &str,
+    place: usize,
+    flavour: Flavour,
+) -> Result<(Qualifier, usize), AllocError>
+    requires { IsCharBoundary text.now place }
+    ensures value { IfOk result (λ r. IsLongest (IsQualifier (strictness_of flavour)) (drop place text.now) r.0 (drop r.1 text.now)) }
+    ensures reached { IfOk result (λ r. IsCharBoundary text.now r.1) }
+{
+    let (qualifier, rest) = lexical::qualifier(alloc, &text[place..], flavour.strictness())?;
+    Ok((qualifier, text.len() - rest.len()))
+}
+
+/// The sign at the place in the text, and the place that it reaches.
+pub fn primitive_kind(text: &str, place: usize) -> Option<(PrimitiveKind, usize)>
+    requires { IsCharBoundary text.now place }
+    ensures value { Reads IsSign (drop place text.now) (answer_at text.now result) }
+    ensures reached { IfSome result (λ p. IsCharBoundary text.now p.1) }
+{
+    let (kind, rest) = sign_front(&text[place..])?;
+    Some((kind, text.len() - rest.len()))
+}
+
+/// The sign and the partial version at the place in the text, with blanks between them or none, and the place that
+/// they reach (node-semver's range grammar, `primitive`).
+///
+/// The value is `Measured::TooLarge` exactly where a number among the components is larger than
+/// 18446744073709551615. It is an error only where no memory is left.
+pub fn primitive(
+    alloc: Global,
+    text: &str,
+    place: usize,
+    flavour: Flavour,
+) -> Result<Option<(Measured<Primitive>, usize)>, AllocError>
+    requires { IsCharBoundary text.now place }
+    ensures value { IfOk result (λ r. ReadsAs sized_primitive (IsPrimitive flavour) (drop place text.now) (answer_at text.now r)) }
+    ensures reached { IfOk result (λ r. IfSome r (λ p. IsCharBoundary text.now p.1)) }
+{
+    match primitive_front(alloc, &text[place..], flavour)? {
+        Some((value, rest)) => Ok(Some((value, text.len() - rest.len()))),
+        None => Ok(None),
+    }
+}

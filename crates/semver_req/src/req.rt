@@ -1,0 +1,129 @@
+//! Requirements of versions.
+
+ghost use Rattle.std.specs.Prelude.{◌≡◌, ◌⊎◌, IfErr, IfOk, None, Some};
+ghost use Rattle.std.specs.Option.{option_copied};
+ghost use Rattle.semver_base.specs.Lexical.{IsBlanks};
+ghost use Rattle.semver_req.specs.Outcome.{IsStrictOutcome, Outcome, Refused};
+ghost use Rattle.semver_req.specs.Requirement.{IsStrictAnswer, IsStrictReading, MeansStrictTrees, Requirement, empty_constraint, inner_means, set_of, tag_of};
+ghost use Rattle.semver_req.specs.Strict.{IsStrictRefusal};
+
+use crate::range_set_or_tag::RangeSetOrTag;
+use crate::specifier::{VersionReqSpecifierParseError, parse_version_req_from_specifier};
+use semver_base::range::VersionRangeSet;
+use semver_base::string::SmallStackString;
+use semver_base::version::Version;
+use std::alloc::{AllocError, Global};
+use std::fmt;
+use std::marker::Model;
+
+/// A requirement of a version: the text that it was read from, and what that stands for.
+///
+/// Two requirements are equal where they stand for the same, whatever their texts are. A requirement is displayed as
+/// its text.
+#[derive(Drop)]
+#[derive_where(PartialEq, Eq, Hash)]
+pub struct VersionReq {
+    #[derive_where(skip)]
+    raw_text: SmallStackString,
+    inner: RangeSetOrTag,
+}
+
+impl Model for VersionReq {
+    ghost use Rattle.semver_req.specs.Requirement.{Requirement};
+
+    ghost Value = { Requirement };
+
+    ghost view = { λ req. record { raw_text = req.raw_text; inner = req.inner } };
+
+    ghost inverse = { λ req. record { raw_text = req.raw_text; inner = req.inner } };
+}
+
+impl VersionReq {
+    /// The requirement that was read from this text, and stands for this.
+    pub fn from_raw_text_and_inner(raw_text: SmallStackString, inner: RangeSetOrTag) -> Self
+        ensures { result ≡ record { raw_text = raw_text; inner = inner } }
+    {
+        VersionReq { raw_text, inner }
+    }
+
+    /// The requirement that the text of a package specifier is, by the strict reader
+    /// ([`parse_version_req_from_specifier`], where each refusal is told).
+    pub fn parse_from_specifier(
+        alloc: Global,
+        text: &str,
+    ) -> Result<Self, VersionReqSpecifierParseError>
+        ensures outcome { IfOk result (λ req. IsStrictReading text.now req.inner) }
+        ensures raw_text { IfOk result (λ req. req.raw_text ≡ text.now) }
+        ensures refused { IfErr result (λ e. (e.source ≡ None) ⊎ IsStrictOutcome text.now Refused) }
+        ensures refusal { IfErr result (λ e. IsStrictRefusal text.now e.source) }
+        ensures answer { (o : Outcome) → IsStrictOutcome text.now o → IsStrictAnswer (λ e. e.source) o result }
+        ensures means { IfOk result (λ req. MeansStrictTrees text.now req.inner) }
+        ensures empty { IsBlanks text.now tt → IfErr result (λ e. (e.source ≡ None) ⊎ (e.source ≡ empty_constraint)) }
+        ensures empty_only { IfErr result (λ e. e.source ≡ empty_constraint → IsBlanks text.now tt) }
+    {
+        parse_version_req_from_specifier(alloc, text)
+    }
+
+    /// What the requirement stands for.
+    pub fn inner(&self) -> &RangeSetOrTag
+        ensures { result.now ≡ self.now.inner }
+    {
+        &self.inner
+    }
+
+    /// The tag, if the requirement is one.
+    pub fn tag(&self) -> Option<&str>
+        ensures { option_copied result ≡ tag_of self.now.inner }
+    {
+        match &self.inner {
+            RangeSetOrTag::RangeSet(_) => None,
+            RangeSetOrTag::Tag(tag) => Some(tag.as_str()),
+        }
+    }
+
+    /// The ranges, if the requirement is no tag.
+    pub fn range(&self) -> Option<&VersionRangeSet>
+        ensures { option_copied result ≡ set_of self.now.inner }
+    {
+        match &self.inner {
+            RangeSetOrTag::RangeSet(set) => Some(set),
+            RangeSetOrTag::Tag(_) => None,
+        }
+    }
+
+    /// The text that the requirement was read from.
+    pub fn version_text(&self) -> &str
+        ensures { result.now ≡ self.now.raw_text }
+    {
+        self.raw_text.as_str()
+    }
+
+    /// Whether the version matches some range of the requirement, which is no tag.
+    pub fn matches(&self, version: &Version) -> bool
+        requires { tag_of self.now.inner ≡ None }
+        ensures { result ≡ inner_means self.now.inner version.now }
+    {
+        match &self.inner {
+            RangeSetOrTag::RangeSet(set) => set.satisfies(version),
+            RangeSetOrTag::Tag(_) => false,
+        }
+    }
+
+    /// The same requirement again. It is an error only where no memory is left.
+    pub fn copy(&self) -> Result<Self, AllocError>
+        ensures { IfOk result (λ req. req ≡ self.now) }
+    {
+        Ok(VersionReq {
+            raw_text: self.raw_text.copy()?,
+            inner: self.inner.copy()?,
+        })
+    }
+}
+
+impl fmt::Display for VersionReq {
+    ghost output = { λ req. Some req.raw_text };
+
+    fn fmt<W: fmt::Write>(&self, f: &mut fmt::Formatter<W>) -> fmt::Result {
+        f.write_str(self.version_text())
+    }
+}

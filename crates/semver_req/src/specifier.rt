@@ -1,0 +1,211 @@
+//! The strict reader, of the requirements in package specifiers.
+
+ghost use Rattle.std.specs.Prelude.{◌≡◌, ◌↔◌, ◌⊎◌, ◌∷◌, [], IfErr, IfOk, IsTrue, None, OnOk, true};
+ghost use Rattle.semver_base.specs.Grammar.{answer_of};
+ghost use Rattle.semver_base.specs.Lexical.{IsBlanks};
+ghost use Rattle.semver_base.specs.PartialTable.{IsBoundRefusal, all_fit};
+ghost use Rattle.semver_req.specs.Comparators.{comparator_line, comparator_range};
+ghost use Rattle.semver_req.specs.Outcome.{IsStrictOutcome, Outcome, Refused};
+ghost use Rattle.semver_req.specs.Requirement.{IsStrictAnswer, IsStrictReading, MeansStrictTrees, empty_constraint};
+ghost use Rattle.semver_req.specs.Strict.{IsMarkCut, IsNoTag, IsStrictFront, IsStrictRefusal, ReadsStrictRange, marked_partial};
+ghost use Rattle.semver_req.specs.Tag.{is_valid_tag};
+
+use crate::common::partial_front;
+use crate::common::values::Flavour;
+use crate::npm::is_valid_npm_tag;
+use crate::range_set_or_tag::RangeSetOrTag;
+use crate::req::VersionReq;
+use semver_base::failure::{ParseFailure, Refusal};
+use semver_base::lexical::values::Measured;
+use semver_base::lexical::{after, after_blanks};
+use semver_base::partial::Partial;
+use semver_base::range::{VersionRange, VersionRangeSet};
+use semver_base::string::{CowVec, SmallStackString};
+use std::alloc::{AllocError, Global};
+use thiserror::Error;
+
+/// Why the text of a package specifier is no requirement, or that memory was wanting.
+#[derive(PartialEq, Eq, Debug, Drop, Error)]
+#[error("Invalid specifier version requirement")]
+pub struct VersionReqSpecifierParseError {
+    #[source]
+    pub source: ParseFailure,
+}
+
+impl VersionReqSpecifierParseError {
+    /// Whether memory was wanting.
+    pub fn is_memory(&self) -> bool
+        ensures { IsTrue result ↔ (self.now.source ≡ None) }
+    {
+        self.source.is_memory()
+    }
+}
+
+// What stands before the partial version of a strict range.
+#[derive(Clone, Copy, Debug, PartialEq, Eq)]
+enum Mark {
+    // `~`
+    Tilde,
+    // `^`
+    Caret,
+    // Nothing, which is the range of the partial version itself.
+    Absent,
+}
+
+impl Mark {
+    // The range of the mark and the partial version after it.
+    fn range(self, alloc: Global, partial: &Partial) -> Result<VersionRange, ParseFailure>
+        ensures range { IfOk result (λ range. range ≡ comparator_range (marked_partial self partial.now)) }
+        ensures fits { OnOk result (all_fit (comparator_line (marked_partial self partial.now)).sums ≡ true) }
+        ensures refused { IfErr result (IsBoundRefusal (comparator_line (marked_partial self partial.now)).sums) }
+    {
+        match self {
+            Mark::Tilde => partial.as_tilde_version_range(alloc),
+            Mark::Caret => partial.as_caret_version_range(alloc),
+            Mark::Absent => partial.as_equal_range(alloc),
+        }
+    }
+}
+
+// The mark at the front, and what follows it.
+fn split_mark(text: &str) -> (Mark, &str)
+    ensures { IsMarkCut text.now result.0 result.1.now }
+{
+    if let Some(rest) = after(text, '~') {
+        return (Mark::Tilde, rest);
+    }
+    if let Some(rest) = after(text, '^') {
+        return (Mark::Caret, rest);
+    }
+    (Mark::Absent, text)
+}
+
+// The strict range at the front, and what follows it.
+fn strict_front(
+    alloc: Global,
+    text: &str,
+) -> Result<Option<((Mark, Measured<Partial>), &str)>, AllocError>
+    ensures { IfOk result (λ r. ReadsStrictRange text.now (answer_of r)) }
+{
+    let (mark, rest) = split_mark(text);
+    match partial_front(alloc, rest, Flavour::Specifier)? {
+        Some((partial, rest)) => Ok(Some(((mark, partial), rest))),
+        None => Ok(None),
+    }
+}
+
+// Whether the text is blanks, or empty.
+fn is_blank(text: &str) -> bool
+    ensures { IsTrue result ↔ IsBlanks text.now tt }
+{
+    after_blanks(text).is_empty()
+}
+
+// The whole text as a tag, or the refusal where it is none.
+fn tag_or(alloc: Global, text: &str, refusal: Refusal) -> Result<RangeSetOrTag, ParseFailure>
+    ensures tag { IfOk result (λ inner. (inner ≡ RangeSetOrTag.Tag text.now) × (is_valid_tag text.now ≡ true)) }
+    ensures no_tag { IfErr result (IsNoTag text.now refusal) }
+{
+    if is_valid_npm_tag(text) {
+        return Ok(RangeSetOrTag::Tag(SmallStackString::from_str(alloc, text)?));
+    }
+    if is_blank(text) {
+        return Err(ParseFailure::of_refusal(alloc, Refusal::EmptyConstraint));
+    }
+    Err(ParseFailure::of_refusal(alloc, refusal))
+}
+
+// The set of one range.
+fn only(alloc: Global, range: VersionRange) -> Result<VersionRangeSet, AllocError>
+    ensures { IfOk result (λ set. set ≡ record { 0 = range ∷ [] }) }
+{
+    let mut ranges = CowVec::new(alloc);
+    ranges.push(range)?;
+    Ok(VersionRangeSet(ranges))
+}
+
+// What is read of a text whose strict range has numbers that fit.
+fn bounded(
+    alloc: Global,
+    text: &str,
+    mark: Mark,
+    partial: &Partial,
+    rest: &str,
+) -> Result<RangeSetOrTag, ParseFailure>
+    requires { IsStrictFront text.now mark (Measured.Fits partial.now) rest.now }
+    ensures reading { IfOk result (IsStrictReading text.now) }
+    ensures refusal { IfErr result (IsStrictRefusal text.now) }
+{
+    match mark.range(alloc, partial) {
+        Ok(range) if rest.is_empty() => Ok(RangeSetOrTag::RangeSet(only(alloc, range)?)),
+        Ok(_) => Err(ParseFailure::of_refusal(alloc, Refusal::UnexpectedCharacter)),
+        Err(failure) if failure.is_memory() => Err(failure),
+        Err(_) => tag_or(alloc, text, Refusal::BoundTooLarge),
+    }
+}
+
+// What is read of a text whose strict range has this mark and partial version.
+fn read_front(
+    alloc: Global,
+    text: &str,
+    mark: Mark,
+    partial: Measured<Partial>,
+    rest: &str,
+) -> Result<RangeSetOrTag, ParseFailure>
+    requires { IsStrictFront text.now mark partial rest.now }
+    ensures reading { IfOk result (IsStrictReading text.now) }
+    ensures refusal { IfErr result (IsStrictRefusal text.now) }
+{
+    match partial {
+        Measured::Fits(partial) => bounded(alloc, text, mark, &partial, rest),
+        Measured::TooLarge => tag_or(alloc, text, Refusal::NumberTooLarge),
+    }
+}
+
+fn read_inner(alloc: Global, text: &str) -> Result<RangeSetOrTag, ParseFailure>
+    ensures reading { IfOk result (IsStrictReading text.now) }
+    ensures refusal { IfErr result (IsStrictRefusal text.now) }
+{
+    match strict_front(alloc, text)? {
+        Some(((mark, partial), rest)) => read_front(alloc, text, mark, partial, rest),
+        None => tag_or(alloc, text, Refusal::UnexpectedCharacter),
+    }
+}
+
+fn read(alloc: Global, text: &str) -> Result<VersionReq, ParseFailure>
+    ensures raw_text { IfOk result (λ req. req.raw_text ≡ text.now) }
+    ensures reading { IfOk result (λ req. IsStrictReading text.now req.inner) }
+    ensures refusal { IfErr result (IsStrictRefusal text.now) }
+{
+    let inner = read_inner(alloc, text)?;
+    let raw_text = SmallStackString::from_str(alloc, text)?;
+    Ok(VersionReq::from_raw_text_and_inner(raw_text, inner))
+}
+
+/// The requirement that the text of a package specifier is: `~` or `^` and a partial version, or a partial version
+/// alone, or else a tag.
+///
+/// Numbers have no leading zeros, a missing component or `x`, `X` or `*` stands for every number, and a pre-release
+/// begins with `-`; the ranges are node-semver's for the same signs. A text that begins with such a range, whose
+/// numbers and bounds fit, is refused with "Unexpected character." where something follows it. Any other text is a tag
+/// where it is a valid one, and is refused otherwise: with "Empty version constraint." where it is blank, with "Number
+/// is too large." or "Version bound is too large." where it begins with a range in which that is so, and else with
+/// "Unexpected character.".
+pub fn parse_version_req_from_specifier(
+    alloc: Global,
+    text: &str,
+) -> Result<VersionReq, VersionReqSpecifierParseError>
+    ensures outcome { IfOk result (λ req. IsStrictReading text.now req.inner) }
+    ensures raw_text { IfOk result (λ req. req.raw_text ≡ text.now) }
+    ensures refused { IfErr result (λ e. (e.source ≡ None) ⊎ IsStrictOutcome text.now Refused) }
+    ensures refusal { IfErr result (λ e. IsStrictRefusal text.now e.source) }
+    ensures answer { (o : Outcome) → IsStrictOutcome text.now o → IsStrictAnswer (λ e. e.source) o result }
+    ensures means { IfOk result (λ req. MeansStrictTrees text.now req.inner) }
+    ensures empty { IsBlanks text.now tt → IfErr result (λ e. (e.source ≡ None) ⊎ (e.source ≡ empty_constraint)) }
+    ensures empty_only { IfErr result (λ e. e.source ≡ empty_constraint → IsBlanks text.now tt) }
+{
+    match read(alloc, text) {
+        Ok(req) => Ok(req),
+        Err(source) => Err(VersionReqSpecifierParseError { source }),
+    }
+}
