@@ -1,10 +1,15 @@
 //! The three grammars of requirements, and the signs of comparators.
 
-ghost use Rattle.std.specs.Prelude.{◌≡◌};
+ghost use Rattle.std.specs.Prelude.{◌≡◌, IfErr, IfOk, OnOk, true};
+ghost use Rattle.semver_base.specs.PartialTable.{IsBoundRefusal, all_fit};
+ghost use Rattle.semver_req.specs.Comparators.{signed_line};
 ghost use Rattle.semver_req.specs.Partials.{strictness_of};
 
+use semver_base::failure::ParseFailure;
 use semver_base::lexical::values::Strictness;
 use semver_base::partial::Partial;
+use semver_base::range::{VersionBoundKind, VersionRange};
+use std::alloc::Global;
 
 /// Which grammar of requirements a text is read by.
 #[derive(Clone, Copy, Debug, PartialEq, Eq)]
@@ -51,4 +56,31 @@ pub enum PrimitiveKind {
 pub struct Primitive {
     pub kind: PrimitiveKind,
     pub partial: Partial,
+}
+
+impl Primitive {
+    /// The range of the comparator (node-semver's primitives).
+    ///
+    /// The refusal "Version bound is too large." comes exactly where a number that the range raises is past
+    /// 18446744073709551615; any other failure is want of memory.
+    pub fn into_version_range(self, alloc: Global) -> Result<VersionRange, ParseFailure>
+        ensures range { IfOk result (λ range. range ≡ (signed_line self.kind self.partial).range) }
+        ensures fits { OnOk result (all_fit (signed_line self.kind self.partial).sums ≡ true) }
+        ensures refused { IfErr result (IsBoundRefusal (signed_line self.kind self.partial).sums) }
+    {
+        let partial = self.partial;
+        match self.kind {
+            PrimitiveKind::Equal => partial.as_equal_range(alloc),
+            PrimitiveKind::GreaterThan => {
+                partial.as_greater_than(alloc, VersionBoundKind::Exclusive)
+            }
+            PrimitiveKind::GreaterThanOrEqual => {
+                partial.as_greater_than(alloc, VersionBoundKind::Inclusive)
+            }
+            PrimitiveKind::LessThan => partial.as_less_than(alloc, VersionBoundKind::Exclusive),
+            PrimitiveKind::LessThanOrEqual => {
+                partial.as_less_than(alloc, VersionBoundKind::Inclusive)
+            }
+        }
+    }
 }

@@ -1,0 +1,18 @@
+//! Versions and version requirements of npm and JSR packages: how they are read, compared and matched.
+//!
+//! A verified port of the crate `deno_semver`. What each call promises stands in the contracts of the crates below,
+//! `semver_base` and `semver_req`; this crate shows their public names at the paths that users write.
+#![tactic(auto)]
+
+pub mod npm;
+
+pub use semver_base::failure::{ParseFailure, Refusal};
+pub use semver_base::partial::{Partial, XRange};
+pub use semver_base::range::{
+    RangeBound, VersionBound, VersionBoundKind, VersionRange, VersionRangeSet,
+};
+pub use semver_base::string::{CowItem, CowVec, SmallStackString};
+pub use semver_base::version::{Version, VersionParseError, VersionPreOrBuild};
+pub use semver_req::range_set_or_tag::{PackageTag, RangeSetOrTag};
+pub use semver_req::req::VersionReq;
+pub use semver_req::specifier::VersionReqSpecifierParseError;

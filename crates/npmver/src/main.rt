@@ -1,0 +1,131 @@
+//! `npmver` answers questions about versions and version requirements of npm and JSR packages.
+//!
+//! `npmver fits strict REQ VERSION` prints `yes` (status 0) where the version matches the requirement, which is read by
+//! the strict reader, `no` (1) where it doesn't, and `tag NAME` (2) where the requirement is a tag. A refusal prints
+//! `refused: MESSAGE` on standard error (3); other words print the usage line there (4), want of memory
+//! `out of memory` (5). The status is 6 where standard output can't be written.
+#![tactic(auto)]
+
+use deno_semver::{ParseFailure, Version, VersionReq};
+use std::alloc::Global;
+use std::env::Env;
+use std::io::{ErrorKind, Write};
+use std::process::ExitCode;
+use std::{env, io};
+
+const USAGE: &str = "usage: npmver fits|normal|meet ..";
+
+/// The answer to a question.
+#[derive(Drop)]
+enum Answer {
+    Yes,
+    No,
+    /// The requirement is a tag.
+    Tag(VersionReq),
+}
+
+/// Why a question has no answer.
+#[derive(Drop)]
+enum Problem {
+    /// The words are none that the program knows.
+    Usage,
+    /// A requirement or a version was refused.
+    Refused(ParseFailure),
+    OutOfMemory,
+}
+
+impl From<ParseFailure> for Problem {
+    fn from(failure: ParseFailure) -> Problem {
+        if failure.is_memory() {
+            Problem::OutOfMemory
+        } else {
+            Problem::Refused(failure)
+        }
+    }
+}
+
+/// Answers the question that the words ask, as one line on `out`, or tells on `err` why there is no answer. Answers the
+/// exit status.
+pub fn run<O: Write, E: Write>(alloc: Global, words: &[String], out: &mut O, err: &mut E) -> u8 {
+    match answer(alloc, words) {
+        Ok(answer) => print(out, &answer),
+        Err(problem) => explain(err, &problem),
+    }
+}
+
+fn answer(alloc: Global, words: &[String]) -> Result<Answer, Problem> {
+    let [command, reader, requirement, version] = words else {
+        return Err(Problem::Usage);
+    };
+    if command.as_str() != "fits" || reader.as_str() != "strict" {
+        return Err(Problem::Usage);
+    }
+    fits(alloc, requirement.as_str(), version.as_str())
+}
+
+// Whether the version matches the requirement. Both are read, the requirement first.
+fn fits(alloc: Global, requirement: &str, version: &str) -> Result<Answer, Problem> {
+    let requirement = match VersionReq::parse_from_specifier(alloc, requirement) {
+        Ok(requirement) => requirement,
+        Err(error) => return Err(Problem::from(error.source)),
+    };
+    let version = match Version::parse_standard(alloc, version) {
+        Ok(version) => version,
+        Err(error) => return Err(Problem::from(error.source)),
+    };
+    if requirement.tag().is_some() {
+        return Ok(Answer::Tag(requirement));
+    }
+    Ok(if requirement.matches(&version) {
+        Answer::Yes
+    } else {
+        Answer::No
+    })
+}
+
+// Prints an answer, and answers its status, or 6 where it can't be written.
+fn print<O: Write>(out: &mut O, answer: &Answer) -> u8 {
+    let (written, status) = match answer {
+        Answer::Yes => (writeln!(out, "yes"), 0),
+        Answer::No => (writeln!(out, "no"), 1),
+        Answer::Tag(requirement) => (writeln!(out, "tag {}", requirement.tag().unwrap_or("")), 2),
+    };
+    match written {
+        Ok(()) => status,
+        Err(_) => 6,
+    }
+}
+
+// Tells of a problem, and answers its status, which a failure to write doesn't change.
+fn explain<E: Write>(err: &mut E, problem: &Problem) -> u8 {
+    let (written, status) = match problem {
+        Problem::Usage => (writeln!(err, "{USAGE}"), 4),
+        Problem::Refused(failure) => (writeln!(err, "refused: {}", failure.message()), 3),
+        Problem::OutOfMemory => (writeln!(err, "out of memory"), 5),
+    };
+    let _ = written;
+    status
+}
+
+// The words after the program's name.
+fn words_after_name<R: Env + AllocGlobal>(rt: &R) -> io::Result<Vec<String>> {
+    let mut words = Vec::new(rt.alloc());
+    for word in env::args(rt)?.skip(1) {
+        words.push(word)?;
+    }
+    Ok(words)
+}
+
+fn main(rt: HostRuntime) -> ExitCode {
+    let mut out = io::writer(&rt);
+    let mut err = rt.stderr();
+    let status = match words_after_name(&rt) {
+        Ok(words) => run(rt.alloc(), words.as_slice(), &mut out, &mut err),
+        Err(e) if e.kind() == ErrorKind::OutOfMemory => explain(&mut err, &Problem::OutOfMemory),
+        Err(_) => explain(&mut err, &Problem::Usage),
+    };
+    ExitCode::from(status)
+}
+
+#[cfg(test)]
+mod tests;
