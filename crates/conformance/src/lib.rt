@@ -11,6 +11,8 @@ mod precedence;
 #[cfg(test)]
 mod ranges;
 #[cfg(test)]
+mod rows;
+#[cfg(test)]
 mod shown;
 #[cfg(test)]
 mod strict;

@@ -1,6 +1,6 @@
 //! The ranges that partial versions stand for.
 
-use crate::shown;
+use crate::{rows, shown};
 use semver_base::failure::ParseFailure;
 use semver_base::partial::{Partial, XRange};
 use semver_base::range::{VersionBoundKind, VersionRange};
@@ -103,13 +103,13 @@ from-exclusive 1.w.w-a => (1.0.0, 2.0.0)
 fn ranges_of_partials(rt: HostRuntime) -> Result<(), Fail> {
     let alloc = rt.alloc();
     for line in RANGES.lines() {
-        let (question, expected) = line.split_once(" => ").ok_or("no row")?;
+        let (question, expected) = rows::pair(line)?;
         let (call, text) = question.split_once(" ").ok_or("no row")?;
         let shown = match called(alloc, &partial(alloc, text)?, call) {
             Ok(range) => shown::range(alloc, &range)?,
             Err(failure) => String::from_str(alloc, failure.message())?,
         };
-        assert_eq!(rt; shown.as_str(), expected, "{line}");
+        rows::shows(&rt, line, shown.as_str(), expected);
     }
     Ok(())
 }
@@ -128,14 +128,19 @@ w.18446744073709551615.w => ..)
 fn bounds_of_partials(rt: HostRuntime) -> Result<(), Fail> {
     let alloc = rt.alloc();
     for line in UPPER.lines() {
-        let (text, expected) = line.split_once(" => ").ok_or("no row")?;
+        let (text, expected) = rows::pair(line)?;
         let shown = match partial(alloc, text)?.as_upper_bound(alloc) {
             Ok(end) => shown::end(alloc, &end)?,
             Err(failure) => String::from_str(alloc, failure.message())?,
         };
-        assert_eq!(rt; shown.as_str(), expected, "{line}");
+        rows::shows(&rt, line, shown.as_str(), expected);
     }
     let lower = partial(alloc, "w.2.w-a")?.as_lower_bound(alloc)?;
-    assert_eq!(rt; shown::start(alloc, &lower)?.as_str(), "[0.2.0-a+build");
+    rows::shows(
+        &rt,
+        "w.2.w-a",
+        shown::start(alloc, &lower)?.as_str(),
+        "[0.2.0-a+build",
+    );
     Ok(())
 }

@@ -1,6 +1,6 @@
 //! How versions compare.
 
-use semver_base::string::CowVec;
+use crate::rows;
 use semver_base::version::{Version, VersionPreOrBuild};
 use std::alloc::{AllocError, Global};
 use std::cmp::Ordering;
@@ -103,37 +103,40 @@ v2.0.0 => 1.2.3
 1.0.0-a => 1.0.0-99999999999999999999
 ";
 
-fn compared(alloc: Global, a: &str, b: &str) -> Result<Ordering, Fail> {
+// How two version texts compare by precedence, as a sign.
+fn compared(alloc: Global, a: &str, b: &str) -> Result<&'static str, Fail> {
     let a = Version::parse_standard(alloc, a)?;
     let b = Version::parse_standard(alloc, b)?;
-    Ok(a.cmp_precedence(&b))
+    Ok(sign_of(a.cmp_precedence(&b)))
+}
+
+fn sign_of(ordering: Ordering) -> &'static str {
+    match ordering {
+        Ordering::Less => "below",
+        Ordering::Equal => "equal",
+        Ordering::Greater => "above",
+    }
 }
 
 #[test]
 fn equal_versions(rt: HostRuntime) -> Result<(), Fail> {
+    let alloc = rt.alloc();
     for line in EQUAL.lines() {
-        let (a, b) = line.split_once(" => ").ok_or("no row")?;
-        assert_eq!(rt; compared(rt.alloc(), a, b)?, Ordering::Equal, "{a} and {b}");
-        assert_eq!(rt; compared(rt.alloc(), b, a)?, Ordering::Equal, "{b} and {a}");
+        let (a, b) = rows::pair(line)?;
+        rows::shows(&rt, line, compared(alloc, a, b)?, "equal");
+        rows::shows(&rt, line, compared(alloc, b, a)?, "equal");
     }
     Ok(())
 }
 
 #[test]
 fn different_versions(rt: HostRuntime) -> Result<(), Fail> {
+    let alloc = rt.alloc();
     for line in ABOVE.lines() {
-        let (a, b) = line.split_once(" => ").ok_or("no row")?;
-        assert_eq!(rt;
-            compared(rt.alloc(), a, b)?,
-            Ordering::Greater,
-            "{a} and {b}"
-        );
-        assert_eq!(rt; compared(rt.alloc(), b, a)?, Ordering::Less, "{b} and {a}");
-        assert_eq!(rt;
-            compared(rt.alloc(), a, a)?,
-            Ordering::Equal,
-            "{a} and itself"
-        );
+        let (a, b) = rows::pair(line)?;
+        rows::shows(&rt, line, compared(alloc, a, b)?, "above");
+        rows::shows(&rt, line, compared(alloc, b, a)?, "below");
+        rows::shows(&rt, line, compared(alloc, a, a)?, "equal");
     }
     Ok(())
 }
@@ -147,34 +150,53 @@ fn pre_release(alloc: Global, identifier: &str) -> Result<Version, AllocError> {
     Ok(version)
 }
 
-// Identifiers that no text gives: a number may have one `+`, and the empty text is the least text.
+// Identifiers that no text gives, each below the next one: a number may have one `+`, and the empty text is the least
+// text.
+const BY_HAND: &str = "\
++1 => 01
+01 => 1
+1 => +2
++2 => 10
+10 =>\x20
+ => +
++ => ++1
+++1 => \u{e9}
+";
+
 #[test]
 fn identifiers_made_by_hand(rt: HostRuntime) -> Result<(), Fail> {
     let alloc = rt.alloc();
-    let ascending: [&str; 9] = ["+1", "01", "1", "+2", "10", "", "+", "++1", "\u{e9}"];
-    for (i, low) in ascending.iter().enumerate() {
-        for (j, high) in ascending.iter().enumerate() {
-            let ordering = pre_release(alloc, low)?.cmp_precedence(&pre_release(alloc, high)?);
-            assert_eq!(rt; ordering, i.cmp(&j), "{low} and {high}");
-        }
+    for line in BY_HAND.lines() {
+        let (a, b) = rows::pair(line)?;
+        let low = pre_release(alloc, a)?;
+        let high = pre_release(alloc, b)?;
+        rows::shows(&rt, line, sign_of(low.cmp_precedence(&high)), "below");
+        rows::shows(&rt, line, sign_of(high.cmp_precedence(&low)), "above");
+        rows::shows(&rt, line, sign_of(low.cmp_precedence(&low)), "equal");
     }
     Ok(())
 }
 
-// The order of versions tells builds apart, each list by its texts.
+// Versions, each below the next one in the order that tells builds apart.
+const BY_BUILD: &str = "\
+1.0.0-a => 1.0.0
+1.0.0 => 1.0.0+1
+1.0.0+1 => 1.0.0+1.0
+1.0.0+1.0 => 1.0.0+a
+";
+
 #[test]
 fn builds_break_ties(rt: HostRuntime) -> Result<(), Fail> {
     let alloc = rt.alloc();
-    let ascending: [&str; 5] = ["1.0.0-a", "1.0.0", "1.0.0+1", "1.0.0+1.0", "1.0.0+a"];
-    for (i, low) in ascending.iter().enumerate() {
-        for (j, high) in ascending.iter().enumerate() {
-            let low = Version::parse_standard(alloc, low)?;
-            let high = Version::parse_standard(alloc, high)?;
-            assert_eq!(rt; low.cmp(&high), i.cmp(&j));
-            assert_eq!(rt; low == high, i == j);
-        }
+    for line in BY_BUILD.lines() {
+        let (a, b) = rows::pair(line)?;
+        let low = Version::parse_standard(alloc, a)?;
+        let high = Version::parse_standard(alloc, b)?;
+        rows::shows(&rt, line, sign_of(low.cmp(&high)), "below");
+        rows::shows(&rt, line, sign_of(high.cmp(&low)), "above");
+        rows::shows(&rt, line, sign_of(low.cmp(&low.copy()?)), "equal");
+        rows::holds(&rt, line, low == high, "no");
+        rows::holds(&rt, line, low == low.copy()?, "yes");
     }
-    let empty: CowVec<VersionPreOrBuild> = CowVec::new(alloc);
-    assert!(rt; empty.is_empty());
     Ok(())
 }

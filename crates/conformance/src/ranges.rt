@@ -1,6 +1,6 @@
 //! Which versions ranges match.
 
-use crate::shown;
+use crate::{rows, shown};
 use semver_base::range::{VersionRange, VersionRangeSet};
 use semver_base::string::CowVec;
 use semver_base::version::Version;
@@ -35,11 +35,10 @@ const MATCHES: &str = "\
 fn ranges_match(rt: HostRuntime) -> Result<(), Fail> {
     let alloc = rt.alloc();
     for line in MATCHES.lines() {
-        let (range, rest) = line.split_once(" => ").ok_or("no row")?;
-        let (version, answer) = rest.split_once(" => ").ok_or("no row")?;
+        let (range, version, answer) = rows::triple(line)?;
         let version = Version::parse_standard(alloc, version)?;
         let matches = shown::read_range(alloc, range)?.satisfies(&version);
-        assert_eq!(rt; matches, answer == "yes", "{line}");
+        rows::holds(&rt, line, matches, answer);
     }
     Ok(())
 }
@@ -70,12 +69,11 @@ const ADMITS: &str = "\
 fn bounds_admit_pre_releases_of_their_numbers(rt: HostRuntime) -> Result<(), Fail> {
     let alloc = rt.alloc();
     for line in ADMITS.lines() {
-        let (start, rest) = line.split_once(" => ").ok_or("no row")?;
-        let (version, answer) = rest.split_once(" => ").ok_or("no row")?;
+        let (start, version, answer) = rows::triple(line)?;
         let start = shown::read_start(alloc, start)?;
         let version = Version::parse_standard(alloc, version)?;
         let admits = start.has_pre_with_exact_major_minor_patch(&version);
-        assert_eq!(rt; admits, answer == "yes", "{line}");
+        rows::holds(&rt, line, admits, answer);
     }
     Ok(())
 }
@@ -95,50 +93,71 @@ const CLAMPED: &str = "\
 fn ranges_clamp(rt: HostRuntime) -> Result<(), Fail> {
     let alloc = rt.alloc();
     for line in CLAMPED.lines() {
-        let (range, rest) = line.split_once(" => ").ok_or("no row")?;
-        let (other, expected) = rest.split_once(" => ").ok_or("no row")?;
+        let (range, other, expected) = rows::triple(line)?;
         let other = shown::read_range(alloc, other)?;
         let clamped = shown::read_range(alloc, range)?.clamp(alloc, &other)?;
-        assert_eq!(rt; shown::range(alloc, &clamped)?.as_str(), expected, "{line}");
+        rows::shows(&rt, line, shown::range(alloc, &clamped)?.as_str(), expected);
     }
     Ok(())
 }
 
-// Two starts or two ends, the two clamped.
+// A start, and what it is clamped to by `[1.0.0+b`.
+const STARTS: &str = "\
+[1.0.0+a => [1.0.0+b
+(1.0.0+a => (1.0.0+a
+[0.9.0 => [1.0.0+b
+[1.1.0 => [1.1.0
+(.. => [1.0.0+b
+";
+
+// An end, and what it is clamped to by `1.0.0+b]`.
+const ENDS: &str = "\
+1.0.0+a] => 1.0.0+b]
+1.0.0+a) => 1.0.0+a)
+0.9.0] => 0.9.0]
+1.1.0) => 1.0.0+b]
+..) => 1.0.0+b]
+";
+
 #[test]
 fn bounds_clamp(rt: HostRuntime) -> Result<(), Fail> {
     let alloc = rt.alloc();
-    for (start, expected) in [
-        ("[1.0.0+a", "[1.0.0+b"),
-        ("(1.0.0+a", "(1.0.0+a"),
-        ("[0.9.0", "[1.0.0+b"),
-        ("(..", "[1.0.0+b"),
-    ] {
-        let other = shown::read_start(alloc, "[1.0.0+b")?;
+    let other = shown::read_start(alloc, "[1.0.0+b")?;
+    for line in STARTS.lines() {
+        let (start, expected) = rows::pair(line)?;
         let clamped = shown::read_start(alloc, start)?.clamp_start(alloc, &other)?;
-        assert_eq!(rt; shown::start(alloc, &clamped)?.as_str(), expected);
+        rows::shows(&rt, line, shown::start(alloc, &clamped)?.as_str(), expected);
     }
-    for (end, expected) in [
-        ("1.0.0+a]", "1.0.0+b]"),
-        ("1.0.0+a)", "1.0.0+a)"),
-        ("0.9.0]", "0.9.0]"),
-        ("..)", "1.0.0+b]"),
-    ] {
-        let other = shown::read_end(alloc, "1.0.0+b]")?;
+    let other = shown::read_end(alloc, "1.0.0+b]")?;
+    for line in ENDS.lines() {
+        let (end, expected) = rows::pair(line)?;
         let clamped = shown::read_end(alloc, end)?.clamp_end(alloc, &other)?;
-        assert_eq!(rt; shown::end(alloc, &clamped)?.as_str(), expected);
+        rows::shows(&rt, line, shown::end(alloc, &clamped)?.as_str(), expected);
     }
     Ok(())
 }
+
+// A range, and whether its end is exclusive and at the numbers 0.0.0.
+const NONE: &str = "\
+(.., 0.0.0-alpha) => yes
+[0.0.0, 0.0.0) => yes
+(.., 0.0.0] => no
+(.., 0.0.1) => no
+(.., ..) => no
+";
 
 #[test]
 fn ranges_that_no_release_matches(rt: HostRuntime) -> Result<(), Fail> {
     let alloc = rt.alloc();
-    assert!(rt; shown::read_range(alloc, "(.., 0.0.0-alpha)")?.is_none());
-    assert!(rt; VersionRange::none(alloc).is_none());
-    assert!(rt; !shown::read_range(alloc, "(.., 0.0.0]")?.is_none());
-    assert!(rt; !shown::read_range(alloc, "(.., 0.0.1)")?.is_none());
-    assert!(rt; !VersionRange::all().is_none());
+    for line in NONE.lines() {
+        let (range, answer) = rows::pair(line)?;
+        rows::holds(
+            &rt,
+            line,
+            shown::read_range(alloc, range)?.is_none(),
+            answer,
+        );
+    }
     Ok(())
 }
 
@@ -160,11 +179,10 @@ const STANDS_BETWEEN: &str = "\
 fn versions_stand_between_bounds(rt: HostRuntime) -> Result<(), Fail> {
     let alloc = rt.alloc();
     for line in STANDS_BETWEEN.lines() {
-        let (range, rest) = line.split_once(" => ").ok_or("no row")?;
-        let (version, answer) = rest.split_once(" => ").ok_or("no row")?;
+        let (range, version, answer) = rows::triple(line)?;
         let version = Version::parse_standard(alloc, version)?;
         let stands = shown::read_range(alloc, range)?.intersects_version(&version);
-        assert_eq!(rt; stands, answer == "yes", "{line}");
+        rows::holds(&rt, line, stands, answer);
     }
     Ok(())
 }
@@ -190,14 +208,13 @@ const OVERLAP: &str = "\
 fn ranges_overlap(rt: HostRuntime) -> Result<(), Fail> {
     let alloc = rt.alloc();
     for line in OVERLAP.lines() {
-        let (range, rest) = line.split_once(" => ").ok_or("no row")?;
-        let (other, answer) = rest.split_once(" => ").ok_or("no row")?;
+        let (range, other, answer) = rows::triple(line)?;
         let range = shown::read_range(alloc, range)?;
         let other = shown::read_range(alloc, other)?;
-        assert_eq!(rt; range.intersects_range(&other), answer == "yes", "{line}");
-        assert_eq!(rt; other.intersects_range(&range), answer == "yes", "{line}");
+        rows::holds(&rt, line, range.intersects_range(&other), answer);
+        rows::holds(&rt, line, other.intersects_range(&range), answer);
         let (one, two) = (set_of(alloc, range)?, set_of(alloc, other)?);
-        assert_eq!(rt; one.intersects_set(&two), answer == "yes", "{line}");
+        rows::holds(&rt, line, one.intersects_set(&two), answer);
     }
     Ok(())
 }

@@ -1,5 +1,6 @@
 //! How the strict reader reads requirements, and what they match.
 
+use crate::rows;
 use semver_base::version::Version;
 use semver_req::req::VersionReq;
 use std::test::Fail;
@@ -71,17 +72,17 @@ X.1.2 => 3.0.0 => yes
 fn requirements_match(rt: HostRuntime) -> Result<(), Fail> {
     let alloc = rt.alloc();
     for line in MATCHES.lines() {
-        let (requirement, rest) = line.split_once(" => ").ok_or("no row")?;
-        let (version, answer) = rest.split_once(" => ").ok_or("no row")?;
-        let expected = answer == "yes";
+        let (requirement, version, answer) = rows::triple(line)?;
         let req = VersionReq::parse_from_specifier(alloc, requirement)?;
         let version = Version::parse_standard(alloc, version)?;
-        assert_eq!(rt; req.version_text(), requirement);
-        assert_eq!(rt; req.range().ok_or("no ranges")?.satisfies(&version), expected, "{requirement}");
-        assert!(rt; req.tag().is_none());
-        if req.tag().is_none() {
-            assert_eq!(rt; req.matches(&version), expected, "{requirement}");
-        }
+        rows::shows(&rt, line, req.version_text(), requirement);
+        rows::shows(&rt, line, req.tag().unwrap_or("no tag"), "no tag");
+        rows::holds(
+            &rt,
+            line,
+            req.tag().is_none() && req.matches(&version),
+            answer,
+        );
     }
     Ok(())
 }
@@ -110,9 +111,9 @@ fn reads_tags(rt: HostRuntime) -> Result<(), Fail> {
     let alloc = rt.alloc();
     for text in TAGS.lines() {
         let req = VersionReq::parse_from_specifier(alloc, text)?;
-        assert_eq!(rt; req.tag().ok_or("no tag")?, text);
-        assert_eq!(rt; req.version_text(), text);
-        assert!(rt; req.range().is_none());
+        rows::shows(&rt, text, req.tag().unwrap_or("no tag"), text);
+        rows::shows(&rt, text, req.version_text(), text);
+        rows::holds(&rt, text, req.range().is_none(), "yes");
     }
     Ok(())
 }
@@ -152,11 +153,13 @@ foo bar => Unexpected character.
 fn refuses(rt: HostRuntime) -> Result<(), Fail> {
     let alloc = rt.alloc();
     for line in REFUSED.lines() {
-        let (text, message) = line.split_once(" => ").ok_or("no row")?;
-        let error = VersionReq::parse_from_specifier(alloc, text).err().ok_or("read")?;
-        assert!(rt; !error.is_memory());
-        assert_eq!(rt; error.source.message(), message, "{text}");
-        assert!(rt; error.source.code_snippet().is_none());
+        let (text, message) = rows::pair(line)?;
+        let error = VersionReq::parse_from_specifier(alloc, text)
+            .err()
+            .ok_or("read")?;
+        rows::holds(&rt, line, error.is_memory(), "no");
+        rows::shows(&rt, line, error.source.message(), message);
+        rows::holds(&rt, line, error.source.code_snippet().is_none(), "yes");
     }
     Ok(())
 }

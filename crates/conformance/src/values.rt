@@ -4,7 +4,7 @@ use semver_base::failure::{ParseFailure, Refusal};
 use semver_base::range::{RangeBound, VersionBound, VersionBoundKind, VersionRange};
 use semver_base::string::{CowItem, CowVec, SmallStackString};
 use semver_base::version::{Version, VersionParseError};
-use semver_req::npm::tag::is_valid_npm_tag;
+use semver_req::npm::is_valid_npm_tag;
 use semver_req::range_set_or_tag::RangeSetOrTag;
 use semver_req::req::VersionReq;
 use semver_req::specifier::VersionReqSpecifierParseError;
@@ -118,10 +118,29 @@ fn requirements(rt: HostRuntime) -> Result<(), Fail> {
 
 #[test]
 fn tags(rt: HostRuntime) {
-    for valid in ["latest", "v1.0", "~", "-", ".", "a_b", "\u{2168}\u{661}", "n\u{e9}"] {
+    for valid in [
+        "latest",
+        "v1.0",
+        "~",
+        "-",
+        ".",
+        "a_b",
+        "\u{2168}\u{661}",
+        "n\u{e9}",
+    ] {
         assert!(rt; is_valid_npm_tag(valid), "{valid}");
     }
-    for invalid in ["", " ", "\u{3000}", "SD&*($#&%*(#*$%", "a b", "^1", "a/b", "e\u{301}", "\u{1f980}"] {
+    for invalid in [
+        "",
+        " ",
+        "\u{3000}",
+        "SD&*($#&%*(#*$%",
+        "a b",
+        "^1",
+        "a/b",
+        "e\u{301}",
+        "\u{1f980}",
+    ] {
         assert!(rt; !is_valid_npm_tag(invalid), "{invalid}");
     }
 }

@@ -1,6 +1,6 @@
 //! How version texts are read and refused.
 
-use crate::shown;
+use crate::{rows, shown};
 use semver_base::version::Version;
 use std::test::Fail;
 
@@ -79,10 +79,14 @@ fn message_of(kind: &str) -> &'static str {
 fn reads_versions(rt: HostRuntime) -> Result<(), Fail> {
     let alloc = rt.alloc();
     for line in READ.lines() {
-        let (text, expected) = line.split_once(" => ").ok_or("no row")?;
+        let (text, expected) = rows::pair(line)?;
         let version = Version::parse_standard(alloc, text)?;
-        let shown = shown::version(alloc, &version)?;
-        assert_eq!(rt; shown.as_str(), expected, "{text}");
+        rows::shows(
+            &rt,
+            line,
+            shown::version(alloc, &version)?.as_str(),
+            expected,
+        );
     }
     Ok(())
 }
@@ -91,15 +95,15 @@ fn reads_versions(rt: HostRuntime) -> Result<(), Fail> {
 fn refuses_what_is_no_version(rt: HostRuntime) -> Result<(), Fail> {
     let alloc = rt.alloc();
     for line in REFUSED.lines() {
-        let (text, refusal) = line.split_once(" => ").ok_or("no row")?;
-        let (kind, snippet) = refusal.split_once(" => ").ok_or("no row")?;
+        let (text, kind, snippet) = rows::triple(line)?;
         let error = Version::parse_standard(alloc, text).err().ok_or("read")?;
-        assert!(rt; !error.is_memory());
-        assert_eq!(rt; error.source.message(), message_of(kind), "{text}");
-        assert_eq!(rt;
+        rows::holds(&rt, line, error.is_memory(), "no");
+        rows::shows(&rt, line, error.source.message(), message_of(kind));
+        rows::shows(
+            &rt,
+            line,
             error.source.code_snippet().unwrap_or(""),
             snippet,
-            "{text}"
         );
     }
     Ok(())

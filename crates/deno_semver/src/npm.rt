@@ -1,3 +1,3 @@
 //! What is special to npm packages.
 
-pub use semver_req::npm::tag::is_valid_npm_tag;
+pub use semver_req::npm::is_valid_npm_tag;

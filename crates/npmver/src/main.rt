@@ -47,13 +47,13 @@ impl From<ParseFailure> for Problem {
 /// Answers the question that the words ask, as one line on `out`, or tells on `err` why there is no answer. Answers the
 /// exit status.
 pub fn run<O: Write, E: Write>(alloc: Global, words: &[String], out: &mut O, err: &mut E) -> u8 {
-    match answer(alloc, words) {
+    match ask(alloc, words) {
         Ok(answer) => print(out, &answer),
         Err(problem) => explain(err, &problem),
     }
 }
 
-fn answer(alloc: Global, words: &[String]) -> Result<Answer, Problem> {
+fn ask(alloc: Global, words: &[String]) -> Result<Answer, Problem> {
     let [command, reader, requirement, version] = words else {
         return Err(Problem::Usage);
     };

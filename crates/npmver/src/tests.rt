@@ -26,8 +26,20 @@ const STRICT: [(&str, &str, &str, &str, u8); 13] = [
     ("1beta", "1.0.0", "", "refused: Unexpected character.\n", 3),
     ("^0.0.0-pre", "0.0.0-pre", "yes\n", "", 0),
     ("^0.0.0-pre", "0.0.1", "no\n", "", 1),
-    ("^18446744073709551616", "1.0.0", "", "refused: Number is too large.\n", 3),
-    ("^18446744073709551615", "1.0.0", "", "refused: Version bound is too large.\n", 3),
+    (
+        "^18446744073709551616",
+        "1.0.0",
+        "",
+        "refused: Number is too large.\n",
+        3,
+    ),
+    (
+        "^18446744073709551615",
+        "1.0.0",
+        "",
+        "refused: Version bound is too large.\n",
+        3,
+    ),
     (
         "1",
         "1.0",
@@ -46,8 +58,16 @@ fn answers_whether_a_version_fits(rt: HostRuntime) -> Result<(), Fail> {
         let mut err = Vec::new(alloc);
         let answer = run(alloc, words.as_slice(), &mut out, &mut err);
         assert_eq!(rt; answer, status, "the status of {requirement} and {version}");
-        assert_eq!(rt; out.as_slice(), printed.as_bytes(), "{requirement} and {version}");
-        assert_eq!(rt; err.as_slice(), told.as_bytes(), "{requirement} and {version}");
+        assert_eq!(rt;
+            out.as_slice(),
+            printed.as_bytes(),
+            "{requirement} and {version}"
+        );
+        assert_eq!(rt;
+            err.as_slice(),
+            told.as_bytes(),
+            "{requirement} and {version}"
+        );
     }
     Ok(())
 }
@@ -69,7 +89,10 @@ fn tells_how_it_is_used(rt: HostRuntime) -> Result<(), Fail> {
         let mut err = Vec::new(alloc);
         assert_eq!(rt; run(alloc, words.as_slice(), &mut out, &mut err), 4);
         assert!(rt; out.is_empty());
-        assert_eq!(rt; err.as_slice(), b"usage: npmver fits|normal|meet ..\n".as_slice());
+        assert_eq!(rt;
+            err.as_slice(),
+            b"usage: npmver fits|normal|meet ..\n".as_slice()
+        );
     }
     Ok(())
 }
@@ -96,7 +119,10 @@ fn status_where_nothing_can_be_written(rt: HostRuntime) -> Result<(), Fail> {
     assert!(rt; told.is_empty());
     let refused = words_of(alloc, &["fits", "strict", "1beta", "1.0.0"])?;
     let mut printed = Vec::new(alloc);
-    assert_eq!(rt; run(alloc, refused.as_slice(), &mut printed, &mut Broken), 3);
+    assert_eq!(rt;
+        run(alloc, refused.as_slice(), &mut printed, &mut Broken),
+        3
+    );
     assert!(rt; printed.is_empty());
     Ok(())
 }
