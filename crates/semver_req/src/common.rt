@@ -189,7 +189,7 @@ pub fn partial_front(
     }
 }
 
-// The sign that begins with `mark`, where `rest` follows that.
+// The sign `with_equal` where a `=` comes next, else the sign `alone`; and what follows it.
 fn with_equal(rest: &str, alone: PrimitiveKind, with_equal: PrimitiveKind) -> (PrimitiveKind, &str)
     ensures { IsMaybeEqual rest.now alone with_equal result.0 result.1.now }
 {
