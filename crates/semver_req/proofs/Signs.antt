@@ -15,7 +15,7 @@ use Rattle.semver_req.specs.declared.common.values.Flavour.{Flavour}
 use Rattle.semver_req.specs.declared.common.values.Flavour.TheVariants.{Npm, Normal, Specifier}
 use Rattle.semver_req.specs.declared.common.values.PrimitiveKind.{PrimitiveKind}
 use Rattle.semver_req.specs.declared.common.values.PrimitiveKind.TheVariants.{GreaterThan, LessThan, GreaterThanOrEqual, LessThanOrEqual, Equal}
-use Rattle.semver_req.proofs.Blanks.{blanks_made, is_blank_byte}
+use Rattle.semver_base.proofs.Blanks.{blanks_made, is_blank_byte}
 use Rattle.semver_req.proofs.Components.{is_component_byte}
 use Rattle.semver_req.proofs.Partials.{partial_begins}
 

@@ -31,7 +31,7 @@ use Rattle.semver_req.specs.declared.range_set_or_tag.RangeSetOrTag.{RangeSetOrT
 use Rattle.semver_req.specs.declared.range_set_or_tag.RangeSetOrTag.TheVariants as inner
 use Rattle.semver_req.specs.declared.specifier.Mark.{Mark}
 use Rattle.semver_req.specs.declared.specifier.Mark.TheVariants as mark
-use Rattle.semver_req.proofs.Blanks.{blanks_made, is_blank_byte}
+use Rattle.semver_base.proofs.Blanks.{blanks_made, is_blank_byte}
 use Rattle.semver_req.proofs.Components.{is_component_byte}
 use Rattle.semver_req.proofs.Outcomes.{some_or_none}
 use Rattle.semver_req.proofs.Partials.{partial_begins, partial_some}
