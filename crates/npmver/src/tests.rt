@@ -98,6 +98,7 @@ fn tells_how_it_is_used(rt: HostRuntime) -> Result<(), Fail> {
 }
 
 // A writer to which nothing can be written.
+#[derive(Drop)]
 struct Broken;
 
 impl Write for Broken {

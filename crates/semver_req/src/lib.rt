@@ -5,6 +5,7 @@
 #![tactic(auto)]
 
 pub mod common;
+pub mod laws;
 pub mod npm;
 pub mod range_set_or_tag;
 pub mod req;
