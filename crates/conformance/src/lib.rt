@@ -7,6 +7,8 @@ mod hostile;
 #[cfg(test)]
 mod partials;
 #[cfg(test)]
+mod places;
+#[cfg(test)]
 mod precedence;
 #[cfg(test)]
 mod ranges;

@@ -10,7 +10,7 @@ use Rattle.semver_base.specs.Lexical.{IsBuild, IsLooseNumber, IsLoosePre, IsNumb
 use Rattle.semver_base.specs.declared.lexical.values.Qualifier.{Qualifier}
 use Rattle.semver_base.specs.declared.lexical.values.Strictness.{Strictness}
 use Rattle.semver_base.specs.declared.lexical.values.Strictness.TheVariants.{Loose, Strict}
-use Rattle.semver_base.proofs.Fronts.{Apart, NoClash, NonEmpty, followed, joined, joined_none_first, mapped, marked_none, marked_other, marked_some, optional_none, optional_some}
+use Rattle.semver_base.proofs.Fronts.{Apart, NoClash, NonEmpty, followed, mapped, marked_none, marked_other, marked_some, optional_none, optional_some}
 use Rattle.semver_base.proofs.Bytes.{BeginsBy, Disjoint, MadeOf, apart_by, begins_from_made, begins_wider, joined_begins_either, mapped_begins, goes_from_made, marked_begins, marked_made, optional_begins, optional_goes}
 use Rattle.semver_base.proofs.Parts.{is_parts_byte, parts_made, parts_some}
 use Rattle.semver_base.proofs.Numbers.{loose_begins, loose_end, loose_goes, loose_some}

@@ -1,17 +1,17 @@
 -- How the version reader's steps give the outcome of a text, and why it is the only one.
-use Rattle.std.proofs.Common.{◌≡◌, ◌≤◌, ◌<◌, ◌^◌, ℕ, Bool, true, List, [], ◌∷◌, ◌++◌, length, Option, Some, None, Result, Ok, Err, refl, sym, ap, ◌∙◌, arith, inl, inr, ◌==◌, append_assoc, append-nil, length-append}
+use Rattle.std.proofs.Common.{◌≡◌, ◌<◌, ◌^◌, ℕ, Bool, true, List, [], ◌∷◌, ◌++◌, length, Option, None, Result, Ok, Err, refl, sym, ap, ◌∙◌, arith, inl, inr, ◌==◌, append_assoc, append-nil, length-append}
 use Rattle.std.specs.Prelude.{◌||◌, ◌⊎◌, slice_index}
 use Rattle.std.specs.Char.{is_ascii_digit}
 use Rattle.std.specs.Str.Parse.{digits_value}
-use Rattle.std.proofs.lemmas.Bool.{eq-eqb, false_from_ne_true, or_left, or_right}
+use Rattle.std.proofs.lemmas.Bool.{false_from_ne_true, or_left, or_right}
 use Rattle.std.proofs.lemmas.Bool.Decides.{nat_tests}
 use Rattle.std.proofs.lemmas.List.{nil_from_length}
 use Rattle.semver_base.specs.Grammar.{After, Followed, HasNone, IsLongest, IsSeen, Joined, Mapped, Marked, Optional, Run, Stops}
 use Rattle.semver_base.specs.Lexical.{IsBlanks, IsByte, IsLooseNumber, IsQualifier}
 use Rattle.semver_base.specs.VersionGrammar.{AllNumbersFit, IsFirstFault, IsLead, IsNumberFault, too_large, no_dot, later, IsTriple, IsVersion, IsVersionAnswer, IsVersionOutcome, is_version, is_fault, is_outside, IsVersionRefusal, LacksDot, NoDigitFollows, ignored, version_failure, version_of}
-use Rattle.semver_base.specs.VersionSteps.{HasLargeNumber, IsFaultOfNumbers, IsFittingNumber, IsFittingTriple, IsNumberRefusal, IsOutsideTriple, IsReadVersion, IsTripleRefusal}
+use Rattle.semver_base.specs.VersionSteps.{IsFaultOfNumbers, IsFittingNumber, IsFittingTriple, IsNumberRefusal, IsOutsideTriple, IsReadVersion, IsTripleRefusal}
 use Rattle.semver_base.specs.declared.failure.Refusal.{Refusal}
-use Rattle.semver_base.specs.declared.failure.Refusal.TheVariants.{UnexpectedCharacter, MissingMinor, MissingPatch, NumberTooLarge}
+use Rattle.semver_base.specs.declared.failure.Refusal.TheVariants.{UnexpectedCharacter, MissingMinor, MissingPatch}
 use Rattle.semver_base.specs.declared.lexical.values.Qualifier.{Qualifier}
 use Rattle.semver_base.specs.declared.lexical.values.Strictness.TheVariants.{Loose}
 use Rattle.semver_base.specs.declared.version.Version.{Version}

@@ -1,6 +1,6 @@
 -- The grammar of version texts, and which fault of a text is the first from the left. Source: SemVer 2.0.0, section 2
 -- and its grammar, in the loose form of node-semver: leading `=`, `v` and zeros, a pre-release without `-`.
-use Rattle.std.specs.Prelude.{◌≡◌, ◌≤◌, ◌<◌, ◌^◌, ℕ, List, [], ◌∷◌, Bool, true, ◌&&◌, Option, Some, None, Result, Ok, Err, ◌⊎◌, MatchResult, IsErrAnd, slice_index}
+use Rattle.std.specs.Prelude.{◌≡◌, ◌≤◌, ◌<◌, ◌^◌, ℕ, List, [], ◌∷◌, true, Option, Some, None, Result, Ok, Err, ◌⊎◌, MatchResult, IsErrAnd, slice_index}
 use Rattle.std.specs.Char.{is_ascii_digit}
 use Rattle.semver_base.specs.Failure.{refusal_message}
 use Rattle.semver_base.specs.Grammar.{After, Followed, IsLongest, Joined, Mapped, Marked, Optional}

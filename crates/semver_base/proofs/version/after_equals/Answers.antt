@@ -1,4 +1,4 @@
-use Rattle.std.proofs.Common.{Some, None, refl}
+use Rattle.std.proofs.Common.{Some, refl}
 use Rattle.semver_base.proofs.Fronts.{optional_some}
 use Rattle.semver_base.proofs.Parts.{byte_longest, byte_some}
 use Rattle.semver_base.proofs.version.after_equals.Goals as goal

@@ -1,4 +1,4 @@
-use Rattle.std.proofs.Common.{Some, None, refl}
+use Rattle.std.proofs.Common.{Some, refl}
 use Rattle.semver_base.proofs.Bytes.{marked_some_text}
 use Rattle.semver_base.proofs.Fronts.{marked_some, optional_some}
 use Rattle.semver_base.proofs.version.after_v.Goals as goal
