@@ -3,6 +3,7 @@
 use crate::rows;
 use semver_base::version::Version;
 use semver_req::req::VersionReq;
+use semver_req::specifier::VersionReqSpecifierParseError;
 use std::alloc::{AllocError, Global};
 use std::test::Fail;
 
@@ -25,19 +26,23 @@ a. => tag => Unexpected character.
 ^ => refused => Unexpected character.
 ";
 
+fn outcome_of(read: &Result<VersionReq, VersionReqSpecifierParseError>) -> &'static str {
+    match read {
+        Ok(req) if req.tag().is_some() => "tag",
+        Ok(_) => "ranges",
+        Err(error) if error.is_memory() => "memory",
+        Err(_) => "refused",
+    }
+}
+
 #[test]
 fn long_texts(rt: HostRuntime) -> Result<(), Fail> {
     let alloc = rt.alloc();
     for line in PIECES.lines() {
         let (piece, outcome, message) = rows::triple(line)?;
         let text = repeated(alloc, piece, 1_000_000)?;
-        let answer = match VersionReq::parse_from_specifier(alloc, text.as_str()) {
-            Ok(req) if req.tag().is_some() => "tag",
-            Ok(_) => "ranges",
-            Err(error) if error.is_memory() => "memory",
-            Err(_) => "refused",
-        };
-        rows::shows(&rt, line, answer, outcome);
+        let read = VersionReq::parse_from_specifier(alloc, text.as_str());
+        rows::shows(&rt, line, outcome_of(&read), outcome);
         let error = Version::parse_standard(alloc, text.as_str())
             .err()
             .ok_or("read")?;
