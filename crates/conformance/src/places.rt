@@ -61,6 +61,7 @@ fn partial_versions(rt: HostRuntime) -> Result<(), Fail> {
     let alloc = rt.alloc();
     for line in PARTIALS.lines() {
         let (name, text, expected) = rows::triple(line)?;
+        assert!(rt; text.is_char_boundary(0));
         let answer = match common::partial(alloc, text, 0, flavour(name))? {
             None => String::from_str(alloc, "none")?,
             Some((value, reached)) => {
@@ -126,6 +127,7 @@ fn primitives(rt: HostRuntime) -> Result<(), Fail> {
     let alloc = rt.alloc();
     for line in PRIMITIVES.lines() {
         let (text, expected_sign, expected) = rows::triple(line)?;
+        assert!(rt; text.is_char_boundary(0));
         let read = match common::primitive_kind(text, 0) {
             Some((kind, _)) => sign(kind),
             None => "none",
