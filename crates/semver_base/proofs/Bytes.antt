@@ -176,7 +176,7 @@ list_all_there : (p : ℕ → Bool) (a more : List ℕ) (x : ℕ) → list_all p
 list_all_there p [] more x h = (and_parts (p x) (list_all p more) h).0
 list_all_there p (y ∷ a) more x h = list_all_there p a more x (and_parts (p y) (list_all p (a ++ (x ∷ more))) h).1
 
-list_all-wider : (p q : ℕ → Bool) → ((x : ℕ) → p x ≡ true → q x ≡ true) → (xs : List ℕ) → list_all p xs ≡ true → list_all q xs ≡ true
+pub list_all-wider : (p q : ℕ → Bool) → ((x : ℕ) → p x ≡ true → q x ≡ true) → (xs : List ℕ) → list_all p xs ≡ true → list_all q xs ≡ true
 list_all-wider p q w [] h = refl
 list_all-wider p q w (x ∷ xs) h = let both = and_parts (p x) (list_all p xs) h in and_from (q x) (list_all q xs) (w x both.0) (list_all-wider p q w xs both.1)
 

@@ -11,5 +11,10 @@ pub mod OverlapLemmas
 pub mod Parts
 pub mod PrecedenceLemmas
 pub mod Qualifiers
+pub mod Readings
+pub mod Solid
+pub mod Trims
 pub mod Triples
 pub mod VersionReading
+pub mod WordReadings
+pub mod WrittenVersions

@@ -12,7 +12,7 @@ passes_there : (p : ℕ → Bool) (a more : List ℕ) (x : ℕ) → list_all p (
 passes_there p [] more x h = (and_parts (p x) (list_all p more) h).0
 passes_there p (y ∷ a) more x h = passes_there p a more x (and_parts (p y) (list_all p (a ++ (x ∷ more))) h).1
 
-stops_here : {T : Type 0} (p : ℕ → Bool) (x : ℕ) (more rest b : List ℕ) → Stops p rest → rest ≡ (x ∷ more) ++ b → p x ≡ true → T
+pub stops_here : {T : Type 0} (p : ℕ → Bool) (x : ℕ) (more rest b : List ℕ) → Stops p rest → rest ≡ (x ∷ more) ++ b → p x ≡ true → T
 stops_here p x more [] b s e h = cc e
 stops_here p x more (y ∷ r) b s e h = let same_byte : y ≡ x = cc in absurd (both_ways (p x) (rw same_byte at s) h)
 
@@ -123,10 +123,10 @@ pub record IsListing {V : Type 0} (A : List ℕ → V → Type 0) (S : List ℕ 
   pub after_separator : Disjoint t p
 
 module _ {V : Type 0} {A : List ℕ → V → Type 0} {S : List ℕ → Unit {0} → Type 0} {p q s t : ℕ → Bool} (is : IsListing A S p q s t) where
-  separator_apart : Apart S (Optional (Listed A S))
+  pub separator_apart : Apart S (Optional (Listed A S))
   separator_apart = apart_by t p is.after_separator is.separator_goes (optional_begins (listed_begins is.item_some is.item_begins))
 
-  item_apart : Apart A (Optional (Followed S (Optional (Listed A S))))
+  pub item_apart : Apart A (Optional (Followed S (Optional (Listed A S))))
   item_apart = apart_by q s is.after_item is.item_goes (optional_begins (joined_begins is.separator_some is.separator_begins))
 
   pub listed_last : {text middle : List ℕ} {v : V} → IsLongest A text v middle → HasNone S middle → IsLongest (Listed A S) text (v ∷ []) middle

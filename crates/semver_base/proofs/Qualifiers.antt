@@ -105,7 +105,7 @@ pre_some Strict = record { some = λ v h. h }
 plus_apart : Disjoint is_parts_byte (λ x. x == 43)
 plus_apart x h k = grind (arith, nat_tests)
 
-pre_build_apart : (s : Strictness) → Apart (Optional (IsPre s)) (Optional IsBuild)
+pub pre_build_apart : (s : Strictness) → Apart (Optional (IsPre s)) (Optional IsBuild)
 pre_build_apart s = apart_by is_parts_byte (λ x. x == 43) plus_apart (optional_goes (begins_from_made (pre_made s)) (goes_from_made (pre_made s))) (optional_begins (marked_begins 43))
 
 pub optional_read : {A : List ℕ → List (List ℕ) → Type 0} {text rest : List ℕ} {v : List (List ℕ)} → NonEmpty A → IsLongest A text v rest → IsSeen or_none (Optional A) text v rest

@@ -18,10 +18,10 @@ use Rattle.semver_req.specs.Partials.{IsComponent, IsThird, component_of, is_wil
 use Rattle.semver_req.specs.declared.common.values.Flavour.{Flavour}
 use Rattle.semver_req.specs.declared.common.values.Flavour.TheVariants.{Npm, Normal, Specifier}
 
-is_loose : (f : Flavour) (a : List ℕ) (n : ℕ) → IsNumber (strictness_of f) a n → IsLooseNumber a n
+pub is_loose : (f : Flavour) (a : List ℕ) (n : ℕ) → IsNumber (strictness_of f) a n → IsLooseNumber a n
 is_loose f a n h = number_is_loose (strictness_of f) a n h
 
-wildcard_no_digit : (f : Flavour) (b : ℕ) → is_wildcard f b ≡ true → is_ascii_digit b ≡ true → ⊥
+pub wildcard_no_digit : (f : Flavour) (b : ℕ) → is_wildcard f b ≡ true → is_ascii_digit b ≡ true → ⊥
 wildcard_no_digit Npm b h k = grind (arith, nat_tests)
 wildcard_no_digit Normal b h k = grind (arith, nat_tests)
 wildcard_no_digit Specifier b h k = grind (arith, nat_tests)
@@ -106,7 +106,7 @@ component_some f = record { some = go }
 abbrev pub is_component_byte : ℕ → Bool
 is_component_byte x = is_ascii_digit x || ((x == 42) || (x == 120) || (x == 88))
 
-wildcard_wider : (f : Flavour) (x : ℕ) → is_wildcard f x ≡ true → is_component_byte x ≡ true
+pub wildcard_wider : (f : Flavour) (x : ℕ) → is_wildcard f x ≡ true → is_component_byte x ≡ true
 wildcard_wider Npm x h = or_right (is_ascii_digit x) ((x == 42) || (x == 120) || (x == 88)) h
 wildcard_wider Normal x h = or_right (is_ascii_digit x) ((x == 42) || (x == 120) || (x == 88)) (or_left ((x == 42) || (x == 120)) (x == 88) (or_left (x == 42) (x == 120) h))
 wildcard_wider Specifier x h = or_right (is_ascii_digit x) ((x == 42) || (x == 120) || (x == 88)) h
@@ -140,7 +140,7 @@ component_end Npm {v = v} p (y ∷ q) rest w e h = λ d g. loose_component_end N
 component_end Normal {v = v} p (y ∷ q) rest w e h = λ d g. loose_component_end Normal v p y (q ++ rest) (λ a m l. l) e d g
 component_end Specifier p (y ∷ q) rest w e h = λ d g. strict_no_digit y q w h g
 
-component_clash : (f : Flavour) → NoClash IsNumberEnd (IsComponent f) (IsQualifier (strictness_of f))
+pub component_clash : (f : Flavour) → NoClash IsNumberEnd (IsComponent f) (IsQualifier (strictness_of f))
 component_clash f = record {
   apart = λ a m b x v u w short long h seam.
       seam (component_goes_first f x a m v u short long) ((component_goes f).goes x (record { front = a; more = m; short_value = v; long_value = u; short = short; long = long }));

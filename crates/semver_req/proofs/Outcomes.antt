@@ -30,7 +30,7 @@ fits_or_not p q f g = absurd (let same = (one_front p q).0 in let h : true ≡ f
 whole_or_not : {T : Type 0} {text rest : List ℕ} {c d : Comparator} → IsLongest IsStrictRange text c [] → IsLongest IsStrictRange text d rest → 0 < length rest → T
 whole_or_not p q some = absurd (omega (arith, some, ap length (one_front p q).1))
 
-one_tag : {text : List ℕ} {o u : Outcome} → IsTagOr text o → IsTagOr text u → o ≡ u
+pub one_tag : {text : List ℕ} {o u : Outcome} → IsTagOr text o → IsTagOr text u → o ≡ u
 one_tag (tag f) (tag g) = refl
 one_tag (tag f) (no_tag g) = cc
 one_tag (no_tag f) (tag g) = cc

@@ -30,7 +30,7 @@ optional_unseen or h = record { value = None; longest = optional_none h; seen = 
 digit_no_dot : Disjoint is_ascii_digit (λ x. x == 46)
 digit_no_dot x h k = grind (arith, nat_tests)
 
-component_dot_apart : {V : Type 0} {A : List ℕ → V → Type 0} (f : Flavour) → Apart (IsComponent f) (Optional (Marked 46 A))
+pub component_dot_apart : {V : Type 0} {A : List ℕ → V → Type 0} (f : Flavour) → Apart (IsComponent f) (Optional (Marked 46 A))
 component_dot_apart f = apart_by is_ascii_digit (λ x. x == 46) digit_no_dot (component_goes f) (optional_begins (marked_begins 46))
 
 pub second_read : (f : Flavour) {text after middle rest : List ℕ} {minor patch : Measured XRange} {q : Qualifier} → text ≡ 46 ∷ after → IsSeen sized_component (IsComponent f) after minor middle → IsSeen third_or_none (Optional (IsThird f)) middle (patch, q) rest → IsSeen sized_second (IsSecond f) text (minor, patch, q) rest
@@ -72,7 +72,7 @@ partial_begins f = mapped_begins (joined_begins (component_some f) (component_be
 pub partial_some : (f : Flavour) → NonEmpty (IsPlainPartial f)
 partial_some f = mapped_some_text (joined_some_text (component_some f))
 
-no_v : (x : ℕ) → x ≡ 118 → is_component_byte x ≡ true → ⊥
+pub no_v : (x : ℕ) → x ≡ 118 → is_component_byte x ≡ true → ⊥
 no_v x e h = grind (arith, nat_tests)
 
 pub led_by_v : (text rest : List ℕ) (r : Option (Measured Partial × List ℕ)) → text ≡ 118 ∷ rest → ReadsAs sized_partial (IsPlainPartial Npm) rest r → ReadsAs sized_partial (IsPartial Npm) text r

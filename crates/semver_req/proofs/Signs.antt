@@ -49,13 +49,13 @@ sign_goes = record { goes = λ x o. second_byte x o.front o.more o.long_value (l
 
 -- ---- a sign, blanks and a partial version
 
-abbrev is_partial_byte : ℕ → Bool
+abbrev pub is_partial_byte : ℕ → Bool
 is_partial_byte x = is_component_byte x || (x == 118)
 
 plain_begins : (f : Flavour) → BeginsBy (IsPlainPartial f) is_partial_byte
 plain_begins f = begins_wider is_component_byte is_partial_byte (λ x h. or_left (is_component_byte x) (x == 118) h) (partial_begins f)
 
-any_begins : (f : Flavour) → BeginsBy (IsPartial f) is_partial_byte
+pub any_begins : (f : Flavour) → BeginsBy (IsPartial f) is_partial_byte
 any_begins Npm = either_begins (begins_wider (λ x. x == 118) is_partial_byte (λ x h. or_right (is_component_byte x) (x == 118) h) (marked_begins 118)) (plain_begins Npm)
 any_begins Normal = plain_begins Normal
 any_begins Specifier = plain_begins Specifier
@@ -63,7 +63,7 @@ any_begins Specifier = plain_begins Specifier
 blank_no_partial : Disjoint is_blank_byte is_partial_byte
 blank_no_partial x h k = grind (arith, nat_tests)
 
-blanks_apart : (f : Flavour) → Apart IsBlanks (IsPartial f)
+pub blanks_apart : (f : Flavour) → Apart IsBlanks (IsPartial f)
 blanks_apart f = apart_by is_blank_byte is_partial_byte blank_no_partial (goes_from_made blanks_made) (any_begins f)
 
 abbrev is_led_byte : ℕ → Bool
@@ -77,7 +77,7 @@ led_begins f = mapped_begins (joined_begins_either
 equal_no_led : Disjoint (λ x. x == 61) is_led_byte
 equal_no_led x h k = grind (arith, nat_tests)
 
-sign_apart : (f : Flavour) → Apart IsSign (After IsBlanks (IsPartial f))
+pub sign_apart : (f : Flavour) → Apart IsSign (After IsBlanks (IsPartial f))
 sign_apart f = apart_by (λ x. x == 61) is_led_byte equal_no_led sign_goes (led_begins f)
 
 pub primitive_read : (f : Flavour) {text middle start rest : List ℕ} {kind : PrimitiveKind} {answer : Measured Partial} → IsLongest IsSign text kind middle → IsLongest IsBlanks middle tt start → IsSeen sized_partial (IsPartial f) start answer rest → IsSeen sized_primitive (IsPrimitive f) text (primitive_of kind answer) rest

@@ -1,7 +1,14 @@
 pub mod Comparators
+pub mod KeptSet
+pub mod NormalTable
+pub mod NormalText
 pub mod Outcome
 pub mod Partials
 pub mod Pieces
+pub mod ReadRanges
 pub mod Requirement
-pub mod Tag
+pub mod Rereading
+pub mod Settled
+pub mod Shortest
 pub mod Strict
+pub mod Tag

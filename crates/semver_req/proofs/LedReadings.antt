@@ -1,0 +1,125 @@
+-- What leads the partial version of npm's tildes and carets, as a rule that can be read from left to right.
+use Rattle.std.proofs.Common.{◌≡◌, ℕ, Bool, List, [], ◌∷◌, ◌++◌, Option, Some, None, refl, sym, ap, ◌∙◌, arith, append_assoc, ◌==◌}
+use Rattle.std.specs.Prelude.{◌||◌}
+use Rattle.std.specs.Char.{is_not_whitespace}
+use Rattle.std.proofs.lemmas.Bool.{or_left, or_right}
+use Rattle.std.proofs.lemmas.Bool.Decides.{nat_tests}
+use Rattle.std.proofs.lemmas.Str.{NoCharPasses-append, NoCharPasses-nil}
+use Rattle.semver_base.specs.Grammar.{After, Either, this, that, HasNone, IsLongest, Marked, Optional, ReadsAs}
+use Rattle.semver_base.specs.Lexical.{IsBlanks, IsByte}
+use Rattle.semver_base.specs.declared.partial.Partial.{Partial}
+use Rattle.semver_base.proofs.Blanks.{blanks_made, is_blank_byte}
+use Rattle.semver_base.proofs.Bytes.{BeginsBy, Disjoint, apart_by, begins_from_made, begins_wider, either_begins, goes_from_made, joined_begins_either, mapped_begins, marked_begins, none_by_byte}
+use Rattle.semver_base.proofs.Fronts.{Apart, either_none, either_that, either_this, followed, followed_none_second, mapped, mapped_none, marked_none, marked_other, marked_some, narrowed, narrowed_none}
+use Rattle.semver_base.proofs.Readings.{after_maps, after_of, after_parts}
+use Rattle.semver_req.specs.Comparators.{IsEquals, IsLed}
+use Rattle.semver_req.specs.Partials.{IsPartial, IsPlainPartial}
+use Rattle.semver_req.specs.declared.common.values.Flavour.TheVariants.{Npm}
+use Rattle.semver_req.proofs.ComparatorReadings.{equals_made, is_sign_byte}
+use Rattle.semver_req.proofs.Components.{is_component_byte}
+use Rattle.semver_req.proofs.Partials.{no_v, partial_begins, partial_some}
+use Rattle.semver_req.proofs.Signs.{blanks_apart}
+
+-- after the blanks: a `v`, blanks and a partial version, which may have its own `v`, or a plain one
+abbrev pub IsAfterBlanks : List ℕ → Partial → Type 0
+IsAfterBlanks = Either (Marked 118 (After IsBlanks (IsPartial Npm))) (IsPlainPartial Npm)
+
+abbrev pub IsOrderedLed : List ℕ → Partial → Type 0
+IsOrderedLed = After IsEquals (After IsBlanks IsAfterBlanks)
+
+-- the same, as `IsLed` has it
+abbrev IsAfterMaybeV : List ℕ → Partial → Type 0
+IsAfterMaybeV = After (Optional (IsByte 118)) (After IsBlanks (IsPartial Npm))
+
+blanks_append : (a b : List ℕ) → IsBlanks a tt → IsBlanks b tt → IsBlanks (a ++ b) tt
+blanks_append a b h k = NoCharPasses-append is_not_whitespace a b h k
+
+-- a partial version, with its own `v` or without, has no blanks in front
+partial_after : (t : List ℕ) (p : Partial) → IsPartial Npm t p → IsAfterBlanks t p
+partial_after [] p (this h) = absurd h
+partial_after (x ∷ t) p (this h) = this (h.0, after_of [] t tt p (NoCharPasses-nil is_not_whitespace) (that h.1))
+partial_after t p (that h) = that h
+
+to_ordered : (text : List ℕ) (p : Partial) → After IsBlanks IsAfterMaybeV text p → After IsBlanks IsAfterBlanks text p
+to_ordered text p h = go middle.2 middle.4
+  where
+    outer : (a : List ℕ) × (b : List ℕ) × (v : Unit {0}) × (text ≡ a ++ b) × IsBlanks a v × IsAfterMaybeV b p
+    outer = after_parts h
+
+    middle : (a : List ℕ) × (b : List ℕ) × (v : Option (Unit {0})) × (outer.1 ≡ a ++ b) × Optional (IsByte 118) a v × After IsBlanks (IsPartial Npm) b p
+    middle = after_parts outer.5
+
+    go : (o : Option (Unit {0})) → Optional (IsByte 118) middle.0 o → After IsBlanks IsAfterBlanks text p
+    go None nil =
+        let inner = after_parts middle.5 in
+        let whole : text ≡ (outer.0 ++ inner.0) ++ inner.1 = outer.3 ∙ (ap (λ t. outer.0 ++ t) (middle.3 ∙ (ap (λ t. t ++ middle.1) nil ∙ inner.3)) ∙ sym (append_assoc outer.0 inner.0 inner.1)) in
+        rw whole (after_of (outer.0 ++ inner.0) inner.1 tt p (blanks_append outer.0 inner.0 outer.4 inner.4) (partial_after inner.1 p inner.5))
+    go (Some u) byte =
+        let whole : text ≡ outer.0 ++ (118 ∷ middle.1) = outer.3 ∙ ap (λ t. outer.0 ++ t) (middle.3 ∙ ap (λ t. t ++ middle.1) byte) in
+        rw whole (after_of outer.0 (118 ∷ middle.1) tt p outer.4 (this (refl, middle.5)))
+
+from_ordered : (t : List ℕ) (p : Partial) → IsAfterBlanks t p → IsAfterMaybeV t p
+from_ordered [] p (this k) = absurd k
+from_ordered (x ∷ t) p (this k) = after_of (x ∷ []) t (Some tt) p (ap (λ y. y ∷ []) k.0) k.1
+from_ordered t p (that k) = after_of [] t None p refl (after_of [] t tt p (NoCharPasses-nil is_not_whitespace) (that k))
+
+-- both rules relate the same texts to the same values
+pub led_to : (text : List ℕ) (p : Partial) → IsLed text p → IsOrderedLed text p
+led_to text p h = after_maps to_ordered text p h
+
+pub led_from : (text : List ℕ) (p : Partial) → IsOrderedLed text p → IsLed text p
+led_from text p h = after_maps (after_maps from_ordered) text p h
+
+pub led_longest : {text rest : List ℕ} {p : Partial} → IsLongest IsOrderedLed text p rest → IsLongest IsLed text p rest
+led_longest {p = p} h = narrowed IsLed led_to h (led_from h.front p h.stands)
+
+pub led_none : {text : List ℕ} → HasNone IsOrderedLed text → HasNone IsLed text
+led_none h = narrowed_none IsLed led_to h
+
+-- ---- how it is read: any number of `=`, blanks, and then by whether a `v` follows
+
+abbrev is_after_byte : ℕ → Bool
+is_after_byte x = (x == 118) || is_component_byte x
+
+after_begins : BeginsBy IsAfterBlanks is_after_byte
+after_begins = either_begins
+    (begins_wider (λ x. x == 118) is_after_byte (λ x h. or_left (x == 118) (is_component_byte x) h) (marked_begins 118))
+    (begins_wider is_component_byte is_after_byte (λ x h. or_right (x == 118) (is_component_byte x) h) (partial_begins Npm))
+
+blank_no_after : Disjoint is_blank_byte is_after_byte
+blank_no_after x h k = grind (arith, nat_tests)
+
+blanks_after : Apart IsBlanks IsAfterBlanks
+blanks_after = apart_by is_blank_byte is_after_byte blank_no_after (goes_from_made blanks_made) after_begins
+
+abbrev is_led_byte : ℕ → Bool
+is_led_byte x = is_blank_byte x || is_after_byte x
+
+sign_no_led : Disjoint is_sign_byte is_led_byte
+sign_no_led x h k = grind (arith, nat_tests)
+
+equals_led : Apart IsEquals (After IsBlanks IsAfterBlanks)
+equals_led = apart_by is_sign_byte is_led_byte sign_no_led (goes_from_made equals_made) (mapped_begins (joined_begins_either
+    (begins_wider is_blank_byte is_led_byte (λ x h. or_left (is_blank_byte x) (is_after_byte x) h) (begins_from_made blanks_made))
+    (begins_wider is_after_byte is_led_byte (λ x h. or_right (is_blank_byte x) (is_after_byte x) h) after_begins)))
+
+module _ {X : Type 0} (see : Partial → X) where
+  -- a `v`, and the partial version after its blanks
+  pub after_v : {text middle start : List ℕ} (r : Option (X × List ℕ)) → text ≡ 118 ∷ middle → IsLongest IsBlanks middle tt start → ReadsAs see (IsPartial Npm) start r → ReadsAs see IsAfterBlanks text r
+  after_v {text} {middle} {start} r e b p = go r p
+    where
+      plain : HasNone (IsPlainPartial Npm) text
+      plain = none_by_byte (partial_some Npm) (partial_begins Npm) text (λ x t f k. no_v x (cc) k)
+
+      go : (r : Option (X × List ℕ)) → ReadsAs see (IsPartial Npm) start r → ReadsAs see IsAfterBlanks text r
+      go None h = either_none (marked_none e (mapped_none (followed_none_second (blanks_apart Npm) b h))) plain
+      go (Some q) h = record { value = h.value; longest = either_this (marked_some e (mapped (followed (blanks_apart Npm) b h.longest))) plain; seen = h.seen }
+
+  -- no `v`
+  pub after_no_v : {text : List ℕ} (r : Option (X × List ℕ)) → ((rest : List ℕ) → text ≡ 118 ∷ rest → ⊥) → ReadsAs see (IsPlainPartial Npm) text r → ReadsAs see IsAfterBlanks text r
+  after_no_v None other h = either_none (marked_other other) h
+  after_no_v (Some p) other h = record { value = h.value; longest = either_that (marked_other other) h.longest; seen = h.seen }
+
+  pub led_read : {text middle start : List ℕ} (r : Option (X × List ℕ)) → IsLongest IsEquals text tt middle → IsLongest IsBlanks middle tt start → ReadsAs see IsAfterBlanks start r → ReadsAs see IsLed text r
+  led_read None e b h = led_none (mapped_none (followed_none_second equals_led e (mapped_none (followed_none_second blanks_after b h))))
+  led_read (Some p) e b h = record { value = h.value; longest = led_longest (mapped (followed equals_led e (mapped (followed blanks_after b h.longest)))); seen = h.seen }

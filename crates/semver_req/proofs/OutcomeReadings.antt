@@ -1,0 +1,118 @@
+-- Each text has one outcome, by the definitions alone.
+use Rattle.std.proofs.Common.{◌≡◌, ◌<◌, ℕ, Bool, List, [], ◌∷◌, length, refl, sym, ap, ◌∙◌, arith, inl, inr, length-append}
+use Rattle.std.specs.Str.{IsTrim}
+use Rattle.semver_base.proofs.Fronts.{one_front, same_fronts}
+use Rattle.semver_base.proofs.Trims.{one_trim}
+use Rattle.semver_req.specs.Comparators.{Comparator}
+use Rattle.semver_req.specs.Outcome.{AreGoodOnes, none_left, good, bad, IsBad, IsGood, IsOutcome, one_good, one_bad, npm_many, normal_many, normal_refused, IsTagOr, Outcome, Ranges}
+use Rattle.semver_req.specs.Pieces.{AreMorePieces, no_piece, last_piece, cut_piece, ArePieces, one_piece, first_cut, HasNoBar, IsCutAt, IsTrimmed}
+use Rattle.semver_req.specs.declared.common.values.Flavour.{Flavour}
+use Rattle.semver_req.proofs.Outcomes.{one_tag}
+use Rattle.semver_req.proofs.PieceReadings.{blank_piece, piece_one}
+
+-- ---- how a text is cut
+
+cut_one : {text piece more rest end : List ℕ} → IsCutAt text piece rest → IsCutAt text more end → (piece ≡ more) × (rest ≡ end)
+cut_one {text} {piece} {more} {rest} {end} p q =
+    let even : length piece ≡ length more = omega (arith, p.leftmost more end q.text_is, q.leftmost piece rest p.text_is) in
+    let both = same_fronts piece more (124 ∷ 124 ∷ rest) (124 ∷ 124 ∷ end) (sym p.text_is ∙ q.text_is) even in
+    (both.0, cc (both.1))
+
+no_cut : {T : Type 0} {text piece rest : List ℕ} → HasNoBar text → IsCutAt text piece rest → T
+no_cut {piece = piece} {rest = rest} n c = absurd (n piece rest c.text_is)
+
+trimmed_one : {text rest end : List ℕ} → IsTrimmed text rest → IsTrimmed text end → rest ≡ end
+trimmed_one p q = (one_front p.longest q.longest).1
+
+cut_some : {text piece rest : List ℕ} → IsCutAt text piece rest → 0 < length text
+cut_some {piece = piece} {rest = rest} c = omega (arith, ap length c.text_is, length-append piece (124 ∷ 124 ∷ rest))
+
+none_some : {T : Type 0} (text : List ℕ) → [] ≡ text → 0 < length text → T
+none_some text e some = absurd (omega (arith, ap length e))
+
+more_pieces_one : (x y : List ℕ) (ps qs : List (List ℕ)) → x ≡ y → AreMorePieces x ps → AreMorePieces y qs → ps ≡ qs
+more_pieces_one x y ps qs e (no_piece t) (no_piece u) = refl
+more_pieces_one x y ps qs e (no_piece t) (last_piece {piece = q} u some n) = none_some q (trimmed_one (rw e at t) u) some
+more_pieces_one x y ps qs e (no_piece t) (cut_piece {start = r} u c m) = none_some r (trimmed_one (rw e at t) u) (cut_some c)
+more_pieces_one x y ps qs e (last_piece {piece = p} t some n) (no_piece u) = none_some p (sym (trimmed_one (rw e at t) u)) some
+more_pieces_one x y ps qs e (last_piece {piece = p} t some n) (last_piece {piece = q} u more o) = ap (λ z. z ∷ []) (trimmed_one (rw e at t) u)
+more_pieces_one x y ps qs e (last_piece {piece = p} t some n) (cut_piece {start = r} u c m) = no_cut (rw (trimmed_one (rw e at t) u) at n) c
+more_pieces_one x y ps qs e (cut_piece {start = r} t c m) (no_piece u) = none_some r (sym (trimmed_one (rw e at t) u)) (cut_some c)
+more_pieces_one x y ps qs e (cut_piece {start = r} t c m) (last_piece {piece = q} u some n) = no_cut n (rw (trimmed_one (rw e at t) u) at c)
+more_pieces_one x y ps qs e (cut_piece {start = r} {piece = p} {rest = a} {pieces = vs} t c m) (cut_piece {start = s} {piece = q} {rest = b} {pieces = ws} u d n) =
+    let both = cut_one (rw (trimmed_one (rw e at t) u) at c) d in
+    let others = more_pieces_one a b vs ws both.1 m n in
+    cc (both.0, others)
+
+pub pieces_one : {text : List ℕ} {b c : Bool} {ps qs : List (List ℕ)} → ArePieces text b ps → ArePieces text c qs → (b ≡ c) × (ps ≡ qs)
+pieces_one (one_piece n) (one_piece m) = (refl, refl)
+pieces_one (one_piece n) (first_cut d m) = no_cut n d
+pieces_one (first_cut c m) (one_piece n) = no_cut n c
+pieces_one (first_cut {piece = p} {rest = a} {pieces = vs} c m) (first_cut {piece = q} {rest = b} {pieces = ws} d n) =
+    let both = cut_one c d in
+    let others = more_pieces_one a b vs ws both.1 m n in
+    (refl, cc (both.0, others))
+
+-- ---- which pieces are good
+
+good_one : (f : Flavour) (b : Bool) (piece : List ℕ) (cs ds : List Comparator) → IsGood f b piece cs → IsGood f b piece ds → cs ≡ ds
+good_one f b piece cs ds (inl h) (inl k) = (piece_one f).one piece cs ds h.0 k.0
+good_one f b piece cs ds (inl h) (inr k) = blank_piece f piece cs h.0 k.1 ∙ sym k.2
+good_one f b piece cs ds (inr h) (inl k) = h.2 ∙ sym (blank_piece f piece ds k.0 h.1)
+good_one f b piece cs ds (inr h) (inr k) = h.2 ∙ sym k.2
+
+good_ones_one : {f : Flavour} {b : Bool} {ps : List (List ℕ)} {t u : List (List Comparator)} → AreGoodOnes f b ps t → AreGoodOnes f b ps u → t ≡ u
+good_ones_one none_left none_left = refl
+good_ones_one {f = f} (good {b} {piece} {cs = cs} h m) (good {cs = ds} k n) =
+    let heads = good_one f b piece cs ds h k in
+    let tails = good_ones_one m n in
+    cc (heads, tails)
+good_ones_one (good {cs = cs} h m) (bad k n) = absurd (k cs h)
+good_ones_one (bad h m) (good {cs = cs} k n) = absurd (h cs k)
+good_ones_one (bad h m) (bad k n) = good_ones_one m n
+
+-- ---- outcomes
+
+-- two readings of one text cut it alike
+single : {text p q : List ℕ} {b c : Bool} → ArePieces text b (p ∷ []) → ArePieces text c (q ∷ []) → (b ≡ c) × (p ≡ q)
+single h k = let both = pieces_one h k in (both.0, cc (both.1))
+
+one_or_many : {T : Type 0} {text p q r : List ℕ} {more : List (List ℕ)} {b c : Bool} → ArePieces text b (p ∷ []) → ArePieces text c (q ∷ r ∷ more) → T
+one_or_many h k = absurd (omega (arith, ap length (pieces_one h k).1))
+
+good_or_bad : {T : Type 0} (f : Flavour) {text p q : List ℕ} {b c : Bool} {cs : List Comparator} → ArePieces text b (p ∷ []) → ArePieces text c (q ∷ []) → IsGood f b p cs → IsBad f c q → T
+good_or_bad f {cs = cs} h k g n = let both = single h k in absurd (n cs (rw (both.0, both.1) at g))
+
+many_one : {f : Flavour} {text : List ℕ} {b c : Bool} {ps qs : List (List ℕ)} {t u : List (List Comparator)} → ArePieces text b ps → ArePieces text c qs → AreGoodOnes f b ps t → AreGoodOnes f c qs u → (t ≡ u) × (ps ≡ qs)
+many_one h k m n = let both = pieces_one h k in (good_ones_one (rw (both.0, both.1) at m) n, both.1)
+
+tag_one : {p q s t : List ℕ} {o u : Outcome} → p ≡ q → IsTrim p s → IsTrim q t → IsTagOr s o → IsTagOr t u → o ≡ u
+tag_one {p} {q} {s} {t} e h k i j = one_tag (rw (one_trim q s t (rw e at h) k) at i) j
+
+-- all are good or not
+all_or_not : {T : Type 0} {f : Flavour} {text : List ℕ} {b c : Bool} {ps qs : List (List ℕ)} {t u : List (List Comparator)} → ArePieces text b ps → ArePieces text c qs → AreGoodOnes f b ps t → AreGoodOnes f c qs u → length t ≡ length ps → length u < length qs → T
+all_or_not h k m n all less = let both = many_one h k m n in absurd (omega (arith, all, less, ap length both.0, ap length both.1))
+
+-- a text has one outcome
+pub outcome_one : {f : Flavour} {text : List ℕ} {o u : Outcome} → IsOutcome f text o → IsOutcome f text u → o ≡ u
+outcome_one (one_good {f} {piece = p} {b} {cs} h g) (one_good {piece = q} {b = c} {cs = ds} k i) = let both = single h k in ap (λ z. Ranges (z ∷ [])) (good_one f c q cs ds (rw (both.0, both.1) at g) i)
+outcome_one (one_good {f} h g) (one_bad k n s t) = good_or_bad f h k g n
+outcome_one (one_good h g) (npm_many k m) = one_or_many h k
+outcome_one (one_good h g) (normal_many k m all) = one_or_many h k
+outcome_one (one_good h g) (normal_refused k m less) = one_or_many h k
+outcome_one (one_bad {f} h n s t) (one_good k g) = good_or_bad f k h g n
+outcome_one (one_bad h n s t) (one_bad k o i j) = tag_one (single h k).1 s i t j
+outcome_one (one_bad h n s t) (npm_many k m) = one_or_many h k
+outcome_one (one_bad h n s t) (normal_many k m all) = one_or_many h k
+outcome_one (one_bad h n s t) (normal_refused k m less) = one_or_many h k
+outcome_one (npm_many h m) (one_good k g) = one_or_many k h
+outcome_one (npm_many h m) (one_bad k n s t) = one_or_many k h
+outcome_one (npm_many h m) (npm_many k n) = ap Ranges (many_one h k m n).0
+outcome_one (normal_many h m all) (one_good k g) = one_or_many k h
+outcome_one (normal_many h m all) (one_bad k n s t) = one_or_many k h
+outcome_one (normal_many h m all) (normal_many k n every) = ap Ranges (many_one h k m n).0
+outcome_one (normal_many h m all) (normal_refused k n less) = all_or_not h k m n all less
+outcome_one (normal_refused h m less) (one_good k g) = one_or_many k h
+outcome_one (normal_refused h m less) (one_bad k n s t) = one_or_many k h
+outcome_one (normal_refused h m less) (normal_many k n all) = all_or_not k h n m all less
+outcome_one (normal_refused h m less) (normal_refused k n fewer) = refl

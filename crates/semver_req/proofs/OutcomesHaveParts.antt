@@ -1,0 +1,193 @@
+-- The identifiers of the comparators of every outcome are parts.
+use Rattle.std.proofs.Common.{◌≡◌, ℕ, List, [], ◌∷◌, Bool, true, Option, Some, None, refl, sym, subst, inl, inr}
+use Rattle.std.specs.List.{list_all}
+use Rattle.semver_base.proofs.Orders.{and_first, and_second}
+use Rattle.semver_base.specs.Grammar.{After, Before, this, that, Listed, last_item, closed_item, more_items, Mapped, Marked, Optional}
+use Rattle.semver_base.specs.Lexical.{IsBlanks, IsBuild, IsSomeBlanks, IsPart, IsParts, IsPre, IsQualifier, or_none}
+use Rattle.semver_base.specs.VersionText.{AreParts}
+use Rattle.semver_base.specs.declared.lexical.values.Qualifier.{Qualifier}
+use Rattle.semver_base.specs.declared.lexical.values.Strictness.{Strictness}
+use Rattle.semver_base.specs.declared.lexical.values.Strictness.TheVariants.{Loose, Strict}
+use Rattle.semver_base.specs.declared.partial.Partial.{Partial}
+use Rattle.semver_base.specs.declared.partial.XRange.{XRange}
+use Rattle.semver_req.specs.Comparators.{Comparator, IsComparator, IsLed, IsMarked, IsPlain, IsSigned, fits}
+use Rattle.semver_req.specs.KeptSet.{kept}
+use Rattle.semver_req.specs.Outcome.{AreGoodOnes, none_left, good, bad, IsGood, IsOutcome, one_good, one_bad, npm_many, normal_many, normal_refused, IsStrictOutcome, whole, left_over, no_front, no_fit, IsTagOr, tag, no_tag, Outcome, Ranges, Tag, Refused}
+use Rattle.semver_req.specs.Partials.{IsPartial, IsPlainPartial, IsSecond, IsThird, partial_of, strictness_of}
+use Rattle.semver_req.specs.Pieces.{IsFilled, IsHyphen, IsNpmSeparator, IsPiece}
+use Rattle.semver_req.specs.ReadRanges.{AllBounds, AllHave, ComparatorHas, IsMadeOf, PartialHas, TreeHas}
+use Rattle.semver_req.specs.Requirement.{only_ranges}
+use Rattle.semver_req.specs.declared.common.values.Flavour.{Flavour}
+use Rattle.semver_req.specs.declared.common.values.Flavour.TheVariants.{Npm, Normal, Specifier}
+use Rattle.semver_req.proofs.OutcomesFit.{outcome_fits, strict_outcome_fits}
+use Rattle.semver_req.proofs.ReadRanges.{comparator_made, kept_made}
+
+-- ---- combinators: what is true of what the inner rule says
+
+by_mapped : {V W : Type 0} {f : V → W} {A : List ℕ → V → Type 0} (P : W → Type 0) → ((t : List ℕ) (v : V) → A t v → P (f v)) → {text : List ℕ} {w : W} → Mapped f A text w → P w
+by_mapped P inner m = subst P (sym m.is) (inner _ m.value m.stands)
+
+by_after : {V W : Type 0} {A : List ℕ → V → Type 0} {B : List ℕ → W → Type 0} (P : W → Type 0) → ((t : List ℕ) (w : W) → B t w → P w) → {text : List ℕ} {w : W} → After A B text w → P w
+by_after P inner m = subst P (sym m.is) (inner m.stands.second m.value.1 m.stands.in_second)
+
+by_marked : {V : Type 0} (m : ℕ) (A : List ℕ → V → Type 0) (P : V → Type 0) → ((t : List ℕ) (v : V) → A t v → P v) → (text : List ℕ) (v : V) → Marked m A text v → P v
+by_marked m A P inner [] v h = absurd h
+by_marked m A P inner (b ∷ rest) v h = inner rest v h.1
+
+-- ---- qualifiers
+
+part_itself : (text v : List ℕ) → IsPart text v → IsPart v v
+part_itself text v h = subst (λ (t : List ℕ). IsPart t t) (sym h.is) (record { some = h.some; pass = h.pass; is = refl })
+
+parts_are : {text : List ℕ} {ids : List (List ℕ)} → IsParts text ids → AreParts ids
+parts_are (last_item a) = (part_itself _ _ a, tt)
+parts_are (closed_item a s) = (part_itself _ _ a, tt)
+parts_are (more_items a s more) = (part_itself _ _ a, parts_are more)
+
+pre_are : (s : Strictness) (text : List ℕ) (ids : List (List ℕ)) → IsPre s text ids → AreParts ids
+pre_are Loose [] ids h = absurd h
+pre_are Loose (b ∷ rest) ids (inl h) = parts_are h.1
+pre_are Loose (b ∷ rest) ids (inr h) = parts_are h.1
+pre_are Strict text ids h = by_marked 45 IsParts AreParts (λ t v k. parts_are k) text ids h
+
+maybe_pre : (s : Strictness) (text : List ℕ) (o : Option (List (List ℕ))) → Optional (IsPre s) text o → AreParts (or_none o)
+maybe_pre s text None h = tt
+maybe_pre s text (Some ids) h = pre_are s text ids h
+
+maybe_build : (text : List ℕ) (o : Option (List (List ℕ))) → Optional IsBuild text o → AreParts (or_none o)
+maybe_build text None h = tt
+maybe_build text (Some ids) h = by_marked 43 IsParts AreParts (λ t v k. parts_are k) text ids h
+
+abbrev QualifierHas : Qualifier → Type 0
+QualifierHas q = AreParts q.pre × AreParts q.build
+
+qualifier_has : (s : Strictness) (text : List ℕ) (q : Qualifier) → IsQualifier s text q → QualifierHas q
+qualifier_has s text q h = by_mapped QualifierHas (λ t v k. (maybe_pre s k.first v.0 k.in_first, maybe_build k.second v.1 k.in_second)) h
+
+-- ---- partial versions
+
+abbrev Has : Partial → Type 0
+Has = PartialHas AreParts
+
+third_has : (f : Flavour) (m n : XRange) (text : List ℕ) (o : Option (XRange × Qualifier)) → Optional (IsThird f) text o → Has (partial_of (m, Some (n, o)))
+third_has f m n text None h = (tt, tt)
+third_has f m n [] (Some v) h = absurd h
+third_has f m n (b ∷ rest) (Some (p, q)) h = qualifier_has (strictness_of f) h.1.second q h.1.in_second
+
+second_has : (f : Flavour) (m : XRange) (text : List ℕ) (o : Option (XRange × Option (XRange × Qualifier))) → Optional (IsSecond f) text o → Has (partial_of (m, o))
+second_has f m text None h = (tt, tt)
+second_has f m [] (Some v) h = absurd h
+second_has f m (b ∷ rest) (Some (n, o)) h = third_has f m n h.1.second o h.1.in_second
+
+plain_has : (f : Flavour) (text : List ℕ) (p : Partial) → IsPlainPartial f text p → Has p
+plain_has f text p h = by_mapped Has (λ t v k. second_has f v.0 k.second v.1 k.in_second) h
+
+partial_has : (f : Flavour) (text : List ℕ) (p : Partial) → IsPartial f text p → Has p
+partial_has Npm text p (this h) = by_marked 118 (IsPlainPartial Npm) Has (plain_has Npm) text p h
+partial_has Npm text p (that h) = plain_has Npm text p h
+partial_has Normal text p h = plain_has Normal text p h
+partial_has Specifier text p h = plain_has Specifier text p h
+
+-- ---- comparators
+
+abbrev HasParts : Comparator → Type 0
+HasParts = ComparatorHas AreParts
+
+signed_has : (f : Flavour) (text : List ℕ) (c : Comparator) → IsSigned f text c → HasParts c
+signed_has f text c h = by_mapped HasParts (λ t v k. by_after Has (partial_has f) k.in_second) h
+
+plain_comparator_has : (f : Flavour) (text : List ℕ) (c : Comparator) → IsPlain f text c → HasParts c
+plain_comparator_has f text c h = by_mapped HasParts (partial_has f) h
+
+marked_has : (f : Flavour) (text : List ℕ) (c : Comparator) → IsMarked f text c → HasParts c
+marked_has f text c (this h) = by_mapped HasParts (by_marked 126 (IsPartial f) Has (partial_has f)) h
+marked_has f text c (that h) = by_mapped HasParts (by_marked 94 (IsPartial f) Has (partial_has f)) h
+
+led_has : (text : List ℕ) (p : Partial) → IsLed text p → Has p
+led_has text p h = by_after Has (λ t v k. by_after Has (λ t v k. by_after Has (λ t v k. by_after Has (partial_has Npm) k) k) k) h
+
+comparator_has : (f : Flavour) (text : List ℕ) (c : Comparator) → IsComparator f text c → HasParts c
+comparator_has Npm text c (this (this h)) = by_mapped HasParts (λ t v k. by_after Has (λ t v k. by_after Has led_has k) k) h
+comparator_has Npm text c (this (that h)) = by_mapped HasParts (λ t v k. by_after Has (λ t v k. by_marked 94 IsLed Has led_has t v k) k) h
+comparator_has Npm text c (that (this h)) = signed_has Npm text c h
+comparator_has Npm text c (that (that h)) = plain_comparator_has Npm text c h
+comparator_has Normal text c (this h) = marked_has Normal text c h
+comparator_has Normal text c (that (this h)) = signed_has Normal text c h
+comparator_has Normal text c (that (that h)) = plain_comparator_has Normal text c h
+comparator_has Specifier text c (this h) = marked_has Specifier text c h
+comparator_has Specifier text c (that h) = plain_comparator_has Specifier text c h
+
+-- ---- pieces
+
+listed_have : (f : Flavour) (S : List ℕ → Unit {0} → Type 0) {text : List ℕ} {cs : List Comparator} → Listed (IsComparator f) S text cs → AllHave AreParts cs
+listed_have f S (last_item a) = (comparator_has f _ _ a, tt)
+listed_have f S (closed_item a s) = (comparator_has f _ _ a, tt)
+listed_have f S (more_items a s more) = (comparator_has f _ _ a, listed_have f S more)
+
+hyphen_has : (text : List ℕ) (cs : List Comparator) → IsHyphen text cs → AllHave AreParts cs
+hyphen_has text cs h = by_mapped (AllHave AreParts) (λ t v k. ((partial_has Npm k.first v.0 k.in_first, second k.second v.1 k.in_second), tt)) h
+  where
+    before : (t : List ℕ) (p : Partial) → Before (IsPartial Npm) IsBlanks t p → Has p
+    before t p k = by_mapped Has (λ t v k. partial_has Npm k.first v.0 k.in_first) k
+
+    second : (t : List ℕ) (p : Partial) → After IsSomeBlanks (Marked 45 (After IsSomeBlanks (Before (IsPartial Npm) IsBlanks))) t p → Has p
+    second t p k = by_after Has (λ t v k. by_marked 45 (After IsSomeBlanks (Before (IsPartial Npm) IsBlanks)) Has (λ t v k. by_after Has before k) t v k) k
+
+filled_have : (f : Flavour) (text : List ℕ) (cs : List Comparator) → IsFilled f text cs → AllHave AreParts cs
+filled_have Npm text cs (this h) = hyphen_has text cs h
+filled_have Npm text cs (that h) = listed_have Npm IsNpmSeparator h
+filled_have Normal text cs h = listed_have Normal IsSomeBlanks h
+filled_have Specifier text cs h = absurd h
+
+piece_has : (f : Flavour) (text : List ℕ) (cs : List Comparator) → IsPiece f text cs → AllHave AreParts cs
+piece_has f text [] h = tt
+piece_has f text (c ∷ cs) h = filled_have f text (c ∷ cs) h
+
+-- ---- outcomes
+
+good_has : (f : Flavour) (b : Bool) (piece : List ℕ) (cs : List Comparator) → IsGood f b piece cs → AllHave AreParts cs
+good_has f b piece cs (inl h) = piece_has f piece cs h.0
+good_has f b piece cs (inr h) = subst (AllHave AreParts) (sym h.2) tt
+
+good_ones_have : {f : Flavour} {b : Bool} {pieces : List (List ℕ)} {tree : List (List Comparator)} → AreGoodOnes f b pieces tree → TreeHas AreParts tree
+good_ones_have none_left = tt
+good_ones_have (good g more) = (good_has _ _ _ _ g, good_ones_have more)
+good_ones_have (bad g more) = good_ones_have more
+
+abbrev OutcomeHas : Outcome → Type 0
+OutcomeHas (Ranges tree) = TreeHas AreParts tree
+OutcomeHas (Tag text) = Unit {0}
+OutcomeHas Refused = Unit {0}
+
+tag_or_has : {text : List ℕ} {o : Outcome} → IsTagOr text o → OutcomeHas o
+tag_or_has (tag e) = tt
+tag_or_has (no_tag e) = tt
+
+by_outcome : {f : Flavour} {text : List ℕ} {o : Outcome} → IsOutcome f text o → OutcomeHas o
+by_outcome (one_good pieces g) = (good_has _ _ _ _ g, tt)
+by_outcome (one_bad pieces g trim t) = tag_or_has t
+by_outcome (npm_many pieces g) = good_ones_have g
+by_outcome (normal_many pieces g every) = good_ones_have g
+by_outcome (normal_refused pieces g some) = tt
+
+by_strict_outcome : {text : List ℕ} {o : Outcome} → IsStrictOutcome text o → OutcomeHas o
+by_strict_outcome (whole {c = c} s fit) = ((comparator_has Specifier _ c s.stands, tt), tt)
+by_strict_outcome (left_over s fit more) = tt
+by_strict_outcome (no_front n t) = tag_or_has t
+by_strict_outcome (no_fit s e t) = tag_or_has t
+
+-- the bounds of the kept ranges of every tree of the npm or the normalized reader: numbers that fit, and parts
+pub outcome_made : (f : Flavour) (text : List ℕ) (tree : List (List Comparator)) → IsOutcome f text (Ranges tree) → AllBounds (IsMadeOf AreParts) (kept tree)
+outcome_made f text tree o = kept_made AreParts tt tree (outcome_fits f text tree o) (by_outcome o)
+
+only_made : (tree : List (List Comparator)) → list_all (λ cs. list_all fits cs) tree ≡ true → TreeHas AreParts tree → AllBounds (IsMadeOf AreParts) (only_ranges tree)
+only_made [] fit has = tt
+only_made ([] ∷ tree) fit has = only_made tree fit has.1
+only_made ((c ∷ cs) ∷ tree) fit has = (
+  comparator_made AreParts tt c (and_first _ _ (and_first _ _ fit)) has.0.0,
+  only_made tree (and_second (list_all fits (c ∷ cs)) _ fit) has.1,
+)
+
+-- and of the strict reader
+pub strict_outcome_made : (text : List ℕ) (tree : List (List Comparator)) → IsStrictOutcome text (Ranges tree) → AllBounds (IsMadeOf AreParts) (only_ranges tree)
+strict_outcome_made text tree o = only_made tree (strict_outcome_fits text tree o) (by_strict_outcome o)

@@ -1,0 +1,85 @@
+-- Each text of a partial version stands for one value.
+use Rattle.std.proofs.Common.{◌≡◌, ℕ, Bool, true, List, [], ◌∷◌, refl, ap, arith, ◌==◌}
+use Rattle.std.specs.Prelude.{◌||◌}
+use Rattle.std.specs.Char.{is_ascii_digit}
+use Rattle.std.specs.List.{list_all}
+use Rattle.std.proofs.lemmas.Bool.{or_left}
+use Rattle.std.proofs.lemmas.Bool.Decides.{nat_tests}
+use Rattle.semver_base.specs.declared.partial.XRange.{XRange}
+use Rattle.semver_base.specs.declared.partial.XRange.TheVariants.{Wildcard, Val}
+use Rattle.semver_base.proofs.Bytes.{Disjoint, MadeOf, joined_made, made_wider, mapped_made, marked_begins, marked_made, marked_some_text, optional_made}
+use Rattle.semver_base.proofs.Numbers.{loose_begins, loose_some}
+use Rattle.semver_base.proofs.Readings.{Unambiguous, either_one, followed_one, joined_one, mapped_one, marked_one, never_by, optional_one}
+use Rattle.semver_base.proofs.WordReadings.{is_qualifier_byte, number_made, number_one, qualifier_made, qualifier_one}
+use Rattle.semver_req.specs.Partials.{IsComponent, IsPartial, IsPlainPartial, IsSecond, IsThird, strictness_of}
+use Rattle.semver_req.specs.declared.common.values.Flavour.{Flavour}
+use Rattle.semver_req.specs.declared.common.values.Flavour.TheVariants.{Npm, Normal, Specifier}
+use Rattle.semver_req.proofs.Components.{component_clash, is_component_byte, is_loose, wildcard_no_digit, wildcard_wider}
+use Rattle.semver_req.proofs.Partials.{component_dot_apart, partial_begins}
+
+-- ---- components
+
+pub component_one : (f : Flavour) → Unambiguous (IsComponent f)
+component_one f = record { one = go }
+  where
+    no_number : (text : List ℕ) (n : ℕ) → IsComponent f text Wildcard → IsComponent f text (Val n) → ⊥
+    no_number [] n h k = loose_some.some n (is_loose f [] n k)
+    no_number (x ∷ text) n h k =
+        let byte : x ≡ h.0 = cc h.1.text_is in
+        let digit = loose_begins.begins x (record { more = text; value = n; stands = is_loose f (x ∷ text) n k }) in
+        wildcard_no_digit f h.0 h.1.passes (rw byte at digit)
+
+    go : (text : List ℕ) (v w : XRange) → IsComponent f text v → IsComponent f text w → v ≡ w
+    go text Wildcard Wildcard h k = refl
+    go text Wildcard (Val n) h k = absurd (no_number text n h k)
+    go text (Val n) Wildcard h k = absurd (no_number text n k h)
+    go text (Val m) (Val n) h k = ap Val ((number_one (strictness_of f)).one text m n h k)
+
+component_made : (f : Flavour) → MadeOf (IsComponent f) is_component_byte
+component_made f = record { made = go }
+  where
+    go : (text : List ℕ) (v : XRange) → IsComponent f text v → list_all is_component_byte text ≡ true
+    go text Wildcard h = rw h.1.text_is (rw (wildcard_wider f h.0 h.1.passes) refl)
+    go text (Val n) h = (made_wider is_ascii_digit is_component_byte (λ x d. or_left (is_ascii_digit x) ((x == 42) || (x == 120) || (x == 88)) d) (number_made (strictness_of f))).made text n h
+
+-- ---- partial versions
+
+third_one : (f : Flavour) → Unambiguous (IsThird f)
+third_one f = marked_one 46 (joined_one (component_clash f) (component_one f) (qualifier_one (strictness_of f)))
+
+second_one : (f : Flavour) → Unambiguous (IsSecond f)
+second_one f = marked_one 46 (followed_one (component_dot_apart f) (component_one f) (optional_one (marked_some_text 46) (third_one f)))
+
+pub plain_one : (f : Flavour) → Unambiguous (IsPlainPartial f)
+plain_one f = mapped_one (followed_one (component_dot_apart f) (component_one f) (optional_one (marked_some_text 46) (second_one f)))
+
+v_no_component : Disjoint (λ x. x == 118) is_component_byte
+v_no_component x h k = grind (arith, nat_tests)
+
+pub partial_one : (f : Flavour) → Unambiguous (IsPartial f)
+partial_one Npm = either_one (never_by (λ x. x == 118) is_component_byte v_no_component (marked_some_text 118) (marked_begins 118) (partial_begins Npm)) (marked_one 118 (plain_one Npm)) (plain_one Npm)
+partial_one Normal = plain_one Normal
+partial_one Specifier = plain_one Specifier
+
+-- ---- the bytes of partial versions
+
+abbrev pub is_plain_byte : ℕ → Bool
+is_plain_byte x = is_qualifier_byte x || (x == 42)
+
+component_plain : (x : ℕ) → is_component_byte x ≡ true → is_plain_byte x ≡ true
+component_plain x h = grind (arith, nat_tests)
+
+qualifier_plain : (x : ℕ) → is_qualifier_byte x ≡ true → is_plain_byte x ≡ true
+qualifier_plain x h = or_left (is_qualifier_byte x) (x == 42) h
+
+plain_component_made : (f : Flavour) → MadeOf (IsComponent f) is_plain_byte
+plain_component_made f = made_wider is_component_byte is_plain_byte component_plain (component_made f)
+
+third_made : (f : Flavour) → MadeOf (IsThird f) is_plain_byte
+third_made f = marked_made (joined_made (plain_component_made f) (made_wider is_qualifier_byte is_plain_byte qualifier_plain (qualifier_made (strictness_of f)))) 46 refl
+
+second_made : (f : Flavour) → MadeOf (IsSecond f) is_plain_byte
+second_made f = marked_made (joined_made (plain_component_made f) (optional_made (third_made f))) 46 refl
+
+pub plain_made : (f : Flavour) → MadeOf (IsPlainPartial f) is_plain_byte
+plain_made f = mapped_made (joined_made (plain_component_made f) (optional_made (second_made f)))

@@ -1,0 +1,337 @@
+-- Each piece stands for one list of comparators.
+use Rattle.std.proofs.Common.{◌≡◌, ◌<◌, ℕ, Bool, true, false, List, [], ◌∷◌, ◌++◌, length, refl, sym, ap, ◌∙◌, arith, append-nil, ◌==◌, ◌≤◌, length-append}
+use Rattle.std.specs.Prelude.{◌||◌}
+use Rattle.std.specs.List.{list_all}
+use Rattle.std.proofs.lemmas.Bool.{and_parts, or_left, or_right}
+use Rattle.std.proofs.lemmas.Bool.Decides.{nat_tests}
+use Rattle.semver_base.specs.Grammar.{After, Before, this, that, IsLongest, Listed, last_item, closed_item, more_items, Marked, Stops}
+use Rattle.semver_base.specs.Lexical.{IsBlanks, IsSomeBlanks}
+use Rattle.semver_base.specs.declared.partial.Partial.{Partial}
+use Rattle.semver_base.proofs.Blanks.{blanks_made, is_blank_byte}
+use Rattle.semver_base.proofs.Bytes.{BeginsBy, Disjoint, GoesBy, MadeOf, apart_by, begins_from_made, begins_wider, either_begins, either_made, goes_from_made, joined_begins, joined_made, joined_some_second, joined_some_text, listed_made, made_wider, mapped_begins, mapped_made, mapped_some_text, marked_begins, marked_made}
+use Rattle.semver_base.proofs.Fronts.{Apart, NonEmpty, fronts, same, shorter, longer, one_front}
+use Rattle.semver_base.proofs.Lists.{IsListing, listed_begins, listed_some}
+use Rattle.semver_base.proofs.Readings.{all_second, EachByte, Never, Unambiguous, after_one, before_one, each_made, either_one, followed_one, goes_within, in_place, listed_one, mapped_one, marked_one, never_by, some_within, unit_one}
+use Rattle.semver_req.specs.Comparators.{Comparator, IsComparator}
+use Rattle.semver_req.specs.Partials.{IsPartial}
+use Rattle.semver_req.specs.Pieces.{HasNoBar, IsCutAt, IsFilled, IsHyphen, IsMark, IsNpmSeparator, IsPiece}
+use Rattle.semver_req.specs.declared.common.values.Flavour.{Flavour}
+use Rattle.semver_req.specs.declared.common.values.Flavour.TheVariants.{Npm, Normal, Specifier}
+use Rattle.semver_req.proofs.ComparatorReadings.{IsCore, comparator_begins, comparator_goes, comparator_made, is_comparator_byte, partial_made, comparator_one, comparator_some, comparator_within, core_goes, core_one, core_some, is_start_byte, partial_core, partial_within, some_blanks_made}
+use Rattle.semver_req.proofs.PartialReadings.{is_plain_byte, partial_one}
+use Rattle.semver_req.proofs.Signs.{any_begins, is_partial_byte}
+
+-- ---- lists
+
+plain_no_blank : Disjoint is_plain_byte is_blank_byte
+plain_no_blank x h k = grind (arith, nat_tests)
+
+blank_no_start : Disjoint is_blank_byte is_start_byte
+blank_no_start x h k = grind (arith, nat_tests)
+
+blanks_some : NonEmpty IsSomeBlanks
+blanks_some = record { some = λ v h. let some : 0 < 0 = h.0 in omega arith }
+
+pub normal_listing : IsListing (IsComparator Normal) IsSomeBlanks is_start_byte is_plain_byte is_blank_byte is_blank_byte
+normal_listing = record {
+  item_some = comparator_some Normal;
+  separator_some = blanks_some;
+  item_begins = comparator_begins Normal;
+  item_goes = comparator_goes Normal;
+  separator_begins = begins_from_made some_blanks_made;
+  separator_goes = goes_from_made some_blanks_made;
+  after_item = plain_no_blank;
+  after_separator = blank_no_start;
+}
+
+abbrev pub is_separator_byte : ℕ → Bool
+is_separator_byte x = is_blank_byte x || ((x == 38) || (x == 44))
+
+blank_separator : (x : ℕ) → is_blank_byte x ≡ true → is_separator_byte x ≡ true
+blank_separator x h = or_left (is_blank_byte x) ((x == 38) || (x == 44)) h
+
+mark_made : MadeOf IsMark is_separator_byte
+mark_made = either_made (record { made = λ text v h. rw h refl }) (record { made = λ text v h. rw h refl })
+
+mark_some : NonEmpty IsMark
+mark_some = record { some = go }
+  where
+    go : (v : Unit {0}) → IsMark [] v → ⊥
+    go v (this h) = cc h
+    go v (that h) = cc h
+
+blanks_separate : MadeOf IsBlanks is_separator_byte
+blanks_separate = made_wider is_blank_byte is_separator_byte blank_separator blanks_made
+
+separator_made : MadeOf IsNpmSeparator is_separator_byte
+separator_made = either_made (mapped_made (joined_made blanks_separate (mapped_made (joined_made mark_made blanks_separate)))) (made_wider is_blank_byte is_separator_byte blank_separator some_blanks_made)
+
+separator_some : NonEmpty IsNpmSeparator
+separator_some = record { some = go }
+  where
+    marked : NonEmpty (After IsBlanks (After IsMark IsBlanks))
+    marked = mapped_some_text (joined_some_second (mapped_some_text (joined_some_text mark_some)))
+
+    go : (v : Unit {0}) → IsNpmSeparator [] v → ⊥
+    go v (this h) = marked.some v h
+    go v (that h) = blanks_some.some v h
+
+plain_no_separator : Disjoint is_plain_byte is_separator_byte
+plain_no_separator x h k = grind (arith, nat_tests)
+
+separator_no_start : Disjoint is_separator_byte is_start_byte
+separator_no_start x h k = grind (arith, nat_tests)
+
+pub npm_listing : IsListing (IsComparator Npm) IsNpmSeparator is_start_byte is_plain_byte is_separator_byte is_separator_byte
+npm_listing = record {
+  item_some = comparator_some Npm;
+  separator_some = separator_some;
+  item_begins = comparator_begins Npm;
+  item_goes = comparator_goes Npm;
+  separator_begins = begins_from_made separator_made;
+  separator_goes = goes_from_made separator_made;
+  after_item = plain_no_separator;
+  after_separator = separator_no_start;
+}
+
+-- ---- hyphen ranges
+
+any_goes : GoesBy (IsPartial Npm) is_plain_byte
+any_goes = goes_within (partial_within Npm) (core_goes Npm)
+
+any_some : NonEmpty (IsPartial Npm)
+any_some = some_within (partial_within Npm) (core_some Npm)
+
+blank_no_hyphen : Disjoint is_blank_byte (λ x. x == 45)
+blank_no_hyphen x h k = grind (arith, nat_tests)
+
+blank_no_partial : Disjoint is_blank_byte is_partial_byte
+blank_no_partial x h k = grind (arith, nat_tests)
+
+-- what follows the first partial version, and what follows the hyphen
+abbrev pub IsUpper : List ℕ → Partial → Type 0
+IsUpper = Before (IsPartial Npm) IsBlanks
+
+abbrev pub IsHyphened : List ℕ → Partial → Type 0
+IsHyphened = After IsSomeBlanks (Marked 45 (After IsSomeBlanks IsUpper))
+
+upper_one : Unambiguous IsUpper
+upper_one = before_one (apart_by is_plain_byte is_blank_byte plain_no_blank any_goes (begins_from_made blanks_made)) (partial_one Npm)
+
+pub blanks_upper : Apart IsSomeBlanks IsUpper
+blanks_upper = apart_by is_blank_byte is_partial_byte blank_no_partial (goes_from_made some_blanks_made) (mapped_begins (joined_begins any_some (any_begins Npm)))
+
+hyphened_one : Unambiguous IsHyphened
+hyphened_one = after_one (apart_by is_blank_byte (λ x. x == 45) blank_no_hyphen (goes_from_made some_blanks_made) (marked_begins 45)) (marked_one 45 (after_one blanks_upper upper_one))
+
+pub partial_hyphened : Apart (IsPartial Npm) IsHyphened
+partial_hyphened = apart_by is_plain_byte is_blank_byte plain_no_blank any_goes (mapped_begins (joined_begins blanks_some (begins_from_made some_blanks_made)))
+
+pub hyphen_one : Unambiguous IsHyphen
+hyphen_one = mapped_one (followed_one partial_hyphened (partial_one Npm) hyphened_one)
+
+-- ---- no list is a hyphen range
+
+not_true : (b : Bool) → (b ≡ true → ⊥) → b ≡ false
+not_true true h = absurd (h refl)
+not_true false h = refl
+
+stops_at : (p q : ℕ → Bool) → Disjoint p q → (x : ℕ) → q x ≡ true → p x ≡ false
+stops_at p q d x h = not_true (p x) (λ k. d x k h)
+
+abbrev is_hyphen : List ℕ → Bool
+is_hyphen [] = false
+is_hyphen (x ∷ rest) = x == 45
+
+-- a comparator, bytes that separate, and then nothing or another byte, which is a hyphen or not
+record IsLaidOut (hyphen : Bool) (text : List ℕ) : Type 0 where
+  first : List ℕ
+  between : List ℕ
+  rest : List ℕ
+  value : Partial
+  text_is : text ≡ first ++ (between ++ rest)
+  core : IsCore Npm first value
+  separate : list_all is_separator_byte between ≡ true
+  first_ends : Stops is_plain_byte (between ++ rest)
+  between_ends : Stops is_separator_byte rest
+  next : hyphen ≡ is_hyphen rest
+
+separators_in_place : (between rest : List ℕ) → list_all is_separator_byte between ≡ true → Stops is_separator_byte rest → IsLongest (EachByte is_separator_byte) (between ++ rest) tt rest
+separators_in_place between rest pass stops = in_place (unit_one (EachByte is_separator_byte)) (goes_from_made (each_made is_separator_byte)) between rest (record { pass = pass }) stops
+
+-- a text has one layout
+one_layout : (b c : Bool) (text : List ℕ) → IsLaidOut b text → IsLaidOut c text → b ≡ c
+one_layout b c text h k =
+    let p : IsLongest (IsCore Npm) text h.value (h.between ++ h.rest) = rw h.text_is (in_place (core_one Npm) (core_goes Npm) h.first (h.between ++ h.rest) h.core h.first_ends) in
+    let q : IsLongest (IsCore Npm) text k.value (k.between ++ k.rest) = rw k.text_is (in_place (core_one Npm) (core_goes Npm) k.first (k.between ++ k.rest) k.core k.first_ends) in
+    let ends = (one_front p q).1 in
+    let rests = (one_front (separators_in_place h.between h.rest h.separate h.between_ends) (rw (← ends) at (separators_in_place k.between k.rest k.separate k.between_ends))).1 in
+    h.next ∙ (ap is_hyphen rests ∙ sym k.next)
+
+separator_ends : (s b : List ℕ) → 0 < length s → list_all is_separator_byte s ≡ true → Stops is_plain_byte (s ++ b)
+separator_ends [] b some pass = absurd (omega arith)
+separator_ends (x ∷ s) b some pass = stops_at is_plain_byte is_separator_byte plain_no_separator x (and_parts (is_separator_byte x) (list_all is_separator_byte s) pass).0
+
+some_length : {V : Type 0} {A : List ℕ → V → Type 0} {v : V} → NonEmpty A → (text : List ℕ) → A text v → 0 < length text
+some_length {v = v} never [] h = absurd (never.some v h)
+some_length never (x ∷ text) h = omega arith
+
+some_separate : MadeOf IsSomeBlanks is_separator_byte
+some_separate = made_wider is_blank_byte is_separator_byte blank_separator some_blanks_made
+
+-- a hyphen range
+hyphen_laid_out : (text : List ℕ) (cs : List Comparator) → IsHyphen text cs → IsLaidOut true text
+hyphen_laid_out text cs h = go h.stands.second h.stands.text_is h.stands.in_second.stands.second h.stands.in_second.stands.text_is h.stands.in_second.stands.in_second
+  where
+    go : (s : List ℕ) → text ≡ h.stands.first ++ s → (r : List ℕ) → s ≡ h.stands.in_second.stands.first ++ r → Marked 45 (After IsSomeBlanks IsUpper) r h.stands.in_second.value.1 → IsLaidOut true text
+    go s e [] f k = absurd k
+    go s e (x ∷ r) f k =
+        let blanks = h.stands.in_second.stands.first in
+        let some = h.stands.in_second.stands.in_first in
+        let pass = some_separate.made blanks tt some in
+        record {
+          first = h.stands.first;
+          between = blanks;
+          rest = x ∷ r;
+          value = h.value.0;
+          text_is = e ∙ ap (λ t. h.stands.first ++ t) f;
+          core = (partial_core Npm).core h.stands.first h.value.0 h.stands.in_first;
+          separate = pass;
+          first_ends = separator_ends blanks (x ∷ r) some.0 pass;
+          between_ends = rw k.0 refl;
+          next = rw k.0 refl;
+        }
+
+-- a list
+abbrev pub IsList : List ℕ → List Comparator → Type 0
+IsList = Listed (IsComparator Npm) IsNpmSeparator
+
+list_begins : BeginsBy IsList is_start_byte
+list_begins = listed_begins (comparator_some Npm) (comparator_begins Npm)
+
+list_stops : (b : List ℕ) (cs : List Comparator) → IsList b cs → Stops is_separator_byte b
+list_stops [] cs h = tt
+list_stops (x ∷ b) cs h = stops_at is_separator_byte is_start_byte separator_no_start x (list_begins.begins x (record { more = b; value = cs; stands = h }))
+
+hyphen_no_start : Disjoint (λ x. x == 45) is_start_byte
+hyphen_no_start x h k = grind (arith, nat_tests)
+
+list_no_hyphen : (b : List ℕ) (cs : List Comparator) → IsList b cs → false ≡ is_hyphen b
+list_no_hyphen [] cs h = refl
+list_no_hyphen (x ∷ b) cs h = sym (stops_at (λ x. x == 45) is_start_byte hyphen_no_start x (list_begins.begins x (record { more = b; value = cs; stands = h })))
+
+list_laid_out : (text : List ℕ) (cs : List Comparator) → IsList text cs → IsLaidOut false text
+list_laid_out text cs (last_item {a} {v} h) =
+    let core = (comparator_within Npm).texts a v h in
+    record { first = a; between = []; rest = []; value = core.0; text_is = sym (append-nil a); core = core.1; separate = refl; first_ends = tt; between_ends = tt; next = refl }
+list_laid_out text cs (closed_item {a} {s} {v} h k) =
+    let core = (comparator_within Npm).texts a v h in
+    let pass = separator_made.made s tt k in
+    record { first = a; between = s; rest = []; value = core.0; text_is = ap (λ t. a ++ t) (sym (append-nil s)); core = core.1; separate = pass; first_ends = separator_ends s [] (some_length separator_some s k) pass; between_ends = tt; next = refl }
+list_laid_out text cs (more_items {a} {s} {b} {v} {vs} h k t) =
+    let core = (comparator_within Npm).texts a v h in
+    let pass = separator_made.made s tt k in
+    record { first = a; between = s; rest = b; value = core.0; text_is = refl; core = core.1; separate = pass; first_ends = separator_ends s b (some_length separator_some s k) pass; between_ends = list_stops b vs t; next = list_no_hyphen b vs t }
+
+pub no_both : Never IsHyphen IsList
+no_both = record { both = λ text v w h k. differ (one_layout true false text (hyphen_laid_out text v h) (list_laid_out text w k)) }
+  where
+    differ : true ≡ false → ⊥
+    differ e = cc e
+
+-- ---- pieces
+
+pub filled_one : (f : Flavour) → Unambiguous (IsFilled f)
+filled_one Npm = either_one no_both hyphen_one (listed_one npm_listing (comparator_one Npm))
+filled_one Normal = listed_one normal_listing (comparator_one Normal)
+filled_one Specifier = record { one = λ text v w h k. absurd h }
+
+partial_starts : (x : ℕ) → is_partial_byte x ≡ true → is_start_byte x ≡ true
+partial_starts x h = grind (arith, nat_tests)
+
+filled_begins : (f : Flavour) → BeginsBy (IsFilled f) is_start_byte
+filled_begins Npm = either_begins (mapped_begins (joined_begins any_some (begins_wider is_partial_byte is_start_byte partial_starts (any_begins Npm)))) list_begins
+filled_begins Normal = listed_begins (comparator_some Normal) (comparator_begins Normal)
+filled_begins Specifier = record { begins = λ x b. absurd b.stands }
+
+filled_some : (f : Flavour) → NonEmpty (IsFilled f)
+filled_some Npm = record { some = go }
+  where
+    hyphened : NonEmpty IsHyphen
+    hyphened = mapped_some_text (joined_some_text any_some)
+
+    list : NonEmpty IsList
+    list = listed_some (comparator_some Npm)
+
+    go : (cs : List Comparator) → IsFilled Npm [] cs → ⊥
+    go cs (this h) = hyphened.some cs h
+    go cs (that h) = list.some cs h
+filled_some Normal = listed_some (comparator_some Normal)
+filled_some Specifier = record { some = λ cs h. h }
+
+pub piece_one : (f : Flavour) → Unambiguous (IsPiece f)
+piece_one f = record { one = go }
+  where
+    go : (text : List ℕ) (cs ds : List Comparator) → IsPiece f text cs → IsPiece f text ds → cs ≡ ds
+    go text [] [] h k = refl
+    go text [] (d ∷ ds) h k = absurd ((filled_some f).some (d ∷ ds) (rw h at k))
+    go text (c ∷ cs) [] h k = absurd ((filled_some f).some (c ∷ cs) (rw k at h))
+    go text (c ∷ cs) (d ∷ ds) h k = (filled_one f).one text (c ∷ cs) (d ∷ ds) h k
+
+start_no_blank : Disjoint is_start_byte is_blank_byte
+start_no_blank x h k = grind (arith, nat_tests)
+
+-- blanks are no piece but the empty one
+pub blank_piece : (f : Flavour) (text : List ℕ) (cs : List Comparator) → IsPiece f text cs → IsBlanks text tt → cs ≡ []
+blank_piece f text [] h k = refl
+blank_piece f text (c ∷ cs) h k = absurd ((never_by is_start_byte is_blank_byte start_no_blank (filled_some f) (filled_begins f) (begins_from_made blanks_made)).both text (c ∷ cs) tt h k)
+
+-- ---- pieces have no `|`
+
+abbrev pub is_piece_byte : ℕ → Bool
+is_piece_byte x = is_comparator_byte x || is_separator_byte x
+
+comparator_piece : (x : ℕ) → is_comparator_byte x ≡ true → is_piece_byte x ≡ true
+comparator_piece x h = or_left (is_comparator_byte x) (is_separator_byte x) h
+
+separator_piece : (x : ℕ) → is_separator_byte x ≡ true → is_piece_byte x ≡ true
+separator_piece x h = or_right (is_comparator_byte x) (is_separator_byte x) h
+
+partials_piece : MadeOf (IsPartial Npm) is_piece_byte
+partials_piece = made_wider is_comparator_byte is_piece_byte comparator_piece (partial_made Npm)
+
+blanks_piece : MadeOf IsBlanks is_piece_byte
+blanks_piece = made_wider is_separator_byte is_piece_byte separator_piece blanks_separate
+
+some_piece : MadeOf IsSomeBlanks is_piece_byte
+some_piece = made_wider is_separator_byte is_piece_byte separator_piece some_separate
+
+comparators_piece : (f : Flavour) → MadeOf (IsComparator f) is_piece_byte
+comparators_piece f = made_wider is_comparator_byte is_piece_byte comparator_piece (comparator_made f)
+
+pub filled_made : (f : Flavour) → MadeOf (IsFilled f) is_piece_byte
+filled_made Npm = either_made
+    (mapped_made (joined_made partials_piece (mapped_made (joined_made some_piece (marked_made (mapped_made (joined_made some_piece (mapped_made (joined_made partials_piece blanks_piece)))) 45 refl)))))
+    (listed_made (comparators_piece Npm) (made_wider is_separator_byte is_piece_byte separator_piece separator_made))
+filled_made Normal = listed_made (comparators_piece Normal) some_piece
+filled_made Specifier = record { made = λ text cs h. absurd h }
+
+pub no_bar : (text : List ℕ) → list_all is_piece_byte text ≡ true → HasNoBar text
+no_bar text pass a b e = bar (and_parts (is_piece_byte 124) (list_all is_piece_byte (124 ∷ b)) (all_second is_piece_byte a (124 ∷ 124 ∷ b) (rw e at pass))).0
+  where
+    bar : is_piece_byte 124 ≡ true → ⊥
+    bar h = cc h
+
+-- after a piece, `||` is the leftmost one
+pub cut_here : (piece rest : List ℕ) → list_all is_piece_byte piece ≡ true → IsCutAt (piece ++ (124 ∷ 124 ∷ rest)) piece rest
+cut_here piece rest pass = record { text_is = refl; leftmost = go }
+  where
+    go : (a b : List ℕ) → piece ++ (124 ∷ 124 ∷ rest) ≡ a ++ (124 ∷ 124 ∷ b) → length piece ≤ length a
+    go a b e = elim (fronts piece a (124 ∷ 124 ∷ rest) (124 ∷ 124 ∷ b) e) [
+      | same one two ↦ omega (arith, ap length one)
+      | shorter x m one two ↦ omega (arith, ap length one, length-append piece (x ∷ m))
+      | longer x m one two ↦ absurd (bar x m (cc two) (all_second is_piece_byte a (x ∷ m) (rw one at pass)))
+    ]
+      where
+        bar : (x : ℕ) (m : List ℕ) → x ≡ 124 → list_all is_piece_byte (x ∷ m) ≡ true → ⊥
+        bar x m is h = let passes : is_piece_byte 124 ≡ true = rw is at (and_parts (is_piece_byte x) (list_all is_piece_byte m) h).0 in cc passes

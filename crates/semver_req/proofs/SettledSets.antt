@@ -1,0 +1,181 @@
+-- What the shortest form of a set means, and what it reads back as.
+use Rattle.std.proofs.Common.{◌≡◌, ◌&&◌, ◌||◌, ◌==◌, List, [], ◌∷◌, length, Bool, true, false, map, not, refl, sym, ap, ap₂, subst, ◌∙◌}
+use Rattle.std.proofs.lemmas.List.{nil_from_length}
+use Rattle.std.specs.List.{list_all}
+use Rattle.std.specs.Prelude.{if◌then◌else◌}
+use Rattle.std.specs.declared.cmp.Ordering.{Ordering}
+use Rattle.std.specs.declared.cmp.Ordering.TheVariants.{Less, Equal, Greater}
+use Rattle.semver_base.specs.Meaning.{alternatives, from, release, to_below, tree_means}
+use Rattle.semver_base.specs.Overlap.{ends_at_zero, lies_below, starts_before}
+use Rattle.semver_base.specs.PartialTable.{at_most, between, bound_at}
+use Rattle.semver_base.specs.Precedence.{precedence_cmp}
+use Rattle.semver_base.specs.PrecedenceLaws.{version_eq, version_told}
+use Rattle.semver_base.specs.declared.range.RangeBound.{RangeBound}
+use Rattle.semver_base.specs.declared.range.RangeBound.TheVariants as bound
+use Rattle.semver_base.specs.declared.range.VersionBoundKind.{VersionBoundKind}
+use Rattle.semver_base.specs.declared.range.VersionBoundKind.TheVariants as kind
+use Rattle.semver_base.specs.declared.range.VersionRange.{VersionRange}
+use Rattle.semver_base.specs.declared.version.Version.{Version}
+use Rattle.semver_base.proofs.Orders.{and_both, and_first, and_second}
+use Rattle.semver_req.specs.Comparators.{Comparator, comparator_range}
+use Rattle.semver_req.specs.KeptSet.{kept, kept_range}
+use Rattle.semver_req.specs.Outcome.{tree_ranges}
+use Rattle.semver_req.specs.Settled.{IsSettled, all, no_end, one_version, short, ordered, has_no_build, is_kept, is_usual, reread, reread_set}
+use Rattle.semver_req.specs.Shortest.{ending, has_start, is_below_zero, is_plain, is_short, keeps_meaning, keeps_start, shortest, shortest_between, shortest_of, shortest_tree, starting, starts_or_is_open}
+use Rattle.semver_req.proofs.Folding.{comparator_empty, kept_means, nothing_means}
+use Rattle.semver_req.proofs.KeptRanges.{kept_are_kept, kept_range_starts}
+use Rattle.semver_req.proofs.Settling.{both_kept, end_kept, form_read, reread_settled, same_version, settled_reread, version_read}
+use Rattle.semver_req.proofs.ShortestMeaning.{by_form, by_test, ge_turned, same_number, short_end, shortest_means, zero_le}
+
+-- ---- what the form of a set means
+
+forms_mean : (ranges : List VersionRange) → list_all has_start ranges ≡ true → list_all keeps_meaning ranges ≡ true
+    → (v : Version) → tree_means (tree_ranges (map shortest ranges)) v ≡ tree_means (alternatives ranges) v
+forms_mean [] h k v = refl
+forms_mean (range ∷ ranges) h k v = ap₂ (λ (a b : Bool). a || b)
+    (shortest_means range (and_first _ _ h) (and_first _ _ k) v)
+    (forms_mean ranges (and_second (has_start range) _ h) (and_second (keeps_meaning range) _ k) v)
+
+-- the shortest form of a set means what the set means
+pub tree_form_means : (ranges : List VersionRange) → list_all has_start ranges ≡ true → list_all keeps_meaning ranges ≡ true
+    → (v : Version) → tree_means (tree_ranges (shortest_tree ranges)) v ≡ tree_means (alternatives ranges) v
+tree_form_means [] h k v =
+    let none = nothing_means (comparator_range (ending kind.Exclusive (release 0 0 0))) v (comparator_empty (ending kind.Exclusive (release 0 0 0)) refl) in
+    ap (λ (b : Bool). b || false) none
+tree_form_means (range ∷ ranges) h k v = forms_mean (range ∷ ranges) h k v
+
+-- what is kept of it means what the set means
+pub reread_set_means : (ranges : List VersionRange) → list_all has_start ranges ≡ true → list_all keeps_meaning ranges ≡ true
+    → (v : Version) → tree_means (alternatives (reread_set ranges)) v ≡ tree_means (alternatives ranges) v
+reread_set_means ranges h k v = kept_means (shortest_tree ranges) v ∙ tree_form_means ranges h k v
+
+-- ---- no range is dropped
+
+-- the comparators are read back with an end at 0.0.0 exactly where the given one is
+abbrev EndsAs : RangeBound → List Comparator → Type 0
+EndsAs end cs = ends_at_zero (kept_range cs).end ≡ ends_at_zero end
+
+ends_by : (cs : List Comparator) {range : VersionRange} → kept_range cs ≡ range → ends_at_zero (kept_range cs).end ≡ ends_at_zero range.end
+ends_by cs same = ap (λ (range : VersionRange). ends_at_zero range.end) same
+
+between_ends : (k l : VersionBoundKind) (s e : Version) → EndsAs (bound_at l e) (shortest_between k l s e)
+between_ends kind.Inclusive kind.Inclusive s e =
+    let P : List Comparator → Type 0 = EndsAs (at_most e) in
+    by_test P (version_eq s e) (λ same. ap (λ (range : VersionRange). ends_at_zero range.end) (version_read s e same)) (λ _.
+    by_test P (is_plain s 0 0 0) (λ _. ends_by (ending kind.Inclusive e ∷ []) (end_kept kind.Inclusive e)) (λ _.
+    ends_by (starting kind.Inclusive s ∷ ending kind.Inclusive e ∷ []) (both_kept kind.Inclusive kind.Inclusive s e)))
+between_ends kind.Inclusive kind.Exclusive s e =
+    let P : List Comparator → Type 0 = EndsAs (to_below e) in
+    by_form P s e (λ form c own. ends_by (c ∷ []) (form_read s e form c own)) (λ _.
+    by_test P (is_plain s 0 0 0) (λ _. ends_by (ending kind.Exclusive e ∷ []) (end_kept kind.Exclusive e)) (λ _.
+    ends_by (starting kind.Inclusive s ∷ ending kind.Exclusive e ∷ []) (both_kept kind.Inclusive kind.Exclusive s e)))
+between_ends kind.Exclusive l s e = ends_by (starting kind.Exclusive s ∷ ending l e ∷ []) (both_kept kind.Exclusive l s e)
+
+start_ends : (k : VersionBoundKind) (s : Version) → EndsAs bound.Unbounded (starting k s ∷ [])
+start_ends kind.Inclusive s = refl
+start_ends kind.Exclusive s = refl
+
+bounds_end : (start end : RangeBound) → starts_or_is_open start end ≡ true → EndsAs end (shortest_of start end)
+bounds_end bound.Unbounded bound.Unbounded h = refl
+bounds_end bound.Unbounded (bound.Version e) h = cc h
+bounds_end (bound.Version s) bound.Unbounded h = start_ends s.kind s.version
+bounds_end (bound.Version s) (bound.Version e) h = between_ends s.kind e.kind s.version e.version
+
+reread_kept : (range : VersionRange) → is_kept range ≡ true → not (ends_at_zero (reread range).end) ≡ true
+reread_kept range h = ap not (bounds_end range.start range.end (and_first (has_start range) _ h)) ∙ and_second (has_start range) _ h
+
+forms_kept : (ranges : List VersionRange) → list_all is_kept ranges ≡ true → kept (map shortest ranges) ≡ map reread ranges
+forms_kept [] h = refl
+forms_kept (range ∷ ranges) h = go (not (ends_at_zero (reread range).end)) (reread_kept range (and_first _ _ h)) (forms_kept ranges (and_second (is_kept range) _ h))
+  where
+    go : (b : Bool) → b ≡ true → kept (map shortest ranges) ≡ map reread ranges
+        → (if b then reread range ∷ kept (map shortest ranges) else kept (map shortest ranges)) ≡ map reread (range ∷ ranges)
+    go true e later = ap (λ (rest : List VersionRange). reread range ∷ rest) later
+    go false e later = cc e
+
+-- of kept ranges each is read back, in order
+pub set_reread : (ranges : List VersionRange) → list_all is_kept ranges ≡ true → reread_set ranges ≡ map reread ranges
+set_reread [] h = refl
+set_reread (range ∷ ranges) h = forms_kept (range ∷ ranges) h
+
+-- ---- settling
+
+rereads_kept : (ranges : List VersionRange) → list_all is_kept ranges ≡ true → list_all is_kept (map reread ranges) ≡ true
+rereads_kept [] h = refl
+rereads_kept (range ∷ ranges) h = and_both _ _
+    (and_both _ _ (kept_range_starts (shortest range)) (reread_kept range (and_first _ _ h)))
+    (rereads_kept ranges (and_second (is_kept range) _ h))
+
+twice : (ranges : List VersionRange) → list_all is_kept ranges ≡ true → map reread (map reread ranges) ≡ map reread ranges
+twice [] h = refl
+twice (range ∷ ranges) h = ap₂ (λ (r : VersionRange) (rest : List VersionRange). r ∷ rest)
+    (settled_reread (reread range) (reread_settled range (and_first (has_start range) _ (and_first _ _ h))))
+    (twice ranges (and_second (is_kept range) _ h))
+
+-- what a kept set is read back as is read back as itself
+pub set_settles : (ranges : List VersionRange) → list_all is_kept ranges ≡ true → reread_set (reread_set ranges) ≡ reread_set ranges
+set_settles ranges h =
+    let once = set_reread ranges h in
+    ap reread_set once ∙ set_reread (map reread ranges) (rereads_kept ranges h) ∙ twice ranges h ∙ sym once
+
+-- the kept set of a tree settles
+pub kept_settles : (tree : List (List Comparator)) → reread_set (reread_set (kept tree)) ≡ reread_set (kept tree)
+kept_settles tree = set_settles (kept tree) (kept_are_kept tree)
+
+-- ---- ranges that are settled as they were read
+
+no_build : (v : Version) → (length v.build == 0) ≡ true → v.build ≡ []
+no_build v h = nil_from_length v.build (same_number _ _ h)
+
+-- a start below its end
+less_settled : (k l : VersionBoundKind) (s e : Version) → s.build ≡ [] → e.build ≡ [] → precedence_cmp s e ≡ Less → keeps_start (bound_at k s) (bound_at l e) ≡ true
+    → IsSettled (between (bound_at k s) (bound_at l e))
+less_settled k l s e first second less h = go (is_below_zero s) refl k l h
+  where
+    go : (b : Bool) → is_below_zero s ≡ b → (k l : VersionBoundKind) → (not b || is_short k l s e) ≡ true → IsSettled (between (bound_at k s) (bound_at l e))
+    go false above k l h = ordered first second (ge_turned _ (release 0 0 0) s refl (zero_le s above)) less
+    go true low kind.Inclusive kind.Inclusive h = subst (λ (end : Version). IsSettled (between (from s) (at_most end))) ((version_told s e).0 h) one_version
+    go true low kind.Inclusive kind.Exclusive h = short (short_end s e low h)
+    go true low kind.Exclusive l h = cc h
+
+-- a start at its end, both inclusive
+tied_settled : (k l : VersionBoundKind) (s e : Version) → s ≡ e → lies_below k l Equal ≡ true → IsSettled (between (bound_at k s) (bound_at l e))
+tied_settled kind.Inclusive kind.Inclusive s e same h = subst (λ (end : Version). IsSettled (between (from s) (at_most end))) same one_version
+tied_settled kind.Inclusive kind.Exclusive s e same h = cc h
+tied_settled kind.Exclusive l s e same h = cc h
+
+never_passed : (k l : VersionBoundKind) → lies_below k l Greater ≡ true → ⊥
+never_passed kind.Inclusive kind.Inclusive h = cc h
+never_passed kind.Inclusive kind.Exclusive h = cc h
+never_passed kind.Exclusive l h = cc h
+
+usual_between : (k l : VersionBoundKind) (s e : Version) → s.build ≡ [] → e.build ≡ [] → lies_below k l (precedence_cmp s e) ≡ true → keeps_start (bound_at k s) (bound_at l e) ≡ true
+    → IsSettled (between (bound_at k s) (bound_at l e))
+usual_between k l s e first second below h = go (precedence_cmp s e) refl below
+  where
+    go : (r : Ordering) → precedence_cmp s e ≡ r → lies_below k l r ≡ true → IsSettled (between (bound_at k s) (bound_at l e))
+    go Less less below = less_settled k l s e first second less h
+    go Equal tie below = tied_settled k l s e (same_version s e first second tie) below
+    go Greater passed below = absurd (never_passed k l below)
+
+usual_bounds : (start end : RangeBound) → starts_or_is_open start end ≡ true → (has_no_build start && has_no_build end) ≡ true → starts_before start end ≡ true → keeps_start start end ≡ true
+    → IsSettled (between start end)
+usual_bounds bound.Unbounded bound.Unbounded h built below k = all
+usual_bounds bound.Unbounded (bound.Version e) h built below k = cc h
+usual_bounds (bound.Version s) bound.Unbounded h built below k = no_end (no_build s.version (and_first _ _ built))
+usual_bounds (bound.Version s) (bound.Version e) h built below k =
+    usual_between s.kind e.kind s.version e.version (no_build s.version (and_first _ _ built)) (no_build e.version (and_second (has_no_build (bound.Version s)) _ built)) below k
+
+-- a range without builds that starts below its end is settled, under the premise
+pub usual_settled : (range : VersionRange) → has_start range ≡ true → is_usual range ≡ true → keeps_meaning range ≡ true → IsSettled range
+usual_settled range h usual k = usual_bounds range.start range.end h (and_first _ _ usual) (and_second (has_no_build range.start && has_no_build range.end) _ usual) k
+
+usual_twice : (ranges : List VersionRange) → list_all is_kept ranges ≡ true → list_all is_usual ranges ≡ true → list_all keeps_meaning ranges ≡ true → map reread ranges ≡ ranges
+usual_twice [] h usual k = refl
+usual_twice (range ∷ ranges) h usual k = ap₂ (λ (r : VersionRange) (rest : List VersionRange). r ∷ rest)
+    (settled_reread range (usual_settled range (and_first (has_start range) _ (and_first _ _ h)) (and_first _ _ usual) (and_first _ _ k)))
+    (usual_twice ranges (and_second (is_kept range) _ h) (and_second (is_usual range) _ usual) (and_second (keeps_meaning range) _ k))
+
+-- a kept set of such ranges is read back as itself
+pub usual_reread : (ranges : List VersionRange) → list_all is_kept ranges ≡ true → list_all is_usual ranges ≡ true → list_all keeps_meaning ranges ≡ true → reread_set ranges ≡ ranges
+usual_reread ranges h usual k = set_reread ranges h ∙ usual_twice ranges h usual k

@@ -1,0 +1,249 @@
+-- The shortest form of a range means what the range means.
+use Rattle.std.proofs.Common.{◌≡◌, ◌&&◌, ◌||◌, ◌==◌, ◌+◌, ◌<◌, ℕ, List, [], ◌∷◌, length, Bool, true, false, map, not, refl, sym, ap, ap₂, ◌∙◌, inl, inr, arith}
+use Rattle.std.proofs.lemmas.Bool.Decides.{nat_tests}
+use Rattle.std.proofs.lemmas.Cmp.{ranked}
+use Rattle.std.proofs.lemmas.List.{nil_from_length}
+use Rattle.std.specs.FinMap.{nat_cmp-IsAntisymmetric}
+use Rattle.std.specs.Ordering.{is_ge, is_le, nat_cmp, ordering_then, MatchOrdering}
+use Rattle.std.specs.Prelude.{if◌then◌else◌, nat_lt}
+use Rattle.std.specs.declared.cmp.Ordering.{Ordering}
+use Rattle.std.specs.declared.cmp.Ordering.TheVariants.{Less, Equal, Greater}
+use Rattle.semver_base.specs.Meaning.{alternative_means, from, is_above, release, to_below}
+use Rattle.semver_base.specs.PartialTable.{at_most, between, bound_at, caret}
+use Rattle.semver_base.specs.Precedence.{precedence_cmp, pre_cmp}
+use Rattle.semver_base.specs.PrecedenceLaws.{precedence_total, version_eq, version_told}
+use Rattle.semver_base.specs.declared.partial.XRange.TheVariants.{Wildcard, Val}
+use Rattle.semver_base.specs.declared.range.RangeBound.{RangeBound}
+use Rattle.semver_base.specs.declared.range.RangeBound.TheVariants as bound
+use Rattle.semver_base.specs.declared.range.VersionBoundKind.{VersionBoundKind}
+use Rattle.semver_base.specs.declared.range.VersionBoundKind.TheVariants as kind
+use Rattle.semver_base.specs.declared.range.VersionRange.{VersionRange}
+use Rattle.semver_base.specs.declared.version.Version.{Version}
+use Rattle.semver_base.proofs.ClampLemmas.{above_ge}
+use Rattle.semver_base.proofs.Orders.{and_both, and_first, and_second, le_le, le_turned, or_cases, or_first, or_second, turned}
+use Rattle.semver_req.specs.Comparators.{Caret, Comparator, Plain, Tilde, comparator_range}
+use Rattle.semver_req.specs.Shortest.{ending, has_short_form, has_start, is_below_zero, is_caret_major, is_caret_patch, is_major, is_minor, is_plain, is_short, is_tilde, keeps_meaning, keeps_start, numbered, shortest, shortest_between, shortest_of, starting, starts_or_is_open, whole}
+
+-- the comparators mean what the range means
+abbrev Means : List Comparator → VersionRange → Type 0
+Means comparators range = (v : Version) → alternative_means (map comparator_range comparators) v ≡ alternative_means (range ∷ []) v
+
+-- the comparators of one line or another, by its test
+pub by_test : (P : List Comparator → Type 0) (test : Bool) {xs ys : List Comparator} → (test ≡ true → P xs) → (test ≡ false → P ys) → P (if test then xs else ys)
+by_test P true fits other = fits refl
+by_test P false fits other = other refl
+
+-- ---- plain versions
+
+pub same_number : (a b : ℕ) → (a == b) ≡ true → a ≡ b
+same_number a b e = grind (arith, nat_tests)
+
+number_same : (a b : ℕ) → a ≡ b → (a == b) ≡ true
+number_same a b e = grind (arith, nat_tests)
+
+abbrev pub version_of : ℕ → ℕ → ℕ → List (List ℕ) → List (List ℕ) → Version
+version_of major minor patch pre build = record { major = major; minor = minor; patch = patch; pre = pre; build = build }
+
+pub plain_is : (v : Version) (major minor patch : ℕ) → is_plain v major minor patch ≡ true → v ≡ release major minor patch
+plain_is v major minor patch h =
+    let h1 = and_second (v.major == major) _ h in
+    let h2 = and_second (v.minor == minor) _ h1 in
+    let h3 = and_second (v.patch == patch) _ h2 in
+    let major_is : v.major ≡ major = same_number _ _ (and_first (v.major == major) _ h) in
+    let minor_is : v.minor ≡ minor = same_number _ _ (and_first (v.minor == minor) _ h1) in
+    let patch_is : v.patch ≡ patch = same_number _ _ (and_first (v.patch == patch) _ h2) in
+    let pre_is : v.pre ≡ [] = nil_from_length v.pre (same_number _ _ (and_first (length v.pre == 0) _ h3)) in
+    let build_is : v.build ≡ [] = nil_from_length v.build (same_number _ _ (and_second (length v.pre == 0) _ h3)) in
+    let same : version_of v.major v.minor v.patch v.pre v.build ≡ version_of major minor patch [] [] = rw (major_is, minor_is, patch_is, pre_is, build_is) refl in
+    same
+
+-- ---- 0.0.0
+
+zero_le_number : (n : ℕ) → is_le (nat_cmp 0 n) ≡ true
+zero_le_number n = go (nat_cmp 0 n) (ranked 0 n (nat_cmp 0 n) refl)
+  where
+    go : (r : Ordering) → MatchOrdering r (0 < n) (0 ≡ n) (n < 0) → is_le r ≡ true
+    go Less below = refl
+    go Equal same = refl
+    go Greater above = absurd (omega arith)
+
+le_then : (r s : Ordering) → is_le r ≡ true → (r ≡ Equal → is_le s ≡ true) → is_le (ordering_then r s) ≡ true
+le_then Less s h k = refl
+le_then Equal s h k = k refl
+le_then Greater s h k = h
+
+zero_tied : (n : ℕ) → nat_cmp 0 n ≡ Equal → (n == 0) ≡ true
+zero_tied n e = number_same n 0 (sym (nat_cmp-IsAntisymmetric 0 n e))
+
+some_length : (x : List ℕ) (xs : List (List ℕ)) → (length (x ∷ xs) == 0) ≡ false
+some_length x xs = grind (arith, nat_tests)
+
+release_le : (pre : List (List ℕ)) (zeros : Bool) → (not (length pre == 0) && zeros) ≡ false → zeros ≡ true → is_le (pre_cmp [] pre) ≡ true
+release_le [] zeros h k = refl
+release_le (x ∷ xs) zeros h k = let none : true ≡ false = rw (some_length x xs, k) at h in cc none
+
+-- a version that is no pre-release of 0.0.0 isn't below it
+pub zero_le : (s : Version) → is_below_zero s ≡ false → is_le (precedence_cmp (release 0 0 0) s) ≡ true
+zero_le s h =
+    le_then _ _ (zero_le_number s.major) (λ major.
+    le_then _ _ (zero_le_number s.minor) (λ minor.
+    le_then _ _ (zero_le_number s.patch) (λ patch.
+    release_le s.pre _ h (and_both _ _ (zero_tied s.major major) (and_both _ _ (zero_tied s.minor minor) (zero_tied s.patch patch))))))
+
+pub ge_turned : (r : Ordering) (x y : Version) → precedence_cmp x y ≡ r → is_le r ≡ true → is_ge (precedence_cmp y x) ≡ true
+ge_turned Less x y e h = rw (turned precedence_total x y Less e) refl
+ge_turned Equal x y e h = rw (turned precedence_total x y Equal e) refl
+ge_turned Greater x y e h = cc h
+
+-- what a start holds that isn't below 0.0.0, 0.0.0 as a start holds
+held_from_zero : (k : VersionBoundKind) (s v : Version) → is_below_zero s ≡ false → is_above k (precedence_cmp v s) ≡ true → is_ge (precedence_cmp v (release 0 0 0)) ≡ true
+held_from_zero k s v low h = ge_turned _ (release 0 0 0) v refl
+    (le_le precedence_total (release 0 0 0) s v (zero_le s low) (le_turned precedence_total v s (above_ge k (precedence_cmp v s) h)))
+
+-- ---- lines with two comparators
+
+-- tests of a comparator from s and one from 0.0.0, and of the range of both
+both_tests : (above zero below r first second : Bool) → (above ≡ true → zero ≡ true)
+    → (((above && true) && ((zero && below) && true)) && (r || ((first || false) || (second || false)))) ≡ (((above && below) && true) && (r || ((first || second) || false)))
+both_tests true zero below r true second h = rw (h refl) refl
+both_tests true zero below r false second h = rw (h refl) refl
+both_tests false zero below r first second h = refl
+
+both_mean : (k l : VersionBoundKind) (s e : Version) → is_below_zero s ≡ false → Means (starting k s ∷ ending l e ∷ []) (between (bound_at k s) (bound_at l e))
+both_mean kind.Inclusive kind.Inclusive s e low v = both_tests _ _ _ _ _ _ (held_from_zero kind.Inclusive s v low)
+both_mean kind.Inclusive kind.Exclusive s e low v = both_tests _ _ _ _ _ _ (held_from_zero kind.Inclusive s v low)
+both_mean kind.Exclusive kind.Inclusive s e low v = both_tests _ _ _ _ _ _ (held_from_zero kind.Exclusive s v low)
+both_mean kind.Exclusive kind.Exclusive s e low v = both_tests _ _ _ _ _ _ (held_from_zero kind.Exclusive s v low)
+
+-- ---- lines with one comparator
+
+start_means : (k : VersionBoundKind) (s : Version) → Means (starting k s ∷ []) (between (bound_at k s) bound.Unbounded)
+start_means kind.Inclusive s v = refl
+start_means kind.Exclusive s v = refl
+
+end_means : (k : VersionBoundKind) (s e : Version) → is_plain s 0 0 0 ≡ true → Means (ending k e ∷ []) (between (from s) (bound_at k e))
+end_means kind.Inclusive s e h v = ap (λ (start : Version). alternative_means (between (from start) (at_most e) ∷ []) v) (sym (plain_is s 0 0 0 h))
+end_means kind.Exclusive s e h v = ap (λ (start : Version). alternative_means (between (from start) (to_below e) ∷ []) v) (sym (plain_is s 0 0 0 h))
+
+-- a comparator that stands for the range itself
+alone_means : (c : Comparator) (range : VersionRange) → comparator_range c ≡ range → Means (c ∷ []) range
+alone_means c range same v = ap (λ (r : VersionRange). alternative_means (r ∷ []) v) same
+
+pub version_range : (s e : Version) → version_eq s e ≡ true → comparator_range (Plain (whole s)) ≡ between (from s) (at_most e)
+version_range s e h = ap (λ (end : Version). between (from s) (at_most end)) ((version_told s e).0 h)
+
+-- two plain versions by their numbers
+plain_range : {start end : Version} (s e : Version) → s ≡ start → e ≡ end → between (from start) (to_below end) ≡ between (from s) (to_below e)
+plain_range s e p q = ap₂ (λ (start end : Version). between (from start) (to_below end)) (sym p) (sym q)
+
+major_range : (s e : Version) → is_major s e ≡ true → comparator_range (Plain (numbered (Val s.major) Wildcard)) ≡ between (from s) (to_below e)
+major_range s e h = plain_range s e (plain_is s s.major 0 0 (and_first _ _ h)) (plain_is e (s.major + 1) 0 0 (and_second (is_plain s s.major 0 0) _ h))
+
+minor_range : (s e : Version) → is_minor s e ≡ true → comparator_range (Plain (numbered (Val s.major) (Val s.minor))) ≡ between (from s) (to_below e)
+minor_range s e h = plain_range s e (plain_is s s.major s.minor 0 (and_first _ _ h)) (plain_is e s.major (s.minor + 1) 0 (and_second (is_plain s s.major s.minor 0) _ h))
+
+tilde_range : (s e : Version) → is_tilde s e ≡ true → comparator_range (Tilde (whole s)) ≡ between (from s) (to_below e)
+tilde_range s e h = plain_range s e refl (plain_is e s.major (s.minor + 1) 0 h)
+
+pub none_below : (n : ℕ) → (n == 0) ≡ true → nat_lt 0 n ≡ false
+none_below n e = grind (arith, nat_tests)
+
+caret_major : (s : Version) → nat_lt 0 s.major ≡ true → (caret (whole s)).range ≡ between (from s) (to_below (release (s.major + 1) 0 0))
+caret_major s h = rw h refl
+
+caret_patch : (s : Version) → nat_lt 0 s.major ≡ false → nat_lt 0 s.minor ≡ false → (caret (whole s)).range ≡ between (from s) (to_below (release 0 0 (s.patch + 1)))
+caret_patch s h k = rw (h, k) refl
+
+caret_major_range : (s e : Version) → is_caret_major s e ≡ true → comparator_range (Caret (whole s)) ≡ between (from s) (to_below e)
+caret_major_range s e h =
+    caret_major s (and_first (nat_lt 0 s.major) _ h)
+    ∙ plain_range s e refl (plain_is e (s.major + 1) 0 0 (and_second (nat_lt 0 s.major) _ h))
+
+caret_patch_range : (s e : Version) → is_caret_patch s e ≡ true → comparator_range (Caret (whole s)) ≡ between (from s) (to_below e)
+caret_patch_range s e h =
+    let h1 = and_second (s.major == 0) _ h in
+    caret_patch s (none_below s.major (and_first (s.major == 0) _ h)) (none_below s.minor (and_first (s.minor == 0) _ h1))
+    ∙ plain_range s e refl (plain_is e 0 0 (s.patch + 1) (and_second (s.minor == 0) _ h1))
+
+-- ---- ranges with a short form
+
+short_by_major : (s e : Version) → is_major s e ≡ true → has_short_form s e ≡ true
+short_by_major s e h = or_first (is_major s e) _ h
+
+short_by_tilde : (s e : Version) → is_tilde s e ≡ true → has_short_form s e ≡ true
+short_by_tilde s e h = or_second (is_major s e) _ (or_first (is_tilde s e) _ h)
+
+short_by_caret_patch : (s e : Version) → is_caret_patch s e ≡ true → has_short_form s e ≡ true
+short_by_caret_patch s e h = or_second (is_major s e) _ (or_second (is_tilde s e) _ (or_first (is_caret_patch s e) _ h))
+
+short_by_caret_major : (s e : Version) → is_caret_major s e ≡ true → has_short_form s e ≡ true
+short_by_caret_major s e h = or_second (is_major s e) _ (or_second (is_tilde s e) _ (or_second (is_caret_patch s e) _ h))
+
+-- the comparators from s to below e: one that stands for the range itself, or those of the last two lines
+pub by_form : (P : List Comparator → Type 0) (s e : Version)
+    → (has_short_form s e ≡ true → (c : Comparator) → comparator_range c ≡ between (from s) (to_below e) → P (c ∷ []))
+    → (has_short_form s e ≡ false → P (if is_plain s 0 0 0 then ending kind.Exclusive e ∷ [] else starting kind.Inclusive s ∷ ending kind.Exclusive e ∷ []))
+    → P (shortest_between kind.Inclusive kind.Exclusive s e)
+by_form P s e own rest =
+    by_test P (is_major s e) (λ fits. own (short_by_major s e fits) _ (major_range s e fits)) (λ no_major.
+    by_test P (is_minor s e) (λ fits. own (short_by_tilde s e (and_second (is_plain s s.major s.minor 0) _ fits)) _ (minor_range s e fits)) (λ _.
+    by_test P (is_tilde s e) (λ fits. own (short_by_tilde s e fits) _ (tilde_range s e fits)) (λ no_tilde.
+    by_test P (is_caret_patch s e) (λ fits. own (short_by_caret_patch s e fits) _ (caret_patch_range s e fits)) (λ no_patch.
+    by_test P (is_caret_major s e) (λ fits. own (short_by_caret_major s e fits) _ (caret_major_range s e fits)) (λ no_caret.
+    rest (rw (no_major, no_tilde, no_patch, no_caret) refl))))))
+
+-- ---- the premise
+
+not_false : (a : Bool) → not a ≡ true → a ≡ false
+not_false true h = cc h
+not_false false h = refl
+
+not_below : (a b : Bool) → (not a || b) ≡ true → b ≡ false → a ≡ false
+not_below true b h k = cc (h, k)
+not_below false b h k = refl
+
+-- a range from a pre-release of 0.0.0 to below 0.0.1 or 0.1.0 has a short form
+pub short_end : (s e : Version) → is_below_zero s ≡ true → (is_plain e 0 0 1 || is_plain e 0 1 0) ≡ true → has_short_form s e ≡ true
+short_end s e low h =
+    let numbers = and_second (not (length s.pre == 0)) _ low in
+    let numbers1 = and_second (s.major == 0) _ numbers in
+    let major : s.major ≡ 0 = same_number _ _ (and_first (s.major == 0) _ numbers) in
+    let minor : s.minor ≡ 0 = same_number _ _ (and_first (s.minor == 0) _ numbers1) in
+    let patch : s.patch ≡ 0 = same_number _ _ (and_second (s.minor == 0) _ numbers1) in
+    elim (or_cases _ _ h) [
+      | inl patches ↦ short_by_caret_patch s e (rw (major, minor, patch) patches)
+      | inr minors ↦ short_by_tilde s e (rw (major, minor) minors)
+    ]
+
+not_short : (s e : Version) → (not (is_below_zero s) || (is_plain e 0 0 1 || is_plain e 0 1 0)) ≡ true → has_short_form s e ≡ false → is_below_zero s ≡ false
+not_short s e h long = go (is_below_zero s) refl h
+  where
+    go : (b : Bool) → is_below_zero s ≡ b → (not b || (is_plain e 0 0 1 || is_plain e 0 1 0)) ≡ true → b ≡ false
+    go false low h = refl
+    go true low h = cc (short_end s e low h, long)
+
+-- ---- every line
+
+between_means : (k l : VersionBoundKind) (s e : Version) → (not (is_below_zero s) || is_short k l s e) ≡ true → Means (shortest_between k l s e) (between (bound_at k s) (bound_at l e))
+between_means kind.Inclusive kind.Inclusive s e h =
+    let P : List Comparator → Type 0 = λ cs. Means cs (between (from s) (at_most e)) in
+    by_test P (version_eq s e) (λ same. alone_means (Plain (whole s)) _ (version_range s e same)) (λ other.
+    by_test P (is_plain s 0 0 0) (end_means kind.Inclusive s e) (λ _.
+    both_mean kind.Inclusive kind.Inclusive s e (not_below _ _ h other)))
+between_means kind.Inclusive kind.Exclusive s e h =
+    let P : List Comparator → Type 0 = λ cs. Means cs (between (from s) (to_below e)) in
+    by_form P s e (λ _ c own. alone_means c _ own) (λ long.
+    by_test P (is_plain s 0 0 0) (end_means kind.Exclusive s e) (λ _.
+    both_mean kind.Inclusive kind.Exclusive s e (not_short s e h long)))
+between_means kind.Exclusive l s e h = both_mean kind.Exclusive l s e (not_below _ false h refl)
+
+bounds_mean : (start end : RangeBound) → starts_or_is_open start end ≡ true → keeps_start start end ≡ true → Means (shortest_of start end) (between start end)
+bounds_mean bound.Unbounded bound.Unbounded h k v = refl
+bounds_mean bound.Unbounded (bound.Version e) h k v = cc h
+bounds_mean (bound.Version s) bound.Unbounded h k v = start_means s.kind s.version v
+bounds_mean (bound.Version s) (bound.Version e) h k v = between_means s.kind e.kind s.version e.version k v
+
+-- the shortest form of a range means what the range means
+pub shortest_means : (range : VersionRange) → has_start range ≡ true → keeps_meaning range ≡ true
+    → (v : Version) → alternative_means (map comparator_range (shortest range)) v ≡ alternative_means (range ∷ []) v
+shortest_means range h k v = bounds_mean range.start range.end h k v

@@ -1,0 +1,116 @@
+-- The shortest usual form of a range, as comparators, and the ranges that it may not mean. Source: node-semver's range
+-- grammar, whose tilde, caret and partial versions are short for two bounds.
+use Rattle.std.specs.Prelude.{ℕ, List, [], ◌∷◌, length, map, ◌+◌, Bool, true, false, not, ◌==◌, ◌&&◌, ◌||◌, nat_lt, if◌then◌else◌}
+use Rattle.semver_base.specs.Meaning.{has_pre_of, release}
+use Rattle.semver_base.specs.PartialTable.{bound_at}
+use Rattle.semver_base.specs.PrecedenceLaws.{version_eq}
+use Rattle.semver_base.specs.declared.partial.Partial.{Partial}
+use Rattle.semver_base.specs.declared.partial.XRange.{XRange}
+use Rattle.semver_base.specs.declared.partial.XRange.TheVariants.{Wildcard, Val}
+use Rattle.semver_base.specs.declared.range.RangeBound.{RangeBound}
+use Rattle.semver_base.specs.declared.range.RangeBound.TheVariants as bound
+use Rattle.semver_base.specs.declared.range.VersionBoundKind.{VersionBoundKind}
+use Rattle.semver_base.specs.declared.range.VersionBoundKind.TheVariants as kind
+use Rattle.semver_base.specs.declared.range.VersionRange.{VersionRange}
+use Rattle.semver_base.specs.declared.version.Version.{Version}
+use Rattle.semver_req.specs.Comparators.{Comparator, Caret, Plain, Signed, Tilde}
+use Rattle.semver_req.specs.declared.common.values.PrimitiveKind.TheVariants as sign
+
+-- ---- comparators of versions
+
+abbrev pub whole : Version → Partial
+whole v = record { major = Val v.major; minor = Val v.minor; patch = Val v.patch; pre = v.pre; build = v.build }
+
+-- a major and a minor, with any patch
+abbrev pub numbered : XRange → XRange → Partial
+numbered major minor = record { major = major; minor = minor; patch = Wildcard; pre = []; build = [] }
+
+abbrev pub starting : VersionBoundKind → Version → Comparator
+starting kind.Inclusive s = Signed sign.GreaterThanOrEqual (whole s)
+starting kind.Exclusive s = Signed sign.GreaterThan (whole s)
+
+abbrev pub ending : VersionBoundKind → Version → Comparator
+ending kind.Inclusive e = Signed sign.LessThanOrEqual (whole e)
+ending kind.Exclusive e = Signed sign.LessThan (whole e)
+
+-- ---- the shortest form of a range: the first line that fits
+
+-- the version has these numbers, neither a pre-release nor a build
+abbrev pub is_plain : Version → ℕ → ℕ → ℕ → Bool
+is_plain v major minor patch = (v.major == major) && ((v.minor == minor) && ((v.patch == patch) && ((length v.pre == 0) && (length v.build == 0))))
+
+abbrev pub is_major : Version → Version → Bool
+is_major s e = is_plain s s.major 0 0 && is_plain e (s.major + 1) 0 0
+
+abbrev pub is_minor : Version → Version → Bool
+is_minor s e = is_plain s s.major s.minor 0 && is_plain e s.major (s.minor + 1) 0
+
+abbrev pub is_tilde : Version → Version → Bool
+is_tilde s e = is_plain e s.major (s.minor + 1) 0
+
+abbrev pub is_caret_patch : Version → Version → Bool
+is_caret_patch s e = (s.major == 0) && ((s.minor == 0) && is_plain e 0 0 (s.patch + 1))
+
+abbrev pub is_caret_major : Version → Version → Bool
+is_caret_major s e = nat_lt 0 s.major && is_plain e (s.major + 1) 0 0
+
+abbrev pub shortest_between : VersionBoundKind → VersionBoundKind → Version → Version → List Comparator
+shortest_between kind.Inclusive kind.Inclusive s e =
+    if version_eq s e then Plain (whole s) ∷ []
+    else if is_plain s 0 0 0 then ending kind.Inclusive e ∷ []
+    else starting kind.Inclusive s ∷ ending kind.Inclusive e ∷ []
+shortest_between kind.Inclusive kind.Exclusive s e =
+    if is_major s e then Plain (numbered (Val s.major) Wildcard) ∷ []
+    else if is_minor s e then Plain (numbered (Val s.major) (Val s.minor)) ∷ []
+    else if is_tilde s e then Tilde (whole s) ∷ []
+    else if is_caret_patch s e then Caret (whole s) ∷ []
+    else if is_caret_major s e then Caret (whole s) ∷ []
+    else if is_plain s 0 0 0 then ending kind.Exclusive e ∷ []
+    else starting kind.Inclusive s ∷ ending kind.Exclusive e ∷ []
+shortest_between kind.Exclusive k s e = starting kind.Exclusive s ∷ ending k e ∷ []
+
+abbrev pub shortest_of : RangeBound → RangeBound → List Comparator
+shortest_of bound.Unbounded bound.Unbounded = Plain (numbered Wildcard Wildcard) ∷ []
+shortest_of bound.Unbounded (bound.Version e) = ending e.kind e.version ∷ []
+shortest_of (bound.Version s) bound.Unbounded = starting s.kind s.version ∷ []
+shortest_of (bound.Version s) (bound.Version e) = shortest_between s.kind e.kind s.version e.version
+
+abbrev pub shortest : VersionRange → List Comparator
+shortest range = shortest_of range.start range.end
+
+-- a form of one comparator, for a range from s to below e
+abbrev pub has_short_form : Version → Version → Bool
+has_short_form s e = is_major s e || (is_tilde s e || (is_caret_patch s e || is_caret_major s e))
+
+-- the forms of the ranges of a set; a set without ranges is `<0.0.0`
+abbrev pub shortest_tree : List VersionRange → List (List Comparator)
+shortest_tree [] = (ending kind.Exclusive (release 0 0 0) ∷ []) ∷ []
+shortest_tree (range ∷ ranges) = map shortest (range ∷ ranges)
+
+-- ---- which ranges it means
+
+abbrev pub starts_or_is_open : RangeBound → RangeBound → Bool
+starts_or_is_open bound.Unbounded (bound.Version e) = false
+starts_or_is_open start end = true
+
+-- an absent start comes with an absent end only
+abbrev pub has_start : VersionRange → Bool
+has_start range = starts_or_is_open range.start range.end
+
+-- a pre-release of 0.0.0, which is below 0.0.0
+abbrev pub is_below_zero : Version → Bool
+is_below_zero v = has_pre_of (bound_at kind.Inclusive v) (release 0 0 0)
+
+-- from 0.0.0-pre: one version, `^0.0.0-pre` or `~0.0.0-pre`
+abbrev pub is_short : VersionBoundKind → VersionBoundKind → Version → Version → Bool
+is_short kind.Inclusive kind.Inclusive s e = version_eq s e
+is_short kind.Inclusive kind.Exclusive s e = is_plain e 0 0 1 || is_plain e 0 1 0
+is_short kind.Exclusive k s e = false
+
+abbrev pub keeps_start : RangeBound → RangeBound → Bool
+keeps_start (bound.Version s) (bound.Version e) = not (is_below_zero s.version) || is_short s.kind e.kind s.version e.version
+keeps_start start end = true
+
+-- the range doesn't start at a pre-release of 0.0.0, or it has no end, or a form that names no end
+abbrev pub keeps_meaning : VersionRange → Bool
+keeps_meaning range = keeps_start range.start range.end
