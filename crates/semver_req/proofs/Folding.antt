@@ -1,5 +1,5 @@
 -- What the ranges that a reader keeps mean.
-use Rattle.std.proofs.Common.{◌≡◌, ◌&&◌, ◌||◌, ◌==◌, ◌+◌, ℕ, List, [], ◌∷◌, Bool, true, false, map, not, refl, sym, ap, ◌∙◌, inl, inr, arith}
+use Rattle.std.proofs.Common.{◌≡◌, ◌&&◌, ◌||◌, ◌==◌, ◌+◌, ℕ, List, [], ◌∷◌, Bool, true, false, map, not, refl, sym, ap, ap₂, ◌∙◌, inl, inr, arith}
 use Rattle.std.proofs.lemmas.Bool.Decides.{nat_tests}
 use Rattle.std.specs.List.{fold, list_all}
 use Rattle.std.specs.Ordering.{is_ge, is_lt}
@@ -26,8 +26,9 @@ use Rattle.semver_base.proofs.ClampMeaning.{clamped_means}
 use Rattle.semver_base.proofs.Orders.{and_false, and_first, and_true, le_less, le_turned, never_both}
 use Rattle.semver_base.proofs.OverlapLemmas.{ends_no_release}
 use Rattle.semver_req.specs.Comparators.{Caret, Comparator, Hyphen, Plain, Signed, Tilde, comparator_range, signed_line}
-use Rattle.semver_req.specs.KeptSet.{folded, is_unsigned, kept, kept_range}
+use Rattle.semver_req.specs.KeptSet.{KeptSetsMeanTheirTrees, folded, kept, kept_range}
 use Rattle.semver_req.specs.Outcome.{tree_ranges}
+use Rattle.semver_req.specs.declared.common.values.Flavour.TheVariants.{Npm, Normal, Specifier}
 use Rattle.semver_req.specs.declared.common.values.PrimitiveKind.{PrimitiveKind}
 use Rattle.semver_req.specs.declared.common.values.PrimitiveKind.TheVariants as sign
 
@@ -119,7 +120,7 @@ raised_first n b = rw (raised n) refl
 raised_second : (a : Bool) (n : ℕ) (b : Bool) → (a && ((n + 1 == 0) && b)) ≡ false
 raised_second a n b = rw (raised n) (and_false a)
 
-tilde_ends : (p : Partial) (major minor : XRange) → ends_at_zero (tilde_by p major minor).range.end ≡ false
+pub tilde_ends : (p : Partial) (major minor : XRange) → ends_at_zero (tilde_by p major minor).range.end ≡ false
 tilde_ends p Wildcard minor = refl
 tilde_ends p (Val major) Wildcard = raised_first major _
 tilde_ends p (Val major) (Val minor) = raised_second (major == 0) minor _
@@ -128,7 +129,7 @@ caret_patch_ends : (p : Partial) (patch : XRange) → ends_at_zero (caret_patch 
 caret_patch_ends p Wildcard = refl
 caret_patch_ends p (Val patch) = raised patch
 
-caret_ends : (p : Partial) (major minor patch : XRange) → ends_at_zero (caret_by p major minor patch).range.end ≡ false
+pub caret_ends : (p : Partial) (major minor patch : XRange) → ends_at_zero (caret_by p major minor patch).range.end ≡ false
 caret_ends p Wildcard minor patch = refl
 caret_ends p (Val major) Wildcard patch = raised_first major _
 caret_ends p (Val major) (Val minor) patch = go (nat_lt 0 major) (nat_lt 0 minor)
@@ -148,23 +149,15 @@ from_range_ends (Val major) Wildcard patch = raised_first major _
 from_range_ends (Val major) (Val minor) Wildcard = raised_second (major == 0) minor _
 from_range_ends (Val major) (Val minor) (Val patch) = refl
 
-equal_ends : (p : Partial) (major minor patch : XRange) → ends_at_zero (equal_by p major minor patch).range.end ≡ false
+pub equal_ends : (p : Partial) (major minor patch : XRange) → ends_at_zero (equal_by p major minor patch).range.end ≡ false
 equal_ends p (Val major) (Val minor) (Val patch) = refl
 equal_ends p major minor patch = from_range_ends p.major p.minor p.patch
 
-upper_ends : (p : Partial) (major minor patch : XRange) → ends_at_zero (upper_by p major minor patch).end ≡ false
+pub upper_ends : (p : Partial) (major minor patch : XRange) → ends_at_zero (upper_by p major minor patch).end ≡ false
 upper_ends p Wildcard minor patch = refl
 upper_ends p (Val major) Wildcard patch = raised_first major _
 upper_ends p (Val major) (Val minor) Wildcard = raised_second (major == 0) minor _
 upper_ends p (Val major) (Val minor) (Val patch) = refl
-
--- no comparator that the strict reader takes ends at 0.0.0
-pub marked_ends : (c : Comparator) → is_unsigned c ≡ true → ends_at_zero (comparator_range c).end ≡ false
-marked_ends (Tilde p) h = tilde_ends p p.major p.minor
-marked_ends (Caret p) h = caret_ends p p.major p.minor p.patch
-marked_ends (Signed sign p) h = cc h
-marked_ends (Plain p) h = equal_ends p p.major p.minor p.patch
-marked_ends (Hyphen p q) h = upper_ends q q.major q.minor q.patch
 
 -- ---- the others hold nothing where they do
 
@@ -252,12 +245,22 @@ kept_range_means comparators v = folded_means (map comparator_range comparators)
 pub nothing_means : (range : VersionRange) (v : Version) → HoldsNothing range → alternative_means (range ∷ []) v ≡ false
 nothing_means range v none = rw (none v) refl
 
--- the kept ranges mean what the tree means
-pub kept_means : (tree : List (List Comparator)) (v : Version) → tree_means (alternatives (kept tree)) v ≡ tree_means (tree_ranges tree) v
-kept_means [] v = refl
-kept_means (comparators ∷ tree) v = go (ends_at_zero (kept_range comparators).end) refl (kept_means tree v)
+all_mean : (tree : List (List Comparator)) (v : Version) → tree_means (alternatives (map kept_range tree)) v ≡ tree_means (tree_ranges tree) v
+all_mean [] v = refl
+all_mean (comparators ∷ tree) v = ap₂ (λ (a b : Bool). a || b) (kept_range_means comparators v) (all_mean tree v)
+
+-- those that are dropped mean nothing
+rest_means : (tree : List (List Comparator)) (v : Version) → tree_means (alternatives (kept Normal tree)) v ≡ tree_means (tree_ranges tree) v
+rest_means [] v = refl
+rest_means (comparators ∷ tree) v = go (ends_at_zero (kept_range comparators).end) refl (rest_means tree v)
   where
-    go : (b : Bool) → ends_at_zero (kept_range comparators).end ≡ b → tree_means (alternatives (kept tree)) v ≡ tree_means (tree_ranges tree) v
-        → tree_means (alternatives (if not b then kept_range comparators ∷ kept tree else kept tree)) v ≡ tree_means (tree_ranges (comparators ∷ tree)) v
+    go : (b : Bool) → ends_at_zero (kept_range comparators).end ≡ b → tree_means (alternatives (kept Normal tree)) v ≡ tree_means (tree_ranges tree) v
+        → tree_means (alternatives (if not b then kept_range comparators ∷ kept Normal tree else kept Normal tree)) v ≡ tree_means (tree_ranges (comparators ∷ tree)) v
     go true e same = rw (← kept_range_means comparators v, nothing_means (kept_range comparators) v (kept_empty comparators e)) same
     go false e same = rw (kept_range_means comparators v, same) refl
+
+-- what is kept of a tree means what the tree means
+pub kept_means : KeptSetsMeanTheirTrees
+kept_means Npm tree v = rest_means tree v
+kept_means Normal tree v = rest_means tree v
+kept_means Specifier tree v = all_mean tree v

@@ -1,168 +1,36 @@
 -- What is true of every range that a reader keeps.
-use Rattle.std.proofs.Common.{◌≡◌, ◌+◌, List, [], ◌∷◌, Bool, true, false, map, not, refl, ap, ℕ}
-use Rattle.std.specs.List.{fold, list_all}
-use Rattle.std.specs.Prelude.{if◌then◌else◌, nat_lt}
-use Rattle.std.specs.declared.cmp.Ordering.{Ordering}
-use Rattle.std.specs.declared.cmp.Ordering.TheVariants.{Less, Equal, Greater}
-use Rattle.semver_base.specs.Clamp.{clamped, clamped_end, clamped_start, greater_of, of_tied, stopped_at, stopped_by}
-use Rattle.semver_base.specs.Grammar.{this, that}
-use Rattle.semver_base.specs.Meaning.{everything, release}
+use Rattle.std.proofs.Common.{◌≡◌, ◌&&◌, ℕ, List, [], ◌∷◌, Bool, true, false, not, refl, ap}
+use Rattle.std.specs.List.{list_all}
+use Rattle.std.specs.Prelude.{if◌then◌else◌}
 use Rattle.semver_base.specs.Overlap.{ends_at_zero}
-use Rattle.semver_base.specs.PartialTable.{above_by, at_least_by, at_most_by, below_by, caret_by, caret_patch, equal_by, greater_range_by, lower_to_below, tilde_by}
-use Rattle.semver_base.specs.Precedence.{precedence_cmp}
-use Rattle.semver_base.specs.declared.partial.Partial.{Partial}
-use Rattle.semver_base.specs.declared.partial.XRange.{XRange}
-use Rattle.semver_base.specs.declared.partial.XRange.TheVariants.{Wildcard, Val}
-use Rattle.semver_base.specs.declared.range.RangeBound.{RangeBound}
-use Rattle.semver_base.specs.declared.range.RangeBound.TheVariants as bound
-use Rattle.semver_base.specs.declared.range.VersionBound.{VersionBound}
-use Rattle.semver_base.specs.declared.range.VersionBoundKind.{VersionBoundKind}
-use Rattle.semver_base.specs.declared.range.VersionBoundKind.TheVariants as kind
 use Rattle.semver_base.specs.declared.range.VersionRange.{VersionRange}
 use Rattle.semver_base.proofs.Orders.{and_both}
-use Rattle.semver_req.specs.Comparators.{Caret, Comparator, Hyphen, Plain, Signed, Tilde, comparator_range, signed_line}
-use Rattle.semver_req.specs.KeptSet.{is_unsigned, kept, kept_range}
-use Rattle.semver_req.specs.Outcome.{IsStrictOutcome, whole, left_over, no_front, no_fit, IsStrictRange, IsTagOr, tag, no_tag, Outcome, Ranges, Tag, Refused}
-use Rattle.semver_req.specs.Requirement.{only_ranges}
-use Rattle.semver_req.specs.Settled.{is_kept}
-use Rattle.semver_req.specs.Shortest.{has_start, starts_or_is_open}
-use Rattle.semver_req.specs.declared.common.values.PrimitiveKind.{PrimitiveKind}
-use Rattle.semver_req.specs.declared.common.values.PrimitiveKind.TheVariants as sign
-use Rattle.semver_req.proofs.Folding.{marked_ends}
+use Rattle.semver_req.specs.Comparators.{Comparator}
+use Rattle.semver_req.specs.KeptSet.{kept, kept_range}
+use Rattle.semver_req.specs.Outcome.{IsOutcome, IsStrictOutcome, whole, left_over, no_front, no_fit, IsTagOr, tag, no_tag, Outcome, Ranges, Tag, Refused}
+use Rattle.semver_req.specs.declared.common.values.Flavour.{Flavour}
+use Rattle.semver_req.specs.declared.common.values.Flavour.TheVariants.{Npm, Normal, Specifier}
+use Rattle.semver_req.proofs.Starts.{has_start, kept_range_starts}
+use Rattle.semver_req.proofs.StrictKept.{strict_ends}
 
--- ---- the table: a line without a start has no end
+-- what is true of every range that a reader keeps: it has a start or no bounds, and doesn't end below 0.0.0
+abbrev pub is_kept : VersionRange → Bool
+is_kept range = has_start range && not (ends_at_zero range.end)
 
-tilde_starts : (p : Partial) (major minor : XRange) → has_start (tilde_by p major minor).range ≡ true
-tilde_starts p Wildcard minor = refl
-tilde_starts p (Val major) Wildcard = refl
-tilde_starts p (Val major) (Val minor) = refl
-
-caret_patch_starts : (p : Partial) (patch : XRange) → has_start (caret_patch p patch).range ≡ true
-caret_patch_starts p Wildcard = refl
-caret_patch_starts p (Val patch) = refl
-
-caret_starts : (p : Partial) (major minor patch : XRange) → has_start (caret_by p major minor patch).range ≡ true
-caret_starts p Wildcard minor patch = refl
-caret_starts p (Val major) Wildcard patch = refl
-caret_starts p (Val major) (Val minor) patch = go (nat_lt 0 major) (nat_lt 0 minor)
+rest_is_kept : (tree : List (List Comparator)) → list_all is_kept (kept Normal tree) ≡ true
+rest_is_kept [] = refl
+rest_is_kept (comparators ∷ tree) = go (ends_at_zero (kept_range comparators).end) refl (rest_is_kept tree)
   where
-    go : (a b : Bool) → has_start (
-      if a then lower_to_below p (release (major + 1) 0 0) ((major + 1) ∷ [])
-      else if b then lower_to_below p (release 0 (minor + 1) 0) ((minor + 1) ∷ [])
-      else caret_patch p patch
-    ).range ≡ true
-    go true b = refl
-    go false true = refl
-    go false false = caret_patch_starts p patch
-
-from_range_starts : (major minor patch : XRange) → has_start (greater_range_by kind.Inclusive major minor patch).range ≡ true
-from_range_starts Wildcard minor patch = refl
-from_range_starts (Val major) Wildcard patch = refl
-from_range_starts (Val major) (Val minor) Wildcard = refl
-from_range_starts (Val major) (Val minor) (Val patch) = refl
-
-equal_starts : (p : Partial) (major minor patch : XRange) → has_start (equal_by p major minor patch).range ≡ true
-equal_starts p (Val major) (Val minor) (Val patch) = refl
-equal_starts p major minor patch = from_range_starts p.major p.minor p.patch
-
-at_least_starts : (p : Partial) (major : XRange) → has_start (at_least_by p major).range ≡ true
-at_least_starts p Wildcard = refl
-at_least_starts p (Val major) = refl
-
-above_starts : (p : Partial) (major minor patch : XRange) → has_start (above_by p major minor patch).range ≡ true
-above_starts p Wildcard minor patch = refl
-above_starts p (Val major) Wildcard patch = refl
-above_starts p (Val major) (Val minor) Wildcard = refl
-above_starts p (Val major) (Val minor) (Val patch) = refl
-
-at_most_starts : (p : Partial) (major minor patch : XRange) → has_start (at_most_by p major minor patch).range ≡ true
-at_most_starts p Wildcard minor patch = refl
-at_most_starts p (Val major) Wildcard Wildcard = refl
-at_most_starts p (Val major) Wildcard (Val patch) = refl
-at_most_starts p (Val major) (Val minor) Wildcard = refl
-at_most_starts p (Val major) (Val minor) (Val patch) = refl
-
-below_starts : (p : Partial) (major minor patch : XRange) → has_start (below_by p major minor patch).range ≡ true
-below_starts p Wildcard minor patch = refl
-below_starts p (Val major) Wildcard Wildcard = refl
-below_starts p (Val major) Wildcard (Val patch) = refl
-below_starts p (Val major) (Val minor) Wildcard = refl
-below_starts p (Val major) (Val minor) (Val patch) = refl
-
-signed_starts : (sign : PrimitiveKind) (p : Partial) → has_start (signed_line sign p).range ≡ true
-signed_starts sign.GreaterThan p = above_starts p p.major p.minor p.patch
-signed_starts sign.LessThan p = below_starts p p.major p.minor p.patch
-signed_starts sign.GreaterThanOrEqual p = at_least_starts p p.major
-signed_starts sign.LessThanOrEqual p = at_most_starts p p.major p.minor p.patch
-signed_starts sign.Equal p = equal_starts p p.major p.minor p.patch
-
--- an absent start of a comparator comes with an absent end
-pub comparator_starts : (c : Comparator) → has_start (comparator_range c) ≡ true
-comparator_starts (Tilde p) = tilde_starts p p.major p.minor
-comparator_starts (Caret p) = caret_starts p p.major p.minor p.patch
-comparator_starts (Signed sign p) = signed_starts sign p
-comparator_starts (Plain p) = equal_starts p p.major p.minor p.patch
-comparator_starts (Hyphen p q) = refl
-
--- ---- what `clamp` keeps
-
-tied_starts : (k : VersionBoundKind) (x y : VersionBound) (end : RangeBound) → starts_or_is_open (of_tied k (bound.Version x) (bound.Version y)) end ≡ true
-tied_starts kind.Inclusive x y end = refl
-tied_starts kind.Exclusive x y end = refl
-
-greater_starts : (r : Ordering) (k : VersionBoundKind) (x y : VersionBound) (end : RangeBound) → starts_or_is_open (greater_of r k (bound.Version x) (bound.Version y)) end ≡ true
-greater_starts Less k x y end = refl
-greater_starts Equal k x y end = tied_starts k x y end
-greater_starts Greater k x y end = refl
-
-stopped_by_starts : (r : Ordering) (x y : VersionBound) (end : RangeBound) → starts_or_is_open (stopped_by r x y) end ≡ true
-stopped_by_starts Less x y end = refl
-stopped_by_starts Equal x y end = tied_starts x.kind x y end
-stopped_by_starts Greater x y end = refl
-
-stopped_starts : (s e : RangeBound) → starts_or_is_open s e ≡ true → starts_or_is_open (stopped_at s e) e ≡ true
-stopped_starts bound.Unbounded e h = h
-stopped_starts (bound.Version x) bound.Unbounded h = refl
-stopped_starts (bound.Version x) (bound.Version y) h = stopped_by_starts (precedence_cmp x.version y.version) x y (bound.Version y)
-
-chosen_starts : (s e t f : RangeBound) → starts_or_is_open s e ≡ true → starts_or_is_open t f ≡ true → starts_or_is_open (clamped_start s t) (clamped_end e f) ≡ true
-chosen_starts bound.Unbounded bound.Unbounded t f h k = k
-chosen_starts bound.Unbounded (bound.Version y) t f h k = cc h
-chosen_starts (bound.Version x) e bound.Unbounded f h k = refl
-chosen_starts (bound.Version x) e (bound.Version y) f h k = greater_starts (precedence_cmp x.version y.version) x.kind x y (clamped_end e f)
-
-clamped_starts : (a b : VersionRange) → has_start a ≡ true → has_start b ≡ true → has_start (clamped a b) ≡ true
-clamped_starts a b h k = stopped_starts (clamped_start a.start b.start) (clamped_end a.end b.end) (chosen_starts a.start a.end b.start b.end h k)
-
-folded_starts : (start : VersionRange) (comparators : List Comparator) → has_start start ≡ true → has_start (fold clamped start (map comparator_range comparators)) ≡ true
-folded_starts start [] h = h
-folded_starts start (c ∷ cs) h = folded_starts (clamped start (comparator_range c)) cs (clamped_starts start (comparator_range c) h (comparator_starts c))
-
--- an absent start of the range of an alternative comes with an absent end
-pub kept_range_starts : (comparators : List Comparator) → has_start (kept_range comparators) ≡ true
-kept_range_starts (Hyphen p q ∷ []) = comparator_starts (Hyphen p q)
-kept_range_starts comparators = folded_starts everything comparators refl
-
--- the kept ranges of every tree
-pub kept_are_kept : (tree : List (List Comparator)) → list_all is_kept (kept tree) ≡ true
-kept_are_kept [] = refl
-kept_are_kept (comparators ∷ tree) = go (ends_at_zero (kept_range comparators).end) refl (kept_are_kept tree)
-  where
-    go : (b : Bool) → ends_at_zero (kept_range comparators).end ≡ b → list_all is_kept (kept tree) ≡ true
-        → list_all is_kept (if not b then kept_range comparators ∷ kept tree else kept tree) ≡ true
+    go : (b : Bool) → ends_at_zero (kept_range comparators).end ≡ b → list_all is_kept (kept Normal tree) ≡ true
+        → list_all is_kept (if not b then kept_range comparators ∷ kept Normal tree else kept Normal tree) ≡ true
     go true e rest = rest
     go false e rest = and_both _ _ (and_both _ _ (kept_range_starts comparators) (ap not e)) rest
 
 -- ---- the strict reader, which drops no range
 
-unsigned : {text : List ℕ} {c : Comparator} → IsStrictRange text c → is_unsigned c ≡ true
-unsigned (this (this m)) = ap is_unsigned m.is
-unsigned (this (that m)) = ap is_unsigned m.is
-unsigned (that m) = ap is_unsigned m.is
-
--- the ranges that the strict reader answers for an outcome
+-- the ranges that the strict reader keeps of an outcome
 abbrev AreKept : Outcome → Type 0
-AreKept (Ranges tree) = list_all is_kept (only_ranges tree) ≡ true
+AreKept (Ranges tree) = list_all is_kept (kept Specifier tree) ≡ true
 AreKept (Tag text) = Unit {0}
 AreKept Refused = Unit {0}
 
@@ -170,12 +38,14 @@ tag_or_kept : {text : List ℕ} {o : Outcome} → IsTagOr text o → AreKept o
 tag_or_kept (tag e) = tt
 tag_or_kept (no_tag e) = tt
 
-outcome_kept : {text : List ℕ} {o : Outcome} → IsStrictOutcome text o → AreKept o
-outcome_kept (whole {c = c} s fit) = and_both _ _ (and_both _ _ (comparator_starts c) (ap not (marked_ends c (unsigned s.stands)))) refl
-outcome_kept (left_over s fit more) = tt
-outcome_kept (no_front n t) = tag_or_kept t
-outcome_kept (no_fit s e t) = tag_or_kept t
+strict_is_kept : {text : List ℕ} {o : Outcome} → IsStrictOutcome text o → AreKept o
+strict_is_kept (whole {c = c} s fit) = and_both _ _ (and_both _ _ (kept_range_starts (c ∷ [])) (ap not (strict_ends s.stands))) refl
+strict_is_kept (left_over s fit more) = tt
+strict_is_kept (no_front n t) = tag_or_kept t
+strict_is_kept (no_fit s e t) = tag_or_kept t
 
--- the ranges of every tree of the strict reader
-pub strict_are_kept : (text : List ℕ) (tree : List (List Comparator)) → IsStrictOutcome text (Ranges tree) → list_all is_kept (only_ranges tree) ≡ true
-strict_are_kept text tree o = outcome_kept o
+-- what a reader keeps
+pub outcome_is_kept : (f : Flavour) (text : List ℕ) (tree : List (List Comparator)) → IsOutcome f text (Ranges tree) → list_all is_kept (kept f tree) ≡ true
+outcome_is_kept Npm text tree o = rest_is_kept tree
+outcome_is_kept Normal text tree o = rest_is_kept tree
+outcome_is_kept Specifier text tree o = strict_is_kept o

@@ -12,15 +12,14 @@ use Rattle.semver_base.specs.declared.partial.Partial.{Partial}
 use Rattle.semver_base.specs.declared.partial.XRange.{XRange}
 use Rattle.semver_req.specs.Comparators.{Comparator, IsComparator, IsLed, IsMarked, IsPlain, IsSigned, fits}
 use Rattle.semver_req.specs.KeptSet.{kept}
-use Rattle.semver_req.specs.Outcome.{AreGoodOnes, none_left, good, bad, IsGood, IsOutcome, one_good, one_bad, npm_many, normal_many, normal_refused, IsStrictOutcome, whole, left_over, no_front, no_fit, IsTagOr, tag, no_tag, Outcome, Ranges, Tag, Refused}
+use Rattle.semver_req.specs.NormalText.{AreWritableRanges}
+use Rattle.semver_req.specs.Outcome.{AreGoodOnes, none_left, good, bad, IsGood, IsCutOutcome, IsOutcome, one_good, one_bad, npm_many, normal_many, normal_refused, IsStrictOutcome, whole, left_over, no_front, no_fit, IsTagOr, tag, no_tag, Outcome, Ranges, Tag, Refused}
 use Rattle.semver_req.specs.Partials.{IsPartial, IsPlainPartial, IsSecond, IsThird, partial_of, strictness_of}
 use Rattle.semver_req.specs.Pieces.{IsFilled, IsHyphen, IsNpmSeparator, IsPiece}
-use Rattle.semver_req.specs.ReadRanges.{AllBounds, AllHave, ComparatorHas, IsMadeOf, PartialHas, TreeHas}
-use Rattle.semver_req.specs.Requirement.{only_ranges}
 use Rattle.semver_req.specs.declared.common.values.Flavour.{Flavour}
 use Rattle.semver_req.specs.declared.common.values.Flavour.TheVariants.{Npm, Normal, Specifier}
-use Rattle.semver_req.proofs.OutcomesFit.{outcome_fits, strict_outcome_fits}
-use Rattle.semver_req.proofs.ReadRanges.{comparator_made, kept_made}
+use Rattle.semver_req.proofs.OutcomesFit.{outcome_fits}
+use Rattle.semver_req.proofs.WritableRanges.{AllHaveParts, ComparatorHasParts, PartialHasParts, TreeHasParts, kept_writable}
 
 -- ---- combinators: what is true of what the inner rule says
 
@@ -66,49 +65,43 @@ qualifier_has s text q h = by_mapped QualifierHas (λ t v k. (maybe_pre s k.firs
 
 -- ---- partial versions
 
-abbrev Has : Partial → Type 0
-Has = PartialHas AreParts
-
-third_has : (f : Flavour) (m n : XRange) (text : List ℕ) (o : Option (XRange × Qualifier)) → Optional (IsThird f) text o → Has (partial_of (m, Some (n, o)))
+third_has : (f : Flavour) (m n : XRange) (text : List ℕ) (o : Option (XRange × Qualifier)) → Optional (IsThird f) text o → PartialHasParts (partial_of (m, Some (n, o)))
 third_has f m n text None h = (tt, tt)
 third_has f m n [] (Some v) h = absurd h
 third_has f m n (b ∷ rest) (Some (p, q)) h = qualifier_has (strictness_of f) h.1.second q h.1.in_second
 
-second_has : (f : Flavour) (m : XRange) (text : List ℕ) (o : Option (XRange × Option (XRange × Qualifier))) → Optional (IsSecond f) text o → Has (partial_of (m, o))
+second_has : (f : Flavour) (m : XRange) (text : List ℕ) (o : Option (XRange × Option (XRange × Qualifier))) → Optional (IsSecond f) text o → PartialHasParts (partial_of (m, o))
 second_has f m text None h = (tt, tt)
 second_has f m [] (Some v) h = absurd h
 second_has f m (b ∷ rest) (Some (n, o)) h = third_has f m n h.1.second o h.1.in_second
 
-plain_has : (f : Flavour) (text : List ℕ) (p : Partial) → IsPlainPartial f text p → Has p
-plain_has f text p h = by_mapped Has (λ t v k. second_has f v.0 k.second v.1 k.in_second) h
+plain_has : (f : Flavour) (text : List ℕ) (p : Partial) → IsPlainPartial f text p → PartialHasParts p
+plain_has f text p h = by_mapped PartialHasParts (λ t v k. second_has f v.0 k.second v.1 k.in_second) h
 
-partial_has : (f : Flavour) (text : List ℕ) (p : Partial) → IsPartial f text p → Has p
-partial_has Npm text p (this h) = by_marked 118 (IsPlainPartial Npm) Has (plain_has Npm) text p h
+partial_has : (f : Flavour) (text : List ℕ) (p : Partial) → IsPartial f text p → PartialHasParts p
+partial_has Npm text p (this h) = by_marked 118 (IsPlainPartial Npm) PartialHasParts (plain_has Npm) text p h
 partial_has Npm text p (that h) = plain_has Npm text p h
 partial_has Normal text p h = plain_has Normal text p h
 partial_has Specifier text p h = plain_has Specifier text p h
 
 -- ---- comparators
 
-abbrev HasParts : Comparator → Type 0
-HasParts = ComparatorHas AreParts
+signed_has : (f : Flavour) (text : List ℕ) (c : Comparator) → IsSigned f text c → ComparatorHasParts c
+signed_has f text c h = by_mapped ComparatorHasParts (λ t v k. by_after PartialHasParts (partial_has f) k.in_second) h
 
-signed_has : (f : Flavour) (text : List ℕ) (c : Comparator) → IsSigned f text c → HasParts c
-signed_has f text c h = by_mapped HasParts (λ t v k. by_after Has (partial_has f) k.in_second) h
+plain_comparator_has : (f : Flavour) (text : List ℕ) (c : Comparator) → IsPlain f text c → ComparatorHasParts c
+plain_comparator_has f text c h = by_mapped ComparatorHasParts (partial_has f) h
 
-plain_comparator_has : (f : Flavour) (text : List ℕ) (c : Comparator) → IsPlain f text c → HasParts c
-plain_comparator_has f text c h = by_mapped HasParts (partial_has f) h
+marked_has : (f : Flavour) (text : List ℕ) (c : Comparator) → IsMarked f text c → ComparatorHasParts c
+marked_has f text c (this h) = by_mapped ComparatorHasParts (by_marked 126 (IsPartial f) PartialHasParts (partial_has f)) h
+marked_has f text c (that h) = by_mapped ComparatorHasParts (by_marked 94 (IsPartial f) PartialHasParts (partial_has f)) h
 
-marked_has : (f : Flavour) (text : List ℕ) (c : Comparator) → IsMarked f text c → HasParts c
-marked_has f text c (this h) = by_mapped HasParts (by_marked 126 (IsPartial f) Has (partial_has f)) h
-marked_has f text c (that h) = by_mapped HasParts (by_marked 94 (IsPartial f) Has (partial_has f)) h
+led_has : (text : List ℕ) (p : Partial) → IsLed text p → PartialHasParts p
+led_has text p h = by_after PartialHasParts (λ t v k. by_after PartialHasParts (λ t v k. by_after PartialHasParts (λ t v k. by_after PartialHasParts (partial_has Npm) k) k) k) h
 
-led_has : (text : List ℕ) (p : Partial) → IsLed text p → Has p
-led_has text p h = by_after Has (λ t v k. by_after Has (λ t v k. by_after Has (λ t v k. by_after Has (partial_has Npm) k) k) k) h
-
-comparator_has : (f : Flavour) (text : List ℕ) (c : Comparator) → IsComparator f text c → HasParts c
-comparator_has Npm text c (this (this h)) = by_mapped HasParts (λ t v k. by_after Has (λ t v k. by_after Has led_has k) k) h
-comparator_has Npm text c (this (that h)) = by_mapped HasParts (λ t v k. by_after Has (λ t v k. by_marked 94 IsLed Has led_has t v k) k) h
+comparator_has : (f : Flavour) (text : List ℕ) (c : Comparator) → IsComparator f text c → ComparatorHasParts c
+comparator_has Npm text c (this (this h)) = by_mapped ComparatorHasParts (λ t v k. by_after PartialHasParts (λ t v k. by_after PartialHasParts led_has k) k) h
+comparator_has Npm text c (this (that h)) = by_mapped ComparatorHasParts (λ t v k. by_after PartialHasParts (λ t v k. by_marked 94 IsLed PartialHasParts led_has t v k) k) h
 comparator_has Npm text c (that (this h)) = signed_has Npm text c h
 comparator_has Npm text c (that (that h)) = plain_comparator_has Npm text c h
 comparator_has Normal text c (this h) = marked_has Normal text c h
@@ -119,43 +112,43 @@ comparator_has Specifier text c (that h) = plain_comparator_has Specifier text c
 
 -- ---- pieces
 
-listed_have : (f : Flavour) (S : List ℕ → Unit {0} → Type 0) {text : List ℕ} {cs : List Comparator} → Listed (IsComparator f) S text cs → AllHave AreParts cs
+listed_have : (f : Flavour) (S : List ℕ → Unit {0} → Type 0) {text : List ℕ} {cs : List Comparator} → Listed (IsComparator f) S text cs → AllHaveParts cs
 listed_have f S (last_item a) = (comparator_has f _ _ a, tt)
 listed_have f S (closed_item a s) = (comparator_has f _ _ a, tt)
 listed_have f S (more_items a s more) = (comparator_has f _ _ a, listed_have f S more)
 
-hyphen_has : (text : List ℕ) (cs : List Comparator) → IsHyphen text cs → AllHave AreParts cs
-hyphen_has text cs h = by_mapped (AllHave AreParts) (λ t v k. ((partial_has Npm k.first v.0 k.in_first, second k.second v.1 k.in_second), tt)) h
+hyphen_has : (text : List ℕ) (cs : List Comparator) → IsHyphen text cs → AllHaveParts cs
+hyphen_has text cs h = by_mapped AllHaveParts (λ t v k. ((partial_has Npm k.first v.0 k.in_first, second k.second v.1 k.in_second), tt)) h
   where
-    before : (t : List ℕ) (p : Partial) → Before (IsPartial Npm) IsBlanks t p → Has p
-    before t p k = by_mapped Has (λ t v k. partial_has Npm k.first v.0 k.in_first) k
+    before : (t : List ℕ) (p : Partial) → Before (IsPartial Npm) IsBlanks t p → PartialHasParts p
+    before t p k = by_mapped PartialHasParts (λ t v k. partial_has Npm k.first v.0 k.in_first) k
 
-    second : (t : List ℕ) (p : Partial) → After IsSomeBlanks (Marked 45 (After IsSomeBlanks (Before (IsPartial Npm) IsBlanks))) t p → Has p
-    second t p k = by_after Has (λ t v k. by_marked 45 (After IsSomeBlanks (Before (IsPartial Npm) IsBlanks)) Has (λ t v k. by_after Has before k) t v k) k
+    second : (t : List ℕ) (p : Partial) → After IsSomeBlanks (Marked 45 (After IsSomeBlanks (Before (IsPartial Npm) IsBlanks))) t p → PartialHasParts p
+    second t p k = by_after PartialHasParts (λ t v k. by_marked 45 (After IsSomeBlanks (Before (IsPartial Npm) IsBlanks)) PartialHasParts (λ t v k. by_after PartialHasParts before k) t v k) k
 
-filled_have : (f : Flavour) (text : List ℕ) (cs : List Comparator) → IsFilled f text cs → AllHave AreParts cs
+filled_have : (f : Flavour) (text : List ℕ) (cs : List Comparator) → IsFilled f text cs → AllHaveParts cs
 filled_have Npm text cs (this h) = hyphen_has text cs h
 filled_have Npm text cs (that h) = listed_have Npm IsNpmSeparator h
 filled_have Normal text cs h = listed_have Normal IsSomeBlanks h
 filled_have Specifier text cs h = absurd h
 
-piece_has : (f : Flavour) (text : List ℕ) (cs : List Comparator) → IsPiece f text cs → AllHave AreParts cs
+piece_has : (f : Flavour) (text : List ℕ) (cs : List Comparator) → IsPiece f text cs → AllHaveParts cs
 piece_has f text [] h = tt
 piece_has f text (c ∷ cs) h = filled_have f text (c ∷ cs) h
 
 -- ---- outcomes
 
-good_has : (f : Flavour) (b : Bool) (piece : List ℕ) (cs : List Comparator) → IsGood f b piece cs → AllHave AreParts cs
+good_has : (f : Flavour) (b : Bool) (piece : List ℕ) (cs : List Comparator) → IsGood f b piece cs → AllHaveParts cs
 good_has f b piece cs (inl h) = piece_has f piece cs h.0
-good_has f b piece cs (inr h) = subst (AllHave AreParts) (sym h.2) tt
+good_has f b piece cs (inr h) = subst AllHaveParts (sym h.2) tt
 
-good_ones_have : {f : Flavour} {b : Bool} {pieces : List (List ℕ)} {tree : List (List Comparator)} → AreGoodOnes f b pieces tree → TreeHas AreParts tree
+good_ones_have : {f : Flavour} {b : Bool} {pieces : List (List ℕ)} {tree : List (List Comparator)} → AreGoodOnes f b pieces tree → TreeHasParts tree
 good_ones_have none_left = tt
 good_ones_have (good g more) = (good_has _ _ _ _ g, good_ones_have more)
 good_ones_have (bad g more) = good_ones_have more
 
 abbrev OutcomeHas : Outcome → Type 0
-OutcomeHas (Ranges tree) = TreeHas AreParts tree
+OutcomeHas (Ranges tree) = TreeHasParts tree
 OutcomeHas (Tag text) = Unit {0}
 OutcomeHas Refused = Unit {0}
 
@@ -163,31 +156,24 @@ tag_or_has : {text : List ℕ} {o : Outcome} → IsTagOr text o → OutcomeHas o
 tag_or_has (tag e) = tt
 tag_or_has (no_tag e) = tt
 
-by_outcome : {f : Flavour} {text : List ℕ} {o : Outcome} → IsOutcome f text o → OutcomeHas o
-by_outcome (one_good pieces g) = (good_has _ _ _ _ g, tt)
-by_outcome (one_bad pieces g trim t) = tag_or_has t
-by_outcome (npm_many pieces g) = good_ones_have g
-by_outcome (normal_many pieces g every) = good_ones_have g
-by_outcome (normal_refused pieces g some) = tt
+cut_outcome_has : {f : Flavour} {text : List ℕ} {o : Outcome} → IsCutOutcome f text o → OutcomeHas o
+cut_outcome_has (one_good pieces g) = (good_has _ _ _ _ g, tt)
+cut_outcome_has (one_bad pieces g t) = tag_or_has t
+cut_outcome_has (npm_many pieces g) = good_ones_have g
+cut_outcome_has (normal_many pieces g every) = good_ones_have g
+cut_outcome_has (normal_refused pieces g some) = tt
 
-by_strict_outcome : {text : List ℕ} {o : Outcome} → IsStrictOutcome text o → OutcomeHas o
-by_strict_outcome (whole {c = c} s fit) = ((comparator_has Specifier _ c s.stands, tt), tt)
-by_strict_outcome (left_over s fit more) = tt
-by_strict_outcome (no_front n t) = tag_or_has t
-by_strict_outcome (no_fit s e t) = tag_or_has t
+strict_outcome_has : {text : List ℕ} {o : Outcome} → IsStrictOutcome text o → OutcomeHas o
+strict_outcome_has (whole {c = c} s fit) = ((comparator_has Specifier _ c s.stands, tt), tt)
+strict_outcome_has (left_over s fit more) = tt
+strict_outcome_has (no_front n t) = tag_or_has t
+strict_outcome_has (no_fit s e t) = tag_or_has t
 
--- the bounds of the kept ranges of every tree of the npm or the normalized reader: numbers that fit, and parts
-pub outcome_made : (f : Flavour) (text : List ℕ) (tree : List (List Comparator)) → IsOutcome f text (Ranges tree) → AllBounds (IsMadeOf AreParts) (kept tree)
-outcome_made f text tree o = kept_made AreParts tt tree (outcome_fits f text tree o) (by_outcome o)
+outcome_has : (f : Flavour) (text : List ℕ) (tree : List (List Comparator)) → IsOutcome f text (Ranges tree) → TreeHasParts tree
+outcome_has Npm text tree o = cut_outcome_has o
+outcome_has Normal text tree o = cut_outcome_has o
+outcome_has Specifier text tree o = strict_outcome_has o
 
-only_made : (tree : List (List Comparator)) → list_all (λ cs. list_all fits cs) tree ≡ true → TreeHas AreParts tree → AllBounds (IsMadeOf AreParts) (only_ranges tree)
-only_made [] fit has = tt
-only_made ([] ∷ tree) fit has = only_made tree fit has.1
-only_made ((c ∷ cs) ∷ tree) fit has = (
-  comparator_made AreParts tt c (and_first _ _ (and_first _ _ fit)) has.0.0,
-  only_made tree (and_second (list_all fits (c ∷ cs)) _ fit) has.1,
-)
-
--- and of the strict reader
-pub strict_outcome_made : (text : List ℕ) (tree : List (List Comparator)) → IsStrictOutcome text (Ranges tree) → AllBounds (IsMadeOf AreParts) (only_ranges tree)
-strict_outcome_made text tree o = only_made tree (strict_outcome_fits text tree o) (by_strict_outcome o)
+-- what a reader keeps has a text that reads back
+pub outcome_writable : (f : Flavour) (text : List ℕ) (tree : List (List Comparator)) → IsOutcome f text (Ranges tree) → AreWritableRanges (kept f tree)
+outcome_writable f text tree o = kept_writable f tree (outcome_fits f text tree o) (outcome_has f text tree o)

@@ -1,46 +1,65 @@
--- The text of a set that was read, read again.
-use Rattle.std.proofs.Common.{◌≡◌, List, sym, ap, ◌∙◌}
+-- The normal text of a set that was read, read again.
+use Rattle.std.proofs.Common.{◌≡◌, ℕ, List, refl, sym, subst, ap, ◌∙◌}
 use Rattle.semver_base.specs.Meaning.{alternatives, tree_means}
 use Rattle.semver_base.specs.declared.range.VersionRange.{VersionRange}
 use Rattle.semver_req.specs.Comparators.{Comparator}
-use Rattle.semver_req.specs.KeptSet.{kept}
-use Rattle.semver_req.specs.NormalText.{IsCutting, set_text}
+use Rattle.semver_req.specs.KeptSet.{IsReadSet, kept}
+use Rattle.semver_req.specs.NormalText.{set_text}
 use Rattle.semver_req.specs.Outcome.{IsOutcome, Ranges, tree_ranges}
-use Rattle.semver_req.specs.Rereading.{AreRereadings, IsRereadAs}
-use Rattle.semver_req.specs.Settled.{IsReadSet, read_by, reread_set}
+use Rattle.semver_req.specs.Pieces.{IsCutting, npm, normal}
+use Rattle.semver_req.specs.Rereading.{IsRereadAs, NormalTextsKeepTheirMeaning, OneRereadingSettles, SettledSetsAreTheirTexts}
+use Rattle.semver_req.specs.Settled.{reread_set}
 use Rattle.semver_req.specs.Shortest.{shortest_tree}
 use Rattle.semver_req.specs.declared.common.values.Flavour.{Flavour}
-use Rattle.semver_req.proofs.OutcomeReadings.{outcome_one}
-use Rattle.semver_req.proofs.ReadSets.{read_again_means, read_form_means, read_settles, read_usual}
-use Rattle.semver_req.proofs.ReadSetsWritten.{read_written}
-use Rattle.semver_req.proofs.WrittenSets.{set_outcome, set_trimmed, set_trims}
+use Rattle.semver_req.specs.declared.common.values.Flavour.TheVariants.{Normal}
+use Rattle.semver_req.proofs.OneOutcome.{one_outcome}
+use Rattle.semver_req.proofs.ReadSets.{read_again_means, read_form_means, read_orderly, read_settles, read_writable}
+use Rattle.semver_req.proofs.WrittenSets.{set_outcome, set_trimmed}
 
 one_tree : (t u : List (List Comparator)) → Ranges t ≡ Ranges u → t ≡ u
 one_tree t u e = cc e
 
-module _ {f : Flavour} (cut : IsCutting f) where
-  text_read : (ranges : List VersionRange) → IsReadSet ranges → IsOutcome f (set_text ranges) (Ranges (shortest_tree ranges))
-  text_read ranges r = set_outcome f cut ranges (read_written ranges r)
+-- both readers keep the same of a tree
+kept_alike : (f : Flavour) → IsCutting f → (tree : List (List Comparator)) → kept f tree ≡ kept Normal tree
+kept_alike f npm tree = refl
+kept_alike f normal tree = refl
 
-  tree_read : (ranges : List VersionRange) → IsReadSet ranges → {tree : List (List Comparator)} → IsRereadAs f ranges tree → tree ≡ shortest_tree ranges
-  tree_read ranges r {tree} h = one_tree tree (shortest_tree ranges) (outcome_one h (text_read ranges r))
+module _ (f : Flavour) (cut : IsCutting f) (ranges : List VersionRange) (r : IsReadSet ranges) where
+  text_read : IsRereadAs f ranges (shortest_tree ranges)
+  text_read = set_outcome f cut ranges (read_writable ranges r)
+
+  tree_read : (tree : List (List Comparator)) → IsRereadAs f ranges tree → tree ≡ shortest_tree ranges
+  tree_read tree h = one_tree tree (shortest_tree ranges) (one_outcome f (set_text ranges) (Ranges tree) (Ranges (shortest_tree ranges)) h text_read)
 
   -- what is kept of the tree that the text is read as
-  kept_read : (ranges : List VersionRange) → IsReadSet ranges → {tree : List (List Comparator)} → IsRereadAs f ranges tree → kept tree ≡ reread_set ranges
-  kept_read ranges r h = ap kept (tree_read ranges r h)
+  kept_read : (tree : List (List Comparator)) → IsRereadAs f ranges tree → kept f tree ≡ reread_set ranges
+  kept_read tree h = kept_alike f cut tree ∙ ap (kept Normal) (tree_read tree h)
 
-  kept_settled : (ranges : List VersionRange) → IsReadSet ranges → {tree : List (List Comparator)} → IsRereadAs f ranges tree → reread_set (kept tree) ≡ kept tree
-  kept_settled ranges r h = let e = kept_read ranges r h in ap reread_set e ∙ read_settles ranges r ∙ sym e
+  kept_settled : (tree : List (List Comparator)) → IsRereadAs f ranges tree → reread_set (kept f tree) ≡ kept f tree
+  kept_settled tree h = let e = kept_read tree h in ap reread_set e ∙ read_settles ranges r ∙ sym e
 
-pub rereadings : AreRereadings
+pub rereadings : NormalTextsKeepTheirMeaning
 rereadings f cut ranges r = record {
-  is_read = text_read cut ranges r;
-  no_other = λ h. outcome_one h (text_read cut ranges r);
-  is_trimmed = set_trimmed ranges (read_written ranges r);
-  trims = set_trims ranges (read_written ranges r);
-  tree_keeps = λ h k v. ap (λ tree. tree_means (tree_ranges tree) v) (tree_read cut ranges r h) ∙ read_form_means ranges r k v;
-  set_keeps = λ h k v. ap (λ set. tree_means (alternatives set) v) (kept_read cut ranges r h) ∙ read_again_means ranges r k v;
-  same = λ h usual k. kept_read cut ranges r h ∙ read_usual ranges r usual k;
-  settled = λ h. kept_settled cut ranges r h;
-  read_on = λ {tree} h j. kept_read cut (kept tree) (read_by h) j ∙ kept_settled cut ranges r h;
+  is_read = text_read f cut ranges r;
+  no_other = λ o h. one_outcome f (set_text ranges) o (Ranges (shortest_tree ranges)) h (text_read f cut ranges r);
+  is_trimmed = set_trimmed ranges (read_writable ranges r);
+  means = λ k tree h v. ap (λ tree. tree_means (tree_ranges tree) v) (tree_read f cut ranges r tree h) ∙ read_form_means ranges r k v;
+  kept_means = λ k tree h v. ap (λ set. tree_means (alternatives set) v) (kept_read f cut ranges r tree h) ∙ read_again_means ranges r k v;
+  equal = λ orderly k tree h. kept_read f cut ranges r tree h ∙ read_orderly ranges r orderly k;
 }
+
+read_again : (f : Flavour) (ranges : List VersionRange) (tree : List (List Comparator)) → IsRereadAs f ranges tree → IsReadSet (kept f tree)
+read_again f ranges tree h = record { flavour = f; text = set_text ranges; tree = tree; is_outcome = h; is_kept = refl }
+
+pub settles : OneRereadingSettles
+settles f cut ranges r tree h g other next k =
+    kept_read g other (kept f tree) (read_again f ranges tree h) next k ∙ kept_settled f cut ranges r tree h
+
+pub settled_by_text : SettledSetsAreTheirTexts
+settled_by_text some others r s settled_some settled_others same =
+    let read = text_read Normal normal some r in
+    sym (settled_some Normal normal (shortest_tree some) read)
+    ∙ settled_others Normal normal (shortest_tree some) (subst (λ text. IsRereadText text) same read)
+  where
+    IsRereadText : List ℕ → Type 0
+    IsRereadText text = IsOutcome Normal text (Ranges (shortest_tree some))

@@ -20,11 +20,14 @@ use Rattle.semver_base.proofs.Orders.{and_both, and_first, and_second}
 use Rattle.semver_req.specs.Comparators.{Comparator, comparator_range}
 use Rattle.semver_req.specs.KeptSet.{kept, kept_range}
 use Rattle.semver_req.specs.Outcome.{tree_ranges}
-use Rattle.semver_req.specs.Settled.{IsSettled, all, no_end, one_version, short, ordered, has_no_build, is_kept, is_usual, reread, reread_set}
-use Rattle.semver_req.specs.Shortest.{ending, has_start, is_below_zero, is_plain, is_short, keeps_meaning, keeps_start, shortest, shortest_between, shortest_of, shortest_tree, starting, starts_or_is_open}
+use Rattle.semver_req.specs.Rereading.{has_no_build, has_own_form, is_orderly, is_pre_of_zero, keeps_meaning, keeps_start}
+use Rattle.semver_req.specs.Settled.{IsSettled, all, no_end, one_version, short, ordered, reread, reread_set}
+use Rattle.semver_req.specs.Shortest.{ending, is_plain, shortest, shortest_between, shortest_of, shortest_tree, starting}
+use Rattle.semver_req.specs.declared.common.values.Flavour.TheVariants.{Normal}
 use Rattle.semver_req.proofs.Folding.{comparator_empty, kept_means, nothing_means}
-use Rattle.semver_req.proofs.KeptRanges.{kept_are_kept, kept_range_starts}
+use Rattle.semver_req.proofs.KeptRanges.{is_kept}
 use Rattle.semver_req.proofs.Settling.{both_kept, end_kept, form_read, reread_settled, same_version, settled_reread, version_read}
+use Rattle.semver_req.proofs.Starts.{has_start, kept_range_starts, starts_or_is_open}
 use Rattle.semver_req.proofs.ShortestMeaning.{by_form, by_test, ge_turned, same_number, short_end, shortest_means, zero_le}
 
 -- ---- what the form of a set means
@@ -47,7 +50,7 @@ tree_form_means (range ∷ ranges) h k v = forms_mean (range ∷ ranges) h k v
 -- what is kept of it means what the set means
 pub reread_set_means : (ranges : List VersionRange) → list_all has_start ranges ≡ true → list_all keeps_meaning ranges ≡ true
     → (v : Version) → tree_means (alternatives (reread_set ranges)) v ≡ tree_means (alternatives ranges) v
-reread_set_means ranges h k v = kept_means (shortest_tree ranges) v ∙ tree_form_means ranges h k v
+reread_set_means ranges h k v = kept_means Normal (shortest_tree ranges) v ∙ tree_form_means ranges h k v
 
 -- ---- no range is dropped
 
@@ -84,12 +87,12 @@ bounds_end (bound.Version s) (bound.Version e) h = between_ends s.kind e.kind s.
 reread_kept : (range : VersionRange) → is_kept range ≡ true → not (ends_at_zero (reread range).end) ≡ true
 reread_kept range h = ap not (bounds_end range.start range.end (and_first (has_start range) _ h)) ∙ and_second (has_start range) _ h
 
-forms_kept : (ranges : List VersionRange) → list_all is_kept ranges ≡ true → kept (map shortest ranges) ≡ map reread ranges
+forms_kept : (ranges : List VersionRange) → list_all is_kept ranges ≡ true → kept Normal (map shortest ranges) ≡ map reread ranges
 forms_kept [] h = refl
 forms_kept (range ∷ ranges) h = go (not (ends_at_zero (reread range).end)) (reread_kept range (and_first _ _ h)) (forms_kept ranges (and_second (is_kept range) _ h))
   where
-    go : (b : Bool) → b ≡ true → kept (map shortest ranges) ≡ map reread ranges
-        → (if b then reread range ∷ kept (map shortest ranges) else kept (map shortest ranges)) ≡ map reread (range ∷ ranges)
+    go : (b : Bool) → b ≡ true → kept Normal (map shortest ranges) ≡ map reread ranges
+        → (if b then reread range ∷ kept Normal (map shortest ranges) else kept Normal (map shortest ranges)) ≡ map reread (range ∷ ranges)
     go true e later = ap (λ (rest : List VersionRange). reread range ∷ rest) later
     go false e later = cc e
 
@@ -118,10 +121,6 @@ set_settles ranges h =
     let once = set_reread ranges h in
     ap reread_set once ∙ set_reread (map reread ranges) (rereads_kept ranges h) ∙ twice ranges h ∙ sym once
 
--- the kept set of a tree settles
-pub kept_settles : (tree : List (List Comparator)) → reread_set (reread_set (kept tree)) ≡ reread_set (kept tree)
-kept_settles tree = set_settles (kept tree) (kept_are_kept tree)
-
 -- ---- ranges that are settled as they were read
 
 no_build : (v : Version) → (length v.build == 0) ≡ true → v.build ≡ []
@@ -130,9 +129,9 @@ no_build v h = nil_from_length v.build (same_number _ _ h)
 -- a start below its end
 less_settled : (k l : VersionBoundKind) (s e : Version) → s.build ≡ [] → e.build ≡ [] → precedence_cmp s e ≡ Less → keeps_start (bound_at k s) (bound_at l e) ≡ true
     → IsSettled (between (bound_at k s) (bound_at l e))
-less_settled k l s e first second less h = go (is_below_zero s) refl k l h
+less_settled k l s e first second less h = go (is_pre_of_zero s) refl k l h
   where
-    go : (b : Bool) → is_below_zero s ≡ b → (k l : VersionBoundKind) → (not b || is_short k l s e) ≡ true → IsSettled (between (bound_at k s) (bound_at l e))
+    go : (b : Bool) → is_pre_of_zero s ≡ b → (k l : VersionBoundKind) → (not b || has_own_form k l s e) ≡ true → IsSettled (between (bound_at k s) (bound_at l e))
     go false above k l h = ordered first second (ge_turned _ (release 0 0 0) s refl (zero_le s above)) less
     go true low kind.Inclusive kind.Inclusive h = subst (λ (end : Version). IsSettled (between (from s) (at_most end))) ((version_told s e).0 h) one_version
     go true low kind.Inclusive kind.Exclusive h = short (short_end s e low h)
@@ -149,33 +148,33 @@ never_passed kind.Inclusive kind.Inclusive h = cc h
 never_passed kind.Inclusive kind.Exclusive h = cc h
 never_passed kind.Exclusive l h = cc h
 
-usual_between : (k l : VersionBoundKind) (s e : Version) → s.build ≡ [] → e.build ≡ [] → lies_below k l (precedence_cmp s e) ≡ true → keeps_start (bound_at k s) (bound_at l e) ≡ true
+orderly_between : (k l : VersionBoundKind) (s e : Version) → s.build ≡ [] → e.build ≡ [] → lies_below k l (precedence_cmp s e) ≡ true → keeps_start (bound_at k s) (bound_at l e) ≡ true
     → IsSettled (between (bound_at k s) (bound_at l e))
-usual_between k l s e first second below h = go (precedence_cmp s e) refl below
+orderly_between k l s e first second below h = go (precedence_cmp s e) refl below
   where
     go : (r : Ordering) → precedence_cmp s e ≡ r → lies_below k l r ≡ true → IsSettled (between (bound_at k s) (bound_at l e))
     go Less less below = less_settled k l s e first second less h
     go Equal tie below = tied_settled k l s e (same_version s e first second tie) below
     go Greater passed below = absurd (never_passed k l below)
 
-usual_bounds : (start end : RangeBound) → starts_or_is_open start end ≡ true → (has_no_build start && has_no_build end) ≡ true → starts_before start end ≡ true → keeps_start start end ≡ true
+orderly_bounds : (start end : RangeBound) → starts_or_is_open start end ≡ true → (has_no_build start && has_no_build end) ≡ true → starts_before start end ≡ true → keeps_start start end ≡ true
     → IsSettled (between start end)
-usual_bounds bound.Unbounded bound.Unbounded h built below k = all
-usual_bounds bound.Unbounded (bound.Version e) h built below k = cc h
-usual_bounds (bound.Version s) bound.Unbounded h built below k = no_end (no_build s.version (and_first _ _ built))
-usual_bounds (bound.Version s) (bound.Version e) h built below k =
-    usual_between s.kind e.kind s.version e.version (no_build s.version (and_first _ _ built)) (no_build e.version (and_second (has_no_build (bound.Version s)) _ built)) below k
+orderly_bounds bound.Unbounded bound.Unbounded h built below k = all
+orderly_bounds bound.Unbounded (bound.Version e) h built below k = cc h
+orderly_bounds (bound.Version s) bound.Unbounded h built below k = no_end (no_build s.version (and_first _ _ built))
+orderly_bounds (bound.Version s) (bound.Version e) h built below k =
+    orderly_between s.kind e.kind s.version e.version (no_build s.version (and_first _ _ built)) (no_build e.version (and_second (has_no_build (bound.Version s)) _ built)) below k
 
 -- a range without builds that starts below its end is settled, under the premise
-pub usual_settled : (range : VersionRange) → has_start range ≡ true → is_usual range ≡ true → keeps_meaning range ≡ true → IsSettled range
-usual_settled range h usual k = usual_bounds range.start range.end h (and_first _ _ usual) (and_second (has_no_build range.start && has_no_build range.end) _ usual) k
+pub orderly_settled : (range : VersionRange) → has_start range ≡ true → is_orderly range ≡ true → keeps_meaning range ≡ true → IsSettled range
+orderly_settled range h orderly k = orderly_bounds range.start range.end h (and_first _ _ orderly) (and_second (has_no_build range.start && has_no_build range.end) _ orderly) k
 
-usual_twice : (ranges : List VersionRange) → list_all is_kept ranges ≡ true → list_all is_usual ranges ≡ true → list_all keeps_meaning ranges ≡ true → map reread ranges ≡ ranges
-usual_twice [] h usual k = refl
-usual_twice (range ∷ ranges) h usual k = ap₂ (λ (r : VersionRange) (rest : List VersionRange). r ∷ rest)
-    (settled_reread range (usual_settled range (and_first (has_start range) _ (and_first _ _ h)) (and_first _ _ usual) (and_first _ _ k)))
-    (usual_twice ranges (and_second (is_kept range) _ h) (and_second (is_usual range) _ usual) (and_second (keeps_meaning range) _ k))
+orderly_twice : (ranges : List VersionRange) → list_all is_kept ranges ≡ true → list_all is_orderly ranges ≡ true → list_all keeps_meaning ranges ≡ true → map reread ranges ≡ ranges
+orderly_twice [] h orderly k = refl
+orderly_twice (range ∷ ranges) h orderly k = ap₂ (λ (r : VersionRange) (rest : List VersionRange). r ∷ rest)
+    (settled_reread range (orderly_settled range (and_first (has_start range) _ (and_first _ _ h)) (and_first _ _ orderly) (and_first _ _ k)))
+    (orderly_twice ranges (and_second (is_kept range) _ h) (and_second (is_orderly range) _ orderly) (and_second (keeps_meaning range) _ k))
 
 -- a kept set of such ranges is read back as itself
-pub usual_reread : (ranges : List VersionRange) → list_all is_kept ranges ≡ true → list_all is_usual ranges ≡ true → list_all keeps_meaning ranges ≡ true → reread_set ranges ≡ ranges
-usual_reread ranges h usual k = set_reread ranges h ∙ usual_twice ranges h usual k
+pub orderly_reread : (ranges : List VersionRange) → list_all is_kept ranges ≡ true → list_all is_orderly ranges ≡ true → list_all keeps_meaning ranges ≡ true → reread_set ranges ≡ ranges
+orderly_reread ranges h orderly k = set_reread ranges h ∙ orderly_twice ranges h orderly k

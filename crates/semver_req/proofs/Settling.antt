@@ -21,7 +21,8 @@ use Rattle.semver_base.proofs.Orders.{and_first, and_second, or_cases, turned}
 use Rattle.semver_req.specs.Comparators.{Caret, Comparator, Hyphen, Plain, Signed, Tilde, comparator_range}
 use Rattle.semver_req.specs.KeptSet.{kept_range}
 use Rattle.semver_req.specs.Settled.{IsSettled, all, no_end, one_version, short, ordered, empty_at_end, reread}
-use Rattle.semver_req.specs.Shortest.{ending, has_short_form, has_start, is_caret_patch, is_major, is_plain, is_tilde, shortest_between, shortest_of, starting, starts_or_is_open, whole}
+use Rattle.semver_req.specs.Shortest.{ending, has_short_form, is_caret_patch, is_major, is_plain, is_tilde, shortest_between, shortest_of, starting, whole}
+use Rattle.semver_req.proofs.Starts.{has_start, starts_or_is_open}
 use Rattle.semver_req.proofs.ShortestMeaning.{by_form, by_test, plain_is, same_number, version_of}
 
 -- ---- versions without builds

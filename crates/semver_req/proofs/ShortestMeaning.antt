@@ -22,7 +22,9 @@ use Rattle.semver_base.specs.declared.version.Version.{Version}
 use Rattle.semver_base.proofs.ClampLemmas.{above_ge}
 use Rattle.semver_base.proofs.Orders.{and_both, and_first, and_second, le_le, le_turned, or_cases, or_first, or_second, turned}
 use Rattle.semver_req.specs.Comparators.{Caret, Comparator, Plain, Tilde, comparator_range}
-use Rattle.semver_req.specs.Shortest.{ending, has_short_form, has_start, is_below_zero, is_caret_major, is_caret_patch, is_major, is_minor, is_plain, is_short, is_tilde, keeps_meaning, keeps_start, numbered, shortest, shortest_between, shortest_of, starting, starts_or_is_open, whole}
+use Rattle.semver_req.specs.Rereading.{has_own_form, is_pre_of_zero, keeps_meaning, keeps_start}
+use Rattle.semver_req.specs.Shortest.{ending, has_short_form, is_caret_major, is_caret_patch, is_major, is_minor, is_plain, is_tilde, numbered, shortest, shortest_between, shortest_of, starting, whole}
+use Rattle.semver_req.proofs.Starts.{has_start, starts_or_is_open}
 
 -- the comparators mean what the range means
 abbrev Means : List Comparator → VersionRange → Type 0
@@ -83,7 +85,7 @@ release_le [] zeros h k = refl
 release_le (x ∷ xs) zeros h k = let none : true ≡ false = rw (some_length x xs, k) at h in cc none
 
 -- a version that is no pre-release of 0.0.0 isn't below it
-pub zero_le : (s : Version) → is_below_zero s ≡ false → is_le (precedence_cmp (release 0 0 0) s) ≡ true
+pub zero_le : (s : Version) → is_pre_of_zero s ≡ false → is_le (precedence_cmp (release 0 0 0) s) ≡ true
 zero_le s h =
     le_then _ _ (zero_le_number s.major) (λ major.
     le_then _ _ (zero_le_number s.minor) (λ minor.
@@ -96,7 +98,7 @@ ge_turned Equal x y e h = rw (turned precedence_total x y Equal e) refl
 ge_turned Greater x y e h = cc h
 
 -- what a start holds that isn't below 0.0.0, 0.0.0 as a start holds
-held_from_zero : (k : VersionBoundKind) (s v : Version) → is_below_zero s ≡ false → is_above k (precedence_cmp v s) ≡ true → is_ge (precedence_cmp v (release 0 0 0)) ≡ true
+held_from_zero : (k : VersionBoundKind) (s v : Version) → is_pre_of_zero s ≡ false → is_above k (precedence_cmp v s) ≡ true → is_ge (precedence_cmp v (release 0 0 0)) ≡ true
 held_from_zero k s v low h = ge_turned _ (release 0 0 0) v refl
     (le_le precedence_total (release 0 0 0) s v (zero_le s low) (le_turned precedence_total v s (above_ge k (precedence_cmp v s) h)))
 
@@ -109,7 +111,7 @@ both_tests true zero below r true second h = rw (h refl) refl
 both_tests true zero below r false second h = rw (h refl) refl
 both_tests false zero below r first second h = refl
 
-both_mean : (k l : VersionBoundKind) (s e : Version) → is_below_zero s ≡ false → Means (starting k s ∷ ending l e ∷ []) (between (bound_at k s) (bound_at l e))
+both_mean : (k l : VersionBoundKind) (s e : Version) → is_pre_of_zero s ≡ false → Means (starting k s ∷ ending l e ∷ []) (between (bound_at k s) (bound_at l e))
 both_mean kind.Inclusive kind.Inclusive s e low v = both_tests _ _ _ _ _ _ (held_from_zero kind.Inclusive s v low)
 both_mean kind.Inclusive kind.Exclusive s e low v = both_tests _ _ _ _ _ _ (held_from_zero kind.Inclusive s v low)
 both_mean kind.Exclusive kind.Inclusive s e low v = both_tests _ _ _ _ _ _ (held_from_zero kind.Exclusive s v low)
@@ -203,7 +205,7 @@ not_below true b h k = cc (h, k)
 not_below false b h k = refl
 
 -- a range from a pre-release of 0.0.0 to below 0.0.1 or 0.1.0 has a short form
-pub short_end : (s e : Version) → is_below_zero s ≡ true → (is_plain e 0 0 1 || is_plain e 0 1 0) ≡ true → has_short_form s e ≡ true
+pub short_end : (s e : Version) → is_pre_of_zero s ≡ true → (is_plain e 0 0 1 || is_plain e 0 1 0) ≡ true → has_short_form s e ≡ true
 short_end s e low h =
     let numbers = and_second (not (length s.pre == 0)) _ low in
     let numbers1 = and_second (s.major == 0) _ numbers in
@@ -215,16 +217,16 @@ short_end s e low h =
       | inr minors ↦ short_by_tilde s e (rw (major, minor) minors)
     ]
 
-not_short : (s e : Version) → (not (is_below_zero s) || (is_plain e 0 0 1 || is_plain e 0 1 0)) ≡ true → has_short_form s e ≡ false → is_below_zero s ≡ false
-not_short s e h long = go (is_below_zero s) refl h
+not_short : (s e : Version) → (not (is_pre_of_zero s) || (is_plain e 0 0 1 || is_plain e 0 1 0)) ≡ true → has_short_form s e ≡ false → is_pre_of_zero s ≡ false
+not_short s e h long = go (is_pre_of_zero s) refl h
   where
-    go : (b : Bool) → is_below_zero s ≡ b → (not b || (is_plain e 0 0 1 || is_plain e 0 1 0)) ≡ true → b ≡ false
+    go : (b : Bool) → is_pre_of_zero s ≡ b → (not b || (is_plain e 0 0 1 || is_plain e 0 1 0)) ≡ true → b ≡ false
     go false low h = refl
     go true low h = cc (short_end s e low h, long)
 
 -- ---- every line
 
-between_means : (k l : VersionBoundKind) (s e : Version) → (not (is_below_zero s) || is_short k l s e) ≡ true → Means (shortest_between k l s e) (between (bound_at k s) (bound_at l e))
+between_means : (k l : VersionBoundKind) (s e : Version) → (not (is_pre_of_zero s) || has_own_form k l s e) ≡ true → Means (shortest_between k l s e) (between (bound_at k s) (bound_at l e))
 between_means kind.Inclusive kind.Inclusive s e h =
     let P : List Comparator → Type 0 = λ cs. Means cs (between (from s) (at_most e)) in
     by_test P (version_eq s e) (λ same. alone_means (Plain (whole s)) _ (version_range s e same)) (λ other.

@@ -1,10 +1,12 @@
--- What is kept of one comparator of the strict reader is the comparator's own range.
-use Rattle.std.proofs.Common.{◌≡◌, ◌+◌, ℕ, List, [], ◌∷◌, Bool, true, false, refl, arith}
+-- What is kept of one comparator of the strict reader is the comparator's own range, which is no empty one at 0.0.0.
+use Rattle.std.proofs.Common.{◌≡◌, ◌+◌, ℕ, List, [], ◌∷◌, Bool, true, false, refl, ap, ◌∙◌, arith}
 use Rattle.std.proofs.lemmas.Bool.Decides.{nat_tests}
 use Rattle.std.specs.Prelude.{if◌then◌else◌, nat_lt}
 use Rattle.std.specs.declared.cmp.Ordering.TheVariants.{Less}
 use Rattle.semver_base.specs.Clamp.{clamped}
+use Rattle.semver_base.specs.Grammar.{this, that}
 use Rattle.semver_base.specs.Meaning.{everything, from, release, to_below}
+use Rattle.semver_base.specs.Overlap.{ends_at_zero}
 use Rattle.semver_base.specs.PartialTable.{between, caret, caret_patch, equal, lower_to_below, lowest, or_zero, tilde}
 use Rattle.semver_base.specs.Precedence.{precedence_cmp}
 use Rattle.semver_base.specs.declared.partial.Partial.{Partial}
@@ -14,7 +16,9 @@ use Rattle.semver_base.specs.declared.range.VersionBoundKind.TheVariants as kind
 use Rattle.semver_base.specs.declared.range.VersionRange.{VersionRange}
 use Rattle.semver_base.specs.declared.version.Version.{Version}
 use Rattle.semver_req.specs.Comparators.{Caret, Comparator, Hyphen, Plain, Signed, Tilde, comparator_range}
-use Rattle.semver_req.specs.KeptSet.{is_unsigned, kept_range}
+use Rattle.semver_req.specs.KeptSet.{kept_range}
+use Rattle.semver_req.specs.Outcome.{IsStrictRange}
+use Rattle.semver_req.proofs.Folding.{caret_ends, equal_ends, tilde_ends, upper_ends}
 use Rattle.semver_req.proofs.Settling.{below_major, below_minor, below_patch, less_stays, number_below, version_stays}
 
 -- stopping leaves the range alone
@@ -65,10 +69,36 @@ equal_stays (Val major) Wildcard patch pre build = below_stays _ _ (next_major m
 equal_stays (Val major) (Val minor) Wildcard pre build = below_stays _ _ (below_minor (release major minor 0))
 equal_stays (Val major) (Val minor) (Val patch) pre build = version_stays (lowest (partial (Val major) (Val minor) (Val patch) pre build))
 
--- what is kept of a comparator without a sign is its own range
-pub unsigned_kept : (c : Comparator) → is_unsigned c ≡ true → kept_range (c ∷ []) ≡ comparator_range c
+-- ---- comparators of the strict reader
+
+-- without a sign in front
+abbrev is_unsigned : Comparator → Bool
+is_unsigned (Signed sign p) = false
+is_unsigned c = true
+
+unsigned : {text : List ℕ} {c : Comparator} → IsStrictRange text c → is_unsigned c ≡ true
+unsigned (this (this m)) = ap is_unsigned m.is
+unsigned (this (that m)) = ap is_unsigned m.is
+unsigned (that m) = ap is_unsigned m.is
+
+unsigned_kept : (c : Comparator) → is_unsigned c ≡ true → kept_range (c ∷ []) ≡ comparator_range c
 unsigned_kept (Tilde p) h = tilde_stays p.major p.minor p.patch p.pre p.build
 unsigned_kept (Caret p) h = caret_stays p.major p.minor p.patch p.pre p.build
 unsigned_kept (Signed sign p) h = cc h
 unsigned_kept (Plain p) h = equal_stays p.major p.minor p.patch p.pre p.build
 unsigned_kept (Hyphen p q) h = refl
+
+unsigned_ends : (c : Comparator) → is_unsigned c ≡ true → ends_at_zero (comparator_range c).end ≡ false
+unsigned_ends (Tilde p) h = tilde_ends p p.major p.minor
+unsigned_ends (Caret p) h = caret_ends p p.major p.minor p.patch
+unsigned_ends (Signed sign p) h = cc h
+unsigned_ends (Plain p) h = equal_ends p p.major p.minor p.patch
+unsigned_ends (Hyphen p q) h = upper_ends q q.major q.minor q.patch
+
+-- what is kept of it is its own range
+pub strict_kept : {text : List ℕ} {c : Comparator} → IsStrictRange text c → kept_range (c ∷ []) ≡ comparator_range c
+strict_kept {c = c} s = unsigned_kept c (unsigned s)
+
+-- which doesn't end below 0.0.0
+pub strict_ends : {text : List ℕ} {c : Comparator} → IsStrictRange text c → ends_at_zero (kept_range (c ∷ [])).end ≡ false
+strict_ends {c = c} s = ap (λ (range : VersionRange). ends_at_zero range.end) (strict_kept s) ∙ unsigned_ends c (unsigned s)

@@ -23,8 +23,8 @@ use Rattle.semver_base.proofs.Bytes.{BeginsBy, Disjoint, begins_from_made, begin
 use Rattle.semver_req.specs.Comparators.{Comparator, comparator_line, comparator_numbers, comparator_range, component_numbers, fits, numbers}
 use Rattle.semver_req.specs.Outcome.{IsStrictOutcome, whole, left_over, no_front, no_fit, IsStrictRange, IsTagOr, tag, no_tag, Outcome, Ranges, Tag, Refused}
 use Rattle.semver_req.specs.Partials.{IsPartial, component_fits, partial_fits, sized_partial}
-use Rattle.semver_req.specs.Requirement.{Failure, IsStrictReading, empty_constraint}
-use Rattle.semver_req.specs.Strict.{IsMarkCut, IsNoTag, no_memory_left, blank_no_tag, other_no_tag, IsStrictFront, IsStrictRefusal, memory_wanting, something_follows, blank_text, no_range, large_number, large_bound, marked_partial, unexpected_character}
+use Rattle.semver_req.specs.Readers.{Failure, IsReading}
+use Rattle.semver_req.specs.Strict.{IsMarkCut, IsNoTag, no_memory_left, blank_no_tag, other_no_tag, IsStrictFront, IsStrictRefusal, memory_wanting, something_follows, blank_text, no_range, large_number, large_bound, empty_constraint, marked_partial, unexpected_character}
 use Rattle.semver_req.specs.Tag.{is_valid_tag}
 use Rattle.semver_req.specs.declared.common.values.Flavour.TheVariants.{Specifier}
 use Rattle.semver_req.specs.declared.range_set_or_tag.RangeSetOrTag.{RangeSetOrTag}
@@ -33,8 +33,9 @@ use Rattle.semver_req.specs.declared.specifier.Mark.{Mark}
 use Rattle.semver_req.specs.declared.specifier.Mark.TheVariants as mark
 use Rattle.semver_base.proofs.Blanks.{blanks_made, is_blank_byte}
 use Rattle.semver_req.proofs.Components.{is_component_byte}
-use Rattle.semver_req.proofs.Outcomes.{some_or_none}
+use Rattle.semver_req.proofs.OneOutcome.{some_or_none}
 use Rattle.semver_req.proofs.Partials.{partial_begins, partial_some}
+use Rattle.semver_req.proofs.StrictKept.{strict_kept}
 
 -- ---- a mark and a partial version
 
@@ -154,11 +155,11 @@ blank_of text refusal failure (inl e) v b = rw e no_memory_left
 blank_of text refusal failure (inr e) v b = rw e (blank_no_tag v b)
 
 -- the text as a tag, where its outcome is what it is as a tag
-tag_reading : {text : List ℕ} {answer : RangeSetOrTag} → ((o : Outcome) → IsTagOr text o → IsStrictOutcome text o) → (answer ≡ inner.Tag text) × (is_valid_tag text ≡ true) → IsStrictReading text answer
+tag_reading : {text : List ℕ} {answer : RangeSetOrTag} → ((o : Outcome) → IsTagOr text o → IsStrictOutcome text o) → (answer ≡ inner.Tag text) × (is_valid_tag text ≡ true) → IsReading Specifier text answer
 tag_reading {text} to h = record { outcome = Tag text; is_outcome = to (Tag text) (tag h.1); is_read = h.0 }
 
 module _ {text : List ℕ} (none : HasNone IsStrictRange text) where
-  pub none_reading : (answer : RangeSetOrTag) → (answer ≡ inner.Tag text) × (is_valid_tag text ≡ true) → IsStrictReading text answer
+  pub none_reading : (answer : RangeSetOrTag) → (answer ≡ inner.Tag text) × (is_valid_tag text ≡ true) → IsReading Specifier text answer
   none_reading answer = tag_reading (λ o t. no_front none t)
 
   pub none_refusal : (failure : Failure) → IsNoTag text UnexpectedCharacter failure → IsStrictRefusal text failure
@@ -176,7 +177,7 @@ module _ {text rest : List ℕ} {m : Mark} {p : Partial} (f : LargeFront text m 
   unfit : fits (marked_partial m p) ≡ false
   unfit = and_false _ _ f.number_large
 
-  pub number_reading : (answer : RangeSetOrTag) → (answer ≡ inner.Tag text) × (is_valid_tag text ≡ true) → IsStrictReading text answer
+  pub number_reading : (answer : RangeSetOrTag) → (answer ≡ inner.Tag text) × (is_valid_tag text ≡ true) → IsReading Specifier text answer
   number_reading answer = tag_reading (λ o t. no_fit f.longest unfit t)
 
   pub number_refusal : (failure : Failure) → IsNoTag text NumberTooLarge failure → IsStrictRefusal text failure
@@ -194,7 +195,7 @@ module _ {text rest : List ℕ} {m : Mark} {p : Partial} (f : FittingFront text 
   over cause (inr h) other = h.1
 
   module _ (cause : Failure) (refused : IsBoundRefusal (comparator_line (marked_partial m p)).sums cause) (other : cause ≡ None → ⊥) where
-    pub bound_reading : (answer : RangeSetOrTag) → (answer ≡ inner.Tag text) × (is_valid_tag text ≡ true) → IsStrictReading text answer
+    pub bound_reading : (answer : RangeSetOrTag) → (answer ≡ inner.Tag text) × (is_valid_tag text ≡ true) → IsReading Specifier text answer
     bound_reading answer = tag_reading (λ o t. no_fit f.longest (fits_by false (over cause refused other)) t)
 
     pub bound_refusal : (failure : Failure) → IsNoTag text BoundTooLarge failure → IsStrictRefusal text failure
@@ -202,11 +203,11 @@ module _ {text rest : List ℕ} {m : Mark} {p : Partial} (f : FittingFront text 
     bound_refusal failure (blank_no_tag v b) = some_or_none f.longest (blank_none text b)
     bound_refusal failure (other_no_tag v b) = large_bound f.longest f.numbers_fit (over cause refused other) v
 
-  pub whole_reading : (range : VersionRange) (answer : RangeSetOrTag) → all_fit (comparator_line (marked_partial m p)).sums ≡ true → (length rest == 0) ≡ true → range ≡ comparator_range (marked_partial m p) → answer ≡ inner.RangeSet (record { 0 = range ∷ [] }) → IsStrictReading text answer
+  pub whole_reading : (range : VersionRange) (answer : RangeSetOrTag) → all_fit (comparator_line (marked_partial m p)).sums ≡ true → (length rest == 0) ≡ true → range ≡ comparator_range (marked_partial m p) → answer ≡ inner.RangeSet (record { 0 = range ∷ [] }) → IsReading Specifier text answer
   whole_reading range answer e empty is answered = record {
     outcome = Ranges ((marked_partial m p ∷ []) ∷ []);
     is_outcome = whole (let nil : rest ≡ [] = nil_from_length rest (grind (arith, nat_tests)) in rw nil at f.longest) (fits_by true e);
-    is_read = answered ∙ ap (λ (r : VersionRange). inner.RangeSet (record { 0 = r ∷ [] })) is;
+    is_read = answered ∙ ap (λ (r : VersionRange). inner.RangeSet (record { 0 = r ∷ [] })) (is ∙ sym (strict_kept f.longest.stands));
   }
 
   pub follows_refusal : all_fit (comparator_line (marked_partial m p)).sums ≡ true → (length rest == 0) ≡ false → (failure : Failure) → (failure ≡ None) ⊎ (failure ≡ unexpected_character) → IsStrictRefusal text failure

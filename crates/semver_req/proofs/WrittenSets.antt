@@ -1,13 +1,10 @@
 -- What is written of a set of ranges is cut into the texts of its ranges, each of which is read back as its shortest
 -- form, by npm's and by the normalized reader.
-use Rattle.std.proofs.Common.{◌≡◌, ◌≤◌, ◌<◌, ℕ, suc, Bool, true, false, List, [], ◌∷◌, ◌++◌, length, map, refl, sym, ap, ◌∙◌, arith, inl, append-nil, append_assoc, length-append, ◌==◌, ◌-◌, get_or}
+use Rattle.std.proofs.Common.{◌≡◌, ◌≤◌, ◌<◌, ℕ, suc, Bool, true, false, List, [], ◌∷◌, ◌++◌, length, map, refl, sym, ap, ◌∙◌, arith, inl, append-nil, append_assoc, length-append, ◌==◌}
 use Rattle.std.specs.Prelude.{codes, not}
 use Rattle.std.specs.Char.{is_ascii}
 use Rattle.std.specs.List.{list_all}
-use Rattle.std.specs.Int.{IsInRange}
-use Rattle.std.specs.Str.{IsTrim, trim}
-use Rattle.std.proofs.Math.Seq.{get_or-append_seam}
-use Rattle.std.proofs.lemmas.Str.Pattern.{trim_same as clause_trim_same}
+use Rattle.std.specs.Str.{trim}
 use Rattle.std.proofs.lemmas.Bool.{and_from, and_parts}
 use Rattle.std.proofs.lemmas.Bool.Decides.{nat_tests}
 use Rattle.std.proofs.lemmas.Fmt.{decimal_digit}
@@ -22,10 +19,10 @@ use Rattle.semver_base.proofs.Fronts.{fronts, same, shorter, longer}
 use Rattle.semver_base.proofs.Blanks.{blanks_made, is_blank_byte}
 use Rattle.semver_base.proofs.Solid.{EndsSolid, StartsSolid, ends_after, ends_solid, is_solid_byte, solid_ascii, solid_no_blank, starts_before, starts_solid, trim_same}
 use Rattle.semver_req.specs.Comparators.{Comparator, fits}
-use Rattle.semver_req.specs.NormalText.{IsCutting, npm, normal, AreWritableRanges, IsWritableRange, comparator_text, comparators_text, range_text, set_text}
+use Rattle.semver_req.specs.NormalText.{AreWritableRanges, IsWritableRange, comparator_text, comparators_text, range_text, set_text}
 use Rattle.semver_req.specs.Shortest.{ending, shortest, shortest_tree}
-use Rattle.semver_req.specs.Outcome.{AreGoodOnes, none_left, good, IsOutcome, one_good, npm_many, normal_many, Ranges}
-use Rattle.semver_req.specs.Pieces.{AreMorePieces, last_piece, cut_piece, one_piece, first_cut, HasNoBar, IsCutAt, IsFilled, IsPiece, IsTrimmed}
+use Rattle.semver_req.specs.Outcome.{AreGoodOnes, none_left, good, IsCutOutcome, IsOutcome, one_good, npm_many, normal_many, Ranges}
+use Rattle.semver_req.specs.Pieces.{IsCutting, npm, normal, AreMorePieces, last_piece, cut_piece, one_piece, first_cut, HasNoBar, IsCutAt, IsFilled, IsPiece, IsTrimmed}
 use Rattle.semver_req.specs.declared.common.values.Flavour.{Flavour}
 use Rattle.semver_req.specs.declared.common.values.Flavour.TheVariants.{Npm, Normal}
 use Rattle.semver_req.proofs.WrittenComparators.{AreWritten, one, more, IsWritten, ending_written, shortest_written}
@@ -190,15 +187,15 @@ as_many [] = refl
 as_many (r ∷ others) = ap suc (as_many others)
 
 -- two ranges or more
-many_outcome : (f : Flavour) → IsCutting f → (r q : VersionRange) (others : List VersionRange) → AreWritableRanges (r ∷ q ∷ others) → IsOutcome f (set_text (r ∷ q ∷ others)) (Ranges (map shortest (r ∷ q ∷ others)))
+many_outcome : (f : Flavour) → IsCutting f → (r q : VersionRange) (others : List VersionRange) → AreWritableRanges (r ∷ q ∷ others) → IsCutOutcome f (set_text (r ∷ q ∷ others)) (Ranges (map shortest (r ∷ q ∷ others)))
 many_outcome f npm r q others h = npm_many (first_cut (range_cut r q others h.0) (more_pieces q others h.1)) (good_ones Npm npm true (r ∷ q ∷ others) h)
 many_outcome f normal r q others h = normal_many (first_cut (range_cut r q others h.0) (more_pieces q others h.1)) (good_ones Normal normal true (r ∷ q ∷ others) h) (as_many (r ∷ q ∷ others))
 
--- the text of a set is read, by npm's and by the normalized reader, as the shortest forms of its ranges
-pub set_outcome : (f : Flavour) → IsCutting f → (ranges : List VersionRange) → AreWritableRanges ranges → IsOutcome f (set_text ranges) (Ranges (shortest_tree ranges))
-set_outcome f cut [] h = one_good (one_piece (no_bar (codes "<0.0.0") refl)) (inl (none_piece f cut, all_comparators_fit _ (one none_written)))
-set_outcome f cut (r ∷ []) h = rw append-nil (one_good (one_piece (no_bar (range_text r) (range_no_bar r h.0))) (inl (range_piece f cut r h.0, range_fits r h.0)))
-set_outcome f cut (r ∷ q ∷ others) h = many_outcome f cut r q others h
+-- the text of a set is cut into the shortest forms of its ranges
+cut_outcome : (f : Flavour) → IsCutting f → (ranges : List VersionRange) → AreWritableRanges ranges → IsCutOutcome f (set_text ranges) (Ranges (shortest_tree ranges))
+cut_outcome f cut [] h = one_good (one_piece (no_bar (codes "<0.0.0") refl)) (inl (none_piece f cut, all_comparators_fit _ (one none_written)))
+cut_outcome f cut (r ∷ []) h = rw append-nil (one_good (one_piece (no_bar (range_text r) (range_no_bar r h.0))) (inl (range_piece f cut r h.0, range_fits r h.0)))
+cut_outcome f cut (r ∷ q ∷ others) h = many_outcome f cut r q others h
 
 -- ---- nothing of a set's text is trimmed
 
@@ -219,19 +216,7 @@ set_ends (r ∷ q ∷ others) h = ends_after (range_text r) _ (ends_after (codes
 pub set_trimmed : (ranges : List VersionRange) → AreWritableRanges ranges → trim (set_text ranges) ≡ set_text ranges
 set_trimmed ranges h = trim_same (set_text ranges) (set_ascii ranges h) (set_starts ranges h) (set_ends ranges h)
 
-graphic : (b : ℕ) → is_solid_byte b ≡ true → IsInRange 33 126 b
-graphic b h = grind (arith, nat_tests)
-
-first_graphic : (text : List ℕ) → StartsSolid text → IsInRange 33 126 (get_or text 0 0)
-first_graphic text s = rw (s.text_is) (graphic s.first s.solid)
-
-last_of : (front : List ℕ) (x : ℕ) → get_or (front ++ (x ∷ [])) (length (front ++ (x ∷ [])) - 1) 0 ≡ x
-last_of front x =
-    let place : length (front ++ (x ∷ [])) - 1 ≡ length front = omega (arith, length-append front (x ∷ [])) in
-    rw place (get_or-append_seam front x [] 0)
-
-last_graphic : (text : List ℕ) → EndsSolid text → IsInRange 33 126 (get_or text (length text - 1) 0)
-last_graphic text e = rw (e.text_is, last_of e.front e.last) (graphic e.last e.solid)
-
-pub set_trims : (ranges : List VersionRange) → AreWritableRanges ranges → (t : List ℕ) → IsTrim (set_text ranges) t → t ≡ set_text ranges
-set_trims ranges h t is = clause_trim_same (set_text ranges) t is (first_graphic (set_text ranges) (set_starts ranges h)) (last_graphic (set_text ranges) (set_ends ranges h))
+-- the text of a set is read, by npm's and by the normalized reader, as the shortest forms of its ranges
+pub set_outcome : (f : Flavour) → IsCutting f → (ranges : List VersionRange) → AreWritableRanges ranges → IsOutcome f (set_text ranges) (Ranges (shortest_tree ranges))
+set_outcome f npm ranges h = rw (set_trimmed ranges h) (cut_outcome Npm npm ranges h)
+set_outcome f normal ranges h = cut_outcome Normal normal ranges h

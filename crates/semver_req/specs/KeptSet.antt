@@ -1,12 +1,16 @@
 -- The ranges that a reader keeps of the comparators of a text. Source: node-semver's description of ranges, in which the
 -- comparators of an alternative are joined by "and", and alternatives by "or".
-use Rattle.std.specs.Prelude.{List, [], ◌∷◌, map, not, Bool, true, false}
+use Rattle.std.specs.Prelude.{◌≡◌, ℕ, List, [], ◌∷◌, map, not}
 use Rattle.std.specs.List.{filter, fold}
 use Rattle.semver_base.specs.Clamp.{clamped}
-use Rattle.semver_base.specs.Meaning.{everything}
+use Rattle.semver_base.specs.Meaning.{alternatives, everything, tree_means}
 use Rattle.semver_base.specs.Overlap.{ends_at_zero}
 use Rattle.semver_base.specs.declared.range.VersionRange.{VersionRange}
-use Rattle.semver_req.specs.Comparators.{Comparator, Hyphen, Signed, comparator_range}
+use Rattle.semver_base.specs.declared.version.Version.{Version}
+use Rattle.semver_req.specs.Comparators.{Comparator, Hyphen, comparator_range}
+use Rattle.semver_req.specs.Outcome.{IsOutcome, Ranges, tree_ranges}
+use Rattle.semver_req.specs.declared.common.values.Flavour.{Flavour}
+use Rattle.semver_req.specs.declared.common.values.Flavour.TheVariants.{Npm, Normal, Specifier}
 
 -- the ranges clamped to one another from left to right, beginning with everything
 abbrev pub folded : List VersionRange → VersionRange
@@ -17,11 +21,25 @@ abbrev pub kept_range : List Comparator → VersionRange
 kept_range (Hyphen p q ∷ []) = comparator_range (Hyphen p q)
 kept_range comparators = folded (map comparator_range comparators)
 
--- the ranges of the alternatives, without those that end at 0.0.0
-abbrev pub kept : List (List Comparator) → List VersionRange
-kept tree = filter (λ range. not (ends_at_zero range.end)) (map kept_range tree)
+-- without those that end below 0.0.0, of which `VersionRange::is_none` says yes
+abbrev pub without_none : List VersionRange → List VersionRange
+without_none ranges = filter (λ range. not (ends_at_zero range.end)) ranges
 
--- without a sign in front, as each comparator of the strict reader
-abbrev pub is_unsigned : Comparator → Bool
-is_unsigned (Signed sign p) = false
-is_unsigned c = true
+-- the ranges of the alternatives of a tree; the strict reader drops none
+abbrev pub kept : Flavour → List (List Comparator) → List VersionRange
+kept Npm tree = without_none (map kept_range tree)
+kept Normal tree = without_none (map kept_range tree)
+kept Specifier tree = map kept_range tree
+
+-- what some reader keeps of some text
+pub record IsReadSet (ranges : List VersionRange) : Type 0 where
+  pub flavour : Flavour
+  pub text : List ℕ
+  pub tree : List (List Comparator)
+  pub is_outcome : IsOutcome flavour text (Ranges tree)
+  pub is_kept : ranges ≡ kept flavour tree
+
+-- what is kept of a tree means what the tree means
+abbrev pub KeptSetsMeanTheirTrees : Type 0
+KeptSetsMeanTheirTrees = (f : Flavour) (tree : List (List Comparator)) (v : Version)
+    → tree_means (alternatives (kept f tree)) v ≡ tree_means (tree_ranges tree) v

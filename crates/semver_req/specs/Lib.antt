@@ -5,7 +5,7 @@ pub mod NormalText
 pub mod Outcome
 pub mod Partials
 pub mod Pieces
-pub mod ReadRanges
+pub mod Readers
 pub mod Requirement
 pub mod Rereading
 pub mod Settled

@@ -13,8 +13,6 @@ use Rattle.semver_base.specs.declared.range.RangeBound.TheVariants as bound
 use Rattle.semver_base.specs.declared.range.VersionRange.{VersionRange}
 use Rattle.semver_req.specs.Comparators.{Comparator, Tilde, Caret, Signed, Plain, Hyphen, sign_text}
 use Rattle.semver_req.specs.Shortest.{shortest}
-use Rattle.semver_req.specs.declared.common.values.Flavour.{Flavour}
-use Rattle.semver_req.specs.declared.common.values.Flavour.TheVariants.{Npm, Normal}
 
 -- ---- as letters
 
@@ -58,10 +56,3 @@ pub record IsWritableRange (r : VersionRange) : Type 0 where
 
 abbrev pub AreWritableRanges : List VersionRange → Type 0
 AreWritableRanges ranges = AllByRecursion IsWritableRange ranges
-
--- ---- which readers read it back
-
--- the two flavours whose texts are cut into pieces
-pub data IsCutting : Flavour → Type 0 where
-  npm : IsCutting Npm
-  normal : IsCutting Normal

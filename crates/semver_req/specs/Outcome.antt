@@ -2,7 +2,7 @@
 -- reading of range sets for the npm and the normalized reader; the strict reader is `deno_semver`'s own.
 use Rattle.std.specs.Prelude.{◌≡◌, ◌<◌, ℕ, List, [], ◌∷◌, length, map, Bool, true, false, ◌⊎◌}
 use Rattle.std.specs.List.{list_all}
-use Rattle.std.specs.Str.{IsTrim}
+use Rattle.std.specs.Str.{trim}
 use Rattle.semver_base.specs.Grammar.{HasNone, IsLongest}
 use Rattle.semver_base.specs.Lexical.{IsBlanks}
 use Rattle.semver_base.specs.declared.range.VersionRange.{VersionRange}
@@ -42,14 +42,15 @@ pub data AreGoodOnes (f : Flavour) : Bool → List (List ℕ) → List (List Com
   good : {b : Bool} {piece : List ℕ} {pieces : List (List ℕ)} {cs : List Comparator} {tree : List (List Comparator)} → IsGood f b piece cs → AreGoodOnes f false pieces tree → AreGoodOnes f b (piece ∷ pieces) (cs ∷ tree)
   bad : {b : Bool} {piece : List ℕ} {pieces : List (List ℕ)} {tree : List (List Comparator)} → IsBad f b piece → AreGoodOnes f false pieces tree → AreGoodOnes f b (piece ∷ pieces) tree
 
-pub data IsOutcome : Flavour → List ℕ → Outcome → Type 0 where
+-- what is made of a text that is cut at its `||`
+pub data IsCutOutcome : Flavour → List ℕ → Outcome → Type 0 where
   -- exactly one piece
-  one_good : {f : Flavour} {text piece : List ℕ} {b : Bool} {cs : List Comparator} → ArePieces text b (piece ∷ []) → IsGood f b piece cs → IsOutcome f text (Ranges (cs ∷ []))
-  one_bad : {f : Flavour} {text piece trimmed : List ℕ} {b : Bool} {o : Outcome} → ArePieces text b (piece ∷ []) → IsBad f b piece → IsTrim piece trimmed → IsTagOr trimmed o → IsOutcome f text o
+  one_good : {f : Flavour} {text piece : List ℕ} {b : Bool} {cs : List Comparator} → ArePieces text b (piece ∷ []) → IsGood f b piece cs → IsCutOutcome f text (Ranges (cs ∷ []))
+  one_bad : {f : Flavour} {text piece : List ℕ} {b : Bool} {o : Outcome} → ArePieces text b (piece ∷ []) → IsBad f b piece → IsTagOr (trim piece) o → IsCutOutcome f text o
   -- two or more: npm ignores bad ones, the normalized reader refuses the whole text for one
-  npm_many : {text one two : List ℕ} {more : List (List ℕ)} {b : Bool} {tree : List (List Comparator)} → ArePieces text b (one ∷ two ∷ more) → AreGoodOnes Npm b (one ∷ two ∷ more) tree → IsOutcome Npm text (Ranges tree)
-  normal_many : {text one two : List ℕ} {more : List (List ℕ)} {b : Bool} {tree : List (List Comparator)} → ArePieces text b (one ∷ two ∷ more) → AreGoodOnes Normal b (one ∷ two ∷ more) tree → length tree ≡ length (one ∷ two ∷ more) → IsOutcome Normal text (Ranges tree)
-  normal_refused : {text one two : List ℕ} {more : List (List ℕ)} {b : Bool} {tree : List (List Comparator)} → ArePieces text b (one ∷ two ∷ more) → AreGoodOnes Normal b (one ∷ two ∷ more) tree → length tree < length (one ∷ two ∷ more) → IsOutcome Normal text Refused
+  npm_many : {text one two : List ℕ} {more : List (List ℕ)} {b : Bool} {tree : List (List Comparator)} → ArePieces text b (one ∷ two ∷ more) → AreGoodOnes Npm b (one ∷ two ∷ more) tree → IsCutOutcome Npm text (Ranges tree)
+  normal_many : {text one two : List ℕ} {more : List (List ℕ)} {b : Bool} {tree : List (List Comparator)} → ArePieces text b (one ∷ two ∷ more) → AreGoodOnes Normal b (one ∷ two ∷ more) tree → length tree ≡ length (one ∷ two ∷ more) → IsCutOutcome Normal text (Ranges tree)
+  normal_refused : {text one two : List ℕ} {more : List (List ℕ)} {b : Bool} {tree : List (List Comparator)} → ArePieces text b (one ∷ two ∷ more) → AreGoodOnes Normal b (one ∷ two ∷ more) tree → length tree < length (one ∷ two ∷ more) → IsCutOutcome Normal text Refused
 
 -- ---- the strict reader
 
@@ -64,3 +65,21 @@ pub data IsStrictOutcome : List ℕ → Outcome → Type 0 where
   left_over : {text rest : List ℕ} {c : Comparator} → IsLongest IsStrictRange text c rest → fits c ≡ true → 0 < length rest → IsStrictOutcome text Refused
   no_front : {text : List ℕ} {o : Outcome} → HasNone IsStrictRange text → IsTagOr text o → IsStrictOutcome text o
   no_fit : {text rest : List ℕ} {c : Comparator} {o : Outcome} → IsLongest IsStrictRange text c rest → fits c ≡ false → IsTagOr text o → IsStrictOutcome text o
+
+-- ---- the three readers
+
+-- what a reader works on: npm's takes the blanks off both ends first
+abbrev pub worked_on : Flavour → List ℕ → List ℕ
+worked_on Npm text = trim text
+worked_on Normal text = text
+worked_on Specifier text = text
+
+-- what the reader of a flavour makes of a text, as it is given
+abbrev pub IsOutcome : Flavour → List ℕ → Outcome → Type 0
+IsOutcome Npm text o = IsCutOutcome Npm (trim text) o
+IsOutcome Normal text o = IsCutOutcome Normal text o
+IsOutcome Specifier text o = IsStrictOutcome text o
+
+-- no text has two outcomes
+abbrev pub TextsHaveOneOutcome : Type 0
+TextsHaveOneOutcome = (f : Flavour) (text : List ℕ) (o p : Outcome) → IsOutcome f text o → IsOutcome f text p → o ≡ p

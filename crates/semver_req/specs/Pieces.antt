@@ -38,6 +38,11 @@ IsPiece f text (c ∷ cs) = IsFilled f text (c ∷ cs)
 
 -- ---- how a text is cut
 
+-- the two flavours whose texts are cut into pieces
+pub data IsCutting : Flavour → Type 0 where
+  npm : IsCutting Npm
+  normal : IsCutting Normal
+
 -- the text has no `||`
 abbrev pub HasNoBar : List ℕ → Type 0
 HasNoBar text = (a b : List ℕ) → text ≡ a ++ (124 ∷ 124 ∷ b) → ⊥

@@ -1,8 +1,7 @@
--- The shortest usual form of a range, as comparators, and the ranges that it may not mean. Source: node-semver's range
--- grammar, whose tilde, caret and partial versions are short for two bounds.
-use Rattle.std.specs.Prelude.{ℕ, List, [], ◌∷◌, length, map, ◌+◌, Bool, true, false, not, ◌==◌, ◌&&◌, ◌||◌, nat_lt, if◌then◌else◌}
-use Rattle.semver_base.specs.Meaning.{has_pre_of, release}
-use Rattle.semver_base.specs.PartialTable.{bound_at}
+-- The shortest usual form of a range, as comparators. Source: node-semver's range grammar, whose tilde, caret and partial
+-- versions are short for two bounds.
+use Rattle.std.specs.Prelude.{ℕ, List, [], ◌∷◌, length, map, ◌+◌, Bool, ◌==◌, ◌&&◌, ◌||◌, nat_lt, if◌then◌else◌}
+use Rattle.semver_base.specs.Meaning.{release}
 use Rattle.semver_base.specs.PrecedenceLaws.{version_eq}
 use Rattle.semver_base.specs.declared.partial.Partial.{Partial}
 use Rattle.semver_base.specs.declared.partial.XRange.{XRange}
@@ -86,31 +85,3 @@ has_short_form s e = is_major s e || (is_tilde s e || (is_caret_patch s e || is_
 abbrev pub shortest_tree : List VersionRange → List (List Comparator)
 shortest_tree [] = (ending kind.Exclusive (release 0 0 0) ∷ []) ∷ []
 shortest_tree (range ∷ ranges) = map shortest (range ∷ ranges)
-
--- ---- which ranges it means
-
-abbrev pub starts_or_is_open : RangeBound → RangeBound → Bool
-starts_or_is_open bound.Unbounded (bound.Version e) = false
-starts_or_is_open start end = true
-
--- an absent start comes with an absent end only
-abbrev pub has_start : VersionRange → Bool
-has_start range = starts_or_is_open range.start range.end
-
--- a pre-release of 0.0.0, which is below 0.0.0
-abbrev pub is_below_zero : Version → Bool
-is_below_zero v = has_pre_of (bound_at kind.Inclusive v) (release 0 0 0)
-
--- from 0.0.0-pre: one version, `^0.0.0-pre` or `~0.0.0-pre`
-abbrev pub is_short : VersionBoundKind → VersionBoundKind → Version → Version → Bool
-is_short kind.Inclusive kind.Inclusive s e = version_eq s e
-is_short kind.Inclusive kind.Exclusive s e = is_plain e 0 0 1 || is_plain e 0 1 0
-is_short kind.Exclusive k s e = false
-
-abbrev pub keeps_start : RangeBound → RangeBound → Bool
-keeps_start (bound.Version s) (bound.Version e) = not (is_below_zero s.version) || is_short s.kind e.kind s.version e.version
-keeps_start start end = true
-
--- the range doesn't start at a pre-release of 0.0.0, or it has no end, or a form that names no end
-abbrev pub keeps_meaning : VersionRange → Bool
-keeps_meaning range = keeps_start range.start range.end

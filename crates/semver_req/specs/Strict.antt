@@ -5,16 +5,17 @@ use Rattle.semver_base.specs.Grammar.{HasNone, IsLongest}
 use Rattle.semver_base.specs.Lexical.{IsBlanks}
 use Rattle.semver_base.specs.PartialTable.{all_fit, bound_too_large}
 use Rattle.semver_base.specs.declared.failure.Refusal.{Refusal}
-use Rattle.semver_base.specs.declared.failure.Refusal.TheVariants.{NumberTooLarge, UnexpectedCharacter}
+use Rattle.semver_base.specs.declared.failure.Refusal.TheVariants.{EmptyConstraint, NumberTooLarge, UnexpectedCharacter}
 use Rattle.semver_base.specs.declared.lexical.values.Measured.{Measured}
 use Rattle.semver_base.specs.declared.partial.Partial.{Partial}
 use Rattle.semver_req.specs.Comparators.{Caret, Comparator, Plain, Tilde, comparator_line, comparator_numbers, fits}
 use Rattle.semver_req.specs.Outcome.{IsStrictRange}
 use Rattle.semver_req.specs.Partials.{sized_partial}
-use Rattle.semver_req.specs.Requirement.{Failure, empty_constraint}
+use Rattle.semver_req.specs.Readers.{Failure}
 use Rattle.semver_req.specs.Tag.{is_valid_tag}
 use Rattle.semver_req.specs.declared.specifier.Mark.{Mark}
 use Rattle.semver_req.specs.declared.specifier.Mark.TheVariants as mark
+use Rattle.semver_req.specs.declared.specifier.StrictRange.{StrictRange}
 
 -- ---- a mark and a partial version
 
@@ -35,11 +36,14 @@ pub record IsStrictFront (text : List ℕ) (m : Mark) (answer : Measured Partial
   pub longest : IsLongest IsStrictRange text (marked_partial m partial) rest
   pub seen : answer ≡ sized_partial partial
 
-abbrev pub ReadsStrictRange : List ℕ → Option ((Mark × Measured Partial) × List ℕ) → Type 0
+abbrev pub ReadsStrictRange : List ℕ → Option (StrictRange × List ℕ) → Type 0
 ReadsStrictRange text None = HasNone IsStrictRange text
-ReadsStrictRange text (Some p) = IsStrictFront text p.0.0 p.0.1 p.1
+ReadsStrictRange text (Some p) = IsStrictFront text p.0.mark p.0.partial p.1
 
 -- ---- refusals
+
+abbrev pub empty_constraint : Failure
+empty_constraint = Some (refusal_message EmptyConstraint, None)
 
 abbrev pub unexpected_character : Failure
 unexpected_character = Some (refusal_message UnexpectedCharacter, None)

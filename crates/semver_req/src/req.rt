@@ -1,18 +1,14 @@
 //! Requirements of versions.
 
-ghost use Rattle.std.specs.Prelude.{◌≡◌, ◌⊎◌, IfErr, IfOk, None, Some};
+ghost use Rattle.std.specs.Prelude.{◌≡◌, IfOk, None, Some};
 ghost use Rattle.std.specs.Option.{option_copied};
-ghost use Rattle.semver_base.specs.Lexical.{IsBlanks};
-ghost use Rattle.semver_req.specs.Outcome.{IsStrictOutcome, Outcome, Refused};
-ghost use Rattle.semver_req.specs.Requirement.{IsStrictAnswer, IsStrictReading, MeansStrictTrees, Requirement, empty_constraint, inner_means, set_of, tag_of};
-ghost use Rattle.semver_req.specs.Strict.{IsStrictRefusal};
+ghost use Rattle.semver_req.specs.Requirement.{Requirement, inner_means, set_of, tag_of};
 
 use crate::range_set_or_tag::RangeSetOrTag;
-use crate::specifier::{VersionReqSpecifierParseError, parse_version_req_from_specifier};
 use semver_base::range::VersionRangeSet;
 use semver_base::string::SmallStackString;
 use semver_base::version::Version;
-use std::alloc::{AllocError, Global};
+use std::alloc::AllocError;
 use std::fmt;
 use std::marker::Model;
 
@@ -44,24 +40,6 @@ impl VersionReq {
         ensures { result ≡ record { raw_text = raw_text; inner = inner } }
     {
         VersionReq { raw_text, inner }
-    }
-
-    /// The requirement that the text of a package specifier is, by the strict reader
-    /// ([`parse_version_req_from_specifier`], where each refusal is told).
-    pub fn parse_from_specifier(
-        alloc: Global,
-        text: &str,
-    ) -> Result<Self, VersionReqSpecifierParseError>
-        ensures outcome { IfOk result (λ req. IsStrictReading text.now req.inner) }
-        ensures raw_text { IfOk result (λ req. req.raw_text ≡ text.now) }
-        ensures refused { IfErr result (λ e. (e.source ≡ None) ⊎ IsStrictOutcome text.now Refused) }
-        ensures refusal { IfErr result (λ e. IsStrictRefusal text.now e.source) }
-        ensures answer { (o : Outcome) → IsStrictOutcome text.now o → IsStrictAnswer (λ e. e.source) o result }
-        ensures means { IfOk result (λ req. MeansStrictTrees text.now req.inner) }
-        ensures empty { IsBlanks text.now tt → IfErr result (λ e. (e.source ≡ None) ⊎ (e.source ≡ empty_constraint)) }
-        ensures empty_only { IfErr result (λ e. e.source ≡ empty_constraint → IsBlanks text.now tt) }
-    {
-        parse_version_req_from_specifier(alloc, text)
     }
 
     /// What the requirement stands for.

@@ -5,9 +5,8 @@ ghost use Rattle.semver_base.specs.Grammar.{answer_of};
 ghost use Rattle.semver_base.specs.Lexical.{IsBlanks};
 ghost use Rattle.semver_base.specs.PartialTable.{IsBoundRefusal, all_fit};
 ghost use Rattle.semver_req.specs.Comparators.{comparator_line, comparator_range};
-ghost use Rattle.semver_req.specs.Outcome.{IsStrictOutcome, Outcome, Refused};
-ghost use Rattle.semver_req.specs.Requirement.{IsStrictAnswer, IsStrictReading, MeansStrictTrees, empty_constraint};
-ghost use Rattle.semver_req.specs.Strict.{IsMarkCut, IsNoTag, IsStrictFront, IsStrictRefusal, ReadsStrictRange, marked_partial};
+ghost use Rattle.semver_req.specs.Readers.{IsReaderAnswer, IsReading};
+ghost use Rattle.semver_req.specs.Strict.{IsMarkCut, IsNoTag, IsStrictRefusal, ReadsStrictRange, empty_constraint, marked_partial};
 ghost use Rattle.semver_req.specs.Tag.{is_valid_tag};
 
 use crate::common::partial_front;
@@ -38,6 +37,32 @@ impl VersionReqSpecifierParseError {
         ensures { IsTrue result ↔ (self.now.source ≡ None) }
     {
         self.source.is_memory()
+    }
+}
+
+impl From<ParseFailure> for VersionReqSpecifierParseError {
+    ghost from_gives = { λ failure error. error.source ≡ failure };
+
+    fn from(source: ParseFailure) -> VersionReqSpecifierParseError {
+        VersionReqSpecifierParseError { source }
+    }
+}
+
+impl From<AllocError> for VersionReqSpecifierParseError {
+    ghost from_gives = { λ _ error. error.source ≡ None };
+
+    fn from(_error: AllocError) -> VersionReqSpecifierParseError {
+        VersionReqSpecifierParseError {
+            source: ParseFailure::memory(),
+        }
+    }
+}
+
+impl From<VersionReqSpecifierParseError> for ParseFailure {
+    ghost from_gives = { λ error failure. failure ≡ error.source };
+
+    fn from(error: VersionReqSpecifierParseError) -> ParseFailure {
+        error.source
     }
 }
 
@@ -80,16 +105,19 @@ fn split_mark(text: &str) -> (Mark, &str)
     (Mark::Absent, text)
 }
 
+// A strict range as it is written.
+struct StrictRange {
+    mark: Mark,
+    partial: Measured<Partial>,
+}
+
 // The strict range at the front, and what follows it.
-fn strict_front(
-    alloc: Global,
-    text: &str,
-) -> Result<Option<((Mark, Measured<Partial>), &str)>, AllocError>
+fn strict_front(alloc: Global, text: &str) -> Result<Option<(StrictRange, &str)>, AllocError>
     ensures { IfOk result (λ r. ReadsStrictRange text.now (answer_of r)) }
 {
     let (mark, rest) = split_mark(text);
     match partial_front(alloc, rest, Flavour::Specifier)? {
-        Some((partial, rest)) => Ok(Some(((mark, partial), rest))),
+        Some((partial, rest)) => Ok(Some((StrictRange { mark, partial }, rest))),
         None => Ok(None),
     }
 }
@@ -124,62 +152,24 @@ fn only(alloc: Global, range: VersionRange) -> Result<VersionRangeSet, AllocErro
     Ok(VersionRangeSet(ranges))
 }
 
-// What is read of a text whose strict range has numbers that fit.
-fn bounded(
-    alloc: Global,
-    text: &str,
-    mark: Mark,
-    partial: &Partial,
-    rest: &str,
-) -> Result<RangeSetOrTag, ParseFailure>
-    requires { IsStrictFront text.now mark (Measured.Fits partial.now) rest.now }
-    ensures reading { IfOk result (IsStrictReading text.now) }
+// What the text stands for.
+fn read(alloc: Global, text: &str) -> Result<RangeSetOrTag, ParseFailure>
+    ensures reading { IfOk result (IsReading Flavour.Specifier text.now) }
     ensures refusal { IfErr result (IsStrictRefusal text.now) }
 {
-    match mark.range(alloc, partial) {
+    let Some((written, rest)) = strict_front(alloc, text)? else {
+        return tag_or(alloc, text, Refusal::UnexpectedCharacter);
+    };
+    let StrictRange { mark, partial } = written;
+    let Measured::Fits(partial) = partial else {
+        return tag_or(alloc, text, Refusal::NumberTooLarge);
+    };
+    match mark.range(alloc, &partial) {
         Ok(range) if rest.is_empty() => Ok(RangeSetOrTag::RangeSet(only(alloc, range)?)),
         Ok(_) => Err(ParseFailure::of_refusal(alloc, Refusal::UnexpectedCharacter)),
         Err(failure) if failure.is_memory() => Err(failure),
         Err(_) => tag_or(alloc, text, Refusal::BoundTooLarge),
     }
-}
-
-// What is read of a text whose strict range has this mark and partial version.
-fn read_front(
-    alloc: Global,
-    text: &str,
-    mark: Mark,
-    partial: Measured<Partial>,
-    rest: &str,
-) -> Result<RangeSetOrTag, ParseFailure>
-    requires { IsStrictFront text.now mark partial rest.now }
-    ensures reading { IfOk result (IsStrictReading text.now) }
-    ensures refusal { IfErr result (IsStrictRefusal text.now) }
-{
-    match partial {
-        Measured::Fits(partial) => bounded(alloc, text, mark, &partial, rest),
-        Measured::TooLarge => tag_or(alloc, text, Refusal::NumberTooLarge),
-    }
-}
-
-fn read_inner(alloc: Global, text: &str) -> Result<RangeSetOrTag, ParseFailure>
-    ensures reading { IfOk result (IsStrictReading text.now) }
-    ensures refusal { IfErr result (IsStrictRefusal text.now) }
-{
-    match strict_front(alloc, text)? {
-        Some(((mark, partial), rest)) => read_front(alloc, text, mark, partial, rest),
-        None => tag_or(alloc, text, Refusal::UnexpectedCharacter),
-    }
-}
-
-fn read(alloc: Global, text: &str) -> Result<VersionReq, ParseFailure>
-    ensures raw_text { IfOk result (λ req. req.raw_text ≡ text.now) }
-    ensures reading { IfOk result (λ req. IsStrictReading text.now req.inner) }
-    ensures refusal { IfErr result (IsStrictRefusal text.now) }
-{
-    let inner = read_inner(alloc, text)?;
-    let raw_text = SmallStackString::from_str(alloc, text)?;
-    Ok(VersionReq::from_raw_text_and_inner(raw_text, inner))
 }
 
 /// The requirement that the text of a package specifier is: `~` or `^` and a partial version, or a partial version
@@ -195,17 +185,28 @@ pub fn parse_version_req_from_specifier(
     alloc: Global,
     text: &str,
 ) -> Result<VersionReq, VersionReqSpecifierParseError>
-    ensures outcome { IfOk result (λ req. IsStrictReading text.now req.inner) }
-    ensures raw_text { IfOk result (λ req. req.raw_text ≡ text.now) }
-    ensures refused { IfErr result (λ e. (e.source ≡ None) ⊎ IsStrictOutcome text.now Refused) }
+    ensures reads { IsReaderAnswer (λ e. e.source) Flavour.Specifier text.now result }
     ensures refusal { IfErr result (λ e. IsStrictRefusal text.now e.source) }
-    ensures answer { (o : Outcome) → IsStrictOutcome text.now o → IsStrictAnswer (λ e. e.source) o result }
-    ensures means { IfOk result (λ req. MeansStrictTrees text.now req.inner) }
     ensures empty { IsBlanks text.now tt → IfErr result (λ e. (e.source ≡ None) ⊎ (e.source ≡ empty_constraint)) }
     ensures empty_only { IfErr result (λ e. e.source ≡ empty_constraint → IsBlanks text.now tt) }
 {
-    match read(alloc, text) {
-        Ok(req) => Ok(req),
-        Err(source) => Err(VersionReqSpecifierParseError { source }),
+    let inner = read(alloc, text)?;
+    let raw_text = SmallStackString::from_str(alloc, text)?;
+    Ok(VersionReq::from_raw_text_and_inner(raw_text, inner))
+}
+
+impl VersionReq {
+    /// The requirement that the text of a package specifier is, by the strict reader
+    /// ([`parse_version_req_from_specifier`], where each refusal is told).
+    pub fn parse_from_specifier(
+        alloc: Global,
+        text: &str,
+    ) -> Result<VersionReq, VersionReqSpecifierParseError>
+        ensures reads { IsReaderAnswer (λ e. e.source) Flavour.Specifier text.now result }
+        ensures refusal { IfErr result (λ e. IsStrictRefusal text.now e.source) }
+        ensures empty { IsBlanks text.now tt → IfErr result (λ e. (e.source ≡ None) ⊎ (e.source ≡ empty_constraint)) }
+        ensures empty_only { IfErr result (λ e. e.source ≡ empty_constraint → IsBlanks text.now tt) }
+    {
+        parse_version_req_from_specifier(alloc, text)
     }
 }

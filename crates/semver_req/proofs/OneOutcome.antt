@@ -1,13 +1,13 @@
--- Each text has one outcome, by the definitions alone.
-use Rattle.std.proofs.Common.{◌≡◌, ◌<◌, ℕ, Bool, List, [], ◌∷◌, length, refl, sym, ap, ◌∙◌, arith, inl, inr, length-append}
-use Rattle.std.specs.Str.{IsTrim}
+-- A text has one outcome, in the grammar of each reader.
+use Rattle.std.proofs.Common.{◌≡◌, ◌<◌, ℕ, Bool, true, false, List, [], ◌∷◌, length, refl, sym, ap, ◌∙◌, arith, inl, inr, length-append}
+use Rattle.std.specs.Str.{trim}
+use Rattle.semver_base.specs.Grammar.{HasNone, IsLongest}
 use Rattle.semver_base.proofs.Fronts.{one_front, same_fronts}
-use Rattle.semver_base.proofs.Trims.{one_trim}
-use Rattle.semver_req.specs.Comparators.{Comparator}
-use Rattle.semver_req.specs.Outcome.{AreGoodOnes, none_left, good, bad, IsBad, IsGood, IsOutcome, one_good, one_bad, npm_many, normal_many, normal_refused, IsTagOr, Outcome, Ranges}
+use Rattle.semver_req.specs.Comparators.{Comparator, fits}
+use Rattle.semver_req.specs.Outcome.{AreGoodOnes, none_left, good, bad, IsBad, IsGood, IsCutOutcome, one_good, one_bad, npm_many, normal_many, normal_refused, IsStrictOutcome, whole, left_over, no_front, no_fit, IsStrictRange, IsTagOr, tag, no_tag, Outcome, Ranges, TextsHaveOneOutcome}
 use Rattle.semver_req.specs.Pieces.{AreMorePieces, no_piece, last_piece, cut_piece, ArePieces, one_piece, first_cut, HasNoBar, IsCutAt, IsTrimmed}
 use Rattle.semver_req.specs.declared.common.values.Flavour.{Flavour}
-use Rattle.semver_req.proofs.Outcomes.{one_tag}
+use Rattle.semver_req.specs.declared.common.values.Flavour.TheVariants.{Npm, Normal, Specifier}
 use Rattle.semver_req.proofs.PieceReadings.{blank_piece, piece_one}
 
 -- ---- how a text is cut
@@ -71,7 +71,13 @@ good_ones_one (good {cs = cs} h m) (bad k n) = absurd (k cs h)
 good_ones_one (bad h m) (good {cs = cs} k n) = absurd (h cs k)
 good_ones_one (bad h m) (bad k n) = good_ones_one m n
 
--- ---- outcomes
+-- ---- outcomes of a text that is cut
+
+one_tag : {text : List ℕ} {o u : Outcome} → IsTagOr text o → IsTagOr text u → o ≡ u
+one_tag (tag f) (tag g) = refl
+one_tag (tag f) (no_tag g) = cc
+one_tag (no_tag f) (tag g) = cc
+one_tag (no_tag f) (no_tag g) = refl
 
 -- two readings of one text cut it alike
 single : {text p q : List ℕ} {b c : Bool} → ArePieces text b (p ∷ []) → ArePieces text c (q ∷ []) → (b ≡ c) × (p ≡ q)
@@ -86,33 +92,68 @@ good_or_bad f {cs = cs} h k g n = let both = single h k in absurd (n cs (rw (bot
 many_one : {f : Flavour} {text : List ℕ} {b c : Bool} {ps qs : List (List ℕ)} {t u : List (List Comparator)} → ArePieces text b ps → ArePieces text c qs → AreGoodOnes f b ps t → AreGoodOnes f c qs u → (t ≡ u) × (ps ≡ qs)
 many_one h k m n = let both = pieces_one h k in (good_ones_one (rw (both.0, both.1) at m) n, both.1)
 
-tag_one : {p q s t : List ℕ} {o u : Outcome} → p ≡ q → IsTrim p s → IsTrim q t → IsTagOr s o → IsTagOr t u → o ≡ u
-tag_one {p} {q} {s} {t} e h k i j = one_tag (rw (one_trim q s t (rw e at h) k) at i) j
+tag_one : {p q : List ℕ} {o u : Outcome} → p ≡ q → IsTagOr (trim p) o → IsTagOr (trim q) u → o ≡ u
+tag_one e i j = one_tag (rw e at i) j
 
 -- all are good or not
 all_or_not : {T : Type 0} {f : Flavour} {text : List ℕ} {b c : Bool} {ps qs : List (List ℕ)} {t u : List (List Comparator)} → ArePieces text b ps → ArePieces text c qs → AreGoodOnes f b ps t → AreGoodOnes f c qs u → length t ≡ length ps → length u < length qs → T
 all_or_not h k m n all less = let both = many_one h k m n in absurd (omega (arith, all, less, ap length both.0, ap length both.1))
 
--- a text has one outcome
-pub outcome_one : {f : Flavour} {text : List ℕ} {o u : Outcome} → IsOutcome f text o → IsOutcome f text u → o ≡ u
-outcome_one (one_good {f} {piece = p} {b} {cs} h g) (one_good {piece = q} {b = c} {cs = ds} k i) = let both = single h k in ap (λ z. Ranges (z ∷ [])) (good_one f c q cs ds (rw (both.0, both.1) at g) i)
-outcome_one (one_good {f} h g) (one_bad k n s t) = good_or_bad f h k g n
-outcome_one (one_good h g) (npm_many k m) = one_or_many h k
-outcome_one (one_good h g) (normal_many k m all) = one_or_many h k
-outcome_one (one_good h g) (normal_refused k m less) = one_or_many h k
-outcome_one (one_bad {f} h n s t) (one_good k g) = good_or_bad f k h g n
-outcome_one (one_bad h n s t) (one_bad k o i j) = tag_one (single h k).1 s i t j
-outcome_one (one_bad h n s t) (npm_many k m) = one_or_many h k
-outcome_one (one_bad h n s t) (normal_many k m all) = one_or_many h k
-outcome_one (one_bad h n s t) (normal_refused k m less) = one_or_many h k
-outcome_one (npm_many h m) (one_good k g) = one_or_many k h
-outcome_one (npm_many h m) (one_bad k n s t) = one_or_many k h
-outcome_one (npm_many h m) (npm_many k n) = ap Ranges (many_one h k m n).0
-outcome_one (normal_many h m all) (one_good k g) = one_or_many k h
-outcome_one (normal_many h m all) (one_bad k n s t) = one_or_many k h
-outcome_one (normal_many h m all) (normal_many k n every) = ap Ranges (many_one h k m n).0
-outcome_one (normal_many h m all) (normal_refused k n less) = all_or_not h k m n all less
-outcome_one (normal_refused h m less) (one_good k g) = one_or_many k h
-outcome_one (normal_refused h m less) (one_bad k n s t) = one_or_many k h
-outcome_one (normal_refused h m less) (normal_many k n all) = all_or_not k h n m all less
-outcome_one (normal_refused h m less) (normal_refused k n fewer) = refl
+cut_one_outcome : {f : Flavour} {text : List ℕ} {o u : Outcome} → IsCutOutcome f text o → IsCutOutcome f text u → o ≡ u
+cut_one_outcome (one_good {f} {piece = p} {b} {cs} h g) (one_good {piece = q} {b = c} {cs = ds} k i) = let both = single h k in ap (λ z. Ranges (z ∷ [])) (good_one f c q cs ds (rw (both.0, both.1) at g) i)
+cut_one_outcome (one_good {f} h g) (one_bad k n t) = good_or_bad f h k g n
+cut_one_outcome (one_good h g) (npm_many k m) = one_or_many h k
+cut_one_outcome (one_good h g) (normal_many k m all) = one_or_many h k
+cut_one_outcome (one_good h g) (normal_refused k m less) = one_or_many h k
+cut_one_outcome (one_bad {f} h n t) (one_good k g) = good_or_bad f k h g n
+cut_one_outcome (one_bad h n t) (one_bad k m u) = tag_one (single h k).1 t u
+cut_one_outcome (one_bad h n t) (npm_many k m) = one_or_many h k
+cut_one_outcome (one_bad h n t) (normal_many k m all) = one_or_many h k
+cut_one_outcome (one_bad h n t) (normal_refused k m less) = one_or_many h k
+cut_one_outcome (npm_many h m) (one_good k g) = one_or_many k h
+cut_one_outcome (npm_many h m) (one_bad k n t) = one_or_many k h
+cut_one_outcome (npm_many h m) (npm_many k n) = ap Ranges (many_one h k m n).0
+cut_one_outcome (normal_many h m all) (one_good k g) = one_or_many k h
+cut_one_outcome (normal_many h m all) (one_bad k n t) = one_or_many k h
+cut_one_outcome (normal_many h m all) (normal_many k n every) = ap Ranges (many_one h k m n).0
+cut_one_outcome (normal_many h m all) (normal_refused k n less) = all_or_not h k m n all less
+cut_one_outcome (normal_refused h m less) (one_good k g) = one_or_many k h
+cut_one_outcome (normal_refused h m less) (one_bad k n t) = one_or_many k h
+cut_one_outcome (normal_refused h m less) (normal_many k n all) = all_or_not k h n m all less
+cut_one_outcome (normal_refused h m less) (normal_refused k n fewer) = refl
+
+-- ---- outcomes of the strict reader
+
+pub some_or_none : {V T : Type 0} {R : List ℕ → V → Type 0} {text rest : List ℕ} {v : V} → IsLongest R text v rest → HasNone R text → T
+some_or_none {rest = rest} p n = absurd (n.none p.front rest _ p.text_is p.stands)
+
+fits_or_not : {T : Type 0} {text rest more : List ℕ} {c d : Comparator} → IsLongest IsStrictRange text c rest → IsLongest IsStrictRange text d more → fits c ≡ true → fits d ≡ false → T
+fits_or_not p q f g = absurd (let same = (one_front p q).0 in let h : true ≡ false = sym f ∙ (ap fits same ∙ g) in cc h)
+
+whole_or_not : {T : Type 0} {text rest : List ℕ} {c d : Comparator} → IsLongest IsStrictRange text c [] → IsLongest IsStrictRange text d rest → 0 < length rest → T
+whole_or_not p q some = absurd (omega (arith, some, ap length (one_front p q).1))
+
+strict_one_outcome : {text : List ℕ} {o u : Outcome} → IsStrictOutcome text o → IsStrictOutcome text u → o ≡ u
+strict_one_outcome (whole p f) (whole q g) = ap (λ c. Ranges ((c ∷ []) ∷ [])) (one_front p q).0
+strict_one_outcome (whole p f) (left_over q g some) = whole_or_not p q some
+strict_one_outcome (whole p f) (no_front n t) = some_or_none p n
+strict_one_outcome (whole p f) (no_fit q g t) = fits_or_not p q f g
+strict_one_outcome (left_over p f some) (whole q g) = whole_or_not q p some
+strict_one_outcome (left_over p f some) (left_over q g more) = refl
+strict_one_outcome (left_over p f some) (no_front n t) = some_or_none p n
+strict_one_outcome (left_over p f some) (no_fit q g t) = fits_or_not p q f g
+strict_one_outcome (no_front n t) (whole q g) = some_or_none q n
+strict_one_outcome (no_front n t) (left_over q g some) = some_or_none q n
+strict_one_outcome (no_front n t) (no_front m s) = one_tag t s
+strict_one_outcome (no_front n t) (no_fit q g s) = some_or_none q n
+strict_one_outcome (no_fit p f t) (whole q g) = fits_or_not q p g f
+strict_one_outcome (no_fit p f t) (left_over q g some) = fits_or_not q p g f
+strict_one_outcome (no_fit p f t) (no_front n s) = some_or_none p n
+strict_one_outcome (no_fit p f t) (no_fit q g s) = one_tag t s
+
+-- ---- the three readers
+
+pub one_outcome : TextsHaveOneOutcome
+one_outcome Npm text o p h k = cut_one_outcome h k
+one_outcome Normal text o p h k = cut_one_outcome h k
+one_outcome Specifier text o p h k = strict_one_outcome h k

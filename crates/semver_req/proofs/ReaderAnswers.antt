@@ -1,0 +1,89 @@
+-- What a reader answers, from the outcome that it read.
+use Rattle.std.proofs.Common.{◌≡◌, ℕ, List, Result, Ok, Err, None, refl, sym, subst, ◌∙◌, inl, inr}
+use Rattle.std.specs.Prelude.{◌⊎◌, IfErr}
+use Rattle.std.specs.Result.{IsErrAnd}
+use Rattle.semver_base.specs.Meaning.{tree_means}
+use Rattle.semver_base.specs.declared.version.Version.{Version}
+use Rattle.semver_req.specs.Comparators.{Comparator}
+use Rattle.semver_req.specs.KeptSet.{kept}
+use Rattle.semver_req.specs.Outcome.{IsOutcome, Outcome, Ranges, Tag, Refused, tree_ranges, worked_on}
+use Rattle.semver_req.specs.Readers.{Failure, HasTree, IsAnswer, IsRead, IsReading, IsReadOrTag, IsReaderAnswer, MeansTrees}
+use Rattle.semver_req.specs.Requirement.{Requirement, inner_means}
+use Rattle.semver_req.specs.declared.common.values.Flavour.{Flavour}
+use Rattle.semver_req.specs.declared.range_set_or_tag.RangeSetOrTag.{RangeSetOrTag}
+use Rattle.semver_req.specs.declared.range_set_or_tag.RangeSetOrTag.TheVariants as inner
+use Rattle.semver_req.proofs.Folding.{kept_means}
+use Rattle.semver_req.proofs.OneOutcome.{one_outcome}
+
+module _ (f : Flavour) (text : List ℕ) where
+  module _ {E : Type 0} (source : E → Failure) where
+    answer_read : (req : Requirement) → IsReading f text req.inner → (o : Outcome) → IsOutcome f text o → IsAnswer source f o (Ok req)
+    answer_read req h o p = go o (rw (one_outcome f text h.outcome o h.is_outcome p) at h.is_read)
+      where
+        go : (o : Outcome) → IsRead f o req.inner → IsAnswer source f o (Ok req)
+        go (Ranges tree) k = k
+        go (Tag t) k = k
+        go Refused k = absurd k
+
+    answer_refused : (e : E) → (source e ≡ None) ⊎ IsOutcome f text Refused → (o : Outcome) → IsOutcome f text o → IsAnswer source f o (Err e)
+    answer_refused e (inl none) (Ranges tree) p = none
+    answer_refused e (inl none) (Tag t) p = none
+    answer_refused e h Refused p = refl
+    answer_refused e (inr r) (Ranges tree) p = absurd (cc (one_outcome f text Refused (Ranges tree) r p))
+    answer_refused e (inr r) (Tag t) p = absurd (cc (one_outcome f text Refused (Tag t) r p))
+
+  reading_means : (answer : RangeSetOrTag) → IsReading f text answer → MeansTrees f text answer
+  reading_means answer h tree p v = go (rw (one_outcome f text h.outcome (Ranges tree) h.is_outcome p) at h.is_read)
+    where
+      go : IsRead f (Ranges tree) answer → inner_means answer v ≡ tree_means (tree_ranges tree) v
+      go k = rw k (kept_means f tree v)
+
+  reading_tree : (answer : RangeSetOrTag) → IsReading f text answer → HasTree f text answer
+  reading_tree answer h = go h.outcome h.is_outcome h.is_read
+    where
+      go : (o : Outcome) → IsOutcome f text o → IsRead f o answer → HasTree f text answer
+      go (Ranges tree) p k = subst (HasTree f text) (sym k) (tree, p, refl)
+      go (Tag t) p k = subst (HasTree f text) (sym k) tt
+      go Refused p k = absurd k
+
+  reading_set : (answer : RangeSetOrTag) → IsReading f text answer → IsReadOrTag answer
+  reading_set answer h = go h.outcome h.is_outcome h.is_read
+    where
+      go : (o : Outcome) → IsOutcome f text o → IsRead f o answer → IsReadOrTag answer
+      go (Ranges tree) p k = subst IsReadOrTag (sym k) (record { flavour = f; text = text; tree = tree; is_outcome = p; is_kept = refl })
+      go (Tag t) p k = subst IsReadOrTag (sym k) tt
+      go Refused p k = absurd k
+
+  -- what is read of a text
+  pub answers_read : {E : Type 0} (source : E → Failure) (req : Requirement) → IsReading f text req.inner → req.raw_text ≡ worked_on f text → IsReaderAnswer source f text (Ok req)
+  answers_read source req h raw = record {
+    outcome = h;
+    refused = tt;
+    answer = answer_read source req h;
+    means = reading_means req.inner h;
+    tree = reading_tree req.inner h;
+    read_set = reading_set req.inner h;
+    raw_text = raw;
+  }
+
+  -- why a text is refused
+  pub answers_refused : {E : Type 0} (source : E → Failure) (e : E) → (source e ≡ None) ⊎ IsOutcome f text Refused → IsReaderAnswer source f text (Err e)
+  answers_refused source e h = record {
+    outcome = tt;
+    refused = h;
+    answer = answer_refused source e h;
+    means = tt;
+    tree = tt;
+    read_set = tt;
+    raw_text = tt;
+  }
+
+  -- a result that tells this failure
+  pub answers_err : {E : Type 0} (source : E → Failure) (r : Result Requirement E) (failure : Failure) → IsErrAnd r (λ e. source e ≡ failure) → (failure ≡ None) ⊎ IsOutcome f text Refused → IsReaderAnswer source f text r
+  answers_err source (Ok req) failure is h = absurd is
+  answers_err source (Err e) failure is h = answers_refused source e (rw (sym is) at h)
+
+-- what is true of a failure is true of the error that tells it
+pub err_tells : {T E : Type 0} (source : E → Failure) (r : Result T E) (failure : Failure) (P : Failure → Type 0) → IsErrAnd r (λ e. source e ≡ failure) → P failure → IfErr r (λ e. P (source e))
+err_tells source (Ok x) failure P is h = tt
+err_tells source (Err e) failure P is h = rw is h

@@ -1,0 +1,64 @@
+-- What a reader answers to a text, by the outcome that its grammar gives the text.
+use Rattle.std.specs.Prelude.{◌≡◌, ◌⊎◌, ℕ, List, Option, None, Result, IfErr, IfOk, IsErr, MatchResult}
+use Rattle.semver_base.specs.Meaning.{tree_means}
+use Rattle.semver_base.specs.declared.version.Version.{Version}
+use Rattle.semver_req.specs.Comparators.{Comparator}
+use Rattle.semver_req.specs.KeptSet.{IsReadSet, kept}
+use Rattle.semver_req.specs.Outcome.{IsOutcome, Outcome, Ranges, Refused, Tag, tree_ranges, worked_on}
+use Rattle.semver_req.specs.Requirement.{Requirement, inner_means}
+use Rattle.semver_req.specs.declared.common.values.Flavour.{Flavour}
+use Rattle.semver_req.specs.declared.range_set_or_tag.RangeSetOrTag.{RangeSetOrTag}
+use Rattle.semver_req.specs.declared.range_set_or_tag.RangeSetOrTag.TheVariants as inner
+
+-- the message of a failure and the part of the text that is meant; none for want of memory
+abbrev pub Failure : Type 0
+Failure = Option (List ℕ × Option (List ℕ))
+
+-- what is read of a text with this outcome: the kept set of its tree, or its tag
+abbrev pub IsRead : Flavour → Outcome → RangeSetOrTag → Type 0
+IsRead f (Ranges tree) answer = answer ≡ inner.RangeSet (record { 0 = kept f tree })
+IsRead f (Tag text) answer = answer ≡ inner.Tag text
+IsRead f Refused answer = ⊥
+
+-- some outcome of the text is answered so
+pub record IsReading (f : Flavour) (text : List ℕ) (answer : RangeSetOrTag) : Type 0 where
+  pub outcome : Outcome
+  pub is_outcome : IsOutcome f text outcome
+  pub is_read : IsRead f outcome answer
+
+-- the answer to a text with this outcome, want of memory aside; source is the failure in the error
+abbrev pub IsAnswer : {E : Type 0} → (E → Failure) → Flavour → Outcome → Result Requirement E → Type 0
+IsAnswer source f (Ranges tree) result = MatchResult result (λ req. IsRead f (Ranges tree) req.inner) (λ e. source e ≡ None)
+IsAnswer source f (Tag text) result = MatchResult result (λ req. IsRead f (Tag text) req.inner) (λ e. source e ≡ None)
+IsAnswer source f Refused result = IsErr result
+
+-- for every tree that the grammar gives the text, the answer means the versions that the tree means
+abbrev pub MeansTrees : Flavour → List ℕ → RangeSetOrTag → Type 0
+MeansTrees f text answer = (tree : List (List Comparator)) → IsOutcome f text (Ranges tree)
+    → (v : Version) → inner_means answer v ≡ tree_means (tree_ranges tree) v
+
+-- an answer that is no tag is what is kept of a tree that the grammar gives the text
+abbrev pub HasTree : Flavour → List ℕ → RangeSetOrTag → Type 0
+HasTree f text (inner.RangeSet set) = (tree : List (List Comparator)) × IsOutcome f text (Ranges tree) × (set.0 ≡ kept f tree)
+HasTree f text (inner.Tag tag) = Unit {0}
+
+-- ranges that are answered are what some reader keeps
+abbrev pub IsReadOrTag : RangeSetOrTag → Type 0
+IsReadOrTag (inner.RangeSet set) = IsReadSet set.0
+IsReadOrTag (inner.Tag tag) = Unit {0}
+
+-- what the reader of a flavour answers to a text
+pub record IsReaderAnswer {E : Type 0} (source : E → Failure) (f : Flavour) (text : List ℕ) (result : Result Requirement E) : Type 0 where
+  -- what is read is what some outcome of the text stands for
+  pub outcome : IfOk result (λ req. IsReading f text req.inner)
+  -- a refusal comes only where that is the outcome, or memory was wanting
+  pub refused : IfErr result (λ e. (source e ≡ None) ⊎ IsOutcome f text Refused)
+  -- every outcome of the text is answered, want of memory aside
+  pub answer : (o : Outcome) → IsOutcome f text o → IsAnswer source f o result
+  -- a version matches exactly where the comparators of the text mean it
+  pub means : IfOk result (λ req. MeansTrees f text req.inner)
+  -- ranges are kept of a tree of the text
+  pub tree : IfOk result (λ req. HasTree f text req.inner)
+  pub read_set : IfOk result (λ req. IsReadOrTag req.inner)
+  -- the requirement keeps the text that the reader worked on
+  pub raw_text : IfOk result (λ req. req.raw_text ≡ worked_on f text)
