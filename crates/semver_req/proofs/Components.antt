@@ -147,9 +147,9 @@ component_clash f = record {
 }
 
 -- what the reader of the third part answers
-pub third_read : (f : Flavour) {text after middle rest : List ℕ} {answer : Measured XRange} {q : Qualifier} → text ≡ 46 ∷ after → IsSeen sized_component (IsComponent f) after answer middle → IsLongest (IsQualifier (strictness_of f)) middle q rest → IsSeen sized_third (IsThird f) text (answer, q) rest
+pub third_read : (f : Flavour) {text after middle rest : List ℕ} {answer : Measured XRange} {q : Qualifier} → text ≡ 46 ∷ after → IsSeen sized_component (IsComponent f) after answer middle → IsLongest (IsQualifier (strictness_of f)) middle q rest → IsSeen sized_third (IsThird f) text (record { patch = answer; qualifier = q }) rest
 third_read f {rest = rest} {q = q} e a b = record {
   value = (a.value, q);
   longest = marked_some e (joined (component_clash f) a.longest b (component_end f a.longest b.front rest q b.text_is b.stands));
-  seen = ap (λ n. (n, q)) a.seen;
+  seen = rw a.seen refl;
 }

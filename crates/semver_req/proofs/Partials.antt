@@ -1,5 +1,5 @@
 -- Partial versions at the front of a text.
-use Rattle.std.proofs.Common.{◌≡◌, ℕ, Bool, true, false, List, [], ◌∷◌, Option, Some, None, refl, ap, ◌∙◌, arith, ◌==◌}
+use Rattle.std.proofs.Common.{◌≡◌, ℕ, Bool, true, false, List, [], ◌∷◌, Option, Some, None, refl, ap, ap₂, ◌∙◌, arith, ◌==◌}
 use Rattle.std.specs.Prelude.{◌&&◌, if◌then◌else◌}
 use Rattle.std.specs.Char.{is_ascii_digit}
 use Rattle.std.proofs.lemmas.Bool.Decides.{nat_tests}
@@ -12,7 +12,9 @@ use Rattle.semver_base.specs.declared.partial.XRange.{XRange}
 use Rattle.semver_base.specs.declared.partial.XRange.TheVariants.{Wildcard}
 use Rattle.semver_base.proofs.Fronts.{Apart, NonEmpty, either_none, either_that, either_this, marked_none, marked_other, followed, mapped, marked_some, optional_none, optional_some}
 use Rattle.semver_base.proofs.Bytes.{BeginsBy, Disjoint, apart_by, joined_begins, joined_some_text, mapped_begins, mapped_some_text, none_by_byte, marked_begins, optional_begins}
-use Rattle.semver_req.specs.Partials.{IsComponent, IsPartial, IsPlainPartial, IsSecond, IsThird, assembled, component_fits, partial_of, second_or_none, sized_component, sized_partial, sized_second, third_or_none}
+use Rattle.semver_req.specs.Partials.{IsComponent, IsPartial, IsPlainPartial, IsSecond, IsThird, assembled, assembled_by, component_fits, partial_of, second_or_none, sized_component, sized_partial, sized_second, third_or_none}
+use Rattle.semver_req.specs.declared.common.FromMinor.{FromMinor}
+use Rattle.semver_req.specs.declared.common.FromPatch.{FromPatch}
 use Rattle.semver_req.specs.declared.common.values.Flavour.{Flavour}
 use Rattle.semver_req.specs.declared.common.values.Flavour.TheVariants.{Npm}
 use Rattle.semver_req.proofs.Components.{component_begins, component_goes, component_some, is_component_byte}
@@ -33,35 +35,35 @@ digit_no_dot x h k = grind (arith, nat_tests)
 pub component_dot_apart : {V : Type 0} {A : List ℕ → V → Type 0} (f : Flavour) → Apart (IsComponent f) (Optional (Marked 46 A))
 component_dot_apart f = apart_by is_ascii_digit (λ x. x == 46) digit_no_dot (component_goes f) (optional_begins (marked_begins 46))
 
-pub second_read : (f : Flavour) {text after middle rest : List ℕ} {minor patch : Measured XRange} {q : Qualifier} → text ≡ 46 ∷ after → IsSeen sized_component (IsComponent f) after minor middle → IsSeen third_or_none (Optional (IsThird f)) middle (patch, q) rest → IsSeen sized_second (IsSecond f) text (minor, patch, q) rest
+pub second_read : (f : Flavour) {text after middle rest : List ℕ} {minor : Measured XRange} {third : FromPatch} → text ≡ 46 ∷ after → IsSeen sized_component (IsComponent f) after minor middle → IsSeen third_or_none (Optional (IsThird f)) middle third rest → IsSeen sized_second (IsSecond f) text (record { minor = minor; patch = third.patch; qualifier = third.qualifier }) rest
 second_read f e a b = record {
   value = (a.value, b.value);
   longest = marked_some e (followed (component_dot_apart f) a.longest b.longest);
-  seen = rw (a.seen, ap (λ (t : Measured XRange × Qualifier). t.0) b.seen, ap (λ (t : Measured XRange × Qualifier). t.1) b.seen) refl;
+  seen = rw (a.seen, ap (λ (t : FromPatch). t.patch) b.seen, ap (λ (t : FromPatch). t.qualifier) b.seen) refl;
 }
 
 -- ---- the whole
 
-assembled_by : (b c d : Bool) (m n p : XRange) (q : Qualifier)
-    → assembled (if b then Fits m else TooLarge) (if c then Fits n else TooLarge) (if d then Fits p else TooLarge) q ≡ (if b && c && d then Fits (record { major = m; minor = n; patch = p; pre = q.pre; build = q.build }) else TooLarge)
-assembled_by true true true m n p q = refl
-assembled_by true true false m n p q = refl
-assembled_by true false d m n p q = refl
-assembled_by false c d m n p q = refl
+sized_by : (b c d : Bool) (m n p : XRange) (q : Qualifier)
+    → assembled_by (if b then Fits m else TooLarge) (if c then Fits n else TooLarge) (if d then Fits p else TooLarge) q ≡ (if b && c && d then Fits (record { major = m; minor = n; patch = p; pre = q.pre; build = q.build }) else TooLarge)
+sized_by true true true m n p q = refl
+sized_by true true false m n p q = refl
+sized_by true false d m n p q = refl
+sized_by false c d m n p q = refl
 
-assembled_is : (m n p : XRange) (q : Qualifier) → assembled (sized_component m) (sized_component n) (sized_component p) q ≡ sized_partial (record { major = m; minor = n; patch = p; pre = q.pre; build = q.build })
-assembled_is m n p q = assembled_by (component_fits m) (component_fits n) (component_fits p) m n p q
+assembled_is : (m n p : XRange) (q : Qualifier) → assembled_by (sized_component m) (sized_component n) (sized_component p) q ≡ sized_partial (record { major = m; minor = n; patch = p; pre = q.pre; build = q.build })
+assembled_is m n p q = sized_by (component_fits m) (component_fits n) (component_fits p) m n p q
 
-sized_whole : (m : XRange) (s : Option (XRange × Option (XRange × Qualifier))) → assembled (sized_component m) (second_or_none s).0 (second_or_none s).1 (second_or_none s).2 ≡ sized_partial (partial_of (m, s))
+sized_whole : (m : XRange) (s : Option (XRange × Option (XRange × Qualifier))) → assembled (sized_component m) (second_or_none s) ≡ sized_partial (partial_of (m, s))
 sized_whole m None = assembled_is m Wildcard Wildcard (record { pre = []; build = [] })
 sized_whole m (Some (n, None)) = assembled_is m n Wildcard (record { pre = []; build = [] })
 sized_whole m (Some (n, Some (p, q))) = assembled_is m n p q
 
-pub partial_read : (f : Flavour) {text middle rest : List ℕ} {major minor patch : Measured XRange} {q : Qualifier} {answer : Measured Partial} → answer ≡ assembled major minor patch q → IsSeen sized_component (IsComponent f) text major middle → IsSeen second_or_none (Optional (IsSecond f)) middle (minor, patch, q) rest → IsSeen sized_partial (IsPlainPartial f) text answer rest
+pub partial_read : (f : Flavour) {text middle rest : List ℕ} {major : Measured XRange} {second : FromMinor} {answer : Measured Partial} → answer ≡ assembled major second → IsSeen sized_component (IsComponent f) text major middle → IsSeen second_or_none (Optional (IsSecond f)) middle second rest → IsSeen sized_partial (IsPlainPartial f) text answer rest
 partial_read f e a b = record {
   value = partial_of (a.value, b.value);
   longest = mapped (followed (component_dot_apart f) a.longest b.longest);
-  seen = e ∙ (rw (a.seen, ap (λ (t : Measured XRange × Measured XRange × Qualifier). t.0) b.seen, ap (λ (t : Measured XRange × Measured XRange × Qualifier). t.1) b.seen, ap (λ (t : Measured XRange × Measured XRange × Qualifier). t.2) b.seen) (sized_whole a.value b.value));
+  seen = e ∙ (ap₂ assembled a.seen b.seen ∙ sized_whole a.value b.value);
 }
 
 -- ---- npm's `v`

@@ -12,6 +12,8 @@ use Rattle.semver_base.specs.declared.lexical.values.Strictness.TheVariants.{Loo
 use Rattle.semver_base.specs.declared.partial.Partial.{Partial}
 use Rattle.semver_base.specs.declared.partial.XRange.{XRange}
 use Rattle.semver_base.specs.declared.partial.XRange.TheVariants.{Wildcard, Val}
+use Rattle.semver_req.specs.declared.common.FromMinor.{FromMinor}
+use Rattle.semver_req.specs.declared.common.FromPatch.{FromPatch}
 use Rattle.semver_req.specs.declared.common.values.Flavour.{Flavour}
 use Rattle.semver_req.specs.declared.common.values.Flavour.TheVariants.{Npm, Normal, Specifier}
 
@@ -83,28 +85,31 @@ abbrev pub component_of : Measured ℕ → Measured XRange
 component_of (Fits n) = Fits (Val n)
 component_of TooLarge = TooLarge
 
-abbrev pub sized_third : XRange × Qualifier → Measured XRange × Qualifier
-sized_third v = (sized_component v.0, v.1)
+abbrev pub sized_third : XRange × Qualifier → FromPatch
+sized_third v = record { patch = sized_component v.0; qualifier = v.1 }
 
 -- a third part that is missing is a wildcard with no qualifier
-abbrev pub third_or_none : Option (XRange × Qualifier) → Measured XRange × Qualifier
-third_or_none None = (Fits Wildcard, record { pre = []; build = [] })
+abbrev pub third_or_none : Option (XRange × Qualifier) → FromPatch
+third_or_none None = record { patch = Fits Wildcard; qualifier = record { pre = []; build = [] } }
 third_or_none (Some v) = sized_third v
 
 -- the minor component, and the third part
-abbrev pub sized_second : XRange × Option (XRange × Qualifier) → Measured XRange × Measured XRange × Qualifier
-sized_second v = (sized_component v.0, (third_or_none v.1).0, (third_or_none v.1).1)
+abbrev pub sized_second : XRange × Option (XRange × Qualifier) → FromMinor
+sized_second v = record { minor = sized_component v.0; patch = (third_or_none v.1).patch; qualifier = (third_or_none v.1).qualifier }
 
-abbrev pub second_or_none : Option (XRange × Option (XRange × Qualifier)) → Measured XRange × Measured XRange × Qualifier
-second_or_none None = (Fits Wildcard, Fits Wildcard, record { pre = []; build = [] })
+abbrev pub second_or_none : Option (XRange × Option (XRange × Qualifier)) → FromMinor
+second_or_none None = record { minor = Fits Wildcard; patch = Fits Wildcard; qualifier = record { pre = []; build = [] } }
 second_or_none (Some v) = sized_second v
 
+abbrev pub assembled_by : Measured XRange → Measured XRange → Measured XRange → Qualifier → Measured Partial
+assembled_by (Fits m) (Fits n) (Fits p) q = Fits (record { major = m; minor = n; patch = p; pre = q.pre; build = q.build })
+assembled_by TooLarge n p q = TooLarge
+assembled_by (Fits m) TooLarge p q = TooLarge
+assembled_by (Fits m) (Fits n) TooLarge q = TooLarge
+
 -- a partial version of its components, where none is too large
-abbrev pub assembled : Measured XRange → Measured XRange → Measured XRange → Qualifier → Measured Partial
-assembled (Fits m) (Fits n) (Fits p) q = Fits (record { major = m; minor = n; patch = p; pre = q.pre; build = q.build })
-assembled TooLarge n p q = TooLarge
-assembled (Fits m) TooLarge p q = TooLarge
-assembled (Fits m) (Fits n) TooLarge q = TooLarge
+abbrev pub assembled : Measured XRange → FromMinor → Measured Partial
+assembled major second = assembled_by major second.minor second.patch second.qualifier
 
 -- the answer of a reader over a text and a place, as one over what follows the place
 abbrev pub answer_at : {X : Type 0} → List ℕ → Option (X × ℕ) → Option (X × List ℕ)

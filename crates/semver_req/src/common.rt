@@ -57,10 +57,14 @@ fn component(text: &str, flavour: Flavour) -> Option<(Measured<XRange>, &str)>
     Some((component_of(value), rest))
 }
 
-type Third = (Measured<XRange>, Qualifier);
+// The third component, and what follows it.
+struct FromPatch {
+    patch: Measured<XRange>,
+    qualifier: Qualifier,
+}
 
 // `.`, a component and a qualifier.
-fn third(alloc: Global, text: &str, flavour: Flavour) -> Result<Option<(Third, &str)>, AllocError>
+fn third(alloc: Global, text: &str, flavour: Flavour) -> Result<Option<(FromPatch, &str)>, AllocError>
     ensures { IfOk result (λ r. ReadsAs sized_third (IsThird flavour) text.now (answer_of r)) }
 {
     let Some(rest) = after(text, '.') else {
@@ -70,26 +74,34 @@ fn third(alloc: Global, text: &str, flavour: Flavour) -> Result<Option<(Third, &
         return Ok(None);
     };
     let (qualifier, rest) = lexical::qualifier(alloc, rest, flavour.strictness())?;
-    Ok(Some(((patch, qualifier), rest)))
+    Ok(Some((FromPatch { patch, qualifier }, rest)))
 }
 
 // The third part, or a wildcard.
-fn optional_third(alloc: Global, text: &str, flavour: Flavour) -> Result<(Third, &str), AllocError>
+fn optional_third(alloc: Global, text: &str, flavour: Flavour) -> Result<(FromPatch, &str), AllocError>
     ensures { IfOk result (λ r. IsSeen third_or_none (Optional (IsThird flavour)) text.now r.0 r.1.now) }
 {
     match third(alloc, text, flavour)? {
         Some(read) => Ok(read),
-        None => Ok((
-            (Measured::Fits(XRange::Wildcard), Qualifier::new(alloc)),
-            text,
-        )),
+        None => {
+            let third = FromPatch {
+                patch: Measured::Fits(XRange::Wildcard),
+                qualifier: Qualifier::new(alloc),
+            };
+            Ok((third, text))
+        }
     }
 }
 
-type Second = (Measured<XRange>, Measured<XRange>, Qualifier);
+// What follows the first component.
+struct FromMinor {
+    minor: Measured<XRange>,
+    patch: Measured<XRange>,
+    qualifier: Qualifier,
+}
 
 // `.`, a component, and then the third part or nothing.
-fn second(alloc: Global, text: &str, flavour: Flavour) -> Result<Option<(Second, &str)>, AllocError>
+fn second(alloc: Global, text: &str, flavour: Flavour) -> Result<Option<(FromMinor, &str)>, AllocError>
     ensures { IfOk result (λ r. ReadsAs sized_second (IsSecond flavour) text.now (answer_of r)) }
 {
     let Some(rest) = after(text, '.') else {
@@ -98,8 +110,14 @@ fn second(alloc: Global, text: &str, flavour: Flavour) -> Result<Option<(Second,
     let Some((minor, rest)) = component(rest, flavour) else {
         return Ok(None);
     };
-    let ((patch, qualifier), rest) = optional_third(alloc, rest, flavour)?;
-    Ok(Some(((minor, patch, qualifier), rest)))
+    let (third, rest) = optional_third(alloc, rest, flavour)?;
+    let FromPatch { patch, qualifier } = third;
+    let second = FromMinor {
+        minor,
+        patch,
+        qualifier,
+    };
+    Ok(Some((second, rest)))
 }
 
 // What follows the first component, or wildcards.
@@ -107,31 +125,31 @@ fn optional_second(
     alloc: Global,
     text: &str,
     flavour: Flavour,
-) -> Result<(Second, &str), AllocError>
+) -> Result<(FromMinor, &str), AllocError>
     ensures { IfOk result (λ r. IsSeen second_or_none (Optional (IsSecond flavour)) text.now r.0 r.1.now) }
 {
     match second(alloc, text, flavour)? {
         Some(read) => Ok(read),
-        None => Ok((
-            (
-                Measured::Fits(XRange::Wildcard),
-                Measured::Fits(XRange::Wildcard),
-                Qualifier::new(alloc),
-            ),
-            text,
-        )),
+        None => {
+            let second = FromMinor {
+                minor: Measured::Fits(XRange::Wildcard),
+                patch: Measured::Fits(XRange::Wildcard),
+                qualifier: Qualifier::new(alloc),
+            };
+            Ok((second, text))
+        }
     }
 }
 
 // The partial version of these components, where none is too large.
-fn assemble(
-    major: Measured<XRange>,
-    minor: Measured<XRange>,
-    patch: Measured<XRange>,
-    qualifier: Qualifier,
-) -> Measured<Partial>
-    ensures { result ≡ assembled major minor patch qualifier }
+fn assemble(major: Measured<XRange>, second: FromMinor) -> Measured<Partial>
+    ensures { result ≡ assembled major second }
 {
+    let FromMinor {
+        minor,
+        patch,
+        qualifier,
+    } = second;
     match (major, minor, patch) {
         (Measured::Fits(major), Measured::Fits(minor), Measured::Fits(patch)) => {
             Measured::Fits(Partial {
@@ -157,8 +175,8 @@ fn plain_partial(
     let Some((major, rest)) = component(text, flavour) else {
         return Ok(None);
     };
-    let ((minor, patch, qualifier), rest) = optional_second(alloc, rest, flavour)?;
-    Ok(Some((assemble(major, minor, patch, qualifier), rest)))
+    let (second, rest) = optional_second(alloc, rest, flavour)?;
+    Ok(Some((assemble(major, second), rest)))
 }
 
 // A partial version, which may have a `v` before it.
