@@ -1,9 +1,11 @@
 pub mod Blanks
 pub mod ComparatorReadings
 pub mod Components
+pub mod Fitting
 pub mod Folding
 pub mod KeptRanges
 pub mod LedReadings
+pub mod Marks
 pub mod NormalTable
 pub mod OneOutcome
 pub mod OutcomesFit

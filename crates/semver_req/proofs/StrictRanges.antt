@@ -1,4 +1,4 @@
--- Strict ranges at the front of a text, and what is read of the text.
+-- What the strict reader makes of a text.
 use Rattle.std.proofs.Common.{◌≡◌, ◌<◌, ℕ, Bool, true, false, List, [], ◌∷◌, ◌++◌, length, Some, None, Result, Ok, Err, refl, sym, ap, ◌∙◌, arith, inl, inr, ◌==◌}
 use Rattle.std.specs.Prelude.{◌||◌, ◌&&◌, ◌⊎◌, slice_index, IfErr}
 use Rattle.std.specs.Result.{IsErrAnd}
@@ -24,57 +24,19 @@ use Rattle.semver_req.specs.Comparators.{Comparator, comparator_line, comparator
 use Rattle.semver_req.specs.Outcome.{IsStrictOutcome, whole, left_over, no_front, no_fit, IsStrictRange, IsTagOr, tag, no_tag, Outcome, Ranges, Tag, Refused}
 use Rattle.semver_req.specs.Partials.{IsPartial, component_fits, partial_fits, sized_partial}
 use Rattle.semver_req.specs.Readers.{Failure, IsReading}
-use Rattle.semver_req.specs.Strict.{IsMarkCut, IsNoTag, no_memory_left, blank_no_tag, other_no_tag, IsStrictFront, IsStrictRefusal, memory_wanting, something_follows, blank_text, no_range, large_number, large_bound, empty_constraint, marked_partial, unexpected_character}
+use Rattle.semver_req.specs.Strict.{IsNoTag, no_memory_left, blank_no_tag, other_no_tag, IsStrictRefusal, memory_wanting, something_follows, blank_text, no_range, large_number, large_bound, empty_constraint, unexpected_character}
+use Rattle.semver_req.specs.Written.{comparator_of}
 use Rattle.semver_req.specs.Tag.{is_valid_tag}
 use Rattle.semver_req.specs.declared.common.values.Flavour.TheVariants.{Specifier}
 use Rattle.semver_req.specs.declared.range_set_or_tag.RangeSetOrTag.{RangeSetOrTag}
 use Rattle.semver_req.specs.declared.range_set_or_tag.RangeSetOrTag.TheVariants as inner
-use Rattle.semver_req.specs.declared.specifier.Mark.{Mark}
-use Rattle.semver_req.specs.declared.specifier.Mark.TheVariants as mark
+use Rattle.semver_req.specs.declared.common.comparator.Mark.{Mark}
 use Rattle.semver_base.proofs.Blanks.{blanks_made, is_blank_byte}
 use Rattle.semver_req.proofs.Components.{is_component_byte}
+use Rattle.semver_req.proofs.Fitting.{FittingFront, LargeFront}
 use Rattle.semver_req.proofs.OneOutcome.{some_or_none}
 use Rattle.semver_req.proofs.Partials.{partial_begins, partial_some}
 use Rattle.semver_req.proofs.StrictKept.{strict_kept}
-
--- ---- a mark and a partial version
-
-first_byte : {text a b : List ℕ} {x y : ℕ} → text ≡ x ∷ a → text ≡ y ∷ b → x ≡ y
-first_byte e f = ap (λ t. slice_index t 0) (sym e ∙ f)
-
-tilde_no_component : (x : ℕ) → x ≡ 126 → is_component_byte x ≡ true → ⊥
-tilde_no_component x e h = grind (arith, nat_tests)
-
-caret_no_component : (x : ℕ) → x ≡ 94 → is_component_byte x ≡ true → ⊥
-caret_no_component x e h = grind (arith, nat_tests)
-
-after_tilde : {text rest : List ℕ} → text ≡ 126 ∷ rest → HasNone (IsPartial Specifier) text
-after_tilde {text} e = none_by_byte (partial_some Specifier) (partial_begins Specifier) text (λ x t f k. tilde_no_component x (cc) k)
-
-after_caret : {text rest : List ℕ} → text ≡ 94 ∷ rest → HasNone (IsPartial Specifier) text
-after_caret {text} e = none_by_byte (partial_some Specifier) (partial_begins Specifier) text (λ x t f k. caret_no_component x (cc) k)
-
-pub strict_some : (m : Mark) {text rest end : List ℕ} {answer : Measured Partial} → IsMarkCut text m rest → IsSeen sized_partial (IsPartial Specifier) rest answer end → IsStrictFront text m answer end
-strict_some mark.Tilde e s = record {
-  partial = s.value;
-  longest = either_this (either_this (mapped (marked_some e s.longest)) (mapped_none (marked_other (λ r f. absurd (omega (arith, first_byte e f)))))) (mapped_none (after_tilde e));
-  seen = s.seen;
-}
-strict_some mark.Caret e s = record {
-  partial = s.value;
-  longest = either_this (either_that (mapped_none (marked_other (λ r f. absurd (omega (arith, first_byte e f))))) (mapped (marked_some e s.longest))) (mapped_none (after_caret e));
-  seen = s.seen;
-}
-strict_some mark.Absent e s = record {
-  partial = s.value;
-  longest = either_that (either_none (mapped_none (marked_other e.1)) (mapped_none (marked_other e.2))) (mapped (rw e.0 at s.longest));
-  seen = s.seen;
-}
-
-pub strict_none : (m : Mark) {text rest : List ℕ} → IsMarkCut text m rest → HasNone (IsPartial Specifier) rest → HasNone IsStrictRange text
-strict_none mark.Tilde e n = either_none (either_none (mapped_none (marked_none e n)) (mapped_none (marked_other (λ r f. absurd (omega (arith, first_byte e f)))))) (mapped_none (after_tilde e))
-strict_none mark.Caret e n = either_none (either_none (mapped_none (marked_other (λ r f. absurd (omega (arith, first_byte e f))))) (mapped_none (marked_none e n))) (mapped_none (after_caret e))
-strict_none mark.Absent e n = either_none (either_none (mapped_none (marked_other e.1)) (mapped_none (marked_other e.2))) (mapped_none (rw e.0 at n))
 
 -- ---- blanks begin with no strict range
 
@@ -101,48 +63,6 @@ no_blank_begins x h k = grind (arith, nat_tests)
 
 pub blank_none : (text : List ℕ) → IsBlanks text tt → HasNone IsStrictRange text
 blank_none text b = none_by_byte strict_nonempty strict_begins text (λ x rest e k. no_blank_begins x ((begins_from_made blanks_made).begins x (record { more = rest; value = tt; stands = rw e at b })) k)
-
--- ---- which ranges fit
-
-component_all : (x : XRange) → all_fit (component_numbers x) ≡ component_fits x
-component_all Wildcard = refl
-component_all (Val n) = elim (cases_Bool (number_fits n)) [ inl fits ↦ rw fits refl | inr over ↦ rw over refl ]
-
-numbers_all : (p : Partial) → all_fit (numbers p) ≡ partial_fits p
-numbers_all p =
-    list_all-append number_fits (component_numbers p.major ++ component_numbers p.minor) (component_numbers p.patch)
-    ∙ (ap (λ b. b && all_fit (component_numbers p.patch)) (list_all-append number_fits (component_numbers p.major) (component_numbers p.minor))
-    ∙ rw (component_all p.major, component_all p.minor, component_all p.patch) refl)
-
-marked_numbers : (m : Mark) (p : Partial) → all_fit (comparator_numbers (marked_partial m p)) ≡ partial_fits p
-marked_numbers mark.Tilde p = numbers_all p
-marked_numbers mark.Caret p = numbers_all p
-marked_numbers mark.Absent p = numbers_all p
-
--- the longest front that is a strict range, whose numbers fit
-pub record FittingFront (text : List ℕ) (m : Mark) (p : Partial) (rest : List ℕ) : Type 0 where
-  pub longest : IsLongest IsStrictRange text (marked_partial m p) rest
-  pub numbers_fit : all_fit (comparator_numbers (marked_partial m p)) ≡ true
-
--- the same, where some number doesn't fit
-pub record LargeFront (text : List ℕ) (m : Mark) (p : Partial) (rest : List ℕ) : Type 0 where
-  pub longest : IsLongest IsStrictRange text (marked_partial m p) rest
-  pub number_large : all_fit (comparator_numbers (marked_partial m p)) ≡ false
-
-pub fitting : {text rest : List ℕ} {m : Mark} {p : Partial} → IsStrictFront text m (Fits p) rest → FittingFront text m p rest
-fitting {text} {rest} {m} {p} f = elim (cases_Bool (partial_fits f.partial)) [
-  | inl fit ↦
-      let seen : Fits p ≡ Fits f.partial = f.seen ∙ rw fit refl in
-      let same : f.partial ≡ p = cc in
-      record { longest = rw same at f.longest; numbers_fit = marked_numbers m p ∙ (ap partial_fits (sym same) ∙ fit) }
-  | inr over ↦ let seen : Fits p ≡ TooLarge = f.seen ∙ rw over refl in absurd (cc seen)
-]
-
-pub too_large : {text rest : List ℕ} {m : Mark} {answer : Measured Partial} → answer ≡ TooLarge → (f : IsStrictFront text m answer rest) → LargeFront text m f.partial rest
-too_large {text} {rest} {m} e f = elim (cases_Bool (partial_fits f.partial)) [
-  | inl fit ↦ let seen : TooLarge ≡ Fits f.partial = sym e ∙ (f.seen ∙ rw fit refl) in absurd (cc seen)
-  | inr over ↦ record { longest = f.longest; number_large = marked_numbers m f.partial ∙ over }
-]
 
 -- ---- tags
 
@@ -173,8 +93,8 @@ and_false a b e = rw e refl
 and_true : (a b : Bool) → a ≡ true → (a && b) ≡ b
 and_true a b e = rw e refl
 
-module _ {text rest : List ℕ} {m : Mark} {p : Partial} (f : LargeFront text m p rest) where
-  unfit : fits (marked_partial m p) ≡ false
+module _ {text rest : List ℕ} {m : Mark} {p : Partial} (f : LargeFront IsStrictRange text m p rest) where
+  unfit : fits (comparator_of m p) ≡ false
   unfit = and_false _ _ f.number_large
 
   pub number_reading : (answer : RangeSetOrTag) → (answer ≡ inner.Tag text) × (is_valid_tag text ≡ true) → IsReading Specifier text answer
@@ -185,16 +105,16 @@ module _ {text rest : List ℕ} {m : Mark} {p : Partial} (f : LargeFront text m 
   number_refusal failure (blank_no_tag v b) = some_or_none f.longest (blank_none text b)
   number_refusal failure (other_no_tag v b) = large_number f.longest f.number_large v
 
-module _ {text rest : List ℕ} {m : Mark} {p : Partial} (f : FittingFront text m p rest) where
-  fits_by : (b : Bool) → all_fit (comparator_line (marked_partial m p)).sums ≡ b → fits (marked_partial m p) ≡ b
+module _ {text rest : List ℕ} {m : Mark} {p : Partial} (f : FittingFront IsStrictRange text m p rest) where
+  fits_by : (b : Bool) → all_fit (comparator_line (comparator_of m p)).sums ≡ b → fits (comparator_of m p) ≡ b
   fits_by b e = and_true _ _ f.numbers_fit ∙ e
 
   -- some bound is too large, and memory wasn't wanting
-  over : (cause : Failure) → IsBoundRefusal (comparator_line (marked_partial m p)).sums cause → (cause ≡ None → ⊥) → all_fit (comparator_line (marked_partial m p)).sums ≡ false
+  over : (cause : Failure) → IsBoundRefusal (comparator_line (comparator_of m p)).sums cause → (cause ≡ None → ⊥) → all_fit (comparator_line (comparator_of m p)).sums ≡ false
   over cause (inl e) other = absurd (other e)
   over cause (inr h) other = h.1
 
-  module _ (cause : Failure) (refused : IsBoundRefusal (comparator_line (marked_partial m p)).sums cause) (other : cause ≡ None → ⊥) where
+  module _ (cause : Failure) (refused : IsBoundRefusal (comparator_line (comparator_of m p)).sums cause) (other : cause ≡ None → ⊥) where
     pub bound_reading : (answer : RangeSetOrTag) → (answer ≡ inner.Tag text) × (is_valid_tag text ≡ true) → IsReading Specifier text answer
     bound_reading answer = tag_reading (λ o t. no_fit f.longest (fits_by false (over cause refused other)) t)
 
@@ -203,14 +123,14 @@ module _ {text rest : List ℕ} {m : Mark} {p : Partial} (f : FittingFront text 
     bound_refusal failure (blank_no_tag v b) = some_or_none f.longest (blank_none text b)
     bound_refusal failure (other_no_tag v b) = large_bound f.longest f.numbers_fit (over cause refused other) v
 
-  pub whole_reading : (range : VersionRange) (answer : RangeSetOrTag) → all_fit (comparator_line (marked_partial m p)).sums ≡ true → (length rest == 0) ≡ true → range ≡ comparator_range (marked_partial m p) → answer ≡ inner.RangeSet (record { 0 = range ∷ [] }) → IsReading Specifier text answer
+  pub whole_reading : (range : VersionRange) (answer : RangeSetOrTag) → all_fit (comparator_line (comparator_of m p)).sums ≡ true → (length rest == 0) ≡ true → range ≡ comparator_range (comparator_of m p) → answer ≡ inner.RangeSet (record { 0 = range ∷ [] }) → IsReading Specifier text answer
   whole_reading range answer e empty is answered = record {
-    outcome = Ranges ((marked_partial m p ∷ []) ∷ []);
+    outcome = Ranges ((comparator_of m p ∷ []) ∷ []);
     is_outcome = whole (let nil : rest ≡ [] = nil_from_length rest (grind (arith, nat_tests)) in rw nil at f.longest) (fits_by true e);
     is_read = answered ∙ ap (λ (r : VersionRange). inner.RangeSet (record { 0 = r ∷ [] })) (is ∙ sym (strict_kept f.longest.stands));
   }
 
-  pub follows_refusal : all_fit (comparator_line (marked_partial m p)).sums ≡ true → (length rest == 0) ≡ false → (failure : Failure) → (failure ≡ None) ⊎ (failure ≡ unexpected_character) → IsStrictRefusal text failure
+  pub follows_refusal : all_fit (comparator_line (comparator_of m p)).sums ≡ true → (length rest == 0) ≡ false → (failure : Failure) → (failure ≡ None) ⊎ (failure ≡ unexpected_character) → IsStrictRefusal text failure
   follows_refusal e full failure (inl h) = rw h memory_wanting
   follows_refusal e full failure (inr h) = rw h (something_follows f.longest (fits_by true e) (let some : 0 < length rest = grind (arith, nat_tests) in some))
 

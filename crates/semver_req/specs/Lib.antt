@@ -12,3 +12,4 @@ pub mod Settled
 pub mod Shortest
 pub mod Strict
 pub mod Tag
+pub mod Written

@@ -11,6 +11,7 @@ ghost use Rattle.semver_base.specs.Lexical.{IsQualifier};
 ghost use Rattle.semver_req.specs.Comparators.{IsMaybeEqual, IsPrimitive, IsSign, primitive_of, sized_primitive};
 ghost use Rattle.semver_req.specs.Partials.{IsComponent, IsPartial, IsPlainPartial, IsSecond, IsThird, answer_at, assembled, component_of, is_wildcard, second_or_none, sized_component, sized_partial, sized_second, sized_third, strictness_of, third_or_none};
 
+pub mod comparator;
 pub mod values;
 
 use semver_base::lexical;
@@ -217,8 +218,8 @@ fn with_equal(rest: &str, alone: PrimitiveKind, with_equal: PrimitiveKind) -> (P
     }
 }
 
-// The sign at the front, and what follows it.
-fn sign_front(text: &str) -> Option<(PrimitiveKind, &str)>
+/// The sign at the front, and what follows it.
+pub fn sign_front(text: &str) -> Option<(PrimitiveKind, &str)>
     ensures { Reads IsSign text.now (answer_of result) }
 {
     if let Some(rest) = after(text, '>') {

@@ -1,23 +1,19 @@
 //! The strict reader, of the requirements in package specifiers.
 
-ghost use Rattle.std.specs.Prelude.{◌≡◌, ◌↔◌, ◌⊎◌, ◌∷◌, [], IfErr, IfOk, IsTrue, None, OnOk, true};
-ghost use Rattle.semver_base.specs.Grammar.{answer_of};
+ghost use Rattle.std.specs.Prelude.{◌≡◌, ◌↔◌, ◌⊎◌, ◌∷◌, [], IfErr, IfOk, IsTrue, None, true};
 ghost use Rattle.semver_base.specs.Lexical.{IsBlanks};
-ghost use Rattle.semver_base.specs.PartialTable.{IsBoundRefusal, all_fit};
-ghost use Rattle.semver_req.specs.Comparators.{comparator_line, comparator_range};
 ghost use Rattle.semver_req.specs.Readers.{IsReaderAnswer, IsReading};
-ghost use Rattle.semver_req.specs.Strict.{IsMarkCut, IsNoTag, IsStrictRefusal, ReadsStrictRange, empty_constraint, marked_partial};
+ghost use Rattle.semver_req.specs.Strict.{IsNoTag, IsStrictRefusal, empty_constraint};
 ghost use Rattle.semver_req.specs.Tag.{is_valid_tag};
 
-use crate::common::partial_front;
+use crate::common::comparator::{Written, unsigned_front};
 use crate::common::values::Flavour;
 use crate::npm::is_valid_npm_tag;
 use crate::range_set_or_tag::RangeSetOrTag;
 use crate::req::VersionReq;
 use semver_base::failure::{ParseFailure, Refusal};
 use semver_base::lexical::values::Measured;
-use semver_base::lexical::{after, after_blanks};
-use semver_base::partial::Partial;
+use semver_base::lexical::after_blanks;
 use semver_base::range::{VersionRange, VersionRangeSet};
 use semver_base::string::{CowVec, SmallStackString};
 use std::alloc::{AllocError, Global};
@@ -66,62 +62,6 @@ impl From<VersionReqSpecifierParseError> for ParseFailure {
     }
 }
 
-// What stands before the partial version of a strict range.
-#[derive(Clone, Copy, Debug, PartialEq, Eq)]
-enum Mark {
-    // `~`
-    Tilde,
-    // `^`
-    Caret,
-    // Nothing, which is the range of the partial version itself.
-    Absent,
-}
-
-impl Mark {
-    // The range of the mark and the partial version after it.
-    fn range(self, alloc: Global, partial: &Partial) -> Result<VersionRange, ParseFailure>
-        ensures range { IfOk result (λ range. range ≡ comparator_range (marked_partial self partial.now)) }
-        ensures fits { OnOk result (all_fit (comparator_line (marked_partial self partial.now)).sums ≡ true) }
-        ensures refused { IfErr result (IsBoundRefusal (comparator_line (marked_partial self partial.now)).sums) }
-    {
-        match self {
-            Mark::Tilde => partial.as_tilde_version_range(alloc),
-            Mark::Caret => partial.as_caret_version_range(alloc),
-            Mark::Absent => partial.as_equal_range(alloc),
-        }
-    }
-}
-
-// The mark at the front, and what follows it.
-fn split_mark(text: &str) -> (Mark, &str)
-    ensures { IsMarkCut text.now result.0 result.1.now }
-{
-    if let Some(rest) = after(text, '~') {
-        return (Mark::Tilde, rest);
-    }
-    if let Some(rest) = after(text, '^') {
-        return (Mark::Caret, rest);
-    }
-    (Mark::Absent, text)
-}
-
-// A strict range as it is written.
-struct StrictRange {
-    mark: Mark,
-    partial: Measured<Partial>,
-}
-
-// The strict range at the front, and what follows it.
-fn strict_front(alloc: Global, text: &str) -> Result<Option<(StrictRange, &str)>, AllocError>
-    ensures { IfOk result (λ r. ReadsStrictRange text.now (answer_of r)) }
-{
-    let (mark, rest) = split_mark(text);
-    match partial_front(alloc, rest, Flavour::Specifier)? {
-        Some((partial, rest)) => Ok(Some((StrictRange { mark, partial }, rest))),
-        None => Ok(None),
-    }
-}
-
 // Whether the text is blanks, or empty.
 fn is_blank(text: &str) -> bool
     ensures { IsTrue result ↔ IsBlanks text.now tt }
@@ -157,10 +97,10 @@ fn read(alloc: Global, text: &str) -> Result<RangeSetOrTag, ParseFailure>
     ensures reading { IfOk result (IsReading Flavour.Specifier text.now) }
     ensures refusal { IfErr result (IsStrictRefusal text.now) }
 {
-    let Some((written, rest)) = strict_front(alloc, text)? else {
+    let Some((written, rest)) = unsigned_front(alloc, text, Flavour::Specifier)? else {
         return tag_or(alloc, text, Refusal::UnexpectedCharacter);
     };
-    let StrictRange { mark, partial } = written;
+    let Written { mark, partial } = written;
     let Measured::Fits(partial) = partial else {
         return tag_or(alloc, text, Refusal::NumberTooLarge);
     };

@@ -51,6 +51,32 @@ pub enum PrimitiveKind {
     Equal,
 }
 
+impl PrimitiveKind {
+    /// The range of the sign and the partial version after it (node-semver's primitives).
+    ///
+    /// The refusal "Version bound is too large." comes exactly where a number that the range raises is past
+    /// 18446744073709551615; any other failure is want of memory.
+    pub fn range(self, alloc: Global, partial: &Partial) -> Result<VersionRange, ParseFailure>
+        ensures range { IfOk result (λ range. range ≡ (signed_line self partial.now).range) }
+        ensures fits { OnOk result (all_fit (signed_line self partial.now).sums ≡ true) }
+        ensures refused { IfErr result (IsBoundRefusal (signed_line self partial.now).sums) }
+    {
+        match self {
+            PrimitiveKind::Equal => partial.as_equal_range(alloc),
+            PrimitiveKind::GreaterThan => {
+                partial.as_greater_than(alloc, VersionBoundKind::Exclusive)
+            }
+            PrimitiveKind::GreaterThanOrEqual => {
+                partial.as_greater_than(alloc, VersionBoundKind::Inclusive)
+            }
+            PrimitiveKind::LessThan => partial.as_less_than(alloc, VersionBoundKind::Exclusive),
+            PrimitiveKind::LessThanOrEqual => {
+                partial.as_less_than(alloc, VersionBoundKind::Inclusive)
+            }
+        }
+    }
+}
+
 /// A sign and the partial version after it.
 #[derive(Drop)]
 pub struct Primitive {
@@ -68,19 +94,6 @@ impl Primitive {
         ensures fits { OnOk result (all_fit (signed_line self.kind self.partial).sums ≡ true) }
         ensures refused { IfErr result (IsBoundRefusal (signed_line self.kind self.partial).sums) }
     {
-        let partial = self.partial;
-        match self.kind {
-            PrimitiveKind::Equal => partial.as_equal_range(alloc),
-            PrimitiveKind::GreaterThan => {
-                partial.as_greater_than(alloc, VersionBoundKind::Exclusive)
-            }
-            PrimitiveKind::GreaterThanOrEqual => {
-                partial.as_greater_than(alloc, VersionBoundKind::Inclusive)
-            }
-            PrimitiveKind::LessThan => partial.as_less_than(alloc, VersionBoundKind::Exclusive),
-            PrimitiveKind::LessThanOrEqual => {
-                partial.as_less_than(alloc, VersionBoundKind::Inclusive)
-            }
-        }
+        self.kind.range(alloc, &self.partial)
     }
 }

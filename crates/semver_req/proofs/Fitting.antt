@@ -1,0 +1,59 @@
+-- Which comparators at the front of a text have numbers that fit.
+use Rattle.std.proofs.Common.{◌≡◌, ℕ, Bool, true, false, List, ◌++◌, refl, sym, ap, ◌∙◌, inl, inr}
+use Rattle.std.specs.Prelude.{◌&&◌}
+use Rattle.std.proofs.lemmas.Bool.{cases_Bool}
+use Rattle.std.proofs.lemmas.List.Folds.{list_all-append}
+use Rattle.semver_base.specs.Grammar.{IsLongest}
+use Rattle.semver_base.specs.PartialTable.{all_fit, number_fits}
+use Rattle.semver_base.specs.declared.lexical.values.Measured.{Measured}
+use Rattle.semver_base.specs.declared.lexical.values.Measured.TheVariants.{Fits, TooLarge}
+use Rattle.semver_base.specs.declared.partial.Partial.{Partial}
+use Rattle.semver_base.specs.declared.partial.XRange.{XRange}
+use Rattle.semver_base.specs.declared.partial.XRange.TheVariants.{Wildcard, Val}
+use Rattle.semver_req.specs.Comparators.{Comparator, comparator_numbers, component_numbers, numbers}
+use Rattle.semver_req.specs.Partials.{component_fits, partial_fits}
+use Rattle.semver_req.specs.Written.{IsFront, comparator_of}
+use Rattle.semver_req.specs.declared.common.comparator.Mark.{Mark}
+use Rattle.semver_req.specs.declared.common.comparator.Mark.TheVariants as mark
+
+component_all : (x : XRange) → all_fit (component_numbers x) ≡ component_fits x
+component_all Wildcard = refl
+component_all (Val n) = elim (cases_Bool (number_fits n)) [ inl fits ↦ rw fits refl | inr over ↦ rw over refl ]
+
+numbers_all : (p : Partial) → all_fit (numbers p) ≡ partial_fits p
+numbers_all p =
+    list_all-append number_fits (component_numbers p.major ++ component_numbers p.minor) (component_numbers p.patch)
+    ∙ (ap (λ b. b && all_fit (component_numbers p.patch)) (list_all-append number_fits (component_numbers p.major) (component_numbers p.minor))
+    ∙ rw (component_all p.major, component_all p.minor, component_all p.patch) refl)
+
+comparator_all : (m : Mark) (p : Partial) → all_fit (comparator_numbers (comparator_of m p)) ≡ partial_fits p
+comparator_all mark.Tilde p = numbers_all p
+comparator_all mark.Caret p = numbers_all p
+comparator_all (mark.Sign sign) p = numbers_all p
+comparator_all mark.Absent p = numbers_all p
+
+-- a front whose numbers fit
+pub record FittingFront (R : List ℕ → Comparator → Type 0) (text : List ℕ) (m : Mark) (p : Partial) (rest : List ℕ) : Type 0 where
+  pub longest : IsLongest R text (comparator_of m p) rest
+  pub numbers_fit : all_fit (comparator_numbers (comparator_of m p)) ≡ true
+
+-- a front of which some number doesn't fit
+pub record LargeFront (R : List ℕ → Comparator → Type 0) (text : List ℕ) (m : Mark) (p : Partial) (rest : List ℕ) : Type 0 where
+  pub longest : IsLongest R text (comparator_of m p) rest
+  pub number_large : all_fit (comparator_numbers (comparator_of m p)) ≡ false
+
+module _ {R : List ℕ → Comparator → Type 0} {text rest : List ℕ} {m : Mark} where
+  pub fitting : {p : Partial} → IsFront R text (record { mark = m; partial = Fits p }) rest → FittingFront R text m p rest
+  fitting {p} f = elim (cases_Bool (partial_fits f.partial)) [
+    | inl fit ↦
+        let seen : Fits p ≡ Fits f.partial = f.seen ∙ rw fit refl in
+        let same : f.partial ≡ p = cc in
+        record { longest = rw same at f.longest; numbers_fit = comparator_all m p ∙ (ap partial_fits (sym same) ∙ fit) }
+    | inr over ↦ let seen : Fits p ≡ TooLarge = f.seen ∙ rw over refl in absurd (cc seen)
+  ]
+
+  pub too_large : {answer : Measured Partial} → answer ≡ TooLarge → (f : IsFront R text (record { mark = m; partial = answer }) rest) → LargeFront R text m f.partial rest
+  too_large e f = elim (cases_Bool (partial_fits f.partial)) [
+    | inl fit ↦ let seen : TooLarge ≡ Fits f.partial = sym e ∙ (f.seen ∙ rw fit refl) in absurd (cc seen)
+    | inr over ↦ record { longest = f.longest; number_large = comparator_all m f.partial ∙ over }
+  ]

@@ -1,0 +1,130 @@
+-- Comparators at the front of a text, by the mark that comes first.
+use Rattle.std.proofs.Common.{◌≡◌, ℕ, Bool, true, List, [], ◌∷◌, ◌++◌, Option, Some, None, refl, sym, ap, ◌∙◌, arith, ◌==◌}
+use Rattle.std.specs.Prelude.{slice_index}
+use Rattle.std.proofs.lemmas.Bool.Decides.{nat_tests}
+use Rattle.semver_base.specs.Grammar.{After, Either, this, that, HasNone, IsLongest, IsSeen, Reads}
+use Rattle.semver_base.specs.Lexical.{IsBlanks}
+use Rattle.semver_base.specs.declared.lexical.values.Measured.{Measured}
+use Rattle.semver_base.specs.declared.partial.Partial.{Partial}
+use Rattle.semver_base.proofs.Bytes.{Disjoint, none_by_byte}
+use Rattle.semver_base.proofs.Fronts.{NonEmpty, either_none, either_that, either_this, followed, followed_none_second, joined_none_first, mapped, mapped_none, marked_none, marked_other, marked_some}
+use Rattle.semver_base.proofs.Readings.{some_within}
+use Rattle.semver_req.specs.Comparators.{Comparator, IsComparator, IsMarked, IsPlain, IsPrimitive, IsSign, IsSigned}
+use Rattle.semver_req.specs.Partials.{IsPartial, sized_partial}
+use Rattle.semver_req.specs.Written.{IsFront, IsMarkCut, IsUnsigned, ReadsComparator}
+use Rattle.semver_req.specs.declared.common.comparator.Mark.{Mark}
+use Rattle.semver_req.specs.declared.common.comparator.Mark.TheVariants as mark
+use Rattle.semver_req.specs.declared.common.comparator.Written.{Written}
+use Rattle.semver_req.specs.declared.common.values.Flavour.{Flavour}
+use Rattle.semver_req.specs.declared.common.values.Flavour.TheVariants.{Normal}
+use Rattle.semver_req.specs.declared.common.values.PrimitiveKind.{PrimitiveKind}
+use Rattle.semver_req.proofs.ComparatorReadings.{core_some, is_sign_byte, partial_within, sign_begins, sign_some}
+use Rattle.semver_req.proofs.Signs.{any_begins, blanks_apart, is_partial_byte, primitive_none, sign_apart}
+
+partial_some : (f : Flavour) → NonEmpty (IsPartial f)
+partial_some f = some_within (partial_within f) (core_some f)
+
+-- ---- `~`, `^` or nothing
+
+first_byte : {text a b : List ℕ} {x y : ℕ} → text ≡ x ∷ a → text ≡ y ∷ b → x ≡ y
+first_byte e f = ap (λ t. slice_index t 0) (sym e ∙ f)
+
+tilde_no_partial : (x : ℕ) → x ≡ 126 → is_partial_byte x ≡ true → ⊥
+tilde_no_partial x e h = grind (arith, nat_tests)
+
+caret_no_partial : (x : ℕ) → x ≡ 94 → is_partial_byte x ≡ true → ⊥
+caret_no_partial x e h = grind (arith, nat_tests)
+
+after_tilde : (f : Flavour) {text rest : List ℕ} → text ≡ 126 ∷ rest → HasNone (IsPartial f) text
+after_tilde f {text} e = none_by_byte (partial_some f) (any_begins f) text (λ x t g k. tilde_no_partial x (cc) k)
+
+after_caret : (f : Flavour) {text rest : List ℕ} → text ≡ 94 ∷ rest → HasNone (IsPartial f) text
+after_caret f {text} e = none_by_byte (partial_some f) (any_begins f) text (λ x t g k. caret_no_partial x (cc) k)
+
+pub unsigned_some : (f : Flavour) (m : Mark) {text rest end : List ℕ} {answer : Measured Partial} → IsMarkCut text m rest → IsSeen sized_partial (IsPartial f) rest answer end
+    → IsFront (IsUnsigned f) text (record { mark = m; partial = answer }) end
+unsigned_some f mark.Tilde e s = record {
+  partial = s.value;
+  longest = either_this (either_this (mapped (marked_some e s.longest)) (mapped_none (marked_other (λ r g. absurd (omega (arith, first_byte e g)))))) (mapped_none (after_tilde f e));
+  seen = s.seen;
+}
+unsigned_some f mark.Caret e s = record {
+  partial = s.value;
+  longest = either_this (either_that (mapped_none (marked_other (λ r g. absurd (omega (arith, first_byte e g))))) (mapped (marked_some e s.longest))) (mapped_none (after_caret f e));
+  seen = s.seen;
+}
+unsigned_some f (mark.Sign sign) e s = absurd e
+unsigned_some f mark.Absent e s = record {
+  partial = s.value;
+  longest = either_that (either_none (mapped_none (marked_other e.1)) (mapped_none (marked_other e.2))) (mapped (rw e.0 at s.longest));
+  seen = s.seen;
+}
+
+pub unsigned_none : (f : Flavour) (m : Mark) {text rest : List ℕ} → IsMarkCut text m rest → HasNone (IsPartial f) rest → HasNone (IsUnsigned f) text
+unsigned_none f mark.Tilde e n = either_none (either_none (mapped_none (marked_none e n)) (mapped_none (marked_other (λ r g. absurd (omega (arith, first_byte e g)))))) (mapped_none (after_tilde f e))
+unsigned_none f mark.Caret e n = either_none (either_none (mapped_none (marked_other (λ r g. absurd (omega (arith, first_byte e g))))) (mapped_none (marked_none e n))) (mapped_none (after_caret f e))
+unsigned_none f (mark.Sign sign) e n = absurd e
+unsigned_none f mark.Absent e n = either_none (either_none (mapped_none (marked_other e.1)) (mapped_none (marked_other e.2))) (mapped_none (rw e.0 at n))
+
+-- ---- a sign, or none
+
+-- a text of three grammars where the second has no front
+module _ {V : Type 0} {A B C : List ℕ → V → Type 0} where
+  passed_over : (text : List ℕ) (v : V) → Either A C text v → Either A (Either B C) text v
+  passed_over text v (this h) = this h
+  passed_over text v (that h) = that (that h)
+
+  longest_but : {text rest : List ℕ} {v : V} → HasNone B text → IsLongest (Either A C) text v rest → IsLongest (Either A (Either B C)) text v rest
+  longest_but {text} {rest} {v} n p = record { front = p.front; text_is = p.text_is; stands = passed_over p.front v p.stands; longest = λ a b w e h. p.longest a b w e (go a b w e h) }
+    where
+      go : (a b : List ℕ) (w : V) → text ≡ a ++ b → Either A (Either B C) a w → Either A C a w
+      go a b w e (this h) = this h
+      go a b w e (that (this h)) = absurd (n.none a b w e h)
+      go a b w e (that (that h)) = that h
+
+  none_but : {text : List ℕ} → HasNone B text → HasNone (Either A C) text → HasNone (Either A (Either B C)) text
+  none_but {text} n p = record { none = go }
+    where
+      go : (a b : List ℕ) (w : V) → text ≡ a ++ b → Either A (Either B C) a w → ⊥
+      go a b w e (this h) = p.none a b w e (this h)
+      go a b w e (that (this h)) = n.none a b w e h
+      go a b w e (that (that h)) = p.none a b w e (that h)
+
+pub no_sign : (r : Option (Written × List ℕ)) {text : List ℕ} → HasNone IsSign text → ReadsComparator (IsUnsigned Normal) text r → ReadsComparator (IsComparator Normal) text r
+no_sign None n h = none_but (mapped_none (joined_none_first n)) h
+no_sign (Some p) n h = record { partial = h.partial; longest = longest_but (mapped_none (joined_none_first n)) h.longest; seen = h.seen }
+
+tilde_no_sign : (x : ℕ) → x ≡ 126 → is_sign_byte x ≡ true → ⊥
+tilde_no_sign x e h = grind (arith, nat_tests)
+
+caret_no_sign : (x : ℕ) → x ≡ 94 → is_sign_byte x ≡ true → ⊥
+caret_no_sign x e h = grind (arith, nat_tests)
+
+partial_no_sign : Disjoint is_partial_byte is_sign_byte
+partial_no_sign x h k = grind (arith, nat_tests)
+
+-- a text that begins with a sign has no other comparator
+module _ {text middle : List ℕ} {sign : PrimitiveKind} (s : IsLongest IsSign text sign middle) where
+  signed_byte : (x : ℕ) (t : List ℕ) → text ≡ x ∷ t → is_sign_byte x ≡ true
+  signed_byte x t e = go s.front s.text_is s.stands
+    where
+      go : (front : List ℕ) → text ≡ front ++ middle → IsSign front sign → is_sign_byte x ≡ true
+      go [] f h = absurd (sign_some.some sign h)
+      go (y ∷ more) f h = rw (first_byte e f) (sign_begins.begins y (record { more = more; value = sign; stands = h }))
+
+  no_marked : HasNone (IsMarked Normal) text
+  no_marked = either_none (mapped_none (marked_other (λ r e. tilde_no_sign 126 refl (signed_byte 126 r e)))) (mapped_none (marked_other (λ r e. caret_no_sign 94 refl (signed_byte 94 r e))))
+
+  no_plain : HasNone (IsPlain Normal) text
+  no_plain = mapped_none (none_by_byte (partial_some Normal) (any_begins Normal) text (λ x t e k. partial_no_sign x k (signed_byte x t e)))
+
+  pub sign_some_front : {start rest : List ℕ} {answer : Measured Partial} → IsLongest IsBlanks middle tt start → IsSeen sized_partial (IsPartial Normal) start answer rest
+      → IsFront (IsComparator Normal) text (record { mark = mark.Sign sign; partial = answer }) rest
+  sign_some_front b p = record {
+    partial = p.value;
+    longest = either_that no_marked (either_this (mapped (followed (sign_apart Normal) s (mapped (followed (blanks_apart Normal) b p.longest)))) no_plain);
+    seen = p.seen;
+  }
+
+  pub sign_no_front : {start : List ℕ} → IsLongest IsBlanks middle tt start → HasNone (IsPartial Normal) start → HasNone (IsComparator Normal) text
+  sign_no_front b n = either_none no_marked (either_none (mapped_none (primitive_none Normal s b n)) no_plain)

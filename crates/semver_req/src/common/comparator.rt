@@ -1,0 +1,101 @@
+//! Comparators: what stands before a partial version, and the range of both.
+
+ghost use Rattle.std.specs.Prelude.{◌≡◌, IfErr, IfOk, OnOk, true};
+ghost use Rattle.semver_base.specs.Grammar.{answer_of};
+ghost use Rattle.semver_base.specs.PartialTable.{IsBoundRefusal, all_fit};
+ghost use Rattle.semver_req.specs.Comparators.{IsComparator, comparator_line, comparator_range};
+ghost use Rattle.semver_req.specs.Written.{IsMarkCut, IsUnsigned, ReadsComparator, comparator_of};
+ghost use Rattle.semver_req.specs.declared.common.values.Flavour.TheVariants.{Normal};
+
+use crate::common::values::{Flavour, PrimitiveKind};
+use crate::common::{partial_front, sign_front};
+use semver_base::failure::ParseFailure;
+use semver_base::lexical::values::Measured;
+use semver_base::lexical::{after, after_blanks};
+use semver_base::partial::Partial;
+use semver_base::range::VersionRange;
+use std::alloc::{AllocError, Global};
+
+/// What stands before the partial version of a comparator.
+#[derive(Clone, Copy, Debug, PartialEq, Eq)]
+pub enum Mark {
+    /// `~`
+    Tilde,
+    /// `^`
+    Caret,
+    /// One of the five signs.
+    Sign(PrimitiveKind),
+    /// Nothing, which is the range of the partial version itself.
+    Absent,
+}
+
+impl Mark {
+    /// The range of the mark and the partial version after it (node-semver, "Advanced Range Syntax").
+    ///
+    /// The refusal "Version bound is too large." comes exactly where a number that the range raises is past
+    /// 18446744073709551615; any other failure is want of memory.
+    pub fn range(self, alloc: Global, partial: &Partial) -> Result<VersionRange, ParseFailure>
+        ensures range { IfOk result (λ range. range ≡ comparator_range (comparator_of self partial.now)) }
+        ensures fits { OnOk result (all_fit (comparator_line (comparator_of self partial.now)).sums ≡ true) }
+        ensures refused { IfErr result (IsBoundRefusal (comparator_line (comparator_of self partial.now)).sums) }
+    {
+        match self {
+            Mark::Tilde => partial.as_tilde_version_range(alloc),
+            Mark::Caret => partial.as_caret_version_range(alloc),
+            Mark::Sign(sign) => sign.range(alloc, partial),
+            Mark::Absent => partial.as_equal_range(alloc),
+        }
+    }
+}
+
+/// A comparator as it is written.
+pub struct Written {
+    pub mark: Mark,
+    /// The partial version after the mark; `Measured::TooLarge` where a number in it is past 18446744073709551615.
+    pub partial: Measured<Partial>,
+}
+
+// The mark at the front, and what follows it.
+fn split_mark(text: &str) -> (Mark, &str)
+    ensures { IsMarkCut text.now result.0 result.1.now }
+{
+    if let Some(rest) = after(text, '~') {
+        return (Mark::Tilde, rest);
+    }
+    if let Some(rest) = after(text, '^') {
+        return (Mark::Caret, rest);
+    }
+    (Mark::Absent, text)
+}
+
+/// The comparator without a sign at the front, and what follows it: `~`, `^` or nothing, and a partial version. It is an
+/// error only where no memory is left.
+pub fn unsigned_front(
+    alloc: Global,
+    text: &str,
+    flavour: Flavour,
+) -> Result<Option<(Written, &str)>, AllocError>
+    ensures { IfOk result (λ r. ReadsComparator (IsUnsigned flavour) text.now (answer_of r)) }
+{
+    let (mark, rest) = split_mark(text);
+    match partial_front(alloc, rest, flavour)? {
+        Some((partial, rest)) => Ok(Some((Written { mark, partial }, rest))),
+        None => Ok(None),
+    }
+}
+
+/// The normalized comparator at the front, and what follows it. It is an error only where no memory is left.
+pub fn normal_front(alloc: Global, text: &str) -> Result<Option<(Written, &str)>, AllocError>
+    ensures { IfOk result (λ r. ReadsComparator (IsComparator Normal) text.now (answer_of r)) }
+{
+    let Some((sign, rest)) = sign_front(text) else {
+        return unsigned_front(alloc, text, Flavour::Normal);
+    };
+    match partial_front(alloc, after_blanks(rest), Flavour::Normal)? {
+        Some((partial, rest)) => {
+            let mark = Mark::Sign(sign);
+            Ok(Some((Written { mark, partial }, rest)))
+        }
+        None => Ok(None),
+    }
+}
