@@ -26,7 +26,7 @@ numbers_all p =
     ∙ (ap (λ b. b && all_fit (component_numbers p.patch)) (list_all-append number_fits (component_numbers p.major) (component_numbers p.minor))
     ∙ rw (component_all p.major, component_all p.minor, component_all p.patch) refl)
 
-comparator_all : (m : Mark) (p : Partial) → all_fit (comparator_numbers (comparator_of m p)) ≡ partial_fits p
+pub comparator_all : (m : Mark) (p : Partial) → all_fit (comparator_numbers (comparator_of m p)) ≡ partial_fits p
 comparator_all mark.Tilde p = numbers_all p
 comparator_all mark.Caret p = numbers_all p
 comparator_all (mark.Sign sign) p = numbers_all p

@@ -1,8 +1,10 @@
 pub mod Blanks
 pub mod ComparatorReadings
 pub mod Components
+pub mod Cuts
 pub mod Fitting
 pub mod Folding
+pub mod Joining
 pub mod KeptRanges
 pub mod LedReadings
 pub mod Marks
@@ -10,9 +12,11 @@ pub mod NormalTable
 pub mod OneOutcome
 pub mod OutcomesFit
 pub mod OutcomesHaveParts
+pub mod Overlaps
 pub mod PartialReadings
 pub mod Partials
 pub mod PieceReadings
+pub mod PiecesRead
 pub mod Places
 pub mod ReadSets
 pub mod ReaderAnswers

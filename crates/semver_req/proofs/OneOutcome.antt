@@ -30,7 +30,7 @@ cut_some {piece = piece} {rest = rest} c = omega (arith, ap length c.text_is, le
 none_some : {T : Type 0} (text : List ℕ) → [] ≡ text → 0 < length text → T
 none_some text e some = absurd (omega (arith, ap length e))
 
-more_pieces_one : (x y : List ℕ) (ps qs : List (List ℕ)) → x ≡ y → AreMorePieces x ps → AreMorePieces y qs → ps ≡ qs
+pub more_pieces_one : (x y : List ℕ) (ps qs : List (List ℕ)) → x ≡ y → AreMorePieces x ps → AreMorePieces y qs → ps ≡ qs
 more_pieces_one x y ps qs e (no_piece t) (no_piece u) = refl
 more_pieces_one x y ps qs e (no_piece t) (last_piece {piece = q} u some n) = none_some q (trimmed_one (rw e at t) u) some
 more_pieces_one x y ps qs e (no_piece t) (cut_piece {start = r} u c m) = none_some r (trimmed_one (rw e at t) u) (cut_some c)

@@ -4,6 +4,8 @@ pub mod NormalTable
 pub mod NormalText
 pub mod Outcome
 pub mod Partials
+pub mod PieceReading
+pub mod PieceSteps
 pub mod Pieces
 pub mod Readers
 pub mod Requirement

@@ -1,7 +1,9 @@
 -- What a requirement is, and which versions it matches. Source: node-semver's description of ranges; a requirement may
 -- also be a tag, as in npm's package specifiers.
-use Rattle.std.specs.Prelude.{ℕ, List, Bool, false, Option, Some, None}
+use Rattle.std.specs.Prelude.{◌≡◌, ◌&&◌, ◌↔◌, IsTrue, ℕ, List, Bool, false, Option, Some, None, nat_eq}
+use Rattle.std.specs.Cmp.Lexicographic.{pointwise}
 use Rattle.semver_base.specs.Meaning.{alternatives, tree_means}
+use Rattle.semver_base.specs.Overlap.{some_overlap}
 use Rattle.semver_base.specs.declared.range.VersionRangeSet.{VersionRangeSet}
 use Rattle.semver_base.specs.declared.version.Version.{Version}
 use Rattle.semver_req.specs.declared.range_set_or_tag.RangeSetOrTag.{RangeSetOrTag}
@@ -24,3 +26,19 @@ set_of (inner.Tag text) = None
 abbrev pub inner_means : RangeSetOrTag → Version → Bool
 inner_means (inner.RangeSet set) v = tree_means (alternatives set.0) v
 inner_means (inner.Tag text) v = false
+
+-- two range sets overlap by the bound rule, two tags where they are the same, a tag and ranges never
+abbrev pub inner_overlap : RangeSetOrTag → RangeSetOrTag → Bool
+inner_overlap (inner.RangeSet set) (inner.RangeSet other) = some_overlap set.0 other.0
+inner_overlap (inner.Tag text) (inner.Tag other) = pointwise nat_eq text other
+inner_overlap (inner.RangeSet set) (inner.Tag text) = false
+inner_overlap (inner.Tag text) (inner.RangeSet set) = false
+
+-- no version matches both
+abbrev pub MatchNoVersion : RangeSetOrTag → RangeSetOrTag → Type 0
+MatchNoVersion one other = (v : Version) → (inner_means one v && inner_means other v) ≡ false
+
+-- two tags overlap where they are the same
+abbrev pub OverlapAsTags : RangeSetOrTag → RangeSetOrTag → Bool → Type 0
+OverlapAsTags (inner.Tag text) (inner.Tag other) result = IsTrue result ↔ (text ≡ other)
+OverlapAsTags one other result = Unit {0}

@@ -1,10 +1,30 @@
-//! What a requirement stands for: ranges of versions, or a tag.
+//! What a requirement stands for, ranges of versions or a tag, and the normalized reader of it.
 
-ghost use Rattle.std.specs.Prelude.{◌≡◌, IfOk};
+ghost use Rattle.std.specs.Prelude.{◌≡◌, ◌↔◌, ◌++◌, ◌∷◌, ◌⊎◌, [], IfErr, IfOk, IsTrue, List, MatchOption, None, OnOk, true, false};
+ghost use Rattle.std.specs.Bool.{OnFalse};
+ghost use Rattle.semver_base.specs.Grammar.{ReadsAs, Listed, Reads, answer_of, rest_answer};
+ghost use Rattle.semver_base.specs.Lexical.{IsBlanks, IsSomeBlanks};
+ghost use Rattle.semver_base.specs.declared.partial.Partial.{Partial};
+ghost use Rattle.semver_req.specs.Comparators.{Comparator, IsComparator};
+ghost use Rattle.semver_req.specs.Partials.{sized_partial};
+ghost use Rattle.semver_req.specs.Outcome.{IsOutcome, Refused};
+ghost use Rattle.semver_req.specs.PieceReading.{IsNormalRefusal, IsPieceRead, joined, kept_of, refusal_failure};
+ghost use Rattle.semver_req.specs.PieceSteps.{AreAllRead, IsEverything, IsFirstPiece, IsNextPiece, IsOneMore, both_now};
+ghost use Rattle.semver_req.specs.Pieces.{HasNoBar, IsCutAt};
+ghost use Rattle.semver_req.specs.Readers.{IsReading};
+ghost use Rattle.semver_req.specs.Requirement.{MatchNoVersion, OverlapAsTags, inner_overlap};
+ghost use Rattle.semver_req.specs.Tag.{is_valid_tag};
+ghost use Rattle.semver_req.specs.Written.{comparator_of};
+ghost use Rattle.semver_req.specs.declared.common.values.Flavour.TheVariants.{Normal};
 
-use semver_base::range::VersionRangeSet;
-use semver_base::string::SmallStackString;
-use std::alloc::AllocError;
+use crate::common::comparator::{Written, normal_front};
+use crate::npm::is_valid_npm_tag;
+use semver_base::failure::{ParseFailure, Refusal};
+use semver_base::lexical::after_blanks;
+use semver_base::lexical::values::Measured;
+use semver_base::range::{VersionRange, VersionRangeSet};
+use semver_base::string::{CowVec, SmallStackString};
+use std::alloc::{AllocError, Global};
 
 /// The text of a tag.
 pub type PackageTag = SmallStackString;
@@ -18,7 +38,256 @@ pub enum RangeSetOrTag {
     Tag(PackageTag),
 }
 
+/// What is read of a piece of a text, which is what stands between two `||`.
+#[derive(Drop)]
+pub enum RangeOrInvalid {
+    /// The range of its comparators.
+    Range(VersionRange),
+    /// The piece is bad: it is outside the grammar, or a number or a bound in it is too large.
+    Invalid(Refusal),
+}
+
+// What follows one or more blanks at the front.
+fn after_some_blanks(text: &str) -> Option<&str>
+    ensures { Reads IsSomeBlanks text.now (rest_answer result) }
+{
+    let rest = after_blanks(text);
+    if rest.len() == text.len() {
+        return None;
+    }
+    Some(rest)
+}
+
+// Whether a piece is nothing, or blanks that are followed by `||`.
+fn is_everything(piece: &str, is_followed: bool) -> bool
+    ensures { IsTrue result ↔ IsEverything is_followed piece.now }
+{
+    if is_followed {
+        return after_blanks(piece).is_empty();
+    }
+    piece.is_empty()
+}
+
+impl RangeOrInvalid {
+    // The range of these comparators and one more.
+    fn and(self, alloc: Global, written: Written) -> Result<RangeOrInvalid, ParseFailure>
+        ensures value { (cs : List Comparator) (p : Partial) → self ≡ joined cs → written.partial ≡ sized_partial p
+            → IfOk result (λ read. read ≡ joined (cs ++ comparator_of written.mark p ∷ [])) }
+        ensures memory { IfErr result (λ failure. failure ≡ None) }
+    {
+        let Written { mark, partial } = written;
+        let Measured::Fits(partial) = partial else {
+            return Ok(RangeOrInvalid::Invalid(Refusal::NumberTooLarge));
+        };
+        let range = match self {
+            RangeOrInvalid::Range(range) => range,
+            RangeOrInvalid::Invalid(refusal) => return Ok(RangeOrInvalid::Invalid(refusal)),
+        };
+        match mark.range(alloc, &partial) {
+            Ok(next) => Ok(RangeOrInvalid::Range(range.clamp(alloc, &next)?)),
+            Err(failure) if failure.is_memory() => Err(failure),
+            Err(_) => Ok(RangeOrInvalid::Invalid(Refusal::BoundTooLarge)),
+        }
+    }
+
+    // The normalized comparators at the front, with blanks between, and what follows them.
+    fn comparators(
+        alloc: Global,
+        text: &str,
+    ) -> Result<Option<(RangeOrInvalid, &str)>, ParseFailure>
+        ensures value { IfOk result (λ r. ReadsAs joined (Listed (IsComparator Normal) IsSomeBlanks) text.now (answer_of r)) }
+        ensures memory { IfErr result (λ failure. failure ≡ None) }
+    {
+        let Some((first, mut rest)) = normal_front(alloc, text)? else {
+            return Ok(None);
+        };
+        let mut read = RangeOrInvalid::Range(VersionRange::all()).and(alloc, first)?;
+        while let Some(next) = after_some_blanks(rest) {
+            let Some((written, more)) = normal_front(alloc, next)? else {
+                return Ok(Some((read, next)));
+            };
+            read = read.and(alloc, written)?;
+            rest = more;
+        }
+        Ok(Some((read, rest)))
+    }
+
+    /// What a piece of the normalized grammar is, which is followed by `||` or not: nothing, or blanks that are followed
+    /// by `||`, is the range without bounds; comparators with blanks between, and blanks at the end, are their ranges
+    /// clamped to one another; anything else is bad. It is an error only where no memory is left.
+    pub fn parse(
+        alloc: Global,
+        piece: &str,
+        is_followed: bool,
+    ) -> Result<RangeOrInvalid, ParseFailure>
+        ensures value { IfOk result (IsPieceRead Normal is_followed piece.now) }
+        ensures memory { IfErr result (λ failure. failure ≡ None) }
+    {
+        if is_everything(piece, is_followed) {
+            return Ok(RangeOrInvalid::Range(VersionRange::all()));
+        }
+        let Some((read, rest)) = RangeOrInvalid::comparators(alloc, piece)? else {
+            return Ok(RangeOrInvalid::Invalid(Refusal::UnexpectedCharacter));
+        };
+        if !rest.is_empty() {
+            return Ok(RangeOrInvalid::Invalid(Refusal::UnexpectedCharacter));
+        }
+        Ok(read)
+    }
+
+    /// The range that a set keeps of the piece: none of a bad one, and none that ends below 0.0.0.
+    pub fn into_range(self) -> Option<VersionRange>
+        ensures { result ≡ kept_of self }
+    {
+        match self {
+            RangeOrInvalid::Range(range) if range.is_none() => None,
+            RangeOrInvalid::Range(range) => Some(range),
+            RangeOrInvalid::Invalid(_) => None,
+        }
+    }
+}
+
+// The first piece of a text.
+#[derive(Clone, Copy)]
+struct FirstPiece<'a> {
+    piece: &'a str,
+    is_followed: bool,
+    // What follows its `||`, or nothing.
+    rest: &'a str,
+}
+
+// The text before the leftmost `||`, and what follows that.
+fn cut(text: &str) -> Option<(&str, &str)>
+    ensures { MatchOption result (HasNoBar text.now) (λ p. IsCutAt text.now p.0.now p.1.now) }
+{
+    text.split_once("||")
+}
+
+fn first_piece(text: &str) -> FirstPiece<'_>
+    ensures { IsFirstPiece text.now result.piece.now result.is_followed result.rest.now }
+{
+    match cut(text) {
+        Some((piece, rest)) => FirstPiece {
+            piece,
+            is_followed: true,
+            rest,
+        },
+        None => FirstPiece {
+            piece: text,
+            is_followed: false,
+            rest: "",
+        },
+    }
+}
+
+// The next piece of what follows a `||`, and what follows it in turn.
+fn next_piece(rest: &str) -> Option<(&str, &str)>
+    ensures { IsNextPiece rest.now (both_now result) }
+{
+    let start = after_blanks(rest);
+    if start.is_empty() {
+        return None;
+    }
+    Some(cut(start).unwrap_or((start, "")))
+}
+
+// What was read of the pieces of a text.
+#[derive(Drop)]
+struct Alternatives {
+    // The ranges that are kept of the good ones, in order.
+    ranges: CowVec<VersionRange>,
+    // Why the first bad one is bad.
+    refused: Option<Refusal>,
+    // Whether only one piece was read.
+    is_only: bool,
+}
+
+impl Alternatives {
+    // One piece more.
+    fn add(&mut self, read: RangeOrInvalid) -> Result<(), AllocError>
+        ensures { OnOk result (IsOneMore read self.old self.new) }
+    {
+        if let RangeOrInvalid::Invalid(refusal) = &read {
+            self.refused = self.refused.or(Some(*refusal));
+        }
+        if let Some(range) = read.into_range() {
+            self.ranges.push(range)?;
+        }
+        Ok(())
+    }
+}
+
+// What is read of each piece of a text, whose first one is cut off.
+fn read_pieces(alloc: Global, first: FirstPiece<'_>) -> Result<Alternatives, ParseFailure>
+    ensures value { IfOk result (AreAllRead Normal first.entry.piece.now first.entry.is_followed first.entry.rest.now) }
+    ensures memory { IfErr result (λ failure. failure ≡ None) }
+{
+    let mut all = Alternatives {
+        ranges: CowVec::new(alloc),
+        refused: None,
+        is_only: true,
+    };
+    all.add(RangeOrInvalid::parse(alloc, first.piece, first.is_followed)?)?;
+    let mut rest = first.rest;
+    while let Some((piece, more)) = next_piece(rest) {
+        all.is_only = false;
+        all.add(RangeOrInvalid::parse(alloc, piece, false)?)?;
+        rest = more;
+    }
+    Ok(all)
+}
+
+// The text as a tag, or the refusal where it is none.
+fn tag_or(alloc: Global, text: &str, refusal: Refusal) -> Result<RangeSetOrTag, ParseFailure>
+    ensures tag { IfOk result (λ inner. (inner ≡ RangeSetOrTag.Tag text.now) × (is_valid_tag text.now ≡ true)) }
+    ensures no_tag { IfErr result (λ failure. (failure ≡ None) ⊎ ((failure ≡ refusal_failure refusal) × (is_valid_tag text.now ≡ false))) }
+{
+    if is_valid_npm_tag(text) {
+        return Ok(RangeSetOrTag::Tag(SmallStackString::from_str(alloc, text)?));
+    }
+    Err(ParseFailure::of_refusal(alloc, refusal))
+}
+
 impl RangeSetOrTag {
+    /// What the normalized grammar makes of a text, which it cuts at each `||`: the ranges of its pieces, without those
+    /// that end below 0.0.0, or a tag.
+    ///
+    /// Blanks that follow a `||` are skipped, and a last piece of nothing after one is left out. A text of one bad piece
+    /// is a tag where the trimmed piece is a valid one. Else a text with a bad piece is refused as its first bad piece
+    /// is: with "Unexpected character." outside the grammar, with "Number is too large." or "Version bound is too large."
+    /// where that is all that is wrong. Any other failure is want of memory.
+    pub fn parse(alloc: Global, text: &str) -> Result<RangeSetOrTag, ParseFailure>
+        ensures reading { IfOk result (IsReading Normal text.now) }
+        ensures refused { IfErr result (λ failure. (failure ≡ None) ⊎ IsOutcome Normal text.now Refused) }
+        ensures refusal { IfErr result (IsNormalRefusal text.now) }
+    {
+        let first = first_piece(text);
+        let all = read_pieces(alloc, first)?;
+        match all.refused {
+            None => Ok(RangeSetOrTag::RangeSet(VersionRangeSet(all.ranges))),
+            Some(refusal) if all.is_only => tag_or(alloc, first.piece.trim(), refusal),
+            Some(refusal) => Err(ParseFailure::of_refusal(alloc, refusal)),
+        }
+    }
+
+    /// Whether the two overlap: two range sets by the rule of [`VersionRangeSet::intersects_set`], two tags where they are
+    /// the same, a tag and ranges never. Where two range sets don't overlap, no version matches both.
+    #[tactic(auto, using(crate::proofs::Overlaps::inner_swap, crate::proofs::Overlaps::inner_no_common, crate::proofs::Overlaps::inner_tags))]
+    pub fn intersects(&self, other: &RangeSetOrTag) -> bool
+        ensures value { result ≡ inner_overlap self.now other.now }
+        ensures symmetric { result ≡ inner_overlap other.now self.now }
+        ensures tags { OverlapAsTags self.now other.now result }
+        ensures no_common { OnFalse result (MatchNoVersion self.now other.now) }
+    {
+        match (self, other) {
+            (RangeSetOrTag::RangeSet(set), RangeSetOrTag::RangeSet(others)) => {
+                set.intersects_set(others)
+            }
+            (RangeSetOrTag::Tag(tag), RangeSetOrTag::Tag(others)) => tag == others,
+            (_, _) => false,
+        }
+    }
+
     /// The same ranges or tag again. It is an error only where no memory is left.
     pub fn copy(&self) -> Result<Self, AllocError>
         ensures { IfOk result (λ inner. inner ≡ self.now) }

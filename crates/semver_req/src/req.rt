@@ -1,16 +1,22 @@
 //! Requirements of versions.
 
-ghost use Rattle.std.specs.Prelude.{◌≡◌, IfOk, None, Some};
+ghost use Rattle.std.specs.Prelude.{◌≡◌, ◌↔◌, IfErr, IfOk, IsTrue, None, Some};
+ghost use Rattle.std.specs.Bool.{OnFalse};
 ghost use Rattle.std.specs.Option.{option_copied};
-ghost use Rattle.semver_req.specs.Requirement.{Requirement, inner_means, set_of, tag_of};
+ghost use Rattle.semver_req.specs.PieceReading.{IsNormalRefusal};
+ghost use Rattle.semver_req.specs.Readers.{IsReaderAnswer};
+ghost use Rattle.semver_req.specs.Requirement.{MatchNoVersion, OverlapAsTags, Requirement, inner_means, inner_overlap, set_of, tag_of};
+ghost use Rattle.semver_req.specs.declared.common.values.Flavour.TheVariants.{Normal};
 
 use crate::range_set_or_tag::RangeSetOrTag;
+use semver_base::failure::ParseFailure;
 use semver_base::range::VersionRangeSet;
 use semver_base::string::SmallStackString;
 use semver_base::version::Version;
-use std::alloc::AllocError;
+use std::alloc::{AllocError, Global};
 use std::fmt;
 use std::marker::Model;
+use thiserror::Error;
 
 /// A requirement of a version: the text that it was read from, and what that stands for.
 ///
@@ -34,12 +40,68 @@ impl Model for VersionReq {
     ghost inverse = { λ req. record { raw_text = req.raw_text; inner = req.inner } };
 }
 
+/// Why a text is no normalized requirement, or that memory was wanting.
+#[derive(PartialEq, Eq, Debug, Drop, Error)]
+#[error("Invalid normalized version requirement")]
+pub struct VersionReqNormalizedParseError {
+    #[source]
+    pub source: ParseFailure,
+}
+
+impl VersionReqNormalizedParseError {
+    /// Whether memory was wanting.
+    pub fn is_memory(&self) -> bool
+        ensures { IsTrue result ↔ (self.now.source ≡ None) }
+    {
+        self.source.is_memory()
+    }
+}
+
+impl From<ParseFailure> for VersionReqNormalizedParseError {
+    ghost from_gives = { λ failure error. error.source ≡ failure };
+
+    fn from(source: ParseFailure) -> VersionReqNormalizedParseError {
+        VersionReqNormalizedParseError { source }
+    }
+}
+
+impl From<AllocError> for VersionReqNormalizedParseError {
+    ghost from_gives = { λ _ error. error.source ≡ None };
+
+    fn from(_error: AllocError) -> VersionReqNormalizedParseError {
+        VersionReqNormalizedParseError {
+            source: ParseFailure::memory(),
+        }
+    }
+}
+
+impl From<VersionReqNormalizedParseError> for ParseFailure {
+    ghost from_gives = { λ error failure. failure ≡ error.source };
+
+    fn from(error: VersionReqNormalizedParseError) -> ParseFailure {
+        error.source
+    }
+}
+
 impl VersionReq {
     /// The requirement that was read from this text, and stands for this.
     pub fn from_raw_text_and_inner(raw_text: SmallStackString, inner: RangeSetOrTag) -> Self
         ensures { result ≡ record { raw_text = raw_text; inner = inner } }
     {
         VersionReq { raw_text, inner }
+    }
+
+    /// The requirement that a text of the normalized grammar is ([`RangeSetOrTag::parse`], where each refusal is told).
+    pub fn parse_from_normalized(
+        alloc: Global,
+        text: &str,
+    ) -> Result<VersionReq, VersionReqNormalizedParseError>
+        ensures reads { IsReaderAnswer (λ e. e.source) Normal text.now result }
+        ensures refusal { IfErr result (λ e. IsNormalRefusal text.now e.source) }
+    {
+        let inner = RangeSetOrTag::parse(alloc, text)?;
+        let raw_text = SmallStackString::from_str(alloc, text)?;
+        Ok(VersionReq::from_raw_text_and_inner(raw_text, inner))
     }
 
     /// What the requirement stands for.
@@ -85,6 +147,18 @@ impl VersionReq {
             RangeSetOrTag::RangeSet(set) => set.satisfies(version),
             RangeSetOrTag::Tag(_) => false,
         }
+    }
+
+    /// Whether the two requirements overlap: two of ranges by the rule of [`VersionRangeSet::intersects_set`], two tags
+    /// where they are the same, a tag and ranges never. Where two requirements of ranges don't overlap, no version matches
+    /// both.
+    pub fn intersects(&self, other: &VersionReq) -> bool
+        ensures value { result ≡ inner_overlap self.now.inner other.now.inner }
+        ensures symmetric { result ≡ inner_overlap other.now.inner self.now.inner }
+        ensures tags { OverlapAsTags self.now.inner other.now.inner result }
+        ensures no_common { OnFalse result (MatchNoVersion self.now.inner other.now.inner) }
+    {
+        self.inner.intersects(&other.inner)
     }
 
     /// The same requirement again. It is an error only where no memory is left.

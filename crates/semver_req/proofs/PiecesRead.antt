@@ -1,0 +1,314 @@
+-- What is read of a piece, and of the pieces of a text.
+use Rattle.std.proofs.Common.{◌≡◌, ◌≤◌, ◌<◌, ◌&&◌, ◌==◌, ℕ, suc, Bool, true, false, List, [], ◌∷◌, ◌++◌, length, map, not, Option, Some, None, refl, sym, subst, ap, ap₂, ◌∙◌, inl, inr, arith, append-nil, append_assoc, length-append}
+use Rattle.std.proofs.lemmas.Bool.Decides.{nat_tests}
+use Rattle.std.proofs.lemmas.List.{map-append, nil_from_length}
+use Rattle.std.specs.List.{filter, list_all}
+use Rattle.std.specs.Option.{option_to_list}
+use Rattle.std.specs.Char.{is_not_whitespace}
+use Rattle.std.specs.Prelude.{◌⊎◌, ◌↔◌, IsTrue, if◌then◌else◌}
+use Rattle.std.proofs.lemmas.Str.{NoCharPasses-nil}
+use Rattle.std.specs.Str.{trim}
+use Rattle.semver_base.specs.Grammar.{this, that, HasNone, IsLongest, Listed, last_item, closed_item, more_items}
+use Rattle.semver_base.specs.Lexical.{IsBlanks, IsSomeBlanks}
+use Rattle.semver_base.specs.Overlap.{ends_at_zero}
+use Rattle.semver_base.specs.declared.failure.Refusal.{Refusal}
+use Rattle.semver_base.specs.declared.failure.Refusal.TheVariants.{BoundTooLarge, NumberTooLarge, UnexpectedCharacter}
+use Rattle.semver_base.specs.declared.partial.Partial.{Partial}
+use Rattle.semver_base.specs.declared.range.VersionRange.{VersionRange}
+use Rattle.semver_base.proofs.Orders.{and_both, and_first, and_second}
+use Rattle.semver_req.specs.Comparators.{Caret, Comparator, Hyphen, IsComparator, Plain, Signed, Tilde, comparator_range, fits}
+use Rattle.semver_req.specs.KeptSet.{folded, kept, kept_range, without_none}
+use Rattle.semver_req.specs.Outcome.{AreGoodOnes, none_left, good, bad, IsBad, IsGood, IsCutOutcome, IsOutcome, one_good, one_bad, normal_many, normal_refused, IsTagOr, tag, no_tag, Outcome, Ranges, Tag, Refused}
+use Rattle.semver_req.specs.PieceReading.{IsFirstBad, this_bad, later_bad, IsNormalRefusal, memory_wanting, bad_piece, IsPieceRead, IsPieceRefusal, outside, large_number, large_bound, joined, kept_of, numbers_fit, sums_fit, refusal_failure}
+use Rattle.semver_req.specs.PieceSteps.{AreAllRead, AreRead, IsEverything, IsFirstPiece, IsOneMore, IsTold, first_refusal}
+use Rattle.semver_req.specs.Pieces.{AreMorePieces, ArePieces, IsPiece}
+use Rattle.semver_req.specs.Readers.{Failure, IsReading}
+use Rattle.semver_req.specs.Tag.{is_valid_tag}
+use Rattle.semver_req.specs.declared.common.values.Flavour.{Flavour}
+use Rattle.semver_req.specs.declared.common.values.Flavour.TheVariants.{Normal}
+use Rattle.semver_req.specs.declared.range_set_or_tag.Alternatives.{Alternatives}
+use Rattle.semver_req.specs.declared.range_set_or_tag.RangeOrInvalid.{RangeOrInvalid}
+use Rattle.semver_req.specs.declared.range_set_or_tag.RangeOrInvalid.TheVariants as read
+use Rattle.semver_req.specs.declared.range_set_or_tag.RangeSetOrTag.{RangeSetOrTag}
+use Rattle.semver_req.specs.declared.range_set_or_tag.RangeSetOrTag.TheVariants as inner
+use Rattle.semver_req.proofs.Blanks.{blank_whole}
+use Rattle.semver_req.proofs.PieceReadings.{blank_piece, piece_one}
+
+-- ---- one piece
+
+pub followed_blank : (followed : Bool) (piece rest : List ℕ) (b : Bool) → followed ≡ true → b ≡ (length rest == 0) → IsLongest IsBlanks piece tt rest → IsTrue b ↔ IsEverything followed piece
+followed_blank followed piece rest b is e p = let blank = blank_whole piece rest b e p in (λ h. inr (is, blank.0 h), λ h. elim h [
+  | inl nil ↦ blank.1 (rw nil (NoCharPasses-nil is_not_whitespace))
+  | inr k ↦ blank.1 k.1
+])
+
+pub nothing_more : (followed : Bool) (piece : List ℕ) (b : Bool) → followed ≡ false → b ≡ (length piece == 0) → IsTrue b ↔ IsEverything followed piece
+nothing_more followed piece b is e = (λ h. inl (nil_from_length piece (grind (arith, nat_tests))), λ h. elim h [
+  | inl nil ↦ rw (e, nil) refl
+  | inr k ↦ let both : false ≡ true = sym is ∙ k.0 in cc both
+])
+
+abbrev IsNormalList : List ℕ → List Comparator → Type 0
+IsNormalList = Listed (IsComparator Normal) IsSomeBlanks
+
+listed_piece : {text : List ℕ} {cs : List Comparator} → IsNormalList text cs → IsPiece Normal text cs
+listed_piece (last_item a) = last_item a
+listed_piece (closed_item a s) = closed_item a s
+listed_piece (more_items a s more) = more_items a s more
+
+-- no normalized comparator is a hyphen range
+one_kept : {text : List ℕ} (c : Comparator) → IsComparator Normal text c → kept_range (c ∷ []) ≡ folded (map comparator_range (c ∷ []))
+one_kept (Tilde p) h = refl
+one_kept (Caret p) h = refl
+one_kept (Signed sign p) h = refl
+one_kept (Plain p) h = refl
+one_kept (Hyphen p q) (this (this h)) = let is = h.is in cc is
+one_kept (Hyphen p q) (this (that h)) = let is = h.is in cc is
+one_kept (Hyphen p q) (that (this h)) = let is = h.is in cc is
+one_kept (Hyphen p q) (that (that h)) = let is = h.is in cc is
+
+many_kept : {text : List ℕ} (c : Comparator) (cs : List Comparator) → IsNormalList text cs → kept_range (c ∷ cs) ≡ folded (map comparator_range (c ∷ cs))
+many_kept (Tilde p) cs h = refl
+many_kept (Caret p) cs h = refl
+many_kept (Signed sign p) cs h = refl
+many_kept (Plain p) cs h = refl
+many_kept (Hyphen p q) cs (last_item a) = refl
+many_kept (Hyphen p q) cs (closed_item a s) = refl
+many_kept (Hyphen p q) cs (more_items a s more) = refl
+
+list_kept : {text : List ℕ} {cs : List Comparator} → IsNormalList text cs → kept_range cs ≡ folded (map comparator_range cs)
+list_kept (last_item {v = c} a) = one_kept c a
+list_kept (closed_item {v = c} a s) = one_kept c a
+list_kept (more_items {v = c} {vs = cs} a s more) = many_kept c cs more
+
+fits_split : (cs : List Comparator) → list_all numbers_fit cs ≡ true → list_all sums_fit cs ≡ true → list_all fits cs ≡ true
+fits_split [] h k = refl
+fits_split (c ∷ cs) h k = and_both _ _
+    (and_both _ _ (and_first (numbers_fit c) _ h) (and_first (sums_fit c) _ k))
+    (fits_split cs (and_second (numbers_fit c) _ h) (and_second (sums_fit c) _ k))
+
+numbers_of : (cs : List Comparator) → list_all fits cs ≡ true → list_all numbers_fit cs ≡ true
+numbers_of [] h = refl
+numbers_of (c ∷ cs) h = and_both _ _ (and_first (numbers_fit c) _ (and_first (fits c) _ h)) (numbers_of cs (and_second (fits c) _ h))
+
+sums_of : (cs : List Comparator) → list_all fits cs ≡ true → list_all sums_fit cs ≡ true
+sums_of [] h = refl
+sums_of (c ∷ cs) h = and_both _ _ (and_second (numbers_fit c) _ (and_first (fits c) _ h)) (sums_of cs (and_second (fits c) _ h))
+
+module _ (b : Bool) (piece : List ℕ) where
+  -- a piece of comparators that pass no test which those that fit pass
+  never_good : (cs : List Comparator) → IsPiece Normal piece cs → (p : List Comparator → Bool) → p cs ≡ false → p [] ≡ true → ((ds : List Comparator) → list_all fits ds ≡ true → p ds ≡ true) → IsBad Normal b piece
+  never_good cs h p fails none passes = go
+    where
+      go : (ds : List Comparator) → IsGood Normal b piece ds → ⊥
+      go ds (inl k) = let same = (piece_one Normal).one piece ds cs k.0 h in let wrong : true ≡ false = sym (passes ds k.1) ∙ (ap p same ∙ fails) in cc wrong
+      go ds (inr k) = let same = blank_piece Normal piece cs h k.1 in let wrong : true ≡ false = sym none ∙ (ap p (sym same) ∙ fails) in cc wrong
+
+  list_read : (cs : List Comparator) → IsNormalList piece cs → IsPieceRead Normal b piece (joined cs)
+  list_read cs h = go (list_all numbers_fit cs) refl (list_all sums_fit cs) refl
+    where
+      go : (x : Bool) → list_all numbers_fit cs ≡ x → (y : Bool) → list_all sums_fit cs ≡ y
+          → IsPieceRead Normal b piece (if x then (if y then read.Range (folded (map comparator_range cs)) else read.Invalid BoundTooLarge) else read.Invalid NumberTooLarge)
+      go true numbers true sums = (cs, inl (listed_piece h, fits_split cs numbers sums), sym (list_kept h))
+      go true numbers false sums = (never_good cs (listed_piece h) (list_all sums_fit) sums refl sums_of, large_bound cs (listed_piece h) numbers sums)
+      go false numbers y sums = (never_good cs (listed_piece h) (list_all numbers_fit) numbers refl numbers_of, large_number cs (listed_piece h) numbers)
+
+  -- comparators and nothing more
+  pub whole_read : {cs : List Comparator} {rest : List ℕ} {answer : RangeOrInvalid} → IsLongest IsNormalList piece cs rest → answer ≡ joined cs → (length rest == 0) ≡ true → IsPieceRead Normal b piece answer
+  whole_read {cs} {rest} p seen empty =
+      let nil : rest ≡ [] = nil_from_length rest (grind (arith, nat_tests)) in
+      let whole : piece ≡ p.front = p.text_is ∙ (ap (λ t. p.front ++ t) nil ∙ append-nil p.front) in
+      subst (IsPieceRead Normal b piece) (sym seen) (list_read cs (rw whole p.stands))
+
+  -- no comparators, nor nothing, nor blanks that are followed by `||`
+  pub outside_read : ((cs : List Comparator) → IsNormalList piece cs → ⊥) → (IsEverything b piece → ⊥) → IsPieceRead Normal b piece (read.Invalid UnexpectedCharacter)
+  outside_read no_list other = (λ ds k. no_good ds k, outside no_piece)
+    where
+      no_piece : (cs : List Comparator) → IsPiece Normal piece cs → ⊥
+      no_piece [] h = other (inl h)
+      no_piece (c ∷ cs) h = no_list (c ∷ cs) h
+
+      no_good : (ds : List Comparator) → IsGood Normal b piece ds → ⊥
+      no_good ds (inl k) = no_piece ds k.0
+      no_good ds (inr k) = other (inr (k.0, k.1))
+
+pub none_whole : {piece : List ℕ} → HasNone IsNormalList piece → (cs : List Comparator) → IsNormalList piece cs → ⊥
+none_whole {piece} n cs h = n.none piece [] cs (sym (append-nil piece)) h
+
+pub more_follows : {piece rest : List ℕ} {cs : List Comparator} → IsLongest IsNormalList piece cs rest → (length rest == 0) ≡ false → (ds : List Comparator) → IsNormalList piece ds → ⊥
+more_follows {piece} {rest} p full ds h =
+    let some : 0 < length rest = grind (arith, nat_tests) in
+    omega (arith, some, (p.longest piece [] ds (sym (append-nil piece)) h).0, ap length p.text_is, length-append p.front rest)
+
+-- ---- the pieces of a text
+
+module _ {f : Flavour} where
+  goods_more : {ps ms : List (List ℕ)} {t u : List (List Comparator)} → AreGoodOnes f false ps t → AreGoodOnes f false ms u → AreGoodOnes f false (ps ++ ms) (t ++ u)
+  goods_more none_left n = n
+  goods_more (good g m) n = good g (goods_more m n)
+  goods_more (bad g m) n = bad g (goods_more m n)
+
+  goods_after : {b : Bool} {p : List ℕ} {ps ms : List (List ℕ)} {t u : List (List Comparator)} → AreGoodOnes f b (p ∷ ps) t → AreGoodOnes f false ms u → AreGoodOnes f b ((p ∷ ps) ++ ms) (t ++ u)
+  goods_after (good g m) n = good g (goods_more m n)
+  goods_after (bad g m) n = bad g (goods_more m n)
+
+  goods_few : {b : Bool} {ps : List (List ℕ)} {t : List (List Comparator)} → AreGoodOnes f b ps t → length t ≤ length ps
+  goods_few none_left = omega arith
+  goods_few (good g m) = let fewer = goods_few m in omega arith
+  goods_few (bad g m) = let fewer = goods_few m in omega arith
+
+  first_stays : {b : Bool} {ps : List (List ℕ)} {refusal : Refusal} (ms : List (List ℕ)) → IsFirstBad f b ps refusal → IsFirstBad f b (ps ++ ms) refusal
+  first_stays ms (this_bad g r) = this_bad g r
+  first_stays ms (later_bad cs g m) = later_bad cs g (first_stays ms m)
+
+  -- all pieces so far are good, and the next one isn't
+  first_more : {ps : List (List ℕ)} {t : List (List Comparator)} {piece : List ℕ} {refusal : Refusal} → AreGoodOnes f false ps t → length t ≡ length ps → IsBad f false piece → IsPieceRefusal f piece refusal → IsFirstBad f false (ps ++ piece ∷ []) refusal
+  first_more none_left e g r = this_bad g r
+  first_more (good {cs = cs} h m) e g r = later_bad cs h (first_more m (omega (arith, e)) g r)
+  first_more (bad h m) e g r = absurd (let fewer = goods_few m in omega (arith, e, fewer))
+
+  first_after : {b : Bool} {p : List ℕ} {ps : List (List ℕ)} {t : List (List Comparator)} {piece : List ℕ} {refusal : Refusal} → AreGoodOnes f b (p ∷ ps) t → length t ≡ length (p ∷ ps) → IsBad f false piece → IsPieceRefusal f piece refusal → IsFirstBad f b ((p ∷ ps) ++ piece ∷ []) refusal
+  first_after (good {cs = cs} h m) e g r = later_bad cs h (first_more m (omega (arith, e)) g r)
+  first_after (bad h m) e g r = absurd (let fewer = goods_few m in omega (arith, e, fewer))
+
+-- ---- one piece more
+
+split_filter : (p : VersionRange → Bool) (xs ys : List VersionRange) → filter p (xs ++ ys) ≡ filter p xs ++ filter p ys
+split_filter p [] ys = refl
+split_filter p (x ∷ xs) ys = go (p x) (split_filter p xs ys)
+  where
+    go : (b : Bool) → filter p (xs ++ ys) ≡ filter p xs ++ filter p ys → (if b then x ∷ filter p (xs ++ ys) else filter p (xs ++ ys)) ≡ (if b then x ∷ filter p xs else filter p xs) ++ filter p ys
+    go true same = ap (λ (rest : List VersionRange). x ∷ rest) same
+    go false same = same
+
+without_one : (range : VersionRange) → without_none (range ∷ []) ≡ option_to_list (kept_of (read.Range range))
+without_one range = go (ends_at_zero range.end)
+  where
+    go : (b : Bool) → (if not b then range ∷ [] else []) ≡ option_to_list (if b then None else Some range)
+    go true = refl
+    go false = refl
+
+kept_more : (tree : List (List Comparator)) (cs : List Comparator) → kept Normal (tree ++ cs ∷ []) ≡ kept Normal tree ++ option_to_list (kept_of (read.Range (kept_range cs)))
+kept_more tree cs =
+    ap without_none (map-append kept_range tree (cs ∷ []))
+    ∙ split_filter (λ range. not (ends_at_zero range.end)) (map kept_range tree) (kept_range cs ∷ [])
+    ∙ ap (λ (rest : List VersionRange). without_none (map kept_range tree) ++ rest) (without_one (kept_range cs))
+
+one_longer : {A : Type 0} (xs : List A) (x : A) → length (xs ++ x ∷ []) ≡ suc (length xs)
+one_longer xs x = omega (arith, length-append xs (x ∷ []))
+
+module _ (b : Bool) (p : List ℕ) (ps : List (List ℕ)) (piece : List ℕ) (tree : List (List Comparator)) where
+  told_good : (o : Option Refusal) → IsTold Normal b (p ∷ ps) tree o → (cs : List Comparator) → IsTold Normal b ((p ∷ ps) ++ piece ∷ []) (tree ++ cs ∷ []) o
+  told_good None told cs = omega (arith, told, length-append tree (cs ∷ []), length-append ps (piece ∷ []))
+  told_good (Some refusal) told cs = (omega (arith, told.0, length-append tree (cs ∷ []), length-append ps (piece ∷ [])), first_stays (piece ∷ []) told.1)
+
+  told_bad : AreGoodOnes Normal b (p ∷ ps) tree → (o : Option Refusal) → IsTold Normal b (p ∷ ps) tree o → (refusal : Refusal) → IsBad Normal false piece → IsPieceRefusal Normal piece refusal
+      → IsTold Normal b ((p ∷ ps) ++ piece ∷ []) tree (first_refusal o (read.Invalid refusal))
+  told_bad goods None told refusal g r = (omega (arith, told, length-append ps (piece ∷ [])), first_after goods told g r)
+  told_bad goods (Some first) told refusal g r = (omega (arith, told.0, length-append ps (piece ∷ [])), first_stays (piece ∷ []) told.1)
+
+told_same : (o : Option Refusal) (range : VersionRange) → first_refusal o (read.Range range) ≡ o
+told_same None range = refl
+told_same (Some refusal) range = refl
+
+none_only : (p : List ℕ) (ps : List (List ℕ)) (piece : List ℕ) → false ≡ (length ((p ∷ ps) ++ piece ∷ []) == 1)
+none_only p ps piece = let more : 0 < length (ps ++ piece ∷ []) = omega (arith, length-append ps (piece ∷ [])) in grind (arith, nat_tests)
+
+-- a further piece is read
+pub read_more : (b : Bool) (p : List ℕ) (ps : List (List ℕ)) (old new : Alternatives) (piece : List ℕ) (answer : RangeOrInvalid)
+    → AreRead Normal b (p ∷ ps) old → IsPieceRead Normal false piece answer
+    → new.ranges ≡ old.ranges ++ option_to_list (kept_of answer) → new.refused ≡ first_refusal old.refused answer → new.is_only ≡ false → AreRead Normal b ((p ∷ ps) ++ piece ∷ []) new
+read_more b p ps old new piece (read.Range range) all h ranges refused only = record {
+  tree = all.tree ++ h.0 ∷ [];
+  good_ones = goods_after all.good_ones (good h.1 none_left);
+  kept = ranges ∙ (ap₂ (λ (xs : List VersionRange) (r : VersionRange). xs ++ option_to_list (kept_of (read.Range r))) all.kept h.2 ∙ sym (kept_more all.tree h.0));
+  told = subst (IsTold Normal b ((p ∷ ps) ++ piece ∷ []) (all.tree ++ h.0 ∷ [])) (sym (refused ∙ told_same old.refused range)) (told_good b p ps piece all.tree old.refused all.told h.0);
+  is_only = only ∙ none_only p ps piece;
+}
+read_more b p ps old new piece (read.Invalid refusal) all h ranges refused only = record {
+  tree = all.tree;
+  good_ones = rw append-nil at (goods_after all.good_ones (bad h.0 none_left));
+  kept = ranges ∙ (append-nil old.ranges ∙ all.kept);
+  told = subst (IsTold Normal b ((p ∷ ps) ++ piece ∷ []) all.tree) (sym refused) (told_bad b p ps piece all.tree all.good_ones old.refused all.told refusal h.0 h.1);
+  is_only = only ∙ none_only p ps piece;
+}
+
+-- the first piece is read
+pub read_first : (b : Bool) (new : Alternatives) (piece : List ℕ) (answer : RangeOrInvalid) → IsPieceRead Normal b piece answer
+    → new.ranges ≡ option_to_list (kept_of answer) → new.refused ≡ first_refusal None answer → new.is_only ≡ true → AreRead Normal b (piece ∷ []) new
+read_first b new piece (read.Range range) h ranges refused only = record {
+  tree = h.0 ∷ [];
+  good_ones = good h.1 none_left;
+  kept = ranges ∙ (ap (λ (r : VersionRange). option_to_list (kept_of (read.Range r))) h.2 ∙ sym (without_one (kept_range h.0)));
+  told = subst (IsTold Normal b (piece ∷ []) (h.0 ∷ [])) (sym refused) refl;
+  is_only = only;
+}
+read_first b new piece (read.Invalid refusal) h ranges refused only =
+    let none_good : IsTold Normal b (piece ∷ []) [] (Some refusal) = (omega arith, this_bad h.0 h.1) in
+    record {
+      tree = [];
+      good_ones = bad h.0 none_left;
+      kept = ranges;
+      told = subst (IsTold Normal b (piece ∷ []) []) (sym refused) none_good;
+      is_only = only;
+    }
+
+-- ---- the text
+
+module _ {text piece rest : List ℕ} {b : Bool} {all : Alternatives} (first : IsFirstPiece text piece b rest) (h : AreAllRead Normal piece b rest all) where
+  pieces : ArePieces text b (piece ∷ h.others)
+  pieces = first h.others h.more
+
+  one_tree : {p : List ℕ} {t : List (List Comparator)} → AreGoodOnes Normal b (p ∷ []) t → length t ≡ 1 → ArePieces text b (p ∷ []) → IsCutOutcome Normal text (Ranges t)
+  one_tree (good g none_left) size k = one_good k g
+  one_tree (bad g none_left) size k = absurd (omega (arith, size))
+
+  one_refused : {p : List ℕ} {t : List (List Comparator)} → AreGoodOnes Normal b (p ∷ []) t → length t < 1 → ArePieces text b (p ∷ []) → (o : Outcome) → IsTagOr (trim p) o → IsCutOutcome Normal text o
+  one_refused (good g none_left) fewer k o t = absurd (omega (arith, fewer))
+  one_refused (bad g none_left) fewer k o t = one_bad k g t
+
+  all_good : (others : List (List ℕ)) → ArePieces text b (piece ∷ others) → AreGoodOnes Normal b (piece ∷ others) h.read.tree → length h.read.tree ≡ length (piece ∷ others) → IsCutOutcome Normal text (Ranges h.read.tree)
+  all_good [] k m size = one_tree m size k
+  all_good (q ∷ more) k m size = normal_many k m size
+
+  pub ranges_read : {answer : RangeSetOrTag} → all.refused ≡ None → answer ≡ inner.RangeSet (record { 0 = all.ranges }) → IsReading Normal text answer
+  ranges_read none is = record {
+    outcome = Ranges h.read.tree;
+    is_outcome = all_good h.others pieces h.read.good_ones (rw none at h.read.told);
+    is_read = is ∙ ap (λ (ranges : List VersionRange). inner.RangeSet (record { 0 = ranges })) h.read.kept;
+  }
+
+  only_one : (others : List (List ℕ)) → (length (piece ∷ others) == 1) ≡ true → others ≡ []
+  only_one others e = nil_from_length others (grind (arith, nat_tests))
+
+  module _ {refusal : Refusal} (some : all.refused ≡ Some refusal) where
+    told : (length h.read.tree < length (piece ∷ h.others)) × IsFirstBad Normal b (piece ∷ h.others) refusal
+    told = rw some at h.read.told
+
+    pub first_refused : {failure : Failure} → (failure ≡ None) ⊎ (failure ≡ refusal_failure refusal) → IsNormalRefusal text failure
+    first_refused (inl e) = rw e memory_wanting
+    first_refused (inr e) = rw e (bad_piece pieces told.1)
+
+    many_bad : (others : List (List ℕ)) → (length (piece ∷ others) == 1) ≡ false → ArePieces text b (piece ∷ others) → AreGoodOnes Normal b (piece ∷ others) h.read.tree → length h.read.tree < length (piece ∷ others) → IsCutOutcome Normal text Refused
+    many_bad [] e k m fewer = cc e
+    many_bad (q ∷ more) e k m fewer = normal_refused k m fewer
+
+    pub many_refused : all.is_only ≡ false → IsOutcome Normal text Refused
+    many_refused more = many_bad h.others (sym h.read.is_only ∙ more) pieces h.read.good_ones told.0
+
+    module _ (only : all.is_only ≡ true) where
+      tag_outcome : (o : Outcome) → IsTagOr (trim piece) o → IsOutcome Normal text o
+      tag_outcome o t =
+          let nil = only_one h.others (sym h.read.is_only ∙ only) in
+          one_refused (rw nil at h.read.good_ones) (rw nil at told.0) (rw nil at pieces) o t
+
+      pub tag_read : (answer : RangeSetOrTag) → (answer ≡ inner.Tag (trim piece)) × (is_valid_tag (trim piece) ≡ true) → IsReading Normal text answer
+      tag_read answer t = record { outcome = Tag (trim piece); is_outcome = tag_outcome (Tag (trim piece)) (tag t.1); is_read = t.0 }
+
+      pub tag_refused : (failure : Failure) → (failure ≡ None) ⊎ ((failure ≡ refusal_failure refusal) × (is_valid_tag (trim piece) ≡ false)) → (failure ≡ None) ⊎ IsOutcome Normal text Refused
+      tag_refused failure (inl e) = inl e
+      tag_refused failure (inr k) = inr (tag_outcome Refused (no_tag k.1))
+
+      pub tag_refusal : (failure : Failure) → (failure ≡ None) ⊎ ((failure ≡ refusal_failure refusal) × (is_valid_tag (trim piece) ≡ false)) → IsNormalRefusal text failure
+      tag_refusal failure (inl e) = first_refused (inl e)
+      tag_refusal failure (inr k) = first_refused (inr k.0)

@@ -1,0 +1,66 @@
+-- What is read of a piece, and why a bad one is bad.
+use Rattle.std.specs.Prelude.{◌≡◌, ℕ, List, [], ◌∷◌, map, Bool, true, false, Option, Some, None, if◌then◌else◌}
+use Rattle.std.specs.List.{list_all}
+use Rattle.semver_base.specs.Failure.{refusal_message}
+use Rattle.semver_base.specs.Overlap.{ends_at_zero}
+use Rattle.semver_base.specs.PartialTable.{all_fit}
+use Rattle.semver_base.specs.declared.failure.Refusal.{Refusal}
+use Rattle.semver_base.specs.declared.failure.Refusal.TheVariants.{BoundTooLarge, NumberTooLarge, UnexpectedCharacter}
+use Rattle.semver_base.specs.declared.range.VersionRange.{VersionRange}
+use Rattle.semver_req.specs.Comparators.{Comparator, comparator_line, comparator_numbers, comparator_range}
+use Rattle.semver_req.specs.KeptSet.{folded, kept_range}
+use Rattle.semver_req.specs.Outcome.{IsBad, IsGood}
+use Rattle.semver_req.specs.Pieces.{ArePieces, IsPiece}
+use Rattle.semver_req.specs.Readers.{Failure}
+use Rattle.semver_req.specs.declared.common.values.Flavour.{Flavour}
+use Rattle.semver_req.specs.declared.common.values.Flavour.TheVariants.{Normal}
+use Rattle.semver_req.specs.declared.range_set_or_tag.RangeOrInvalid.{RangeOrInvalid}
+use Rattle.semver_req.specs.declared.range_set_or_tag.RangeOrInvalid.TheVariants as read
+
+-- ---- comparators that are joined
+
+abbrev pub numbers_fit : Comparator → Bool
+numbers_fit c = all_fit (comparator_numbers c)
+
+abbrev pub sums_fit : Comparator → Bool
+sums_fit c = all_fit (comparator_line c).sums
+
+-- their range, unless a number among them is too large, or else a bound
+abbrev pub joined : List Comparator → RangeOrInvalid
+joined cs =
+    if list_all numbers_fit cs then (if list_all sums_fit cs then read.Range (folded (map comparator_range cs)) else read.Invalid BoundTooLarge)
+    else read.Invalid NumberTooLarge
+
+-- ---- a piece
+
+-- why the piece is bad: it is outside the grammar, or a number in it is too large, or else a bound
+pub data IsPieceRefusal (f : Flavour) (piece : List ℕ) : Refusal → Type 0 where
+  outside : ((cs : List Comparator) → IsPiece f piece cs → ⊥) → IsPieceRefusal f piece UnexpectedCharacter
+  large_number : (cs : List Comparator) → IsPiece f piece cs → list_all numbers_fit cs ≡ false → IsPieceRefusal f piece NumberTooLarge
+  large_bound : (cs : List Comparator) → IsPiece f piece cs → list_all numbers_fit cs ≡ true → list_all sums_fit cs ≡ false → IsPieceRefusal f piece BoundTooLarge
+
+-- what is read of a piece, which is followed by `||` or not
+abbrev pub IsPieceRead : Flavour → Bool → List ℕ → RangeOrInvalid → Type 0
+IsPieceRead f followed piece (read.Range range) = (cs : List Comparator) × IsGood f followed piece cs × (range ≡ kept_range cs)
+IsPieceRead f followed piece (read.Invalid refusal) = IsBad f followed piece × IsPieceRefusal f piece refusal
+
+-- the range that a set keeps of a piece: none of a bad one, nor one that ends below 0.0.0
+abbrev pub kept_of : RangeOrInvalid → Option VersionRange
+kept_of (read.Range range) = if ends_at_zero range.end then None else Some range
+kept_of (read.Invalid refusal) = None
+
+-- ---- a text
+
+-- the first bad piece is bad for this reason; true where the first piece is followed by `||`
+pub data IsFirstBad (f : Flavour) : Bool → List (List ℕ) → Refusal → Type 0 where
+  this_bad : {b : Bool} {piece : List ℕ} {pieces : List (List ℕ)} {refusal : Refusal} → IsBad f b piece → IsPieceRefusal f piece refusal → IsFirstBad f b (piece ∷ pieces) refusal
+  later_bad : {b : Bool} {piece : List ℕ} {pieces : List (List ℕ)} {refusal : Refusal} (cs : List Comparator) → IsGood f b piece cs → IsFirstBad f false pieces refusal → IsFirstBad f b (piece ∷ pieces) refusal
+
+-- the failure that tells a refusal, and names no part of the text
+abbrev pub refusal_failure : Refusal → Failure
+refusal_failure refusal = Some (refusal_message refusal, None)
+
+-- why the normalized reader refuses a text, and the failure that tells it
+pub data IsNormalRefusal (text : List ℕ) : Failure → Type 0 where
+  memory_wanting : IsNormalRefusal text None
+  bad_piece : {b : Bool} {pieces : List (List ℕ)} {refusal : Refusal} → ArePieces text b pieces → IsFirstBad Normal b pieces refusal → IsNormalRefusal text (refusal_failure refusal)

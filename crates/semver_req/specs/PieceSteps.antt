@@ -1,0 +1,67 @@
+-- The steps in which the pieces of a text are read; no public call speaks of them.
+use Rattle.std.specs.Prelude.{◌≡◌, ◌<◌, ◌==◌, ◌⊎◌, ℕ, List, [], ◌∷◌, ◌++◌, length, Bool, true, Option, Some, None}
+use Rattle.std.specs.Borrow.{Bor}
+use Rattle.std.specs.Option.{option_to_list}
+use Rattle.semver_base.specs.Lexical.{IsBlanks}
+use Rattle.semver_base.specs.declared.failure.Refusal.{Refusal}
+use Rattle.semver_req.specs.Comparators.{Comparator}
+use Rattle.semver_req.specs.KeptSet.{kept}
+use Rattle.semver_req.specs.Outcome.{AreGoodOnes}
+use Rattle.semver_req.specs.PieceReading.{IsFirstBad, kept_of}
+use Rattle.semver_req.specs.Pieces.{AreMorePieces, ArePieces}
+use Rattle.semver_req.specs.declared.common.values.Flavour.{Flavour}
+use Rattle.semver_req.specs.declared.range_set_or_tag.Alternatives.{Alternatives}
+use Rattle.semver_req.specs.declared.range_set_or_tag.RangeOrInvalid.{RangeOrInvalid}
+use Rattle.semver_req.specs.declared.range_set_or_tag.RangeOrInvalid.TheVariants as read
+
+-- ---- cutting
+
+-- the first piece of a text, and what follows its `||`; nothing follows the only one
+abbrev pub IsFirstPiece : List ℕ → List ℕ → Bool → List ℕ → Type 0
+IsFirstPiece text piece followed rest = (pieces : List (List ℕ)) → AreMorePieces rest pieces → ArePieces text followed (piece ∷ pieces)
+
+-- the next piece of what follows a `||`, and what follows it in turn
+abbrev pub IsNextPiece : List ℕ → Option (List ℕ × List ℕ) → Type 0
+IsNextPiece rest None = AreMorePieces rest []
+IsNextPiece rest (Some p) = ((pieces : List (List ℕ)) → AreMorePieces p.1 pieces → AreMorePieces rest (p.0 ∷ pieces)) × (length p.1 < length rest)
+
+-- two texts behind references
+abbrev pub both_now : Option (Bor (List ℕ) × Bor (List ℕ)) → Option (List ℕ × List ℕ)
+both_now None = None
+both_now (Some p) = Some (p.0.now, p.1.now)
+
+-- ---- reading
+
+-- the piece is nothing, or blanks that are followed by `||`
+abbrev pub IsEverything : Bool → List ℕ → Type 0
+IsEverything followed piece = (piece ≡ []) ⊎ ((followed ≡ true) × IsBlanks piece tt)
+
+-- why the first bad piece is bad, with one more piece
+abbrev pub first_refusal : Option Refusal → RangeOrInvalid → Option Refusal
+first_refusal (Some refusal) piece = Some refusal
+first_refusal None (read.Range range) = None
+first_refusal None (read.Invalid refusal) = Some refusal
+
+pub record IsOneMore (piece : RangeOrInvalid) (old new : Alternatives) : Type 0 where
+  pub ranges : new.ranges ≡ old.ranges ++ option_to_list (kept_of piece)
+  pub refused : new.refused ≡ first_refusal old.refused piece
+  pub is_only : new.is_only ≡ old.is_only
+
+-- all of the pieces are good, or the first bad one is bad for this reason
+abbrev pub IsTold : Flavour → Bool → List (List ℕ) → List (List Comparator) → Option Refusal → Type 0
+IsTold f b pieces tree None = length tree ≡ length pieces
+IsTold f b pieces tree (Some refusal) = (length tree < length pieces) × IsFirstBad f b pieces refusal
+
+-- these pieces were read so
+pub record AreRead (f : Flavour) (b : Bool) (pieces : List (List ℕ)) (all : Alternatives) : Type 0 where
+  pub tree : List (List Comparator)
+  pub good_ones : AreGoodOnes f b pieces tree
+  pub kept : all.ranges ≡ kept f tree
+  pub told : IsTold f b pieces tree all.refused
+  pub is_only : all.is_only ≡ (length pieces == 1)
+
+-- the first piece, and those of what follows its `||`
+pub record AreAllRead (f : Flavour) (piece : List ℕ) (b : Bool) (rest : List ℕ) (all : Alternatives) : Type 0 where
+  pub others : List (List ℕ)
+  pub more : AreMorePieces rest others
+  pub read : AreRead f b (piece ∷ others) all
