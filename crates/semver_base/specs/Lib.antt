@@ -8,5 +8,5 @@ pub mod PartialTable
 pub mod Precedence
 pub mod PrecedenceLaws
 pub mod VersionGrammar
-pub mod VersionSteps
+pub mod VersionReaderSteps
 pub mod VersionText

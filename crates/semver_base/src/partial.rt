@@ -2,7 +2,7 @@
 
 ghost use Rattle.std.specs.Prelude.{◌≡◌, ◌+◌, ◌∷◌, [], IfOk, IfErr, OnOk, true};
 ghost use Rattle.semver_base.specs.Meaning.{from, release, to_below};
-ghost use Rattle.semver_base.specs.PartialTable.{IsBoundRefusal, all_fit, between, caret, equal, greater_range, greater_than, less_than, lowest, or_zero, pre_of, tilde, upper, without_build};
+ghost use Rattle.semver_base.specs.PartialTable.{IsBoundRefusal, all_fit, between, caret, equal, greater_range, greater_than, less_than, lowest, or_zero, version_with_pre, tilde, upper, without_build};
 
 use crate::failure::{ParseFailure, Refusal};
 use crate::range::{RangeBound, VersionBoundKind, VersionRange};
@@ -245,7 +245,7 @@ impl Partial {
     fn without_build(&self, alloc: Global) -> Result<Version, AllocError>
         ensures { IfOk result (λ version. version ≡ without_build self.now) }
     {
-        self.pre_release_of(
+        self.version_with_pre(
             alloc,
             or_zero(self.major),
             or_zero(self.minor),
@@ -254,14 +254,14 @@ impl Partial {
     }
 
     // The version of these three numbers with the partial's pre-release.
-    fn pre_release_of(
+    fn version_with_pre(
         &self,
         alloc: Global,
         major: u64,
         minor: u64,
         patch: u64,
     ) -> Result<Version, AllocError>
-        ensures { IfOk result (λ version. version ≡ pre_of self.now major minor patch) }
+        ensures { IfOk result (λ version. version ≡ version_with_pre self.now major minor patch) }
     {
         Ok(Version {
             major,
@@ -365,7 +365,7 @@ impl Partial {
             }
             (XRange::Val(major), XRange::Wildcard, XRange::Val(patch)) => {
                 let next = raised(alloc, major)?;
-                RangeBound::exclusive(self.pre_release_of(alloc, next, 0, patch)?)
+                RangeBound::exclusive(self.version_with_pre(alloc, next, 0, patch)?)
             }
             (XRange::Val(major), XRange::Val(minor), XRange::Wildcard) => {
                 let next = raised(alloc, minor)?;
@@ -386,7 +386,7 @@ impl Partial {
             (XRange::Wildcard, _, _) => return Ok(VersionRange::none(alloc)),
             (XRange::Val(major), XRange::Wildcard, XRange::Wildcard) => release(alloc, major, 0, 0),
             (XRange::Val(major), XRange::Wildcard, XRange::Val(patch)) => {
-                self.pre_release_of(alloc, major, 0, patch)?
+                self.version_with_pre(alloc, major, 0, patch)?
             }
             (XRange::Val(major), XRange::Val(minor), XRange::Wildcard) => {
                 release(alloc, major, minor, 0)
