@@ -2,9 +2,8 @@
 
 ghost use Rattle.std.specs.Prelude.{◌≡◌, []};
 
-use crate::string::CowVec;
-use crate::version::VersionPreOrBuild;
-use std::alloc::Global;
+use crate::string::{CowVec, SmallStackString};
+use std::alloc::{AllocError, Global};
 
 /// Which grammar a word is read by.
 #[derive(Clone, Copy, Debug, PartialEq, Eq)]
@@ -27,8 +26,8 @@ pub enum Measured<T> {
 /// The pre-release and the build of a version, each a list of identifiers that may be empty.
 #[derive(Drop)]
 pub struct Qualifier {
-    pub pre: CowVec<VersionPreOrBuild>,
-    pub build: CowVec<VersionPreOrBuild>,
+    pub pre: CowVec<SmallStackString>,
+    pub build: CowVec<SmallStackString>,
 }
 
 impl Qualifier {
