@@ -108,11 +108,7 @@ impl Version {
         ensures equal { (result ≡ Ordering.Equal) ↔ SamePrecedence self.now other.now }
         ensures total { IsTotalOrder precedence_cmp }
     {
-        self.major
-            .cmp(&other.major)
-            .then(self.minor.cmp(&other.minor))
-            .then(self.patch.cmp(&other.patch))
-            .then(cmp_pre(self.pre.as_slice(), other.pre.as_slice()))
+        precedence(self, other)
     }
 }
 
@@ -216,7 +212,7 @@ fn cmp_identifier(a: &str, b: &str) -> Ordering
     ensures { result ≡ identifier_cmp a.now b.now }
 {
     match (number(a), number(b)) {
-        (Some(x), Some(y)) => x.cmp(&y).then(a.cmp(b)),
+        (Some(x), Some(y)) => x.cmp(&y).then_with(|| a.cmp(b)),
         (Some(_), None) => Ordering::Less,
         (None, Some(_)) => Ordering::Greater,
         (None, None) => a.cmp(b),
@@ -226,9 +222,8 @@ fn cmp_identifier(a: &str, b: &str) -> Ordering
 fn cmp_identifiers(a: &[VersionPreOrBuild], b: &[VersionPreOrBuild]) -> Ordering
     ensures { result ≡ slice_cmp identifier_cmp a.now b.now }
 {
-    let shared = a.len().min(b.len());
-    for i in 0..shared {
-        let ordering = cmp_identifier(a[i].as_str(), b[i].as_str());
+    for (x, y) in a.iter().zip(b) {
+        let ordering = cmp_identifier(x.as_str(), y.as_str());
         if ordering != Ordering::Equal {
             return ordering;
         }
@@ -245,6 +240,22 @@ fn cmp_pre(a: &[VersionPreOrBuild], b: &[VersionPreOrBuild]) -> Ordering
         (false, true) => Ordering::Less,
         (false, false) => cmp_identifiers(a, b),
     }
+}
+
+// Precedence, by the first number that differs; pre-releases are compared only where all three tie.
+fn precedence(a: &Version, b: &Version) -> Ordering
+    ensures { result ≡ precedence_cmp a.now b.now }
+{
+    if a.major != b.major {
+        return a.major.cmp(&b.major);
+    }
+    if a.minor != b.minor {
+        return a.minor.cmp(&b.minor);
+    }
+    if a.patch != b.patch {
+        return a.patch.cmp(&b.patch);
+    }
+    cmp_pre(a.pre.as_slice(), b.pre.as_slice())
 }
 
 impl PartialOrd for Version {
@@ -268,6 +279,6 @@ impl Ord for Version {
 
     fn cmp(&self, other: &Version) -> Ordering {
         self.cmp_precedence(other)
-            .then(self.build.as_slice().cmp(other.build.as_slice()))
+            .then_with(|| self.build.as_slice().cmp(other.build.as_slice()))
     }
 }
