@@ -151,9 +151,17 @@ fn fitting_number(text: &str) -> Result<(u64, &str), Refusal>
     }
 }
 
+// The three numbers of a version.
+#[derive(Clone, Copy)]
+struct Numbers {
+    major: u64,
+    minor: u64,
+    patch: u64,
+}
+
 // The three numbers at the front, where they fit.
-fn triple(text: &str) -> Result<((u64, (u64, u64)), &str), Refusal>
-    ensures read { IfOk result (λ r. IsFittingTriple text.now r.0 r.1.now) }
+fn triple(text: &str) -> Result<(Numbers, &str), Refusal>
+    ensures read { IfOk result (λ r. IsFittingTriple text.now (r.0.major, (r.0.minor, r.0.patch)) r.1.now) }
     ensures refused { IfErr result (IsTripleRefusal text.now) }
 {
     let (major, rest) = fitting_number(text)?;
@@ -165,7 +173,12 @@ fn triple(text: &str) -> Result<((u64, (u64, u64)), &str), Refusal>
         return Err(Refusal::MissingPatch);
     };
     let (patch, rest) = fitting_number(rest)?;
-    Ok(((major, (minor, patch)), rest))
+    let numbers = Numbers {
+        major,
+        minor,
+        patch,
+    };
+    Ok((numbers, rest))
 }
 
 // The failure of a refused version text.
@@ -184,7 +197,7 @@ fn read(alloc: Global, text: &str) -> Result<Version, ParseFailure>
     ensures read { IfOk result (IsReadVersion text.now) }
     ensures refused { IfErr result (IsVersionRefusal text.now) }
 {
-    let ((major, (minor, patch)), rest) = match triple(after_lead(text)) {
+    let (numbers, rest) = match triple(after_lead(text)) {
         Ok(read) => read,
         Err(refusal) => return Err(failure(alloc, refusal, text)),
     };
@@ -193,9 +206,9 @@ fn read(alloc: Global, text: &str) -> Result<Version, ParseFailure>
         return Err(failure(alloc, Refusal::UnexpectedCharacter, text));
     }
     Ok(Version {
-        major,
-        minor,
-        patch,
+        major: numbers.major,
+        minor: numbers.minor,
+        patch: numbers.patch,
         pre: qualifier.pre,
         build: qualifier.build,
     })
