@@ -39,6 +39,23 @@ impl VersionParseError {
     {
         self.source.is_memory()
     }
+
+    /// The same error again. It is an error only where no memory is left.
+    pub fn copy(&self) -> Result<VersionParseError, AllocError>
+        ensures { IfOk result (λ error. error ≡ self.now) }
+    {
+        Ok(VersionParseError {
+            source: self.source.copy()?,
+        })
+    }
+}
+
+impl From<VersionParseError> for ParseFailure {
+    ghost from_gives = { λ error failure. failure ≡ error.source };
+
+    fn from(error: VersionParseError) -> ParseFailure {
+        error.source
+    }
 }
 
 /// A version of SemVer 2.0.0: three numbers, the identifiers of its pre-release and those of its build, either of
@@ -46,7 +63,7 @@ impl VersionParseError {
 ///
 /// Versions are equal where all of this is. Their order is precedence, where versions that it leaves equal are in the
 /// dictionary order of their builds.
-#[derive(PartialEq, Eq, Hash, Drop)]
+#[derive(PartialEq, Eq, Hash, Debug, Drop)]
 pub struct Version {
     pub major: u64,
     pub minor: u64,
