@@ -1,19 +1,21 @@
--- Blanks at the front of a text.
+-- Blanks at the front of a text, and texts of blanks alone.
 use Rattle.std.proofs.Common.{◌≡◌, ◌≤◌, ◌<◌, ℕ, Bool, true, List, [], ◌∷◌, ◌++◌, length, take, get_or, refl, sym, ap, ◌∙◌, arith, inl, inr, append_assoc, append-nil, length-append}
-use Rattle.std.specs.Prelude.{◌||◌, nat_le}
+use Rattle.std.specs.Prelude.{◌↔◌, ◌==◌, ◌||◌, nat_le, IsTrue, IsUtf8}
 use Rattle.std.specs.Char.{is_not_whitespace, is_whitespace}
 use Rattle.std.specs.List.{list_all}
-use Rattle.std.specs.Str.{EmptyOrStartsWithPassing, IsTrimStart, NonePass, NoCharPasses, encode_utf8_all}
+use Rattle.std.specs.Str.{EmptyOrStartsWithPassing, IsTrimStart, NonePass, NoCharPasses, chars, encode_utf8_all}
 use Rattle.std.specs.Prelude.{encode_utf8}
-use Rattle.std.proofs.lemmas.Str.{encode_same, inside_one, len_utf8_bounds, length-encode}
+use Rattle.std.proofs.lemmas.Bool.Decides.{nat_tests, same_from_decides}
+use Rattle.std.proofs.lemmas.Str.{chars_from_encodes, encode_same, encodes-chars, inside_one, len_utf8_bounds, length-encode}
 use Rattle.std.proofs.lemmas.List.Sums.{list_all-from_AllPass}
 use Rattle.std.proofs.lemmas.List.Elements.{All-from_get_or}
-use Rattle.std.proofs.lemmas.List.{take-append-drop}
+use Rattle.std.proofs.lemmas.List.{nil_from_length, take-append-drop}
 use Rattle.std.proofs.lemmas.Bool.{both_ways, cases_lt, le-leb, not-false, or_left, or_right}
 use Rattle.semver_base.specs.Grammar.{HasNone, IsLongest}
 use Rattle.semver_base.specs.Lexical.{IsBlanks, IsSomeBlanks}
 use Rattle.semver_base.proofs.Fronts.{narrowed}
 use Rattle.semver_base.proofs.Bytes.{MadeOf, list_all-append}
+use Rattle.semver_base.proofs.Orders.{and_first, and_second}
 
 -- no blanks at the front are longer than those after which no blank follows
 no_longer : (cs ds rest b after : List ℕ) → NonePass is_not_whitespace cs → NonePass is_not_whitespace ds → EmptyOrStartsWithPassing is_not_whitespace rest after
@@ -75,3 +77,42 @@ some_blanks text rest p less = narrowed IsSomeBlanks (λ a w h. h.1) p (omega (a
 
 pub no_blanks : (text rest : List ℕ) → IsLongest IsBlanks text tt rest → length text ≤ length rest → HasNone IsSomeBlanks text
 no_blanks text rest p same_size = record { none = λ a b w e h. omega (arith, h.0, (p.longest a b tt e h.1).0, ap length p.text_is, length-append p.front rest, same_size) }
+
+-- ---- texts of blanks alone
+
+-- a text is blanks exactly where nothing follows the blanks at its front
+pub blank_whole : (text rest : List ℕ) (b : Bool) → b ≡ (length rest == 0) → IsLongest IsBlanks text tt rest → IsTrue b ↔ IsBlanks text tt
+blank_whole text rest b e p = (forward, backward)
+  where
+    forward : IsTrue b → IsBlanks text tt
+    forward h =
+        let nil : rest ≡ [] = nil_from_length rest (grind (arith, nat_tests)) in
+        let whole : text ≡ p.front = p.text_is ∙ (ap (λ t. p.front ++ t) nil ∙ append-nil p.front) in
+        rw whole p.stands
+
+    backward : IsBlanks text tt → IsTrue b
+    backward h =
+        let size : length rest ≡ 0 = omega (arith, (p.longest text [] tt (sym (append-nil text)) h).0, ap length p.text_is, length-append p.front rest) in
+        rw (e, size) refl
+
+all_white : (cs : List ℕ) → NonePass is_not_whitespace cs → list_all is_whitespace cs ≡ true
+all_white [] h = refl
+all_white (c ∷ cs) h = rw (not-false (is_whitespace c) h.0) (all_white cs h.1)
+
+none_other : (cs : List ℕ) → list_all is_whitespace cs ≡ true → NonePass is_not_whitespace cs
+none_other [] h = tt
+none_other (c ∷ cs) h = (rw (and_first (is_whitespace c) (list_all is_whitespace cs) h) refl, none_other cs (and_second (is_whitespace c) (list_all is_whitespace cs) h))
+
+-- a text is blanks exactly where each of its characters is white space
+pub blank_characters : (text : List ℕ) → IsUtf8 text → IsTrue (list_all is_whitespace (chars text)) ↔ IsBlanks text tt
+blank_characters text utf8 = (forward, backward)
+  where
+    forward : IsTrue (list_all is_whitespace (chars text)) → IsBlanks text tt
+    forward h = (chars text, encodes-chars text utf8, none_other (chars text) h)
+
+    backward : IsBlanks text tt → IsTrue (list_all is_whitespace (chars text))
+    backward h = rw (← chars_from_encodes h.0 text utf8 h.1) (all_white h.0 h.2)
+
+-- so what tells whether a text is blanks is that test
+pub blank_test : (text : List ℕ) (b : Bool) → IsUtf8 text → IsTrue b ↔ IsBlanks text tt → b ≡ list_all is_whitespace (chars text)
+blank_test text b utf8 told = same_from_decides b (list_all is_whitespace (chars text)) told (blank_characters text utf8)

@@ -2,6 +2,7 @@ pub mod Blanks
 pub mod Bytes
 pub mod ClampLemmas
 pub mod ClampMeaning
+pub mod Equality
 pub mod Fronts
 pub mod Lists
 pub mod MeaningLemmas

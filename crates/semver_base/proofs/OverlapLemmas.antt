@@ -9,7 +9,7 @@ use Rattle.std.specs.Ordering.{is_gt, is_le, is_lt, nat_cmp, ordering_then, Matc
 use Rattle.std.specs.declared.cmp.Ordering.{Ordering}
 use Rattle.std.specs.declared.cmp.Ordering.TheVariants.{Less, Equal, Greater}
 use Rattle.semver_base.specs.Meaning.{alternative_means, alternatives, bounds_hold, end_holds, is_above, is_below, is_release, start_holds, tree_means}
-use Rattle.semver_base.specs.Overlap.{ends_at_zero, is_exclusive, lies_below, overlap, some_overlap, starts_before, HoldNothingTogether, HoldsNoRelease, MatchNothingTogether}
+use Rattle.semver_base.specs.Overlap.{ends_at_zero, is_exclusive, lies_within, overlap, some_overlap, starts_before, HoldNothingTogether, HoldsNoRelease, MatchNothingTogether}
 use Rattle.semver_base.specs.Precedence.{precedence_cmp, pre_cmp}
 use Rattle.semver_base.specs.PrecedenceLaws.{precedence_total}
 use Rattle.semver_base.specs.declared.version.Version.{Version}
@@ -38,7 +38,7 @@ end_le kind.Inclusive r h = h
 end_le kind.Exclusive r h = rw (less_from r h) refl
 
 -- a start and an end that hold one version
-held_between : (k l : VersionBoundKind) (x y v : Version) → is_above k (precedence_cmp v x) ≡ true → is_below l (precedence_cmp v y) ≡ true → lies_below k l (precedence_cmp x y) ≡ true
+held_between : (k l : VersionBoundKind) (x y v : Version) → is_above k (precedence_cmp v x) ≡ true → is_below l (precedence_cmp v y) ≡ true → lies_within k l (precedence_cmp x y) ≡ true
 held_between kind.Exclusive l x y v h e =
     let above : precedence_cmp x v ≡ Less = turned precedence_total v x Greater (greater_from _ h) in
     ap is_lt (less_le precedence_total x v y above (end_le l _ e))

@@ -45,8 +45,8 @@ between low x high same pre lower upper =
     (record { major = major; minor = minor; patch = patch }, below_pre x.pre high.pre (le_then_first _ _ upper3) pre)
 
 -- the bound's version is a pre-release of the version's three numbers
-abbrev pub pre_of : Version → Version → Bool
-pre_of x v = has_pre_of (bound_at kind.Inclusive x) v
+abbrev pub is_pre_of : Version → Version → Bool
+is_pre_of x v = has_pre_of (bound_at kind.Inclusive x) v
 
 same_number : (a b : ℕ) → (a == b) ≡ true → a ≡ b
 same_number a b e = grind (arith, nat_tests)
@@ -58,7 +58,7 @@ not_true : (a : Bool) → not a ≡ true → a ≡ false
 not_true false e = refl
 not_true true e = cc e
 
-pre_numbers : (x v : Version) → pre_of x v ≡ true → SameNumbers x v
+pre_numbers : (x v : Version) → is_pre_of x v ≡ true → SameNumbers x v
 pre_numbers x v h =
     let rest = and_second _ _ h in
     let rest1 = and_second _ _ rest in
@@ -68,10 +68,10 @@ pre_numbers x v h =
       patch = same_number _ _ (and_second _ _ rest1);
     }
 
-pre_some : (x v : Version) → pre_of x v ≡ true → (length x.pre == 0) ≡ false
+pre_some : (x v : Version) → is_pre_of x v ≡ true → (length x.pre == 0) ≡ false
 pre_some x v h = not_true (length x.pre == 0) (and_first _ _ h)
 
-pre_from : (x v : Version) → SameNumbers x v → (length x.pre == 0) ≡ false → pre_of x v ≡ true
+pre_from : (x v : Version) → SameNumbers x v → (length x.pre == 0) ≡ false → is_pre_of x v ≡ true
 pre_from x v same pre = rw (pre, number_same x.major v.major same.major, number_same x.minor v.minor same.minor, number_same x.patch v.patch same.patch) refl
 
 same_back : (x y : Version) → SameNumbers x y → SameNumbers y x
@@ -81,14 +81,14 @@ same_on : (x y z : Version) → SameNumbers x y → SameNumbers y z → SameNumb
 same_on x y z h k = record { major = h.major ∙ k.major; minor = h.minor ∙ k.minor; patch = h.patch ∙ k.patch }
 
 -- a version between a start that admits the pre-release v and v itself admits v
-pub start_between : (x y v : Version) → is_release v ≡ false → pre_of x v ≡ true → is_le (precedence_cmp x y) ≡ true → is_le (precedence_cmp y v) ≡ true → pre_of y v ≡ true
+pub start_between : (x y v : Version) → is_release v ≡ false → is_pre_of x v ≡ true → is_le (precedence_cmp x y) ≡ true → is_le (precedence_cmp y v) ≡ true → is_pre_of y v ≡ true
 start_between x y v pre h lower upper =
     let same = pre_numbers x v h in
     let found = between x y v same pre lower upper in
     pre_from y v (same_on y x v (same_back x y found.0) same) found.1
 
 -- a version between v and an end that admits it admits it
-pub end_between : (x y v : Version) → pre_of x v ≡ true → is_le (precedence_cmp v y) ≡ true → is_le (precedence_cmp y x) ≡ true → pre_of y v ≡ true
+pub end_between : (x y v : Version) → is_pre_of x v ≡ true → is_le (precedence_cmp v y) ≡ true → is_le (precedence_cmp y x) ≡ true → is_pre_of y v ≡ true
 end_between x y v h lower upper =
     let found = between v y x (same_back x v (pre_numbers x v h)) (pre_some x v h) lower upper in
     pre_from y v (same_back v y found.0) found.1

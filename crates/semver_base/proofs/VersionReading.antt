@@ -9,7 +9,7 @@ use Rattle.std.proofs.lemmas.List.{nil_from_length}
 use Rattle.semver_base.specs.Grammar.{After, Followed, HasNone, IsLongest, IsSeen, Joined, Mapped, Marked, Optional, Run, Stops}
 use Rattle.semver_base.specs.Lexical.{IsBlanks, IsByte, IsLooseNumber, IsQualifier}
 use Rattle.semver_base.specs.VersionGrammar.{AllNumbersFit, IsFirstFault, IsLead, IsNumberFault, too_large, no_dot, later, IsTriple, IsVersion, IsVersionAnswer, IsVersionOutcome, is_version, is_fault, is_outside, IsVersionRefusal, LacksDot, NoDigitFollows, ignored, version_failure, version_of}
-use Rattle.semver_base.specs.VersionSteps.{IsFaultOfNumbers, IsFittingNumber, IsFittingTriple, IsNumberRefusal, IsOutsideTriple, IsReadVersion, IsTripleRefusal}
+use Rattle.semver_base.specs.VersionReaderSteps.{IsFaultOfNumbers, IsFittingNumber, IsFittingTriple, IsNumberRefusal, IsOutsideTriple, IsReadVersion, IsTripleRefusal}
 use Rattle.semver_base.specs.declared.failure.Refusal.{Refusal}
 use Rattle.semver_base.specs.declared.failure.Refusal.TheVariants.{UnexpectedCharacter, MissingMinor, MissingPatch}
 use Rattle.semver_base.specs.declared.lexical.values.Qualifier.{Qualifier}

@@ -7,6 +7,7 @@ pub mod Overlap
 pub mod PartialTable
 pub mod Precedence
 pub mod PrecedenceLaws
+pub mod Sameness
 pub mod VersionGrammar
-pub mod VersionSteps
+pub mod VersionReaderSteps
 pub mod VersionText

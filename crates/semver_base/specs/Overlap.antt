@@ -12,14 +12,14 @@ use Rattle.semver_base.specs.declared.range.VersionBoundKind.{VersionBoundKind}
 use Rattle.semver_base.specs.declared.range.VersionBoundKind.TheVariants as kind
 use Rattle.semver_base.specs.declared.range.VersionRange.{VersionRange}
 
--- a start of the first kind that compares so to an end of the second lies below it, or at it where both are inclusive
-abbrev pub lies_below : VersionBoundKind → VersionBoundKind → Ordering → Bool
-lies_below kind.Inclusive end order = is_below end order
-lies_below kind.Exclusive end order = is_lt order
+-- a start of the first kind that compares so to an end of the second is below it, or at it where both are inclusive
+abbrev pub lies_within : VersionBoundKind → VersionBoundKind → Ordering → Bool
+lies_within kind.Inclusive end order = is_below end order
+lies_within kind.Exclusive end order = is_lt order
 
 abbrev pub starts_before : RangeBound → RangeBound → Bool
 starts_before (bound.Version start) (bound.Version end) =
-    lies_below start.kind end.kind (precedence_cmp start.version end.version)
+    lies_within start.kind end.kind (precedence_cmp start.version end.version)
 starts_before start end = true
 
 abbrev pub overlap : VersionRange → VersionRange → Bool

@@ -56,8 +56,9 @@ lowest p = record { major = or_zero p.major; minor = or_zero p.minor; patch = or
 abbrev pub without_build : Partial → Version
 without_build p = record { major = or_zero p.major; minor = or_zero p.minor; patch = or_zero p.patch; pre = p.pre; build = [] }
 
-abbrev pub at_most : Version → RangeBound
-at_most v = bound.Version (record { kind = kind.Inclusive; version = v })
+-- the end at a version that holds it
+abbrev pub up_to : Version → RangeBound
+up_to v = bound.Version (record { kind = kind.Inclusive; version = v })
 
 abbrev pub bound_at : VersionBoundKind → Version → RangeBound
 bound_at k v = bound.Version (record { kind = k; version = v })
@@ -105,7 +106,7 @@ abbrev pub upper_by : Partial → XRange → XRange → XRange → EndLine
 upper_by p Wildcard minor patch = record { end = bound.Unbounded; sums = [] }
 upper_by p (Val major) Wildcard patch = record { end = to_below (release (major + 1) 0 (or_zero patch)); sums = (major + 1) ∷ [] }
 upper_by p (Val major) (Val minor) Wildcard = record { end = to_below (release major (minor + 1) 0); sums = (minor + 1) ∷ [] }
-upper_by p (Val major) (Val minor) (Val patch) = record { end = at_most (without_build p); sums = [] }
+upper_by p (Val major) (Val minor) (Val patch) = record { end = up_to (without_build p); sums = [] }
 
 abbrev pub upper : Partial → EndLine
 upper p = upper_by p p.major p.minor p.patch
@@ -133,7 +134,7 @@ greater_range k p = greater_range_by k p.major p.minor p.patch
 -- ---- equal: the one version, or what the wildcards leave open
 
 abbrev pub equal_by : Partial → XRange → XRange → XRange → Line
-equal_by p (Val major) (Val minor) (Val patch) = record { range = between (from (lowest p)) (at_most (lowest p)); sums = [] }
+equal_by p (Val major) (Val minor) (Val patch) = record { range = between (from (lowest p)) (up_to (lowest p)); sums = [] }
 equal_by p major minor patch = greater_range kind.Inclusive p
 
 abbrev pub equal : Partial → Line
@@ -160,21 +161,21 @@ greater_than kind.Exclusive p = above_by p p.major p.minor p.patch
 abbrev pub from_zero : RangeBound → List ℕ → Line
 from_zero end sums = record { range = between (from (release 0 0 0)) end; sums = sums }
 
--- a release of three numbers, with the partial's pre-release
-abbrev pub pre_of : Partial → ℕ → ℕ → ℕ → Version
-pre_of p major minor patch = record { major = major; minor = minor; patch = patch; pre = p.pre; build = [] }
+-- the version of three numbers with the partial's pre-release
+abbrev pub version_with_pre : Partial → ℕ → ℕ → ℕ → Version
+version_with_pre p major minor patch = record { major = major; minor = minor; patch = patch; pre = p.pre; build = [] }
 
 abbrev pub at_most_by : Partial → XRange → XRange → XRange → Line
 at_most_by p Wildcard minor patch = any
 at_most_by p (Val major) Wildcard Wildcard = from_zero (to_below (release (major + 1) 0 0)) ((major + 1) ∷ [])
-at_most_by p (Val major) Wildcard (Val patch) = from_zero (to_below (pre_of p (major + 1) 0 patch)) ((major + 1) ∷ [])
+at_most_by p (Val major) Wildcard (Val patch) = from_zero (to_below (version_with_pre p (major + 1) 0 patch)) ((major + 1) ∷ [])
 at_most_by p (Val major) (Val minor) Wildcard = from_zero (to_below (release major (minor + 1) 0)) ((minor + 1) ∷ [])
-at_most_by p (Val major) (Val minor) (Val patch) = from_zero (at_most (without_build p)) []
+at_most_by p (Val major) (Val minor) (Val patch) = from_zero (up_to (without_build p)) []
 
 abbrev pub below_by : Partial → XRange → XRange → XRange → Line
 below_by p Wildcard minor patch = record { range = nothing; sums = [] }
 below_by p (Val major) Wildcard Wildcard = from_zero (to_below (release major 0 0)) []
-below_by p (Val major) Wildcard (Val patch) = from_zero (to_below (pre_of p major 0 patch)) []
+below_by p (Val major) Wildcard (Val patch) = from_zero (to_below (version_with_pre p major 0 patch)) []
 below_by p (Val major) (Val minor) Wildcard = from_zero (to_below (release major minor 0)) []
 below_by p (Val major) (Val minor) (Val patch) = from_zero (to_below (without_build p)) []
 

@@ -50,7 +50,7 @@ impl Refusal {
 /// of memory.
 ///
 /// Contracts see a failure as an optional pair of the message and the optional part; none is want of memory. Two
-/// failures are equal where these are.
+/// failures are equal where these are. Which refusal it is, a caller learns by [`ParseFailure::tells_of`].
 #[derive(PartialEq, Eq, Debug, Drop)]
 pub struct ParseFailure {
     texts: Option<(SmallStackString, Option<SmallStackString>)>,
@@ -91,11 +91,33 @@ impl ParseFailure {
         ParseFailure { texts: None }
     }
 
+    /// The same failure again. It is an error only where no memory is left.
+    pub fn copy(&self) -> Result<ParseFailure, AllocError>
+        ensures { IfOk result (λ failure. failure ≡ self.now) }
+    {
+        match &self.texts {
+            None => Ok(ParseFailure::memory()),
+            Some((message, None)) => Ok(ParseFailure {
+                texts: Some((message.copy()?, None)),
+            }),
+            Some((message, Some(snippet))) => Ok(ParseFailure {
+                texts: Some((message.copy()?, Some(snippet.copy()?))),
+            }),
+        }
+    }
+
     /// Whether memory was wanting.
     pub fn is_memory(&self) -> bool
         ensures { IsTrue result ↔ (self.now ≡ None) }
     {
         self.texts.is_none()
+    }
+
+    /// Whether the failure tells of this refusal, by its message.
+    pub fn tells_of(&self, refusal: Refusal) -> bool
+        ensures { IsTrue result ↔ (message_of self.now ≡ refusal_message refusal) }
+    {
+        self.message() == refusal.message()
     }
 
     /// What is wrong; `Out of memory.` where memory was wanting.

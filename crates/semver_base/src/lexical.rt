@@ -3,7 +3,7 @@
 //! Each reader takes the longest front of the text that its grammar has, and answers what that front stands for and
 //! the rest of the text; it answers `None` where no front of the text is in the grammar. A text is read in one pass.
 
-ghost use Rattle.std.specs.Prelude.{◌≡◌, ◌<◌, ◌++◌, [], ◌∷◌, IfOk, OnOk, length};
+ghost use Rattle.std.specs.Prelude.{◌≡◌, ◌↔◌, ◌<◌, ◌++◌, [], ◌∷◌, IfOk, IsTrue, OnOk, length};
 ghost use Rattle.std.specs.List.{take_while};
 ghost use Rattle.std.specs.Char.{is_ascii_digit};
 ghost use Rattle.semver_base.specs.Grammar.{CutsRun, IsAfter, IsLongest, IsSeen, Optional, Reads, ReadsAs, answer_of};
@@ -11,8 +11,7 @@ ghost use Rattle.semver_base.specs.Lexical.{IsBlanks, IsBuild, IsLooseNumber, Is
 
 pub mod values;
 
-use crate::string::CowVec;
-use crate::version::VersionPreOrBuild;
+use crate::string::{CowVec, SmallStackString};
 use std::alloc::{AllocError, Global};
 use values::{Measured, Qualifier, Strictness};
 
@@ -29,6 +28,13 @@ pub fn after_blanks(text: &str) -> &str
     ensures { IsLongest IsBlanks text.now tt result.now }
 {
     text.trim_start()
+}
+
+/// Whether the whole text is blanks, of which there may be none.
+pub fn is_blank(text: &str) -> bool
+    ensures { IsTrue result ↔ IsBlanks text.now tt }
+{
+    after_blanks(text).is_empty()
 }
 
 // How many digits stand at the front.
@@ -86,8 +92,8 @@ pub fn loose_number(text: &str) -> Option<(Measured<u64>, &str)>
     Some((measured(digits.parse::<u64>().ok()), rest))
 }
 
-/// `0`, or ASCII digits that don't begin with `0`.
-pub fn strict_number(text: &str) -> Option<(Measured<u64>, &str)>
+// `0`, or ASCII digits that don't begin with `0`.
+fn strict_number(text: &str) -> Option<(Measured<u64>, &str)>
     ensures { ReadsAs sized IsStrictNumber text.now (answer_of result) }
 {
     if let Some(rest) = after(text, '0') {
@@ -109,20 +115,17 @@ pub fn number(text: &str, strictness: Strictness) -> Option<(Measured<u64>, &str
 // Adds an identifier at the end.
 fn push_part(
     alloc: Global,
-    parts: &mut CowVec<VersionPreOrBuild>,
+    parts: &mut CowVec<SmallStackString>,
     part: &str,
 ) -> Result<(), AllocError>
     ensures { OnOk result (parts.new ≡ parts.old ++ part.now ∷ []) }
 {
-    parts.push(VersionPreOrBuild::from_str(alloc, part)?)
+    parts.push(SmallStackString::from_str(alloc, part)?)
 }
 
-/// One or more parts, each one or more of `0-9`, `A-Z`, `a-z` and `-`, with a `.` between neighbours and at most one
-/// `.` at the end, which adds no part.
-pub fn parts(
-    alloc: Global,
-    text: &str,
-) -> Result<Option<(CowVec<VersionPreOrBuild>, &str)>, AllocError>
+// One or more parts, each one or more of `0-9`, `A-Z`, `a-z` and `-`, with a `.` between neighbours and at most one
+// `.` at the end, which adds no part.
+fn parts(alloc: Global, text: &str) -> Result<Option<(CowVec<SmallStackString>, &str)>, AllocError>
     ensures { IfOk result (λ r. Reads IsParts text.now (answer_of r)) }
 {
     let (first, mut rest) = split_part(text);
@@ -142,12 +145,12 @@ pub fn parts(
     Ok(Some((ids, rest)))
 }
 
-/// A pre-release: parts after a `-`, which the loose grammar lets be missing.
-pub fn pre(
+// A pre-release: parts after a `-`, which the loose grammar lets be missing.
+fn pre(
     alloc: Global,
     text: &str,
     strictness: Strictness,
-) -> Result<Option<(CowVec<VersionPreOrBuild>, &str)>, AllocError>
+) -> Result<Option<(CowVec<SmallStackString>, &str)>, AllocError>
     ensures { IfOk result (λ r. Reads (IsPre strictness) text.now (answer_of r)) }
 {
     if let Some(rest) = after(text, '-') {
@@ -159,11 +162,8 @@ pub fn pre(
     }
 }
 
-/// A build: parts after a `+`.
-pub fn build(
-    alloc: Global,
-    text: &str,
-) -> Result<Option<(CowVec<VersionPreOrBuild>, &str)>, AllocError>
+// A build: parts after a `+`.
+fn build(alloc: Global, text: &str) -> Result<Option<(CowVec<SmallStackString>, &str)>, AllocError>
     ensures { IfOk result (λ r. Reads IsBuild text.now (answer_of r)) }
 {
     match after(text, '+') {
@@ -176,7 +176,7 @@ fn optional_pre(
     alloc: Global,
     text: &str,
     strictness: Strictness,
-) -> Result<(CowVec<VersionPreOrBuild>, &str), AllocError>
+) -> Result<(CowVec<SmallStackString>, &str), AllocError>
     ensures { IfOk result (λ r. IsSeen or_none (Optional (IsPre strictness)) text.now r.0 r.1.now) }
 {
     match pre(alloc, text, strictness)? {
@@ -185,10 +185,7 @@ fn optional_pre(
     }
 }
 
-fn optional_build(
-    alloc: Global,
-    text: &str,
-) -> Result<(CowVec<VersionPreOrBuild>, &str), AllocError>
+fn optional_build(alloc: Global, text: &str) -> Result<(CowVec<SmallStackString>, &str), AllocError>
     ensures { IfOk result (λ r. IsSeen or_none (Optional IsBuild) text.now r.0 r.1.now) }
 {
     match build(alloc, text)? {

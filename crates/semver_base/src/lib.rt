@@ -1,10 +1,12 @@
 //! Versions, ranges of versions and partial versions, and the words that they are written in.
 //!
 //! The lowest crate of the port of `deno_semver`. Its modules, bottom up: `string`, texts and lists; `failure`, why
-//! something was refused; `version`; `lexical`, the words at the front of a text; `range`; `partial`.
+//! something was refused; `lexical`, the words at the front of a text; `version`; `range`; `partial`; and `laws`, what
+//! `==` and hashes of all of these say. Each stands on those before it alone.
 #![tactic(auto)]
 
 pub mod failure;
+pub mod laws;
 pub mod lexical;
 pub mod partial;
 pub mod range;

@@ -1,8 +1,8 @@
 //! Partial versions, whose components may be wildcards, and the ranges that they stand for.
 
-ghost use Rattle.std.specs.Prelude.{◌≡◌, ◌+◌, ◌∷◌, [], IfOk, IfErr, OnOk, true};
+ghost use Rattle.std.specs.Prelude.{◌≡◌, ◌+◌, ◌∷◌, [], IfOk, IfErr, None, OnOk, true};
 ghost use Rattle.semver_base.specs.Meaning.{from, release, to_below};
-ghost use Rattle.semver_base.specs.PartialTable.{IsBoundRefusal, all_fit, between, caret, equal, greater_range, greater_than, less_than, lowest, or_zero, pre_of, tilde, upper, without_build};
+ghost use Rattle.semver_base.specs.PartialTable.{IsBoundRefusal, all_fit, between, caret, equal, greater_range, greater_than, less_than, lowest, or_zero, version_with_pre, tilde, upper, without_build};
 
 use crate::failure::{ParseFailure, Refusal};
 use crate::range::{RangeBound, VersionBoundKind, VersionRange};
@@ -20,7 +20,7 @@ pub enum XRange {
 }
 
 /// A version whose components may be wildcards.
-#[derive(Drop)]
+#[derive(Debug, Drop)]
 pub struct Partial {
     pub major: XRange,
     pub minor: XRange,
@@ -64,6 +64,19 @@ fn release(alloc: Global, major: u64, minor: u64, patch: u64) -> Version
 }
 
 impl Partial {
+    /// The same partial version again. It is an error only where no memory is left.
+    pub fn copy(&self) -> Result<Partial, AllocError>
+        ensures { IfOk result (λ partial. partial ≡ self.now) }
+    {
+        Ok(Partial {
+            major: self.major,
+            minor: self.minor,
+            patch: self.patch,
+            pre: self.pre.copy()?,
+            build: self.build.copy()?,
+        })
+    }
+
     // `M.m.p-pre+build`, with wildcards as 0.
     fn lowest(&self) -> Result<Version, AllocError>
         ensures { IfOk result (λ version. version ≡ lowest self.now) }
@@ -79,9 +92,10 @@ impl Partial {
 
     /// The start from the lowest version that the partial names, wildcards as 0.
     ///
-    /// It is an error only where no memory is left.
-    pub fn as_lower_bound(&self, _alloc: Global) -> Result<RangeBound, AllocError>
-        ensures { IfOk result (λ bound. bound ≡ from (lowest self.now)) }
+    /// A failure is want of memory.
+    pub fn as_lower_bound(&self, _alloc: Global) -> Result<RangeBound, ParseFailure>
+        ensures bound { IfOk result (λ bound. bound ≡ from (lowest self.now)) }
+        ensures refused { IfErr result (λ failure. failure ≡ None) }
     {
         Ok(RangeBound::inclusive(self.lowest()?))
     }
@@ -93,8 +107,9 @@ impl Partial {
         major: u64,
         minor: u64,
         patch: u64,
-    ) -> Result<VersionRange, AllocError>
-        ensures { IfOk result (λ range. range ≡ between (from (lowest self.now)) (to_below (release major minor patch))) }
+    ) -> Result<VersionRange, ParseFailure>
+        ensures range { IfOk result (λ range. range ≡ between (from (lowest self.now)) (to_below (release major minor patch))) }
+        ensures refused { IfErr result (λ failure. failure ≡ None) }
     {
         Ok(VersionRange {
             start: self.as_lower_bound(alloc)?,
@@ -116,11 +131,11 @@ impl Partial {
             (XRange::Wildcard, _) => Ok(VersionRange::all()),
             (XRange::Val(major), XRange::Wildcard) => {
                 let next = raised(alloc, major)?;
-                Ok(self.lower_to_below(alloc, next, 0, 0)?)
+                self.lower_to_below(alloc, next, 0, 0)
             }
             (XRange::Val(major), XRange::Val(minor)) => {
                 let next = raised(alloc, minor)?;
-                Ok(self.lower_to_below(alloc, major, next, 0)?)
+                self.lower_to_below(alloc, major, next, 0)
             }
         }
     }
@@ -138,19 +153,19 @@ impl Partial {
         match (self.major, self.minor, self.patch) {
             (XRange::Wildcard, _, _) => Ok(VersionRange::all()),
             (XRange::Val(0), XRange::Val(0), XRange::Wildcard) => {
-                Ok(self.lower_to_below(alloc, 0, 1, 0)?)
+                self.lower_to_below(alloc, 0, 1, 0)
             }
             (XRange::Val(0), XRange::Val(0), XRange::Val(patch)) => {
                 let next = raised(alloc, patch)?;
-                Ok(self.lower_to_below(alloc, 0, 0, next)?)
+                self.lower_to_below(alloc, 0, 0, next)
             }
             (XRange::Val(0), XRange::Val(minor), _) => {
                 let next = raised(alloc, minor)?;
-                Ok(self.lower_to_below(alloc, 0, next, 0)?)
+                self.lower_to_below(alloc, 0, next, 0)
             }
             (XRange::Val(major), _, _) => {
                 let next = raised(alloc, major)?;
-                Ok(self.lower_to_below(alloc, next, 0, 0)?)
+                self.lower_to_below(alloc, next, 0, 0)
             }
         }
     }
@@ -245,7 +260,7 @@ impl Partial {
     fn without_build(&self, alloc: Global) -> Result<Version, AllocError>
         ensures { IfOk result (λ version. version ≡ without_build self.now) }
     {
-        self.pre_release_of(
+        self.version_with_pre(
             alloc,
             or_zero(self.major),
             or_zero(self.minor),
@@ -254,14 +269,14 @@ impl Partial {
     }
 
     // The version of these three numbers with the partial's pre-release.
-    fn pre_release_of(
+    fn version_with_pre(
         &self,
         alloc: Global,
         major: u64,
         minor: u64,
         patch: u64,
     ) -> Result<Version, AllocError>
-        ensures { IfOk result (λ version. version ≡ pre_of self.now major minor patch) }
+        ensures { IfOk result (λ version. version ≡ version_with_pre self.now major minor patch) }
     {
         Ok(Version {
             major,
@@ -365,7 +380,7 @@ impl Partial {
             }
             (XRange::Val(major), XRange::Wildcard, XRange::Val(patch)) => {
                 let next = raised(alloc, major)?;
-                RangeBound::exclusive(self.pre_release_of(alloc, next, 0, patch)?)
+                RangeBound::exclusive(self.version_with_pre(alloc, next, 0, patch)?)
             }
             (XRange::Val(major), XRange::Val(minor), XRange::Wildcard) => {
                 let next = raised(alloc, minor)?;
@@ -386,7 +401,7 @@ impl Partial {
             (XRange::Wildcard, _, _) => return Ok(VersionRange::none(alloc)),
             (XRange::Val(major), XRange::Wildcard, XRange::Wildcard) => release(alloc, major, 0, 0),
             (XRange::Val(major), XRange::Wildcard, XRange::Val(patch)) => {
-                self.pre_release_of(alloc, major, 0, patch)?
+                self.version_with_pre(alloc, major, 0, patch)?
             }
             (XRange::Val(major), XRange::Val(minor), XRange::Wildcard) => {
                 release(alloc, major, minor, 0)

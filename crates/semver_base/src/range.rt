@@ -22,7 +22,7 @@ pub enum VersionBoundKind {
 }
 
 /// A version at which a range starts or ends.
-#[derive(PartialEq, Eq, Hash, Drop)]
+#[derive(PartialEq, Eq, Hash, Debug, Drop)]
 pub struct VersionBound {
     pub kind: VersionBoundKind,
     pub version: Version,
@@ -35,10 +35,17 @@ impl VersionBound {
     {
         VersionBound { kind, version }
     }
+
+    /// The same bound again. It is an error only where no memory is left.
+    pub fn copy(&self) -> Result<VersionBound, AllocError>
+        ensures { IfOk result (λ bound. bound ≡ self.now) }
+    {
+        Ok(VersionBound::new(self.kind, self.version.copy()?))
+    }
 }
 
 /// The start or the end of a range, which may be absent.
-#[derive(PartialEq, Eq, Hash, Drop)]
+#[derive(PartialEq, Eq, Hash, Debug, Drop)]
 pub enum RangeBound {
     Version(VersionBound),
     /// An absent bound, which holds every version.
@@ -46,14 +53,14 @@ pub enum RangeBound {
 }
 
 /// The versions between two bounds, with npm's rule about pre-releases.
-#[derive(PartialEq, Eq, Hash, Drop)]
+#[derive(PartialEq, Eq, Hash, Debug, Drop)]
 pub struct VersionRange {
     pub start: RangeBound,
     pub end: RangeBound,
 }
 
 /// Ranges of which a version need match only one.
-#[derive(PartialEq, Eq, Hash, Drop)]
+#[derive(PartialEq, Eq, Hash, Debug, Drop)]
 pub struct VersionRangeSet(pub CowVec<VersionRange>);
 
 impl RangeBound {
@@ -131,9 +138,7 @@ impl RangeBound {
     {
         match self {
             RangeBound::Unbounded => Ok(RangeBound::Unbounded),
-            RangeBound::Version(bound) => {
-                Ok(RangeBound::version(bound.kind, bound.version.copy()?))
-            }
+            RangeBound::Version(bound) => Ok(RangeBound::Version(bound.copy()?)),
         }
     }
 

@@ -1,6 +1,7 @@
-//! Short texts, and lists whose copies are cheap to ask for.
+//! Short texts and lists.
 //!
-//! A contract sees a text as its UTF-8 bytes and a list as its items, whatever they are kept in.
+//! A contract sees a text as its UTF-8 bytes and a list as its items, whatever they are kept in. Today a text is kept in
+//! a `String` and a list in a `Vec`, so that a copy of either copies all of it.
 
 ghost use Rattle.std.specs.Prelude.{List, ℕ, ◌≡◌, ◌<◌, ◌^◌, ◌++◌, [], ◌∷◌, Some, IfOk, OnOk, OnErr, IsTrue, ◌↔◌, length, nat_eq, refl, slice_get, string_bytes, IsUtf8};
 ghost use Rattle.std.proofs.Common.{rules};
@@ -21,7 +22,7 @@ use std::hash::{Hash, Hasher};
 use std::marker::Model;
 use std::{fmt, slice};
 
-/// A short text: a sequence of Unicode characters, seen in contracts as its UTF-8 bytes.
+/// A short text: a sequence of Unicode characters, seen in contracts as its UTF-8 bytes. Today a `String` keeps it.
 ///
 /// Two texts are equal where their bytes are, and they are ordered by bytes.
 #[derive(Drop)]
@@ -156,7 +157,7 @@ impl CowItem for SmallStackString {
     }
 }
 
-/// A list, seen in contracts as its items.
+/// A list, seen in contracts as its items. Today a `Vec` keeps them.
 ///
 /// Two lists are equal where they have equal items in the same order.
 #[derive(Drop)]
@@ -256,6 +257,13 @@ impl<T: PartialEq> PartialEq for CowVec<T> {
 
 impl<T: Eq> Eq for CowVec<T> {
     ghost laws = { lists_equiv T.Eq.laws };
+}
+
+// A list shows as its items between `[` and `]`.
+impl<T: fmt::Debug> fmt::Debug for CowVec<T> {
+    fn fmt<W: fmt::Write>(&self, f: &mut fmt::Formatter<W>) -> fmt::Result {
+        fmt::Debug::fmt(self.as_slice(), f)
+    }
 }
 
 impl<T: Hash> Hash for CowVec<T> {

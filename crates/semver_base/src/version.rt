@@ -9,7 +9,7 @@ ghost use Rattle.semver_base.specs.declared.failure.Refusal.{Refusal};
 ghost use Rattle.semver_base.specs.Grammar.{IsLongest, IsSeen, Optional, Marked};
 ghost use Rattle.semver_base.specs.Lexical.{IsBlanks, IsByte};
 ghost use Rattle.semver_base.specs.VersionGrammar.{IsLead, IsVersionAnswer, IsVersionOutcome, IsVersionRefusal, ignored, version_failure};
-ghost use Rattle.semver_base.specs.VersionSteps.{IsFittingNumber, IsFittingTriple, IsNumberRefusal, IsReadVersion, IsTripleRefusal};
+ghost use Rattle.semver_base.specs.VersionReaderSteps.{IsFittingNumber, IsFittingTriple, IsNumberRefusal, IsReadVersion, IsTripleRefusal};
 ghost use Rattle.semver_base.specs.Precedence.{identifier_cmp, number_of, pre_cmp, precedence_cmp, version_cmp};
 ghost use Rattle.semver_base.specs.PrecedenceLaws.{version_po, version_ties, version_total, SamePrecedence};
 
@@ -39,6 +39,23 @@ impl VersionParseError {
     {
         self.source.is_memory()
     }
+
+    /// The same error again. It is an error only where no memory is left.
+    pub fn copy(&self) -> Result<VersionParseError, AllocError>
+        ensures { IfOk result (λ error. error ≡ self.now) }
+    {
+        Ok(VersionParseError {
+            source: self.source.copy()?,
+        })
+    }
+}
+
+impl From<VersionParseError> for ParseFailure {
+    ghost from_gives = { λ error failure. failure ≡ error.source };
+
+    fn from(error: VersionParseError) -> ParseFailure {
+        error.source
+    }
 }
 
 /// A version of SemVer 2.0.0: three numbers, the identifiers of its pre-release and those of its build, either of
@@ -46,7 +63,7 @@ impl VersionParseError {
 ///
 /// Versions are equal where all of this is. Their order is precedence, where versions that it leaves equal are in the
 /// dictionary order of their builds.
-#[derive(PartialEq, Eq, Hash, Drop)]
+#[derive(PartialEq, Eq, Hash, Debug, Drop)]
 pub struct Version {
     pub major: u64,
     pub minor: u64,
@@ -108,11 +125,7 @@ impl Version {
         ensures equal { (result ≡ Ordering.Equal) ↔ SamePrecedence self.now other.now }
         ensures total { IsTotalOrder precedence_cmp }
     {
-        self.major
-            .cmp(&other.major)
-            .then(self.minor.cmp(&other.minor))
-            .then(self.patch.cmp(&other.patch))
-            .then(cmp_pre(self.pre.as_slice(), other.pre.as_slice()))
+        precedence(self, other)
     }
 }
 
@@ -155,9 +168,17 @@ fn fitting_number(text: &str) -> Result<(u64, &str), Refusal>
     }
 }
 
+// The three numbers of a version.
+#[derive(Clone, Copy)]
+struct Numbers {
+    major: u64,
+    minor: u64,
+    patch: u64,
+}
+
 // The three numbers at the front, where they fit.
-fn triple(text: &str) -> Result<((u64, (u64, u64)), &str), Refusal>
-    ensures read { IfOk result (λ r. IsFittingTriple text.now r.0 r.1.now) }
+fn triple(text: &str) -> Result<(Numbers, &str), Refusal>
+    ensures read { IfOk result (λ r. IsFittingTriple text.now (r.0.major, (r.0.minor, r.0.patch)) r.1.now) }
     ensures refused { IfErr result (IsTripleRefusal text.now) }
 {
     let (major, rest) = fitting_number(text)?;
@@ -169,7 +190,12 @@ fn triple(text: &str) -> Result<((u64, (u64, u64)), &str), Refusal>
         return Err(Refusal::MissingPatch);
     };
     let (patch, rest) = fitting_number(rest)?;
-    Ok(((major, (minor, patch)), rest))
+    let numbers = Numbers {
+        major,
+        minor,
+        patch,
+    };
+    Ok((numbers, rest))
 }
 
 // The failure of a refused version text.
@@ -188,7 +214,7 @@ fn read(alloc: Global, text: &str) -> Result<Version, ParseFailure>
     ensures read { IfOk result (IsReadVersion text.now) }
     ensures refused { IfErr result (IsVersionRefusal text.now) }
 {
-    let ((major, (minor, patch)), rest) = match triple(after_lead(text)) {
+    let (numbers, rest) = match triple(after_lead(text)) {
         Ok(read) => read,
         Err(refusal) => return Err(failure(alloc, refusal, text)),
     };
@@ -197,9 +223,9 @@ fn read(alloc: Global, text: &str) -> Result<Version, ParseFailure>
         return Err(failure(alloc, Refusal::UnexpectedCharacter, text));
     }
     Ok(Version {
-        major,
-        minor,
-        patch,
+        major: numbers.major,
+        minor: numbers.minor,
+        patch: numbers.patch,
         pre: qualifier.pre,
         build: qualifier.build,
     })
@@ -216,7 +242,7 @@ fn cmp_identifier(a: &str, b: &str) -> Ordering
     ensures { result ≡ identifier_cmp a.now b.now }
 {
     match (number(a), number(b)) {
-        (Some(x), Some(y)) => x.cmp(&y).then(a.cmp(b)),
+        (Some(x), Some(y)) => x.cmp(&y).then_with(|| a.cmp(b)),
         (Some(_), None) => Ordering::Less,
         (None, Some(_)) => Ordering::Greater,
         (None, None) => a.cmp(b),
@@ -226,9 +252,8 @@ fn cmp_identifier(a: &str, b: &str) -> Ordering
 fn cmp_identifiers(a: &[VersionPreOrBuild], b: &[VersionPreOrBuild]) -> Ordering
     ensures { result ≡ slice_cmp identifier_cmp a.now b.now }
 {
-    let shared = a.len().min(b.len());
-    for i in 0..shared {
-        let ordering = cmp_identifier(a[i].as_str(), b[i].as_str());
+    for (x, y) in a.iter().zip(b) {
+        let ordering = cmp_identifier(x.as_str(), y.as_str());
         if ordering != Ordering::Equal {
             return ordering;
         }
@@ -245,6 +270,22 @@ fn cmp_pre(a: &[VersionPreOrBuild], b: &[VersionPreOrBuild]) -> Ordering
         (false, true) => Ordering::Less,
         (false, false) => cmp_identifiers(a, b),
     }
+}
+
+// Precedence, by the first number that differs; pre-releases are compared only where all three tie.
+fn precedence(a: &Version, b: &Version) -> Ordering
+    ensures { result ≡ precedence_cmp a.now b.now }
+{
+    if a.major != b.major {
+        return a.major.cmp(&b.major);
+    }
+    if a.minor != b.minor {
+        return a.minor.cmp(&b.minor);
+    }
+    if a.patch != b.patch {
+        return a.patch.cmp(&b.patch);
+    }
+    cmp_pre(a.pre.as_slice(), b.pre.as_slice())
 }
 
 impl PartialOrd for Version {
@@ -268,6 +309,6 @@ impl Ord for Version {
 
     fn cmp(&self, other: &Version) -> Ordering {
         self.cmp_precedence(other)
-            .then(self.build.as_slice().cmp(other.build.as_slice()))
+            .then_with(|| self.build.as_slice().cmp(other.build.as_slice()))
     }
 }

@@ -1,10 +1,9 @@
 //! The values that the words of versions and requirements stand for.
 
-ghost use Rattle.std.specs.Prelude.{◌≡◌, []};
+ghost use Rattle.std.specs.Prelude.{◌≡◌, [], IfOk};
 
-use crate::string::CowVec;
-use crate::version::VersionPreOrBuild;
-use std::alloc::Global;
+use crate::string::{CowVec, SmallStackString};
+use std::alloc::{AllocError, Global};
 
 /// Which grammar a word is read by.
 #[derive(Clone, Copy, Debug, PartialEq, Eq)]
@@ -25,10 +24,10 @@ pub enum Measured<T> {
 }
 
 /// The pre-release and the build of a version, each a list of identifiers that may be empty.
-#[derive(Drop)]
+#[derive(Debug, Drop)]
 pub struct Qualifier {
-    pub pre: CowVec<VersionPreOrBuild>,
-    pub build: CowVec<VersionPreOrBuild>,
+    pub pre: CowVec<SmallStackString>,
+    pub build: CowVec<SmallStackString>,
 }
 
 impl Qualifier {
@@ -40,5 +39,15 @@ impl Qualifier {
             pre: CowVec::new(alloc),
             build: CowVec::new(alloc),
         }
+    }
+
+    /// The same identifiers again. It is an error only where no memory is left.
+    pub fn copy(&self) -> Result<Self, AllocError>
+        ensures { IfOk result (λ qualifier. qualifier ≡ self.now) }
+    {
+        Ok(Qualifier {
+            pre: self.pre.copy()?,
+            build: self.build.copy()?,
+        })
     }
 }

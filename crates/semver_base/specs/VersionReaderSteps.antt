@@ -1,4 +1,4 @@
--- What the steps of the version reader answer.
+-- The private steps of the version reader: what each of its private functions answers. No public contract cites them.
 use Rattle.std.specs.Prelude.{◌≡◌, ◌≤◌, ◌<◌, ◌^◌, ℕ, List, [], ◌∷◌, true, ◌⊎◌, slice_index}
 use Rattle.std.specs.Char.{is_ascii_digit}
 use Rattle.semver_base.specs.Grammar.{HasNone, IsLongest}

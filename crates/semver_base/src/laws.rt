@@ -1,0 +1,124 @@
+//! Laws of equality and hash, each as the contract of a call.
+//!
+//! `==` of each type of this crate says yes exactly where the two values are the same, as contracts see them; at a
+//! `CowVec` and a `Measured` it does so where `==` of what they hold does. A caller whose proof needs that calls the law
+//! of its type in place of `==`.
+//!
+//! Equal values hash alike: they write the same to every `Hasher`. `equal_hash_alike` says it of each type that has `Hash`.
+
+ghost use Rattle.std.specs.Prelude.{◌≡◌, ◌↔◌, IsTrue};
+ghost use Rattle.semver_base.specs.Sameness.{TellsSame};
+
+use crate::failure::{ParseFailure, Refusal};
+use crate::lexical::values::{Measured, Strictness};
+use crate::partial::XRange;
+use crate::range::{RangeBound, VersionBound, VersionBoundKind, VersionRange, VersionRangeSet};
+use crate::string::{CowVec, SmallStackString};
+use crate::version::{Version, VersionParseError};
+use std::hash::Hash;
+
+/// Whether two texts are the same.
+pub fn same_texts(one: &SmallStackString, other: &SmallStackString) -> bool
+    ensures { IsTrue result ↔ (one.now ≡ other.now) }
+{
+    one == other
+}
+
+/// Whether two lists are the same, where `==` of their items tells whether those are.
+pub fn same_lists<T: PartialEq>(one: &CowVec<T>, other: &CowVec<T>) -> bool
+    ensures { TellsSame T.eq → (IsTrue result ↔ (one.now ≡ other.now)) }
+{
+    one == other
+}
+
+/// Whether two kinds of refusal are the same.
+pub fn same_refusals(one: &Refusal, other: &Refusal) -> bool
+    ensures { IsTrue result ↔ (one.now ≡ other.now) }
+{
+    one == other
+}
+
+/// Whether two failures are the same: both are want of memory, or have the same message and show the same text.
+pub fn same_failures(one: &ParseFailure, other: &ParseFailure) -> bool
+    ensures { IsTrue result ↔ (one.now ≡ other.now) }
+{
+    one == other
+}
+
+/// Whether two grammars are the same.
+pub fn same_strictness(one: &Strictness, other: &Strictness) -> bool
+    ensures { IsTrue result ↔ (one.now ≡ other.now) }
+{
+    one == other
+}
+
+/// Whether two readings are the same, where `==` of what they read tells whether that is.
+pub fn same_measured<T: PartialEq>(one: &Measured<T>, other: &Measured<T>) -> bool
+    ensures { TellsSame T.eq → (IsTrue result ↔ (one.now ≡ other.now)) }
+{
+    one == other
+}
+
+/// Whether two versions are the same, builds included.
+pub fn same_versions(one: &Version, other: &Version) -> bool
+    ensures { IsTrue result ↔ (one.now ≡ other.now) }
+{
+    one == other
+}
+
+/// Whether two errors are the same.
+pub fn same_version_errors(one: &VersionParseError, other: &VersionParseError) -> bool
+    ensures { IsTrue result ↔ (one.now ≡ other.now) }
+{
+    one == other
+}
+
+/// Whether two kinds of a bound are the same.
+pub fn same_bound_kinds(one: &VersionBoundKind, other: &VersionBoundKind) -> bool
+    ensures { IsTrue result ↔ (one.now ≡ other.now) }
+{
+    one == other
+}
+
+/// Whether two bounds at versions are the same, kinds included.
+pub fn same_version_bounds(one: &VersionBound, other: &VersionBound) -> bool
+    ensures { IsTrue result ↔ (one.now ≡ other.now) }
+{
+    one == other
+}
+
+/// Whether two bounds are the same; an absent one is the same as an absent one alone.
+pub fn same_range_bounds(one: &RangeBound, other: &RangeBound) -> bool
+    ensures { IsTrue result ↔ (one.now ≡ other.now) }
+{
+    one == other
+}
+
+/// Whether two ranges are the same, by their bounds; two that hold the same versions need not be.
+pub fn same_ranges(one: &VersionRange, other: &VersionRange) -> bool
+    ensures { IsTrue result ↔ (one.now ≡ other.now) }
+{
+    one == other
+}
+
+/// Whether two sets have the same ranges in the same order.
+pub fn same_range_sets(one: &VersionRangeSet, other: &VersionRangeSet) -> bool
+    ensures { IsTrue result ↔ (one.now ≡ other.now) }
+{
+    one == other
+}
+
+/// Whether two components are the same.
+pub fn same_components(one: &XRange, other: &XRange) -> bool
+    ensures { IsTrue result ↔ (one.now ≡ other.now) }
+{
+    one == other
+}
+
+/// Whether two values are equal; equal values write the same to every hasher.
+pub fn equal_hash_alike<T: Hash>(one: &T, other: &T) -> bool
+    ensures equal { result ≡ T.eq one.now other.now }
+    ensures alike { IsTrue (T.eq one.now other.now) → T.hash_input one.now ≡ T.hash_input other.now }
+{
+    one == other
+}
