@@ -9,7 +9,7 @@ use Rattle.std.specs.declared.cmp.Ordering.TheVariants.{Less, Equal, Greater}
 use Rattle.semver_base.specs.Clamp.{clamped, clamped_end, lesser_of, of_tied, HoldsNothing}
 use Rattle.semver_base.specs.Meaning.{alternative_means, alternatives, bounds_hold, everything, from, is_below, release, to_below, tree_means}
 use Rattle.semver_base.specs.Overlap.{ends_at_zero, is_exclusive}
-use Rattle.semver_base.specs.PartialTable.{above_by, at_least_by, at_most, at_most_by, below_by, between, caret_by, caret_patch, equal_by, greater_range_by, lower_to_below, pre_of, tilde_by, upper_by, without_build}
+use Rattle.semver_base.specs.PartialTable.{above_by, at_least_by, up_to, at_most_by, below_by, between, caret_by, caret_patch, equal_by, greater_range_by, lower_to_below, version_with_pre, tilde_by, upper_by, without_build}
 use Rattle.semver_base.specs.Precedence.{precedence_cmp}
 use Rattle.semver_base.specs.PrecedenceLaws.{precedence_total}
 use Rattle.semver_base.specs.declared.version.Version.{Version}
@@ -177,14 +177,14 @@ above_empty p (Val major) (Val minor) (Val patch) h = cc h
 at_most_empty : (p : Partial) (major minor patch : XRange) → IsEmptyAtZero (at_most_by p major minor patch).range
 at_most_empty p Wildcard minor patch h = cc h
 at_most_empty p (Val major) Wildcard Wildcard h = from_zero_empty (to_below (release (major + 1) 0 0)) h
-at_most_empty p (Val major) Wildcard (Val patch) h = from_zero_empty (to_below (pre_of p (major + 1) 0 patch)) h
+at_most_empty p (Val major) Wildcard (Val patch) h = from_zero_empty (to_below (version_with_pre p (major + 1) 0 patch)) h
 at_most_empty p (Val major) (Val minor) Wildcard h = from_zero_empty (to_below (release major (minor + 1) 0)) h
-at_most_empty p (Val major) (Val minor) (Val patch) h = from_zero_empty (at_most (without_build p)) h
+at_most_empty p (Val major) (Val minor) (Val patch) h = from_zero_empty (up_to (without_build p)) h
 
 below_empty : (p : Partial) (major minor patch : XRange) → IsEmptyAtZero (below_by p major minor patch).range
 below_empty p Wildcard minor patch h = from_zero_empty (to_below (release 0 0 0)) h
 below_empty p (Val major) Wildcard Wildcard h = from_zero_empty (to_below (release major 0 0)) h
-below_empty p (Val major) Wildcard (Val patch) h = from_zero_empty (to_below (pre_of p major 0 patch)) h
+below_empty p (Val major) Wildcard (Val patch) h = from_zero_empty (to_below (version_with_pre p major 0 patch)) h
 below_empty p (Val major) (Val minor) Wildcard h = from_zero_empty (to_below (release major minor 0)) h
 below_empty p (Val major) (Val minor) (Val patch) h = from_zero_empty (to_below (without_build p)) h
 

@@ -58,8 +58,8 @@ two_texts cs c d e = rw e (ap (λ t. comparator_text c ++ (codes " " ++ t)) (app
 one_version : (s : Version) → Path (List Comparator) (shortest_between kind.Inclusive kind.Inclusive s s) (Plain (whole s) ∷ [])
 one_version s = taken (version_eq s s) _ _ ((version_told s s).1 refl)
 
-up_to : (s e : Version) → s ≡ zero_version → ¬ (s ≡ e) → Path (List Comparator) (shortest_between kind.Inclusive kind.Inclusive s e) (ending kind.Inclusive e ∷ [])
-up_to s e zero some = passed (version_eq s e) _ _ (differs s e some) ∙ taken (is_plain s 0 0 0) _ _ (plain_of s 0 0 0 zero)
+from_zero_up_to : (s e : Version) → s ≡ zero_version → ¬ (s ≡ e) → Path (List Comparator) (shortest_between kind.Inclusive kind.Inclusive s e) (ending kind.Inclusive e ∷ [])
+from_zero_up_to s e zero some = passed (version_eq s e) _ _ (differs s e some) ∙ taken (is_plain s 0 0 0) _ _ (plain_of s 0 0 0 zero)
 
 closed : (s e : Version) → ¬ (s ≡ e) → ¬ (s ≡ zero_version) → Path (List Comparator) (shortest_between kind.Inclusive kind.Inclusive s e) (starting kind.Inclusive s ∷ ending kind.Inclusive e ∷ [])
 closed s e differ some = passed (version_eq s e) _ _ (differs s e differ) ∙ passed (is_plain s 0 0 0) _ _ (not_plain s 0 0 0 some)
@@ -147,7 +147,7 @@ normal_table = record {
   start_alone = λ s. append-nil _;
   above_alone = λ s. append-nil _;
   one_version = λ s. one_text _ _ (one_version s);
-  up_to = λ e some. one_text _ _ (up_to zero_version e refl some);
+  from_zero_up_to = λ e some. one_text _ _ (from_zero_up_to zero_version e refl some);
   closed = λ s e differ some. two_texts _ _ _ (closed s e differ some);
   one_major = λ major. one_text _ _ (one_major major);
   one_minor = λ major minor. one_text _ _ (one_minor major minor);

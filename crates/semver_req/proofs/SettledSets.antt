@@ -6,8 +6,8 @@ use Rattle.std.specs.Prelude.{if◌then◌else◌}
 use Rattle.std.specs.declared.cmp.Ordering.{Ordering}
 use Rattle.std.specs.declared.cmp.Ordering.TheVariants.{Less, Equal, Greater}
 use Rattle.semver_base.specs.Meaning.{alternatives, from, release, to_below, tree_means}
-use Rattle.semver_base.specs.Overlap.{ends_at_zero, lies_below, starts_before}
-use Rattle.semver_base.specs.PartialTable.{at_most, between, bound_at}
+use Rattle.semver_base.specs.Overlap.{ends_at_zero, lies_within, starts_before}
+use Rattle.semver_base.specs.PartialTable.{up_to, between, bound_at}
 use Rattle.semver_base.specs.Precedence.{precedence_cmp}
 use Rattle.semver_base.specs.PrecedenceLaws.{version_eq, version_told}
 use Rattle.semver_base.specs.declared.range.RangeBound.{RangeBound}
@@ -63,7 +63,7 @@ ends_by cs same = ap (λ (range : VersionRange). ends_at_zero range.end) same
 
 between_ends : (k l : VersionBoundKind) (s e : Version) → EndsAs (bound_at l e) (shortest_between k l s e)
 between_ends kind.Inclusive kind.Inclusive s e =
-    let P : List Comparator → Type 0 = EndsAs (at_most e) in
+    let P : List Comparator → Type 0 = EndsAs (up_to e) in
     by_test P (version_eq s e) (λ same. ap (λ (range : VersionRange). ends_at_zero range.end) (version_read s e same)) (λ _.
     by_test P (is_plain s 0 0 0) (λ _. ends_by (ending kind.Inclusive e ∷ []) (end_kept kind.Inclusive e)) (λ _.
     ends_by (starting kind.Inclusive s ∷ ending kind.Inclusive e ∷ []) (both_kept kind.Inclusive kind.Inclusive s e)))
@@ -133,26 +133,26 @@ less_settled k l s e first second less h = go (is_pre_of_zero s) refl k l h
   where
     go : (b : Bool) → is_pre_of_zero s ≡ b → (k l : VersionBoundKind) → (not b || has_own_form k l s e) ≡ true → IsSettled (between (bound_at k s) (bound_at l e))
     go false above k l h = ordered first second (ge_turned _ (release 0 0 0) s refl (zero_le s above)) less
-    go true low kind.Inclusive kind.Inclusive h = subst (λ (end : Version). IsSettled (between (from s) (at_most end))) ((version_told s e).0 h) one_version
+    go true low kind.Inclusive kind.Inclusive h = subst (λ (end : Version). IsSettled (between (from s) (up_to end))) ((version_told s e).0 h) one_version
     go true low kind.Inclusive kind.Exclusive h = short (short_end s e low h)
     go true low kind.Exclusive l h = cc h
 
 -- a start at its end, both inclusive
-tied_settled : (k l : VersionBoundKind) (s e : Version) → s ≡ e → lies_below k l Equal ≡ true → IsSettled (between (bound_at k s) (bound_at l e))
-tied_settled kind.Inclusive kind.Inclusive s e same h = subst (λ (end : Version). IsSettled (between (from s) (at_most end))) same one_version
+tied_settled : (k l : VersionBoundKind) (s e : Version) → s ≡ e → lies_within k l Equal ≡ true → IsSettled (between (bound_at k s) (bound_at l e))
+tied_settled kind.Inclusive kind.Inclusive s e same h = subst (λ (end : Version). IsSettled (between (from s) (up_to end))) same one_version
 tied_settled kind.Inclusive kind.Exclusive s e same h = cc h
 tied_settled kind.Exclusive l s e same h = cc h
 
-never_passed : (k l : VersionBoundKind) → lies_below k l Greater ≡ true → ⊥
+never_passed : (k l : VersionBoundKind) → lies_within k l Greater ≡ true → ⊥
 never_passed kind.Inclusive kind.Inclusive h = cc h
 never_passed kind.Inclusive kind.Exclusive h = cc h
 never_passed kind.Exclusive l h = cc h
 
-orderly_between : (k l : VersionBoundKind) (s e : Version) → s.build ≡ [] → e.build ≡ [] → lies_below k l (precedence_cmp s e) ≡ true → keeps_start (bound_at k s) (bound_at l e) ≡ true
+orderly_between : (k l : VersionBoundKind) (s e : Version) → s.build ≡ [] → e.build ≡ [] → lies_within k l (precedence_cmp s e) ≡ true → keeps_start (bound_at k s) (bound_at l e) ≡ true
     → IsSettled (between (bound_at k s) (bound_at l e))
 orderly_between k l s e first second below h = go (precedence_cmp s e) refl below
   where
-    go : (r : Ordering) → precedence_cmp s e ≡ r → lies_below k l r ≡ true → IsSettled (between (bound_at k s) (bound_at l e))
+    go : (r : Ordering) → precedence_cmp s e ≡ r → lies_within k l r ≡ true → IsSettled (between (bound_at k s) (bound_at l e))
     go Less less below = less_settled k l s e first second less h
     go Equal tie below = tied_settled k l s e (same_version s e first second tie) below
     go Greater passed below = absurd (never_passed k l below)

@@ -8,7 +8,7 @@ use Rattle.std.specs.declared.cmp.Ordering.{Ordering}
 use Rattle.std.specs.declared.cmp.Ordering.TheVariants.{Less, Equal, Greater}
 use Rattle.semver_base.specs.Clamp.{clamped, greater_of, of_tied, stopped_at, stopped_by}
 use Rattle.semver_base.specs.Meaning.{everything, from, release, to_below}
-use Rattle.semver_base.specs.PartialTable.{at_most, between, bound_at, without_build}
+use Rattle.semver_base.specs.PartialTable.{up_to, between, bound_at, without_build}
 use Rattle.semver_base.specs.Precedence.{precedence_cmp}
 use Rattle.semver_base.specs.PrecedenceLaws.{precedence-anti, precedence_total, version_eq, version_told}
 use Rattle.semver_base.specs.declared.range.RangeBound.{RangeBound}
@@ -85,7 +85,7 @@ alone_kept (Hyphen p q) range own same = own
 pub less_stays : (k l : VersionBoundKind) (s e : Version) → precedence_cmp s e ≡ Less → clamped everything (between (bound_at k s) (bound_at l e)) ≡ between (bound_at k s) (bound_at l e)
 less_stays k l s e less = rw less refl
 
-pub version_stays : (s : Version) → clamped everything (between (from s) (at_most s)) ≡ between (from s) (at_most s)
+pub version_stays : (s : Version) → clamped everything (between (from s) (up_to s)) ≡ between (from s) (up_to s)
 version_stays s = rw (tied_itself precedence_total s) refl
 
 -- a start that stops at the end
@@ -203,8 +203,8 @@ end_read l s e built less plain =
     ∙ ap₂ (λ (start end : Version). stopped (from start) (bound_at l end)) (sym (plain_is s 0 0 0 plain)) (unbuilt_same e built)
     ∙ stopped_less kind.Inclusive l s e less
 
-pub version_read : (s e : Version) → version_eq s e ≡ true → Reads (between (from s) (at_most e)) (Plain (whole s) ∷ [])
-version_read s e same = version_stays s ∙ ap (λ (end : Version). between (from s) (at_most end)) ((version_told s e).0 same)
+pub version_read : (s e : Version) → version_eq s e ≡ true → Reads (between (from s) (up_to e)) (Plain (whole s) ∷ [])
+version_read s e same = version_stays s ∙ ap (λ (end : Version). between (from s) (up_to end)) ((version_told s e).0 same)
 
 pub form_read : (s e : Version) → has_short_form s e ≡ true → (c : Comparator) → comparator_range c ≡ between (from s) (to_below e) → Reads (between (from s) (to_below e)) (c ∷ [])
 form_read s e form c own = alone_kept c _ own (less_stays kind.Inclusive kind.Exclusive s e (short_less s e form))
@@ -212,7 +212,7 @@ form_read s e form c own = alone_kept c _ own (less_stays kind.Inclusive kind.Ex
 ordered_read : (k l : VersionBoundKind) (s e : Version) → s.build ≡ [] → e.build ≡ [] → is_ge (precedence_cmp s (release 0 0 0)) ≡ true → precedence_cmp s e ≡ Less
     → Reads (between (bound_at k s) (bound_at l e)) (shortest_between k l s e)
 ordered_read kind.Inclusive kind.Inclusive s e no_build built above less =
-    let P : List Comparator → Type 0 = Reads (between (from s) (at_most e)) in
+    let P : List Comparator → Type 0 = Reads (between (from s) (up_to e)) in
     by_test P (version_eq s e) (version_read s e) (λ _.
     by_test P (is_plain s 0 0 0) (end_read kind.Inclusive s e built less) (λ _.
     both_read kind.Inclusive kind.Inclusive s e no_build built above less))
@@ -227,8 +227,8 @@ ordered_read kind.Exclusive l s e no_build built above less = both_read kind.Exc
 unlike_itself : (s : Version) → version_eq s s ≡ false → ⊥
 unlike_itself s other = cc ((version_told s s).1 refl, other)
 
-version_reread : (s : Version) → reread (between (from s) (at_most s)) ≡ between (from s) (at_most s)
-version_reread s = by_test (Reads (between (from s) (at_most s))) (version_eq s s) (version_read s s) (λ other. absurd (unlike_itself s other))
+version_reread : (s : Version) → reread (between (from s) (up_to s)) ≡ between (from s) (up_to s)
+version_reread s = by_test (Reads (between (from s) (up_to s))) (version_eq s s) (version_read s s) (λ other. absurd (unlike_itself s other))
 
 short_reread : (s e : Version) → has_short_form s e ≡ true → reread (between (from s) (to_below e)) ≡ between (from s) (to_below e)
 short_reread s e form = by_form (Reads (between (from s) (to_below e))) s e (form_read s e) (λ long. cc (form, long))

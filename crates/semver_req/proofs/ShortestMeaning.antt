@@ -9,7 +9,7 @@ use Rattle.std.specs.Prelude.{if◌then◌else◌, nat_lt}
 use Rattle.std.specs.declared.cmp.Ordering.{Ordering}
 use Rattle.std.specs.declared.cmp.Ordering.TheVariants.{Less, Equal, Greater}
 use Rattle.semver_base.specs.Meaning.{alternative_means, from, is_above, release, to_below}
-use Rattle.semver_base.specs.PartialTable.{at_most, between, bound_at, caret}
+use Rattle.semver_base.specs.PartialTable.{up_to, between, bound_at, caret}
 use Rattle.semver_base.specs.Precedence.{precedence_cmp, pre_cmp}
 use Rattle.semver_base.specs.PrecedenceLaws.{precedence_total, version_eq, version_told}
 use Rattle.semver_base.specs.declared.partial.XRange.TheVariants.{Wildcard, Val}
@@ -124,15 +124,15 @@ start_means kind.Inclusive s v = refl
 start_means kind.Exclusive s v = refl
 
 end_means : (k : VersionBoundKind) (s e : Version) → is_plain s 0 0 0 ≡ true → Means (ending k e ∷ []) (between (from s) (bound_at k e))
-end_means kind.Inclusive s e h v = ap (λ (start : Version). alternative_means (between (from start) (at_most e) ∷ []) v) (sym (plain_is s 0 0 0 h))
+end_means kind.Inclusive s e h v = ap (λ (start : Version). alternative_means (between (from start) (up_to e) ∷ []) v) (sym (plain_is s 0 0 0 h))
 end_means kind.Exclusive s e h v = ap (λ (start : Version). alternative_means (between (from start) (to_below e) ∷ []) v) (sym (plain_is s 0 0 0 h))
 
 -- a comparator that stands for the range itself
 alone_means : (c : Comparator) (range : VersionRange) → comparator_range c ≡ range → Means (c ∷ []) range
 alone_means c range same v = ap (λ (r : VersionRange). alternative_means (r ∷ []) v) same
 
-pub version_range : (s e : Version) → version_eq s e ≡ true → comparator_range (Plain (whole s)) ≡ between (from s) (at_most e)
-version_range s e h = ap (λ (end : Version). between (from s) (at_most end)) ((version_told s e).0 h)
+pub version_range : (s e : Version) → version_eq s e ≡ true → comparator_range (Plain (whole s)) ≡ between (from s) (up_to e)
+version_range s e h = ap (λ (end : Version). between (from s) (up_to end)) ((version_told s e).0 h)
 
 -- two plain versions by their numbers
 plain_range : {start end : Version} (s e : Version) → s ≡ start → e ≡ end → between (from start) (to_below end) ≡ between (from s) (to_below e)
@@ -228,7 +228,7 @@ not_short s e h long = go (is_pre_of_zero s) refl h
 
 between_means : (k l : VersionBoundKind) (s e : Version) → (not (is_pre_of_zero s) || has_own_form k l s e) ≡ true → Means (shortest_between k l s e) (between (bound_at k s) (bound_at l e))
 between_means kind.Inclusive kind.Inclusive s e h =
-    let P : List Comparator → Type 0 = λ cs. Means cs (between (from s) (at_most e)) in
+    let P : List Comparator → Type 0 = λ cs. Means cs (between (from s) (up_to e)) in
     by_test P (version_eq s e) (λ same. alone_means (Plain (whole s)) _ (version_range s e same)) (λ other.
     by_test P (is_plain s 0 0 0) (end_means kind.Inclusive s e) (λ _.
     both_mean kind.Inclusive kind.Inclusive s e (not_below _ _ h other)))

@@ -9,7 +9,7 @@ use Rattle.std.specs.declared.cmp.Ordering.TheVariants.{Less, Equal, Greater}
 use Rattle.semver_base.specs.Clamp.{clamped, clamped_end, clamped_start, greater_of, lesser_of, of_tied, stopped_at, stopped_by}
 use Rattle.semver_base.specs.Meaning.{everything, release}
 use Rattle.semver_base.specs.Overlap.{ends_at_zero}
-use Rattle.semver_base.specs.PartialTable.{above_by, all_fit, at_least_by, at_most_by, below_by, caret_by, caret_patch, equal_by, greater_range_by, lower_to_below, lowest, number_fits, or_zero, pre_of, tilde_by, upper_by, without_build, Line}
+use Rattle.semver_base.specs.PartialTable.{above_by, all_fit, at_least_by, at_most_by, below_by, caret_by, caret_patch, equal_by, greater_range_by, lower_to_below, lowest, number_fits, or_zero, version_with_pre, tilde_by, upper_by, without_build, Line}
 use Rattle.semver_base.specs.Precedence.{precedence_cmp}
 use Rattle.semver_base.specs.VersionGrammar.{AllNumbersFit}
 use Rattle.semver_base.specs.VersionText.{AreParts, IsWritable}
@@ -163,7 +163,7 @@ above_writable p low (Val major) Wildcard patch h k sums = record { start = rele
 above_writable p low (Val major) (Val minor) Wildcard h k sums = record { start = release_writable major (minor + 1) 0 h (first_sum (minor + 1) sums) refl; end = tt }
 above_writable p low (Val major) (Val minor) (Val patch) h k sums = record { start = bare p low; end = tt }
 
-pre_writable : (p : Partial) → IsWritable (lowest p) → (major minor patch : ℕ) → number_fits major ≡ true → number_fits minor ≡ true → number_fits patch ≡ true → IsWritable (pre_of p major minor patch)
+pre_writable : (p : Partial) → IsWritable (lowest p) → (major minor patch : ℕ) → number_fits major ≡ true → number_fits minor ≡ true → number_fits patch ≡ true → IsWritable (version_with_pre p major minor patch)
 pre_writable p low major minor patch h j k = record { numbers = record { major = small major h; minor = small minor j; patch = small patch k }; pre = low.pre; build = tt }
 
 at_most_writable : (p : Partial) → IsWritable (lowest p) → (major minor patch : XRange) → number_fits (or_zero major) ≡ true → number_fits (or_zero patch) ≡ true

@@ -3,7 +3,7 @@ use Rattle.std.specs.Prelude.{◌≡◌, List, [], true}
 use Rattle.std.specs.Ordering.{is_ge}
 use Rattle.std.specs.declared.cmp.Ordering.TheVariants.{Less}
 use Rattle.semver_base.specs.Meaning.{everything, from, release, to_below}
-use Rattle.semver_base.specs.PartialTable.{at_most, between, bound_at}
+use Rattle.semver_base.specs.PartialTable.{up_to, between, bound_at}
 use Rattle.semver_base.specs.Precedence.{precedence_cmp}
 use Rattle.semver_base.specs.declared.range.RangeBound.TheVariants as bound
 use Rattle.semver_base.specs.declared.range.VersionBoundKind.{VersionBoundKind}
@@ -26,7 +26,7 @@ reread_set ranges = kept Normal (shortest_tree ranges)
 pub data IsSettled : VersionRange → Type 0 where
   all : IsSettled everything
   no_end : {k : VersionBoundKind} {s : Version} → s.build ≡ [] → IsSettled (between (bound_at k s) bound.Unbounded)
-  one_version : {s : Version} → IsSettled (between (from s) (at_most s))
+  one_version : {s : Version} → IsSettled (between (from s) (up_to s))
   -- the start may have a build
   short : {s e : Version} → has_short_form s e ≡ true → IsSettled (between (from s) (to_below e))
   -- the start is not below 0.0.0, and below the end
