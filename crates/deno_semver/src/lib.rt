@@ -6,7 +6,7 @@
 
 pub mod npm;
 
-pub use semver_base::failure::{ParseFailure, Refusal};
+pub use semver_base::failure::ParseFailure;
 pub use semver_base::partial::{Partial, XRange};
 pub use semver_base::range::{
     RangeBound, VersionBound, VersionBoundKind, VersionRange, VersionRangeSet,
@@ -14,5 +14,5 @@ pub use semver_base::range::{
 pub use semver_base::string::{CowItem, CowVec, SmallStackString};
 pub use semver_base::version::{Version, VersionParseError, VersionPreOrBuild};
 pub use semver_req::range_set_or_tag::{PackageTag, RangeSetOrTag};
-pub use semver_req::req::VersionReq;
+pub use semver_req::req::{VersionReq, VersionReqNormalizedParseError};
 pub use semver_req::specifier::VersionReqSpecifierParseError;

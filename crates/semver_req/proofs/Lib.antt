@@ -1,7 +1,7 @@
-pub mod Blanks
 pub mod ComparatorReadings
 pub mod Components
 pub mod Cuts
+pub mod Equality
 pub mod Fitting
 pub mod Folding
 pub mod Joining

@@ -31,7 +31,7 @@ use Rattle.semver_req.specs.declared.range_set_or_tag.RangeOrInvalid.{RangeOrInv
 use Rattle.semver_req.specs.declared.range_set_or_tag.RangeOrInvalid.TheVariants as read
 use Rattle.semver_req.specs.declared.range_set_or_tag.RangeSetOrTag.{RangeSetOrTag}
 use Rattle.semver_req.specs.declared.range_set_or_tag.RangeSetOrTag.TheVariants as inner
-use Rattle.semver_req.proofs.Blanks.{blank_whole}
+use Rattle.semver_base.proofs.Blanks.{blank_whole}
 use Rattle.semver_req.proofs.PieceReadings.{blank_piece, piece_one}
 
 -- ---- one piece

@@ -1,22 +1,69 @@
 //! Laws of requirements and of their grammars, each as the contract of a call.
 //!
+//! `==` of each type of this crate says yes exactly where the two values are the same, as contracts see them; that of
+//! requirements where what they stand for is the same. A caller whose proof needs that calls the law of its type in place
+//! of `==`. Equal values hash alike: `equal_hash_alike` of `semver_base` says it of each type that has `Hash`.
+//!
 //! The laws of the grammars speak of texts and ranges alone, so their calls do nothing: what they promise is what a
 //! caller cites.
 
-ghost use Rattle.std.specs.Prelude.{IsTrue};
+ghost use Rattle.std.specs.Prelude.{◌≡◌, ◌↔◌, IsTrue};
 ghost use Rattle.semver_req.specs.KeptSet.{KeptSetsMeanTheirTrees};
 ghost use Rattle.semver_req.specs.NormalTable.{IsNormalTable};
 ghost use Rattle.semver_req.specs.Outcome.{TextsHaveOneOutcome};
 ghost use Rattle.semver_req.specs.Rereading.{NormalTextsKeepTheirMeaning, OneRereadingSettles, SettledSetsAreTheirTexts};
 
-use crate::req::VersionReq;
+use crate::common::values::{Flavour, PrimitiveKind};
+use crate::range_set_or_tag::RangeSetOrTag;
+use crate::req::{VersionReq, VersionReqNormalizedParseError};
+use crate::specifier::VersionReqSpecifierParseError;
 
-/// Whether `==` of two requirements agrees with `==` of what they stand for: it always does, so the texts that they
-/// were read from have no part in it.
-pub fn equality_is_of_inner(one: &VersionReq, other: &VersionReq) -> bool
-    ensures { IsTrue result }
+/// Whether two grammars are the same.
+pub fn same_flavours(one: &Flavour, other: &Flavour) -> bool
+    ensures { IsTrue result ↔ (one.now ≡ other.now) }
 {
-    (one == other) == (one.inner() == other.inner())
+    one == other
+}
+
+/// Whether two signs are the same.
+pub fn same_signs(one: &PrimitiveKind, other: &PrimitiveKind) -> bool
+    ensures { IsTrue result ↔ (one.now ≡ other.now) }
+{
+    one == other
+}
+
+/// Whether two requirements stand for the same: the same ranges in the same order, or the same tag.
+pub fn same_inner(one: &RangeSetOrTag, other: &RangeSetOrTag) -> bool
+    ensures { IsTrue result ↔ (one.now ≡ other.now) }
+{
+    one == other
+}
+
+/// Whether two requirements are equal: they are where they stand for the same, whatever texts they were read from.
+pub fn equal_requirements(one: &VersionReq, other: &VersionReq) -> bool
+    ensures { IsTrue result ↔ (one.now.inner ≡ other.now.inner) }
+{
+    one == other
+}
+
+/// Whether two errors of the strict reader are the same.
+pub fn same_specifier_errors(
+    one: &VersionReqSpecifierParseError,
+    other: &VersionReqSpecifierParseError,
+) -> bool
+    ensures { IsTrue result ↔ (one.now ≡ other.now) }
+{
+    one == other
+}
+
+/// Whether two errors of the normalized reader are the same.
+pub fn same_normalized_errors(
+    one: &VersionReqNormalizedParseError,
+    other: &VersionReqNormalizedParseError,
+) -> bool
+    ensures { IsTrue result ↔ (one.now ≡ other.now) }
+{
+    one == other
 }
 
 /// A text has one outcome in each of the three grammars: never two trees of comparators, nor a tree and a tag, nor a

@@ -30,7 +30,7 @@ use std::alloc::{AllocError, Global};
 pub type PackageTag = SmallStackString;
 
 /// Ranges of versions, or the name of a version that a registry keeps.
-#[derive(PartialEq, Eq, Hash, Drop)]
+#[derive(PartialEq, Eq, Hash, Debug, Drop)]
 pub enum RangeSetOrTag {
     /// Ranges, of which a version need match only one.
     RangeSet(VersionRangeSet),
@@ -39,7 +39,7 @@ pub enum RangeSetOrTag {
 }
 
 /// What is read of a piece of a text, which is what stands between two `||`.
-#[derive(Drop)]
+#[derive(Debug, Drop)]
 pub enum RangeOrInvalid {
     /// The range of its comparators.
     Range(VersionRange),

@@ -23,7 +23,7 @@ use thiserror::Error;
 /// Two requirements are equal where they stand for the same, whatever their texts are. A requirement is displayed as
 /// its text.
 #[derive(Drop)]
-#[derive_where(PartialEq, Eq, Hash)]
+#[derive_where(PartialEq, Eq, Hash, Debug)]
 pub struct VersionReq {
     #[derive_where(skip)]
     raw_text: SmallStackString,
@@ -54,6 +54,15 @@ impl VersionReqNormalizedParseError {
         ensures { IsTrue result ↔ (self.now.source ≡ None) }
     {
         self.source.is_memory()
+    }
+
+    /// The same error again. It is an error only where no memory is left.
+    pub fn copy(&self) -> Result<Self, AllocError>
+        ensures { IfOk result (λ error. error ≡ self.now) }
+    {
+        Ok(VersionReqNormalizedParseError {
+            source: self.source.copy()?,
+        })
     }
 }
 

@@ -13,7 +13,7 @@ use crate::range_set_or_tag::RangeSetOrTag;
 use crate::req::VersionReq;
 use semver_base::failure::{ParseFailure, Refusal};
 use semver_base::lexical::values::Measured;
-use semver_base::lexical::after_blanks;
+use semver_base::lexical::is_blank;
 use semver_base::range::{VersionRange, VersionRangeSet};
 use semver_base::string::{CowVec, SmallStackString};
 use std::alloc::{AllocError, Global};
@@ -33,6 +33,15 @@ impl VersionReqSpecifierParseError {
         ensures { IsTrue result ↔ (self.now.source ≡ None) }
     {
         self.source.is_memory()
+    }
+
+    /// The same error again. It is an error only where no memory is left.
+    pub fn copy(&self) -> Result<Self, AllocError>
+        ensures { IfOk result (λ error. error ≡ self.now) }
+    {
+        Ok(VersionReqSpecifierParseError {
+            source: self.source.copy()?,
+        })
     }
 }
 
@@ -60,13 +69,6 @@ impl From<VersionReqSpecifierParseError> for ParseFailure {
     fn from(error: VersionReqSpecifierParseError) -> ParseFailure {
         error.source
     }
-}
-
-// Whether the text is blanks, or empty.
-fn is_blank(text: &str) -> bool
-    ensures { IsTrue result ↔ IsBlanks text.now tt }
-{
-    after_blanks(text).is_empty()
 }
 
 // The whole text as a tag, or the refusal where it is none.

@@ -49,6 +49,7 @@ impl Mark {
 }
 
 /// A comparator as it is written.
+#[derive(Debug)]
 pub struct Written {
     pub mark: Mark,
     /// The partial version after the mark; `Measured::TooLarge` where a number in it is past 18446744073709551615.

@@ -9,7 +9,7 @@ use semver_base::failure::ParseFailure;
 use semver_base::lexical::values::Strictness;
 use semver_base::partial::Partial;
 use semver_base::range::{VersionBoundKind, VersionRange};
-use std::alloc::Global;
+use std::alloc::{AllocError, Global};
 
 /// Which grammar of requirements a text is read by.
 #[derive(Clone, Copy, Debug, PartialEq, Eq)]
@@ -78,13 +78,23 @@ impl PrimitiveKind {
 }
 
 /// A sign and the partial version after it.
-#[derive(Drop)]
+#[derive(Debug, Drop)]
 pub struct Primitive {
     pub kind: PrimitiveKind,
     pub partial: Partial,
 }
 
 impl Primitive {
+    /// The same sign and partial version again. It is an error only where no memory is left.
+    pub fn copy(&self) -> Result<Self, AllocError>
+        ensures { IfOk result (λ primitive. primitive ≡ self.now) }
+    {
+        Ok(Primitive {
+            kind: self.kind,
+            partial: self.partial.copy()?,
+        })
+    }
+
     /// The range of the comparator (node-semver's primitives).
     ///
     /// The refusal "Version bound is too large." comes exactly where a number that the range raises is past
