@@ -195,9 +195,6 @@ renamed B f {v = v} to from p = record {
   longest = λ a b w e h. let m = to a w h in let best = p.longest a b m.value e m.stands in (best.0, λ s. m.is ∙ ap f (best.1 s));
 }
 
-pub renamed_none : {V W : Type 0} {A : List ℕ → V → Type 0} (B : List ℕ → W → Type 0) (f : V → W) {text : List ℕ} → ((a : List ℕ) (w : W) → B a w → Mapped f A a w) → HasNone A text → HasNone B text
-renamed_none B f to p = record { none = λ a b w e h. let m = to a w h in p.none a b m.value e m.stands }
-
 -- one of two grammars, where the other has no front
 module _ {V : Type 0} {A B : List ℕ → V → Type 0} where
   pub either_this : {text rest : List ℕ} {v : V} → IsLongest A text v rest → HasNone B text → IsLongest (Either A B) text v rest
@@ -221,21 +218,6 @@ module _ {V : Type 0} {A B : List ℕ → V → Type 0} where
       go a b w e (this h) = m.none a b w e h
       go a b w e (that h) = n.none a b w e h
 
--- A front has one value: two readings of one whole text agree.
-pub one_value : {V : Type 0} {R : List ℕ → V → Type 0} {text : List ℕ} {v w : V} → ((r : Option (V × List ℕ)) × Reads R text r) → R text v → R text w → v ≡ w
-one_value {V} {R} {text} {v} {w} read h k = go read.0 read.1
-  where
-    whole : text ≡ text ++ []
-    whole = sym (append-nil text)
-
-    go : (r : Option (V × List ℕ)) → Reads R text r → v ≡ w
-    go None p = absurd (p.none text [] v whole h)
-    go (Some q) p =
-        let size = ap length p.text_is ∙ length-append p.front q.1 in
-        let one = p.longest text [] v whole h in
-        let two = p.longest text [] w whole k in
-        one.1 (omega (arith, one.0)) ∙ sym (two.1 (omega (arith, one.0)))
-
 -- the longest front is one, with its value and what follows it
 pub one_front : {V : Type 0} {R : List ℕ → V → Type 0} {text rest end : List ℕ} {v w : V} → IsLongest R text v rest → IsLongest R text w end → (v ≡ w) × (rest ≡ end)
 one_front {V} {R} {text} {rest} {end} {v} {w} p q =
@@ -257,15 +239,3 @@ rest_is {V} {W} {A} {B} {text} {middle} {v} apart some p a b u w e h k = elim (f
     begins (y ∷ b) more x two k long =
         let same_byte : y ≡ x = cc in
         apart.apart x (record { front = a; more = more; short_value = u; long_value = v; short = h; long = long }) (record { more = b; value = w; stands = rw same_byte at k })
-
--- both have a front, and the first has the longer one
-pub either_longer : {V : Type 0} {A B : List ℕ → V → Type 0} {text rest more : List ℕ} {v w : V} → IsLongest A text v rest → IsLongest B text w more → length rest < length more → IsLongest (Either A B) text v rest
-either_longer {V} {A} {B} {text} {rest} {more} {v} p q less = record { front = p.front; text_is = p.text_is; stands = this p.stands; longest = go }
-  where
-    go : (a b : List ℕ) (w : V) → text ≡ a ++ b → Either A B a w → (length a ≤ length p.front) × (length a ≡ length p.front → w ≡ v)
-    go a b w e (this h) = p.longest a b w e h
-    go a b w e (that h) =
-        let best = (q.longest a b w e h).0 in
-        let one = ap length p.text_is ∙ length-append p.front rest in
-        let two = ap length q.text_is ∙ length-append q.front more in
-        (omega (arith, best, one, two, less), λ s. absurd (omega (arith, best, one, two, less, s)))

@@ -14,7 +14,6 @@ pub mod PrecedenceLemmas
 pub mod Qualifiers
 pub mod Readings
 pub mod Solid
-pub mod Trims
 pub mod Triples
 pub mod VersionReading
 pub mod WordReadings

@@ -12,9 +12,6 @@ use Rattle.semver_base.proofs.Lists.{IsListing, listed_begins, listed_some, run_
 pub byte_longest : (m : ℕ) (text rest : List ℕ) → text ≡ m ∷ rest → IsLongest (IsByte m) text tt rest
 byte_longest m text rest e = record { front = m ∷ []; text_is = e; stands = refl; longest = λ a b w f h. (omega (arith, ap length h), λ _. refl) }
 
-pub byte_none : (m : ℕ) (text : List ℕ) → ((rest : List ℕ) → text ≡ m ∷ rest → ⊥) → HasNone (IsByte m) text
-byte_none m text other = record { none = λ a b w e h. other b (e ∙ ap (λ t. t ++ b) h) }
-
 pub byte_begins : (m : ℕ) → BeginsBy (IsByte m) (λ x. x == m)
 byte_begins m = record { begins = λ x b. eq-eqb x m (cc b.stands) }
 
@@ -48,9 +45,6 @@ parts_listing = record {
 
 abbrev pub is_parts_byte : ℕ → Bool
 is_parts_byte x = is_part_byte x || (x == 46)
-
-pub parts_begin : BeginsBy IsParts is_part_byte
-parts_begin = listed_begins (run_some is_part_byte) (run_begins is_part_byte)
 
 pub parts_some : NonEmpty IsParts
 parts_some = listed_some (run_some is_part_byte)

@@ -74,10 +74,6 @@ pub pre_plain : (s : Strictness) (text : List ℕ) (r : Option (List (List ℕ) 
 pre_plain Loose text r other not h = loose_plain other r h
 pre_plain Strict text r other not h = absurd (not refl)
 
-pub pre_absent : (s : Strictness) (text : List ℕ) → ((rest : List ℕ) → text ≡ 45 ∷ rest → ⊥) → s ≡ Strict → HasNone (IsPre s) text
-pre_absent Loose text other e = cc e
-pre_absent Strict text other e = marked_other other
-
 pub build_marked : (text rest : List ℕ) (r : Option (List (List ℕ) × List ℕ)) → text ≡ 43 ∷ rest → Reads IsParts rest r → Reads IsBuild text r
 build_marked text rest None e h = marked_none e h
 build_marked text rest (Some p) e h = marked_some e h
@@ -111,9 +107,6 @@ pre_build_apart s = apart_by is_parts_byte (λ x. x == 43) plus_apart (optional_
 pub optional_read : {A : List ℕ → List (List ℕ) → Type 0} {text rest : List ℕ} {v : List (List ℕ)} → NonEmpty A → IsLongest A text v rest → IsSeen or_none (Optional A) text v rest
 optional_read {v = v} some p = record { value = Some v; longest = optional_some some p; seen = refl }
 
-pub optional_unread : {A : List ℕ → List (List ℕ) → Type 0} {text : List ℕ} → HasNone A text → IsSeen or_none (Optional A) text [] text
-optional_unread p = record { value = None; longest = optional_none p; seen = refl }
-
 pub qualifier_read : (s : Strictness) {text middle rest : List ℕ} {pre build : List (List ℕ)} → IsSeen or_none (Optional (IsPre s)) text pre middle → IsSeen or_none (Optional IsBuild) middle build rest → IsLongest (IsQualifier s) text (record { pre = pre; build = build }) rest
 qualifier_read s p q =
     let both = mapped {f = qualifier_of} (followed (pre_build_apart s) p.longest q.longest) in
@@ -132,19 +125,3 @@ no_strict_digit x h k = grind (arith, nat_tests)
 
 pub strict_no_digit : (x : ℕ) (more : List ℕ) (w : Qualifier) → IsQualifier Strict (x ∷ more) w → is_ascii_digit x ≡ true → ⊥
 strict_no_digit x more w h = no_strict_digit x (strict_begins.begins x (record { more = more; value = w; stands = h }))
-
--- what follows a longest loose number doesn't go on with digits
-pub number_end : {text middle : List ℕ} {n : ℕ} (p : IsLongest IsLooseNumber text n middle) (q rest : List ℕ) → middle ≡ q ++ rest → IsNumberEnd p.front q
-number_end p [] rest e = λ d g. cc g
-number_end p (y ∷ q) rest e = λ d g. loose_end p y (q ++ rest) e g
-
-starts_digit : (a : List ℕ) (v : ℕ) → IsLooseNumber a v → is_ascii_digit (slice_index a 0) ≡ true
-starts_digit [] v h = absurd (loose_some.some v h)
-starts_digit (y ∷ a) v h = loose_begins.begins y (record { more = a; value = v; stands = h })
-
--- the number that is taken goes on as long as it can
-pub number_clash : {W : Type 0} (B : List ℕ → W → Type 0) → NoClash IsNumberEnd IsLooseNumber B
-number_clash B = record {
-  apart = λ a m b x v u w short long h seam.
-      seam (starts_digit a v short) (loose_goes.goes x (record { front = a; more = m; short_value = v; long_value = u; short = short; long = long }));
-}

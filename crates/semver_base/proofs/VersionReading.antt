@@ -232,9 +232,6 @@ one_version {text} {v} {w} p h =
     let size = ap length p.text_is ∙ ap length (append-nil p.front) in
     (p.longest text [] w (whole text) h).1 size
 
-no_number_fault : {text : List ℕ} → HasNone IsLooseNumber text → (fault : Refusal) → IsFaultOfNumbers text fault → ⊥
-no_number_fault none fault f = none_no_fault none f
-
 -- two first faults of one text are the same
 one_number_fault : {missing : List Refusal} {text : List ℕ} {a b : Refusal} → IsNumberFault missing text a → IsNumberFault missing text b → a ≡ b
 one_number_fault (too_large p h) (too_large q k) = refl

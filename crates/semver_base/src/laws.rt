@@ -5,9 +5,13 @@
 //! of its type in place of `==`.
 //!
 //! Equal values hash alike: they write the same to every `Hasher`. `equal_hash_alike` says it of each type that has `Hash`.
+//!
+//! The last law speaks of versions and their texts alone, so its call does nothing: what it promises is what a caller
+//! cites.
 
 ghost use Rattle.std.specs.Prelude.{◌≡◌, ◌↔◌, IsTrue};
 ghost use Rattle.semver_base.specs.Sameness.{TellsSame};
+ghost use Rattle.semver_base.specs.VersionText.{VersionTextsReadBack};
 
 use crate::failure::{ParseFailure, Refusal};
 use crate::lexical::values::{Measured, Strictness};
@@ -122,3 +126,8 @@ pub fn equal_hash_alike<T: Hash>(one: &T, other: &T) -> bool
 {
     one == other
 }
+
+/// The text of a version whose identifiers are parts is read as that version, build included (SemVer 2.0.0, section 2).
+pub fn version_texts_read_back()
+    ensures { VersionTextsReadBack }
+{}

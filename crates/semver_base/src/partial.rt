@@ -2,7 +2,7 @@
 
 ghost use Rattle.std.specs.Prelude.{◌≡◌, ◌+◌, ◌∷◌, [], IfOk, IfErr, None, OnOk, true};
 ghost use Rattle.semver_base.specs.Meaning.{from, release, to_below};
-ghost use Rattle.semver_base.specs.PartialTable.{IsBoundRefusal, all_fit, between, caret, equal, greater_range, greater_than, less_than, lowest, or_zero, version_with_pre, tilde, upper, without_build};
+ghost use Rattle.semver_base.specs.PartialTable.{IsBoundRefusal, all_fit, between, caret, equal, greater_range, greater_than, less_than, lower_to_below, lowest, or_zero, version_with_pre, tilde, upper, without_build};
 
 use crate::failure::{ParseFailure, Refusal};
 use crate::range::{RangeBound, VersionBoundKind, VersionRange};
@@ -108,7 +108,7 @@ impl Partial {
         minor: u64,
         patch: u64,
     ) -> Result<VersionRange, ParseFailure>
-        ensures range { IfOk result (λ range. range ≡ between (from (lowest self.now)) (to_below (release major minor patch))) }
+        ensures range { IfOk result (λ range. range ≡ (lower_to_below self.now (release major minor patch) []).range) }
         ensures refused { IfErr result (λ failure. failure ≡ None) }
     {
         Ok(VersionRange {

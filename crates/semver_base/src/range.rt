@@ -283,7 +283,8 @@ impl VersionRange {
         ensures means { IfOk result (MeansBoth self.now other.now) }
         ensures releases { IfOk result (MatchesBoth self.now other.now) }
         ensures crossed { IfOk result (λ range. HaveCrossed self.now other.now → HoldsNothing range) }
-        ensures stays_empty { IfOk result (λ range. HoldsNothing self.now ⊎ HoldsNothing other.now → HoldsNothing range) }
+        ensures stays_empty { IfOk result (λ range. HoldsNothing self.now ⊎ HoldsNothing other.now
+            → HoldsNothing range) }
     {
         let start = self.start.clamp_start(alloc, &other.start)?;
         let end = self.end.clamp_end(alloc, &other.end)?;

@@ -46,10 +46,6 @@ folded_bounds_from start (range ∷ ranges) v =
     ∙ ap (λ (held : Bool). held && list_all (λ next. bounds_hold next v) ranges) (clamped_bounds start range v)
     ∙ and_grouped (bounds_hold start v) (bounds_hold range v) _
 
--- the bounds of the fold hold what all bounds hold
-pub folded_bounds : (ranges : List VersionRange) (v : Version) → bounds_hold (folded ranges) v ≡ list_all (λ range. bounds_hold range v) ranges
-folded_bounds ranges v = folded_bounds_from everything ranges v
-
 -- the tests of two comparators that are replaced by one, among others
 or_joined : (r c a b o : Bool) → (r || (c || false)) ≡ (r || (a || (b || false))) → (r || (c || o)) ≡ (r || (a || (b || o)))
 or_joined true c a b o e = refl
@@ -135,10 +131,10 @@ caret_ends p (Val major) Wildcard patch = raised_first major _
 caret_ends p (Val major) (Val minor) patch = go (nat_lt 0 major) (nat_lt 0 minor)
   where
     go : (a b : Bool) → ends_at_zero (
-      if a then lower_to_below p (release (major + 1) 0 0) ((major + 1) ∷ [])
-      else if b then lower_to_below p (release 0 (minor + 1) 0) ((minor + 1) ∷ [])
-      else caret_patch p patch
-    ).range.end ≡ false
+        if a then lower_to_below p (release (major + 1) 0 0) ((major + 1) ∷ [])
+        else if b then lower_to_below p (release 0 (minor + 1) 0) ((minor + 1) ∷ [])
+        else caret_patch p patch
+        ).range.end ≡ false
     go true b = raised_first major _
     go false true = raised_first minor _
     go false false = caret_patch_ends p patch

@@ -37,16 +37,22 @@ use Rattle.semver_req.proofs.PieceReadings.{blank_piece, piece_one}
 -- ---- one piece
 
 pub followed_blank : (followed : Bool) (piece rest : List ℕ) (b : Bool) → followed ≡ true → b ≡ (length rest == 0) → IsLongest IsBlanks piece tt rest → IsTrue b ↔ IsEverything followed piece
-followed_blank followed piece rest b is e p = let blank = blank_whole piece rest b e p in (λ h. inr (is, blank.0 h), λ h. elim h [
-  | inl nil ↦ blank.1 (rw nil (NoCharPasses-nil is_not_whitespace))
-  | inr k ↦ blank.1 k.1
-])
+followed_blank followed piece rest b is e p = let blank = blank_whole piece rest b e p in (
+  λ h. inr (is, blank.0 h),
+  λ h. elim h [
+    | inl nil ↦ blank.1 (rw nil (NoCharPasses-nil is_not_whitespace))
+    | inr k ↦ blank.1 k.1
+  ],
+)
 
 pub nothing_more : (followed : Bool) (piece : List ℕ) (b : Bool) → followed ≡ false → b ≡ (length piece == 0) → IsTrue b ↔ IsEverything followed piece
-nothing_more followed piece b is e = (λ h. inl (nil_from_length piece (grind (arith, nat_tests))), λ h. elim h [
-  | inl nil ↦ rw (e, nil) refl
-  | inr k ↦ let both : false ≡ true = sym is ∙ k.0 in cc both
-])
+nothing_more followed piece b is e = (
+  λ h. inl (nil_from_length piece (grind (arith, nat_tests))),
+  λ h. elim h [
+    | inl nil ↦ rw (e, nil) refl
+    | inr k ↦ let both : false ≡ true = sym is ∙ k.0 in cc both
+  ],
+)
 
 abbrev IsNormalList : List ℕ → List Comparator → Type 0
 IsNormalList = Listed (IsComparator Normal) IsSomeBlanks
@@ -193,9 +199,6 @@ kept_more tree cs =
     ap without_none (map-append kept_range tree (cs ∷ []))
     ∙ split_filter (λ range. not (ends_at_zero range.end)) (map kept_range tree) (kept_range cs ∷ [])
     ∙ ap (λ (rest : List VersionRange). without_none (map kept_range tree) ++ rest) (without_one (kept_range cs))
-
-one_longer : {A : Type 0} (xs : List A) (x : A) → length (xs ++ x ∷ []) ≡ suc (length xs)
-one_longer xs x = omega (arith, length-append xs (x ∷ []))
 
 module _ (b : Bool) (p : List ℕ) (ps : List (List ℕ)) (piece : List ℕ) (tree : List (List Comparator)) where
   told_good : (o : Option Refusal) → IsTold Normal b (p ∷ ps) tree o → (cs : List Comparator) → IsTold Normal b ((p ∷ ps) ++ piece ∷ []) (tree ++ cs ∷ []) o

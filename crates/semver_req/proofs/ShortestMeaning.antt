@@ -196,10 +196,6 @@ by_form P s e own rest =
 
 -- ---- the premise
 
-not_false : (a : Bool) → not a ≡ true → a ≡ false
-not_false true h = cc h
-not_false false h = refl
-
 not_below : (a b : Bool) → (not a || b) ≡ true → b ≡ false → a ≡ false
 not_below true b h k = cc (h, k)
 not_below false b h k = refl

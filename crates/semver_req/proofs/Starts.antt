@@ -49,10 +49,10 @@ caret_starts p (Val major) Wildcard patch = refl
 caret_starts p (Val major) (Val minor) patch = go (nat_lt 0 major) (nat_lt 0 minor)
   where
     go : (a b : Bool) → has_start (
-      if a then lower_to_below p (release (major + 1) 0 0) ((major + 1) ∷ [])
-      else if b then lower_to_below p (release 0 (minor + 1) 0) ((minor + 1) ∷ [])
-      else caret_patch p patch
-    ).range ≡ true
+        if a then lower_to_below p (release (major + 1) 0 0) ((major + 1) ∷ [])
+        else if b then lower_to_below p (release 0 (minor + 1) 0) ((minor + 1) ∷ [])
+        else caret_patch p patch
+        ).range ≡ true
     go true b = refl
     go false true = refl
     go false false = caret_patch_starts p patch

@@ -52,10 +52,10 @@ caret_stays (Val major) (Val minor) patch pre build = go (nat_lt 0 major) (nat_l
     p = partial (Val major) (Val minor) patch pre build
 
     go : (a b : Bool) → nat_lt 0 major ≡ a → nat_lt 0 minor ≡ b → Stays (
-      if a then lower_to_below p (release (major + 1) 0 0) ((major + 1) ∷ [])
-      else if b then lower_to_below p (release 0 (minor + 1) 0) ((minor + 1) ∷ [])
-      else caret_patch p patch
-    ).range
+        if a then lower_to_below p (release (major + 1) 0 0) ((major + 1) ∷ [])
+        else if b then lower_to_below p (release 0 (minor + 1) 0) ((minor + 1) ∷ [])
+        else caret_patch p patch
+        ).range
     go true b h k = below_stays _ _ (below_major (lowest p))
     go false true h k = below_stays _ _ (rw (zero_from major h) (below_minor (lowest (partial (Val 0) (Val minor) patch pre build))))
     go false false h k = caret_patch_stays major minor patch pre build (zero_from major h) (zero_from minor k)

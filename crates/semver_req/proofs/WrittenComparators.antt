@@ -85,14 +85,17 @@ module _ (v : Version) (h : IsWritable v) where
   }
 
   third_written : (f : Flavour) → IsThird f (46 ∷ (decimal v.patch ++ (marked 45 v.pre ++ marked 43 v.build))) (Val v.patch, record { pre = v.pre; build = v.build })
-  third_written f = (refl, record {
-    first = decimal v.patch;
-    second = marked 45 v.pre ++ marked 43 v.build;
-    text_is = refl;
-    in_first = component_written f v.patch h.numbers.patch;
-    in_second = qualifier_written (strictness_of f) v.pre v.build h.pre h.build;
-    seam = λ digit. no_digit_written v.pre v.build;
-  })
+  third_written f = (
+    refl,
+    record {
+      first = decimal v.patch;
+      second = marked 45 v.pre ++ marked 43 v.build;
+      text_is = refl;
+      in_first = component_written f v.patch h.numbers.patch;
+      in_second = qualifier_written (strictness_of f) v.pre v.build h.pre h.build;
+      seam = λ digit. no_digit_written v.pre v.build;
+    },
+  )
 
   -- the text of a version is a partial version of each grammar
   pub whole_reads : (f : Flavour) → IsPlainPartial f (version_text v) (whole v)

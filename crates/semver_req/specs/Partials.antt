@@ -1,7 +1,7 @@
 -- Partial versions as they are written in the three grammars of requirements. Numbers are of any size. Source:
 -- node-semver's range grammar (`xr`, `partial`, `qualifier`); the normalized and the strict grammar are narrower.
 use Rattle.std.specs.Prelude.{ℕ, List, [], Bool, true, ◌||◌, ◌&&◌, ◌==◌, Option, Some, None, if◌then◌else◌, drop}
-use Rattle.semver_base.specs.Grammar.{Either, Followed, Joined, Mapped, Marked, OneByte, Optional}
+use Rattle.semver_base.specs.Grammar.{Either, Followed, IsLongest, Joined, Mapped, Marked, OneByte, Optional, ReadsAs}
 use Rattle.semver_base.specs.Lexical.{IsNumber, IsNumberEnd, IsQualifier}
 use Rattle.semver_base.specs.PartialTable.{number_fits}
 use Rattle.semver_base.specs.declared.lexical.values.Measured.{Measured}
@@ -115,3 +115,12 @@ assembled major second = assembled_by major second.minor second.patch second.qua
 abbrev pub answer_at : {X : Type 0} → List ℕ → Option (X × ℕ) → Option (X × List ℕ)
 answer_at text None = None
 answer_at text (Some p) = Some (p.0, drop p.1 text)
+
+-- what a reader answers over a text and a place: the value of the longest front of what follows the place, and the place
+-- that it reaches
+abbrev pub ReadsAt : {V X : Type 0} → (V → X) → (List ℕ → V → Type 0) → List ℕ → ℕ → Option (X × ℕ) → Type 0
+ReadsAt see R text place answer = ReadsAs see R (drop place text) (answer_at text answer)
+
+-- the longest front of what follows the place has this value, and reaches the end
+abbrev pub IsLongestAt : {V : Type 0} → (List ℕ → V → Type 0) → List ℕ → ℕ → V → ℕ → Type 0
+IsLongestAt R text place value end = IsLongest R (drop place text) value (drop end text)

@@ -6,10 +6,10 @@
 
 ghost use Rattle.std.specs.Prelude.{◌≡◌, IfOk, IfSome, drop};
 ghost use Rattle.std.specs.Str.{IsCharBoundary};
-ghost use Rattle.semver_base.specs.Grammar.{IsAfterOne, IsLongest, IsSeen, Optional, Reads, ReadsAs, answer_of};
+ghost use Rattle.semver_base.specs.Grammar.{IsAfterOne, IsSeen, Optional, Reads, ReadsAs, answer_of};
 ghost use Rattle.semver_base.specs.Lexical.{IsQualifier};
 ghost use Rattle.semver_req.specs.Comparators.{IsMaybeEqual, IsPrimitive, IsSign, primitive_of, sized_primitive};
-ghost use Rattle.semver_req.specs.Partials.{IsComponent, IsPartial, IsPlainPartial, IsSecond, IsThird, answer_at, assembled, component_of, is_wildcard, second_or_none, sized_component, sized_partial, sized_second, sized_third, strictness_of, third_or_none};
+ghost use Rattle.semver_req.specs.Partials.{IsComponent, IsLongestAt, IsPartial, IsPlainPartial, IsSecond, IsThird, ReadsAt, answer_at, assembled, component_of, is_wildcard, second_or_none, sized_component, sized_partial, sized_second, sized_third, strictness_of, third_or_none};
 
 pub mod comparator;
 pub mod values;
@@ -65,7 +65,11 @@ struct FromPatch {
 }
 
 // `.`, a component and a qualifier.
-fn third(alloc: Global, text: &str, flavour: Flavour) -> Result<Option<(FromPatch, &str)>, AllocError>
+fn third(
+    alloc: Global,
+    text: &str,
+    flavour: Flavour,
+) -> Result<Option<(FromPatch, &str)>, AllocError>
     ensures { IfOk result (λ r. ReadsAs sized_third (IsThird flavour) text.now (answer_of r)) }
 {
     let Some(rest) = after(text, '.') else {
@@ -79,7 +83,11 @@ fn third(alloc: Global, text: &str, flavour: Flavour) -> Result<Option<(FromPatc
 }
 
 // The third part, or a wildcard.
-fn optional_third(alloc: Global, text: &str, flavour: Flavour) -> Result<(FromPatch, &str), AllocError>
+fn optional_third(
+    alloc: Global,
+    text: &str,
+    flavour: Flavour,
+) -> Result<(FromPatch, &str), AllocError>
     ensures { IfOk result (λ r. IsSeen third_or_none (Optional (IsThird flavour)) text.now r.0 r.1.now) }
 {
     match third(alloc, text, flavour)? {
@@ -102,7 +110,11 @@ struct FromMinor {
 }
 
 // `.`, a component, and then the third part or nothing.
-fn second(alloc: Global, text: &str, flavour: Flavour) -> Result<Option<(FromMinor, &str)>, AllocError>
+fn second(
+    alloc: Global,
+    text: &str,
+    flavour: Flavour,
+) -> Result<Option<(FromMinor, &str)>, AllocError>
     ensures { IfOk result (λ r. ReadsAs sized_second (IsSecond flavour) text.now (answer_of r)) }
 {
     let Some(rest) = after(text, '.') else {
@@ -277,7 +289,7 @@ pub fn partial(
     flavour: Flavour,
 ) -> Result<Option<(Measured<Partial>, usize)>, AllocError>
     requires { IsCharBoundary text.now place }
-    ensures value { IfOk result (λ r. ReadsAs sized_partial (IsPartial flavour) (drop place text.now) (answer_at text.now r)) }
+    ensures value { IfOk result (ReadsAt sized_partial (IsPartial flavour) text.now place) }
     ensures reached { IfOk result (λ r. IfSome r (λ p. IsCharBoundary text.now p.1)) }
 {
     match partial_front(alloc, &text[place..], flavour)? {
@@ -297,7 +309,7 @@ pub fn qualifier(
     flavour: Flavour,
 ) -> Result<(Qualifier, usize), AllocError>
     requires { IsCharBoundary text.now place }
-    ensures value { IfOk result (λ r. IsLongest (IsQualifier (strictness_of flavour)) (drop place text.now) r.0 (drop r.1 text.now)) }
+    ensures value { IfOk result (λ r. IsLongestAt (IsQualifier (strictness_of flavour)) text.now place r.0 r.1) }
     ensures reached { IfOk result (λ r. IsCharBoundary text.now r.1) }
 {
     let (qualifier, rest) = lexical::qualifier(alloc, &text[place..], flavour.strictness())?;
@@ -326,7 +338,7 @@ pub fn primitive(
     flavour: Flavour,
 ) -> Result<Option<(Measured<Primitive>, usize)>, AllocError>
     requires { IsCharBoundary text.now place }
-    ensures value { IfOk result (λ r. ReadsAs sized_primitive (IsPrimitive flavour) (drop place text.now) (answer_at text.now r)) }
+    ensures value { IfOk result (ReadsAt sized_primitive (IsPrimitive flavour) text.now place) }
     ensures reached { IfOk result (λ r. IfSome r (λ p. IsCharBoundary text.now p.1)) }
 {
     match primitive_front(alloc, &text[place..], flavour)? {
