@@ -1,11 +1,16 @@
-//! Values as texts, so that a table can show them: `[1.0.0, 2.0.0)` is a range with an inclusive start and an
-//! exclusive end, and `..` is an absent bound.
+//! Values as texts, and texts as values.
+//!
+//! A bound is written `>=1.0.0`, `>1.0.0`, `<=1.0.0` or `<1.0.0`, or `*` where it is absent. A range is its start and its
+//! end with a space between; of these an absent one is left out, and a range without bounds is `*`. A set is its ranges
+//! with ` || ` between, or the empty text. A partial version is its three components, each a number or `*`, and then
+//! `-` and `+` as in a version: `1.*.3-a+b`.
 
-use semver_base::range::{RangeBound, VersionBoundKind, VersionRange};
-use semver_base::string::{CowVec, SmallStackString};
-use semver_base::version::Version;
+use crate::words::Fault;
+use deno_semver::{
+    CowVec, Partial, RangeBound, SmallStackString, Version, VersionBoundKind, VersionRange,
+    VersionRangeSet, XRange,
+};
 use std::alloc::{AllocError, Global};
-use std::test::Fail;
 
 /// The identifiers with a `.` between neighbours.
 pub fn identifiers(alloc: Global, parts: &CowVec<SmallStackString>) -> Result<String, AllocError> {
@@ -19,79 +24,159 @@ pub fn identifiers(alloc: Global, parts: &CowVec<SmallStackString>) -> Result<St
     Ok(text)
 }
 
-pub fn version(alloc: Global, version: &Version) -> Result<String, AllocError> {
-    let (major, minor, patch) = (version.major, version.minor, version.patch);
-    let mut text = format!(in alloc; "{major}.{minor}.{patch}")?;
-    if !version.pre.is_empty() {
-        text.push('-')?;
-        text.push_str(identifiers(alloc, &version.pre)?.as_str())?;
+/// The identifiers of a text that has a `.` between neighbours; none where it is empty.
+pub fn identifiers_of(alloc: Global, text: &str) -> Result<CowVec<SmallStackString>, AllocError> {
+    let mut parts = CowVec::new(alloc);
+    if text.is_empty() {
+        return Ok(parts);
     }
-    if !version.build.is_empty() {
+    for part in text.split('.') {
+        parts.push(SmallStackString::from_str(alloc, part)?)?;
+    }
+    Ok(parts)
+}
+
+/// The pre-release after a `-` and the build after a `+`, where there are any.
+pub fn qualifier(
+    alloc: Global,
+    pre: &CowVec<SmallStackString>,
+    build: &CowVec<SmallStackString>,
+) -> Result<String, AllocError> {
+    let mut text = String::new(alloc);
+    if !pre.is_empty() {
+        text.push('-')?;
+        text.push_str(identifiers(alloc, pre)?.as_str())?;
+    }
+    if !build.is_empty() {
         text.push('+')?;
-        text.push_str(identifiers(alloc, &version.build)?.as_str())?;
+        text.push_str(identifiers(alloc, build)?.as_str())?;
     }
     Ok(text)
 }
 
-pub fn start(alloc: Global, bound: &RangeBound) -> Result<String, AllocError> {
-    let RangeBound::Version(bound) = bound else {
-        return String::from_str(alloc, "(..");
-    };
-    let shown = version(alloc, &bound.version)?;
-    match bound.kind {
-        VersionBoundKind::Inclusive => format!(in alloc; "[{shown}"),
-        VersionBoundKind::Exclusive => format!(in alloc; "({shown}"),
+/// The text of a version, from its public fields.
+pub fn version(alloc: Global, version: &Version) -> Result<String, AllocError> {
+    let (major, minor, patch) = (version.major, version.minor, version.patch);
+    let qualifier = qualifier(alloc, &version.pre, &version.build)?;
+    format!(in alloc; "{major}.{minor}.{patch}{qualifier}")
+}
+
+fn component(alloc: Global, component: XRange) -> Result<String, AllocError> {
+    match component {
+        XRange::Wildcard => String::from_str(alloc, "*"),
+        XRange::Val(number) => format!(in alloc; "{number}"),
     }
 }
 
-pub fn end(alloc: Global, bound: &RangeBound) -> Result<String, AllocError> {
-    let RangeBound::Version(bound) = bound else {
-        return String::from_str(alloc, "..)");
-    };
-    let shown = version(alloc, &bound.version)?;
-    match bound.kind {
-        VersionBoundKind::Inclusive => format!(in alloc; "{shown}]"),
-        VersionBoundKind::Exclusive => format!(in alloc; "{shown})"),
+/// The text of a partial version, with all its components.
+pub fn partial(alloc: Global, partial: &Partial) -> Result<String, AllocError> {
+    let major = component(alloc, partial.major)?;
+    let minor = component(alloc, partial.minor)?;
+    let patch = component(alloc, partial.patch)?;
+    let qualifier = qualifier(alloc, &partial.pre, &partial.build)?;
+    format!(in alloc; "{major}.{minor}.{patch}{qualifier}")
+}
+
+fn component_of(text: &str) -> Result<XRange, Fault> {
+    if text == "*" {
+        return Ok(XRange::Wildcard);
+    }
+    match text.parse::<u64>() {
+        Ok(number) => Ok(XRange::Val(number)),
+        Err(_) => Err(Fault::Unreadable),
     }
 }
 
+/// The partial version of a text with three components.
+pub fn partial_of(alloc: Global, text: &str) -> Result<Partial, Fault> {
+    let (text, build) = text.split_once('+').unwrap_or((text, ""));
+    let (components, pre) = text.split_once('-').unwrap_or((text, ""));
+    let (major, rest) = components.split_once('.').ok_or(Fault::Unreadable)?;
+    let (minor, patch) = rest.split_once('.').ok_or(Fault::Unreadable)?;
+    Ok(Partial {
+        major: component_of(major)?,
+        minor: component_of(minor)?,
+        patch: component_of(patch)?,
+        pre: identifiers_of(alloc, pre)?,
+        build: identifiers_of(alloc, build)?,
+    })
+}
+
+// A bound after its sign: `>` for a start, `<` for an end.
+fn bound(alloc: Global, sign: char, bound: &RangeBound) -> Result<String, AllocError> {
+    let RangeBound::Version(bound) = bound else {
+        return String::from_str(alloc, "*");
+    };
+    let version = version(alloc, &bound.version)?;
+    match bound.kind {
+        VersionBoundKind::Inclusive => format!(in alloc; "{sign}={version}"),
+        VersionBoundKind::Exclusive => format!(in alloc; "{sign}{version}"),
+    }
+}
+
+/// The text of a start.
+pub fn start(alloc: Global, start: &RangeBound) -> Result<String, AllocError> {
+    bound(alloc, '>', start)
+}
+
+/// The text of an end.
+pub fn end(alloc: Global, end: &RangeBound) -> Result<String, AllocError> {
+    bound(alloc, '<', end)
+}
+
+/// The text of a range.
 pub fn range(alloc: Global, range: &VersionRange) -> Result<String, AllocError> {
     let (start, end) = (start(alloc, &range.start)?, end(alloc, &range.end)?);
-    format!(in alloc; "{start}, {end}")
+    match (&range.start, &range.end) {
+        (RangeBound::Unbounded, _) => Ok(end),
+        (_, RangeBound::Unbounded) => Ok(start),
+        (_, _) => format!(in alloc; "{start} {end}"),
+    }
 }
 
-// The bound of this kind, or an absent one.
-fn read_bound(alloc: Global, kind: VersionBoundKind, version: &str) -> Result<RangeBound, Fail> {
-    if version == ".." {
+// The bound whose text begins with this sign, or an absent one.
+fn bound_of(alloc: Global, sign: char, text: &str) -> Result<RangeBound, Fault> {
+    if text == "*" {
         return Ok(RangeBound::Unbounded);
     }
-    Ok(RangeBound::version(kind, Version::parse_standard(alloc, version)?))
-}
-
-pub fn read_start(alloc: Global, text: &str) -> Result<RangeBound, Fail> {
-    match text.strip_prefix('[') {
-        Some(version) => read_bound(alloc, VersionBoundKind::Inclusive, version),
-        None => {
-            let version = text.strip_prefix('(').ok_or("no start")?;
-            read_bound(alloc, VersionBoundKind::Exclusive, version)
-        }
-    }
-}
-
-pub fn read_end(alloc: Global, text: &str) -> Result<RangeBound, Fail> {
-    match text.strip_suffix(']') {
-        Some(version) => read_bound(alloc, VersionBoundKind::Inclusive, version),
-        None => {
-            let version = text.strip_suffix(')').ok_or("no end")?;
-            read_bound(alloc, VersionBoundKind::Exclusive, version)
-        }
-    }
-}
-
-pub fn read_range(alloc: Global, text: &str) -> Result<VersionRange, Fail> {
-    let (start, end) = text.split_once(", ").ok_or("no range")?;
-    Ok(VersionRange {
-        start: read_start(alloc, start)?,
-        end: read_end(alloc, end)?,
+    let text = text.strip_prefix(sign).ok_or(Fault::Unreadable)?;
+    Ok(match text.strip_prefix('=') {
+        Some(version) => RangeBound::inclusive(Version::parse_standard(alloc, version)?),
+        None => RangeBound::exclusive(Version::parse_standard(alloc, text)?),
     })
+}
+
+/// The start that a text stands for.
+pub fn start_of(alloc: Global, text: &str) -> Result<RangeBound, Fault> {
+    bound_of(alloc, '>', text)
+}
+
+/// The end that a text stands for.
+pub fn end_of(alloc: Global, text: &str) -> Result<RangeBound, Fault> {
+    bound_of(alloc, '<', text)
+}
+
+/// The range that a text stands for.
+pub fn range_of(alloc: Global, text: &str) -> Result<VersionRange, Fault> {
+    let (start, end) = match text.split_once(' ') {
+        Some(bounds) => bounds,
+        None if text.starts_with('<') => ("*", text),
+        None => (text, "*"),
+    };
+    Ok(VersionRange {
+        start: start_of(alloc, start)?,
+        end: end_of(alloc, end)?,
+    })
+}
+
+/// The set of ranges that a text stands for.
+pub fn set_of(alloc: Global, text: &str) -> Result<VersionRangeSet, Fault> {
+    let mut ranges = CowVec::new(alloc);
+    if text.is_empty() {
+        return Ok(VersionRangeSet(ranges));
+    }
+    for range in text.split(" || ") {
+        ranges.push(range_of(alloc, range)?)?;
+    }
+    Ok(VersionRangeSet(ranges))
 }

@@ -1,146 +1,157 @@
-//! Each public call on texts, lists, failures and kinds once, with memory left.
+//! Texts, lists, failures, ranges and requirements that are made by hand.
 
-use semver_base::failure::{ParseFailure, Refusal};
-use semver_base::range::{RangeBound, VersionBound, VersionBoundKind, VersionRange};
-use semver_base::string::{CowItem, CowVec, SmallStackString};
-use semver_base::version::{Version, VersionParseError};
-use semver_req::npm::is_valid_npm_tag;
-use semver_req::range_set_or_tag::RangeSetOrTag;
-use semver_req::req::VersionReq;
-use semver_req::specifier::VersionReqSpecifierParseError;
-use std::test::Fail;
+use crate::shown;
+use crate::words::{Answer, Fault, Word, answer, yes_or_no};
+use deno_semver::{
+    CowItem, PackageTag, ParseFailure, RangeSetOrTag, Refusal, SmallStackString, VersionRange,
+    VersionReq,
+};
+use std::alloc::Global;
 
-#[test]
-fn texts(rt: HostRuntime) -> Result<(), Fail> {
-    let alloc = rt.alloc();
-    let text = SmallStackString::from_str(alloc, "b\u{e9}ta")?;
-    assert_eq!(rt; text.as_str(), "b\u{e9}ta");
-    assert!(rt; text.eq_str("b\u{e9}ta"));
-    assert!(rt; !text.eq_str("b\u{e9}t"));
-    assert!(rt; text.copy()? == text);
-    assert!(rt; SmallStackString::new(alloc).as_str().is_empty());
-    let shown = format!(in alloc; "{text}")?;
-    assert_eq!(rt; shown.as_str(), "b\u{e9}ta");
-    Ok(())
-}
-
-#[test]
-fn lists(rt: HostRuntime) -> Result<(), Fail> {
-    let alloc = rt.alloc();
-    let mut list = CowVec::new(alloc);
-    list.push(SmallStackString::from_str(alloc, "a")?)?;
-    let mut longer = list.copy()?;
-    assert!(rt; longer == list);
-    longer.push(SmallStackString::from_str(alloc, "b")?)?;
-    assert!(rt; longer != list);
-    assert_eq!(rt; list.len(), 1);
-    assert_eq!(rt; longer.len(), 2);
-    assert!(rt; !longer.is_empty());
-    assert!(rt; longer.get(1).ok_or("no item")?.eq_str("b"));
-    assert!(rt; longer.get(2).is_none());
-    assert_eq!(rt; longer.iter().filter(|item| item.eq_str("a")).count(), 1);
-    Ok(())
-}
-
-#[test]
-fn failures(rt: HostRuntime) -> Result<(), Fail> {
-    let alloc = rt.alloc();
-    let failure = ParseFailure::with_texts(alloc, "wrong", Some("here"));
-    assert_eq!(rt; failure.message(), "wrong");
-    assert_eq!(rt; failure.code_snippet().ok_or("no snippet")?, "here");
-    assert!(rt; !failure.is_memory());
-    assert!(rt; failure == ParseFailure::with_texts(alloc, "wrong", Some("here")));
-    assert!(rt; failure != ParseFailure::with_texts(alloc, "wrong", None));
-    assert!(rt; failure != ParseFailure::memory());
-    let memory = ParseFailure::memory();
-    assert!(rt; memory.is_memory());
-    assert_eq!(rt; memory.message(), "Out of memory.");
-    assert!(rt; memory.code_snippet().is_none());
-    let refused = ParseFailure::of_refusal(alloc, Refusal::BoundTooLarge);
-    assert_eq!(rt; refused.message(), Refusal::BoundTooLarge.message());
-    assert!(rt; refused.code_snippet().is_none());
-    Ok(())
-}
-
-#[test]
-fn first_lines_of_errors(rt: HostRuntime) -> Result<(), Fail> {
-    let alloc = rt.alloc();
-    let version = VersionParseError {
-        source: ParseFailure::memory(),
+/// `text`, two texts: the text of a copy of the first, how that is displayed, and whether it is the second.
+pub fn text(alloc: Global, words: &[Word<'_>]) -> Answer {
+    let [Some(text), Some(other)] = words else {
+        return Err(Fault::Unreadable);
     };
-    let line = format!(in alloc; "{version}")?;
-    assert_eq!(rt; line.as_str(), "Invalid version");
-    assert!(rt; version.is_memory());
-    let specifier = VersionReqSpecifierParseError {
-        source: ParseFailure::of_refusal(alloc, Refusal::EmptyConstraint),
+    let copy = SmallStackString::from_str(alloc, text)?.copy()?;
+    let displayed = format!(in alloc; "{copy}")?;
+    let is_other = if copy.eq_str(other) { "yes" } else { "no" };
+    answer(
+        alloc,
+        &[
+            Some(copy.as_str()),
+            Some(displayed.as_str()),
+            Some(is_other),
+        ],
+    )
+}
+
+/// `items`, identifiers and a place among them: how many a copy of their list has, the one at the place or null, and
+/// all of them.
+pub fn items(alloc: Global, words: &[Word<'_>]) -> Answer {
+    let [Some(identifiers), Some(place)] = words else {
+        return Err(Fault::Unreadable);
     };
-    let line = format!(in alloc; "{specifier}")?;
-    assert_eq!(rt; line.as_str(), "Invalid specifier version requirement");
-    assert!(rt; !specifier.is_memory());
-    let failure = format!(in alloc; "{}", specifier.source)?;
-    assert_eq!(rt; failure.as_str(), "Empty version constraint.");
-    Ok(())
+    let Ok(place) = place.parse::<usize>() else {
+        return Err(Fault::Unreadable);
+    };
+    let copy = shown::identifiers_of(alloc, identifiers)?.copy()?;
+    let count = format!(in alloc; "{}", copy.len())?;
+    let all = shown::identifiers(alloc, &copy)?;
+    answer(
+        alloc,
+        &[
+            Some(count.as_str()),
+            copy.get(place).map(|item| item.as_str()),
+            Some(all.as_str()),
+        ],
+    )
 }
 
-#[test]
-fn bounds(rt: HostRuntime) -> Result<(), Fail> {
-    let alloc = rt.alloc();
-    let one = Version::parse_standard(alloc, "1.0.0-a+b")?;
-    let bound = VersionBound::new(VersionBoundKind::Exclusive, one.copy()?);
-    assert!(rt; bound.version == one);
-    assert!(rt; RangeBound::exclusive(one.copy()?) == RangeBound::Version(bound));
-    let inclusive = RangeBound::inclusive(one.copy()?);
-    assert!(rt; inclusive == RangeBound::version(VersionBoundKind::Inclusive, one.copy()?));
-    assert!(rt; inclusive.copy()? == inclusive);
-    let all = VersionRange::all();
-    assert!(rt; CowItem::copy(&all)? == all);
-    assert!(rt; VersionRange::none(alloc) != all);
-    Ok(())
-}
-
-#[test]
-fn requirements(rt: HostRuntime) -> Result<(), Fail> {
-    let alloc = rt.alloc();
-    let tag = RangeSetOrTag::Tag(SmallStackString::from_str(alloc, "latest")?);
-    let req = VersionReq::from_raw_text_and_inner(SmallStackString::from_str(alloc, " raw ")?, tag);
-    assert_eq!(rt; req.version_text(), " raw ");
-    assert_eq!(rt; req.tag().ok_or("no tag")?, "latest");
-    assert!(rt; req.range().is_none());
-    let shown = format!(in alloc; "{req}")?;
-    assert_eq!(rt; shown.as_str(), " raw ");
-    assert!(rt; *req.inner() == RangeSetOrTag::Tag(SmallStackString::from_str(alloc, "latest")?));
-    assert!(rt; req.copy()? == req);
-    let one = VersionReq::parse_from_specifier(alloc, "1")?;
-    assert!(rt; one == VersionReq::parse_from_specifier(alloc, "1.x")?);
-    assert!(rt; one != req);
-    Ok(())
-}
-
-#[test]
-fn tags(rt: HostRuntime) {
-    for valid in [
-        "latest",
-        "v1.0",
-        "~",
-        "-",
-        ".",
-        "a_b",
-        "\u{2168}\u{661}",
-        "n\u{e9}",
-    ] {
-        assert!(rt; is_valid_npm_tag(valid), "{valid}");
+// The failure with these texts; want of memory where there is no message.
+fn failure_of(
+    alloc: Global,
+    message: Word<'_>,
+    code_snippet: Word<'_>,
+) -> Result<ParseFailure, Fault> {
+    let Some(message) = message else {
+        return Ok(ParseFailure::memory());
+    };
+    let failure = ParseFailure::with_texts(alloc, message, code_snippet);
+    if failure.is_memory() {
+        return Err(Fault::OutOfMemory);
     }
-    for invalid in [
-        "",
-        " ",
-        "\u{3000}",
-        "SD&*($#&%*(#*$%",
-        "a b",
-        "^1",
-        "a/b",
-        "e\u{301}",
-        "\u{1f980}",
-    ] {
-        assert!(rt; !is_valid_npm_tag(invalid), "{invalid}");
-    }
+    Ok(failure)
+}
+
+// Whether the failure is want of memory, its message, and its part of the text or null.
+fn parts_of(alloc: Global, failure: &ParseFailure) -> Answer {
+    let is_memory = if failure.is_memory() { "yes" } else { "no" };
+    answer(
+        alloc,
+        &[
+            Some(is_memory),
+            Some(failure.message()),
+            failure.code_snippet(),
+        ],
+    )
+}
+
+/// `failure`, a message and a part of a text or null, or twice null for want of memory: whether the failure is want of
+/// memory, its message, and its part of the text or null.
+pub fn failure(alloc: Global, words: &[Word<'_>]) -> Answer {
+    let [message, code_snippet] = words else {
+        return Err(Fault::Unreadable);
+    };
+    parts_of(alloc, &failure_of(alloc, *message, *code_snippet)?)
+}
+
+/// `same-failure`, the words of two failures: whether they are equal.
+pub fn same_failure(alloc: Global, words: &[Word<'_>]) -> Answer {
+    let [message, code_snippet, other, others] = words else {
+        return Err(Fault::Unreadable);
+    };
+    let failure = failure_of(alloc, *message, *code_snippet)?;
+    yes_or_no(alloc, failure == failure_of(alloc, *other, *others)?)
+}
+
+/// `refusal`, the kind of a refusal: that refusal.
+pub fn refusal(alloc: Global, words: &[Word<'_>]) -> Answer {
+    let [Some(kind)] = words else {
+        return Err(Fault::Unreadable);
+    };
+    let refusal = match *kind {
+        "unexpected-character" => Refusal::UnexpectedCharacter,
+        "empty-constraint" => Refusal::EmptyConstraint,
+        "missing-minor" => Refusal::MissingMinor,
+        "missing-patch" => Refusal::MissingPatch,
+        "number-too-large" => Refusal::NumberTooLarge,
+        "bound-too-large" => Refusal::BoundTooLarge,
+        _ => return Err(Fault::Unreadable),
+    };
+    Err(Fault::from(ParseFailure::of_refusal(alloc, refusal)))
+}
+
+/// `range`, `all`, `none` or a range: that range, copied.
+pub fn range(alloc: Global, words: &[Word<'_>]) -> Answer {
+    let [Some(text)] = words else {
+        return Err(Fault::Unreadable);
+    };
+    let range = match *text {
+        "all" => VersionRange::all(),
+        "none" => VersionRange::none(alloc),
+        text => shown::range_of(alloc, text)?,
+    };
+    let copy = CowItem::copy(&range)?;
+    answer(alloc, &[Some(shown::range(alloc, &copy)?.as_str())])
+}
+
+/// `same-range`, two ranges: whether they are equal.
+pub fn same_range(alloc: Global, words: &[Word<'_>]) -> Answer {
+    let [Some(range), Some(other)] = words else {
+        return Err(Fault::Unreadable);
+    };
+    let range = shown::range_of(alloc, range)?;
+    yes_or_no(alloc, range == shown::range_of(alloc, other)?)
+}
+
+/// `tag-requirement`, a text and a tag: of the requirement that was read from the text and is the tag, the tag, the
+/// text, and how a copy of it is displayed.
+pub fn tag_requirement(alloc: Global, words: &[Word<'_>]) -> Answer {
+    let [Some(text), Some(tag)] = words else {
+        return Err(Fault::Unreadable);
+    };
+    let inner = RangeSetOrTag::Tag(PackageTag::from_str(alloc, tag)?);
+    let text = SmallStackString::from_str(alloc, text)?;
+    let requirement = VersionReq::from_raw_text_and_inner(text, inner);
+    let copy = requirement.copy()?;
+    let displayed = format!(in alloc; "{copy}")?;
+    answer(
+        alloc,
+        &[
+            requirement.tag(),
+            Some(requirement.version_text()),
+            Some(displayed.as_str()),
+        ],
+    )
 }

@@ -6,8 +6,10 @@
 //! `out of memory` (5). The status is 6 where standard output can't be written.
 #![tactic(auto)]
 
-use deno_semver::{ParseFailure, Version, VersionReq};
-use std::alloc::Global;
+use deno_semver::{
+    PackageTag, ParseFailure, Version, VersionParseError, VersionReq, VersionReqSpecifierParseError,
+};
+use std::alloc::{AllocError, Global};
 use std::env::Env;
 use std::io::{ErrorKind, Write};
 use std::process::ExitCode;
@@ -20,8 +22,8 @@ const USAGE: &str = "usage: npmver fits|normal|meet ..";
 enum Answer {
     Yes,
     No,
-    /// The requirement is a tag.
-    Tag(VersionReq),
+    /// The requirement is this tag.
+    Tag(PackageTag),
 }
 
 /// Why a question has no answer.
@@ -41,6 +43,24 @@ impl From<ParseFailure> for Problem {
         } else {
             Problem::Refused(failure)
         }
+    }
+}
+
+impl From<VersionReqSpecifierParseError> for Problem {
+    fn from(error: VersionReqSpecifierParseError) -> Problem {
+        Problem::from(error.source)
+    }
+}
+
+impl From<VersionParseError> for Problem {
+    fn from(error: VersionParseError) -> Problem {
+        Problem::from(error.source)
+    }
+}
+
+impl From<AllocError> for Problem {
+    fn from(_error: AllocError) -> Problem {
+        Problem::OutOfMemory
     }
 }
 
@@ -65,22 +85,13 @@ fn ask(alloc: Global, words: &[String]) -> Result<Answer, Problem> {
 
 // Whether the version matches the requirement. Both are read, the requirement first.
 fn fits(alloc: Global, requirement: &str, version: &str) -> Result<Answer, Problem> {
-    let requirement = match VersionReq::parse_from_specifier(alloc, requirement) {
-        Ok(requirement) => requirement,
-        Err(error) => return Err(Problem::from(error.source)),
-    };
-    let version = match Version::parse_standard(alloc, version) {
-        Ok(version) => version,
-        Err(error) => return Err(Problem::from(error.source)),
-    };
-    if requirement.tag().is_some() {
-        return Ok(Answer::Tag(requirement));
+    let requirement = VersionReq::parse_from_specifier(alloc, requirement)?;
+    let version = Version::parse_standard(alloc, version)?;
+    match requirement.tag() {
+        Some(tag) => Ok(Answer::Tag(PackageTag::from_str(alloc, tag)?)),
+        None if requirement.matches(&version) => Ok(Answer::Yes),
+        None => Ok(Answer::No),
     }
-    Ok(if requirement.matches(&version) {
-        Answer::Yes
-    } else {
-        Answer::No
-    })
 }
 
 // Prints an answer, and answers its status, or 6 where it can't be written.
@@ -88,7 +99,7 @@ fn print<O: Write>(out: &mut O, answer: &Answer) -> u8 {
     let (written, status) = match answer {
         Answer::Yes => (writeln!(out, "yes"), 0),
         Answer::No => (writeln!(out, "no"), 1),
-        Answer::Tag(requirement) => (writeln!(out, "tag {}", requirement.tag().unwrap_or("")), 2),
+        Answer::Tag(tag) => (writeln!(out, "tag {tag}"), 2),
     };
     match written {
         Ok(()) => status,

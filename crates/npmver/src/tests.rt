@@ -4,97 +4,47 @@ use crate::run;
 use std::alloc::{AllocError, Global};
 use std::io;
 use std::io::Write;
+use std::process::Abort;
 use std::test::Fail;
 
-fn words_of(alloc: Global, words: &[&str]) -> Result<Vec<String>, AllocError> {
-    let mut all = Vec::new(alloc);
-    for word in words {
-        all.push(String::from_str(alloc, word)?)?;
-    }
-    Ok(all)
-}
+// The words of a question with `|` between, the status, and the line that is written.
+const QUESTIONS: &str = "\
+fits|strict|^1.2|1.3.0 => 0 => yes
+fits|strict|^1.2|2.0.0 => 1 => no
+fits|strict|1.x.3|2.0.2 => 0 => yes
+fits|strict|1.x.3|1.0.2 => 1 => no
+fits|strict|^0.0.0-pre|0.0.0-pre => 0 => yes
+fits|strict|^0.0.0-pre|0.0.1 => 1 => no
+fits|strict|latest|1.0.0 => 2 => tag latest
+fits|strict|latest|foo => 3 => refused: Unexpected character.
+fits|strict||1.0.0 => 3 => refused: Empty version constraint.
+fits|strict||1.0 => 3 => refused: Empty version constraint.
+fits|strict|1beta|1.0.0 => 3 => refused: Unexpected character.
+fits|strict| 1|1.0.0 => 3 => refused: Unexpected character.
+fits|strict|1 |1.0.0 => 3 => refused: Unexpected character.
+fits|strict|1| 1.0.0  => 0 => yes
+fits|strict|^18446744073709551616|1.0.0 => 3 => refused: Number is too large.
+fits|strict|^18446744073709551615|1.0.0 => 3 => refused: Version bound is too large.
+fits|strict|1|1.0 => 3 => refused: Missing patch version. Versions must be in the form MAJOR.MINOR.PATCH (ex. 1.0.0).
+ => 4 => usage: npmver fits|normal|meet ..
+fits => 4 => usage: npmver fits|normal|meet ..
+fits|strict|1 => 4 => usage: npmver fits|normal|meet ..
+fits|strict|1|1.0.0|2.0.0 => 4 => usage: npmver fits|normal|meet ..
+fits|npm|1|1.0.0 => 4 => usage: npmver fits|normal|meet ..
+meet|strict|1|1.0.0 => 4 => usage: npmver fits|normal|meet ..
+ fits|strict|1|1.0.0 => 4 => usage: npmver fits|normal|meet ..
+";
 
-// The requirement, the version, standard output, standard error, and the status.
-const STRICT: [(&str, &str, &str, &str, u8); 13] = [
-    ("^1.2", "1.3.0", "yes\n", "", 0),
-    ("^1.2", "2.0.0", "no\n", "", 1),
-    ("1.x.3", "2.0.2", "yes\n", "", 0),
-    ("1.x.3", "1.0.2", "no\n", "", 1),
-    ("latest", "foo", "", "refused: Unexpected character.\n", 3),
-    ("", "1.0.0", "", "refused: Empty version constraint.\n", 3),
-    ("latest", "1.0.0", "tag latest\n", "", 2),
-    ("1beta", "1.0.0", "", "refused: Unexpected character.\n", 3),
-    ("^0.0.0-pre", "0.0.0-pre", "yes\n", "", 0),
-    ("^0.0.0-pre", "0.0.1", "no\n", "", 1),
-    (
-        "^18446744073709551616",
-        "1.0.0",
-        "",
-        "refused: Number is too large.\n",
-        3,
-    ),
-    (
-        "^18446744073709551615",
-        "1.0.0",
-        "",
-        "refused: Version bound is too large.\n",
-        3,
-    ),
-    (
-        "1",
-        "1.0",
-        "",
-        "refused: Missing patch version. Versions must be in the form MAJOR.MINOR.PATCH (ex. 1.0.0).\n",
-        3,
-    ),
-];
-
-#[test]
-fn answers_whether_a_version_fits(rt: HostRuntime) -> Result<(), Fail> {
-    let alloc = rt.alloc();
-    for (requirement, version, printed, told, status) in STRICT {
-        let words = words_of(alloc, &["fits", "strict", requirement, version])?;
-        let mut out = Vec::new(alloc);
-        let mut err = Vec::new(alloc);
-        let answer = run(alloc, words.as_slice(), &mut out, &mut err);
-        assert_eq!(rt; answer, status, "the status of {requirement} and {version}");
-        assert_eq!(rt;
-            out.as_slice(),
-            printed.as_bytes(),
-            "{requirement} and {version}"
-        );
-        assert_eq!(rt;
-            err.as_slice(),
-            told.as_bytes(),
-            "{requirement} and {version}"
-        );
+// The words of a question; the empty text has none.
+fn words_of(alloc: Global, question: &str) -> Result<Vec<String>, AllocError> {
+    let mut words = Vec::new(alloc);
+    if question.is_empty() {
+        return Ok(words);
     }
-    Ok(())
-}
-
-#[test]
-fn tells_how_it_is_used(rt: HostRuntime) -> Result<(), Fail> {
-    let alloc = rt.alloc();
-    let questions: [&[&str]; 6] = [
-        &[],
-        &["fits"],
-        &["fits", "strict", "1"],
-        &["fits", "strict", "1", "1.0.0", "2.0.0"],
-        &["fits", "npm", "1", "1.0.0"],
-        &["meet", "strict", "1", "1.0.0"],
-    ];
-    for question in questions {
-        let words = words_of(alloc, question)?;
-        let mut out = Vec::new(alloc);
-        let mut err = Vec::new(alloc);
-        assert_eq!(rt; run(alloc, words.as_slice(), &mut out, &mut err), 4);
-        assert!(rt; out.is_empty());
-        assert_eq!(rt;
-            err.as_slice(),
-            b"usage: npmver fits|normal|meet ..\n".as_slice()
-        );
+    for word in question.split('|') {
+        words.push(String::from_str(alloc, word)?)?;
     }
-    Ok(())
+    Ok(words)
 }
 
 // A writer to which nothing can be written.
@@ -111,19 +61,41 @@ impl Write for Broken {
     }
 }
 
-#[test]
-fn status_where_nothing_can_be_written(rt: HostRuntime) -> Result<(), Fail> {
-    let alloc = rt.alloc();
-    let words = words_of(alloc, &["fits", "strict", "^1.2", "1.3.0"])?;
-    let mut told = Vec::new(alloc);
-    assert_eq!(rt; run(alloc, words.as_slice(), &mut Broken, &mut told), 6);
-    assert!(rt; told.is_empty());
-    let refused = words_of(alloc, &["fits", "strict", "1beta", "1.0.0"])?;
-    let mut printed = Vec::new(alloc);
-    assert_eq!(rt;
-        run(alloc, refused.as_slice(), &mut printed, &mut Broken),
-        3
+// The status, and what is on standard output and standard error.
+fn answered(alloc: Global, words: &[String]) -> Result<(u8, String), Fail> {
+    let (mut out, mut err) = (Vec::new(alloc), Vec::new(alloc));
+    let status = run(alloc, words, &mut out, &mut err);
+    let (out, err) = (
+        str::from_utf8(out.as_slice())?,
+        str::from_utf8(err.as_slice())?,
     );
-    assert!(rt; printed.is_empty());
+    Ok((status, format!(in alloc; "{out}|{err}")?))
+}
+
+// An answer is a line on standard output, and its status is 6 where that can't be written; anything else is a line on
+// standard error, and its status stays.
+fn holds(rt: &impl Abort, alloc: Global, line: &str) -> Result<(), Fail> {
+    let (question, rest) = line.split_once(" => ").ok_or("no status")?;
+    let (status, expected) = rest.split_once(" => ").ok_or("no line")?;
+    let status = status.parse::<u8>()?;
+    let words = words_of(alloc, question)?;
+    let (expected, broken) = if status < 3 {
+        (format!(in alloc; "{expected}\n|")?, 6)
+    } else {
+        (format!(in alloc; "|{expected}\n")?, status)
+    };
+    let (found, written) = answered(alloc, words.as_slice())?;
+    assert_eq!(rt; found, status, "{line}");
+    assert_eq!(rt; written.as_str(), expected.as_str(), "{line}");
+    let found = run(alloc, words.as_slice(), &mut Broken, &mut Broken);
+    assert_eq!(rt; found, broken, "{line}, where nothing can be written");
+    Ok(())
+}
+
+#[test]
+fn answers_questions(rt: HostRuntime) -> Result<(), Fail> {
+    for line in QUESTIONS.lines() {
+        holds(&rt, rt.alloc(), line)?;
+    }
     Ok(())
 }

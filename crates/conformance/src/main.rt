@@ -1,0 +1,74 @@
+//! `conformance` holds the public calls of `deno_semver` to a table.
+//!
+//! It reads the table from standard input. A line that begins with `#` is a heading, and a blank line is nothing; every
+//! other line is a row: a JSON array of two arrays of texts or nulls, the question and its answer. The first word of a
+//! question names the call. The program prints each row that has another answer, with that answer, and then for each
+//! call how many rows were asked and how many differ. A row that it can't read differs.
+//!
+//! The status is 0 where nothing differs, else 1; it is 4 where standard input can't be read, 5 for want of memory and
+//! 6 where standard output can't be written.
+#![tactic(auto)]
+
+ghost use Rattle.std.specs.Prelude.{◌≡◌, ◌↔◌, true};
+
+mod call;
+mod partials;
+mod places;
+mod ranges;
+mod requirements;
+mod row;
+mod shown;
+mod table;
+mod tally;
+mod values;
+mod versions;
+mod words;
+
+use std::alloc::Global;
+use std::io;
+use std::io::{BufWriter, ErrorKind, Read, Write};
+use std::process::ExitCode;
+use table::Problem;
+
+// All bytes of the reader.
+fn read_all<R: Read>(alloc: Global, mut reader: R) -> Result<Vec<u8>, Problem>
+where
+    R: Drop,
+{
+    let mut bytes = Vec::new(alloc);
+    match reader.read_to_end(&mut bytes) {
+        Ok(_) => Ok(bytes),
+        Err(e) if e.kind() == ErrorKind::OutOfMemory => Err(Problem::OutOfMemory),
+        Err(_) => Err(Problem::Unread),
+    }
+}
+
+// Whether no row of the table on standard input differs.
+fn run(rt: &HostRuntime) -> Result<bool, Problem> {
+    let alloc = rt.alloc();
+    let table = read_all(alloc, rt.reader())?;
+    let mut out = BufWriter::new(alloc, io::writer(rt))?;
+    let agrees = table::compare(alloc, table.as_slice(), &mut out)?;
+    out.flush()?;
+    Ok(agrees)
+}
+
+// The exit status.
+fn status(agrees: Result<bool, Problem>) -> u8
+    ensures { (result ≡ 0) ↔ (agrees ≡ Ok true) }
+{
+    match agrees {
+        Ok(true) => 0,
+        Ok(false) => 1,
+        Err(Problem::Unread) => 4,
+        Err(Problem::OutOfMemory) => 5,
+        Err(Problem::Unwritten) => 6,
+    }
+}
+
+fn main(rt: HostRuntime) -> ExitCode {
+    ExitCode::from(status(run(&rt)))
+}
+
+#[cfg(test)]
+mod tests;

@@ -1,0 +1,87 @@
+//! How requirements are read, and what they match.
+
+use crate::words::{Answer, Fault, Word, answer, yes_or_no};
+use deno_semver::npm::is_valid_npm_tag;
+use deno_semver::{ParseFailure, RangeSetOrTag, Version, VersionReq};
+use std::alloc::Global;
+
+// The requirement that the reader of this name makes of a text.
+fn read(alloc: Global, reader: &str, text: &str) -> Result<VersionReq, Fault> {
+    match reader {
+        "strict" => Ok(VersionReq::parse_from_specifier(alloc, text)?),
+        _ => Err(Fault::Unreadable),
+    }
+}
+
+/// `tag`, a text: whether it is a valid tag.
+pub fn tag(alloc: Global, words: &[Word<'_>]) -> Answer {
+    let [Some(text)] = words else {
+        return Err(Fault::Unreadable);
+    };
+    yes_or_no(alloc, is_valid_npm_tag(text))
+}
+
+/// `requirement`, a reader and a text: `ranges`, or `tag` and the tag; and the text that the requirement keeps.
+pub fn requirement(alloc: Global, words: &[Word<'_>]) -> Answer {
+    let [Some(reader), Some(text)] = words else {
+        return Err(Fault::Unreadable);
+    };
+    let requirement = read(alloc, reader, text)?;
+    let text = requirement.version_text();
+    match requirement.inner() {
+        RangeSetOrTag::RangeSet(_) => answer(alloc, &[Some("ranges"), Some(text)]),
+        RangeSetOrTag::Tag(tag) => answer(alloc, &[Some("tag"), Some(tag.as_str()), Some(text)]),
+    }
+}
+
+/// `same-requirement`, a reader and two texts: whether the requirements stand for the same.
+pub fn same_requirement(alloc: Global, words: &[Word<'_>]) -> Answer {
+    let [Some(reader), Some(left), Some(right)] = words else {
+        return Err(Fault::Unreadable);
+    };
+    let left = read(alloc, reader, left)?;
+    let right = read(alloc, reader, right)?;
+    yes_or_no(alloc, left == right)
+}
+
+/// `fits`, a reader, a requirement and a version: whether the version matches, or `tag` and the tag.
+pub fn fits(alloc: Global, words: &[Word<'_>]) -> Answer {
+    let [Some(reader), Some(requirement), Some(version)] = words else {
+        return Err(Fault::Unreadable);
+    };
+    let requirement = read(alloc, reader, requirement)?;
+    let version = Version::parse_standard(alloc, version)?;
+    match requirement.tag() {
+        None => yes_or_no(alloc, requirement.matches(&version)),
+        Some(tag) => answer(alloc, &[Some("tag"), Some(tag)]),
+    }
+}
+
+// The first line of the error, and that of its source.
+fn told(alloc: Global, line: &str, source: &ParseFailure) -> Answer {
+    if source.is_memory() {
+        return Err(Fault::OutOfMemory);
+    }
+    let source = format!(in alloc; "{source}")?;
+    answer(alloc, &[Some(line), Some(source.as_str())])
+}
+
+/// `error`, `version` or a reader, and a text that is refused: the lines of the error and of its source.
+pub fn error(alloc: Global, words: &[Word<'_>]) -> Answer {
+    let [Some(reader), Some(text)] = words else {
+        return Err(Fault::Unreadable);
+    };
+    match *reader {
+        "version" => {
+            let refused = Version::parse_standard(alloc, text).err();
+            let error = refused.ok_or(Fault::Unreadable)?;
+            told(alloc, format!(in alloc; "{error}")?.as_str(), &error.source)
+        }
+        "strict" => {
+            let refused = VersionReq::parse_from_specifier(alloc, text).err();
+            let error = refused.ok_or(Fault::Unreadable)?;
+            told(alloc, format!(in alloc; "{error}")?.as_str(), &error.source)
+        }
+        _ => Err(Fault::Unreadable),
+    }
+}

@@ -1,0 +1,101 @@
+//! The words of questions and answers.
+
+use deno_semver::{ParseFailure, VersionParseError, VersionReqSpecifierParseError};
+use std::alloc::{AllocError, AllocFailed, Global};
+
+/// A word of a question: a text or null.
+pub type Word<'a> = Option<&'a str>;
+
+/// The words of a question or an answer as a row holds them.
+pub type Words = Vec<Option<String>>;
+
+/// What a call answers, or why it has no answer.
+pub type Answer = Result<Words, Fault>;
+
+/// Why a call has no answer.
+#[derive(Debug, PartialEq, Eq, Drop)]
+pub enum Fault {
+    /// A text or a bound was refused.
+    Refused(ParseFailure),
+    /// The words are none that the call takes.
+    Unreadable,
+    OutOfMemory,
+}
+
+impl From<ParseFailure> for Fault {
+    fn from(failure: ParseFailure) -> Fault {
+        if failure.is_memory() {
+            Fault::OutOfMemory
+        } else {
+            Fault::Refused(failure)
+        }
+    }
+}
+
+impl From<VersionParseError> for Fault {
+    fn from(error: VersionParseError) -> Fault {
+        Fault::from(error.source)
+    }
+}
+
+impl From<VersionReqSpecifierParseError> for Fault {
+    fn from(error: VersionReqSpecifierParseError) -> Fault {
+        Fault::from(error.source)
+    }
+}
+
+impl From<AllocError> for Fault {
+    fn from(_error: AllocError) -> Fault {
+        Fault::OutOfMemory
+    }
+}
+
+// The word as a row holds it.
+fn owned(alloc: Global, word: Word<'_>) -> Result<Option<String>, AllocError> {
+    match word {
+        None => Ok(None),
+        Some(text) => Ok(Some(String::from_str(alloc, text)?)),
+    }
+}
+
+// The words as a row holds them.
+fn all_owned(alloc: Global, words: &[Word<'_>]) -> Result<Words, AllocError> {
+    let mut all = Vec::new(alloc);
+    for word in words {
+        all.push(owned(alloc, *word)?)?;
+    }
+    Ok(all)
+}
+
+/// The answer of these words.
+pub fn answer(alloc: Global, words: &[Word<'_>]) -> Answer {
+    Ok(all_owned(alloc, words)?)
+}
+
+/// The answer `yes` or `no`.
+pub fn yes_or_no(alloc: Global, holds: bool) -> Answer {
+    answer(alloc, &[Some(if holds { "yes" } else { "no" })])
+}
+
+/// The words that tell of a refusal: `refused`, its message, and the part of the text that it shows or null.
+pub fn refused(alloc: Global, failure: &ParseFailure) -> Result<Words, AllocError> {
+    let words = [
+        Some("refused"),
+        Some(failure.message()),
+        failure.code_snippet(),
+    ];
+    all_owned(alloc, &words)
+}
+
+// Whether the first word is `refused`.
+fn is_refused(words: &[Option<String>]) -> bool {
+    match words {
+        [Some(word), ..] => word.as_str() == "refused",
+        _ => false,
+    }
+}
+
+/// Whether an answer is the one that a row expects. A row that expects `refused` alone leaves open which refusal it is.
+pub fn is_met(expected: &[Option<String>], answer: &[Option<String>]) -> bool {
+    expected == answer || (expected.len() == 1 && is_refused(expected) && is_refused(answer))
+}
