@@ -1,6 +1,6 @@
 use Rattle.std.specs.Prelude.{List, ℕ, codes}
 use Rattle.conformance.specs.declared.call.Call.{Call}
-use Rattle.conformance.specs.declared.call.Call.TheVariants.{Text, Items, Failure, SameFailure, Refusal, Range, SameRange, TagRequirement, Version, Equal, Compare, Precedence, Identifiers, Tag, Requirement, SameRequirement, Fits, Error, Satisfies, SetSatisfies, Admits, Clamp, ClampStart, ClampEnd, IsNone, IntersectsVersion, IntersectsRange, IntersectsSet, Partial, PartialAt, QualifierAt, SignAt, ComparatorAt}
+use Rattle.conformance.specs.declared.call.Call.TheVariants.{Text, Items, Failure, SameFailure, Refusal, Range, SameRange, TagRequirement, Version, Equal, Compare, Precedence, Identifiers, Tag, Requirement, SameRequirement, Ranges, Fits, Overlap, Error, Satisfies, SetSatisfies, Admits, Clamp, ClampStart, ClampEnd, IsNone, IntersectsVersion, IntersectsRange, IntersectsSet, Partial, PartialAt, QualifierAt, SignAt, ComparatorAt}
 
 -- the first word of a question that asks the call
 abbrev pub name_of : Call → List ℕ
@@ -20,7 +20,9 @@ name_of Identifiers = codes "identifiers"
 name_of Tag = codes "tag"
 name_of Requirement = codes "requirement"
 name_of SameRequirement = codes "same-requirement"
+name_of Ranges = codes "ranges"
 name_of Fits = codes "fits"
+name_of Overlap = codes "overlap"
 name_of Error = codes "error"
 name_of Satisfies = codes "satisfies"
 name_of SetSatisfies = codes "set-satisfies"

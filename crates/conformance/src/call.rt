@@ -26,7 +26,9 @@ pub enum Call {
     Tag,
     Requirement,
     SameRequirement,
+    Ranges,
     Fits,
+    Overlap,
     Error,
     Satisfies,
     SetSatisfies,
@@ -47,7 +49,7 @@ pub enum Call {
 
 impl Call {
     /// All calls, in the order in which they are counted.
-    pub const ALL: [Call; 33] = [
+    pub const ALL: [Call; 35] = [
         Call::Text,
         Call::Items,
         Call::Failure,
@@ -64,7 +66,9 @@ impl Call {
         Call::Tag,
         Call::Requirement,
         Call::SameRequirement,
+        Call::Ranges,
         Call::Fits,
+        Call::Overlap,
         Call::Error,
         Call::Satisfies,
         Call::SetSatisfies,
@@ -104,7 +108,9 @@ impl Call {
             Call::Tag => "tag",
             Call::Requirement => "requirement",
             Call::SameRequirement => "same-requirement",
+            Call::Ranges => "ranges",
             Call::Fits => "fits",
+            Call::Overlap => "overlap",
             Call::Error => "error",
             Call::Satisfies => "satisfies",
             Call::SetSatisfies => "set-satisfies",
@@ -150,7 +156,9 @@ impl Call {
             Call::Tag => requirements::tag(alloc, words),
             Call::Requirement => requirements::requirement(alloc, words),
             Call::SameRequirement => requirements::same_requirement(alloc, words),
+            Call::Ranges => requirements::ranges(alloc, words),
             Call::Fits => requirements::fits(alloc, words),
+            Call::Overlap => requirements::overlap(alloc, words),
             Call::Error => requirements::error(alloc, words),
             Call::Satisfies => ranges::satisfies(alloc, words),
             Call::SetSatisfies => ranges::set_satisfies(alloc, words),

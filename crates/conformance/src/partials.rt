@@ -5,12 +5,13 @@ use crate::words::{Answer, Fault, Word, answer};
 use deno_semver::{Partial, VersionBoundKind, VersionRange};
 use std::alloc::Global;
 
-/// `partial`, a word or a sign, and a partial version: the bound or the range that the partial version stands for there.
+/// `partial`, a word or a sign, and a partial version: the bound or the range that a copy of the partial version stands
+/// for there.
 pub fn partial(alloc: Global, words: &[Word<'_>]) -> Answer {
     let [Some(asked), Some(text)] = words else {
         return Err(Fault::Unreadable);
     };
-    let partial = shown::partial_of(alloc, text)?;
+    let partial = shown::partial_of(alloc, text)?.copy()?;
     let text = match *asked {
         "lower" => shown::start(alloc, &partial.as_lower_bound(alloc)?)?,
         "upper" => shown::end(alloc, &partial.as_upper_bound(alloc)?)?,

@@ -54,6 +54,7 @@ pub fn qualifier_at(alloc: Global, words: &[Word<'_>]) -> Answer {
     };
     let place = place_in(text, place)?;
     let (read, reached) = common::qualifier(alloc, text, place, flavour_of(flavour)?)?;
+    let read = read.copy()?;
     let qualifier = shown::qualifier(alloc, &read.pre, &read.build)?;
     answer(alloc, &[Some(qualifier.as_str()), Some(&text[reached..])])
 }
@@ -91,7 +92,7 @@ pub fn comparator_at(alloc: Global, words: &[Word<'_>]) -> Answer {
         None => answer(alloc, &[Some("none")]),
         Some((Measured::TooLarge, _)) => answer(alloc, &[Some("too large")]),
         Some((Measured::Fits(primitive), _)) => {
-            let range = primitive.into_version_range(alloc)?;
+            let range = primitive.copy()?.into_version_range(alloc)?;
             answer(alloc, &[Some(shown::range(alloc, &range)?.as_str())])
         }
     }

@@ -1,5 +1,6 @@
 //! How requirements are read, and what they match.
 
+use crate::shown;
 use crate::words::{Answer, Fault, Word, answer, yes_or_no};
 use deno_semver::npm::is_valid_npm_tag;
 use deno_semver::{ParseFailure, RangeSetOrTag, Version, VersionReq};
@@ -8,6 +9,7 @@ use std::alloc::Global;
 // The requirement that the reader of this name makes of a text.
 fn read(alloc: Global, reader: &str, text: &str) -> Result<VersionReq, Fault> {
     match reader {
+        "normal" => Ok(VersionReq::parse_from_normalized(alloc, text)?),
         "strict" => Ok(VersionReq::parse_from_specifier(alloc, text)?),
         _ => Err(Fault::Unreadable),
     }
@@ -32,6 +34,28 @@ pub fn requirement(alloc: Global, words: &[Word<'_>]) -> Answer {
         RangeSetOrTag::RangeSet(_) => answer(alloc, &[Some("ranges"), Some(text)]),
         RangeSetOrTag::Tag(tag) => answer(alloc, &[Some("tag"), Some(tag.as_str()), Some(text)]),
     }
+}
+
+/// `ranges`, a reader and a text that is no tag: the ranges of a copy of the requirement, and the text that the copy
+/// keeps.
+pub fn ranges(alloc: Global, words: &[Word<'_>]) -> Answer {
+    let [Some(reader), Some(text)] = words else {
+        return Err(Fault::Unreadable);
+    };
+    let copy = read(alloc, reader, text)?.copy()?;
+    let set = copy.range().ok_or(Fault::Unreadable)?;
+    let ranges = shown::set(alloc, set)?;
+    answer(alloc, &[Some(ranges.as_str()), Some(copy.version_text())])
+}
+
+/// `overlap`, a reader and two texts: whether the requirements overlap.
+pub fn overlap(alloc: Global, words: &[Word<'_>]) -> Answer {
+    let [Some(reader), Some(left), Some(right)] = words else {
+        return Err(Fault::Unreadable);
+    };
+    let left = read(alloc, reader, left)?;
+    let right = read(alloc, reader, right)?;
+    yes_or_no(alloc, left.intersects(&right))
 }
 
 /// `same-requirement`, a reader and two texts: whether the requirements stand for the same.
@@ -66,22 +90,34 @@ fn told(alloc: Global, line: &str, source: &ParseFailure) -> Answer {
     answer(alloc, &[Some(line), Some(source.as_str())])
 }
 
-/// `error`, `version` or a reader, and a text that is refused: the lines of the error and of its source.
+// The lines of the error of a refused version, and of its source.
+fn version_error(alloc: Global, text: &str) -> Answer {
+    let refused = Version::parse_standard(alloc, text).err();
+    let error = refused.ok_or(Fault::Unreadable)?.copy()?;
+    told(alloc, format!(in alloc; "{error}")?.as_str(), &error.source)
+}
+
+fn specifier_error(alloc: Global, text: &str) -> Answer {
+    let refused = VersionReq::parse_from_specifier(alloc, text).err();
+    let error = refused.ok_or(Fault::Unreadable)?.copy()?;
+    told(alloc, format!(in alloc; "{error}")?.as_str(), &error.source)
+}
+
+fn normalized_error(alloc: Global, text: &str) -> Answer {
+    let refused = VersionReq::parse_from_normalized(alloc, text).err();
+    let error = refused.ok_or(Fault::Unreadable)?.copy()?;
+    told(alloc, format!(in alloc; "{error}")?.as_str(), &error.source)
+}
+
+/// `error`, `version` or a reader, and a text that is refused: the lines of a copy of the error and of its source.
 pub fn error(alloc: Global, words: &[Word<'_>]) -> Answer {
     let [Some(reader), Some(text)] = words else {
         return Err(Fault::Unreadable);
     };
     match *reader {
-        "version" => {
-            let refused = Version::parse_standard(alloc, text).err();
-            let error = refused.ok_or(Fault::Unreadable)?;
-            told(alloc, format!(in alloc; "{error}")?.as_str(), &error.source)
-        }
-        "strict" => {
-            let refused = VersionReq::parse_from_specifier(alloc, text).err();
-            let error = refused.ok_or(Fault::Unreadable)?;
-            told(alloc, format!(in alloc; "{error}")?.as_str(), &error.source)
-        }
+        "version" => version_error(alloc, text),
+        "normal" => normalized_error(alloc, text),
+        "strict" => specifier_error(alloc, text),
         _ => Err(Fault::Unreadable),
     }
 }

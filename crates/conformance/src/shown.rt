@@ -134,6 +134,18 @@ pub fn range(alloc: Global, range: &VersionRange) -> Result<String, AllocError> 
     }
 }
 
+/// The text of a set of ranges.
+pub fn set(alloc: Global, set: &VersionRangeSet) -> Result<String, AllocError> {
+    let mut text = String::new(alloc);
+    for each in set.0.iter() {
+        if !text.is_empty() {
+            text.push_str(" || ")?;
+        }
+        text.push_str(range(alloc, each)?.as_str())?;
+    }
+    Ok(text)
+}
+
 // The bound whose text begins with this sign, or an absent one.
 fn bound_of(alloc: Global, sign: char, text: &str) -> Result<RangeBound, Fault> {
     if text == "*" {

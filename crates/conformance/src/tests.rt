@@ -40,7 +40,6 @@ const DIFFERING: &str = "\
     can't be read
 [[\"version\",\"1\"],[\"refused\",\"Unexpected character.\",null]]
     answered [\"refused\",\"Missing minor version. Versions must be in the form MAJOR.MINOR.PATCH (ex. 1.0.0).\",\"1\"]
-version: 2 asked, 1 differ
 ";
 
 #[test]
@@ -50,11 +49,13 @@ fn rows_that_differ_are_printed_and_counted(rt: HostRuntime) -> Result<(), Fail>
     assert_eq!(rt; compare(alloc, TABLE.as_bytes(), &mut out), Ok(false));
     let printed = str::from_utf8(out.as_slice())?;
     assert!(rt; printed.starts_with(DIFFERING), "{printed}");
-    assert!(rt; printed.contains("\ntag: 3 asked, 2 differ\n"), "{printed}");
-    assert!(rt;
-        printed.ends_with("\nlines that are no row: 5\n"),
-        "{printed}"
-    );
+    for counts in [
+        "\ntag: 3 asked, 2 differ\n",
+        "\nversion: 2 asked, 1 differ\n",
+        "\nlines that are no row: 5\n",
+    ] {
+        assert!(rt; printed.contains(counts), "{printed}");
+    }
     Ok(())
 }
 

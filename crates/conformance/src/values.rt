@@ -3,9 +3,9 @@
 use crate::shown;
 use crate::words::{Answer, Fault, Word, answer, yes_or_no};
 use deno_semver::{
-    CowItem, PackageTag, ParseFailure, RangeSetOrTag, Refusal, SmallStackString, VersionRange,
-    VersionReq,
+    CowItem, PackageTag, ParseFailure, RangeSetOrTag, SmallStackString, VersionRange, VersionReq,
 };
+use semver_base::failure::Refusal;
 use std::alloc::Global;
 
 /// `text`, two texts: the text of a copy of the first, how that is displayed, and whether it is the second.
@@ -78,12 +78,13 @@ fn parts_of(alloc: Global, failure: &ParseFailure) -> Answer {
 }
 
 /// `failure`, a message and a part of a text or null, or twice null for want of memory: whether the failure is want of
-/// memory, its message, and its part of the text or null.
+/// memory, its message, and its part of the text or null, all of a copy.
 pub fn failure(alloc: Global, words: &[Word<'_>]) -> Answer {
     let [message, code_snippet] = words else {
         return Err(Fault::Unreadable);
     };
-    parts_of(alloc, &failure_of(alloc, *message, *code_snippet)?)
+    let copy = failure_of(alloc, *message, *code_snippet)?.copy()?;
+    parts_of(alloc, &copy)
 }
 
 /// `same-failure`, the words of two failures: whether they are equal.

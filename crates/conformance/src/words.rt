@@ -1,6 +1,8 @@
 //! The words of questions and answers.
 
-use deno_semver::{ParseFailure, VersionParseError, VersionReqSpecifierParseError};
+use deno_semver::{
+    ParseFailure, VersionParseError, VersionReqNormalizedParseError, VersionReqSpecifierParseError,
+};
 use std::alloc::{AllocError, AllocFailed, Global};
 
 /// A word of a question: a text or null.
@@ -40,6 +42,12 @@ impl From<VersionParseError> for Fault {
 
 impl From<VersionReqSpecifierParseError> for Fault {
     fn from(error: VersionReqSpecifierParseError) -> Fault {
+        Fault::from(error.source)
+    }
+}
+
+impl From<VersionReqNormalizedParseError> for Fault {
+    fn from(error: VersionReqNormalizedParseError) -> Fault {
         Fault::from(error.source)
     }
 }

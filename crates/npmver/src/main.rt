@@ -1,13 +1,14 @@
 //! `npmver` answers questions about versions and version requirements of npm and JSR packages.
 //!
-//! `npmver fits strict REQ VERSION` prints `yes` (status 0) where the version matches the requirement, which is read by
-//! the strict reader, `no` (1) where it doesn't, and `tag NAME` (2) where the requirement is a tag. A refusal prints
-//! `refused: MESSAGE` on standard error (3); other words print the usage line there (4), want of memory
+//! `npmver fits READER REQ VERSION` prints `yes` (status 0) where the version matches the requirement, which is read by
+//! READER, `strict` or `normal`, `no` (1) where it doesn't, and `tag NAME` (2) where the requirement is a tag. A refusal
+//! prints `refused: MESSAGE` on standard error (3); other words print the usage line there (4), want of memory
 //! `out of memory` (5). The status is 6 where standard output can't be written.
 #![tactic(auto)]
 
 use deno_semver::{
-    PackageTag, ParseFailure, Version, VersionParseError, VersionReq, VersionReqSpecifierParseError,
+    PackageTag, ParseFailure, Version, VersionParseError, VersionReq,
+    VersionReqNormalizedParseError, VersionReqSpecifierParseError,
 };
 use std::alloc::{AllocError, Global};
 use std::env::Env;
@@ -52,6 +53,12 @@ impl From<VersionReqSpecifierParseError> for Problem {
     }
 }
 
+impl From<VersionReqNormalizedParseError> for Problem {
+    fn from(error: VersionReqNormalizedParseError) -> Problem {
+        Problem::from(error.source)
+    }
+}
+
 impl From<VersionParseError> for Problem {
     fn from(error: VersionParseError) -> Problem {
         Problem::from(error.source)
@@ -77,15 +84,24 @@ fn ask(alloc: Global, words: &[String]) -> Result<Answer, Problem> {
     let [command, reader, requirement, version] = words else {
         return Err(Problem::Usage);
     };
-    if command.as_str() != "fits" || reader.as_str() != "strict" {
+    if command.as_str() != "fits" {
         return Err(Problem::Usage);
     }
-    fits(alloc, requirement.as_str(), version.as_str())
+    let requirement = read(alloc, reader.as_str(), requirement.as_str())?;
+    fits(alloc, &requirement, version.as_str())
 }
 
-// Whether the version matches the requirement. Both are read, the requirement first.
-fn fits(alloc: Global, requirement: &str, version: &str) -> Result<Answer, Problem> {
-    let requirement = VersionReq::parse_from_specifier(alloc, requirement)?;
+// The requirement that the reader of this name makes of a text.
+fn read(alloc: Global, reader: &str, text: &str) -> Result<VersionReq, Problem> {
+    match reader {
+        "strict" => Ok(VersionReq::parse_from_specifier(alloc, text)?),
+        "normal" => Ok(VersionReq::parse_from_normalized(alloc, text)?),
+        _ => Err(Problem::Usage),
+    }
+}
+
+// Whether the version, which is read also where the requirement is a tag, matches the requirement.
+fn fits(alloc: Global, requirement: &VersionReq, version: &str) -> Result<Answer, Problem> {
     let version = Version::parse_standard(alloc, version)?;
     match requirement.tag() {
         Some(tag) => Ok(Answer::Tag(PackageTag::from_str(alloc, tag)?)),

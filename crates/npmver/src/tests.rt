@@ -26,6 +26,13 @@ fits|strict|1| 1.0.0  => 0 => yes
 fits|strict|^18446744073709551616|1.0.0 => 3 => refused: Number is too large.
 fits|strict|^18446744073709551615|1.0.0 => 3 => refused: Version bound is too large.
 fits|strict|1|1.0 => 3 => refused: Missing patch version. Versions must be in the form MAJOR.MINOR.PATCH (ex. 1.0.0).
+fits|normal| 1|1.5.0 => 2 => tag 1
+fits|normal|1 |1.5.0 => 0 => yes
+fits|normal|>=1 <2|2.0.0 => 1 => no
+fits|normal|1 <2|1.5.0 => 0 => yes
+fits|normal||1.5.0 => 0 => yes
+fits|normal|1,2|1.0 => 3 => refused: Unexpected character.
+fits|normal|latest|1.0 => 3 => refused: Missing patch version. Versions must be in the form MAJOR.MINOR.PATCH (ex. 1.0.0).
  => 4 => usage: npmver fits|normal|meet ..
 fits => 4 => usage: npmver fits|normal|meet ..
 fits|strict|1 => 4 => usage: npmver fits|normal|meet ..
