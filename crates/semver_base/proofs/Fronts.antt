@@ -1,7 +1,7 @@
 -- How the longest front of a grammar comes from those of its parts.
-use Rattle.std.proofs.Common.{◌≡◌, ◌≤◌, ◌<◌, ◌+◌, ℕ, List, [], ◌∷◌, ◌++◌, length, Option, Some, None, refl, sym, ap, ◌∙◌, arith, append_assoc, length-append, append-nil}
+use Rattle.std.proofs.Common.{◌≡◌, ◌≤◌, ◌+◌, ℕ, List, [], ◌∷◌, ◌++◌, length, Option, Some, None, refl, sym, ap, ◌∙◌, arith, append_assoc, length-append}
 use Rattle.std.proofs.lemmas.List.{nil_from_length}
-use Rattle.semver_base.specs.Grammar.{Either, this, that, IsLongest, HasNone, Reads, Followed, Joined, Mapped, Marked, Optional}
+use Rattle.semver_base.specs.Grammar.{Either, this, that, IsLongest, HasNone, Followed, Joined, Mapped, Marked, Optional}
 
 -- two fronts of one text: they are the same, or one goes on
 pub data Fronts (a b c d : List ℕ) : Type 0 where

@@ -1,13 +1,13 @@
 -- Parts at the front of a text.
-use Rattle.std.proofs.Common.{◌≡◌, ℕ, Bool, true, false, List, [], ◌∷◌, ◌++◌, length, refl, ap, ◌∙◌, arith, ◌==◌}
+use Rattle.std.proofs.Common.{◌≡◌, ℕ, Bool, true, false, List, [], ◌∷◌, ◌++◌, length, refl, ap, arith, ◌==◌}
 use Rattle.std.specs.Prelude.{◌||◌}
 use Rattle.std.proofs.lemmas.Bool.{eq-eqb, or_left}
 use Rattle.std.proofs.lemmas.Bool.Decides.{nat_tests}
-use Rattle.semver_base.specs.Grammar.{IsLongest, HasNone}
+use Rattle.semver_base.specs.Grammar.{IsLongest}
 use Rattle.semver_base.specs.Lexical.{IsByte, IsPart, IsParts, is_part_byte}
 use Rattle.semver_base.proofs.Fronts.{NonEmpty}
 use Rattle.semver_base.proofs.Bytes.{BeginsBy, GoesBy, MadeOf, listed_made, made_wider, run_made}
-use Rattle.semver_base.proofs.Lists.{IsListing, listed_begins, listed_some, run_begins, run_goes, run_some}
+use Rattle.semver_base.proofs.Lists.{IsListing, listed_some, run_begins, run_goes, run_some}
 
 pub byte_longest : (m : ℕ) (text rest : List ℕ) → text ≡ m ∷ rest → IsLongest (IsByte m) text tt rest
 byte_longest m text rest e = record { front = m ∷ []; text_is = e; stands = refl; longest = λ a b w f h. (omega (arith, ap length h), λ _. refl) }

@@ -1,19 +1,18 @@
 -- Pre-releases, builds and qualifiers at the front of a text.
 use Rattle.std.proofs.Common.{◌≡◌, ◌≤◌, ℕ, true, List, [], ◌∷◌, ◌++◌, length, Option, Some, None, refl, ap, ◌∙◌, arith, inl, inr, ◌==◌}
-use Rattle.std.specs.Prelude.{◌||◌, slice_index}
+use Rattle.std.specs.Prelude.{◌||◌}
 use Rattle.std.specs.Char.{is_ascii_digit}
 use Rattle.std.specs.List.{list_all}
 use Rattle.std.proofs.lemmas.Bool.{and_from, or_left, or_right}
 use Rattle.std.proofs.lemmas.Bool.Decides.{nat_tests}
 use Rattle.semver_base.specs.Grammar.{IsLongest, IsSeen, HasNone, Optional, Reads}
-use Rattle.semver_base.specs.Lexical.{IsBuild, IsLooseNumber, IsLoosePre, IsNumberEnd, IsParts, IsPre, IsQualifier, or_none, qualifier_of}
+use Rattle.semver_base.specs.Lexical.{IsBuild, IsLoosePre, IsParts, IsPre, IsQualifier, or_none, qualifier_of}
 use Rattle.semver_base.specs.declared.lexical.values.Qualifier.{Qualifier}
 use Rattle.semver_base.specs.declared.lexical.values.Strictness.{Strictness}
 use Rattle.semver_base.specs.declared.lexical.values.Strictness.TheVariants.{Loose, Strict}
-use Rattle.semver_base.proofs.Fronts.{Apart, NoClash, NonEmpty, followed, mapped, marked_none, marked_other, marked_some, optional_none, optional_some}
+use Rattle.semver_base.proofs.Fronts.{Apart, NonEmpty, followed, mapped, marked_none, marked_some, optional_some}
 use Rattle.semver_base.proofs.Bytes.{BeginsBy, Disjoint, MadeOf, apart_by, begins_from_made, begins_wider, joined_begins_either, mapped_begins, goes_from_made, marked_begins, marked_made, optional_begins, optional_goes}
 use Rattle.semver_base.proofs.Parts.{is_parts_byte, parts_made, parts_some}
-use Rattle.semver_base.proofs.Numbers.{loose_begins, loose_end, loose_goes, loose_some}
 
 -- ---- loose pre-releases
 

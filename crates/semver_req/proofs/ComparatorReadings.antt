@@ -4,13 +4,13 @@ use Rattle.std.specs.Prelude.{◌||◌, codes, if◌then◌else◌, slice_index}
 use Rattle.std.specs.List.{list_all}
 use Rattle.std.proofs.lemmas.Bool.{and_from, or_left, or_right}
 use Rattle.std.proofs.lemmas.Bool.Decides.{nat_tests}
-use Rattle.semver_base.specs.Grammar.{After, Either, this, that, IsLongest, IsText, Stops, Mapped, Marked}
+use Rattle.semver_base.specs.Grammar.{After, Either, this, that, IsText, Mapped, Marked}
 use Rattle.semver_base.specs.Lexical.{IsBlanks, IsByte, IsSomeBlanks}
 use Rattle.semver_base.specs.declared.partial.Partial.{Partial}
 use Rattle.semver_base.proofs.Blanks.{blanks_made, is_blank_byte}
 use Rattle.semver_base.proofs.Bytes.{BeginsBy, Disjoint, GoesBy, MadeOf, apart_by, begins_from_made, begins_wider, either_begins, either_made, goes_from_made, joined_begins, joined_begins_either, joined_goes_second, joined_made, joined_some_second, joined_some_text, list_all-append, made_wider, mapped_begins, mapped_goes, mapped_made, mapped_some_text, marked_made, optional_begins, optional_made}
 use Rattle.semver_base.proofs.Fronts.{Apart, NonEmpty, no_clash}
-use Rattle.semver_base.proofs.Readings.{EachByte, HasOther, Unambiguous, Within, after_one, each_made, either_one, either_other, followed_one, goes_within, in_place, made_within, joined_other_first, joined_other_second, mapped_one, mapped_other, marked_other_byte, narrowed_one, never_by, never_made, other_narrower, some_within}
+use Rattle.semver_base.proofs.Readings.{EachByte, HasOther, Unambiguous, Within, after_one, each_made, either_one, either_other, followed_one, goes_within, made_within, joined_other_first, joined_other_second, mapped_one, mapped_other, marked_other_byte, narrowed_one, never_by, never_made, other_narrower, some_within}
 use Rattle.semver_req.specs.Comparators.{Comparator, Tilde, Caret, IsComparator, IsEquals, no_more, one_more, IsIgnored, IsLed, IsNpmCaret, IsNpmTilde, IsPlain, IsSign, IsSigned, sign_text}
 use Rattle.semver_req.specs.Partials.{IsPartial, IsPlainPartial}
 use Rattle.semver_req.specs.declared.common.values.Flavour.{Flavour}
@@ -358,13 +358,6 @@ comparator_within Specifier = either_within (either_within (mapped_core Specifie
 pub comparator_goes : (f : Flavour) → GoesBy (IsComparator f) is_plain_byte
 comparator_goes f = goes_within (comparator_within f) (core_goes f)
 
--- a comparator that is followed by nothing, or by a byte that can't go on a plain partial version, is the longest front
-pub comparator_in_place : (f : Flavour) (t rest : List ℕ) (c : Comparator) → IsComparator f t c → Stops is_plain_byte rest → IsLongest (IsComparator f) (t ++ rest) c rest
-comparator_in_place f t rest c h stops = in_place (comparator_one f) (comparator_goes f) t rest h stops
-
-pub partial_in_place : (f : Flavour) (t rest : List ℕ) (p : Partial) → IsPartial f t p → Stops is_plain_byte rest → IsLongest (IsPartial f) (t ++ rest) p rest
-partial_in_place f t rest p h stops = in_place (partial_one f) (goes_within (partial_within f) (core_goes f)) t rest h stops
-
 -- the bytes of comparators
 abbrev pub is_comparator_byte : ℕ → Bool
 is_comparator_byte x = is_lead_byte x || is_plain_byte x
@@ -388,12 +381,6 @@ is_start_byte x = is_sign_byte x || (x == 126) || (x == 94) || is_partial_byte x
 
 sign_start : (x : ℕ) → is_sign_byte x ≡ true → is_start_byte x ≡ true
 sign_start x h = grind (arith, nat_tests)
-
-tilde_start : (x : ℕ) → (x == 126) ≡ true → is_start_byte x ≡ true
-tilde_start x h = grind (arith, nat_tests)
-
-caret_start : (x : ℕ) → (x == 94) ≡ true → is_start_byte x ≡ true
-caret_start x h = grind (arith, nat_tests)
 
 partial_start : (f : Flavour) → BeginsBy (IsPartial f) is_start_byte
 partial_start f = begins_wider is_partial_byte is_start_byte (λ x h. or_right (is_sign_byte x || (x == 126) || (x == 94)) (is_partial_byte x) h) (any_begins f)

@@ -1,15 +1,15 @@
 -- Comparators at the front of a text, by the mark that comes first.
-use Rattle.std.proofs.Common.{◌≡◌, ℕ, Bool, true, List, [], ◌∷◌, ◌++◌, Option, Some, None, refl, sym, ap, ◌∙◌, arith, ◌==◌}
+use Rattle.std.proofs.Common.{◌≡◌, ℕ, true, List, [], ◌∷◌, ◌++◌, Option, Some, None, refl, sym, ap, ◌∙◌, arith}
 use Rattle.std.specs.Prelude.{slice_index}
 use Rattle.std.proofs.lemmas.Bool.Decides.{nat_tests}
-use Rattle.semver_base.specs.Grammar.{After, Either, this, that, HasNone, IsLongest, IsSeen, Reads}
+use Rattle.semver_base.specs.Grammar.{Either, this, that, HasNone, IsLongest, IsSeen}
 use Rattle.semver_base.specs.Lexical.{IsBlanks}
 use Rattle.semver_base.specs.declared.lexical.values.Measured.{Measured}
 use Rattle.semver_base.specs.declared.partial.Partial.{Partial}
 use Rattle.semver_base.proofs.Bytes.{Disjoint, none_by_byte}
-use Rattle.semver_base.proofs.Fronts.{NonEmpty, either_none, either_that, either_this, followed, followed_none_second, joined_none_first, mapped, mapped_none, marked_none, marked_other, marked_some}
+use Rattle.semver_base.proofs.Fronts.{NonEmpty, either_none, either_that, either_this, followed, joined_none_first, mapped, mapped_none, marked_none, marked_other, marked_some}
 use Rattle.semver_base.proofs.Readings.{some_within}
-use Rattle.semver_req.specs.Comparators.{Comparator, IsComparator, IsMarked, IsPlain, IsPrimitive, IsSign, IsSigned}
+use Rattle.semver_req.specs.Comparators.{IsComparator, IsMarked, IsPlain, IsSign}
 use Rattle.semver_req.specs.Partials.{IsPartial, sized_partial}
 use Rattle.semver_req.specs.Written.{IsFront, IsMarkCut, IsUnsigned, ReadsComparator}
 use Rattle.semver_req.specs.declared.common.comparator.Mark.{Mark}

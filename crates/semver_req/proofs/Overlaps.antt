@@ -1,6 +1,5 @@
 -- Overlap of requirements.
-use Rattle.std.proofs.Common.{◌≡◌, ◌&&◌, List, ℕ, Bool, true, false, refl, sym, nat_eq, ◌∙◌}
-use Rattle.std.proofs.lemmas.Bool.{both_ways}
+use Rattle.std.proofs.Common.{◌≡◌, List, ℕ, Bool, true, false, refl, sym, ◌∙◌}
 use Rattle.std.specs.Bool.{OnFalse}
 use Rattle.std.specs.Cmp.{Equal-is}
 use Rattle.std.specs.Cmp.Lexicographic.{nat_list_eq_equiv, slice_cmp, texts_ties}
@@ -8,8 +7,6 @@ use Rattle.std.specs.FinMap.{nat_cmp-IsAntisymmetric, slice_cmp-IsAntisymmetric}
 use Rattle.std.specs.Ordering.{nat_cmp}
 use Rattle.std.specs.Prelude.{◌↔◌, IsTrue}
 use Rattle.semver_base.specs.Meaning.{alternatives, tree_means}
-use Rattle.semver_base.specs.Overlap.{some_overlap}
-use Rattle.semver_base.specs.declared.version.Version.{Version}
 use Rattle.semver_base.proofs.Orders.{and_false}
 use Rattle.semver_base.proofs.OverlapLemmas.{set_no_common, some_overlap_swap}
 use Rattle.semver_req.specs.Requirement.{MatchNoVersion, OverlapAsTags, inner_overlap}

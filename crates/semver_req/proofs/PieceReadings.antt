@@ -1,23 +1,23 @@
 -- Each piece stands for one list of comparators.
-use Rattle.std.proofs.Common.{◌≡◌, ◌<◌, ℕ, Bool, true, false, List, [], ◌∷◌, ◌++◌, length, refl, sym, ap, ◌∙◌, arith, append-nil, ◌==◌, ◌≤◌, length-append}
+use Rattle.std.proofs.Common.{◌≡◌, ◌<◌, ℕ, Bool, true, false, List, [], ◌∷◌, ◌++◌, length, refl, sym, ap, ◌∙◌, arith, append-nil, ◌==◌}
 use Rattle.std.specs.Prelude.{◌||◌}
 use Rattle.std.specs.List.{list_all}
-use Rattle.std.proofs.lemmas.Bool.{and_parts, or_left, or_right}
+use Rattle.std.proofs.lemmas.Bool.{and_parts, or_left}
 use Rattle.std.proofs.lemmas.Bool.Decides.{nat_tests}
 use Rattle.semver_base.specs.Grammar.{After, Before, this, that, IsLongest, Listed, last_item, closed_item, more_items, Marked, Stops}
 use Rattle.semver_base.specs.Lexical.{IsBlanks, IsSomeBlanks}
 use Rattle.semver_base.specs.declared.partial.Partial.{Partial}
 use Rattle.semver_base.proofs.Blanks.{blanks_made, is_blank_byte}
-use Rattle.semver_base.proofs.Bytes.{BeginsBy, Disjoint, GoesBy, MadeOf, apart_by, begins_from_made, begins_wider, either_begins, either_made, goes_from_made, joined_begins, joined_made, joined_some_second, joined_some_text, listed_made, made_wider, mapped_begins, mapped_made, mapped_some_text, marked_begins, marked_made}
-use Rattle.semver_base.proofs.Fronts.{Apart, NonEmpty, fronts, same, shorter, longer, one_front}
+use Rattle.semver_base.proofs.Bytes.{BeginsBy, Disjoint, GoesBy, MadeOf, apart_by, begins_from_made, begins_wider, either_begins, either_made, goes_from_made, joined_begins, joined_made, joined_some_second, joined_some_text, made_wider, mapped_begins, mapped_made, mapped_some_text, marked_begins}
+use Rattle.semver_base.proofs.Fronts.{Apart, NonEmpty, one_front}
 use Rattle.semver_base.proofs.Lists.{IsListing, listed_begins, listed_some}
-use Rattle.semver_base.proofs.Readings.{all_second, EachByte, Never, Unambiguous, after_one, before_one, each_made, either_one, followed_one, goes_within, in_place, listed_one, mapped_one, marked_one, never_by, some_within, unit_one}
+use Rattle.semver_base.proofs.Readings.{EachByte, Never, Unambiguous, after_one, before_one, each_made, either_one, followed_one, goes_within, in_place, listed_one, mapped_one, marked_one, never_by, some_within, unit_one}
 use Rattle.semver_req.specs.Comparators.{Comparator, IsComparator}
 use Rattle.semver_req.specs.Partials.{IsPartial}
-use Rattle.semver_req.specs.Pieces.{HasNoBar, IsCutAt, IsFilled, IsHyphen, IsMark, IsNpmSeparator, IsPiece}
+use Rattle.semver_req.specs.Pieces.{IsFilled, IsHyphen, IsMark, IsNpmSeparator, IsPiece}
 use Rattle.semver_req.specs.declared.common.values.Flavour.{Flavour}
 use Rattle.semver_req.specs.declared.common.values.Flavour.TheVariants.{Npm, Normal, Specifier}
-use Rattle.semver_req.proofs.ComparatorReadings.{IsCore, comparator_begins, comparator_goes, comparator_made, is_comparator_byte, partial_made, comparator_one, comparator_some, comparator_within, core_goes, core_one, core_some, is_start_byte, partial_core, partial_within, some_blanks_made}
+use Rattle.semver_req.proofs.ComparatorReadings.{IsCore, comparator_begins, comparator_goes, comparator_one, comparator_some, comparator_within, core_goes, core_one, core_some, is_start_byte, partial_core, partial_within, some_blanks_made}
 use Rattle.semver_req.proofs.PartialReadings.{is_plain_byte, partial_one}
 use Rattle.semver_req.proofs.Signs.{any_begins, is_partial_byte}
 
@@ -285,53 +285,3 @@ start_no_blank x h k = grind (arith, nat_tests)
 pub blank_piece : (f : Flavour) (text : List ℕ) (cs : List Comparator) → IsPiece f text cs → IsBlanks text tt → cs ≡ []
 blank_piece f text [] h k = refl
 blank_piece f text (c ∷ cs) h k = absurd ((never_by is_start_byte is_blank_byte start_no_blank (filled_some f) (filled_begins f) (begins_from_made blanks_made)).both text (c ∷ cs) tt h k)
-
--- ---- pieces have no `|`
-
-abbrev pub is_piece_byte : ℕ → Bool
-is_piece_byte x = is_comparator_byte x || is_separator_byte x
-
-comparator_piece : (x : ℕ) → is_comparator_byte x ≡ true → is_piece_byte x ≡ true
-comparator_piece x h = or_left (is_comparator_byte x) (is_separator_byte x) h
-
-separator_piece : (x : ℕ) → is_separator_byte x ≡ true → is_piece_byte x ≡ true
-separator_piece x h = or_right (is_comparator_byte x) (is_separator_byte x) h
-
-partials_piece : MadeOf (IsPartial Npm) is_piece_byte
-partials_piece = made_wider is_comparator_byte is_piece_byte comparator_piece (partial_made Npm)
-
-blanks_piece : MadeOf IsBlanks is_piece_byte
-blanks_piece = made_wider is_separator_byte is_piece_byte separator_piece blanks_separate
-
-some_piece : MadeOf IsSomeBlanks is_piece_byte
-some_piece = made_wider is_separator_byte is_piece_byte separator_piece some_separate
-
-comparators_piece : (f : Flavour) → MadeOf (IsComparator f) is_piece_byte
-comparators_piece f = made_wider is_comparator_byte is_piece_byte comparator_piece (comparator_made f)
-
-pub filled_made : (f : Flavour) → MadeOf (IsFilled f) is_piece_byte
-filled_made Npm = either_made
-    (mapped_made (joined_made partials_piece (mapped_made (joined_made some_piece (marked_made (mapped_made (joined_made some_piece (mapped_made (joined_made partials_piece blanks_piece)))) 45 refl)))))
-    (listed_made (comparators_piece Npm) (made_wider is_separator_byte is_piece_byte separator_piece separator_made))
-filled_made Normal = listed_made (comparators_piece Normal) some_piece
-filled_made Specifier = record { made = λ text cs h. absurd h }
-
-pub no_bar : (text : List ℕ) → list_all is_piece_byte text ≡ true → HasNoBar text
-no_bar text pass a b e = bar (and_parts (is_piece_byte 124) (list_all is_piece_byte (124 ∷ b)) (all_second is_piece_byte a (124 ∷ 124 ∷ b) (rw e at pass))).0
-  where
-    bar : is_piece_byte 124 ≡ true → ⊥
-    bar h = cc h
-
--- after a piece, `||` is the leftmost one
-pub cut_here : (piece rest : List ℕ) → list_all is_piece_byte piece ≡ true → IsCutAt (piece ++ (124 ∷ 124 ∷ rest)) piece rest
-cut_here piece rest pass = record { text_is = refl; leftmost = go }
-  where
-    go : (a b : List ℕ) → piece ++ (124 ∷ 124 ∷ rest) ≡ a ++ (124 ∷ 124 ∷ b) → length piece ≤ length a
-    go a b e = elim (fronts piece a (124 ∷ 124 ∷ rest) (124 ∷ 124 ∷ b) e) [
-      | same one two ↦ omega (arith, ap length one)
-      | shorter x m one two ↦ omega (arith, ap length one, length-append piece (x ∷ m))
-      | longer x m one two ↦ absurd (bar x m (cc two) (all_second is_piece_byte a (x ∷ m) (rw one at pass)))
-    ]
-      where
-        bar : (x : ℕ) (m : List ℕ) → x ≡ 124 → list_all is_piece_byte (x ∷ m) ≡ true → ⊥
-        bar x m is h = let passes : is_piece_byte 124 ≡ true = rw is at (and_parts (is_piece_byte x) (list_all is_piece_byte m) h).0 in cc passes

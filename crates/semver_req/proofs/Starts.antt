@@ -1,12 +1,11 @@
 -- A range that a reader keeps has a start, or no bounds.
-use Rattle.std.proofs.Common.{◌≡◌, ◌&&◌, ◌+◌, List, [], ◌∷◌, Bool, true, false, map, not, refl, ap, ℕ}
-use Rattle.std.specs.List.{fold, list_all}
+use Rattle.std.proofs.Common.{◌≡◌, ◌+◌, List, [], ◌∷◌, Bool, true, false, map, refl}
+use Rattle.std.specs.List.{fold}
 use Rattle.std.specs.Prelude.{if◌then◌else◌, nat_lt}
 use Rattle.std.specs.declared.cmp.Ordering.{Ordering}
 use Rattle.std.specs.declared.cmp.Ordering.TheVariants.{Less, Equal, Greater}
 use Rattle.semver_base.specs.Clamp.{clamped, clamped_end, clamped_start, greater_of, of_tied, stopped_at, stopped_by}
 use Rattle.semver_base.specs.Meaning.{everything, release}
-use Rattle.semver_base.specs.Overlap.{ends_at_zero}
 use Rattle.semver_base.specs.PartialTable.{above_by, at_least_by, at_most_by, below_by, caret_by, caret_patch, equal_by, greater_range_by, lower_to_below, tilde_by}
 use Rattle.semver_base.specs.Precedence.{precedence_cmp}
 use Rattle.semver_base.specs.declared.partial.Partial.{Partial}
@@ -18,7 +17,6 @@ use Rattle.semver_base.specs.declared.range.VersionBound.{VersionBound}
 use Rattle.semver_base.specs.declared.range.VersionBoundKind.{VersionBoundKind}
 use Rattle.semver_base.specs.declared.range.VersionBoundKind.TheVariants as kind
 use Rattle.semver_base.specs.declared.range.VersionRange.{VersionRange}
-use Rattle.semver_base.proofs.Orders.{and_both}
 use Rattle.semver_req.specs.Comparators.{Caret, Comparator, Hyphen, Plain, Signed, Tilde, comparator_range, signed_line}
 use Rattle.semver_req.specs.KeptSet.{kept_range}
 use Rattle.semver_req.specs.declared.common.values.PrimitiveKind.{PrimitiveKind}

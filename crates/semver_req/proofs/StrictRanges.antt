@@ -1,28 +1,22 @@
 -- What the strict reader makes of a text.
-use Rattle.std.proofs.Common.{◌≡◌, ◌<◌, ℕ, Bool, true, false, List, [], ◌∷◌, ◌++◌, length, Some, None, Result, Ok, Err, refl, sym, ap, ◌∙◌, arith, inl, inr, ◌==◌}
-use Rattle.std.specs.Prelude.{◌||◌, ◌&&◌, ◌⊎◌, slice_index, IfErr}
+use Rattle.std.proofs.Common.{◌≡◌, ◌<◌, ℕ, Bool, true, false, List, [], ◌∷◌, length, Some, None, Result, Ok, Err, refl, sym, ap, ◌∙◌, arith, inl, inr, ◌==◌}
+use Rattle.std.specs.Prelude.{◌||◌, ◌&&◌, ◌⊎◌, IfErr}
 use Rattle.std.specs.Result.{IsErrAnd}
-use Rattle.std.proofs.lemmas.Bool.{cases_Bool, or_left, or_right}
+use Rattle.std.proofs.lemmas.Bool.{or_left, or_right}
 use Rattle.std.proofs.lemmas.Bool.Decides.{nat_tests}
 use Rattle.std.proofs.lemmas.List.{nil_from_length}
-use Rattle.std.proofs.lemmas.List.Folds.{list_all-append}
 use Rattle.semver_base.specs.Failure.{message_of, refusal_message}
-use Rattle.semver_base.specs.Grammar.{this, that, HasNone, IsLongest, IsSeen}
+use Rattle.semver_base.specs.Grammar.{this, that, HasNone}
 use Rattle.semver_base.specs.Lexical.{IsBlanks}
-use Rattle.semver_base.specs.PartialTable.{IsBoundRefusal, all_fit, number_fits}
+use Rattle.semver_base.specs.PartialTable.{IsBoundRefusal, all_fit}
 use Rattle.semver_base.specs.declared.failure.Refusal.{Refusal}
 use Rattle.semver_base.specs.declared.failure.Refusal.TheVariants.{BoundTooLarge, NumberTooLarge, UnexpectedCharacter}
-use Rattle.semver_base.specs.declared.lexical.values.Measured.{Measured}
-use Rattle.semver_base.specs.declared.lexical.values.Measured.TheVariants.{Fits, TooLarge}
 use Rattle.semver_base.specs.declared.partial.Partial.{Partial}
-use Rattle.semver_base.specs.declared.partial.XRange.{XRange}
-use Rattle.semver_base.specs.declared.partial.XRange.TheVariants.{Wildcard, Val}
 use Rattle.semver_base.specs.declared.range.VersionRange.{VersionRange}
-use Rattle.semver_base.proofs.Fronts.{NonEmpty, either_none, either_that, either_this, mapped, mapped_none, marked_none, marked_other, marked_some}
+use Rattle.semver_base.proofs.Fronts.{NonEmpty}
 use Rattle.semver_base.proofs.Bytes.{BeginsBy, Disjoint, begins_from_made, begins_wider, either_begins, mapped_begins, marked_begins, none_by_byte}
-use Rattle.semver_req.specs.Comparators.{Comparator, comparator_line, comparator_numbers, comparator_range, component_numbers, fits, numbers}
+use Rattle.semver_req.specs.Comparators.{Comparator, comparator_line, comparator_range, fits}
 use Rattle.semver_req.specs.Outcome.{IsStrictOutcome, whole, left_over, no_front, no_fit, IsStrictRange, IsTagOr, tag, no_tag, Outcome, Ranges, Tag, Refused}
-use Rattle.semver_req.specs.Partials.{IsPartial, component_fits, partial_fits, sized_partial}
 use Rattle.semver_req.specs.Readers.{Failure, IsReading}
 use Rattle.semver_req.specs.Strict.{IsNoTag, no_memory_left, blank_no_tag, other_no_tag, IsStrictRefusal, memory_wanting, something_follows, blank_text, no_range, large_number, large_bound, empty_constraint, unexpected_character}
 use Rattle.semver_req.specs.Written.{comparator_of}

@@ -11,7 +11,6 @@ use Rattle.semver_base.specs.Meaning.{everything, release}
 use Rattle.semver_base.specs.Overlap.{ends_at_zero}
 use Rattle.semver_base.specs.PartialTable.{above_by, all_fit, at_least_by, at_most_by, below_by, caret_by, caret_patch, equal_by, greater_range_by, lower_to_below, lowest, number_fits, or_zero, version_with_pre, tilde_by, upper_by, without_build, Line}
 use Rattle.semver_base.specs.Precedence.{precedence_cmp}
-use Rattle.semver_base.specs.VersionGrammar.{AllNumbersFit}
 use Rattle.semver_base.specs.VersionText.{AreParts, IsWritable}
 use Rattle.semver_base.specs.declared.partial.Partial.{Partial}
 use Rattle.semver_base.specs.declared.partial.XRange.{XRange}
@@ -22,8 +21,7 @@ use Rattle.semver_base.specs.declared.range.VersionBound.{VersionBound}
 use Rattle.semver_base.specs.declared.range.VersionBoundKind.{VersionBoundKind}
 use Rattle.semver_base.specs.declared.range.VersionBoundKind.TheVariants as kind
 use Rattle.semver_base.specs.declared.range.VersionRange.{VersionRange}
-use Rattle.semver_base.specs.declared.version.Version.{Version}
-use Rattle.semver_base.proofs.Orders.{and_both, and_first, and_second}
+use Rattle.semver_base.proofs.Orders.{and_first, and_second}
 use Rattle.semver_req.specs.Comparators.{Caret, Comparator, Hyphen, Plain, Signed, Tilde, comparator_range, component_numbers, fits, numbers, signed_line}
 use Rattle.semver_req.specs.KeptSet.{kept, kept_range}
 use Rattle.semver_req.specs.NormalText.{AreWritableRanges, IsWritableBound, IsWritableRange}

@@ -1,5 +1,5 @@
 -- Why the strict reader refuses a text.
-use Rattle.std.specs.Prelude.{◌≡◌, ◌<◌, ℕ, List, ◌∷◌, length, true, false, Option, Some, None}
+use Rattle.std.specs.Prelude.{◌≡◌, ◌<◌, ℕ, List, length, true, false, Some, None}
 use Rattle.semver_base.specs.Failure.{refusal_message}
 use Rattle.semver_base.specs.Grammar.{HasNone, IsLongest}
 use Rattle.semver_base.specs.Lexical.{IsBlanks}

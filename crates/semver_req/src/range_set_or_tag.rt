@@ -95,7 +95,8 @@ impl RangeOrInvalid {
         alloc: Global,
         text: &str,
     ) -> Result<Option<(RangeOrInvalid, &str)>, ParseFailure>
-        ensures value { IfOk result (λ r. ReadsAs joined (Listed (IsComparator Normal) IsSomeBlanks) text.now (answer_of r)) }
+        ensures value { IfOk result (λ r. ReadsAs joined (Listed (IsComparator Normal) IsSomeBlanks)
+            text.now (answer_of r)) }
         ensures memory { IfErr result (λ failure. failure ≡ None) }
     {
         let Some((first, mut rest)) = normal_front(alloc, text)? else {
@@ -240,7 +241,8 @@ fn read_pieces(alloc: Global, first: FirstPiece<'_>) -> Result<Alternatives, Par
 // The text as a tag, or the refusal where it is none.
 fn tag_or(alloc: Global, text: &str, refusal: Refusal) -> Result<RangeSetOrTag, ParseFailure>
     ensures tag { IfOk result (λ inner. (inner ≡ RangeSetOrTag.Tag text.now) × (is_valid_tag text.now ≡ true)) }
-    ensures no_tag { IfErr result (λ failure. (failure ≡ None) ⊎ ((failure ≡ refusal_failure refusal) × (is_valid_tag text.now ≡ false))) }
+    ensures no_tag { IfErr result (λ failure. (failure ≡ None)
+        ⊎ ((failure ≡ refusal_failure refusal) × (is_valid_tag text.now ≡ false))) }
 {
     if is_valid_npm_tag(text) {
         return Ok(RangeSetOrTag::Tag(SmallStackString::from_str(alloc, text)?));

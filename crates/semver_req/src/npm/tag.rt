@@ -1,12 +1,12 @@
 //! Which texts are tags.
 
 ghost use Rattle.std.specs.Prelude.{◌≡◌};
-ghost use Rattle.std.specs.Char.{is_whitespace};
 ghost use Rattle.std.specs.List.{list_all};
 ghost use Rattle.std.specs.Str.{chars};
 ghost use Rattle.unicode.specs.GeneralCategory.{general_category};
 ghost use Rattle.semver_req.specs.Tag.{is_number_category, is_tag_character, is_valid_tag};
 
+use semver_base::lexical::is_blank;
 use unicode::properties::{GeneralCategory, is_alphabetic};
 
 // Whether the character is a decimal digit, a letter of numbers, or another number.
@@ -25,13 +25,6 @@ fn is_tag_character(c: char) -> bool
     ensures { result ≡ is_tag_character c }
 {
     is_alphabetic(c) || is_number(c) || matches!(c, '-' | '_' | '.' | '~')
-}
-
-// Whether each character is a blank.
-fn is_blank(text: &str) -> bool
-    ensures { result ≡ list_all is_whitespace (chars text.now) }
-{
-    text.chars().all(char::is_whitespace)
 }
 
 fn has_tag_characters_only(text: &str) -> bool
