@@ -2,8 +2,8 @@
 use Rattle.std.proofs.Common.{◌≡◌, ◌≤◌, ℕ, Bool, true, false, List, [], ◌∷◌, ◌++◌, length, Option, Some, None, refl, sym, ap, ◌∙◌, arith, append-nil, length-append}
 use Rattle.std.specs.List.{list_all}
 use Rattle.std.proofs.lemmas.Bool.{and_from, and_parts, both_ways}
-use Rattle.semver_base.specs.Grammar.{After, Before, Either, this, that, HasNone, IsLongest, Followed, Joined, Listed, last_item, closed_item, more_items, Mapped, Marked, Optional, Run, Stops}
-use Rattle.semver_base.proofs.Fronts.{Apart, GoesOn, NoClash, NonEmpty, fronts, same, shorter, longer, no_clash, same_fronts}
+use Rattle.semver_base.specs.Grammar.{After, Before, Either, this, that, IsLongest, Followed, Joined, Listed, last_item, closed_item, more_items, Mapped, Marked, Optional, Run, Stops}
+use Rattle.semver_base.proofs.Fronts.{Apart, GoesOn, NoClash, NonEmpty, fronts, same, shorter, longer, no_clash}
 use Rattle.semver_base.proofs.Bytes.{BeginsBy, Disjoint, GoesBy, MadeOf, list_all-wider}
 use Rattle.semver_base.proofs.Lists.{IsListing, item_apart, listed_some, separator_apart, stops_here}
 
@@ -48,23 +48,8 @@ goes_within {A = A} {B = B} {p = p} in_b g = record { goes = go }
         let l = in_b.texts (o.front ++ (x ∷ o.more)) o.long_value o.long in
         g.goes x (record { front = o.front; more = o.more; short_value = s.0; long_value = l.0; short = s.1; long = l.1 })
 
-pub made_within : {V W : Type 0} {A : List ℕ → V → Type 0} {B : List ℕ → W → Type 0} {p : ℕ → Bool} → Within A B → MadeOf B p → MadeOf A p
-made_within in_b m = record { made = λ text v h. let b = in_b.texts text v h in m.made text b.0 b.1 }
-
 pub some_within : {V W : Type 0} {A : List ℕ → V → Type 0} {B : List ℕ → W → Type 0} → Within A B → NonEmpty B → NonEmpty A
 some_within in_b never = record { some = λ v h. let b = in_b.texts [] v h in never.some b.0 b.1 }
-
--- a longest front of B that is a text of A is the longest front of A
-pub longest_within : {V W : Type 0} {A : List ℕ → V → Type 0} {B : List ℕ → W → Type 0} {text rest : List ℕ} {v : V} {w : W} → Within A B → Unambiguous A → (p : IsLongest B text w rest) → A p.front v → IsLongest A text v rest
-longest_within {V} {W} {A} {B} {text} {rest} {v} in_b u p stands = record { front = p.front; text_is = p.text_is; stands = stands; longest = go }
-  where
-    go : (a b : List ℕ) (x : V) → text ≡ a ++ b → A a x → (length a ≤ length p.front) × (length a ≡ length p.front → x ≡ v)
-    go a b x e h =
-        let c = in_b.texts a x h in
-        ((p.longest a b c.0 e c.1).0, λ s. u.one p.front x v (rw (same_fronts a p.front b rest (sym e ∙ p.text_is) s).0 at h) stands)
-
-pub none_within : {V W : Type 0} {A : List ℕ → V → Type 0} {B : List ℕ → W → Type 0} {text : List ℕ} → Within A B → HasNone B text → HasNone A text
-none_within in_b n = record { none = λ a b v e h. let c = in_b.texts a v h in n.none a b c.0 e c.1 }
 
 -- a grammar with fewer texts
 pub narrowed_one : {V : Type 0} {A : List ℕ → V → Type 0} (B : List ℕ → V → Type 0) → ((a : List ℕ) (w : V) → B a w → A a w) → Unambiguous A → Unambiguous B

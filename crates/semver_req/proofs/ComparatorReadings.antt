@@ -10,7 +10,7 @@ use Rattle.semver_base.specs.declared.partial.Partial.{Partial}
 use Rattle.semver_base.proofs.Blanks.{blanks_made, is_blank_byte}
 use Rattle.semver_base.proofs.Bytes.{BeginsBy, Disjoint, GoesBy, MadeOf, apart_by, begins_from_made, begins_wider, either_begins, either_made, goes_from_made, joined_begins, joined_begins_either, joined_goes_second, joined_made, joined_some_second, joined_some_text, list_all-append, made_wider, mapped_begins, mapped_goes, mapped_made, mapped_some_text, marked_made, optional_begins, optional_made}
 use Rattle.semver_base.proofs.Fronts.{Apart, NonEmpty, no_clash}
-use Rattle.semver_base.proofs.Readings.{EachByte, HasOther, Unambiguous, Within, after_one, each_made, either_one, either_other, followed_one, goes_within, made_within, joined_other_first, joined_other_second, mapped_one, mapped_other, marked_other_byte, narrowed_one, never_by, never_made, other_narrower, some_within}
+use Rattle.semver_base.proofs.Readings.{EachByte, HasOther, Unambiguous, Within, after_one, each_made, either_one, either_other, followed_one, goes_within, joined_other_first, joined_other_second, mapped_one, mapped_other, marked_other_byte, narrowed_one, never_by, never_made, other_narrower, some_within}
 use Rattle.semver_req.specs.Comparators.{Comparator, Tilde, Caret, IsComparator, IsEquals, no_more, one_more, IsIgnored, IsLed, IsNpmCaret, IsNpmTilde, IsPlain, IsSign, IsSigned, sign_text}
 use Rattle.semver_req.specs.Partials.{IsPartial, IsPlainPartial}
 use Rattle.semver_req.specs.declared.common.values.Flavour.{Flavour}
@@ -357,21 +357,6 @@ comparator_within Specifier = either_within (either_within (mapped_core Specifie
 
 pub comparator_goes : (f : Flavour) → GoesBy (IsComparator f) is_plain_byte
 comparator_goes f = goes_within (comparator_within f) (core_goes f)
-
--- the bytes of comparators
-abbrev pub is_comparator_byte : ℕ → Bool
-is_comparator_byte x = is_lead_byte x || is_plain_byte x
-
-core_made : (f : Flavour) → MadeOf (IsCore f) is_comparator_byte
-core_made f = mapped_made (joined_made
-    (made_wider is_lead_byte is_comparator_byte (λ x h. or_left (is_lead_byte x) (is_plain_byte x) h) (each_made is_lead_byte))
-    (made_wider is_plain_byte is_comparator_byte (λ x h. or_right (is_lead_byte x) (is_plain_byte x) h) (plain_made f)))
-
-pub comparator_made : (f : Flavour) → MadeOf (IsComparator f) is_comparator_byte
-comparator_made f = made_within (comparator_within f) (core_made f)
-
-pub partial_made : (f : Flavour) → MadeOf (IsPartial f) is_comparator_byte
-partial_made f = made_within (partial_within f) (core_made f)
 
 pub comparator_some : (f : Flavour) → NonEmpty (IsComparator f)
 comparator_some f = some_within (comparator_within f) (core_some f)
