@@ -8,6 +8,7 @@ pub mod Joining
 pub mod KeptRanges
 pub mod LedReadings
 pub mod Marks
+pub mod NpmComparators
 pub mod NormalTable
 pub mod OneOutcome
 pub mod OutcomesFit
@@ -21,6 +22,7 @@ pub mod Places
 pub mod ReadSets
 pub mod ReaderAnswers
 pub mod Rereading
+pub mod Separators
 pub mod SettledSets
 pub mod Settling
 pub mod ShortestMeaning

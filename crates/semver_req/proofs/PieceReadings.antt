@@ -53,7 +53,7 @@ blank_separator x h = or_left (is_blank_byte x) ((x == 38) || (x == 44)) h
 mark_made : MadeOf IsMark is_separator_byte
 mark_made = either_made (record { made = λ text v h. rw h refl }) (record { made = λ text v h. rw h refl })
 
-mark_some : NonEmpty IsMark
+pub mark_some : NonEmpty IsMark
 mark_some = record { some = go }
   where
     go : (v : Unit {0}) → IsMark [] v → ⊥

@@ -1,5 +1,5 @@
 -- What is read of a piece, and of the pieces of a text.
-use Rattle.std.proofs.Common.{◌≡◌, ◌≤◌, ◌<◌, ◌&&◌, ◌==◌, ℕ, suc, Bool, true, false, List, [], ◌∷◌, ◌++◌, length, map, not, Option, Some, None, refl, sym, subst, ap, ap₂, ◌∙◌, inl, inr, arith, append-nil, append_assoc, length-append}
+use Rattle.std.proofs.Common.{◌≡◌, ◌≤◌, ◌<◌, ◌==◌, ℕ, suc, Bool, true, false, List, [], ◌∷◌, ◌++◌, length, map, not, Option, Some, None, refl, sym, subst, ap, ap₂, ◌∙◌, inl, inr, arith, append-nil, length-append}
 use Rattle.std.proofs.lemmas.Bool.Decides.{nat_tests}
 use Rattle.std.proofs.lemmas.List.{map-append, nil_from_length}
 use Rattle.std.specs.List.{filter, list_all}
@@ -13,15 +13,14 @@ use Rattle.semver_base.specs.Lexical.{IsBlanks, IsSomeBlanks}
 use Rattle.semver_base.specs.Overlap.{ends_at_zero}
 use Rattle.semver_base.specs.declared.failure.Refusal.{Refusal}
 use Rattle.semver_base.specs.declared.failure.Refusal.TheVariants.{BoundTooLarge, NumberTooLarge, UnexpectedCharacter}
-use Rattle.semver_base.specs.declared.partial.Partial.{Partial}
 use Rattle.semver_base.specs.declared.range.VersionRange.{VersionRange}
 use Rattle.semver_base.proofs.Orders.{and_both, and_first, and_second}
 use Rattle.semver_req.specs.Comparators.{Caret, Comparator, Hyphen, IsComparator, Plain, Signed, Tilde, comparator_range, fits}
 use Rattle.semver_req.specs.KeptSet.{folded, kept, kept_range, without_none}
 use Rattle.semver_req.specs.Outcome.{AreGoodOnes, none_left, good, bad, IsBad, IsGood, IsCutOutcome, IsOutcome, one_good, one_bad, normal_many, normal_refused, IsTagOr, tag, no_tag, Outcome, Ranges, Tag, Refused}
 use Rattle.semver_req.specs.PieceReading.{IsFirstBad, this_bad, later_bad, IsNormalRefusal, memory_wanting, bad_piece, IsPieceRead, IsPieceRefusal, outside, large_number, large_bound, joined, kept_of, numbers_fit, sums_fit, refusal_failure}
-use Rattle.semver_req.specs.PieceSteps.{AreAllRead, AreRead, IsEverything, IsFirstPiece, IsOneMore, IsTold, first_refusal}
-use Rattle.semver_req.specs.Pieces.{AreMorePieces, ArePieces, IsPiece}
+use Rattle.semver_req.specs.PieceSteps.{AreAllRead, AreRead, IsEverything, IsFirstPiece, IsTold, first_refusal}
+use Rattle.semver_req.specs.Pieces.{ArePieces, IsPiece}
 use Rattle.semver_req.specs.Readers.{Failure, IsReading}
 use Rattle.semver_req.specs.Tag.{is_valid_tag}
 use Rattle.semver_req.specs.declared.common.values.Flavour.{Flavour}
@@ -37,16 +36,22 @@ use Rattle.semver_req.proofs.PieceReadings.{blank_piece, piece_one}
 -- ---- one piece
 
 pub followed_blank : (followed : Bool) (piece rest : List ℕ) (b : Bool) → followed ≡ true → b ≡ (length rest == 0) → IsLongest IsBlanks piece tt rest → IsTrue b ↔ IsEverything followed piece
-followed_blank followed piece rest b is e p = let blank = blank_whole piece rest b e p in (λ h. inr (is, blank.0 h), λ h. elim h [
-  | inl nil ↦ blank.1 (rw nil (NoCharPasses-nil is_not_whitespace))
-  | inr k ↦ blank.1 k.1
-])
+followed_blank followed piece rest b is e p = let blank = blank_whole piece rest b e p in (
+  λ h. inr (is, blank.0 h),
+  λ h. elim h [
+    | inl nil ↦ blank.1 (rw nil (NoCharPasses-nil is_not_whitespace))
+    | inr k ↦ blank.1 k.1
+  ],
+)
 
 pub nothing_more : (followed : Bool) (piece : List ℕ) (b : Bool) → followed ≡ false → b ≡ (length piece == 0) → IsTrue b ↔ IsEverything followed piece
-nothing_more followed piece b is e = (λ h. inl (nil_from_length piece (grind (arith, nat_tests))), λ h. elim h [
-  | inl nil ↦ rw (e, nil) refl
-  | inr k ↦ let both : false ≡ true = sym is ∙ k.0 in cc both
-])
+nothing_more followed piece b is e = (
+  λ h. inl (nil_from_length piece (grind (arith, nat_tests))),
+  λ h. elim h [
+    | inl nil ↦ rw (e, nil) refl
+    | inr k ↦ let both : false ≡ true = sym is ∙ k.0 in cc both
+  ],
+)
 
 abbrev IsNormalList : List ℕ → List Comparator → Type 0
 IsNormalList = Listed (IsComparator Normal) IsSomeBlanks

@@ -1,17 +1,13 @@
 -- What a reader answers, from the outcome that it read.
-use Rattle.std.proofs.Common.{◌≡◌, ℕ, List, Result, Ok, Err, None, refl, sym, subst, ◌∙◌, inl, inr}
+use Rattle.std.proofs.Common.{◌≡◌, ℕ, List, Result, Ok, Err, None, refl, sym, subst, inl, inr}
 use Rattle.std.specs.Prelude.{◌⊎◌, IfErr}
 use Rattle.std.specs.Result.{IsErrAnd}
 use Rattle.semver_base.specs.Meaning.{tree_means}
-use Rattle.semver_base.specs.declared.version.Version.{Version}
-use Rattle.semver_req.specs.Comparators.{Comparator}
-use Rattle.semver_req.specs.KeptSet.{kept}
 use Rattle.semver_req.specs.Outcome.{IsOutcome, Outcome, Ranges, Tag, Refused, tree_ranges, worked_on}
 use Rattle.semver_req.specs.Readers.{Failure, HasTree, IsAnswer, IsRead, IsReading, IsReadOrTag, IsReaderAnswer, MeansTrees}
 use Rattle.semver_req.specs.Requirement.{Requirement, inner_means}
 use Rattle.semver_req.specs.declared.common.values.Flavour.{Flavour}
 use Rattle.semver_req.specs.declared.range_set_or_tag.RangeSetOrTag.{RangeSetOrTag}
-use Rattle.semver_req.specs.declared.range_set_or_tag.RangeSetOrTag.TheVariants as inner
 use Rattle.semver_req.proofs.Folding.{kept_means}
 use Rattle.semver_req.proofs.OneOutcome.{one_outcome}
 

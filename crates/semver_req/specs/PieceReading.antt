@@ -1,5 +1,5 @@
 -- What is read of a piece, and why a bad one is bad.
-use Rattle.std.specs.Prelude.{◌≡◌, ℕ, List, [], ◌∷◌, map, Bool, true, false, Option, Some, None, if◌then◌else◌}
+use Rattle.std.specs.Prelude.{◌≡◌, ℕ, List, ◌∷◌, map, Bool, true, false, Option, Some, None, if◌then◌else◌}
 use Rattle.std.specs.List.{list_all}
 use Rattle.semver_base.specs.Failure.{refusal_message}
 use Rattle.semver_base.specs.Overlap.{ends_at_zero}

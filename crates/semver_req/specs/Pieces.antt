@@ -18,6 +18,12 @@ IsMark = Either (IsText (codes "&&")) (IsText (codes ","))
 abbrev pub IsNpmSeparator : List ℕ → Unit {0} → Type 0
 IsNpmSeparator = Either (After IsBlanks (After IsMark IsBlanks)) IsSomeBlanks
 
+-- between the comparators of a grammar; the strict one has no lists
+abbrev pub IsSeparator : Flavour → List ℕ → Unit {0} → Type 0
+IsSeparator Npm = IsNpmSeparator
+IsSeparator Normal = IsSomeBlanks
+IsSeparator Specifier = λ text v. ⊥
+
 abbrev pub hyphen : Partial × Partial → List Comparator
 hyphen v = Hyphen v.0 v.1 ∷ []
 

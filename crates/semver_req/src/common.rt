@@ -12,6 +12,7 @@ ghost use Rattle.semver_req.specs.Comparators.{IsMaybeEqual, IsPrimitive, IsSign
 ghost use Rattle.semver_req.specs.Partials.{IsComponent, IsPartial, IsPlainPartial, IsSecond, IsThird, answer_at, assembled, component_of, is_wildcard, second_or_none, sized_component, sized_partial, sized_second, sized_third, strictness_of, third_or_none};
 
 pub mod comparator;
+pub mod separators;
 pub mod values;
 
 use semver_base::lexical;
@@ -65,7 +66,11 @@ struct FromPatch {
 }
 
 // `.`, a component and a qualifier.
-fn third(alloc: Global, text: &str, flavour: Flavour) -> Result<Option<(FromPatch, &str)>, AllocError>
+fn third(
+    alloc: Global,
+    text: &str,
+    flavour: Flavour,
+) -> Result<Option<(FromPatch, &str)>, AllocError>
     ensures { IfOk result (λ r. ReadsAs sized_third (IsThird flavour) text.now (answer_of r)) }
 {
     let Some(rest) = after(text, '.') else {
@@ -79,7 +84,11 @@ fn third(alloc: Global, text: &str, flavour: Flavour) -> Result<Option<(FromPatc
 }
 
 // The third part, or a wildcard.
-fn optional_third(alloc: Global, text: &str, flavour: Flavour) -> Result<(FromPatch, &str), AllocError>
+fn optional_third(
+    alloc: Global,
+    text: &str,
+    flavour: Flavour,
+) -> Result<(FromPatch, &str), AllocError>
     ensures { IfOk result (λ r. IsSeen third_or_none (Optional (IsThird flavour)) text.now r.0 r.1.now) }
 {
     match third(alloc, text, flavour)? {
@@ -102,7 +111,11 @@ struct FromMinor {
 }
 
 // `.`, a component, and then the third part or nothing.
-fn second(alloc: Global, text: &str, flavour: Flavour) -> Result<Option<(FromMinor, &str)>, AllocError>
+fn second(
+    alloc: Global,
+    text: &str,
+    flavour: Flavour,
+) -> Result<Option<(FromMinor, &str)>, AllocError>
     ensures { IfOk result (λ r. ReadsAs sized_second (IsSecond flavour) text.now (answer_of r)) }
 {
     let Some(rest) = after(text, '.') else {

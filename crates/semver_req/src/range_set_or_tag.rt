@@ -18,6 +18,7 @@ ghost use Rattle.semver_req.specs.Written.{comparator_of};
 ghost use Rattle.semver_req.specs.declared.common.values.Flavour.TheVariants.{Normal};
 
 use crate::common::comparator::{Written, normal_front};
+use crate::common::separators::after_some_blanks;
 use crate::npm::is_valid_npm_tag;
 use semver_base::failure::{ParseFailure, Refusal};
 use semver_base::lexical::after_blanks;
@@ -45,17 +46,6 @@ pub enum RangeOrInvalid {
     Range(VersionRange),
     /// The piece is bad: it is outside the grammar, or a number or a bound in it is too large.
     Invalid(Refusal),
-}
-
-// What follows one or more blanks at the front.
-fn after_some_blanks(text: &str) -> Option<&str>
-    ensures { Reads IsSomeBlanks text.now (rest_answer result) }
-{
-    let rest = after_blanks(text);
-    if rest.len() == text.len() {
-        return None;
-    }
-    Some(rest)
 }
 
 // Whether a piece is nothing, or blanks that are followed by `||`.

@@ -1,4 +1,4 @@
-use Rattle.std.proofs.Common.{[], ◌∷◌, ◌++◌, refl, rules, sym, ◌∙◌, append_assoc}
+use Rattle.std.proofs.Common.{[], ◌∷◌, ◌++◌, rules, append_assoc}
 use Rattle.semver_req.proofs.PiecesRead.{read_first, read_more}
 use Rattle.semver_req.proofs.range_set_or_tag.read_pieces.Goals as goal
 
