@@ -1,5 +1,5 @@
 -- Which comparators at the front of a text have numbers that fit.
-use Rattle.std.proofs.Common.{◌≡◌, ℕ, Bool, true, false, List, ◌++◌, refl, sym, ap, ◌∙◌, inl, inr}
+use Rattle.std.proofs.Common.{◌≡◌, ℕ, true, false, List, ◌++◌, refl, sym, ap, ◌∙◌, inl, inr}
 use Rattle.std.specs.Prelude.{◌&&◌}
 use Rattle.std.proofs.lemmas.Bool.{cases_Bool}
 use Rattle.std.proofs.lemmas.List.Folds.{list_all-append}
@@ -20,7 +20,7 @@ component_all : (x : XRange) → all_fit (component_numbers x) ≡ component_fit
 component_all Wildcard = refl
 component_all (Val n) = elim (cases_Bool (number_fits n)) [ inl fits ↦ rw fits refl | inr over ↦ rw over refl ]
 
-numbers_all : (p : Partial) → all_fit (numbers p) ≡ partial_fits p
+pub numbers_all : (p : Partial) → all_fit (numbers p) ≡ partial_fits p
 numbers_all p =
     list_all-append number_fits (component_numbers p.major ++ component_numbers p.minor) (component_numbers p.patch)
     ∙ (ap (λ b. b && all_fit (component_numbers p.patch)) (list_all-append number_fits (component_numbers p.major) (component_numbers p.minor))

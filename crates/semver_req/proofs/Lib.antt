@@ -4,6 +4,7 @@ pub mod Components
 pub mod Cuts
 pub mod Fitting
 pub mod Folding
+pub mod Hyphens
 pub mod Joining
 pub mod KeptRanges
 pub mod LedReadings

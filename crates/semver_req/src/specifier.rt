@@ -8,12 +8,12 @@ ghost use Rattle.semver_req.specs.Tag.{is_valid_tag};
 
 use crate::common::comparator::{Written, unsigned_front};
 use crate::common::values::Flavour;
-use crate::npm::is_valid_npm_tag;
 use crate::range_set_or_tag::RangeSetOrTag;
 use crate::req::VersionReq;
+use crate::tag::is_valid_npm_tag;
 use semver_base::failure::{ParseFailure, Refusal};
-use semver_base::lexical::values::Measured;
 use semver_base::lexical::after_blanks;
+use semver_base::lexical::values::Measured;
 use semver_base::range::{VersionRange, VersionRangeSet};
 use semver_base::string::{CowVec, SmallStackString};
 use std::alloc::{AllocError, Global};
