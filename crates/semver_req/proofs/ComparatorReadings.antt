@@ -1,10 +1,10 @@
 -- Each text of a comparator stands for one value.
 use Rattle.std.proofs.Common.{◌≡◌, ℕ, Bool, true, false, List, [], ◌∷◌, ◌++◌, length, refl, sym, ap, ◌∙◌, arith, append_assoc, ◌==◌}
-use Rattle.std.specs.Prelude.{◌||◌, codes, if◌then◌else◌, slice_index}
+use Rattle.std.specs.Prelude.{◌||◌, if◌then◌else◌, slice_index}
 use Rattle.std.specs.List.{list_all}
 use Rattle.std.proofs.lemmas.Bool.{and_from, or_left, or_right}
 use Rattle.std.proofs.lemmas.Bool.Decides.{nat_tests}
-use Rattle.semver_base.specs.Grammar.{After, Either, this, that, IsText, Mapped, Marked}
+use Rattle.semver_base.specs.Grammar.{After, Either, this, that, IsLongest, Stops, Mapped, Marked}
 use Rattle.semver_base.specs.Lexical.{IsBlanks, IsByte, IsSomeBlanks}
 use Rattle.semver_base.specs.declared.partial.Partial.{Partial}
 use Rattle.semver_base.proofs.Blanks.{blanks_made, is_blank_byte}
@@ -13,6 +13,7 @@ use Rattle.semver_base.proofs.Fronts.{Apart, NonEmpty, no_clash}
 use Rattle.semver_base.proofs.Readings.{EachByte, HasOther, Unambiguous, Within, after_one, each_made, either_one, either_other, followed_one, goes_within, joined_other_first, joined_other_second, mapped_one, mapped_other, marked_other_byte, narrowed_one, never_by, never_made, other_narrower, some_within}
 use Rattle.semver_req.specs.Comparators.{Comparator, Tilde, Caret, IsComparator, IsEquals, no_more, one_more, IsIgnored, IsLed, IsNpmCaret, IsNpmTilde, IsPlain, IsSign, IsSigned, sign_text}
 use Rattle.semver_req.specs.Partials.{IsPartial, IsPlainPartial}
+use Rattle.semver_req.specs.Written.{IsTildes}
 use Rattle.semver_req.specs.declared.common.values.Flavour.{Flavour}
 use Rattle.semver_req.specs.declared.common.values.Flavour.TheVariants.{Npm, Normal, Specifier}
 use Rattle.semver_req.specs.declared.common.values.PrimitiveKind.{PrimitiveKind}
@@ -185,9 +186,6 @@ signs_lead = made_wider is_sign_byte is_lead_byte sign_lead sign_made
 ignored_lead : MadeOf IsIgnored is_lead_byte
 ignored_lead = optional_made (joined_made signs_lead (made_wider is_blank_byte is_lead_byte blank_lead some_blanks_made))
 
-abbrev IsTildes : List ℕ → Unit {0} → Type 0
-IsTildes = Either (IsText (codes "~>")) (IsText (codes "~"))
-
 tildes_lead : MadeOf IsTildes is_lead_byte
 tildes_lead = either_made (record { made = λ text v h. rw h refl }) (record { made = λ text v h. rw h refl })
 
@@ -208,7 +206,7 @@ caret_core = after_core Npm ignored_lead (marked_core Npm 94 refl led_core)
 
 -- ---- which comparator: a tilde has a `~`, a caret a `^` and no `~`, the others have neither
 
-abbrev is_word_byte : ℕ → Bool
+abbrev pub is_word_byte : ℕ → Bool
 is_word_byte x = is_sign_byte x || (x == 118) || is_blank_byte x || is_plain_byte x
 
 abbrev is_caret_byte : ℕ → Bool
@@ -247,7 +245,7 @@ led_word =
     (mapped_made (joined_made (optional_made (made_wider (λ x. x == 118) is_word_byte v_word v_made))
     (mapped_made (joined_made blanks_word (partial_word Npm))))))))
 
-ignored_word : MadeOf IsIgnored is_word_byte
+pub ignored_word : MadeOf IsIgnored is_word_byte
 ignored_word = optional_made (joined_made signs_word (made_wider is_blank_byte is_word_byte blank_word some_blanks_made))
 
 tildes_other : HasOther IsTildes is_caret_byte
@@ -379,7 +377,7 @@ ignored_start = optional_begins (joined_begins sign_some signs_start)
 tildes_begin : BeginsBy IsTildes is_start_byte
 tildes_begin = begins_from_made (either_made (record { made = λ text v h. rw h refl }) (record { made = λ text v h. rw h refl }))
 
-tildes_some : NonEmpty IsTildes
+pub tildes_some : NonEmpty IsTildes
 tildes_some = record { some = go }
   where
     go : (v : Unit {0}) → IsTildes [] v → ⊥

@@ -20,7 +20,7 @@ component_all : (x : XRange) → all_fit (component_numbers x) ≡ component_fit
 component_all Wildcard = refl
 component_all (Val n) = elim (cases_Bool (number_fits n)) [ inl fits ↦ rw fits refl | inr over ↦ rw over refl ]
 
-numbers_all : (p : Partial) → all_fit (numbers p) ≡ partial_fits p
+pub numbers_all : (p : Partial) → all_fit (numbers p) ≡ partial_fits p
 numbers_all p =
     list_all-append number_fits (component_numbers p.major ++ component_numbers p.minor) (component_numbers p.patch)
     ∙ (ap (λ b. b && all_fit (component_numbers p.patch)) (list_all-append number_fits (component_numbers p.major) (component_numbers p.minor))

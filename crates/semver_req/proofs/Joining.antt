@@ -28,7 +28,7 @@ use Rattle.semver_req.proofs.Fitting.{comparator_all}
 
 -- ---- what is read, by what fits
 
-abbrev read_of : Bool → Bool → VersionRange → RangeOrInvalid
+abbrev pub read_of : Bool → Bool → VersionRange → RangeOrInvalid
 read_of numbers sums range = if numbers then (if sums then read.Range range else read.Invalid BoundTooLarge) else read.Invalid NumberTooLarge
 
 all_snoc : (p : Comparator → Bool) (cs : List Comparator) (c : Comparator) → list_all p (cs ++ c ∷ []) ≡ (list_all p cs && p c)
@@ -78,13 +78,13 @@ module _ (cs : List Comparator) (c : Comparator) where
 -- ---- a comparator whose partial version is measured
 
 -- the partial version that fits is the one that was written
-fitting_partial : (p : Partial) {q : Partial} → Fits q ≡ sized_partial p → (p ≡ q) × (partial_fits p ≡ true)
+pub fitting_partial : (p : Partial) {q : Partial} → Fits q ≡ sized_partial p → (p ≡ q) × (partial_fits p ≡ true)
 fitting_partial p {q} e = elim (cases_Bool (partial_fits p)) [
   | inl fit ↦ let seen : Fits q ≡ Fits p = e ∙ rw fit refl in (cc seen, fit)
   | inr over ↦ let seen : Fits q ≡ TooLarge = e ∙ rw over refl in absurd (cc seen)
 ]
 
-large_partial : (p : Partial) → TooLarge ≡ sized_partial p → partial_fits p ≡ false
+pub large_partial : (p : Partial) → TooLarge ≡ sized_partial p → partial_fits p ≡ false
 large_partial p e = elim (cases_Bool (partial_fits p)) [
   | inl fit ↦ let seen : TooLarge ≡ Fits p = e ∙ rw fit refl in absurd (cc seen)
   | inr over ↦ over

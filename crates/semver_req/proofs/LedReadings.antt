@@ -1,5 +1,5 @@
 -- What leads the partial version of npm's tildes and carets, as a rule that can be read from left to right.
-use Rattle.std.proofs.Common.{◌≡◌, ℕ, Bool, List, [], ◌∷◌, ◌++◌, Option, Some, None, refl, sym, ap, ◌∙◌, arith, append_assoc, ◌==◌}
+use Rattle.std.proofs.Common.{◌≡◌, ℕ, Bool, true, List, [], ◌∷◌, ◌++◌, Option, Some, None, refl, sym, ap, ◌∙◌, arith, append_assoc, ◌==◌}
 use Rattle.std.specs.Prelude.{◌||◌}
 use Rattle.std.specs.Char.{is_not_whitespace}
 use Rattle.std.proofs.lemmas.Bool.{or_left, or_right}
@@ -12,7 +12,7 @@ use Rattle.semver_base.proofs.Blanks.{blanks_made, is_blank_byte}
 use Rattle.semver_base.proofs.Bytes.{BeginsBy, Disjoint, apart_by, begins_from_made, begins_wider, either_begins, goes_from_made, joined_begins_either, mapped_begins, marked_begins, none_by_byte}
 use Rattle.semver_base.proofs.Fronts.{Apart, either_none, either_that, either_this, followed, followed_none_second, mapped, mapped_none, marked_none, marked_other, marked_some, narrowed, narrowed_none}
 use Rattle.semver_base.proofs.Readings.{after_maps, after_of, after_parts}
-use Rattle.semver_req.specs.Comparators.{IsEquals, IsLed}
+use Rattle.semver_req.specs.Comparators.{IsEquals, one_more, IsLed}
 use Rattle.semver_req.specs.Partials.{IsPartial, IsPlainPartial}
 use Rattle.semver_req.specs.declared.common.values.Flavour.TheVariants.{Npm}
 use Rattle.semver_req.proofs.ComparatorReadings.{equals_made, is_sign_byte}
@@ -98,10 +98,29 @@ is_led_byte x = is_blank_byte x || is_after_byte x
 sign_no_led : Disjoint is_sign_byte is_led_byte
 sign_no_led x h k = grind (arith, nat_tests)
 
-equals_led : Apart IsEquals (After IsBlanks IsAfterBlanks)
-equals_led = apart_by is_sign_byte is_led_byte sign_no_led (goes_from_made equals_made) (mapped_begins (joined_begins_either
+blanks_led : BeginsBy (After IsBlanks IsAfterBlanks) is_led_byte
+blanks_led = mapped_begins (joined_begins_either
     (begins_wider is_blank_byte is_led_byte (λ x h. or_left (is_blank_byte x) (is_after_byte x) h) (begins_from_made blanks_made))
-    (begins_wider is_after_byte is_led_byte (λ x h. or_right (is_blank_byte x) (is_after_byte x) h) after_begins)))
+    (begins_wider is_after_byte is_led_byte (λ x h. or_right (is_blank_byte x) (is_after_byte x) h) after_begins))
+
+equals_led : Apart IsEquals (After IsBlanks IsAfterBlanks)
+equals_led = apart_by is_sign_byte is_led_byte sign_no_led (goes_from_made equals_made) blanks_led
+
+-- with which byte all of it begins
+abbrev pub is_ordered_byte : ℕ → Bool
+is_ordered_byte x = (x == 61) || is_led_byte x
+
+equals_begin : BeginsBy IsEquals is_ordered_byte
+equals_begin = record { begins = λ x b. go x b.more b.value b.stands }
+  where
+    go : (x : ℕ) (more : List ℕ) (v : Unit {0}) → IsEquals (x ∷ more) v → is_ordered_byte x ≡ true
+    go x more v (one_more h) = refl
+
+ordered_begins : BeginsBy IsOrderedLed is_ordered_byte
+ordered_begins = mapped_begins (joined_begins_either equals_begin (begins_wider is_led_byte is_ordered_byte (λ x h. or_right (x == 61) (is_led_byte x) h) blanks_led))
+
+pub led_begins : BeginsBy IsLed is_ordered_byte
+led_begins = record { begins = λ x b. ordered_begins.begins x (record { more = b.more; value = b.value; stands = led_to (x ∷ b.more) b.value b.stands }) }
 
 module _ {X : Type 0} (see : Partial → X) where
   -- a `v`, and the partial version after its blanks

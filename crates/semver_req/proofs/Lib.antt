@@ -4,10 +4,12 @@ pub mod Cuts
 pub mod Equality
 pub mod Fitting
 pub mod Folding
+pub mod Hyphens
 pub mod Joining
 pub mod KeptRanges
 pub mod LedReadings
 pub mod Marks
+pub mod NpmComparators
 pub mod NormalTable
 pub mod OneOutcome
 pub mod OutcomesFit
@@ -21,6 +23,7 @@ pub mod Places
 pub mod ReadSets
 pub mod ReaderAnswers
 pub mod Rereading
+pub mod Separators
 pub mod SettledSets
 pub mod Settling
 pub mod ShortestMeaning

@@ -26,7 +26,7 @@ partial_some f = some_within (partial_within f) (core_some f)
 
 -- ---- `~`, `^` or nothing
 
-first_byte : {text a b : List ℕ} {x y : ℕ} → text ≡ x ∷ a → text ≡ y ∷ b → x ≡ y
+pub first_byte : {text a b : List ℕ} {x y : ℕ} → text ≡ x ∷ a → text ≡ y ∷ b → x ≡ y
 first_byte e f = ap (λ t. slice_index t 0) (sym e ∙ f)
 
 tilde_no_partial : (x : ℕ) → x ≡ 126 → is_partial_byte x ≡ true → ⊥
@@ -35,10 +35,10 @@ tilde_no_partial x e h = grind (arith, nat_tests)
 caret_no_partial : (x : ℕ) → x ≡ 94 → is_partial_byte x ≡ true → ⊥
 caret_no_partial x e h = grind (arith, nat_tests)
 
-after_tilde : (f : Flavour) {text rest : List ℕ} → text ≡ 126 ∷ rest → HasNone (IsPartial f) text
+pub after_tilde : (f : Flavour) {text rest : List ℕ} → text ≡ 126 ∷ rest → HasNone (IsPartial f) text
 after_tilde f {text} e = none_by_byte (partial_some f) (any_begins f) text (λ x t g k. tilde_no_partial x (cc) k)
 
-after_caret : (f : Flavour) {text rest : List ℕ} → text ≡ 94 ∷ rest → HasNone (IsPartial f) text
+pub after_caret : (f : Flavour) {text rest : List ℕ} → text ≡ 94 ∷ rest → HasNone (IsPartial f) text
 after_caret f {text} e = none_by_byte (partial_some f) (any_begins f) text (λ x t g k. caret_no_partial x (cc) k)
 
 pub unsigned_some : (f : Flavour) (m : Mark) {text rest end : List ℕ} {answer : Measured Partial} → IsMarkCut text m rest → IsSeen sized_partial (IsPartial f) rest answer end
@@ -94,10 +94,10 @@ pub no_sign : (r : Option (Written × List ℕ)) {text : List ℕ} → HasNone I
 no_sign None n h = none_but (mapped_none (joined_none_first n)) h
 no_sign (Some p) n h = record { partial = h.partial; longest = longest_but (mapped_none (joined_none_first n)) h.longest; seen = h.seen }
 
-tilde_no_sign : (x : ℕ) → x ≡ 126 → is_sign_byte x ≡ true → ⊥
+pub tilde_no_sign : (x : ℕ) → x ≡ 126 → is_sign_byte x ≡ true → ⊥
 tilde_no_sign x e h = grind (arith, nat_tests)
 
-caret_no_sign : (x : ℕ) → x ≡ 94 → is_sign_byte x ≡ true → ⊥
+pub caret_no_sign : (x : ℕ) → x ≡ 94 → is_sign_byte x ≡ true → ⊥
 caret_no_sign x e h = grind (arith, nat_tests)
 
 partial_no_sign : Disjoint is_partial_byte is_sign_byte
@@ -105,7 +105,7 @@ partial_no_sign x h k = grind (arith, nat_tests)
 
 -- a text that begins with a sign has no other comparator
 module _ {text middle : List ℕ} {sign : PrimitiveKind} (s : IsLongest IsSign text sign middle) where
-  signed_byte : (x : ℕ) (t : List ℕ) → text ≡ x ∷ t → is_sign_byte x ≡ true
+  pub signed_byte : (x : ℕ) (t : List ℕ) → text ≡ x ∷ t → is_sign_byte x ≡ true
   signed_byte x t e = go s.front s.text_is s.stands
     where
       go : (front : List ℕ) → text ≡ front ++ middle → IsSign front sign → is_sign_byte x ≡ true
@@ -115,16 +115,16 @@ module _ {text middle : List ℕ} {sign : PrimitiveKind} (s : IsLongest IsSign t
   no_marked : HasNone (IsMarked Normal) text
   no_marked = either_none (mapped_none (marked_other (λ r e. tilde_no_sign 126 refl (signed_byte 126 r e)))) (mapped_none (marked_other (λ r e. caret_no_sign 94 refl (signed_byte 94 r e))))
 
-  no_plain : HasNone (IsPlain Normal) text
-  no_plain = mapped_none (none_by_byte (partial_some Normal) (any_begins Normal) text (λ x t e k. partial_no_sign x k (signed_byte x t e)))
+  pub no_plain : (f : Flavour) → HasNone (IsPlain f) text
+  no_plain f = mapped_none (none_by_byte (partial_some f) (any_begins f) text (λ x t e k. partial_no_sign x k (signed_byte x t e)))
 
   pub sign_some_front : {start rest : List ℕ} {answer : Measured Partial} → IsLongest IsBlanks middle tt start → IsSeen sized_partial (IsPartial Normal) start answer rest
       → IsFront (IsComparator Normal) text (record { mark = mark.Sign sign; partial = answer }) rest
   sign_some_front b p = record {
     partial = p.value;
-    longest = either_that no_marked (either_this (mapped (followed (sign_apart Normal) s (mapped (followed (blanks_apart Normal) b p.longest)))) no_plain);
+    longest = either_that no_marked (either_this (mapped (followed (sign_apart Normal) s (mapped (followed (blanks_apart Normal) b p.longest)))) (no_plain Normal));
     seen = p.seen;
   }
 
   pub sign_no_front : {start : List ℕ} → IsLongest IsBlanks middle tt start → HasNone (IsPartial Normal) start → HasNone (IsComparator Normal) text
-  sign_no_front b n = either_none no_marked (either_none (mapped_none (primitive_none Normal s b n)) no_plain)
+  sign_no_front b n = either_none no_marked (either_none (mapped_none (primitive_none Normal s b n)) (no_plain Normal))

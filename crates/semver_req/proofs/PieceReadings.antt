@@ -4,7 +4,7 @@ use Rattle.std.specs.Prelude.{◌||◌}
 use Rattle.std.specs.List.{list_all}
 use Rattle.std.proofs.lemmas.Bool.{and_parts, or_left}
 use Rattle.std.proofs.lemmas.Bool.Decides.{nat_tests}
-use Rattle.semver_base.specs.Grammar.{After, Before, this, that, IsLongest, Listed, last_item, closed_item, more_items, Marked, Stops}
+use Rattle.semver_base.specs.Grammar.{After, this, that, IsLongest, Listed, last_item, closed_item, more_items, Marked, Stops}
 use Rattle.semver_base.specs.Lexical.{IsBlanks, IsSomeBlanks}
 use Rattle.semver_base.specs.declared.partial.Partial.{Partial}
 use Rattle.semver_base.proofs.Blanks.{blanks_made, is_blank_byte}
@@ -14,7 +14,7 @@ use Rattle.semver_base.proofs.Lists.{IsListing, listed_begins, listed_some}
 use Rattle.semver_base.proofs.Readings.{EachByte, Never, Unambiguous, after_one, before_one, each_made, either_one, followed_one, goes_within, in_place, listed_one, mapped_one, marked_one, never_by, some_within, unit_one}
 use Rattle.semver_req.specs.Comparators.{Comparator, IsComparator}
 use Rattle.semver_req.specs.Partials.{IsPartial}
-use Rattle.semver_req.specs.Pieces.{IsFilled, IsHyphen, IsMark, IsNpmSeparator, IsPiece}
+use Rattle.semver_req.specs.Pieces.{HasNoBar, IsCutAt, IsFilled, IsHyphen, IsHyphened, IsMark, IsNpmSeparator, IsPiece, IsSeparator, IsUpper}
 use Rattle.semver_req.specs.declared.common.values.Flavour.{Flavour}
 use Rattle.semver_req.specs.declared.common.values.Flavour.TheVariants.{Npm, Normal, Specifier}
 use Rattle.semver_req.proofs.ComparatorReadings.{IsCore, comparator_begins, comparator_goes, comparator_one, comparator_some, comparator_within, core_goes, core_one, core_some, is_start_byte, partial_core, partial_within, some_blanks_made}
@@ -53,7 +53,7 @@ blank_separator x h = or_left (is_blank_byte x) ((x == 38) || (x == 44)) h
 mark_made : MadeOf IsMark is_separator_byte
 mark_made = either_made (record { made = λ text v h. rw h refl }) (record { made = λ text v h. rw h refl })
 
-mark_some : NonEmpty IsMark
+pub mark_some : NonEmpty IsMark
 mark_some = record { some = go }
   where
     go : (v : Unit {0}) → IsMark [] v → ⊥
@@ -94,6 +94,30 @@ npm_listing = record {
   after_separator = separator_no_start;
 }
 
+-- the lists of each grammar
+pub listing : (f : Flavour) → IsListing (IsComparator f) (IsSeparator f) is_start_byte is_plain_byte is_separator_byte is_separator_byte
+listing Npm = npm_listing
+listing Normal = record {
+  item_some = comparator_some Normal;
+  separator_some = blanks_some;
+  item_begins = comparator_begins Normal;
+  item_goes = comparator_goes Normal;
+  separator_begins = begins_from_made (made_wider is_blank_byte is_separator_byte blank_separator some_blanks_made);
+  separator_goes = goes_from_made (made_wider is_blank_byte is_separator_byte blank_separator some_blanks_made);
+  after_item = plain_no_separator;
+  after_separator = separator_no_start;
+}
+listing Specifier = record {
+  item_some = comparator_some Specifier;
+  separator_some = record { some = λ v h. h };
+  item_begins = comparator_begins Specifier;
+  item_goes = comparator_goes Specifier;
+  separator_begins = record { begins = λ x b. absurd b.stands };
+  separator_goes = record { goes = λ x g. absurd g.short };
+  after_item = plain_no_separator;
+  after_separator = separator_no_start;
+}
+
 -- ---- hyphen ranges
 
 any_goes : GoesBy (IsPartial Npm) is_plain_byte
@@ -108,21 +132,20 @@ blank_no_hyphen x h k = grind (arith, nat_tests)
 blank_no_partial : Disjoint is_blank_byte is_partial_byte
 blank_no_partial x h k = grind (arith, nat_tests)
 
--- what follows the first partial version, and what follows the hyphen
-abbrev pub IsUpper : List ℕ → Partial → Type 0
-IsUpper = Before (IsPartial Npm) IsBlanks
-
-abbrev pub IsHyphened : List ℕ → Partial → Type 0
-IsHyphened = After IsSomeBlanks (Marked 45 (After IsSomeBlanks IsUpper))
+pub partial_blanks : Apart (IsPartial Npm) IsBlanks
+partial_blanks = apart_by is_plain_byte is_blank_byte plain_no_blank any_goes (begins_from_made blanks_made)
 
 upper_one : Unambiguous IsUpper
-upper_one = before_one (apart_by is_plain_byte is_blank_byte plain_no_blank any_goes (begins_from_made blanks_made)) (partial_one Npm)
+upper_one = before_one partial_blanks (partial_one Npm)
 
 pub blanks_upper : Apart IsSomeBlanks IsUpper
 blanks_upper = apart_by is_blank_byte is_partial_byte blank_no_partial (goes_from_made some_blanks_made) (mapped_begins (joined_begins any_some (any_begins Npm)))
 
+pub blanks_hyphen : Apart IsSomeBlanks (Marked 45 (After IsSomeBlanks IsUpper))
+blanks_hyphen = apart_by is_blank_byte (λ x. x == 45) blank_no_hyphen (goes_from_made some_blanks_made) (marked_begins 45)
+
 hyphened_one : Unambiguous IsHyphened
-hyphened_one = after_one (apart_by is_blank_byte (λ x. x == 45) blank_no_hyphen (goes_from_made some_blanks_made) (marked_begins 45)) (marked_one 45 (after_one blanks_upper upper_one))
+hyphened_one = after_one blanks_hyphen (marked_one 45 (after_one blanks_upper upper_one))
 
 pub partial_hyphened : Apart (IsPartial Npm) IsHyphened
 partial_hyphened = apart_by is_plain_byte is_blank_byte plain_no_blank any_goes (mapped_begins (joined_begins blanks_some (begins_from_made some_blanks_made)))
@@ -238,6 +261,11 @@ no_both = record { both = λ text v w h k. differ (one_layout true false text (h
   where
     differ : true ≡ false → ⊥
     differ e = cc e
+
+-- after a separator and a comparator less is left
+pub list_shorter : (f : Flavour) {rest next more : List ℕ} {c : Comparator} → IsLongest (IsSeparator f) rest tt next → IsLongest (IsComparator f) next c more → length more < length rest
+list_shorter f {rest} {next} {more} p q =
+    omega (arith, some_length (listing f).separator_some p.front p.stands, ap length p.text_is, length-append p.front next, ap length q.text_is, length-append q.front more)
 
 -- ---- pieces
 

@@ -1,5 +1,5 @@
 -- What is read of a piece, and of the pieces of a text.
-use Rattle.std.proofs.Common.{◌≡◌, ◌≤◌, ◌<◌, ◌==◌, ℕ, Bool, true, false, List, [], ◌∷◌, ◌++◌, length, map, not, Option, Some, None, refl, sym, subst, ap, ap₂, ◌∙◌, inl, inr, arith, append-nil, length-append}
+use Rattle.std.proofs.Common.{◌≡◌, ◌≤◌, ◌<◌, ◌==◌, ℕ, suc, Bool, true, false, List, [], ◌∷◌, ◌++◌, length, map, not, Option, Some, None, refl, sym, subst, ap, ap₂, ◌∙◌, inl, inr, arith, append-nil, length-append}
 use Rattle.std.proofs.lemmas.Bool.Decides.{nat_tests}
 use Rattle.std.proofs.lemmas.List.{map-append, nil_from_length}
 use Rattle.std.specs.List.{filter, list_all}
@@ -9,7 +9,7 @@ use Rattle.std.specs.Prelude.{◌⊎◌, ◌↔◌, IsTrue, if◌then◌else◌}
 use Rattle.std.proofs.lemmas.Str.{NoCharPasses-nil}
 use Rattle.std.specs.Str.{trim}
 use Rattle.semver_base.specs.Grammar.{this, that, HasNone, IsLongest, Listed, last_item, closed_item, more_items}
-use Rattle.semver_base.specs.Lexical.{IsBlanks, IsSomeBlanks}
+use Rattle.semver_base.specs.Lexical.{IsBlanks}
 use Rattle.semver_base.specs.Overlap.{ends_at_zero}
 use Rattle.semver_base.specs.declared.failure.Refusal.{Refusal}
 use Rattle.semver_base.specs.declared.failure.Refusal.TheVariants.{BoundTooLarge, NumberTooLarge, UnexpectedCharacter}
@@ -17,14 +17,14 @@ use Rattle.semver_base.specs.declared.range.VersionRange.{VersionRange}
 use Rattle.semver_base.proofs.Orders.{and_both, and_first, and_second}
 use Rattle.semver_req.specs.Comparators.{Caret, Comparator, Hyphen, IsComparator, Plain, Signed, Tilde, comparator_range, fits}
 use Rattle.semver_req.specs.KeptSet.{folded, kept, kept_range, without_none}
-use Rattle.semver_req.specs.Outcome.{AreGoodOnes, none_left, good, bad, IsBad, IsGood, IsCutOutcome, IsOutcome, one_good, one_bad, normal_many, normal_refused, IsTagOr, tag, no_tag, Outcome, Ranges, Tag, Refused}
-use Rattle.semver_req.specs.PieceReading.{IsFirstBad, this_bad, later_bad, IsNormalRefusal, memory_wanting, bad_piece, IsPieceRead, IsPieceRefusal, outside, large_number, large_bound, joined, kept_of, numbers_fit, sums_fit, refusal_failure}
-use Rattle.semver_req.specs.PieceSteps.{AreAllRead, AreRead, IsEverything, IsFirstPiece, IsTold, first_refusal}
-use Rattle.semver_req.specs.Pieces.{ArePieces, IsPiece}
+use Rattle.semver_req.specs.Outcome.{AreGoodOnes, none_left, good, bad, IsBad, IsGood, IsCutOutcome, IsOutcome, one_good, one_bad, npm_many, normal_many, normal_refused, IsTagOr, tag, no_tag, Outcome, Ranges, Tag, Refused, worked_on}
+use Rattle.semver_req.specs.PieceReading.{IsFirstBad, this_bad, later_bad, IsCutRefusal, memory_wanting, bad_piece, IsPieceRead, IsPieceRefusal, outside, large_number, large_bound, as_kept, joined, kept_of, read_as, numbers_fit, sums_fit, refusal_failure}
+use Rattle.semver_req.specs.PieceSteps.{AreAllRead, AreRead, IsEverything, IsFirstPiece, IsTold, IsWholeRead, first_refusal}
+use Rattle.semver_req.specs.Pieces.{ArePieces, IsComparators, IsCutting, npm, normal, IsFilled, IsHyphen, IsPiece}
 use Rattle.semver_req.specs.Readers.{Failure, IsReading}
 use Rattle.semver_req.specs.Tag.{is_valid_tag}
 use Rattle.semver_req.specs.declared.common.values.Flavour.{Flavour}
-use Rattle.semver_req.specs.declared.common.values.Flavour.TheVariants.{Normal}
+use Rattle.semver_req.specs.declared.common.values.Flavour.TheVariants.{Npm, Normal, Specifier}
 use Rattle.semver_req.specs.declared.range_set_or_tag.Alternatives.{Alternatives}
 use Rattle.semver_req.specs.declared.range_set_or_tag.RangeOrInvalid.{RangeOrInvalid}
 use Rattle.semver_req.specs.declared.range_set_or_tag.RangeOrInvalid.TheVariants as read
@@ -53,38 +53,90 @@ nothing_more followed piece b is e = (
   ],
 )
 
-abbrev IsNormalList : List ℕ → List Comparator → Type 0
-IsNormalList = Listed (IsComparator Normal) IsSomeBlanks
+-- ---- whole texts
 
-listed_piece : {text : List ℕ} {cs : List Comparator} → IsNormalList text cs → IsPiece Normal text cs
-listed_piece (last_item a) = last_item a
-listed_piece (closed_item a s) = closed_item a s
-listed_piece (more_items a s more) = more_items a s more
+module _ {V : Type 0} {R : List ℕ → V → Type 0} {text : List ℕ} where
+  pub none_whole : HasNone R text → (v : V) → R text v → ⊥
+  none_whole n v h = n.none text [] v (sym (append-nil text)) h
 
--- no normalized comparator is a hyphen range
-one_kept : {text : List ℕ} (c : Comparator) → IsComparator Normal text c → kept_range (c ∷ []) ≡ folded (map comparator_range (c ∷ []))
-one_kept (Tilde p) h = refl
-one_kept (Caret p) h = refl
-one_kept (Signed sign p) h = refl
-one_kept (Plain p) h = refl
-one_kept (Hyphen p q) (this (this h)) = let is = h.is in cc is
-one_kept (Hyphen p q) (this (that h)) = let is = h.is in cc is
-one_kept (Hyphen p q) (that (this h)) = let is = h.is in cc is
-one_kept (Hyphen p q) (that (that h)) = let is = h.is in cc is
+  module _ {rest : List ℕ} {v : V} (p : IsLongest R text v rest) where
+    pub whole_of : (length rest == 0) ≡ true → R text v
+    whole_of empty =
+        let nil : rest ≡ [] = nil_from_length rest (grind (arith, nat_tests)) in
+        let whole : text ≡ p.front = p.text_is ∙ (ap (λ t. p.front ++ t) nil ∙ append-nil p.front) in
+        rw whole p.stands
 
-many_kept : {text : List ℕ} (c : Comparator) (cs : List Comparator) → IsNormalList text cs → kept_range (c ∷ cs) ≡ folded (map comparator_range (c ∷ cs))
-many_kept (Tilde p) cs h = refl
-many_kept (Caret p) cs h = refl
-many_kept (Signed sign p) cs h = refl
-many_kept (Plain p) cs h = refl
-many_kept (Hyphen p q) cs (last_item a) = refl
-many_kept (Hyphen p q) cs (closed_item a s) = refl
-many_kept (Hyphen p q) cs (more_items a s more) = refl
+    pub more_follows : (length rest == 0) ≡ false → (w : V) → R text w → ⊥
+    more_follows full w h =
+        let some : 0 < length rest = grind (arith, nat_tests) in
+        omega (arith, some, (p.longest text [] w (sym (append-nil text)) h).0, ap length p.text_is, length-append p.front rest)
 
-list_kept : {text : List ℕ} {cs : List Comparator} → IsNormalList text cs → kept_range cs ≡ folded (map comparator_range cs)
-list_kept (last_item {v = c} a) = one_kept c a
-list_kept (closed_item {v = c} a s) = one_kept c a
-list_kept (more_items {v = c} {vs = cs} a s more) = many_kept c cs more
+-- ---- lists
+
+-- no comparator of a list is a hyphen range
+no_hyphen : (f : Flavour) (text : List ℕ) (p q : Partial) → IsComparator f text (Hyphen p q) → ⊥
+no_hyphen Npm text p q (this (this h)) = let is = h.is in cc is
+no_hyphen Npm text p q (this (that h)) = let is = h.is in cc is
+no_hyphen Npm text p q (that (this h)) = let is = h.is in cc is
+no_hyphen Npm text p q (that (that h)) = let is = h.is in cc is
+no_hyphen Normal text p q (this (this h)) = let is = h.is in cc is
+no_hyphen Normal text p q (this (that h)) = let is = h.is in cc is
+no_hyphen Normal text p q (that (this h)) = let is = h.is in cc is
+no_hyphen Normal text p q (that (that h)) = let is = h.is in cc is
+no_hyphen Specifier text p q (this (this h)) = let is = h.is in cc is
+no_hyphen Specifier text p q (this (that h)) = let is = h.is in cc is
+no_hyphen Specifier text p q (that h) = let is = h.is in cc is
+
+module _ (f : Flavour) where
+  one_kept : (text : List ℕ) (c : Comparator) → IsComparator f text c → kept_range (c ∷ []) ≡ folded (map comparator_range (c ∷ []))
+  one_kept text (Tilde p) h = refl
+  one_kept text (Caret p) h = refl
+  one_kept text (Signed sign p) h = refl
+  one_kept text (Plain p) h = refl
+  one_kept text (Hyphen p q) h = absurd (no_hyphen f text p q h)
+
+  many_kept : (text : List ℕ) (c : Comparator) (cs : List Comparator) → IsComparators f text cs → kept_range (c ∷ cs) ≡ folded (map comparator_range (c ∷ cs))
+  many_kept text (Tilde p) cs h = refl
+  many_kept text (Caret p) cs h = refl
+  many_kept text (Signed sign p) cs h = refl
+  many_kept text (Plain p) cs h = refl
+  many_kept text (Hyphen p q) cs (last_item a) = refl
+  many_kept text (Hyphen p q) cs (closed_item a s) = refl
+  many_kept text (Hyphen p q) cs (more_items a s more) = refl
+
+  list_kept : {text : List ℕ} {cs : List Comparator} → IsComparators f text cs → kept_range cs ≡ folded (map comparator_range cs)
+  list_kept (last_item {a} {v} h) = one_kept a v h
+  list_kept (closed_item {a} {v} h s) = one_kept a v h
+  list_kept (more_items {b} {v} {vs} h s more) = many_kept b v vs more
+
+  -- comparators and nothing more
+  pub list_read : {piece rest : List ℕ} {cs : List Comparator} {answer : RangeOrInvalid} → IsLongest (IsComparators f) piece cs rest → answer ≡ joined cs → (length rest == 0) ≡ true → IsWholeRead (IsComparators f) piece (Some answer)
+  list_read {cs = cs} p seen empty = let whole = whole_of p empty in (cs, whole, seen ∙ ap (read_as cs) (sym (list_kept whole)))
+
+-- ---- pieces that are not empty
+
+pub npm_list : {piece : List ℕ} (r : Option RangeOrInvalid) → IsWholeRead IsHyphen piece None → IsWholeRead (IsComparators Npm) piece r → IsWholeRead (IsFilled Npm) piece r
+npm_list {piece} None no_pair no_list = go
+  where
+    go : (cs : List Comparator) → IsFilled Npm piece cs → ⊥
+    go cs (this h) = no_pair cs h
+    go cs (that h) = no_list cs h
+npm_list (Some answer) no_pair h = (h.0, that h.1, h.2)
+
+pub npm_hyphen : {piece : List ℕ} {answer : RangeOrInvalid} → IsWholeRead IsHyphen piece (Some answer) → IsWholeRead (IsFilled Npm) piece (Some answer)
+npm_hyphen h = (h.0, this h.1, h.2)
+
+some_items : {V : Type 0} {A : List ℕ → V → Type 0} {S : List ℕ → Unit {0} → Type 0} {text : List ℕ} {vs : List V} → Listed A S text vs → [] ≡ vs → ⊥
+some_items (last_item a) e = cc e
+some_items (closed_item a s) e = cc e
+some_items (more_items a s more) e = cc e
+
+filled_piece : (f : Flavour) (text : List ℕ) (cs : List Comparator) → IsFilled f text cs → IsPiece f text cs
+filled_piece f text (c ∷ cs) h = h
+filled_piece Npm text [] (this h) = let is = h.is in cc is
+filled_piece Npm text [] (that h) = absurd (some_items h refl)
+filled_piece Normal text [] h = absurd (some_items h refl)
+filled_piece Specifier text [] h = absurd h
 
 fits_split : (cs : List Comparator) → list_all numbers_fit cs ≡ true → list_all sums_fit cs ≡ true → list_all fits cs ≡ true
 fits_split [] h k = refl
@@ -100,50 +152,39 @@ sums_of : (cs : List Comparator) → list_all fits cs ≡ true → list_all sums
 sums_of [] h = refl
 sums_of (c ∷ cs) h = and_both _ _ (and_second (numbers_fit c) _ (and_first (fits c) _ h)) (sums_of cs (and_second (fits c) _ h))
 
-module _ (b : Bool) (piece : List ℕ) where
+module _ (f : Flavour) (b : Bool) (piece : List ℕ) where
   -- a piece of comparators that pass no test which those that fit pass
-  never_good : (cs : List Comparator) → IsPiece Normal piece cs → (p : List Comparator → Bool) → p cs ≡ false → p [] ≡ true → ((ds : List Comparator) → list_all fits ds ≡ true → p ds ≡ true) → IsBad Normal b piece
+  never_good : (cs : List Comparator) → IsPiece f piece cs → (p : List Comparator → Bool) → p cs ≡ false → p [] ≡ true → ((ds : List Comparator) → list_all fits ds ≡ true → p ds ≡ true) → IsBad f b piece
   never_good cs h p fails none passes = go
     where
-      go : (ds : List Comparator) → IsGood Normal b piece ds → ⊥
-      go ds (inl k) = let same = (piece_one Normal).one piece ds cs k.0 h in let wrong : true ≡ false = sym (passes ds k.1) ∙ (ap p same ∙ fails) in cc wrong
-      go ds (inr k) = let same = blank_piece Normal piece cs h k.1 in let wrong : true ≡ false = sym none ∙ (ap p (sym same) ∙ fails) in cc wrong
+      go : (ds : List Comparator) → IsGood f b piece ds → ⊥
+      go ds (inl k) = let same = (piece_one f).one piece ds cs k.0 h in let wrong : true ≡ false = sym (passes ds k.1) ∙ (ap p same ∙ fails) in cc wrong
+      go ds (inr k) = let same = blank_piece f piece cs h k.1 in let wrong : true ≡ false = sym none ∙ (ap p (sym same) ∙ fails) in cc wrong
 
-  list_read : (cs : List Comparator) → IsNormalList piece cs → IsPieceRead Normal b piece (joined cs)
-  list_read cs h = go (list_all numbers_fit cs) refl (list_all sums_fit cs) refl
+  kept_read : (cs : List Comparator) → IsPiece f piece cs → IsPieceRead f b piece (as_kept cs)
+  kept_read cs h = go (list_all numbers_fit cs) refl (list_all sums_fit cs) refl
     where
       go : (x : Bool) → list_all numbers_fit cs ≡ x → (y : Bool) → list_all sums_fit cs ≡ y
-          → IsPieceRead Normal b piece (if x then (if y then read.Range (folded (map comparator_range cs)) else read.Invalid BoundTooLarge) else read.Invalid NumberTooLarge)
-      go true numbers true sums = (cs, inl (listed_piece h, fits_split cs numbers sums), sym (list_kept h))
-      go true numbers false sums = (never_good cs (listed_piece h) (list_all sums_fit) sums refl sums_of, large_bound cs (listed_piece h) numbers sums)
-      go false numbers y sums = (never_good cs (listed_piece h) (list_all numbers_fit) numbers refl numbers_of, large_number cs (listed_piece h) numbers)
+          → IsPieceRead f b piece (if x then (if y then read.Range (kept_range cs) else read.Invalid BoundTooLarge) else read.Invalid NumberTooLarge)
+      go true numbers true sums = (cs, inl (h, fits_split cs numbers sums), refl)
+      go true numbers false sums = (never_good cs h (list_all sums_fit) sums refl sums_of, large_bound cs h numbers sums)
+      go false numbers y sums = (never_good cs h (list_all numbers_fit) numbers refl numbers_of, large_number cs h numbers)
 
-  -- comparators and nothing more
-  pub whole_read : {cs : List Comparator} {rest : List ℕ} {answer : RangeOrInvalid} → IsLongest IsNormalList piece cs rest → answer ≡ joined cs → (length rest == 0) ≡ true → IsPieceRead Normal b piece answer
-  whole_read {cs} {rest} p seen empty =
-      let nil : rest ≡ [] = nil_from_length rest (grind (arith, nat_tests)) in
-      let whole : piece ≡ p.front = p.text_is ∙ (ap (λ t. p.front ++ t) nil ∙ append-nil p.front) in
-      subst (IsPieceRead Normal b piece) (sym seen) (list_read cs (rw whole p.stands))
+  -- comparators that are the whole piece
+  pub filled_read : {answer : RangeOrInvalid} → IsWholeRead (IsFilled f) piece (Some answer) → IsPieceRead f b piece answer
+  filled_read h = subst (IsPieceRead f b piece) (sym h.2) (kept_read h.0 (filled_piece f piece h.0 h.1))
 
   -- no comparators, nor nothing, nor blanks that are followed by `||`
-  pub outside_read : ((cs : List Comparator) → IsNormalList piece cs → ⊥) → (IsEverything b piece → ⊥) → IsPieceRead Normal b piece (read.Invalid UnexpectedCharacter)
+  pub outside_read : IsWholeRead (IsFilled f) piece None → (IsEverything b piece → ⊥) → IsPieceRead f b piece (read.Invalid UnexpectedCharacter)
   outside_read no_list other = (λ ds k. no_good ds k, outside no_piece)
     where
-      no_piece : (cs : List Comparator) → IsPiece Normal piece cs → ⊥
+      no_piece : (cs : List Comparator) → IsPiece f piece cs → ⊥
       no_piece [] h = other (inl h)
       no_piece (c ∷ cs) h = no_list (c ∷ cs) h
 
-      no_good : (ds : List Comparator) → IsGood Normal b piece ds → ⊥
+      no_good : (ds : List Comparator) → IsGood f b piece ds → ⊥
       no_good ds (inl k) = no_piece ds k.0
       no_good ds (inr k) = other (inr (k.0, k.1))
-
-pub none_whole : {piece : List ℕ} → HasNone IsNormalList piece → (cs : List Comparator) → IsNormalList piece cs → ⊥
-none_whole {piece} n cs h = n.none piece [] cs (sym (append-nil piece)) h
-
-pub more_follows : {piece rest : List ℕ} {cs : List Comparator} → IsLongest IsNormalList piece cs rest → (length rest == 0) ≡ false → (ds : List Comparator) → IsNormalList piece ds → ⊥
-more_follows {piece} {rest} p full ds h =
-    let some : 0 < length rest = grind (arith, nat_tests) in
-    omega (arith, some, (p.longest piece [] ds (sym (append-nil piece)) h).0, ap length p.text_is, length-append p.front rest)
 
 -- ---- the pieces of a text
 
@@ -193,19 +234,34 @@ without_one range = go (ends_at_zero range.end)
     go true = refl
     go false = refl
 
-kept_more : (tree : List (List Comparator)) (cs : List Comparator) → kept Normal (tree ++ cs ∷ []) ≡ kept Normal tree ++ option_to_list (kept_of (read.Range (kept_range cs)))
-kept_more tree cs =
+-- the two readers that cut a text keep the same of a tree
+kept_without : (f : Flavour) → IsCutting f → (tree : List (List Comparator)) → kept f tree ≡ without_none (map kept_range tree)
+kept_without Npm npm tree = refl
+kept_without Normal normal tree = refl
+kept_without Specifier cutting tree = elim cutting [ ]
+
+kept_added : (tree : List (List Comparator)) (cs : List Comparator) → without_none (map kept_range (tree ++ cs ∷ [])) ≡ without_none (map kept_range tree) ++ option_to_list (kept_of (read.Range (kept_range cs)))
+kept_added tree cs =
     ap without_none (map-append kept_range tree (cs ∷ []))
     ∙ split_filter (λ range. not (ends_at_zero range.end)) (map kept_range tree) (kept_range cs ∷ [])
     ∙ ap (λ (rest : List VersionRange). without_none (map kept_range tree) ++ rest) (without_one (kept_range cs))
 
-module _ (b : Bool) (p : List ℕ) (ps : List (List ℕ)) (piece : List ℕ) (tree : List (List Comparator)) where
-  told_good : (o : Option Refusal) → IsTold Normal b (p ∷ ps) tree o → (cs : List Comparator) → IsTold Normal b ((p ∷ ps) ++ piece ∷ []) (tree ++ cs ∷ []) o
+kept_more : (f : Flavour) → IsCutting f → (tree : List (List Comparator)) (cs : List Comparator) → kept f (tree ++ cs ∷ []) ≡ kept f tree ++ option_to_list (kept_of (read.Range (kept_range cs)))
+kept_more f cutting tree cs =
+    kept_without f cutting (tree ++ cs ∷ [])
+    ∙ kept_added tree cs
+    ∙ ap (λ (rest : List VersionRange). rest ++ option_to_list (kept_of (read.Range (kept_range cs)))) (sym (kept_without f cutting tree))
+
+one_longer : {A : Type 0} (xs : List A) (x : A) → length (xs ++ x ∷ []) ≡ suc (length xs)
+one_longer xs x = omega (arith, length-append xs (x ∷ []))
+
+module _ (f : Flavour) (b : Bool) (p : List ℕ) (ps : List (List ℕ)) (piece : List ℕ) (tree : List (List Comparator)) where
+  told_good : (o : Option Refusal) → IsTold f b (p ∷ ps) tree o → (cs : List Comparator) → IsTold f b ((p ∷ ps) ++ piece ∷ []) (tree ++ cs ∷ []) o
   told_good None told cs = omega (arith, told, length-append tree (cs ∷ []), length-append ps (piece ∷ []))
   told_good (Some refusal) told cs = (omega (arith, told.0, length-append tree (cs ∷ []), length-append ps (piece ∷ [])), first_stays (piece ∷ []) told.1)
 
-  told_bad : AreGoodOnes Normal b (p ∷ ps) tree → (o : Option Refusal) → IsTold Normal b (p ∷ ps) tree o → (refusal : Refusal) → IsBad Normal false piece → IsPieceRefusal Normal piece refusal
-      → IsTold Normal b ((p ∷ ps) ++ piece ∷ []) tree (first_refusal o (read.Invalid refusal))
+  told_bad : AreGoodOnes f b (p ∷ ps) tree → (o : Option Refusal) → IsTold f b (p ∷ ps) tree o → (refusal : Refusal) → IsBad f false piece → IsPieceRefusal f piece refusal
+      → IsTold f b ((p ∷ ps) ++ piece ∷ []) tree (first_refusal o (read.Invalid refusal))
   told_bad goods None told refusal g r = (omega (arith, told, length-append ps (piece ∷ [])), first_after goods told g r)
   told_bad goods (Some first) told refusal g r = (omega (arith, told.0, length-append ps (piece ∷ [])), first_stays (piece ∷ []) told.1)
 
@@ -217,100 +273,130 @@ none_only : (p : List ℕ) (ps : List (List ℕ)) (piece : List ℕ) → false �
 none_only p ps piece = let more : 0 < length (ps ++ piece ∷ []) = omega (arith, length-append ps (piece ∷ [])) in grind (arith, nat_tests)
 
 -- a further piece is read
-pub read_more : (b : Bool) (p : List ℕ) (ps : List (List ℕ)) (old new : Alternatives) (piece : List ℕ) (answer : RangeOrInvalid)
-    → AreRead Normal b (p ∷ ps) old → IsPieceRead Normal false piece answer
-    → new.ranges ≡ old.ranges ++ option_to_list (kept_of answer) → new.refused ≡ first_refusal old.refused answer → new.is_only ≡ false → AreRead Normal b ((p ∷ ps) ++ piece ∷ []) new
-read_more b p ps old new piece (read.Range range) all h ranges refused only = record {
+pub read_more : {f : Flavour} → IsCutting f → (b : Bool) (p : List ℕ) (ps : List (List ℕ)) (old new : Alternatives) (piece : List ℕ) (answer : RangeOrInvalid)
+    → AreRead f b (p ∷ ps) old → IsPieceRead f false piece answer
+    → new.ranges ≡ old.ranges ++ option_to_list (kept_of answer) → new.refused ≡ first_refusal old.refused answer → new.is_only ≡ false → AreRead f b ((p ∷ ps) ++ piece ∷ []) new
+read_more {f} cutting b p ps old new piece (read.Range range) all h ranges refused only = record {
   tree = all.tree ++ h.0 ∷ [];
   good_ones = goods_after all.good_ones (good h.1 none_left);
-  kept = ranges ∙ (ap₂ (λ (xs : List VersionRange) (r : VersionRange). xs ++ option_to_list (kept_of (read.Range r))) all.kept h.2 ∙ sym (kept_more all.tree h.0));
-  told = subst (IsTold Normal b ((p ∷ ps) ++ piece ∷ []) (all.tree ++ h.0 ∷ [])) (sym (refused ∙ told_same old.refused range)) (told_good b p ps piece all.tree old.refused all.told h.0);
+  kept = ranges ∙ (ap₂ (λ (xs : List VersionRange) (r : VersionRange). xs ++ option_to_list (kept_of (read.Range r))) all.kept h.2 ∙ sym (kept_more f cutting all.tree h.0));
+  told = subst (IsTold f b ((p ∷ ps) ++ piece ∷ []) (all.tree ++ h.0 ∷ [])) (sym (refused ∙ told_same old.refused range)) (told_good f b p ps piece all.tree old.refused all.told h.0);
   is_only = only ∙ none_only p ps piece;
 }
-read_more b p ps old new piece (read.Invalid refusal) all h ranges refused only = record {
+read_more {f} cutting b p ps old new piece (read.Invalid refusal) all h ranges refused only = record {
   tree = all.tree;
   good_ones = rw append-nil at (goods_after all.good_ones (bad h.0 none_left));
   kept = ranges ∙ (append-nil old.ranges ∙ all.kept);
-  told = subst (IsTold Normal b ((p ∷ ps) ++ piece ∷ []) all.tree) (sym refused) (told_bad b p ps piece all.tree all.good_ones old.refused all.told refusal h.0 h.1);
+  told = subst (IsTold f b ((p ∷ ps) ++ piece ∷ []) all.tree) (sym refused) (told_bad f b p ps piece all.tree all.good_ones old.refused all.told refusal h.0 h.1);
   is_only = only ∙ none_only p ps piece;
 }
 
 -- the first piece is read
-pub read_first : (b : Bool) (new : Alternatives) (piece : List ℕ) (answer : RangeOrInvalid) → IsPieceRead Normal b piece answer
-    → new.ranges ≡ option_to_list (kept_of answer) → new.refused ≡ first_refusal None answer → new.is_only ≡ true → AreRead Normal b (piece ∷ []) new
-read_first b new piece (read.Range range) h ranges refused only = record {
+pub read_first : {f : Flavour} → IsCutting f → (b : Bool) (new : Alternatives) (piece : List ℕ) (answer : RangeOrInvalid) → IsPieceRead f b piece answer
+    → new.ranges ≡ option_to_list (kept_of answer) → new.refused ≡ first_refusal None answer → new.is_only ≡ true → AreRead f b (piece ∷ []) new
+read_first {f} cutting b new piece (read.Range range) h ranges refused only = record {
   tree = h.0 ∷ [];
   good_ones = good h.1 none_left;
-  kept = ranges ∙ (ap (λ (r : VersionRange). option_to_list (kept_of (read.Range r))) h.2 ∙ sym (without_one (kept_range h.0)));
-  told = subst (IsTold Normal b (piece ∷ []) (h.0 ∷ [])) (sym refused) refl;
+  kept = ranges ∙ (ap (λ (r : VersionRange). option_to_list (kept_of (read.Range r))) h.2 ∙ (sym (without_one (kept_range h.0)) ∙ sym (kept_without f cutting (h.0 ∷ []))));
+  told = subst (IsTold f b (piece ∷ []) (h.0 ∷ [])) (sym refused) refl;
   is_only = only;
 }
-read_first b new piece (read.Invalid refusal) h ranges refused only =
-    let none_good : IsTold Normal b (piece ∷ []) [] (Some refusal) = (omega arith, this_bad h.0 h.1) in
+read_first {f} cutting b new piece (read.Invalid refusal) h ranges refused only =
+    let none_good : IsTold f b (piece ∷ []) [] (Some refusal) = (omega arith, this_bad h.0 h.1) in
     record {
       tree = [];
       good_ones = bad h.0 none_left;
-      kept = ranges;
-      told = subst (IsTold Normal b (piece ∷ []) []) (sym refused) none_good;
+      kept = ranges ∙ sym (kept_without f cutting []);
+      told = subst (IsTold f b (piece ∷ []) []) (sym refused) none_good;
       is_only = only;
     }
 
 -- ---- the text
 
-module _ {text piece rest : List ℕ} {b : Bool} {all : Alternatives} (first : IsFirstPiece text piece b rest) (h : AreAllRead Normal piece b rest all) where
+cut_outcome : (f : Flavour) → IsCutting f → (text : List ℕ) (o : Outcome) → IsCutOutcome f (worked_on f text) o → IsOutcome f text o
+cut_outcome Npm npm text o h = h
+cut_outcome Normal normal text o h = h
+cut_outcome Specifier cutting text o h = elim cutting [ ]
+
+one_tree : {f : Flavour} {text p : List ℕ} {b : Bool} {t : List (List Comparator)} → AreGoodOnes f b (p ∷ []) t → length t ≡ 1 → ArePieces text b (p ∷ []) → IsCutOutcome f text (Ranges t)
+one_tree (good g none_left) size k = one_good k g
+one_tree (bad g none_left) size k = absurd (omega (arith, size))
+
+one_refused : {f : Flavour} {text p : List ℕ} {b : Bool} {t : List (List Comparator)} → AreGoodOnes f b (p ∷ []) t → length t < 1 → ArePieces text b (p ∷ []) → (o : Outcome) → IsTagOr (trim p) o → IsCutOutcome f text o
+one_refused (good g none_left) fewer k o t = absurd (omega (arith, fewer))
+one_refused (bad g none_left) fewer k o t = one_bad k g t
+
+only_one : (p : List ℕ) (others : List (List ℕ)) → (length (p ∷ others) == 1) ≡ true → others ≡ []
+only_one p others e = nil_from_length others (grind (arith, nat_tests))
+
+module _ {f : Flavour} {text piece rest : List ℕ} {b : Bool} {all : Alternatives} (first : IsFirstPiece text piece b rest) (h : AreAllRead f piece b rest all) where
   pieces : ArePieces text b (piece ∷ h.others)
   pieces = first h.others h.more
 
-  one_tree : {p : List ℕ} {t : List (List Comparator)} → AreGoodOnes Normal b (p ∷ []) t → length t ≡ 1 → ArePieces text b (p ∷ []) → IsCutOutcome Normal text (Ranges t)
-  one_tree (good g none_left) size k = one_good k g
-  one_tree (bad g none_left) size k = absurd (omega (arith, size))
+  -- no piece is bad
+  good_outcome : ((q : List ℕ) (more : List (List ℕ)) → ArePieces text b (piece ∷ q ∷ more) → AreGoodOnes f b (piece ∷ q ∷ more) h.read.tree → length h.read.tree ≡ length (piece ∷ q ∷ more) → IsCutOutcome f text (Ranges h.read.tree))
+      → all.refused ≡ None → IsCutOutcome f text (Ranges h.read.tree)
+  good_outcome many none = go h.others pieces h.read.good_ones (rw none at h.read.told)
+    where
+      go : (others : List (List ℕ)) → ArePieces text b (piece ∷ others) → AreGoodOnes f b (piece ∷ others) h.read.tree → length h.read.tree ≡ length (piece ∷ others) → IsCutOutcome f text (Ranges h.read.tree)
+      go [] k m size = one_tree m size k
+      go (q ∷ more) k m size = many q more k m size
 
-  one_refused : {p : List ℕ} {t : List (List Comparator)} → AreGoodOnes Normal b (p ∷ []) t → length t < 1 → ArePieces text b (p ∷ []) → (o : Outcome) → IsTagOr (trim p) o → IsCutOutcome Normal text o
-  one_refused (good g none_left) fewer k o t = absurd (omega (arith, fewer))
-  one_refused (bad g none_left) fewer k o t = one_bad k g t
-
-  all_good : (others : List (List ℕ)) → ArePieces text b (piece ∷ others) → AreGoodOnes Normal b (piece ∷ others) h.read.tree → length h.read.tree ≡ length (piece ∷ others) → IsCutOutcome Normal text (Ranges h.read.tree)
-  all_good [] k m size = one_tree m size k
-  all_good (q ∷ more) k m size = normal_many k m size
-
-  pub ranges_read : {answer : RangeSetOrTag} → all.refused ≡ None → answer ≡ inner.RangeSet (record { 0 = all.ranges }) → IsReading Normal text answer
-  ranges_read none is = record {
-    outcome = Ranges h.read.tree;
-    is_outcome = all_good h.others pieces h.read.good_ones (rw none at h.read.told);
-    is_read = is ∙ ap (λ (ranges : List VersionRange). inner.RangeSet (record { 0 = ranges })) h.read.kept;
-  }
-
-  only_one : (others : List (List ℕ)) → (length (piece ∷ others) == 1) ≡ true → others ≡ []
-  only_one others e = nil_from_length others (grind (arith, nat_tests))
+  -- two or more pieces
+  many_outcome : {o : Outcome} → ((q : List ℕ) (more : List (List ℕ)) → ArePieces text b (piece ∷ q ∷ more) → AreGoodOnes f b (piece ∷ q ∷ more) h.read.tree → h.others ≡ q ∷ more → IsCutOutcome f text o) → all.is_only ≡ false → IsCutOutcome f text o
+  many_outcome {o} many more = go h.others refl pieces h.read.good_ones (sym h.read.is_only ∙ more)
+    where
+      go : (others : List (List ℕ)) → h.others ≡ others → ArePieces text b (piece ∷ others) → AreGoodOnes f b (piece ∷ others) h.read.tree → (length (piece ∷ others) == 1) ≡ false → IsCutOutcome f text o
+      go [] is k m e = cc e
+      go (q ∷ more) is k m e = many q more k m is
 
   module _ {refusal : Refusal} (some : all.refused ≡ Some refusal) where
-    told : (length h.read.tree < length (piece ∷ h.others)) × IsFirstBad Normal b (piece ∷ h.others) refusal
+    told : (length h.read.tree < length (piece ∷ h.others)) × IsFirstBad f b (piece ∷ h.others) refusal
     told = rw some at h.read.told
 
-    pub first_refused : {failure : Failure} → (failure ≡ None) ⊎ (failure ≡ refusal_failure refusal) → IsNormalRefusal text failure
+    pub first_refused : {failure : Failure} → (failure ≡ None) ⊎ (failure ≡ refusal_failure refusal) → IsCutRefusal f text failure
     first_refused (inl e) = rw e memory_wanting
     first_refused (inr e) = rw e (bad_piece pieces told.1)
 
-    many_bad : (others : List (List ℕ)) → (length (piece ∷ others) == 1) ≡ false → ArePieces text b (piece ∷ others) → AreGoodOnes Normal b (piece ∷ others) h.read.tree → length h.read.tree < length (piece ∷ others) → IsCutOutcome Normal text Refused
-    many_bad [] e k m fewer = cc e
-    many_bad (q ∷ more) e k m fewer = normal_refused k m fewer
+    tag_outcome : all.is_only ≡ true → (o : Outcome) → IsTagOr (trim piece) o → IsCutOutcome f text o
+    tag_outcome only o t =
+        let nil = only_one piece h.others (sym h.read.is_only ∙ only) in
+        one_refused (rw nil at h.read.good_ones) (rw nil at told.0) (rw nil at pieces) o t
 
-    pub many_refused : all.is_only ≡ false → IsOutcome Normal text Refused
-    many_refused more = many_bad h.others (sym h.read.is_only ∙ more) pieces h.read.good_ones told.0
+-- ---- what is answered to a text
 
-    module _ (only : all.is_only ≡ true) where
-      tag_outcome : (o : Outcome) → IsTagOr (trim piece) o → IsOutcome Normal text o
-      tag_outcome o t =
-          let nil = only_one h.others (sym h.read.is_only ∙ only) in
-          one_refused (rw nil at h.read.good_ones) (rw nil at told.0) (rw nil at pieces) o t
+module _ {f : Flavour} (cutting : IsCutting f) (text : List ℕ) {piece rest : List ℕ} {b : Bool} {all : Alternatives} (first : IsFirstPiece (worked_on f text) piece b rest) (h : AreAllRead f piece b rest all) where
+  ranges_reading : {answer : RangeSetOrTag} → IsCutOutcome f (worked_on f text) (Ranges h.read.tree) → answer ≡ inner.RangeSet (record { 0 = all.ranges }) → IsReading f text answer
+  ranges_reading o is = record {
+    outcome = Ranges h.read.tree;
+    is_outcome = cut_outcome f cutting text (Ranges h.read.tree) o;
+    is_read = is ∙ ap (λ (ranges : List VersionRange). inner.RangeSet (record { 0 = ranges })) h.read.kept;
+  }
 
-      pub tag_read : (answer : RangeSetOrTag) → (answer ≡ inner.Tag (trim piece)) × (is_valid_tag (trim piece) ≡ true) → IsReading Normal text answer
-      tag_read answer t = record { outcome = Tag (trim piece); is_outcome = tag_outcome (Tag (trim piece)) (tag t.1); is_read = t.0 }
+  module _ {refusal : Refusal} (some : all.refused ≡ Some refusal) (only : all.is_only ≡ true) where
+    pub tag_read : (answer : RangeSetOrTag) → (answer ≡ inner.Tag (trim piece)) × (is_valid_tag (trim piece) ≡ true) → IsReading f text answer
+    tag_read answer t = record { outcome = Tag (trim piece); is_outcome = cut_outcome f cutting text (Tag (trim piece)) (tag_outcome first h some only (Tag (trim piece)) (tag t.1)); is_read = t.0 }
 
-      pub tag_refused : (failure : Failure) → (failure ≡ None) ⊎ ((failure ≡ refusal_failure refusal) × (is_valid_tag (trim piece) ≡ false)) → (failure ≡ None) ⊎ IsOutcome Normal text Refused
-      tag_refused failure (inl e) = inl e
-      tag_refused failure (inr k) = inr (tag_outcome Refused (no_tag k.1))
+    pub tag_refused : (failure : Failure) → (failure ≡ None) ⊎ ((failure ≡ refusal_failure refusal) × (is_valid_tag (trim piece) ≡ false)) → (failure ≡ None) ⊎ IsOutcome f text Refused
+    tag_refused failure (inl e) = inl e
+    tag_refused failure (inr k) = inr (cut_outcome f cutting text Refused (tag_outcome first h some only Refused (no_tag k.1)))
 
-      pub tag_refusal : (failure : Failure) → (failure ≡ None) ⊎ ((failure ≡ refusal_failure refusal) × (is_valid_tag (trim piece) ≡ false)) → IsNormalRefusal text failure
-      tag_refusal failure (inl e) = first_refused (inl e)
-      tag_refusal failure (inr k) = first_refused (inr k.0)
+    pub tag_refusal : (failure : Failure) → (failure ≡ None) ⊎ ((failure ≡ refusal_failure refusal) × (is_valid_tag (trim piece) ≡ false)) → IsCutRefusal f (worked_on f text) failure
+    tag_refusal failure (inl e) = first_refused first h some (inl e)
+    tag_refusal failure (inr k) = first_refused first h some (inr k.0)
+
+-- the normalized reader
+module _ (text : List ℕ) {piece rest : List ℕ} {b : Bool} {all : Alternatives} (first : IsFirstPiece text piece b rest) (h : AreAllRead Normal piece b rest all) where
+  pub normal_ranges : {answer : RangeSetOrTag} → all.refused ≡ None → answer ≡ inner.RangeSet (record { 0 = all.ranges }) → IsReading Normal text answer
+  normal_ranges none is = ranges_reading normal text first h (good_outcome first h (λ q more k m size. normal_many k m size) none) is
+
+  pub many_refused : {refusal : Refusal} → all.refused ≡ Some refusal → all.is_only ≡ false → IsOutcome Normal text Refused
+  many_refused some more = many_outcome first h (λ q others k m is. normal_refused k m (rw is at (told first h some).0)) more
+
+-- npm's reader
+module _ (text : List ℕ) {piece rest : List ℕ} {b : Bool} {all : Alternatives} (first : IsFirstPiece (trim text) piece b rest) (h : AreAllRead Npm piece b rest all) where
+  pub npm_ranges : {answer : RangeSetOrTag} → all.refused ≡ None → answer ≡ inner.RangeSet (record { 0 = all.ranges }) → IsReading Npm text answer
+  npm_ranges none is = ranges_reading npm text first h (good_outcome first h (λ q more k m size. npm_many k m) none) is
+
+  pub npm_many_ranges : {answer : RangeSetOrTag} → all.is_only ≡ false → answer ≡ inner.RangeSet (record { 0 = all.ranges }) → IsReading Npm text answer
+  npm_many_ranges more is = ranges_reading npm text first h (many_outcome first h (λ q others k m e. npm_many k m) more) is

@@ -44,7 +44,7 @@ sign_some GreaterThanOrEqual = omega arith
 sign_some LessThanOrEqual = omega arith
 sign_some Equal = omega arith
 
-sign_goes : GoesBy IsSign (λ x. x == 61)
+pub sign_goes : GoesBy IsSign (λ x. x == 61)
 sign_goes = record { goes = λ x o. second_byte x o.front o.more o.long_value (let size : length o.front ≡ length (sign_text o.short_value) = ap length o.short in omega (arith, sign_some o.short_value)) o.long }
 
 -- ---- a sign, blanks and a partial version

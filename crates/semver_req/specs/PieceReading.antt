@@ -13,7 +13,6 @@ use Rattle.semver_req.specs.Outcome.{IsBad, IsGood}
 use Rattle.semver_req.specs.Pieces.{ArePieces, IsPiece}
 use Rattle.semver_req.specs.Readers.{Failure}
 use Rattle.semver_req.specs.declared.common.values.Flavour.{Flavour}
-use Rattle.semver_req.specs.declared.common.values.Flavour.TheVariants.{Normal}
 use Rattle.semver_req.specs.declared.range_set_or_tag.RangeOrInvalid.{RangeOrInvalid}
 use Rattle.semver_req.specs.declared.range_set_or_tag.RangeOrInvalid.TheVariants as read
 
@@ -25,11 +24,19 @@ numbers_fit c = all_fit (comparator_numbers c)
 abbrev pub sums_fit : Comparator → Bool
 sums_fit c = all_fit (comparator_line c).sums
 
--- their range, unless a number among them is too large, or else a bound
-abbrev pub joined : List Comparator → RangeOrInvalid
-joined cs =
-    if list_all numbers_fit cs then (if list_all sums_fit cs then read.Range (folded (map comparator_range cs)) else read.Invalid BoundTooLarge)
+-- the range, unless a number among the comparators is too large, or else a bound
+abbrev pub read_as : List Comparator → VersionRange → RangeOrInvalid
+read_as cs range =
+    if list_all numbers_fit cs then (if list_all sums_fit cs then read.Range range else read.Invalid BoundTooLarge)
     else read.Invalid NumberTooLarge
+
+-- their ranges, clamped to one another
+abbrev pub joined : List Comparator → RangeOrInvalid
+joined cs = read_as cs (folded (map comparator_range cs))
+
+-- the range that is kept of them
+abbrev pub as_kept : List Comparator → RangeOrInvalid
+as_kept cs = read_as cs (kept_range cs)
 
 -- ---- a piece
 
@@ -60,7 +67,7 @@ pub data IsFirstBad (f : Flavour) : Bool → List (List ℕ) → Refusal → Typ
 abbrev pub refusal_failure : Refusal → Failure
 refusal_failure refusal = Some (refusal_message refusal, None)
 
--- why the normalized reader refuses a text, and the failure that tells it
-pub data IsNormalRefusal (text : List ℕ) : Failure → Type 0 where
-  memory_wanting : IsNormalRefusal text None
-  bad_piece : {b : Bool} {pieces : List (List ℕ)} {refusal : Refusal} → ArePieces text b pieces → IsFirstBad Normal b pieces refusal → IsNormalRefusal text (refusal_failure refusal)
+-- why a reader refuses a text that is cut at its `||`, and the failure that tells it
+pub data IsCutRefusal (f : Flavour) (text : List ℕ) : Failure → Type 0 where
+  memory_wanting : IsCutRefusal f text None
+  bad_piece : {b : Bool} {pieces : List (List ℕ)} {refusal : Refusal} → ArePieces text b pieces → IsFirstBad f b pieces refusal → IsCutRefusal f text (refusal_failure refusal)

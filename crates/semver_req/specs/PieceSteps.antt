@@ -4,11 +4,14 @@ use Rattle.std.specs.Borrow.{Bor}
 use Rattle.std.specs.Option.{option_to_list}
 use Rattle.semver_base.specs.Lexical.{IsBlanks}
 use Rattle.semver_base.specs.declared.failure.Refusal.{Refusal}
+use Rattle.semver_base.specs.declared.partial.Partial.{Partial}
 use Rattle.semver_req.specs.Comparators.{Comparator}
 use Rattle.semver_req.specs.KeptSet.{kept}
 use Rattle.semver_req.specs.Outcome.{AreGoodOnes}
-use Rattle.semver_req.specs.PieceReading.{IsFirstBad, kept_of}
+use Rattle.semver_req.specs.Partials.{sized_partial}
+use Rattle.semver_req.specs.PieceReading.{IsFirstBad, as_kept, kept_of}
 use Rattle.semver_req.specs.Pieces.{AreMorePieces, ArePieces}
+use Rattle.semver_req.specs.declared.common.hyphen.HyphenRange.{HyphenRange}
 use Rattle.semver_req.specs.declared.common.values.Flavour.{Flavour}
 use Rattle.semver_req.specs.declared.range_set_or_tag.Alternatives.{Alternatives}
 use Rattle.semver_req.specs.declared.range_set_or_tag.RangeOrInvalid.{RangeOrInvalid}
@@ -35,6 +38,15 @@ both_now (Some p) = Some (p.0.now, p.1.now)
 -- the piece is nothing, or blanks that are followed by `||`
 abbrev pub IsEverything : Bool → List ℕ → Type 0
 IsEverything followed piece = (piece ≡ []) ⊎ ((followed ≡ true) × IsBlanks piece tt)
+
+-- a hyphen range, with both of its partial versions measured
+abbrev pub sized_hyphen : Partial × Partial → HyphenRange
+sized_hyphen v = record { lower = sized_partial v.0; upper = sized_partial v.1 }
+
+-- the whole piece is comparators of the grammar, which are answered so, or it is none
+abbrev pub IsWholeRead : (List ℕ → List Comparator → Type 0) → List ℕ → Option RangeOrInvalid → Type 0
+IsWholeRead R piece None = (cs : List Comparator) → R piece cs → ⊥
+IsWholeRead R piece (Some answer) = (cs : List Comparator) × R piece cs × (answer ≡ as_kept cs)
 
 -- why the first bad piece is bad, with one more piece
 abbrev pub first_refusal : Option Refusal → RangeOrInvalid → Option Refusal

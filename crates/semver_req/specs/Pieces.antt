@@ -18,12 +18,33 @@ IsMark = Either (IsText (codes "&&")) (IsText (codes ","))
 abbrev pub IsNpmSeparator : List ℕ → Unit {0} → Type 0
 IsNpmSeparator = Either (After IsBlanks (After IsMark IsBlanks)) IsSomeBlanks
 
+-- between the comparators of a grammar; the strict one has no lists
+abbrev pub IsSeparator : Flavour → List ℕ → Unit {0} → Type 0
+IsSeparator Npm = IsNpmSeparator
+IsSeparator Normal = IsSomeBlanks
+IsSeparator Specifier = λ text v. ⊥
+
+-- comparators with separators between, and one at the end or none
+abbrev pub IsComparators : Flavour → List ℕ → List Comparator → Type 0
+IsComparators f = Listed (IsComparator f) (IsSeparator f)
+
 abbrev pub hyphen : Partial × Partial → List Comparator
 hyphen v = Hyphen v.0 v.1 ∷ []
 
--- two partials round a `-`, which has one or more blanks on both sides
+-- a partial, and the blanks after it
+abbrev pub IsUpper : List ℕ → Partial → Type 0
+IsUpper = Before (IsPartial Npm) IsBlanks
+
+-- a `-` with one or more blanks on both sides, and a partial
+abbrev pub IsHyphened : List ℕ → Partial → Type 0
+IsHyphened = After IsSomeBlanks (Marked 45 (After IsSomeBlanks IsUpper))
+
+-- two partials round a `-`
+abbrev pub IsHyphenPair : List ℕ → Partial × Partial → Type 0
+IsHyphenPair = Followed (IsPartial Npm) IsHyphened
+
 abbrev pub IsHyphen : List ℕ → List Comparator → Type 0
-IsHyphen = Mapped hyphen (Followed (IsPartial Npm) (After IsSomeBlanks (Marked 45 (After IsSomeBlanks (Before (IsPartial Npm) IsBlanks)))))
+IsHyphen = Mapped hyphen IsHyphenPair
 
 -- a piece that is not empty
 abbrev pub IsFilled : Flavour → List ℕ → List Comparator → Type 0

@@ -1,13 +1,15 @@
 -- Comparators as the readers answer them: a mark, and the partial version after it.
-use Rattle.std.specs.Prelude.{◌≡◌, ℕ, List, ◌∷◌, Option, Some, None}
-use Rattle.semver_base.specs.Grammar.{Either, HasNone, IsLongest}
+use Rattle.std.specs.Prelude.{◌≡◌, ℕ, List, ◌∷◌, Option, Some, None, codes}
+use Rattle.semver_base.specs.Grammar.{Either, HasNone, IsLongest, IsSeen, IsText}
+use Rattle.semver_base.specs.declared.lexical.values.Measured.{Measured}
 use Rattle.semver_base.specs.declared.partial.Partial.{Partial}
-use Rattle.semver_req.specs.Comparators.{Caret, Comparator, IsMarked, IsPlain, Plain, Signed, Tilde}
-use Rattle.semver_req.specs.Partials.{sized_partial}
+use Rattle.semver_req.specs.Comparators.{Caret, Comparator, IsLed, IsMarked, IsPlain, Plain, Signed, Tilde}
+use Rattle.semver_req.specs.Partials.{IsPartial, sized_partial}
 use Rattle.semver_req.specs.declared.common.comparator.Mark.{Mark}
 use Rattle.semver_req.specs.declared.common.comparator.Mark.TheVariants as mark
 use Rattle.semver_req.specs.declared.common.comparator.Written.{Written}
 use Rattle.semver_req.specs.declared.common.values.Flavour.{Flavour}
+use Rattle.semver_req.specs.declared.common.values.Flavour.TheVariants.{Npm}
 
 abbrev pub comparator_of : Mark → Partial → Comparator
 comparator_of mark.Tilde p = Tilde p
@@ -37,3 +39,40 @@ pub record IsFront (R : List ℕ → Comparator → Type 0) (text : List ℕ) (w
 abbrev pub ReadsComparator : (List ℕ → Comparator → Type 0) → List ℕ → Option (Written × List ℕ) → Type 0
 ReadsComparator R text None = HasNone R text
 ReadsComparator R text (Some p) = IsFront R text p.0 p.1
+
+-- ---- npm's comparators, in the steps in which they are read
+
+-- npm's tilde
+abbrev pub IsTildes : List ℕ → Unit {0} → Type 0
+IsTildes = Either (IsText (codes "~>")) (IsText (codes "~"))
+
+-- rest is what follows a `~>`, a `~` or a `^`, or the whole text where it begins with none
+abbrev pub IsNpmMarkCut : List ℕ → Mark → List ℕ → Type 0
+IsNpmMarkCut text mark.Tilde rest = IsLongest IsTildes text tt rest
+IsNpmMarkCut text mark.Caret rest = IsMarkCut text mark.Caret rest
+IsNpmMarkCut text (mark.Sign sign) rest = ⊥
+IsNpmMarkCut text mark.Absent rest = IsMarkCut text mark.Absent rest
+
+-- a partial version that was read, with a mark
+abbrev pub with_mark : Mark → Option (Measured Partial × List ℕ) → Option (Written × List ℕ)
+with_mark m None = None
+with_mark m (Some p) = Some (record { mark = m; partial = p.0 }, p.1)
+
+-- the partial version after a mark is answered so
+abbrev pub ReadsMarked : Mark → (List ℕ → Partial → Type 0) → List ℕ → Option (Written × List ℕ) → Type 0
+ReadsMarked m B text None = HasNone B text
+ReadsMarked m B text (Some p) = (p.0.mark ≡ m) × IsSeen sized_partial B text p.0.partial p.1
+
+-- what follows a `~` or a `^` is led, and anything else has the mark other
+abbrev pub ReadsByMark : Mark → Mark → List ℕ → Option (Written × List ℕ) → Type 0
+ReadsByMark mark.Tilde other = ReadsMarked mark.Tilde IsLed
+ReadsByMark mark.Caret other = ReadsMarked mark.Caret IsLed
+ReadsByMark (mark.Sign sign) other = ReadsMarked other (IsPartial Npm)
+ReadsByMark mark.Absent other = ReadsMarked other (IsPartial Npm)
+
+-- the text is cut at its mark, and what follows is answered so
+pub record IsNpmFront (other : Mark) (text : List ℕ) (answer : Option (Written × List ℕ)) : Type 0 where
+  pub mark : Mark
+  pub rest : List ℕ
+  pub cut : IsNpmMarkCut text mark rest
+  pub reads : ReadsByMark mark other rest answer

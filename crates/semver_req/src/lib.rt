@@ -1,7 +1,8 @@
-//! Requirements: what they are made of, and the strict reader of requirements in package specifiers.
+//! Requirements: what they are made of, and their three readers.
 //!
-//! The second crate of the port of `deno_semver`. Its modules, bottom up: `common`, partial versions read from a text;
-//! `npm`, which texts are tags; `range_set_or_tag` and `req`, what a requirement is; `specifier`, the strict reader.
+//! The second crate of the port of `deno_semver`. Its modules, bottom up: `common`, comparators read from a text; `tag`,
+//! which texts are tags; `range_set_or_tag` and `req`, what a requirement is, and the normalized reader; `specifier`, the
+//! strict reader; `npm`, npm's reader.
 #![tactic(auto)]
 
 pub mod common;
@@ -10,3 +11,4 @@ pub mod npm;
 pub mod range_set_or_tag;
 pub mod req;
 pub mod specifier;
+pub mod tag;

@@ -1,5 +1,6 @@
-//! What npm's rules say of requirements.
+//! What npm's rules say of requirements: npm's reader, and which texts are tags.
 
-mod tag;
+mod read;
 
-pub use tag::is_valid_npm_tag;
+pub use crate::tag::is_valid_npm_tag;
+pub use read::{NpmVersionReqParseError, parse_npm_version_req};

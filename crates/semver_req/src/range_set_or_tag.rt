@@ -1,24 +1,28 @@
-//! What a requirement stands for, ranges of versions or a tag, and the normalized reader of it.
+//! What a requirement stands for, ranges of versions or a tag, and how npm's and the normalized grammar read it.
 
 ghost use Rattle.std.specs.Prelude.{◌≡◌, ◌↔◌, ◌++◌, ◌∷◌, ◌⊎◌, [], IfErr, IfOk, IsTrue, List, MatchOption, None, OnOk, true, false};
 ghost use Rattle.std.specs.Bool.{OnFalse};
-ghost use Rattle.semver_base.specs.Grammar.{ReadsAs, Listed, Reads, answer_of, rest_answer};
-ghost use Rattle.semver_base.specs.Lexical.{IsBlanks, IsSomeBlanks};
+ghost use Rattle.std.specs.Str.{trim};
+ghost use Rattle.semver_base.specs.Grammar.{ReadsAs, answer_of};
+ghost use Rattle.semver_base.specs.Lexical.{IsBlanks};
 ghost use Rattle.semver_base.specs.declared.partial.Partial.{Partial};
-ghost use Rattle.semver_req.specs.Comparators.{Comparator, IsComparator};
+ghost use Rattle.semver_req.specs.Comparators.{Comparator};
 ghost use Rattle.semver_req.specs.Partials.{sized_partial};
 ghost use Rattle.semver_req.specs.Outcome.{IsOutcome, Refused};
-ghost use Rattle.semver_req.specs.PieceReading.{IsNormalRefusal, IsPieceRead, joined, kept_of, refusal_failure};
-ghost use Rattle.semver_req.specs.PieceSteps.{AreAllRead, IsEverything, IsFirstPiece, IsNextPiece, IsOneMore, both_now};
-ghost use Rattle.semver_req.specs.Pieces.{HasNoBar, IsCutAt};
+ghost use Rattle.semver_req.specs.PieceReading.{IsCutRefusal, IsPieceRead, as_kept, joined, kept_of, refusal_failure};
+ghost use Rattle.semver_req.specs.PieceSteps.{AreAllRead, IsEverything, IsFirstPiece, IsNextPiece, IsOneMore, IsWholeRead, both_now, sized_hyphen};
+ghost use Rattle.semver_req.specs.Pieces.{HasNoBar, IsComparators, IsCutAt, IsCutting, IsFilled, IsHyphen, hyphen as hyphen_of};
 ghost use Rattle.semver_req.specs.Readers.{IsReading};
 ghost use Rattle.semver_req.specs.Requirement.{MatchNoVersion, OverlapAsTags, inner_overlap};
 ghost use Rattle.semver_req.specs.Tag.{is_valid_tag};
 ghost use Rattle.semver_req.specs.Written.{comparator_of};
-ghost use Rattle.semver_req.specs.declared.common.values.Flavour.TheVariants.{Normal};
+ghost use Rattle.semver_req.specs.declared.common.values.Flavour.TheVariants.{Normal, Npm};
 
-use crate::common::comparator::{Written, normal_front};
-use crate::npm::is_valid_npm_tag;
+use crate::common::comparator::{Written, comparator_front};
+use crate::common::hyphen::{HyphenRange, hyphen_front};
+use crate::common::separators::after_separator;
+use crate::common::values::Flavour;
+use crate::tag::is_valid_npm_tag;
 use semver_base::failure::{ParseFailure, Refusal};
 use semver_base::lexical::after_blanks;
 use semver_base::lexical::values::Measured;
@@ -45,17 +49,6 @@ pub enum RangeOrInvalid {
     Range(VersionRange),
     /// The piece is bad: it is outside the grammar, or a number or a bound in it is too large.
     Invalid(Refusal),
-}
-
-// What follows one or more blanks at the front.
-fn after_some_blanks(text: &str) -> Option<&str>
-    ensures { Reads IsSomeBlanks text.now (rest_answer result) }
-{
-    let rest = after_blanks(text);
-    if rest.len() == text.len() {
-        return None;
-    }
-    Some(rest)
 }
 
 // Whether a piece is nothing, or blanks that are followed by `||`.
@@ -90,21 +83,21 @@ impl RangeOrInvalid {
         }
     }
 
-    // The normalized comparators at the front, with blanks between, and what follows them.
+    // The comparators at the front, with separators between, and what follows them.
     fn comparators(
         alloc: Global,
         text: &str,
+        flavour: Flavour,
     ) -> Result<Option<(RangeOrInvalid, &str)>, ParseFailure>
-        ensures value { IfOk result (λ r. ReadsAs joined (Listed (IsComparator Normal) IsSomeBlanks)
-            text.now (answer_of r)) }
+        ensures value { IfOk result (λ r. ReadsAs joined (IsComparators flavour) text.now (answer_of r)) }
         ensures memory { IfErr result (λ failure. failure ≡ None) }
     {
-        let Some((first, mut rest)) = normal_front(alloc, text)? else {
+        let Some((first, mut rest)) = comparator_front(alloc, text, flavour)? else {
             return Ok(None);
         };
         let mut read = RangeOrInvalid::Range(VersionRange::all()).and(alloc, first)?;
-        while let Some(next) = after_some_blanks(rest) {
-            let Some((written, more)) = normal_front(alloc, next)? else {
+        while let Some(next) = after_separator(rest, flavour) {
+            let Some((written, more)) = comparator_front(alloc, next, flavour)? else {
                 return Ok(Some((read, next)));
             };
             read = read.and(alloc, written)?;
@@ -113,27 +106,97 @@ impl RangeOrInvalid {
         Ok(Some((read, rest)))
     }
 
-    /// What a piece of the normalized grammar is, which is followed by `||` or not: nothing, or blanks that are followed
-    /// by `||`, is the range without bounds; comparators with blanks between, and blanks at the end, are their ranges
-    /// clamped to one another; anything else is bad. It is an error only where no memory is left.
+    // The whole piece as comparators.
+    fn list(
+        alloc: Global,
+        piece: &str,
+        flavour: Flavour,
+    ) -> Result<Option<RangeOrInvalid>, ParseFailure>
+        ensures value { IfOk result (IsWholeRead (IsComparators flavour) piece.now) }
+        ensures memory { IfErr result (λ failure. failure ≡ None) }
+    {
+        let Some((read, rest)) = RangeOrInvalid::comparators(alloc, piece, flavour)? else {
+            return Ok(None);
+        };
+        if !rest.is_empty() {
+            return Ok(None);
+        }
+        Ok(Some(read))
+    }
+
+    // The range from the lower bound of the first to the upper bound of the second.
+    fn between(alloc: Global, hyphen: HyphenRange) -> Result<RangeOrInvalid, ParseFailure>
+        ensures value { (v : Partial × Partial) → hyphen ≡ sized_hyphen v → IfOk result (λ read. read ≡ as_kept (hyphen_of v)) }
+        ensures memory { IfErr result (λ failure. failure ≡ None) }
+    {
+        let HyphenRange { lower, upper } = hyphen;
+        let Measured::Fits(lower) = lower else {
+            return Ok(RangeOrInvalid::Invalid(Refusal::NumberTooLarge));
+        };
+        let Measured::Fits(upper) = upper else {
+            return Ok(RangeOrInvalid::Invalid(Refusal::NumberTooLarge));
+        };
+        let start = lower.as_lower_bound(alloc)?;
+        match upper.as_upper_bound(alloc) {
+            Ok(end) => Ok(RangeOrInvalid::Range(VersionRange { start, end })),
+            Err(failure) if failure.is_memory() => Err(failure),
+            Err(_) => Ok(RangeOrInvalid::Invalid(Refusal::BoundTooLarge)),
+        }
+    }
+
+    // The whole piece as a hyphen range.
+    fn hyphen(alloc: Global, piece: &str) -> Result<Option<RangeOrInvalid>, ParseFailure>
+        ensures value { IfOk result (IsWholeRead IsHyphen piece.now) }
+        ensures memory { IfErr result (λ failure. failure ≡ None) }
+    {
+        let Some((hyphen, rest)) = hyphen_front(alloc, piece)? else {
+            return Ok(None);
+        };
+        if !rest.is_empty() {
+            return Ok(None);
+        }
+        Ok(Some(RangeOrInvalid::between(alloc, hyphen)?))
+    }
+
+    // The whole piece, which is not empty.
+    fn filled(
+        alloc: Global,
+        piece: &str,
+        flavour: Flavour,
+    ) -> Result<Option<RangeOrInvalid>, ParseFailure>
+        ensures value { IfOk result (IsWholeRead (IsFilled flavour) piece.now) }
+        ensures memory { IfErr result (λ failure. failure ≡ None) }
+    {
+        match flavour {
+            Flavour::Npm => match RangeOrInvalid::hyphen(alloc, piece)? {
+                Some(read) => Ok(Some(read)),
+                None => RangeOrInvalid::list(alloc, piece, Flavour::Npm),
+            },
+            Flavour::Normal => RangeOrInvalid::list(alloc, piece, Flavour::Normal),
+            Flavour::Specifier => Ok(None),
+        }
+    }
+
+    /// What a piece of npm's or the normalized grammar is, which is followed by `||` or not: nothing, or blanks that are
+    /// followed by `||`, is the range without bounds; comparators with separators between, and one at the end or none,
+    /// are their ranges clamped to one another; two partial versions round a `-` are npm's hyphen range; anything else
+    /// is bad. It is an error only where no memory is left.
     pub fn parse(
         alloc: Global,
         piece: &str,
         is_followed: bool,
+        flavour: Flavour,
     ) -> Result<RangeOrInvalid, ParseFailure>
-        ensures value { IfOk result (IsPieceRead Normal is_followed piece.now) }
+        ensures value { IfOk result (IsPieceRead flavour is_followed piece.now) }
         ensures memory { IfErr result (λ failure. failure ≡ None) }
     {
         if is_everything(piece, is_followed) {
             return Ok(RangeOrInvalid::Range(VersionRange::all()));
         }
-        let Some((read, rest)) = RangeOrInvalid::comparators(alloc, piece)? else {
-            return Ok(RangeOrInvalid::Invalid(Refusal::UnexpectedCharacter));
-        };
-        if !rest.is_empty() {
-            return Ok(RangeOrInvalid::Invalid(Refusal::UnexpectedCharacter));
+        match RangeOrInvalid::filled(alloc, piece, flavour)? {
+            Some(read) => Ok(read),
+            None => Ok(RangeOrInvalid::Invalid(Refusal::UnexpectedCharacter)),
         }
-        Ok(read)
     }
 
     /// The range that a set keeps of the piece: none of a bad one, and none that ends below 0.0.0.
@@ -219,8 +282,13 @@ impl Alternatives {
 }
 
 // What is read of each piece of a text, whose first one is cut off.
-fn read_pieces(alloc: Global, first: FirstPiece<'_>) -> Result<Alternatives, ParseFailure>
-    ensures value { IfOk result (AreAllRead Normal first.entry.piece.now first.entry.is_followed first.entry.rest.now) }
+fn read_pieces(
+    alloc: Global,
+    first: FirstPiece<'_>,
+    flavour: Flavour,
+) -> Result<Alternatives, ParseFailure>
+    requires { IsCutting flavour }
+    ensures value { IfOk result (AreAllRead flavour first.entry.piece.now first.entry.is_followed first.entry.rest.now) }
     ensures memory { IfErr result (λ failure. failure ≡ None) }
 {
     let mut all = Alternatives {
@@ -228,11 +296,12 @@ fn read_pieces(alloc: Global, first: FirstPiece<'_>) -> Result<Alternatives, Par
         refused: None,
         is_only: true,
     };
-    all.add(RangeOrInvalid::parse(alloc, first.piece, first.is_followed)?)?;
+    let read = RangeOrInvalid::parse(alloc, first.piece, first.is_followed, flavour)?;
+    all.add(read)?;
     let mut rest = first.rest;
     while let Some((piece, more)) = next_piece(rest) {
         all.is_only = false;
-        all.add(RangeOrInvalid::parse(alloc, piece, false)?)?;
+        all.add(RangeOrInvalid::parse(alloc, piece, false, flavour)?)?;
         rest = more;
     }
     Ok(all)
@@ -261,14 +330,35 @@ impl RangeSetOrTag {
     pub fn parse(alloc: Global, text: &str) -> Result<RangeSetOrTag, ParseFailure>
         ensures reading { IfOk result (IsReading Normal text.now) }
         ensures refused { IfErr result (λ failure. (failure ≡ None) ⊎ IsOutcome Normal text.now Refused) }
-        ensures refusal { IfErr result (IsNormalRefusal text.now) }
+        ensures refusal { IfErr result (IsCutRefusal Normal text.now) }
     {
         let first = first_piece(text);
-        let all = read_pieces(alloc, first)?;
+        let all = read_pieces(alloc, first, Flavour::Normal)?;
         match all.refused {
             None => Ok(RangeSetOrTag::RangeSet(VersionRangeSet(all.ranges))),
             Some(refusal) if all.is_only => tag_or(alloc, first.piece.trim(), refusal),
             Some(refusal) => Err(ParseFailure::of_refusal(alloc, refusal)),
+        }
+    }
+
+    /// What npm's grammar makes of a text, which it trims and then cuts at each `||`: the ranges of its good pieces,
+    /// without those that end below 0.0.0, or a tag.
+    ///
+    /// Blanks that follow a `||` are skipped, and a last piece of nothing after one is left out. A text of one bad piece
+    /// is a tag where the trimmed piece is a valid one, and else is refused: with "Unexpected character." outside the
+    /// grammar, with "Number is too large." or "Version bound is too large." where that is all that is wrong. Of a text
+    /// of two or more pieces the bad ones are left out. Any other failure is want of memory.
+    pub fn parse_npm(alloc: Global, text: &str) -> Result<RangeSetOrTag, ParseFailure>
+        ensures reading { IfOk result (IsReading Npm text.now) }
+        ensures refused { IfErr result (λ failure. (failure ≡ None) ⊎ IsOutcome Npm text.now Refused) }
+        ensures refusal { IfErr result (IsCutRefusal Npm (trim text.now)) }
+    {
+        let first = first_piece(text.trim());
+        let all = read_pieces(alloc, first, Flavour::Npm)?;
+        match all.refused {
+            None => Ok(RangeSetOrTag::RangeSet(VersionRangeSet(all.ranges))),
+            Some(refusal) if all.is_only => tag_or(alloc, first.piece.trim(), refusal),
+            Some(_) => Ok(RangeSetOrTag::RangeSet(VersionRangeSet(all.ranges))),
         }
     }
 

@@ -3,7 +3,7 @@
 ghost use Rattle.std.specs.Prelude.{◌≡◌, ◌↔◌, IfErr, IfOk, IsTrue, None, Some};
 ghost use Rattle.std.specs.Bool.{OnFalse};
 ghost use Rattle.std.specs.Option.{option_copied};
-ghost use Rattle.semver_req.specs.PieceReading.{IsNormalRefusal};
+ghost use Rattle.semver_req.specs.PieceReading.{IsCutRefusal};
 ghost use Rattle.semver_req.specs.Readers.{IsReaderAnswer};
 ghost use Rattle.semver_req.specs.Requirement.{MatchNoVersion, OverlapAsTags, Requirement, inner_means, inner_overlap, set_of, tag_of};
 ghost use Rattle.semver_req.specs.declared.common.values.Flavour.TheVariants.{Normal};
@@ -106,7 +106,7 @@ impl VersionReq {
         text: &str,
     ) -> Result<VersionReq, VersionReqNormalizedParseError>
         ensures reads { IsReaderAnswer (λ e. e.source) Normal text.now result }
-        ensures refusal { IfErr result (λ e. IsNormalRefusal text.now e.source) }
+        ensures refusal { IfErr result (λ e. IsCutRefusal Normal text.now e.source) }
     {
         let inner = RangeSetOrTag::parse(alloc, text)?;
         let raw_text = SmallStackString::from_str(alloc, text)?;

@@ -8,9 +8,9 @@ ghost use Rattle.semver_req.specs.Tag.{is_valid_tag};
 
 use crate::common::comparator::{Written, unsigned_front};
 use crate::common::values::Flavour;
-use crate::npm::is_valid_npm_tag;
 use crate::range_set_or_tag::RangeSetOrTag;
 use crate::req::VersionReq;
+use crate::tag::is_valid_npm_tag;
 use semver_base::failure::{ParseFailure, Refusal};
 use semver_base::lexical::is_blank;
 use semver_base::lexical::values::Measured;

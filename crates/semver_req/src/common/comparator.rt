@@ -1,14 +1,16 @@
 //! Comparators: what stands before a partial version, and the range of both.
 
 ghost use Rattle.std.specs.Prelude.{◌≡◌, IfErr, IfOk, OnOk, true};
-ghost use Rattle.semver_base.specs.Grammar.{answer_of};
+ghost use Rattle.semver_base.specs.Grammar.{IsLongest, ReadsAs, answer_of};
 ghost use Rattle.semver_base.specs.PartialTable.{IsBoundRefusal, all_fit};
-ghost use Rattle.semver_req.specs.Comparators.{IsComparator, comparator_line, comparator_range};
-ghost use Rattle.semver_req.specs.Written.{IsMarkCut, IsUnsigned, ReadsComparator, comparator_of};
-ghost use Rattle.semver_req.specs.declared.common.values.Flavour.TheVariants.{Normal};
+ghost use Rattle.semver_req.specs.Comparators.{IsComparator, IsEquals, IsLed, comparator_line, comparator_range};
+ghost use Rattle.semver_req.specs.Partials.{sized_partial};
+ghost use Rattle.semver_req.specs.Written.{IsMarkCut, IsNpmFront, IsNpmMarkCut, IsUnsigned, ReadsComparator, comparator_of, with_mark};
+ghost use Rattle.semver_req.specs.declared.common.values.Flavour.TheVariants.{Normal, Npm};
 
+use crate::common::separators::after_some_blanks;
 use crate::common::values::{Flavour, PrimitiveKind};
-use crate::common::{partial_front, sign_front};
+use crate::common::{partial_front, plain_partial, sign_front};
 use semver_base::failure::ParseFailure;
 use semver_base::lexical::values::Measured;
 use semver_base::lexical::{after, after_blanks};
@@ -98,5 +100,95 @@ pub fn normal_front(alloc: Global, text: &str) -> Result<Option<(Written, &str)>
             Ok(Some((Written { mark, partial }, rest)))
         }
         None => Ok(None),
+    }
+}
+
+// What follows any number of `=`.
+fn after_equals(text: &str) -> &str
+    ensures { IsLongest IsEquals text.now tt result.now }
+{
+    let mut rest = text;
+    while let Some(next) = after(rest, '=') {
+        rest = next;
+    }
+    rest
+}
+
+// What npm's grammar has after a `~` or a `^`: any number of `=`, blanks, an optional `v`, blanks and a partial version.
+fn led_partial(alloc: Global, text: &str) -> Result<Option<(Measured<Partial>, &str)>, AllocError>
+    ensures { IfOk result (λ r. ReadsAs sized_partial IsLed text.now (answer_of r)) }
+{
+    let start = after_blanks(after_equals(text));
+    match after(start, 'v') {
+        Some(rest) => partial_front(alloc, after_blanks(rest), Flavour::Npm),
+        None => plain_partial(alloc, start, Flavour::Npm),
+    }
+}
+
+// npm's mark at the front, where `~>` is a `~`, and what follows it.
+fn split_npm_mark(text: &str) -> (Mark, &str)
+    ensures { IsNpmMarkCut text.now result.0 result.1.now }
+{
+    let (mark, rest) = split_mark(text);
+    match mark {
+        Mark::Tilde => (mark, after(rest, '>').unwrap_or(rest)),
+        _ => (mark, rest),
+    }
+}
+
+// The partial version that was read, with this mark.
+fn with_mark<'a>(
+    mark: Mark,
+    read: Option<(Measured<Partial>, &'a str)>,
+) -> Option<(Written, &'a str)>
+    ensures { answer_of result ≡ with_mark mark (answer_of read.entry) }
+{
+    let (partial, rest) = read?;
+    Some((Written { mark, partial }, rest))
+}
+
+// The npm comparator at the front, which has the mark `other` where it begins with neither `~` nor `^`.
+fn npm_by_mark(
+    alloc: Global,
+    text: &str,
+    other: Mark,
+) -> Result<Option<(Written, &str)>, AllocError>
+    ensures { IfOk result (λ r. IsNpmFront other text.now (answer_of r)) }
+{
+    let (mark, rest) = split_npm_mark(text);
+    match mark {
+        Mark::Tilde | Mark::Caret => Ok(with_mark(mark, led_partial(alloc, rest)?)),
+        Mark::Sign(_) | Mark::Absent => {
+            Ok(with_mark(other, partial_front(alloc, rest, Flavour::Npm)?))
+        }
+    }
+}
+
+/// The npm comparator at the front, and what follows it. It is an error only where no memory is left.
+pub fn npm_front(alloc: Global, text: &str) -> Result<Option<(Written, &str)>, AllocError>
+    ensures { IfOk result (λ r. ReadsComparator (IsComparator Npm) text.now (answer_of r)) }
+{
+    let Some((sign, rest)) = sign_front(text) else {
+        return npm_by_mark(alloc, text, Mark::Absent);
+    };
+    let mark = Mark::Sign(sign);
+    match after_some_blanks(rest) {
+        Some(start) => npm_by_mark(alloc, start, mark),
+        None => Ok(with_mark(mark, partial_front(alloc, rest, Flavour::Npm)?)),
+    }
+}
+
+/// The comparator of the grammar at the front, and what follows it. It is an error only where no memory is left.
+pub fn comparator_front(
+    alloc: Global,
+    text: &str,
+    flavour: Flavour,
+) -> Result<Option<(Written, &str)>, AllocError>
+    ensures { IfOk result (λ r. ReadsComparator (IsComparator flavour) text.now (answer_of r)) }
+{
+    match flavour {
+        Flavour::Npm => npm_front(alloc, text),
+        Flavour::Normal => normal_front(alloc, text),
+        Flavour::Specifier => unsigned_front(alloc, text, Flavour::Specifier),
     }
 }

@@ -3,7 +3,6 @@ use denote.Text.{Utf8}
 use denote.Shadow.{shadow}
 use Rattle.semver_req.specs.PieceSteps.{AreRead}
 use Rattle.semver_req.specs.Pieces.{AreMorePieces}
-use Rattle.semver_req.specs.declared.common.values.Flavour.TheVariants.{Normal}
 use Rattle.semver_req.proofs.range_set_or_tag.read_pieces.Given as goal
 
 abbrev pub invariant-loop-piece : goal.invariant-loop-piece
@@ -11,7 +10,7 @@ invariant-loop-piece l = record {
   is_text : shadow (Utf8 l.rest);
   others : List (List ℕ);
   joins : (more : List (List ℕ)) → AreMorePieces l.rest more → AreMorePieces l.first.rest.now (others ++ more);
-  read : AreRead Normal l.first.is_followed (l.first.piece.now ∷ others) l.all;
+  read : AreRead l.flavour l.first.is_followed (l.first.piece.now ∷ others) l.all;
 }
 
 abbrev pub decreases-loop-piece : goal.decreases-loop-piece

@@ -1,7 +1,7 @@
 use Rattle.std.proofs.Common.{[], ◌∷◌, ◌++◌, refl, rules}
 use Rattle.semver_base.proofs.Lists.{so_far_more, so_far_one}
 use Rattle.semver_req.specs.Written.{comparator_of}
-use Rattle.semver_req.proofs.PieceReadings.{normal_listing}
+use Rattle.semver_req.proofs.PieceReadings.{list_shorter, listing}
 use Rattle.semver_req.proofs.range_set_or_tag.RangeOrInvalid.comparators.Goals as goal
 
 pub loop-next-init : goal.loop-next-init
@@ -10,7 +10,7 @@ loop-next-init c =
     record {
       is_text = search rules;
       items = comparator_of c.in-Some.first.mark front.partial ∷ [];
-      so_far = so_far_one normal_listing front.longest;
+      so_far = so_far_one (listing c.args.flavour) front.longest;
       read = c.in_ok-read.ensures.value [] front.partial (rw c.all.ensures refl) front.seen;
     }
 
@@ -20,6 +20,11 @@ loop-next-preserved c =
     record {
       is_text = search rules;
       items = c.loop-next.invariant.items ++ comparator_of c.in-Some-2.written.mark front.partial ∷ [];
-      so_far = so_far_more normal_listing c.loop-next.invariant.so_far c.in-Some-after_some_blanks.ensures front.longest;
+      so_far = so_far_more (listing c.args.flavour) c.loop-next.invariant.so_far c.in-Some-after_separator.ensures front.longest;
       read = c.in_ok-read-2.ensures.value c.loop-next.invariant.items front.partial c.loop-next.invariant.read front.seen;
     }
+
+pub loop-next-smaller : goal.loop-next-smaller
+loop-next-smaller c =
+    let front = rw c.in-Some-2.is at c.in_ok-written.ensures in
+    list_shorter c.args.flavour c.in-Some-after_separator.ensures front.longest

@@ -1,18 +1,17 @@
 use Rattle.std.proofs.Common.{◌≡◌, List, length}
 use denote.Text.{Utf8}
 use denote.Shadow.{shadow}
-use Rattle.semver_base.specs.Lexical.{IsSomeBlanks}
 use Rattle.semver_base.proofs.Lists.{SoFar}
 use Rattle.semver_req.specs.Comparators.{Comparator, IsComparator}
 use Rattle.semver_req.specs.PieceReading.{joined}
-use Rattle.semver_req.specs.declared.common.values.Flavour.TheVariants.{Normal}
+use Rattle.semver_req.specs.Pieces.{IsSeparator}
 use Rattle.semver_req.proofs.range_set_or_tag.RangeOrInvalid.comparators.Given as goal
 
 abbrev pub invariant-loop-next : goal.invariant-loop-next
 invariant-loop-next l = record {
   is_text : shadow (Utf8 l.rest);
   items : List Comparator;
-  so_far : SoFar (IsComparator Normal) IsSomeBlanks l.text items l.rest;
+  so_far : SoFar (IsComparator l.flavour) (IsSeparator l.flavour) l.text items l.rest;
   read : l.read ≡ joined items;
 }
 

@@ -1,5 +1,5 @@
 use Rattle.std.proofs.Common.{None, inl, refl}
-use Rattle.semver_req.specs.PieceReading.{IsNormalRefusal, memory_wanting}
+use Rattle.semver_req.specs.PieceReading.{IsCutRefusal, memory_wanting}
 use Rattle.semver_req.specs.declared.common.values.Flavour.TheVariants.{Normal}
 use Rattle.semver_req.proofs.ReaderAnswers.{answers_err, answers_read, err_tells}
 use Rattle.semver_req.proofs.req.VersionReq.parse_from_normalized.Goals as goal
@@ -14,7 +14,7 @@ returns-in_err-raw_text-clause-reads c =
 
 pub returns-in_err-raw_text-clause-refusal : goal.returns-in_err-raw_text-clause-refusal
 returns-in_err-raw_text-clause-refusal c =
-    err_tells (λ e. e.source) c.from_residual-in_err-raw_text.result None (IsNormalRefusal c.args.text.now) c.from_residual-in_err-raw_text.ensures.1 memory_wanting
+    err_tells (λ e. e.source) c.from_residual-in_err-raw_text.result None (IsCutRefusal Normal c.args.text.now) c.from_residual-in_err-raw_text.ensures.1 memory_wanting
 
 pub returns-clause-reads : goal.returns-clause-reads
 returns-clause-reads c = rw c.from_raw_text_and_inner.ensures (answers_read Normal c.args.text.now (λ e. e.source) (record { raw_text = c.in_ok-raw_text.raw_text; inner = c.in_ok-inner.inner }) c.in_ok-inner.ensures.reading c.in_ok-raw_text.ensures)

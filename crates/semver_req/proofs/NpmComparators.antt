@@ -1,0 +1,226 @@
+-- npm's comparators at the front of a text: a sign that says nothing, a mark, and what leads the partial version.
+use Rattle.std.proofs.Common.{◌≡◌, ◌≤◌, ℕ, true, List, [], ◌∷◌, ◌++◌, length, get_or, Option, Some, None, refl, sym, ap, ◌∙◌, arith, length-append, ◌==◌}
+use Rattle.std.specs.Char.{is_not_whitespace}
+use Rattle.std.specs.Borrow.{Bor}
+use Rattle.std.specs.Prelude.{codes, unwrap_or}
+use Rattle.std.proofs.lemmas.Bool.{eq-eqb}
+use Rattle.std.proofs.lemmas.Bool.Decides.{nat_tests}
+use Rattle.std.proofs.lemmas.Str.{NoCharPasses-nil}
+use Rattle.semver_base.specs.Grammar.{After, Either, this, that, HasNone, IsAfter, IsLongest, Marked, ReadsAs}
+use Rattle.semver_base.specs.Lexical.{IsBlanks, IsSomeBlanks}
+use Rattle.semver_base.specs.declared.lexical.values.Measured.{Measured}
+use Rattle.semver_base.specs.declared.partial.Partial.{Partial}
+use Rattle.semver_base.proofs.Blanks.{is_blank_byte}
+use Rattle.semver_base.proofs.Bytes.{BeginsBy, Disjoint, GoesBy, apart_by, begins_from_made, goes_from_made, joined_begins, joined_some_text, mapped_begins, marked_begins}
+use Rattle.semver_base.proofs.Fronts.{Apart, either_longer, either_none, either_that, either_this, followed, followed_none_second, joined_none_first, mapped, mapped_none, marked_none, marked_other, marked_some, optional_none, optional_some}
+use Rattle.semver_req.specs.Comparators.{Comparator, Tilde, Caret, IsComparator, IsEquals, no_more, one_more, IsIgnored, IsLed, IsNpmCaret, IsNpmTilde, IsPlain, IsSign, IsSigned}
+use Rattle.semver_req.specs.Partials.{IsPartial, sized_partial}
+use Rattle.semver_req.specs.Written.{IsNpmFront, IsNpmMarkCut, IsTildes, ReadsByMark, ReadsComparator, ReadsMarked, comparator_of, with_mark}
+use Rattle.semver_req.specs.declared.common.comparator.Mark.{Mark}
+use Rattle.semver_req.specs.declared.common.comparator.Mark.TheVariants as mark
+use Rattle.semver_req.specs.declared.common.comparator.Written.{Written}
+use Rattle.semver_req.specs.declared.common.values.Flavour.TheVariants.{Npm}
+use Rattle.semver_req.specs.declared.common.values.PrimitiveKind.{PrimitiveKind}
+use Rattle.semver_req.proofs.ComparatorReadings.{ignored_word, is_word_byte, sign_some, some_blanks_made, tildes_some}
+use Rattle.semver_req.proofs.LedReadings.{is_ordered_byte, led_begins}
+use Rattle.semver_req.proofs.Marks.{after_caret, after_tilde, caret_no_sign, no_plain, signed_byte, tilde_no_sign}
+use Rattle.semver_req.proofs.Separators.{text_longest, text_none}
+use Rattle.semver_req.proofs.Signs.{blanks_apart, primitive_none, sign_apart, sign_goes}
+
+-- ---- any number of `=`
+
+equals_some : {text rest end : List ℕ} → text ≡ 61 ∷ rest → IsLongest IsEquals rest tt end → IsLongest IsEquals text tt end
+equals_some {text} {rest} {end} e p = record { front = 61 ∷ p.front; text_is = e ∙ ap (λ t. 61 ∷ t) p.text_is; stands = one_more p.stands; longest = λ a b w f h. (go a b w f h, λ _. refl) }
+  where
+    go : (a b : List ℕ) (w : Unit {0}) → text ≡ a ++ b → IsEquals a w → length a ≤ length (61 ∷ p.front)
+    go a b w f no_more = omega arith
+    go a b w f (one_more {rest = t} h) = let tail : rest ≡ t ++ b = cc (sym e ∙ f) in omega (arith, (p.longest t b tt tail h).0)
+
+pub equals_none : {text : List ℕ} → ((rest : List ℕ) → text ≡ 61 ∷ rest → ⊥) → IsLongest IsEquals text tt text
+equals_none {text} other = record { front = []; text_is = refl; stands = no_more; longest = λ a b w e h. (go a b w e h, λ _. refl) }
+  where
+    go : (a b : List ℕ) (w : Unit {0}) → text ≡ a ++ b → IsEquals a w → length a ≤ 0
+    go a b w e no_more = omega arith
+    go a b w e (one_more {rest = t} h) = absurd (other (t ++ b) e)
+
+-- what follows the `=` of what is left follows all of them
+abbrev pub EqualsSoFar : List ℕ → List ℕ → Type 0
+EqualsSoFar text rest = (end : List ℕ) → IsLongest IsEquals rest tt end → IsLongest IsEquals text tt end
+
+pub equals_so_far : {text rest next : List ℕ} → EqualsSoFar text rest → rest ≡ 61 ∷ next → EqualsSoFar text next
+equals_so_far so e = λ end p. so end (equals_some e p)
+
+-- ---- `~>` or `~`
+
+tilde_alone : {text rest : List ℕ} → text ≡ 126 ∷ rest → ((more : List ℕ) → rest ≡ 62 ∷ more → ⊥) → IsLongest IsTildes text tt rest
+tilde_alone {text} {rest} e other = either_that (text_none (codes "~>") text (λ r f. other r (cc (sym e ∙ f)))) (text_longest (codes "~") text rest e)
+
+tilde_greater : {text middle rest : List ℕ} → text ≡ 126 ∷ middle → middle ≡ 62 ∷ rest → IsLongest IsTildes text tt rest
+tilde_greater {text} {middle} {rest} e f = either_longer (text_longest (codes "~>") text rest (e ∙ ap (λ t. 126 ∷ t) f)) (text_longest (codes "~") text middle e) (omega (arith, ap length f))
+
+-- `~`, and then a `>` or none
+pub tilde_front : {text : List ℕ} (middle answer : Bor (List ℕ)) → text ≡ 126 ∷ middle.now → (r : Option (Bor (List ℕ))) → IsAfter 62 middle.now r → answer ≡ unwrap_or r middle → IsLongest IsTildes text tt answer.now
+tilde_front middle answer e None other is = rw is (tilde_alone e other)
+tilde_front middle answer e (Some more) f is = rw is (tilde_greater e f)
+
+tildes_none : {text : List ℕ} → ((rest : List ℕ) → text ≡ 126 ∷ rest → ⊥) → HasNone IsTildes text
+tildes_none {text} other = either_none (text_none (codes "~>") text (λ r e. other (62 ∷ r) e)) (text_none (codes "~") text (λ r e. other r e))
+
+tildes_begin : BeginsBy IsTildes (λ x. x == 126)
+tildes_begin = record { begins = λ x b. go x b.more b.value b.stands }
+  where
+    go : (x : ℕ) (more : List ℕ) (v : Unit {0}) → IsTildes (x ∷ more) v → (x == 126) ≡ true
+    go x more v (this h) = eq-eqb x 126 (cc h)
+    go x more v (that h) = eq-eqb x 126 (cc h)
+
+tildes_go : GoesBy IsTildes (λ x. x == 62)
+tildes_go = record { goes = λ x g. go x g.front g.more g.short_value g.long_value g.short g.long }
+  where
+    go : (x : ℕ) (a more : List ℕ) (v u : Unit {0}) → IsTildes a v → IsTildes (a ++ (x ∷ more)) u → (x == 62) ≡ true
+    go x a more v u (this h) (this k) = absurd (omega (arith, ap length k, ap length h, length-append a (x ∷ more)))
+    go x a more v u (this h) (that k) = absurd (omega (arith, ap length k, ap length h, length-append a (x ∷ more)))
+    go x a more v u (that h) (this k) = eq-eqb x 62 (ap (λ t. get_or t 1 0) (ap (λ t. t ++ (x ∷ more)) (sym h) ∙ k))
+    go x a more v u (that h) (that k) = absurd (omega (arith, ap length k, ap length h, length-append a (x ∷ more)))
+
+-- the text begins with a `~`
+tildes_byte : {text rest : List ℕ} → IsLongest IsTildes text tt rest → (more : List ℕ) × (text ≡ 126 ∷ more)
+tildes_byte {text} {rest} p = go p.stands
+  where
+    go : IsTildes p.front tt → (more : List ℕ) × (text ≡ 126 ∷ more)
+    go (this h) = (62 ∷ rest, p.text_is ∙ ap (λ t. t ++ rest) h)
+    go (that h) = (rest, p.text_is ∙ ap (λ t. t ++ rest) h)
+
+-- ---- a sign that says nothing, and a mark
+
+equal_no_blank : Disjoint (λ x. x == 61) is_blank_byte
+equal_no_blank x h k = grind (arith, nat_tests)
+
+sign_blanks : Apart IsSign IsSomeBlanks
+sign_blanks = apart_by (λ x. x == 61) is_blank_byte equal_no_blank sign_goes (begins_from_made some_blanks_made)
+
+greater_no_led : Disjoint (λ x. x == 62) is_ordered_byte
+greater_no_led x h k = grind (arith, nat_tests)
+
+tildes_led : Apart IsTildes IsLed
+tildes_led = apart_by (λ x. x == 62) is_ordered_byte greater_no_led tildes_go led_begins
+
+word_no_tilde : Disjoint is_word_byte (λ x. x == 126)
+word_no_tilde x h k = grind (arith, nat_tests)
+
+word_no_caret : Disjoint is_word_byte (λ x. x == 94)
+word_no_caret x h k = grind (arith, nat_tests)
+
+ignored_tildes : Apart IsIgnored (After IsTildes IsLed)
+ignored_tildes = apart_by is_word_byte (λ x. x == 126) word_no_tilde (goes_from_made ignored_word) (mapped_begins (joined_begins tildes_some tildes_begin))
+
+ignored_caret : Apart IsIgnored (Marked 94 IsLed)
+ignored_caret = apart_by is_word_byte (λ x. x == 94) word_no_caret (goes_from_made ignored_word) (marked_begins 94)
+
+module _ {text start : List ℕ} {o : Option (PrimitiveKind × Unit {0})} (i : IsLongest IsIgnored text o start) where
+  tilde_some : {middle rest : List ℕ} {p : Partial} → IsLongest IsTildes start tt middle → IsLongest IsLed middle p rest → IsLongest IsNpmTilde text (Tilde p) rest
+  tilde_some t l = mapped (mapped (followed ignored_tildes i (mapped (followed tildes_led t l))))
+
+  tilde_unled : {middle : List ℕ} → IsLongest IsTildes start tt middle → HasNone IsLed middle → HasNone IsNpmTilde text
+  tilde_unled t n = mapped_none (mapped_none (followed_none_second ignored_tildes i (mapped_none (followed_none_second tildes_led t n))))
+
+  tilde_none : ((rest : List ℕ) → start ≡ 126 ∷ rest → ⊥) → HasNone IsNpmTilde text
+  tilde_none other = mapped_none (mapped_none (followed_none_second ignored_tildes i (mapped_none (joined_none_first (tildes_none other)))))
+
+  caret_some : {middle rest : List ℕ} {p : Partial} → start ≡ 94 ∷ middle → IsLongest IsLed middle p rest → IsLongest IsNpmCaret text (Caret p) rest
+  caret_some e l = mapped (mapped (followed ignored_caret i (marked_some e l)))
+
+  caret_unled : {middle : List ℕ} → start ≡ 94 ∷ middle → HasNone IsLed middle → HasNone IsNpmCaret text
+  caret_unled e n = mapped_none (mapped_none (followed_none_second ignored_caret i (marked_none e n)))
+
+  caret_none : ((rest : List ℕ) → start ≡ 94 ∷ rest → ⊥) → HasNone IsNpmCaret text
+  caret_none other = mapped_none (mapped_none (followed_none_second ignored_caret i (marked_other other)))
+
+tilde_no_caret : {text rest : List ℕ} → text ≡ 126 ∷ rest → (more : List ℕ) → text ≡ 94 ∷ more → ⊥
+tilde_no_caret e more f = omega (arith, ap (λ t. get_or t 0 0) (sym e ∙ f))
+
+-- ---- the comparator, by its mark
+
+-- the comparators that have a mark, and those that have none
+abbrev IsNpmMarked : List ℕ → Comparator → Type 0
+IsNpmMarked = Either IsNpmTilde IsNpmCaret
+
+abbrev IsNpmOther : List ℕ → Comparator → Type 0
+IsNpmOther = Either (IsSigned Npm) (IsPlain Npm)
+
+-- where no mark follows, the partial version after the mark m is read
+record ReadsOther (m : Mark) (text start : List ℕ) : Type 0 where
+  none : HasNone (IsPartial Npm) start → HasNone IsNpmOther text
+  some : {p : Partial} {rest : List ℕ} → IsLongest (IsPartial Npm) start p rest → IsLongest IsNpmOther text (comparator_of m p) rest
+
+other_front : {m : Mark} {text start : List ℕ} → ReadsOther m text start → HasNone IsNpmMarked text → (r : Option (Written × List ℕ)) → ReadsMarked m (IsPartial Npm) start r → ReadsComparator (IsComparator Npm) text r
+other_front o n None h = either_none n (o.none h)
+other_front {m} o n (Some p) h = record { partial = h.1.value; longest = rw h.0 (either_that n (o.some h.1.longest)); seen = h.1.seen }
+
+module _ {text start : List ℕ} {o : Option (PrimitiveKind × Unit {0})} {other : Mark} (i : IsLongest IsIgnored text o start) (others : ReadsOther other text start) where
+  by_mark : (m : Mark) (rest : List ℕ) (r : Option (Written × List ℕ)) → IsNpmMarkCut start m rest → ReadsByMark m other rest r → ReadsComparator (IsComparator Npm) text r
+  by_mark mark.Tilde rest None t h =
+      let byte = tildes_byte t in
+      either_none (either_none (tilde_unled i t h) (caret_none i (tilde_no_caret byte.1))) (others.none (after_tilde Npm byte.1))
+  by_mark mark.Tilde rest (Some p) t h =
+      let byte = tildes_byte t in
+      record { partial = h.1.value; longest = rw h.0 (either_this (either_this (tilde_some i t h.1.longest) (caret_none i (tilde_no_caret byte.1))) (others.none (after_tilde Npm byte.1))); seen = h.1.seen }
+  by_mark mark.Caret rest None e h = either_none (either_none (tilde_none i (λ more f. tilde_no_caret f rest e)) (caret_unled i e h)) (others.none (after_caret Npm e))
+  by_mark mark.Caret rest (Some p) e h =
+      record { partial = h.1.value; longest = rw h.0 (either_this (either_that (tilde_none i (λ more f. tilde_no_caret f rest e)) (caret_some i e h.1.longest)) (others.none (after_caret Npm e))); seen = h.1.seen }
+  by_mark (mark.Sign sign) rest r t h = absurd t
+  by_mark mark.Absent rest r t h = other_front others (either_none (tilde_none i t.1) (caret_none i t.2)) r (rw t.0 at h)
+
+  npm_front : {r : Option (Written × List ℕ)} → IsNpmFront other start r → ReadsComparator (IsComparator Npm) text r
+  npm_front {r} h = by_mark h.mark h.rest r h.cut h.reads
+
+-- ---- a partial version that was read, with a mark
+
+pub marked_read : (m : Mark) (B : List ℕ → Partial → Type 0) (text : List ℕ) (r : Option (Measured Partial × List ℕ)) → ReadsAs sized_partial B text r → ReadsMarked m B text (with_mark m r)
+marked_read m B text None h = h
+marked_read m B text (Some p) h = (refl, h)
+
+-- ---- no sign
+
+pub unsigned_npm : {text : List ℕ} (r : Option (Written × List ℕ)) → HasNone IsSign text → IsNpmFront mark.Absent text r → ReadsComparator (IsComparator Npm) text r
+unsigned_npm {text} r n h = npm_front (optional_none (joined_none_first n)) others h
+  where
+    others : ReadsOther mark.Absent text text
+    others = record {
+      none = λ p. either_none (mapped_none (joined_none_first n)) (mapped_none p);
+      some = λ p. either_that (mapped_none (joined_none_first n)) (mapped p);
+    }
+
+-- ---- a sign, with blanks after it or without
+
+blanks_of_some : {text rest : List ℕ} → IsLongest IsSomeBlanks text tt rest → IsLongest IsBlanks text tt rest
+blanks_of_some {text} p = record { front = p.front; text_is = p.text_is; stands = p.stands.1; longest = λ a b w e h. (go a b e h, λ _. refl) }
+  where
+    go : (a b : List ℕ) → text ≡ a ++ b → IsBlanks a tt → length a ≤ length p.front
+    go [] b e h = omega arith
+    go (x ∷ a) b e h = (p.longest (x ∷ a) b tt e (omega arith, h)).0
+
+blanks_of_none : {text : List ℕ} → HasNone IsSomeBlanks text → IsLongest IsBlanks text tt text
+blanks_of_none {text} n = record { front = []; text_is = refl; stands = NoCharPasses-nil is_not_whitespace; longest = λ a b w e h. (go a b e h, λ _. refl) }
+  where
+    go : (a b : List ℕ) → text ≡ a ++ b → IsBlanks a tt → length a ≤ 0
+    go [] b e h = omega arith
+    go (x ∷ a) b e h = absurd (n.none (x ∷ a) b tt e (omega arith, h))
+
+module _ {text middle : List ℕ} {sign : PrimitiveKind} (s : IsLongest IsSign text sign middle) where
+  signed_others : {start : List ℕ} → IsLongest IsBlanks middle tt start → ReadsOther (mark.Sign sign) text start
+  signed_others b = record {
+    none = λ p. either_none (mapped_none (primitive_none Npm s b p)) (no_plain s Npm);
+    some = λ p. either_this (mapped (followed (sign_apart Npm) s (mapped (followed (blanks_apart Npm) b p)))) (no_plain s Npm);
+  }
+
+  pub spaced_npm : {start : List ℕ} (r : Option (Written × List ℕ)) → IsLongest IsSomeBlanks middle tt start → IsNpmFront (mark.Sign sign) start r → ReadsComparator (IsComparator Npm) text r
+  spaced_npm r b h = npm_front (optional_some (joined_some_text sign_some) (followed sign_blanks s b)) (signed_others (blanks_of_some b)) h
+
+  pub unspaced_npm : (r : Option (Written × List ℕ)) → HasNone IsSomeBlanks middle → ReadsMarked (mark.Sign sign) (IsPartial Npm) middle r → ReadsComparator (IsComparator Npm) text r
+  unspaced_npm r n h = other_front (signed_others (blanks_of_none n)) unmarked r h
+    where
+      ignored : IsLongest IsIgnored text None text
+      ignored = optional_none (followed_none_second sign_blanks s n)
+
+      unmarked : HasNone IsNpmMarked text
+      unmarked = either_none (tilde_none ignored (λ r e. tilde_no_sign 126 refl (signed_byte s 126 r e))) (caret_none ignored (λ r e. caret_no_sign 94 refl (signed_byte s 94 r e)))

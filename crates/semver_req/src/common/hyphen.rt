@@ -1,0 +1,64 @@
+//! npm's hyphen ranges.
+
+ghost use Rattle.std.specs.Prelude.{IfOk};
+ghost use Rattle.semver_base.specs.Grammar.{ReadsAs, answer_of};
+ghost use Rattle.semver_req.specs.Partials.{sized_partial};
+ghost use Rattle.semver_req.specs.Pieces.{IsHyphenPair, IsHyphened, IsUpper};
+ghost use Rattle.semver_req.specs.PieceSteps.{sized_hyphen};
+
+use crate::common::partial_front;
+use crate::common::separators::after_some_blanks;
+use crate::common::values::Flavour;
+use semver_base::lexical::values::Measured;
+use semver_base::lexical::{after, after_blanks};
+use semver_base::partial::Partial;
+use std::alloc::{AllocError, Global};
+
+/// A hyphen range as it is written.
+#[derive(Drop)]
+pub struct HyphenRange {
+    /// The partial version before the `-`; `Measured::TooLarge` where a number in it is past 18446744073709551615.
+    pub lower: Measured<Partial>,
+    /// The one after it.
+    pub upper: Measured<Partial>,
+}
+
+// A partial version, and the blanks after it.
+fn upper(alloc: Global, text: &str) -> Result<Option<(Measured<Partial>, &str)>, AllocError>
+    ensures { IfOk result (λ r. ReadsAs sized_partial IsUpper text.now (answer_of r)) }
+{
+    match partial_front(alloc, text, Flavour::Npm)? {
+        Some((partial, rest)) => Ok(Some((partial, after_blanks(rest)))),
+        None => Ok(None),
+    }
+}
+
+// A `-` with blanks on both sides, and the partial version after it.
+fn hyphened(alloc: Global, text: &str) -> Result<Option<(Measured<Partial>, &str)>, AllocError>
+    ensures { IfOk result (λ r. ReadsAs sized_partial IsHyphened text.now (answer_of r)) }
+{
+    let Some(rest) = after_some_blanks(text) else {
+        return Ok(None);
+    };
+    let Some(rest) = after(rest, '-') else {
+        return Ok(None);
+    };
+    let Some(rest) = after_some_blanks(rest) else {
+        return Ok(None);
+    };
+    upper(alloc, rest)
+}
+
+/// The hyphen range at the front of the text, two partial versions round a `-` with blanks on both sides, and what
+/// follows it and its blanks (node-semver, "Hyphen Ranges"). It is an error only where no memory is left.
+pub fn hyphen_front(alloc: Global, text: &str) -> Result<Option<(HyphenRange, &str)>, AllocError>
+    ensures { IfOk result (λ r. ReadsAs sized_hyphen IsHyphenPair text.now (answer_of r)) }
+{
+    let Some((lower, rest)) = partial_front(alloc, text, Flavour::Npm)? else {
+        return Ok(None);
+    };
+    match hyphened(alloc, rest)? {
+        Some((upper, rest)) => Ok(Some((HyphenRange { lower, upper }, rest))),
+        None => Ok(None),
+    }
+}

@@ -1,0 +1,64 @@
+//! What stands between comparators, and the words of which that is made.
+
+ghost use Rattle.std.specs.Prelude.{◌<◌, ◌∷◌, []};
+ghost use Rattle.semver_base.specs.Grammar.{IsText, Reads, rest_answer};
+ghost use Rattle.semver_base.specs.Lexical.{IsSomeBlanks};
+ghost use Rattle.semver_req.specs.Pieces.{IsMark, IsNpmSeparator, IsSeparator};
+
+use crate::common::values::Flavour;
+use semver_base::lexical::{after, after_blanks};
+
+/// What follows one or more blanks at the front.
+pub fn after_some_blanks(text: &str) -> Option<&str>
+    ensures { Reads IsSomeBlanks text.now (rest_answer result) }
+{
+    let rest = after_blanks(text);
+    if rest.len() == text.len() {
+        return None;
+    }
+    Some(rest)
+}
+
+/// What follows the ASCII character `mark`, twice, at the front.
+pub fn after_twice(text: &str, mark: char) -> Option<&str>
+    requires { mark < 128 }
+    ensures { Reads (IsText (mark ∷ mark ∷ [])) text.now (rest_answer result) }
+{
+    let rest = after(text, mark)?;
+    after(rest, mark)
+}
+
+// What follows a `&&` or a `,`.
+fn after_mark(text: &str) -> Option<&str>
+    ensures { Reads IsMark text.now (rest_answer result) }
+{
+    if let Some(rest) = after(text, ',') {
+        return Some(rest);
+    }
+    after_twice(text, '&')
+}
+
+// What follows a separator of npm's comparators: `&&` or `,` with blanks round it or none, or one or more blanks.
+fn after_npm_separator(text: &str) -> Option<&str>
+    ensures { Reads IsNpmSeparator text.now (rest_answer result) }
+{
+    let rest = after_blanks(text);
+    if let Some(more) = after_mark(rest) {
+        return Some(after_blanks(more));
+    }
+    if rest.len() == text.len() {
+        return None;
+    }
+    Some(rest)
+}
+
+/// What follows a separator of the grammar's comparators at the front.
+pub fn after_separator(text: &str, flavour: Flavour) -> Option<&str>
+    ensures { Reads (IsSeparator flavour) text.now (rest_answer result) }
+{
+    match flavour {
+        Flavour::Npm => after_npm_separator(text),
+        Flavour::Normal => after_some_blanks(text),
+        Flavour::Specifier => None,
+    }
+}
