@@ -239,3 +239,15 @@ rest_is {V} {W} {A} {B} {text} {middle} {v} apart some p a b u w e h k = elim (f
     begins (y ∷ b) more x two k long =
         let same_byte : y ≡ x = cc in
         apart.apart x (record { front = a; more = more; short_value = u; long_value = v; short = h; long = long }) (record { more = b; value = w; stands = rw same_byte at k })
+
+-- both have a front, and the first has the longer one
+pub either_longer : {V : Type 0} {A B : List ℕ → V → Type 0} {text rest more : List ℕ} {v w : V} → IsLongest A text v rest → IsLongest B text w more → length rest < length more → IsLongest (Either A B) text v rest
+either_longer {V} {A} {B} {text} {rest} {more} {v} p q less = record { front = p.front; text_is = p.text_is; stands = this p.stands; longest = go }
+  where
+    go : (a b : List ℕ) (w : V) → text ≡ a ++ b → Either A B a w → (length a ≤ length p.front) × (length a ≡ length p.front → w ≡ v)
+    go a b w e (this h) = p.longest a b w e h
+    go a b w e (that h) =
+        let best = (q.longest a b w e h).0 in
+        let one = ap length p.text_is ∙ length-append p.front rest in
+        let two = ap length q.text_is ∙ length-append q.front more in
+        (omega (arith, best, one, two, less), λ s. absurd (omega (arith, best, one, two, less, s)))

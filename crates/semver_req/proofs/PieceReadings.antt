@@ -26,23 +26,8 @@ use Rattle.semver_req.proofs.Signs.{any_begins, is_partial_byte}
 plain_no_blank : Disjoint is_plain_byte is_blank_byte
 plain_no_blank x h k = grind (arith, nat_tests)
 
-blank_no_start : Disjoint is_blank_byte is_start_byte
-blank_no_start x h k = grind (arith, nat_tests)
-
 blanks_some : NonEmpty IsSomeBlanks
 blanks_some = record { some = λ v h. let some : 0 < 0 = h.0 in omega arith }
-
-pub normal_listing : IsListing (IsComparator Normal) IsSomeBlanks is_start_byte is_plain_byte is_blank_byte is_blank_byte
-normal_listing = record {
-  item_some = comparator_some Normal;
-  separator_some = blanks_some;
-  item_begins = comparator_begins Normal;
-  item_goes = comparator_goes Normal;
-  separator_begins = begins_from_made some_blanks_made;
-  separator_goes = goes_from_made some_blanks_made;
-  after_item = plain_no_blank;
-  after_separator = blank_no_start;
-}
 
 abbrev pub is_separator_byte : ℕ → Bool
 is_separator_byte x = is_blank_byte x || ((x == 38) || (x == 44))
@@ -82,38 +67,25 @@ plain_no_separator x h k = grind (arith, nat_tests)
 separator_no_start : Disjoint is_separator_byte is_start_byte
 separator_no_start x h k = grind (arith, nat_tests)
 
-pub npm_listing : IsListing (IsComparator Npm) IsNpmSeparator is_start_byte is_plain_byte is_separator_byte is_separator_byte
-npm_listing = record {
-  item_some = comparator_some Npm;
-  separator_some = separator_some;
-  item_begins = comparator_begins Npm;
-  item_goes = comparator_goes Npm;
-  separator_begins = begins_from_made separator_made;
-  separator_goes = goes_from_made separator_made;
-  after_item = plain_no_separator;
-  after_separator = separator_no_start;
-}
+separators_made : (f : Flavour) → MadeOf (IsSeparator f) is_separator_byte
+separators_made Npm = separator_made
+separators_made Normal = made_wider is_blank_byte is_separator_byte blank_separator some_blanks_made
+separators_made Specifier = record { made = λ text v h. absurd h }
+
+separators_some : (f : Flavour) → NonEmpty (IsSeparator f)
+separators_some Npm = separator_some
+separators_some Normal = blanks_some
+separators_some Specifier = record { some = λ v h. h }
 
 -- the lists of each grammar
 pub listing : (f : Flavour) → IsListing (IsComparator f) (IsSeparator f) is_start_byte is_plain_byte is_separator_byte is_separator_byte
-listing Npm = npm_listing
-listing Normal = record {
-  item_some = comparator_some Normal;
-  separator_some = blanks_some;
-  item_begins = comparator_begins Normal;
-  item_goes = comparator_goes Normal;
-  separator_begins = begins_from_made (made_wider is_blank_byte is_separator_byte blank_separator some_blanks_made);
-  separator_goes = goes_from_made (made_wider is_blank_byte is_separator_byte blank_separator some_blanks_made);
-  after_item = plain_no_separator;
-  after_separator = separator_no_start;
-}
-listing Specifier = record {
-  item_some = comparator_some Specifier;
-  separator_some = record { some = λ v h. h };
-  item_begins = comparator_begins Specifier;
-  item_goes = comparator_goes Specifier;
-  separator_begins = record { begins = λ x b. absurd b.stands };
-  separator_goes = record { goes = λ x g. absurd g.short };
+listing f = record {
+  item_some = comparator_some f;
+  separator_some = separators_some f;
+  item_begins = comparator_begins f;
+  item_goes = comparator_goes f;
+  separator_begins = begins_from_made (separators_made f);
+  separator_goes = goes_from_made (separators_made f);
   after_item = plain_no_separator;
   after_separator = separator_no_start;
 }
@@ -270,8 +242,8 @@ list_shorter f {rest} {next} {more} p q =
 -- ---- pieces
 
 pub filled_one : (f : Flavour) → Unambiguous (IsFilled f)
-filled_one Npm = either_one no_both hyphen_one (listed_one npm_listing (comparator_one Npm))
-filled_one Normal = listed_one normal_listing (comparator_one Normal)
+filled_one Npm = either_one no_both hyphen_one (listed_one (listing Npm) (comparator_one Npm))
+filled_one Normal = listed_one (listing Normal) (comparator_one Normal)
 filled_one Specifier = record { one = λ text v w h k. absurd h }
 
 partial_starts : (x : ℕ) → is_partial_byte x ≡ true → is_start_byte x ≡ true

@@ -1,5 +1,5 @@
 -- What is read of a piece, and of the pieces of a text.
-use Rattle.std.proofs.Common.{◌≡◌, ◌≤◌, ◌<◌, ◌==◌, ℕ, suc, Bool, true, false, List, [], ◌∷◌, ◌++◌, length, map, not, Option, Some, None, refl, sym, subst, ap, ap₂, ◌∙◌, inl, inr, arith, append-nil, length-append}
+use Rattle.std.proofs.Common.{◌≡◌, ◌≤◌, ◌<◌, ◌==◌, ℕ, Bool, true, false, List, [], ◌∷◌, ◌++◌, length, map, not, Option, Some, None, refl, sym, subst, ap, ap₂, ◌∙◌, inl, inr, arith, append-nil, length-append}
 use Rattle.std.proofs.lemmas.Bool.Decides.{nat_tests}
 use Rattle.std.proofs.lemmas.List.{map-append, nil_from_length}
 use Rattle.std.specs.List.{filter, list_all}
@@ -251,9 +251,6 @@ kept_more f cutting tree cs =
     kept_without f cutting (tree ++ cs ∷ [])
     ∙ kept_added tree cs
     ∙ ap (λ (rest : List VersionRange). rest ++ option_to_list (kept_of (read.Range (kept_range cs)))) (sym (kept_without f cutting tree))
-
-one_longer : {A : Type 0} (xs : List A) (x : A) → length (xs ++ x ∷ []) ≡ suc (length xs)
-one_longer xs x = omega (arith, length-append xs (x ∷ []))
 
 module _ (f : Flavour) (b : Bool) (p : List ℕ) (ps : List (List ℕ)) (piece : List ℕ) (tree : List (List Comparator)) where
   told_good : (o : Option Refusal) → IsTold f b (p ∷ ps) tree o → (cs : List Comparator) → IsTold f b ((p ∷ ps) ++ piece ∷ []) (tree ++ cs ∷ []) o

@@ -1,14 +1,15 @@
 -- What stands between comparators, at the front of a text.
-use Rattle.std.proofs.Common.{◌≡◌, ◌≤◌, ◌<◌, ℕ, Bool, true, List, [], ◌∷◌, ◌++◌, length, get_or, Option, Some, None, refl, sym, ap, ◌∙◌, arith, length-append, inl, inr, ◌==◌}
-use Rattle.std.specs.Prelude.{◌||◌, codes}
+use Rattle.std.proofs.Common.{◌≡◌, ◌≤◌, ◌<◌, ℕ, Bool, true, false, List, [], ◌∷◌, ◌++◌, length, get_or, Option, Some, None, refl, sym, ap, ◌∙◌, arith, length-append, inl, inr, ◌==◌}
+use Rattle.std.specs.Prelude.{◌||◌, codes, nat_le}
+use Rattle.std.specs.Char.{is_whitespace}
 use Rattle.std.proofs.lemmas.Bool.{cases_lt, eq-eqb, or_left, or_right}
 use Rattle.std.proofs.lemmas.Bool.Decides.{nat_tests}
 use Rattle.semver_base.specs.Grammar.{After, this, that, HasNone, IsLongest, IsText, Reads}
 use Rattle.semver_base.specs.Lexical.{IsBlanks}
 use Rattle.semver_base.proofs.Blanks.{blanks_made, is_blank_byte, no_blanks, some_blanks}
 use Rattle.semver_base.proofs.Bytes.{BeginsBy, Disjoint, apart_by, goes_from_made, joined_begins, mapped_begins}
-use Rattle.semver_base.proofs.Fronts.{Apart, either_longer, either_none, either_that, either_this, followed, followed_none_second, joined_none_first, mapped, mapped_none}
-use Rattle.semver_req.specs.Pieces.{IsMark, IsNpmSeparator}
+use Rattle.semver_base.proofs.Fronts.{Apart, NonEmpty, either_longer, either_none, either_that, either_this, followed, followed_none_second, joined_none_first, mapped, mapped_none}
+use Rattle.semver_req.specs.Pieces.{IsMark, IsNpmSeparator, IsOperator}
 use Rattle.semver_req.proofs.PieceReadings.{mark_some}
 
 -- ---- a word
@@ -83,3 +84,33 @@ module _ {text rest : List ℕ} (p : IsLongest IsBlanks text tt rest) (n : HasNo
 
   pub separator_none : length text ≤ length rest → HasNone IsNpmSeparator text
   separator_none no_blank = either_none no_mark (no_blanks text rest p no_blank)
+
+-- ---- a byte twice, and the blanks round it
+
+module _ (m : ℕ) where
+  word_begins : BeginsBy (IsText (m ∷ m ∷ [])) (λ x. x == m)
+  word_begins = record { begins = λ x b. eq-eqb x m (cc b.stands) }
+
+  word_some : NonEmpty (IsText (m ∷ m ∷ []))
+  word_some = record { some = λ v h. cc h }
+
+  -- the word goes on with nothing
+  word_apart : Apart (IsText (m ∷ m ∷ [])) IsBlanks
+  word_apart = record { apart = λ x g b. omega (arith, ap length g.short, ap length g.long, length-append g.front (x ∷ g.more)) }
+
+  module _ (ascii : m < 128) (other : is_whitespace m ≡ false) where
+    blank_no_word : Disjoint is_blank_byte (λ x. x == m)
+    blank_no_word x h k = let same : x ≡ m = grind (arith, nat_tests) in let blank : is_blank_byte m ≡ true = rw (← same) h in no_blank (rw other at blank)
+      where
+        no_blank : nat_le 128 m ≡ true → ⊥
+        no_blank e = grind (arith, nat_tests)
+
+    blanks_word : Apart IsBlanks (After (IsText (m ∷ m ∷ [])) IsBlanks)
+    blanks_word = apart_by is_blank_byte (λ x. x == m) blank_no_word (goes_from_made blanks_made) (mapped_begins (joined_begins word_some word_begins))
+
+    module _ {text start : List ℕ} (b : IsLongest IsBlanks text tt start) where
+      pub operator_read : {rest end : List ℕ} → IsLongest (IsText (m ∷ m ∷ [])) start tt rest → IsLongest IsBlanks rest tt end → IsLongest (IsOperator m) text tt end
+      operator_read w c = mapped (followed blanks_word b (mapped (followed word_apart w c)))
+
+      pub operator_none : HasNone (IsText (m ∷ m ∷ [])) start → HasNone (IsOperator m) text
+      operator_none n = mapped_none (followed_none_second blanks_word b (mapped_none (joined_none_first n)))

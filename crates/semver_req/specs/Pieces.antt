@@ -1,6 +1,6 @@
 -- The pieces of a requirement: how a text is cut at `||`, and which comparators a piece stands for. Source:
 -- node-semver's range grammar (`range-set`, `logical-or`, `range`), with the separators `&&` and `,` that npm accepts.
-use Rattle.std.specs.Prelude.{◌≡◌, ◌<◌, ◌≤◌, ℕ, List, [], ◌∷◌, ◌++◌, length, Bool, true, false, codes}
+use Rattle.std.specs.Prelude.{◌≡◌, ◌<◌, ◌≤◌, ℕ, List, [], ◌∷◌, ◌++◌, length, drop, Bool, true, false, Option, Some, None, codes}
 use Rattle.semver_base.specs.Grammar.{After, Before, Either, Followed, IsLongest, IsText, Listed, Mapped, Marked}
 use Rattle.semver_base.specs.Lexical.{IsBlanks, IsSomeBlanks}
 use Rattle.semver_base.specs.declared.partial.Partial.{Partial}
@@ -56,6 +56,17 @@ IsFilled Specifier = λ text comparators. ⊥
 abbrev pub IsPiece : Flavour → List ℕ → List Comparator → Type 0
 IsPiece f text [] = text ≡ []
 IsPiece f text (c ∷ cs) = IsFilled f text (c ∷ cs)
+
+-- ---- operators
+
+-- the byte m twice, with blanks on both sides or none
+abbrev pub IsOperator : ℕ → List ℕ → Unit {0} → Type 0
+IsOperator m = After IsBlanks (After (IsText (m ∷ m ∷ [])) IsBlanks)
+
+-- the answer of a reader over a text and a place, as one over what follows the place
+abbrev pub place_answer : List ℕ → Option ℕ → Option (Unit {0} × List ℕ)
+place_answer text None = None
+place_answer text (Some place) = Some (tt, drop place text)
 
 -- ---- how a text is cut
 

@@ -10,6 +10,7 @@ ghost use Rattle.semver_base.specs.Grammar.{IsAfterOne, IsSeen, Optional, Reads,
 ghost use Rattle.semver_base.specs.Lexical.{IsQualifier};
 ghost use Rattle.semver_req.specs.Comparators.{IsMaybeEqual, IsPrimitive, IsSign, primitive_of, sized_primitive};
 ghost use Rattle.semver_req.specs.Partials.{IsComponent, IsLongestAt, IsPartial, IsPlainPartial, IsSecond, IsThird, ReadsAt, answer_at, assembled, component_of, is_wildcard, second_or_none, sized_component, sized_partial, sized_second, sized_third, strictness_of, third_or_none};
+ghost use Rattle.semver_req.specs.Pieces.{IsOperator, place_answer};
 
 pub mod comparator;
 pub mod hyphen;
@@ -20,6 +21,7 @@ use semver_base::lexical;
 use semver_base::lexical::values::{Measured, Qualifier};
 use semver_base::lexical::{after, after_blanks};
 use semver_base::partial::{Partial, XRange};
+use separators::after_operator;
 use std::alloc::{AllocError, Global};
 use values::{Flavour, Primitive, PrimitiveKind};
 
@@ -347,4 +349,25 @@ pub fn primitive(
         Some((value, rest)) => Ok(Some((value, text.len() - rest.len()))),
         None => Ok(None),
     }
+}
+
+/// The `||` at the place in the text with the blanks round it, and the place that they reach (node-semver's range
+/// grammar, `logical-or`).
+pub fn logical_or(text: &str, place: usize) -> Option<usize>
+    requires { IsCharBoundary text.now place }
+    ensures value { Reads (IsOperator 124) (drop place text.now) (place_answer text.now result) }
+    ensures reached { IfSome result (IsCharBoundary text.now) }
+{
+    let rest = after_operator(&text[place..], '|')?;
+    Some(text.len() - rest.len())
+}
+
+/// The `&&` at the place in the text with the blanks round it, and the place that they reach.
+pub fn logical_and(text: &str, place: usize) -> Option<usize>
+    requires { IsCharBoundary text.now place }
+    ensures value { Reads (IsOperator 38) (drop place text.now) (place_answer text.now result) }
+    ensures reached { IfSome result (IsCharBoundary text.now) }
+{
+    let rest = after_operator(&text[place..], '&')?;
+    Some(text.len() - rest.len())
 }

@@ -1,9 +1,10 @@
 //! What stands between comparators, and the words of which that is made.
 
-ghost use Rattle.std.specs.Prelude.{◌<◌, ◌∷◌, []};
+ghost use Rattle.std.specs.Prelude.{◌≡◌, ◌<◌, ◌∷◌, [], false};
+ghost use Rattle.std.specs.Char.{is_whitespace};
 ghost use Rattle.semver_base.specs.Grammar.{IsText, Reads, rest_answer};
 ghost use Rattle.semver_base.specs.Lexical.{IsSomeBlanks};
-ghost use Rattle.semver_req.specs.Pieces.{IsMark, IsNpmSeparator, IsSeparator};
+ghost use Rattle.semver_req.specs.Pieces.{IsMark, IsNpmSeparator, IsOperator, IsSeparator};
 
 use crate::common::values::Flavour;
 use semver_base::lexical::{after, after_blanks};
@@ -26,6 +27,18 @@ pub fn after_twice(text: &str, mark: char) -> Option<&str>
 {
     let rest = after(text, mark)?;
     after(rest, mark)
+}
+
+/// What follows the ASCII character `mark`, twice, with the blanks round it.
+pub fn after_operator(text: &str, mark: char) -> Option<&str>
+    requires ascii { mark < 128 }
+    requires no_blank { is_whitespace mark ≡ false }
+    ensures { Reads (IsOperator mark) text.now (rest_answer result) }
+{
+    match after_twice(after_blanks(text), mark) {
+        Some(rest) => Some(after_blanks(rest)),
+        None => None,
+    }
 }
 
 // What follows a `&&` or a `,`.
