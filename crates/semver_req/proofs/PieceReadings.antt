@@ -1,5 +1,5 @@
 -- Each piece stands for one list of comparators.
-use Rattle.std.proofs.Common.{◌≡◌, ◌<◌, ℕ, Bool, true, false, List, [], ◌∷◌, ◌++◌, length, refl, sym, ap, ◌∙◌, arith, append-nil, ◌==◌}
+use Rattle.std.proofs.Common.{◌≡◌, ◌<◌, ℕ, Bool, true, false, List, [], ◌∷◌, ◌++◌, length, refl, sym, ap, ◌∙◌, arith, append-nil, length-append, ◌==◌}
 use Rattle.std.specs.Prelude.{◌||◌}
 use Rattle.std.specs.List.{list_all}
 use Rattle.std.proofs.lemmas.Bool.{and_parts, or_left}
@@ -14,7 +14,7 @@ use Rattle.semver_base.proofs.Lists.{IsListing, listed_begins, listed_some}
 use Rattle.semver_base.proofs.Readings.{EachByte, Never, Unambiguous, after_one, before_one, each_made, either_one, followed_one, goes_within, in_place, listed_one, mapped_one, marked_one, never_by, some_within, unit_one}
 use Rattle.semver_req.specs.Comparators.{Comparator, IsComparator}
 use Rattle.semver_req.specs.Partials.{IsPartial}
-use Rattle.semver_req.specs.Pieces.{HasNoBar, IsCutAt, IsFilled, IsHyphen, IsHyphened, IsMark, IsNpmSeparator, IsPiece, IsSeparator, IsUpper}
+use Rattle.semver_req.specs.Pieces.{IsFilled, IsHyphen, IsHyphened, IsMark, IsNpmSeparator, IsPiece, IsSeparator, IsUpper}
 use Rattle.semver_req.specs.declared.common.values.Flavour.{Flavour}
 use Rattle.semver_req.specs.declared.common.values.Flavour.TheVariants.{Npm, Normal, Specifier}
 use Rattle.semver_req.proofs.ComparatorReadings.{IsCore, comparator_begins, comparator_goes, comparator_one, comparator_some, comparator_within, core_goes, core_one, core_some, is_start_byte, partial_core, partial_within, some_blanks_made}

@@ -15,6 +15,7 @@ use Rattle.semver_base.specs.declared.failure.Refusal.{Refusal}
 use Rattle.semver_base.specs.declared.failure.Refusal.TheVariants.{BoundTooLarge, NumberTooLarge, UnexpectedCharacter}
 use Rattle.semver_base.specs.declared.range.VersionRange.{VersionRange}
 use Rattle.semver_base.proofs.Orders.{and_both, and_first, and_second}
+use Rattle.semver_base.specs.declared.partial.Partial.{Partial}
 use Rattle.semver_req.specs.Comparators.{Caret, Comparator, Hyphen, IsComparator, Plain, Signed, Tilde, comparator_range, fits}
 use Rattle.semver_req.specs.KeptSet.{folded, kept, kept_range, without_none}
 use Rattle.semver_req.specs.Outcome.{AreGoodOnes, none_left, good, bad, IsBad, IsGood, IsCutOutcome, IsOutcome, one_good, one_bad, npm_many, normal_many, normal_refused, IsTagOr, tag, no_tag, Outcome, Ranges, Tag, Refused, worked_on}
