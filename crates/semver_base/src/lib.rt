@@ -1,13 +1,14 @@
 //! Versions, ranges of versions and partial versions, and the words that they are written in.
 //!
 //! The lowest crate of the port of `deno_semver`. Its modules, bottom up: `string`, texts and lists; `failure`, why
-//! something was refused; `lexical`, the words at the front of a text; `version`; `range`; `partial`; and `laws`, what
-//! `==` and hashes of all of these say. Each stands on those before it alone.
+//! something was refused; `lexical`, the words at the front of a text; `version`; `npm`, versions as npm reads them;
+//! `range`; `partial`; and `laws`, what `==` and hashes of all of these say. Each stands on those before it alone.
 #![tactic(auto)]
 
 pub mod failure;
 pub mod laws;
 pub mod lexical;
+pub mod npm;
 pub mod partial;
 pub mod range;
 pub mod string;

@@ -1,6 +1,9 @@
-//! What npm's rules say of requirements: npm's reader, and which texts are tags.
+//! What npm's rules say of requirements and versions: npm's readers, and which texts are tags.
 
 mod read;
+mod version;
 
 pub use crate::tag::is_valid_npm_tag;
 pub use read::{NpmVersionReqParseError, parse_npm_version_req};
+pub use semver_base::npm::NpmVersionParseError;
+pub use version::parse_npm_version;

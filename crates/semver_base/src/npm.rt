@@ -1,0 +1,71 @@
+//! Versions as npm reads them.
+
+ghost use Rattle.std.specs.Prelude.{◌≡◌, ◌↔◌, Result, Ok, IfErr, IfOk, IsTrue, None};
+ghost use Rattle.std.specs.Str.{trim};
+ghost use Rattle.semver_base.specs.Failure.{message_of};
+ghost use Rattle.semver_base.specs.VersionGrammar.{IsVersionAnswer, IsVersionOutcome, IsVersionRefusal};
+ghost use Rattle.semver_base.specs.declared.failure.Refusal.{Refusal};
+
+use crate::failure::ParseFailure;
+use crate::version::Version;
+use std::alloc::{AllocError, Global};
+use thiserror::Error;
+
+/// An npm version could not be read.
+#[derive(PartialEq, Eq, Debug, Drop, Error)]
+#[error("Invalid npm version")]
+pub struct NpmVersionParseError {
+    #[source]
+    pub source: ParseFailure,
+}
+
+impl NpmVersionParseError {
+    /// What is wrong; `Out of memory.` where memory was wanting.
+    pub fn message(&self) -> &str
+        ensures { result.now ≡ message_of self.now.source }
+    {
+        self.source.message()
+    }
+
+    /// Whether memory was wanting.
+    pub fn is_memory(&self) -> bool
+        ensures { IsTrue result ↔ (self.now.source ≡ None) }
+    {
+        self.source.is_memory()
+    }
+
+    /// The same error again. It is an error only where no memory is left.
+    pub fn copy(&self) -> Result<NpmVersionParseError, AllocError>
+        ensures { IfOk result (λ error. error ≡ self.now) }
+    {
+        Ok(NpmVersionParseError {
+            source: self.source.copy()?,
+        })
+    }
+}
+
+impl From<NpmVersionParseError> for ParseFailure {
+    ghost from_gives = { λ error failure. failure ≡ error.source };
+
+    fn from(error: NpmVersionParseError) -> ParseFailure {
+        error.source
+    }
+}
+
+impl Version {
+    /// The version that a text stands for, as npm reads it: by the rule of [`Version::parse_standard`], where each
+    /// refusal is told.
+    pub fn parse_from_npm(alloc: Global, text: &str) -> Result<Version, NpmVersionParseError>
+        ensures read { IfOk result (λ version. IsVersionOutcome (trim text.now) (Ok version)) }
+        ensures refused { IfErr result (λ error. IsVersionRefusal (trim text.now) error.source) }
+        ensures answer { (outcome : Result Version Refusal) → IsVersionOutcome (trim text.now) outcome
+            → IsVersionAnswer (λ (error : NpmVersionParseError). error.source) (trim text.now) outcome result }
+    {
+        match Version::parse_standard(alloc, text) {
+            Ok(version) => Ok(version),
+            Err(error) => Err(NpmVersionParseError {
+                source: error.source,
+            }),
+        }
+    }
+}
