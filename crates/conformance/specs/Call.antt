@@ -1,6 +1,6 @@
 use Rattle.std.specs.Prelude.{List, ℕ, codes}
 use Rattle.conformance.specs.declared.call.Call.{Call}
-use Rattle.conformance.specs.declared.call.Call.TheVariants.{Text, Items, Failure, SameFailure, Refusal, Range, SameRange, TagRequirement, Version, Equal, Compare, Precedence, Identifiers, Tag, Requirement, SameRequirement, Ranges, Fits, Overlap, Error, Satisfies, SetSatisfies, Admits, Clamp, ClampStart, ClampEnd, IsNone, IntersectsVersion, IntersectsRange, IntersectsSet, Partial, PartialAt, QualifierAt, SignAt, ComparatorAt}
+use Rattle.conformance.specs.declared.call.Call.TheVariants.{Text, Items, Failure, SameFailure, Refusal, Range, SameRange, TagRequirement, Version, NpmVersion, Equal, Compare, Precedence, Identifiers, Tag, Requirement, SameRequirement, Ranges, Fits, Overlap, Error, Satisfies, SetSatisfies, Admits, Clamp, ClampStart, ClampEnd, IsNone, IntersectsVersion, IntersectsRange, IntersectsSet, Partial, PartialAt, QualifierAt, SignAt, ComparatorAt, OperatorAt}
 
 -- the first word of a question that asks the call
 abbrev pub name_of : Call → List ℕ
@@ -13,6 +13,7 @@ name_of Range = codes "range"
 name_of SameRange = codes "same-range"
 name_of TagRequirement = codes "tag-requirement"
 name_of Version = codes "version"
+name_of NpmVersion = codes "npm-version"
 name_of Equal = codes "equal"
 name_of Compare = codes "compare"
 name_of Precedence = codes "precedence"
@@ -39,3 +40,4 @@ name_of PartialAt = codes "partial-at"
 name_of QualifierAt = codes "qualifier-at"
 name_of SignAt = codes "sign-at"
 name_of ComparatorAt = codes "comparator-at"
+name_of OperatorAt = codes "operator-at"

@@ -19,6 +19,7 @@ pub enum Call {
     SameRange,
     TagRequirement,
     Version,
+    NpmVersion,
     Equal,
     Compare,
     Precedence,
@@ -45,11 +46,12 @@ pub enum Call {
     QualifierAt,
     SignAt,
     ComparatorAt,
+    OperatorAt,
 }
 
 impl Call {
     /// All calls, in the order in which they are counted.
-    pub const ALL: [Call; 35] = [
+    pub const ALL: [Call; 37] = [
         Call::Text,
         Call::Items,
         Call::Failure,
@@ -59,6 +61,7 @@ impl Call {
         Call::SameRange,
         Call::TagRequirement,
         Call::Version,
+        Call::NpmVersion,
         Call::Equal,
         Call::Compare,
         Call::Precedence,
@@ -85,6 +88,7 @@ impl Call {
         Call::QualifierAt,
         Call::SignAt,
         Call::ComparatorAt,
+        Call::OperatorAt,
     ];
 
     /// The first word of a question that asks the call.
@@ -101,6 +105,7 @@ impl Call {
             Call::SameRange => "same-range",
             Call::TagRequirement => "tag-requirement",
             Call::Version => "version",
+            Call::NpmVersion => "npm-version",
             Call::Equal => "equal",
             Call::Compare => "compare",
             Call::Precedence => "precedence",
@@ -127,6 +132,7 @@ impl Call {
             Call::QualifierAt => "qualifier-at",
             Call::SignAt => "sign-at",
             Call::ComparatorAt => "comparator-at",
+            Call::OperatorAt => "operator-at",
         }
     }
 
@@ -149,6 +155,7 @@ impl Call {
             Call::SameRange => values::same_range(alloc, words),
             Call::TagRequirement => values::tag_requirement(alloc, words),
             Call::Version => versions::version(alloc, words),
+            Call::NpmVersion => versions::npm_version(alloc, words),
             Call::Equal => versions::equal(alloc, words),
             Call::Compare => versions::compare(alloc, words),
             Call::Precedence => versions::precedence(alloc, words),
@@ -175,6 +182,7 @@ impl Call {
             Call::QualifierAt => places::qualifier_at(alloc, words),
             Call::SignAt => places::sign_at(alloc, words),
             Call::ComparatorAt => places::comparator_at(alloc, words),
+            Call::OperatorAt => places::operator_at(alloc, words),
         }
     }
 }

@@ -97,3 +97,20 @@ pub fn comparator_at(alloc: Global, words: &[Word<'_>]) -> Answer {
         }
     }
 }
+
+/// `operator-at`, `or` or `and`, a text and a place: what follows the operator there and the blanks round it, or `none`.
+pub fn operator_at(alloc: Global, words: &[Word<'_>]) -> Answer {
+    let [Some(operator), Some(text), Some(place)] = words else {
+        return Err(Fault::Unreadable);
+    };
+    let place = place_in(text, place)?;
+    let reached = match *operator {
+        "or" => common::logical_or(text, place),
+        "and" => common::logical_and(text, place),
+        _ => return Err(Fault::Unreadable),
+    };
+    match reached {
+        None => answer(alloc, &[Some("none")]),
+        Some(reached) => answer(alloc, &[Some("follows"), Some(&text[reached..])]),
+    }
+}

@@ -2,13 +2,14 @@
 
 use crate::shown;
 use crate::words::{Answer, Fault, Word, answer, yes_or_no};
-use deno_semver::npm::is_valid_npm_tag;
+use deno_semver::npm::{is_valid_npm_tag, parse_npm_version, parse_npm_version_req};
 use deno_semver::{ParseFailure, RangeSetOrTag, Version, VersionReq};
 use std::alloc::Global;
 
 // The requirement that the reader of this name makes of a text.
 fn read(alloc: Global, reader: &str, text: &str) -> Result<VersionReq, Fault> {
     match reader {
+        "npm" => Ok(VersionReq::parse_from_npm(alloc, text)?),
         "normal" => Ok(VersionReq::parse_from_normalized(alloc, text)?),
         "strict" => Ok(VersionReq::parse_from_specifier(alloc, text)?),
         _ => Err(Fault::Unreadable),
@@ -109,13 +110,29 @@ fn normalized_error(alloc: Global, text: &str) -> Answer {
     told(alloc, format!(in alloc; "{error}")?.as_str(), &error.source)
 }
 
-/// `error`, `version` or a reader, and a text that is refused: the lines of a copy of the error and of its source.
+fn npm_error(alloc: Global, text: &str) -> Answer {
+    let refused = parse_npm_version_req(alloc, text).err();
+    let error = refused.ok_or(Fault::Unreadable)?.copy()?;
+    told(alloc, format!(in alloc; "{error}")?.as_str(), &error.source)
+}
+
+// The lines of the error of a version that npm's reader refused, and of its source.
+fn npm_version_error(alloc: Global, text: &str) -> Answer {
+    let refused = parse_npm_version(alloc, text).err();
+    let error = refused.ok_or(Fault::Unreadable)?.copy()?;
+    told(alloc, format!(in alloc; "{error}")?.as_str(), &error.source)
+}
+
+/// `error`, `version`, `npm-version` or a reader, and a text that is refused: the lines of a copy of the error and of
+/// its source.
 pub fn error(alloc: Global, words: &[Word<'_>]) -> Answer {
     let [Some(reader), Some(text)] = words else {
         return Err(Fault::Unreadable);
     };
     match *reader {
         "version" => version_error(alloc, text),
+        "npm-version" => npm_version_error(alloc, text),
+        "npm" => npm_error(alloc, text),
         "normal" => normalized_error(alloc, text),
         "strict" => specifier_error(alloc, text),
         _ => Err(Fault::Unreadable),

@@ -2,6 +2,7 @@
 
 use crate::shown;
 use crate::words::{Answer, Fault, Word, answer, yes_or_no};
+use deno_semver::npm::parse_npm_version;
 use deno_semver::{Version, VersionPreOrBuild};
 use std::alloc::{AllocError, Global};
 use std::cmp::Ordering;
@@ -12,6 +13,16 @@ pub fn version(alloc: Global, words: &[Word<'_>]) -> Answer {
         return Err(Fault::Unreadable);
     };
     let version = Version::parse_standard(alloc, text)?;
+    let text = shown::version(alloc, &version)?;
+    answer(alloc, &[Some("read"), Some(text.as_str())])
+}
+
+/// `npm-version`, a text: `read` and the text of the version's parts, as npm's reader has them.
+pub fn npm_version(alloc: Global, words: &[Word<'_>]) -> Answer {
+    let [Some(text)] = words else {
+        return Err(Fault::Unreadable);
+    };
+    let version = parse_npm_version(alloc, text)?;
     let text = shown::version(alloc, &version)?;
     answer(alloc, &[Some("read"), Some(text.as_str())])
 }

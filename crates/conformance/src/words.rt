@@ -1,5 +1,6 @@
 //! The words of questions and answers.
 
+use deno_semver::npm::{NpmVersionParseError, NpmVersionReqParseError};
 use deno_semver::{
     ParseFailure, VersionParseError, VersionReqNormalizedParseError, VersionReqSpecifierParseError,
 };
@@ -42,6 +43,18 @@ impl From<VersionParseError> for Fault {
 
 impl From<VersionReqSpecifierParseError> for Fault {
     fn from(error: VersionReqSpecifierParseError) -> Fault {
+        Fault::from(error.source)
+    }
+}
+
+impl From<NpmVersionParseError> for Fault {
+    fn from(error: NpmVersionParseError) -> Fault {
+        Fault::from(error.source)
+    }
+}
+
+impl From<NpmVersionReqParseError> for Fault {
+    fn from(error: NpmVersionReqParseError) -> Fault {
         Fault::from(error.source)
     }
 }

@@ -1,3 +1,6 @@
-//! What is special to npm packages.
+//! What npm's rules say of versions and requirements: its readers, their errors, and which texts are tags.
 
-pub use semver_req::npm::is_valid_npm_tag;
+pub use semver_req::npm::{
+    NpmVersionParseError, NpmVersionReqParseError, is_valid_npm_tag, parse_npm_version,
+    parse_npm_version_req,
+};

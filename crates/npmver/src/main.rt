@@ -1,11 +1,12 @@
 //! `npmver` answers questions about versions and version requirements of npm and JSR packages.
 //!
 //! `npmver fits READER REQ VERSION` prints `yes` (status 0) where the version matches the requirement, which is read by
-//! READER, `strict` or `normal`, `no` (1) where it doesn't, and `tag NAME` (2) where the requirement is a tag. A refusal
-//! prints `refused: MESSAGE` on standard error (3); other words print the usage line there (4), want of memory
+//! READER, `npm`, `normal` or `strict`, `no` (1) where it doesn't, and `tag NAME` (2) where the requirement is a tag. A
+//! refusal prints `refused: MESSAGE` on standard error (3); other words print the usage line there (4), want of memory
 //! `out of memory` (5). The status is 6 where standard output can't be written.
 #![tactic(auto)]
 
+use deno_semver::npm::NpmVersionReqParseError;
 use deno_semver::{
     PackageTag, ParseFailure, Version, VersionParseError, VersionReq,
     VersionReqNormalizedParseError, VersionReqSpecifierParseError,
@@ -59,6 +60,12 @@ impl From<VersionReqNormalizedParseError> for Problem {
     }
 }
 
+impl From<NpmVersionReqParseError> for Problem {
+    fn from(error: NpmVersionReqParseError) -> Problem {
+        Problem::from(error.source)
+    }
+}
+
 impl From<VersionParseError> for Problem {
     fn from(error: VersionParseError) -> Problem {
         Problem::from(error.source)
@@ -94,8 +101,9 @@ fn ask(alloc: Global, words: &[String]) -> Result<Answer, Problem> {
 // The requirement that the reader of this name makes of a text.
 fn read(alloc: Global, reader: &str, text: &str) -> Result<VersionReq, Problem> {
     match reader {
-        "strict" => Ok(VersionReq::parse_from_specifier(alloc, text)?),
+        "npm" => Ok(VersionReq::parse_from_npm(alloc, text)?),
         "normal" => Ok(VersionReq::parse_from_normalized(alloc, text)?),
+        "strict" => Ok(VersionReq::parse_from_specifier(alloc, text)?),
         _ => Err(Problem::Usage),
     }
 }

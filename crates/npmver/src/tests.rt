@@ -32,12 +32,18 @@ fits|normal|>=1 <2|2.0.0 => 1 => no
 fits|normal|1 <2|1.5.0 => 0 => yes
 fits|normal||1.5.0 => 0 => yes
 fits|normal|1,2|1.0 => 3 => refused: Unexpected character.
+fits|npm|>=3.0.0 <=2.0.0|2.0.0 => 1 => no
+fits|npm| 1 - 2, || foo |2.9.0 => 1 => no
+fits|npm| 1 - 2 || foo |2.9.0 => 0 => yes
+fits|npm|< ^1.2.3|1.3.0 => 0 => yes
+fits|npm|<^1.2.3|1.3.0 => 3 => refused: Unexpected character.
+fits|npm| latest |1.0.0 => 2 => tag latest
 fits|normal|latest|1.0 => 3 => refused: Missing patch version. Versions must be in the form MAJOR.MINOR.PATCH (ex. 1.0.0).
  => 4 => usage: npmver fits|normal|meet ..
 fits => 4 => usage: npmver fits|normal|meet ..
 fits|strict|1 => 4 => usage: npmver fits|normal|meet ..
 fits|strict|1|1.0.0|2.0.0 => 4 => usage: npmver fits|normal|meet ..
-fits|npm|1|1.0.0 => 4 => usage: npmver fits|normal|meet ..
+fits|loose|1|1.0.0 => 4 => usage: npmver fits|normal|meet ..
 meet|strict|1|1.0.0 => 4 => usage: npmver fits|normal|meet ..
  fits|strict|1|1.0.0 => 4 => usage: npmver fits|normal|meet ..
 ";

@@ -15,6 +15,7 @@ ghost use Rattle.semver_base.specs.VersionText.{VersionTextsReadBack};
 
 use crate::failure::{ParseFailure, Refusal};
 use crate::lexical::values::{Measured, Strictness};
+use crate::npm::NpmVersionParseError;
 use crate::partial::XRange;
 use crate::range::{RangeBound, VersionBound, VersionBoundKind, VersionRange, VersionRangeSet};
 use crate::string::{CowVec, SmallStackString};
@@ -72,6 +73,13 @@ pub fn same_versions(one: &Version, other: &Version) -> bool
 
 /// Whether two errors are the same.
 pub fn same_version_errors(one: &VersionParseError, other: &VersionParseError) -> bool
+    ensures { IsTrue result ↔ (one.now ≡ other.now) }
+{
+    one == other
+}
+
+/// Whether two errors of npm's reader of versions are the same.
+pub fn same_npm_version_errors(one: &NpmVersionParseError, other: &NpmVersionParseError) -> bool
     ensures { IsTrue result ↔ (one.now ≡ other.now) }
 {
     one == other

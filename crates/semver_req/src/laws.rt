@@ -14,6 +14,7 @@ ghost use Rattle.semver_req.specs.Outcome.{TextsHaveOneOutcome};
 ghost use Rattle.semver_req.specs.Rereading.{NormalTextsKeepTheirMeaning, OneRereadingSettles, SettledSetsAreTheirTexts};
 
 use crate::common::values::{Flavour, PrimitiveKind};
+use crate::npm::NpmVersionReqParseError;
 use crate::range_set_or_tag::RangeSetOrTag;
 use crate::req::{VersionReq, VersionReqNormalizedParseError};
 use crate::specifier::VersionReqSpecifierParseError;
@@ -61,6 +62,13 @@ pub fn same_normalized_errors(
     one: &VersionReqNormalizedParseError,
     other: &VersionReqNormalizedParseError,
 ) -> bool
+    ensures { IsTrue result ↔ (one.now ≡ other.now) }
+{
+    one == other
+}
+
+/// Whether two errors of npm's reader are the same.
+pub fn same_npm_errors(one: &NpmVersionReqParseError, other: &NpmVersionReqParseError) -> bool
     ensures { IsTrue result ↔ (one.now ≡ other.now) }
 {
     one == other

@@ -1,6 +1,6 @@
 //! npm's reader of requirements.
 
-ghost use Rattle.std.specs.Prelude.{◌≡◌, ◌↔◌, IfErr, IsTrue, None};
+ghost use Rattle.std.specs.Prelude.{◌≡◌, ◌↔◌, IfErr, IfOk, IsTrue, None};
 ghost use Rattle.std.specs.Str.{trim};
 ghost use Rattle.semver_req.specs.PieceReading.{IsCutRefusal};
 ghost use Rattle.semver_req.specs.Readers.{IsReaderAnswer};
@@ -27,6 +27,15 @@ impl NpmVersionReqParseError {
         ensures { IsTrue result ↔ (self.now.source ≡ None) }
     {
         self.source.is_memory()
+    }
+
+    /// The same error again. It is an error only where no memory is left.
+    pub fn copy(&self) -> Result<Self, AllocError>
+        ensures { IfOk result (λ error. error ≡ self.now) }
+    {
+        Ok(NpmVersionReqParseError {
+            source: self.source.copy()?,
+        })
     }
 }
 
