@@ -10,7 +10,7 @@ use Rattle.semver_req.specs.KeptSet.{kept}
 use Rattle.semver_req.specs.Outcome.{AreGoodOnes}
 use Rattle.semver_req.specs.Partials.{sized_partial}
 use Rattle.semver_req.specs.PieceReading.{IsFirstBad, as_kept, kept_of}
-use Rattle.semver_req.specs.Pieces.{AreMorePieces, ArePieces}
+use Rattle.semver_req.specs.Pieces.{AreMorePieces, ArePieces, hyphen}
 use Rattle.semver_req.specs.declared.common.hyphen.HyphenRange.{HyphenRange}
 use Rattle.semver_req.specs.declared.common.values.Flavour.{Flavour}
 use Rattle.semver_req.specs.declared.range_set_or_tag.Alternatives.{Alternatives}
@@ -42,6 +42,10 @@ IsEverything followed piece = (piece ≡ []) ⊎ ((followed ≡ true) × IsBlank
 -- a hyphen range, with both of its partial versions measured
 abbrev pub sized_hyphen : Partial × Partial → HyphenRange
 sized_hyphen v = record { lower = sized_partial v.0; upper = sized_partial v.1 }
+
+-- what is read of a hyphen range, where this is what was measured of it
+abbrev pub IsHyphenRead : HyphenRange → RangeOrInvalid → Type 0
+IsHyphenRead measured answer = (v : Partial × Partial) → measured ≡ sized_hyphen v → answer ≡ as_kept (hyphen v)
 
 -- the whole piece is comparators of the grammar, which are answered so, or it is none
 abbrev pub IsWholeRead : (List ℕ → List Comparator → Type 0) → List ℕ → Option RangeOrInvalid → Type 0

@@ -9,9 +9,9 @@ ghost use Rattle.semver_base.specs.declared.partial.Partial.{Partial};
 ghost use Rattle.semver_req.specs.Comparators.{Comparator};
 ghost use Rattle.semver_req.specs.Partials.{sized_partial};
 ghost use Rattle.semver_req.specs.Outcome.{IsOutcome, Refused};
-ghost use Rattle.semver_req.specs.PieceReading.{IsCutRefusal, IsPieceRead, as_kept, joined, kept_of, refusal_failure};
-ghost use Rattle.semver_req.specs.PieceSteps.{AreAllRead, IsEverything, IsFirstPiece, IsNextPiece, IsOneMore, IsWholeRead, both_now, sized_hyphen};
-ghost use Rattle.semver_req.specs.Pieces.{HasNoBar, IsComparators, IsCutAt, IsCutting, IsFilled, IsHyphen, hyphen as hyphen_of};
+ghost use Rattle.semver_req.specs.PieceReading.{IsCutRefusal, IsPieceRead, joined, kept_of, refusal_failure};
+ghost use Rattle.semver_req.specs.PieceSteps.{AreAllRead, IsEverything, IsFirstPiece, IsHyphenRead, IsNextPiece, IsOneMore, IsWholeRead, both_now};
+ghost use Rattle.semver_req.specs.Pieces.{HasNoBar, IsComparators, IsCutAt, IsCutting, IsFilled, IsHyphen};
 ghost use Rattle.semver_req.specs.Readers.{IsReading};
 ghost use Rattle.semver_req.specs.Requirement.{MatchNoVersion, OverlapAsTags, inner_overlap};
 ghost use Rattle.semver_req.specs.Tag.{is_valid_tag};
@@ -126,7 +126,7 @@ impl RangeOrInvalid {
 
     // The range from the lower bound of the first to the upper bound of the second.
     fn between(alloc: Global, hyphen: HyphenRange) -> Result<RangeOrInvalid, ParseFailure>
-        ensures value { (v : Partial × Partial) → hyphen ≡ sized_hyphen v → IfOk result (λ read. read ≡ as_kept (hyphen_of v)) }
+        ensures value { IfOk result (IsHyphenRead hyphen) }
         ensures memory { IfErr result (λ failure. failure ≡ None) }
     {
         let HyphenRange { lower, upper } = hyphen;
@@ -288,7 +288,7 @@ fn read_pieces(
     flavour: Flavour,
 ) -> Result<Alternatives, ParseFailure>
     requires { IsCutting flavour }
-    ensures value { IfOk result (AreAllRead flavour first.entry.piece.now first.entry.is_followed first.entry.rest.now) }
+    ensures value { let f = first.entry in IfOk result (AreAllRead flavour f.piece.now f.is_followed f.rest.now) }
     ensures memory { IfErr result (λ failure. failure ≡ None) }
 {
     let mut all = Alternatives {
