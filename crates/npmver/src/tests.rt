@@ -33,8 +33,8 @@ fits|normal|1 <2|1.5.0 => 0 => yes
 fits|normal||1.5.0 => 0 => yes
 fits|normal|1,2|1.0 => 3 => refused: Unexpected character.
 fits|npm|>=3.0.0 <=2.0.0|2.0.0 => 1 => no
-fits|npm| 1 - 2, || foo |2.9.0 => 1 => no
-fits|npm| 1 - 2 || foo |2.9.0 => 0 => yes
+fits|npm| 1 - 2, |2.9.0 => 3 => refused: Unexpected character.
+fits|npm| 1 - 2 |2.9.0 => 0 => yes
 fits|npm|< ^1.2.3|1.3.0 => 0 => yes
 fits|npm|<^1.2.3|1.3.0 => 3 => refused: Unexpected character.
 fits|npm| latest |1.0.0 => 2 => tag latest
