@@ -19,7 +19,7 @@ use semver_base::range::VersionRange;
 use std::alloc::{AllocError, Global};
 
 /// What stands before the partial version of a comparator.
-#[derive(Clone, Copy, Debug, PartialEq, Eq)]
+#[derive(Clone, Copy, Debug)]
 pub enum Mark {
     /// `~`
     Tilde,
@@ -71,8 +71,8 @@ fn split_mark(text: &str) -> (Mark, &str)
     (Mark::Absent, text)
 }
 
-/// The comparator without a sign at the front, and what follows it: `~`, `^` or nothing, and a partial version. It is an
-/// error only where no memory is left.
+/// The comparator without a sign at the front, and what follows it: `~`, `^` or nothing, and a partial version
+/// (node-semver's range grammar, `simple` without `primitive`). It is an error only where no memory is left.
 pub fn unsigned_front(
     alloc: Global,
     text: &str,
@@ -87,7 +87,8 @@ pub fn unsigned_front(
     }
 }
 
-/// The normalized comparator at the front, and what follows it. It is an error only where no memory is left.
+/// The normalized comparator at the front, and what follows it (node-semver's range grammar, `simple`). It is an error
+/// only where no memory is left.
 pub fn normal_front(alloc: Global, text: &str) -> Result<Option<(Written, &str)>, AllocError>
     ensures { IfOk result (λ r. ReadsComparator (IsComparator Normal) text.now (answer_of r)) }
 {
@@ -164,7 +165,9 @@ fn npm_by_mark(
     }
 }
 
-/// The npm comparator at the front, and what follows it. It is an error only where no memory is left.
+/// The npm comparator at the front, and what follows it (node-semver's range grammar, `simple`, with `~>`, with what npm
+/// ignores before a partial version, and with a sign that is ignored before a `~` or a `^`). It is an error only where no
+/// memory is left.
 pub fn npm_front(alloc: Global, text: &str) -> Result<Option<(Written, &str)>, AllocError>
     ensures { IfOk result (λ r. ReadsComparator (IsComparator Npm) text.now (answer_of r)) }
 {
@@ -178,7 +181,8 @@ pub fn npm_front(alloc: Global, text: &str) -> Result<Option<(Written, &str)>, A
     }
 }
 
-/// The comparator of the grammar at the front, and what follows it. It is an error only where no memory is left.
+/// The comparator of the grammar at the front, and what follows it (node-semver's range grammar, `simple`). It is an
+/// error only where no memory is left.
 pub fn comparator_front(
     alloc: Global,
     text: &str,

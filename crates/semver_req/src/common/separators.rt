@@ -65,7 +65,8 @@ fn after_npm_separator(text: &str) -> Option<&str>
     Some(rest)
 }
 
-/// What follows a separator of the grammar's comparators at the front.
+/// What follows a separator of the grammar's comparators at the front: in npm's grammar `&&` or `,` with blanks round it
+/// or none, or blanks (node-semver's range grammar, `range`; npm accepts the two marks); in the normalized one blanks.
 pub fn after_separator(text: &str, flavour: Flavour) -> Option<&str>
     ensures { Reads (IsSeparator flavour) text.now (rest_answer result) }
 {
