@@ -13,6 +13,7 @@ pub mod Parts
 pub mod PrecedenceLemmas
 pub mod Qualifiers
 pub mod Readings
+pub mod Replaced
 pub mod Solid
 pub mod Triples
 pub mod VersionReading

@@ -8,6 +8,7 @@ pub mod PartialTable
 pub mod Precedence
 pub mod PrecedenceLaws
 pub mod Sameness
+pub mod Texts
 pub mod VersionGrammar
 pub mod VersionReaderSteps
 pub mod VersionText

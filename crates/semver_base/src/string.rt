@@ -1,13 +1,14 @@
-//! Short texts and lists.
+//! Short texts and lists, and what texts are written to.
 //!
-//! A contract sees a text as its UTF-8 bytes and a list as its items, whatever they are kept in. Today a text is kept in
-//! a `String` and a list in a `Vec`, so that a copy of either copies all of it.
+//! A contract sees a text as its UTF-8 bytes and a list as its items, whatever they are kept in. A short text stands in
+//! the value itself and a longer one in a `String`. Copies of a list share its items until one of them grows.
 
-ghost use Rattle.std.specs.Prelude.{List, ℕ, ◌≡◌, ◌<◌, ◌^◌, ◌++◌, [], ◌∷◌, Some, IfOk, OnOk, OnErr, IsTrue, ◌↔◌, length, nat_eq, refl, slice_get, string_bytes, IsUtf8};
+ghost use Rattle.std.specs.Prelude.{List, ℕ, ◌≡◌, ◌≤◌, ◌+◌, ◌<◌, ◌^◌, ◌++◌, [], ◌∷◌, Some, IfOk, IsOk, OnOk, OnErr, IsTrue, ◌↔◌, encode_utf8, length, nat_eq, refl, slice_get, string_bytes, IsUtf8};
 ghost use Rattle.std.proofs.Common.{rules};
 ghost use Rattle.std.specs.Cmp.{partial_equiv_from_equiv};
 ghost use Rattle.std.specs.Cmp.Lexicographic.{lists_equiv, lists_per, nat_list_cmp_total, nat_list_eq_equiv, pointwise, slice_cmp, texts_po, texts_ties};
 ghost use Rattle.std.specs.Cmp.Rules.{hashing};
+ghost use Rattle.std.specs.Cow.{cow_str_bytes};
 ghost use Rattle.std.specs.Hash as fed;
 ghost use Rattle.std.specs.Hash.{items_Alike};
 ghost use Rattle.std.specs.Option.{option_copied};
@@ -15,46 +16,110 @@ ghost use Rattle.std.specs.Ordering.{nat_cmp};
 ghost use Rattle.std.specs.Slice.{IsItemAt};
 ghost use Rattle.std.specs.Iterator.Adapters.{IterYieldsInOrder};
 ghost use Rattle.std.specs.Slice.Iter.{iter_rest};
+ghost use Rattle.semver_base.specs.Texts.{IsReplaced};
 
+use arrayvec::ArrayString;
 use std::alloc::{AllocError, Global};
+use std::borrow::CowStr;
 use std::cmp::Ordering;
 use std::hash::{Hash, Hasher};
 use std::marker::Model;
+use std::rc::Rc;
 use std::{fmt, slice};
 
-/// A short text: a sequence of Unicode characters, seen in contracts as its UTF-8 bytes. Today a `String` keeps it.
+/// A text: a sequence of Unicode characters, seen in contracts as its UTF-8 bytes. One of at most `LIMIT` bytes stands in
+/// the value itself, and takes no memory.
 ///
 /// Two texts are equal where their bytes are, and they are ordered by bytes.
 #[derive(Drop)]
-pub struct SmallStackString {
-    text: String,
+pub struct ShortText<const LIMIT: usize> {
+    alloc: Global,
+    kept: Kept<LIMIT>,
 }
 
-impl Model for SmallStackString {
-    ghost use Rattle.std.specs.Prelude.{List, ℕ, string_bytes};
+/// A text of which up to 15 bytes stand in the value itself.
+pub type SmallStackString = ShortText<15>;
+
+/// A text of which up to 23 bytes stand in the value itself.
+pub type StackString = ShortText<23>;
+
+// Where a text stands.
+#[derive(Drop)]
+enum Kept<const LIMIT: usize> {
+    Inline(ArrayString<LIMIT>),
+    Heap(String),
+}
+
+impl<const LIMIT: usize> Model for ShortText<LIMIT> {
+    ghost use Rattle.std.specs.Prelude.{List, ℕ};
+    ghost use Rattle.semver_base.specs.Texts.{kept_bytes, IsInlineIfShort};
 
     ghost Value = { List ℕ };
 
-    ghost view = { λ s. string_bytes s.text };
+    ghost view = { λ s. kept_bytes s.kept };
+
+    ghost invariant = { λ s. IsInlineIfShort s.kept };
 }
 
-impl SmallStackString {
+impl<const LIMIT: usize> ShortText<LIMIT> {
     /// The empty text.
     pub fn new(alloc: Global) -> Self
         ensures { result ≡ [] }
     {
-        SmallStackString {
-            text: String::new(alloc),
+        ShortText {
+            alloc,
+            kept: Kept::Inline(ArrayString::new()),
         }
     }
 
-    /// The text `text`. It is an error only where no memory is left.
-    pub fn from_str(alloc: Global, text: &str) -> Result<Self, AllocError>
-        ensures { IfOk result (λ s. s ≡ text.now) }
+    /// The empty text. The room that is asked for is a hint, and no memory is taken before a text needs it.
+    pub fn with_capacity(alloc: Global, _capacity: usize) -> Result<Self, AllocError>
+        ensures value { IfOk result (λ s. s ≡ []) }
+        ensures succeeds { IsOk result }
     {
-        Ok(SmallStackString {
-            text: String::from_str(alloc, text)?,
-        })
+        Ok(ShortText::new(alloc))
+    }
+
+    /// The text `text`. It is an error only where no memory is left, and never for a text of at most `LIMIT` bytes.
+    pub fn from_str(alloc: Global, text: &str) -> Result<Self, AllocError>
+        ensures value { IfOk result (λ s. s ≡ text.now) }
+        ensures succeeds { length text.now ≤ LIMIT → IsOk result }
+    {
+        let kept = match ArrayString::from(text) {
+            Ok(short) => Kept::Inline(short),
+            Err(_) => Kept::Heap(String::from_str(alloc, text)?),
+        };
+        Ok(ShortText { alloc, kept })
+    }
+
+    /// The text of a literal, as [`ShortText::from_str`] makes it.
+    pub fn from_static(alloc: Global, literal: &'static str) -> Result<Self, AllocError>
+        ensures value { IfOk result (λ s. s ≡ literal.now) }
+        ensures succeeds { length literal.now ≤ LIMIT → IsOk result }
+    {
+        ShortText::from_str(alloc, literal)
+    }
+
+    /// The text `text`, in whose own memory a long one stays. No memory is taken.
+    pub fn from_string(alloc: Global, text: String) -> Result<Self, AllocError>
+        ensures value { IfOk result (λ s. s ≡ string_bytes text) }
+        ensures succeeds { IsOk result }
+    {
+        let kept = match ArrayString::from(text.as_str()) {
+            Ok(short) => Kept::Inline(short),
+            Err(_) => Kept::Heap(text),
+        };
+        Ok(ShortText { alloc, kept })
+    }
+
+    /// The text `text`, as [`ShortText::from_str`] or [`ShortText::from_string`] makes it.
+    pub fn from_cow(alloc: Global, text: CowStr<'_, Global>) -> Result<Self, AllocError>
+        ensures { IfOk result (λ s. s ≡ cow_str_bytes text.entry) }
+    {
+        match text {
+            CowStr::Borrowed(borrowed) => ShortText::from_str(alloc, borrowed),
+            CowStr::Owned(owned) => ShortText::from_string(alloc, owned),
+        }
     }
 
     /// The text.
@@ -62,7 +127,10 @@ impl SmallStackString {
         ensures value { result.now ≡ self.now }
         ensures utf8 { IsUtf8 self.now }
     {
-        self.text.as_str()
+        match &self.kept {
+            Kept::Inline(short) => short.as_str(),
+            Kept::Heap(long) => long.as_str(),
+        }
     }
 
     /// Whether this is the text `other`.
@@ -72,17 +140,81 @@ impl SmallStackString {
         other == self.as_str()
     }
 
-    /// The same text again. It is an error only where no memory is left.
-    pub fn copy(&self) -> Result<Self, AllocError>
-        ensures { IfOk result (λ s. s ≡ self.now) }
+    /// Appends a text. Where no memory is left the text is unchanged; up to `LIMIT` bytes need none.
+    pub fn push_str(&mut self, text: &str) -> Result<(), AllocError>
+        ensures ok { OnOk result (self.new ≡ self.old ++ text.now) }
+        ensures err { OnErr result (self.new ≡ self.old) }
+        ensures succeeds { length self.old + length text.now ≤ LIMIT → IsOk result }
     {
-        Ok(SmallStackString {
-            text: self.text.clone()?,
+        match &mut self.kept {
+            Kept::Inline(short) => {
+                if short.try_push_str(text).is_err() {
+                    let mut long = String::from_str(self.alloc, short.as_str())?;
+                    long.push_str(text)?;
+                    self.kept = Kept::Heap(long);
+                }
+                Ok(())
+            }
+            Kept::Heap(long) => long.push_str(text),
+        }
+    }
+
+    /// Appends a character. Where no memory is left the text is unchanged; up to `LIMIT` bytes need none.
+    pub fn push(&mut self, character: char) -> Result<(), AllocError>
+        ensures ok { OnOk result (self.new ≡ self.old ++ encode_utf8 character) }
+        ensures err { OnErr result (self.new ≡ self.old) }
+        ensures succeeds { length self.old + length (encode_utf8 character) ≤ LIMIT → IsOk result }
+    {
+        let mut bytes = [0; 4];
+        self.push_str(character.encode_utf8(&mut bytes))
+    }
+
+    /// The text with `to` in place of each leftmost occurrence of `from` that doesn't overlap an earlier one. An empty
+    /// `from` puts `to` before each character and at the end, as `str::replace` does.
+    ///
+    /// It is an error only where no memory is left.
+    pub fn replace(&self, alloc: Global, from: &str, to: &str) -> Result<Self, AllocError>
+        ensures { IfOk result (IsReplaced from.now to.now self.now) }
+    {
+        let replaced = self.as_str().replace(alloc, from, to)?;
+        ShortText::from_string(alloc, replaced)
+    }
+
+    /// The same text again. It is an error only where no memory is left, and never for a text of at most `LIMIT` bytes.
+    pub fn copy(&self) -> Result<Self, AllocError>
+        ensures value { IfOk result (λ s. s ≡ self.now) }
+        ensures succeeds { length self.now ≤ LIMIT → IsOk result }
+    {
+        let kept = match &self.kept {
+            Kept::Inline(short) => Kept::Inline(*short),
+            Kept::Heap(long) => Kept::Heap(long.clone()?),
+        };
+        Ok(ShortText {
+            alloc: self.alloc,
+            kept,
         })
+    }
+
+    /// The text in a `String`. It is an error only where no memory is left.
+    pub fn to_string(&self, alloc: Global) -> Result<String, AllocError>
+        ensures { IfOk result (λ s. string_bytes s ≡ self.now) }
+    {
+        String::from_str(alloc, self.as_str())
+    }
+
+    /// The text in a `String`, which takes over the memory of a long one. It is an error only where no memory is left.
+    pub fn into_string(self, alloc: Global) -> Result<String, AllocError>
+        ensures { IfOk result (λ s. string_bytes s ≡ self.entry) }
+    {
+        let ShortText { kept, .. } = self;
+        match kept {
+            Kept::Inline(short) => String::from_str(alloc, short.as_str()),
+            Kept::Heap(long) => Ok(long),
+        }
     }
 }
 
-impl PartialEq for SmallStackString {
+impl<const LIMIT: usize> PartialEq for ShortText<LIMIT> {
     ghost eq = { pointwise nat_eq };
 
     ghost laws = { partial_equiv_from_equiv nat_list_eq_equiv };
@@ -92,11 +224,11 @@ impl PartialEq for SmallStackString {
     }
 }
 
-impl Eq for SmallStackString {
+impl<const LIMIT: usize> Eq for ShortText<LIMIT> {
     ghost laws = { nat_list_eq_equiv };
 }
 
-impl PartialOrd for SmallStackString {
+impl<const LIMIT: usize> PartialOrd for ShortText<LIMIT> {
     ghost partial_cmp = { λ a b. Some (slice_cmp nat_cmp a b) };
 
     ghost laws = { texts_po };
@@ -106,7 +238,7 @@ impl PartialOrd for SmallStackString {
     }
 }
 
-impl Ord for SmallStackString {
+impl<const LIMIT: usize> Ord for ShortText<LIMIT> {
     ghost cmp = { slice_cmp nat_cmp };
 
     ghost total = { nat_list_cmp_total };
@@ -120,7 +252,7 @@ impl Ord for SmallStackString {
     }
 }
 
-impl Hash for SmallStackString {
+impl<const LIMIT: usize> Hash for ShortText<LIMIT> {
     ghost hash_input = { fed.str };
 
     ghost respects_eq = { Prim.search (hashing, rules) };
@@ -130,7 +262,7 @@ impl Hash for SmallStackString {
     }
 }
 
-impl fmt::Display for SmallStackString {
+impl<const LIMIT: usize> fmt::Display for ShortText<LIMIT> {
     ghost output = { λ s. Some s };
 
     fn fmt<W: fmt::Write>(&self, f: &mut fmt::Formatter<W>) -> fmt::Result {
@@ -138,9 +270,92 @@ impl fmt::Display for SmallStackString {
     }
 }
 
-impl fmt::Debug for SmallStackString {
+impl<const LIMIT: usize> fmt::Debug for ShortText<LIMIT> {
     fn fmt<W: fmt::Write>(&self, f: &mut fmt::Formatter<W>) -> fmt::Result {
         fmt::Debug::fmt(self.as_str(), f)
+    }
+}
+
+/// A text that grows: it is what was pushed, in order, and a refused push changes nothing.
+pub trait StringType: Drop {
+    /// The bytes of the text.
+    ghost text: { Self → List ℕ };
+
+    /// The empty text, with room for `capacity` bytes. It is an error only where no memory is left.
+    fn with_capacity(alloc: Global, capacity: usize) -> Result<Self, AllocError>
+        ensures { IfOk result (λ s. text s ≡ []) };
+
+    /// Appends a character. Where no memory is left the text is unchanged.
+    fn push(&mut self, character: char) -> Result<(), AllocError>
+        ensures ok { OnOk result (text self.new ≡ text self.old ++ encode_utf8 character) }
+        ensures err { OnErr result (text self.new ≡ text self.old) };
+
+    /// Appends a text. Where no memory is left this one is unchanged.
+    fn push_str(&mut self, other: &str) -> Result<(), AllocError>
+        ensures ok { OnOk result (text self.new ≡ text self.old ++ other.now) }
+        ensures err { OnErr result (text self.new ≡ text self.old) };
+
+    /// The text.
+    fn as_str(&self) -> &str
+        ensures { result.now ≡ text self.now };
+}
+
+/// A value with a text, which can be appended to another one.
+pub trait StringAppendable {
+    /// The bytes of the value's text.
+    ghost text: { Self → List ℕ };
+
+    /// Appends exactly the value's text. Where no memory is left the target is unchanged.
+    fn append_to<T: StringType>(&self, alloc: Global, target: &mut T) -> Result<(), AllocError>
+        ensures ok { OnOk result (T.text target.new ≡ T.text target.old ++ text self.now) }
+        ensures err { OnErr result (T.text target.new ≡ T.text target.old) };
+}
+
+impl StringType for String {
+    ghost text = { string_bytes };
+
+    fn with_capacity(alloc: Global, capacity: usize) -> Result<Self, AllocError> {
+        String::with_capacity(alloc, capacity)
+    }
+
+    fn push(&mut self, character: char) -> Result<(), AllocError> {
+        String::push(self, character)
+    }
+
+    fn push_str(&mut self, other: &str) -> Result<(), AllocError> {
+        String::push_str(self, other)
+    }
+
+    fn as_str(&self) -> &str {
+        String::as_str(self)
+    }
+}
+
+impl<const LIMIT: usize> StringType for ShortText<LIMIT> {
+    ghost text = { λ s. s };
+
+    fn with_capacity(alloc: Global, capacity: usize) -> Result<Self, AllocError> {
+        ShortText::with_capacity(alloc, capacity)
+    }
+
+    fn push(&mut self, character: char) -> Result<(), AllocError> {
+        ShortText::push(self, character)
+    }
+
+    fn push_str(&mut self, other: &str) -> Result<(), AllocError> {
+        ShortText::push_str(self, other)
+    }
+
+    fn as_str(&self) -> &str {
+        ShortText::as_str(self)
+    }
+}
+
+impl<const LIMIT: usize> StringAppendable for ShortText<LIMIT> {
+    ghost text = { λ s. s };
+
+    fn append_to<T: StringType>(&self, _alloc: Global, target: &mut T) -> Result<(), AllocError> {
+        target.push_str(self.as_str())
     }
 }
 
@@ -151,26 +366,28 @@ pub trait CowItem {
         ensures { IfOk result (λ x. x ≡ self.now) };
 }
 
-impl CowItem for SmallStackString {
+impl<const LIMIT: usize> CowItem for ShortText<LIMIT> {
     fn copy(&self) -> Result<Self, AllocError> {
-        SmallStackString::copy(self)
+        ShortText::copy(self)
     }
 }
 
-/// A list, seen in contracts as its items. Today a `Vec` keeps them.
+/// A list, seen in contracts as its items. Its copies share them until one of the lists grows.
 ///
 /// Two lists are equal where they have equal items in the same order.
 #[derive(Drop)]
 pub struct CowVec<T> {
-    items: Vec<T>,
+    alloc: Global,
+    items: Option<Rc<Vec<T>>>,
 }
 
 impl<T> Model for CowVec<T> {
     ghost use Rattle.std.specs.Prelude.{List};
+    ghost use Rattle.semver_base.specs.Texts.{shared_items};
 
     ghost Value = { List T };
 
-    ghost view = { λ v. v.items.items };
+    ghost view = { λ v. shared_items v.items };
 }
 
 impl<T> CowVec<T> {
@@ -178,8 +395,16 @@ impl<T> CowVec<T> {
     pub fn new(alloc: Global) -> Self
         ensures { result ≡ [] }
     {
-        CowVec {
-            items: Vec::new(alloc),
+        CowVec { alloc, items: None }
+    }
+
+    /// The items.
+    pub(crate) fn as_slice(&self) -> &[T]
+        ensures { result.now ≡ self.now }
+    {
+        match &self.items {
+            None => &[],
+            Some(items) => items.as_slice(),
         }
     }
 
@@ -187,21 +412,14 @@ impl<T> CowVec<T> {
     pub fn len(&self) -> usize
         ensures { result ≡ length self.now }
     {
-        self.items.len()
+        self.as_slice().len()
     }
 
     /// Whether there is no item.
     pub fn is_empty(&self) -> bool
         ensures { IsTrue result ↔ (self.now ≡ []) }
     {
-        self.items.is_empty()
-    }
-
-    /// The items.
-    pub(crate) fn as_slice(&self) -> &[T]
-        ensures { result.now ≡ self.now }
-    {
-        self.items.as_slice()
+        self.as_slice().is_empty()
     }
 
     /// The item at `index`, if there is one.
@@ -209,7 +427,7 @@ impl<T> CowVec<T> {
         ensures value { option_copied result ≡ slice_get self.now index }
         ensures item { IsItemAt self.now index result }
     {
-        self.items.get(index)
+        self.as_slice().get(index)
     }
 
     /// The items in order.
@@ -219,29 +437,59 @@ impl<T> CowVec<T> {
         ensures bound { length (iter_rest result) < 2 ^ 64 }
         ensures runs { IterYieldsInOrder T }
     {
-        self.items.iter()
+        self.as_slice().iter()
     }
 }
 
+// A list of the same items.
+fn copied<T: CowItem + Drop>(alloc: Global, items: &[T]) -> Result<Vec<T>, AllocError>
+    ensures { IfOk result (λ v. v.items ≡ items.now) }
+{
+    let mut all = Vec::new(alloc);
+    for item in items {
+        all.push(item.copy()?)?;
+    }
+    Ok(all)
+}
+
 impl<T: CowItem + Drop> CowVec<T> {
-    /// Appends `item`. Where no memory is left the list is unchanged and the item is dropped.
+    /// Appends `item`; a list that shares its items copies them first. Where no memory is left the list is unchanged and
+    /// the item is dropped.
     pub fn push(&mut self, item: T) -> Result<(), AllocError>
         ensures ok { OnOk result (self.new ≡ self.old ++ item ∷ []) }
         ensures err { OnErr result (self.new ≡ self.old) }
     {
-        self.items.push(item)?;
+        let alloc = self.alloc;
+        match &mut self.items {
+            None => {
+                let mut items = Vec::new(alloc);
+                items.push(item)?;
+                self.items = Some(Rc::new(alloc, items)?);
+            }
+            Some(shared) => {
+                if let Some(items) = Rc::get_mut(shared) {
+                    items.push(item)?;
+                } else {
+                    let mut items = copied(alloc, shared.as_slice())?;
+                    items.push(item)?;
+                    *shared = Rc::new(alloc, items)?;
+                }
+            }
+        }
         Ok(())
     }
 
-    /// The same list again. It is an error only where no memory is left.
+    /// The same list again, which shares the items. It is an error only where no memory is left.
     pub fn copy(&self) -> Result<Self, AllocError>
         ensures { IfOk result (λ v. v ≡ self.now) }
     {
-        let mut copied = Vec::new(*self.items.allocator());
-        for item in self.as_slice() {
-            copied.push(item.copy()?)?;
+        match &self.items {
+            None => Ok(CowVec::new(self.alloc)),
+            Some(items) => Ok(CowVec {
+                alloc: self.alloc,
+                items: Some(items.clone()?),
+            }),
         }
-        Ok(CowVec { items: copied })
     }
 }
 

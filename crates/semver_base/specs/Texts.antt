@@ -1,0 +1,33 @@
+-- Texts that stand in the value itself where they are short, lists whose copies share their items, and what replacing is.
+use Rattle.std.specs.Prelude.{◌≡◌, ℕ, List, [], ◌++◌, ◌<◌, length, take, drop, string_bytes, encode_utf8, Option, Some, None}
+use Rattle.std.specs.Str.Pattern.{FindsText}
+use Rattle.std.specs.declared.alloc.Global.{Global}
+use Rattle.std.specs.declared.rc.Rc.{Rc}
+use Rattle.std.specs.declared.vec.Vec.{Vec}
+use Rattle.semver_base.specs.declared.string.Kept.{Kept}
+use Rattle.semver_base.specs.declared.string.Kept.TheVariants as kept
+
+-- the bytes of a text, however it is kept
+abbrev pub kept_bytes : {limit : ℕ} → Kept limit → List ℕ
+kept_bytes (kept.Inline s) = s.bytes
+kept_bytes (kept.Heap s) = string_bytes s
+
+-- only a text of more than limit bytes stands in a `String`
+abbrev pub IsInlineIfShort : {limit : ℕ} → Kept limit → Type 0
+IsInlineIfShort (kept.Inline s) = Unit {0}
+IsInlineIfShort {limit} (kept.Heap s) = limit < length (string_bytes s)
+
+-- the items behind a shared pointer, which an empty list lacks
+abbrev pub shared_items : {T : Type 0} → Option (Rc (Vec T Global) Global) → List T
+shared_items None = []
+shared_items (Some shared) = shared.value.items
+
+-- text with to in place of each leftmost from that doesn't overlap an earlier one; an empty from stands before each
+-- character and at the end
+pub data IsReplaced (from to : List ℕ) : List ℕ → List ℕ → Type 0 where
+  no_more : {text : List ℕ} → FindsText from text None → IsReplaced from to text text
+  one_more : {text replaced : List ℕ} {start end : ℕ} → FindsText from text (Some (start, end)) → 0 < length from
+      → IsReplaced from to (drop end text) replaced → IsReplaced from to text (take start text ++ (to ++ replaced))
+  before_character : {text replaced : List ℕ} (c : ℕ) → length from ≡ 0
+      → IsReplaced from to text replaced → IsReplaced from to (encode_utf8 c ++ text) (to ++ (encode_utf8 c ++ replaced))
+  at_end : length from ≡ 0 → IsReplaced from to [] to
