@@ -6,10 +6,12 @@ pub mod Equality
 pub mod Fronts
 pub mod Lists
 pub mod MeaningLemmas
+pub mod NormalTable
 pub mod Numbers
 pub mod Orders
 pub mod OverlapLemmas
 pub mod Parts
+pub mod PlainVersions
 pub mod PrecedenceLemmas
 pub mod Qualifiers
 pub mod Readings

@@ -1,13 +1,17 @@
 pub mod Clamp
+pub mod Comparators
 pub mod Failure
 pub mod Grammar
 pub mod Lexical
 pub mod Meaning
+pub mod NormalTable
+pub mod NormalText
 pub mod Overlap
 pub mod PartialTable
 pub mod Precedence
 pub mod PrecedenceLaws
 pub mod Sameness
+pub mod Shortest
 pub mod Texts
 pub mod VersionGrammar
 pub mod VersionReaderSteps

@@ -6,17 +6,18 @@
 //!
 //! Equal values hash alike: they write the same to every `Hasher`. `equal_hash_alike` says it of each type that has `Hash`.
 //!
-//! The last law speaks of versions and their texts alone, so its call does nothing: what it promises is what a caller
-//! cites.
+//! The last two laws speak of versions, ranges and their texts alone, so their calls do nothing: what they promise is what
+//! a caller cites.
 
 ghost use Rattle.std.specs.Prelude.{◌≡◌, ◌↔◌, IsTrue};
+ghost use Rattle.semver_base.specs.NormalTable.{IsNormalTable};
 ghost use Rattle.semver_base.specs.Sameness.{TellsSame};
 ghost use Rattle.semver_base.specs.VersionText.{VersionTextsReadBack};
 
 use crate::failure::{ParseFailure, Refusal};
 use crate::lexical::values::{Measured, Strictness};
 use crate::npm::NpmVersionParseError;
-use crate::partial::XRange;
+use crate::partial::{PrimitiveKind, XRange};
 use crate::range::{RangeBound, VersionBound, VersionBoundKind, VersionRange, VersionRangeSet};
 use crate::string::{CowVec, SmallStackString};
 use crate::version::{Version, VersionParseError};
@@ -127,6 +128,13 @@ pub fn same_components(one: &XRange, other: &XRange) -> bool
     one == other
 }
 
+/// Whether two signs are the same.
+pub fn same_signs(one: &PrimitiveKind, other: &PrimitiveKind) -> bool
+    ensures { IsTrue result ↔ (one.now ≡ other.now) }
+{
+    one == other
+}
+
 /// Whether two values are equal; equal values write the same to every hasher.
 pub fn equal_hash_alike<T: Hash>(one: &T, other: &T) -> bool
     ensures equal { result ≡ T.eq one.now other.now }
@@ -138,4 +146,9 @@ pub fn equal_hash_alike<T: Hash>(one: &T, other: &T) -> bool
 /// The text of a version whose identifiers are parts is read as that version, build included (SemVer 2.0.0, section 2).
 pub fn version_texts_read_back()
     ensures { VersionTextsReadBack }
+{}
+
+/// The normal text of a range is the text that the table of short forms gives it, row by row.
+pub fn normal_texts_follow_the_table()
+    ensures { IsNormalTable }
 {}

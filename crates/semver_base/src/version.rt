@@ -1,6 +1,7 @@
-//! Versions: how they are read, and their precedence.
+//! Versions: how they are read and written, and their precedence.
 
-ghost use Rattle.std.specs.Prelude.{◌≡◌, ◌↔◌, ◌⊎◌, refl, Result, Ok, Err, IfOk, IfErr, IsTrue, [], None, Some};
+ghost use Rattle.std.specs.Prelude.{◌≡◌, ◌<◌, ◌∷◌, ◌↔◌, ◌⊎◌, refl, Result, Ok, Err, IfOk, IfErr, IsTrue, [], None, Some};
+ghost use Rattle.std.specs.Fmt.{DisplaysOnOk};
 ghost use Rattle.std.specs.Str.{trim};
 ghost use Rattle.std.specs.Cmp.{IsTotalOrder};
 ghost use Rattle.std.specs.Cmp.Lexicographic.{slice_cmp};
@@ -12,6 +13,7 @@ ghost use Rattle.semver_base.specs.VersionGrammar.{IsLead, IsVersionAnswer, IsVe
 ghost use Rattle.semver_base.specs.VersionReaderSteps.{IsFittingNumber, IsFittingTriple, IsNumberRefusal, IsReadVersion, IsTripleRefusal};
 ghost use Rattle.semver_base.specs.Precedence.{identifier_cmp, number_of, pre_cmp, precedence_cmp, version_cmp};
 ghost use Rattle.semver_base.specs.PrecedenceLaws.{version_po, version_ties, version_total, SamePrecedence};
+ghost use Rattle.semver_base.specs.VersionText.{marked, version_text};
 
 use crate::failure::{ParseFailure, Refusal};
 use crate::lexical;
@@ -19,6 +21,7 @@ use crate::lexical::values::{Measured, Strictness};
 use crate::string::{CowVec, SmallStackString};
 use std::alloc::{AllocError, Global};
 use std::cmp::Ordering;
+use std::fmt;
 use thiserror::Error;
 
 /// An identifier of a pre-release or a build.
@@ -286,6 +289,45 @@ fn precedence(a: &Version, b: &Version) -> Ordering
         return a.patch.cmp(&b.patch);
     }
     cmp_pre(a.pre.as_slice(), b.pre.as_slice())
+}
+
+// Writes a separator and the identifier after it.
+fn write_part<W: fmt::Write>(f: &mut fmt::Formatter<W>, separator: char, part: &str) -> fmt::Result
+    requires { separator < 128 }
+    ensures { DisplaysOnOk W.write_str_gives f.old result (Some (separator ∷ part.now)) f.new }
+{
+    f.write_char(separator)?;
+    f.write_str(part)
+}
+
+// Writes the identifiers, the mark before the first and a `.` before each other one.
+fn write_marked<W: fmt::Write>(
+    f: &mut fmt::Formatter<W>,
+    mark: char,
+    parts: &[VersionPreOrBuild],
+) -> fmt::Result
+    requires { mark < 128 }
+    ensures { DisplaysOnOk W.write_str_gives f.old result (Some (marked mark parts.now)) f.new }
+{
+    let mut separator = mark;
+    for part in parts {
+        write_part(f, separator, part.as_str())?;
+        separator = '.';
+    }
+    Ok(())
+}
+
+/// `M.m.p`, then `-` and the pre-release where there is one, then `+` and the build where there is one; identifiers have a
+/// `.` between them (SemVer 2.0.0, sections 2, 9 and 10).
+impl fmt::Display for Version {
+    ghost output = { λ version. Some (version_text version) };
+
+    fn fmt<W: fmt::Write>(&self, f: &mut fmt::Formatter<W>) -> fmt::Result {
+        let (major, minor, patch) = (self.major, self.minor, self.patch);
+        write!(f, "{major}.{minor}.{patch}")?;
+        write_marked(f, '-', self.pre.as_slice())?;
+        write_marked(f, '+', self.build.as_slice())
+    }
 }
 
 impl PartialOrd for Version {

@@ -3,6 +3,7 @@ use Rattle.std.proofs.Common.{◌≡◌, ℕ, true, false, List, ◌++◌, refl,
 use Rattle.std.specs.Prelude.{◌&&◌}
 use Rattle.std.proofs.lemmas.Bool.{cases_Bool}
 use Rattle.std.proofs.lemmas.List.Folds.{list_all-append}
+use Rattle.semver_base.specs.Comparators.{Comparator}
 use Rattle.semver_base.specs.Grammar.{IsLongest}
 use Rattle.semver_base.specs.PartialTable.{all_fit, number_fits}
 use Rattle.semver_base.specs.declared.lexical.values.Measured.{Measured}
@@ -10,7 +11,7 @@ use Rattle.semver_base.specs.declared.lexical.values.Measured.TheVariants.{Fits,
 use Rattle.semver_base.specs.declared.partial.Partial.{Partial}
 use Rattle.semver_base.specs.declared.partial.XRange.{XRange}
 use Rattle.semver_base.specs.declared.partial.XRange.TheVariants.{Wildcard, Val}
-use Rattle.semver_req.specs.Comparators.{Comparator, comparator_numbers, component_numbers, numbers}
+use Rattle.semver_req.specs.Comparators.{comparator_numbers, component_numbers, numbers}
 use Rattle.semver_req.specs.Partials.{component_fits, partial_fits}
 use Rattle.semver_req.specs.Written.{IsFront, comparator_of}
 use Rattle.semver_req.specs.declared.common.comparator.Mark.{Mark}

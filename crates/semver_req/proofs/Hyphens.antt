@@ -1,11 +1,11 @@
 -- Hyphen ranges at the front of a text.
 use Rattle.std.proofs.Common.{◌≡◌, ℕ, false, List, ◌∷◌, length, ◌==◌, Option, Some, None, ap₂}
+use Rattle.semver_base.specs.Comparators.{Comparator}
 use Rattle.semver_base.specs.Grammar.{HasNone, IsLongest, IsSeen, ReadsAs}
 use Rattle.semver_base.specs.Lexical.{IsBlanks, IsSomeBlanks}
 use Rattle.semver_base.specs.declared.lexical.values.Measured.{Measured}
 use Rattle.semver_base.specs.declared.partial.Partial.{Partial}
 use Rattle.semver_base.proofs.Fronts.{followed, followed_none_second, joined_none_first, mapped, mapped_none, marked_none, marked_other, marked_some}
-use Rattle.semver_req.specs.Comparators.{Comparator}
 use Rattle.semver_req.specs.Partials.{IsPartial, sized_partial}
 use Rattle.semver_req.specs.PieceSteps.{sized_hyphen}
 use Rattle.semver_req.specs.Pieces.{IsHyphen, IsHyphened, IsHyphenPair, IsUpper}

@@ -7,6 +7,7 @@ use Rattle.std.proofs.lemmas.List.Folds.{list_all-append}
 use Rattle.std.specs.List.{list_all}
 use Rattle.std.specs.Prelude.{◌&&◌, if◌then◌else◌}
 use Rattle.semver_base.specs.Clamp.{clamped}
+use Rattle.semver_base.specs.Comparators.{Comparator, comparator_line, comparator_range}
 use Rattle.semver_base.specs.Meaning.{everything}
 use Rattle.semver_base.specs.PartialTable.{IsBoundRefusal, all_fit}
 use Rattle.semver_base.specs.declared.failure.Refusal.{Refusal}
@@ -15,7 +16,6 @@ use Rattle.semver_base.specs.declared.lexical.values.Measured.TheVariants.{Fits,
 use Rattle.semver_base.specs.declared.partial.Partial.{Partial}
 use Rattle.semver_base.specs.declared.range.VersionRange.{VersionRange}
 use Rattle.semver_base.proofs.Orders.{and_false, and_true}
-use Rattle.semver_req.specs.Comparators.{Comparator, comparator_line, comparator_range}
 use Rattle.semver_req.specs.KeptSet.{folded}
 use Rattle.semver_req.specs.Partials.{partial_fits, sized_partial}
 use Rattle.semver_req.specs.PieceReading.{joined, numbers_fit, sums_fit}

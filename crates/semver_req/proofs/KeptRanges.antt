@@ -2,10 +2,10 @@
 use Rattle.std.proofs.Common.{◌≡◌, ◌&&◌, ℕ, List, [], ◌∷◌, Bool, true, false, not, refl, ap}
 use Rattle.std.specs.List.{list_all}
 use Rattle.std.specs.Prelude.{if◌then◌else◌}
+use Rattle.semver_base.specs.Comparators.{Comparator}
 use Rattle.semver_base.specs.Overlap.{ends_at_zero}
 use Rattle.semver_base.specs.declared.range.VersionRange.{VersionRange}
 use Rattle.semver_base.proofs.Orders.{and_both}
-use Rattle.semver_req.specs.Comparators.{Comparator}
 use Rattle.semver_req.specs.KeptSet.{kept, kept_range}
 use Rattle.semver_req.specs.Outcome.{IsOutcome, IsStrictOutcome, whole, left_over, no_front, no_fit, IsTagOr, tag, no_tag, Outcome, Ranges, Tag, Refused}
 use Rattle.semver_req.specs.declared.common.values.Flavour.{Flavour}

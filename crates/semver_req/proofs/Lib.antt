@@ -10,7 +10,6 @@ pub mod KeptRanges
 pub mod LedReadings
 pub mod Marks
 pub mod NpmComparators
-pub mod NormalTable
 pub mod OneOutcome
 pub mod OutcomesFit
 pub mod OutcomesHaveParts

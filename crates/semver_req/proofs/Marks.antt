@@ -6,6 +6,7 @@ use Rattle.semver_base.specs.Grammar.{Either, this, that, HasNone, IsLongest, Is
 use Rattle.semver_base.specs.Lexical.{IsBlanks}
 use Rattle.semver_base.specs.declared.lexical.values.Measured.{Measured}
 use Rattle.semver_base.specs.declared.partial.Partial.{Partial}
+use Rattle.semver_base.specs.declared.partial.PrimitiveKind.{PrimitiveKind}
 use Rattle.semver_base.proofs.Bytes.{Disjoint, none_by_byte}
 use Rattle.semver_base.proofs.Fronts.{NonEmpty, either_none, either_that, either_this, followed, joined_none_first, mapped, mapped_none, marked_none, marked_other, marked_some}
 use Rattle.semver_base.proofs.Readings.{some_within}
@@ -17,7 +18,6 @@ use Rattle.semver_req.specs.declared.common.comparator.Mark.TheVariants as mark
 use Rattle.semver_req.specs.declared.common.comparator.Written.{Written}
 use Rattle.semver_req.specs.declared.common.values.Flavour.{Flavour}
 use Rattle.semver_req.specs.declared.common.values.Flavour.TheVariants.{Normal}
-use Rattle.semver_req.specs.declared.common.values.PrimitiveKind.{PrimitiveKind}
 use Rattle.semver_req.proofs.ComparatorReadings.{core_some, is_sign_byte, partial_within, sign_begins, sign_some}
 use Rattle.semver_req.proofs.Signs.{any_begins, blanks_apart, is_partial_byte, primitive_none, sign_apart}
 

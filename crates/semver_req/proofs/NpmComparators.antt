@@ -6,21 +6,22 @@ use Rattle.std.specs.Prelude.{codes, unwrap_or}
 use Rattle.std.proofs.lemmas.Bool.{eq-eqb}
 use Rattle.std.proofs.lemmas.Bool.Decides.{nat_tests}
 use Rattle.std.proofs.lemmas.Str.{NoCharPasses-nil}
+use Rattle.semver_base.specs.Comparators.{Comparator, Tilde, Caret}
 use Rattle.semver_base.specs.Grammar.{After, Either, this, that, HasNone, IsAfter, IsLongest, Marked, ReadsAs}
 use Rattle.semver_base.specs.Lexical.{IsBlanks, IsSomeBlanks}
 use Rattle.semver_base.specs.declared.lexical.values.Measured.{Measured}
 use Rattle.semver_base.specs.declared.partial.Partial.{Partial}
+use Rattle.semver_base.specs.declared.partial.PrimitiveKind.{PrimitiveKind}
 use Rattle.semver_base.proofs.Blanks.{is_blank_byte}
 use Rattle.semver_base.proofs.Bytes.{BeginsBy, Disjoint, GoesBy, apart_by, begins_from_made, goes_from_made, joined_begins, joined_some_text, mapped_begins, marked_begins}
 use Rattle.semver_base.proofs.Fronts.{Apart, either_longer, either_none, either_that, either_this, followed, followed_none_second, joined_none_first, mapped, mapped_none, marked_none, marked_other, marked_some, optional_none, optional_some}
-use Rattle.semver_req.specs.Comparators.{Comparator, Tilde, Caret, IsComparator, IsEquals, no_more, one_more, IsIgnored, IsLed, IsNpmCaret, IsNpmTilde, IsPlain, IsSign, IsSigned}
+use Rattle.semver_req.specs.Comparators.{IsComparator, IsEquals, no_more, one_more, IsIgnored, IsLed, IsNpmCaret, IsNpmTilde, IsPlain, IsSign, IsSigned}
 use Rattle.semver_req.specs.Partials.{IsPartial, sized_partial}
 use Rattle.semver_req.specs.Written.{IsNpmFront, IsNpmMarkCut, IsTildes, ReadsByMark, ReadsComparator, ReadsMarked, comparator_of, with_mark}
 use Rattle.semver_req.specs.declared.common.comparator.Mark.{Mark}
 use Rattle.semver_req.specs.declared.common.comparator.Mark.TheVariants as mark
 use Rattle.semver_req.specs.declared.common.comparator.Written.{Written}
 use Rattle.semver_req.specs.declared.common.values.Flavour.TheVariants.{Npm}
-use Rattle.semver_req.specs.declared.common.values.PrimitiveKind.{PrimitiveKind}
 use Rattle.semver_req.proofs.ComparatorReadings.{ignored_word, is_word_byte, sign_some, some_blanks_made, tildes_some}
 use Rattle.semver_req.proofs.LedReadings.{is_ordered_byte, led_begins}
 use Rattle.semver_req.proofs.Marks.{after_caret, after_tilde, caret_no_sign, no_plain, signed_byte, tilde_no_sign}

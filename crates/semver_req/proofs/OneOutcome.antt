@@ -1,9 +1,10 @@
 -- A text has one outcome, in the grammar of each reader.
 use Rattle.std.proofs.Common.{◌≡◌, ◌<◌, ℕ, Bool, true, false, List, [], ◌∷◌, length, refl, sym, ap, ◌∙◌, arith, inl, inr, length-append}
 use Rattle.std.specs.Str.{trim}
+use Rattle.semver_base.specs.Comparators.{Comparator}
 use Rattle.semver_base.specs.Grammar.{HasNone, IsLongest}
 use Rattle.semver_base.proofs.Fronts.{one_front, same_fronts}
-use Rattle.semver_req.specs.Comparators.{Comparator, fits}
+use Rattle.semver_req.specs.Comparators.{fits}
 use Rattle.semver_req.specs.Outcome.{AreGoodOnes, none_left, good, bad, IsBad, IsGood, IsCutOutcome, one_good, one_bad, npm_many, normal_many, normal_refused, IsStrictOutcome, whole, left_over, no_front, no_fit, IsStrictRange, IsTagOr, tag, no_tag, Outcome, Ranges, TextsHaveOneOutcome}
 use Rattle.semver_req.specs.Pieces.{AreMorePieces, no_piece, last_piece, cut_piece, ArePieces, one_piece, first_cut, HasNoBar, IsCutAt, IsTrimmed}
 use Rattle.semver_req.specs.declared.common.values.Flavour.{Flavour}

@@ -1,8 +1,9 @@
 -- The comparators of every outcome fit.
 use Rattle.std.proofs.Common.{◌≡◌, ℕ, List, Bool, true, refl, ap, inl, inr}
 use Rattle.std.specs.List.{list_all}
+use Rattle.semver_base.specs.Comparators.{Comparator}
 use Rattle.semver_base.proofs.Orders.{and_both}
-use Rattle.semver_req.specs.Comparators.{Comparator, fits}
+use Rattle.semver_req.specs.Comparators.{fits}
 use Rattle.semver_req.specs.Outcome.{AreGoodOnes, none_left, good, bad, IsGood, IsCutOutcome, IsOutcome, one_good, one_bad, npm_many, normal_many, normal_refused, IsStrictOutcome, whole, left_over, no_front, no_fit, IsTagOr, tag, no_tag, Outcome, Ranges, Tag, Refused}
 use Rattle.semver_req.specs.declared.common.values.Flavour.{Flavour}
 use Rattle.semver_req.specs.declared.common.values.Flavour.TheVariants.{Npm, Normal, Specifier}

@@ -1,16 +1,17 @@
 -- The identifiers of the comparators of every outcome are parts.
 use Rattle.std.proofs.Common.{ℕ, List, [], ◌∷◌, Bool, Option, Some, None, refl, sym, subst, inl, inr}
+use Rattle.semver_base.specs.Comparators.{Comparator}
 use Rattle.semver_base.specs.Grammar.{After, Before, this, that, Listed, last_item, closed_item, more_items, Mapped, Marked, Optional}
 use Rattle.semver_base.specs.Lexical.{IsBlanks, IsBuild, IsSomeBlanks, IsPart, IsParts, IsPre, IsQualifier, or_none}
+use Rattle.semver_base.specs.NormalText.{AreWritableRanges}
 use Rattle.semver_base.specs.VersionText.{AreParts}
 use Rattle.semver_base.specs.declared.lexical.values.Qualifier.{Qualifier}
 use Rattle.semver_base.specs.declared.lexical.values.Strictness.{Strictness}
 use Rattle.semver_base.specs.declared.lexical.values.Strictness.TheVariants.{Loose, Strict}
 use Rattle.semver_base.specs.declared.partial.Partial.{Partial}
 use Rattle.semver_base.specs.declared.partial.XRange.{XRange}
-use Rattle.semver_req.specs.Comparators.{Comparator, IsComparator, IsLed, IsMarked, IsPlain, IsSigned}
+use Rattle.semver_req.specs.Comparators.{IsComparator, IsLed, IsMarked, IsPlain, IsSigned}
 use Rattle.semver_req.specs.KeptSet.{kept}
-use Rattle.semver_req.specs.NormalText.{AreWritableRanges}
 use Rattle.semver_req.specs.Outcome.{AreGoodOnes, none_left, good, bad, IsGood, IsCutOutcome, IsOutcome, one_good, one_bad, npm_many, normal_many, normal_refused, IsStrictOutcome, whole, left_over, no_front, no_fit, IsTagOr, tag, no_tag, Outcome, Ranges, Tag, Refused}
 use Rattle.semver_req.specs.Partials.{IsPartial, IsPlainPartial, IsSecond, IsThird, partial_of, strictness_of}
 use Rattle.semver_req.specs.Pieces.{IsFilled, IsHyphen, IsNpmSeparator, IsPiece}

@@ -4,6 +4,7 @@ use Rattle.std.specs.Prelude.{◌||◌}
 use Rattle.std.specs.List.{list_all}
 use Rattle.std.proofs.lemmas.Bool.{and_parts, or_left}
 use Rattle.std.proofs.lemmas.Bool.Decides.{nat_tests}
+use Rattle.semver_base.specs.Comparators.{Comparator}
 use Rattle.semver_base.specs.Grammar.{After, this, that, IsLongest, Listed, last_item, closed_item, more_items, Marked, Stops}
 use Rattle.semver_base.specs.Lexical.{IsBlanks, IsSomeBlanks}
 use Rattle.semver_base.specs.declared.partial.Partial.{Partial}
@@ -12,7 +13,7 @@ use Rattle.semver_base.proofs.Bytes.{BeginsBy, Disjoint, GoesBy, MadeOf, apart_b
 use Rattle.semver_base.proofs.Fronts.{Apart, NonEmpty, one_front}
 use Rattle.semver_base.proofs.Lists.{IsListing, listed_begins, listed_some}
 use Rattle.semver_base.proofs.Readings.{EachByte, Never, Unambiguous, after_one, before_one, each_made, either_one, followed_one, goes_within, in_place, listed_one, mapped_one, marked_one, never_by, some_within, unit_one}
-use Rattle.semver_req.specs.Comparators.{Comparator, IsComparator}
+use Rattle.semver_req.specs.Comparators.{IsComparator}
 use Rattle.semver_req.specs.Partials.{IsPartial}
 use Rattle.semver_req.specs.Pieces.{IsFilled, IsHyphen, IsHyphened, IsMark, IsNpmSeparator, IsPiece, IsSeparator, IsUpper}
 use Rattle.semver_req.specs.declared.common.values.Flavour.{Flavour}

@@ -8,15 +8,17 @@ use Rattle.std.specs.Char.{is_not_whitespace}
 use Rattle.std.specs.Prelude.{◌⊎◌, ◌↔◌, IsTrue, if◌then◌else◌}
 use Rattle.std.proofs.lemmas.Str.{NoCharPasses-nil}
 use Rattle.std.specs.Str.{trim}
+use Rattle.semver_base.specs.Comparators.{Caret, Comparator, Hyphen, Plain, Signed, Tilde, comparator_range}
 use Rattle.semver_base.specs.Grammar.{this, that, HasNone, IsLongest, Listed, last_item, closed_item, more_items}
 use Rattle.semver_base.specs.Lexical.{IsBlanks}
 use Rattle.semver_base.specs.Overlap.{ends_at_zero}
 use Rattle.semver_base.specs.declared.failure.Refusal.{Refusal}
 use Rattle.semver_base.specs.declared.failure.Refusal.TheVariants.{BoundTooLarge, NumberTooLarge, UnexpectedCharacter}
-use Rattle.semver_base.specs.declared.range.VersionRange.{VersionRange}
-use Rattle.semver_base.proofs.Orders.{and_both, and_first, and_second}
 use Rattle.semver_base.specs.declared.partial.Partial.{Partial}
-use Rattle.semver_req.specs.Comparators.{Caret, Comparator, Hyphen, IsComparator, Plain, Signed, Tilde, comparator_range, fits}
+use Rattle.semver_base.specs.declared.range.VersionRange.{VersionRange}
+use Rattle.semver_base.proofs.Blanks.{blank_whole}
+use Rattle.semver_base.proofs.Orders.{and_both, and_first, and_second}
+use Rattle.semver_req.specs.Comparators.{IsComparator, fits}
 use Rattle.semver_req.specs.KeptSet.{folded, kept, kept_range, without_none}
 use Rattle.semver_req.specs.Outcome.{AreGoodOnes, none_left, good, bad, IsBad, IsGood, IsCutOutcome, IsOutcome, one_good, one_bad, npm_many, normal_many, normal_refused, IsTagOr, tag, no_tag, Outcome, Ranges, Tag, Refused, worked_on}
 use Rattle.semver_req.specs.PieceReading.{IsFirstBad, this_bad, later_bad, IsCutRefusal, memory_wanting, bad_piece, IsPieceRead, IsPieceRefusal, outside, large_number, large_bound, as_kept, joined, kept_of, read_as, numbers_fit, sums_fit, refusal_failure}
@@ -31,7 +33,6 @@ use Rattle.semver_req.specs.declared.range_set_or_tag.RangeOrInvalid.{RangeOrInv
 use Rattle.semver_req.specs.declared.range_set_or_tag.RangeOrInvalid.TheVariants as read
 use Rattle.semver_req.specs.declared.range_set_or_tag.RangeSetOrTag.{RangeSetOrTag}
 use Rattle.semver_req.specs.declared.range_set_or_tag.RangeSetOrTag.TheVariants as inner
-use Rattle.semver_base.proofs.Blanks.{blank_whole}
 use Rattle.semver_req.proofs.PieceReadings.{blank_piece, piece_one}
 
 -- ---- one piece

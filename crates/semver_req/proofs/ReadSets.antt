@@ -2,15 +2,15 @@
 use Rattle.std.proofs.Common.{◌≡◌, List, [], ◌∷◌, true, refl, sym, subst, ap, ◌∙◌}
 use Rattle.std.specs.List.{list_all}
 use Rattle.semver_base.specs.Meaning.{alternatives, tree_means}
+use Rattle.semver_base.specs.NormalText.{AreWritableRanges}
+use Rattle.semver_base.specs.Shortest.{shortest_tree}
 use Rattle.semver_base.specs.declared.range.VersionRange.{VersionRange}
 use Rattle.semver_base.specs.declared.version.Version.{Version}
 use Rattle.semver_base.proofs.Orders.{and_both, and_first, and_second}
 use Rattle.semver_req.specs.KeptSet.{IsReadSet}
-use Rattle.semver_req.specs.NormalText.{AreWritableRanges}
 use Rattle.semver_req.specs.Outcome.{tree_ranges}
 use Rattle.semver_req.specs.Rereading.{is_orderly, keeps_meaning}
 use Rattle.semver_req.specs.Settled.{reread_set}
-use Rattle.semver_req.specs.Shortest.{shortest_tree}
 use Rattle.semver_req.proofs.KeptRanges.{is_kept, outcome_is_kept}
 use Rattle.semver_req.proofs.OutcomesHaveParts.{outcome_writable}
 use Rattle.semver_req.proofs.SettledSets.{orderly_reread, reread_set_means, set_settles, tree_form_means}

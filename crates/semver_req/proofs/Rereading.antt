@@ -1,15 +1,15 @@
 -- The normal text of a set that was read, read again.
 use Rattle.std.proofs.Common.{◌≡◌, ℕ, List, refl, sym, subst, ap, ◌∙◌}
+use Rattle.semver_base.specs.Comparators.{Comparator}
 use Rattle.semver_base.specs.Meaning.{alternatives, tree_means}
+use Rattle.semver_base.specs.NormalText.{set_text}
+use Rattle.semver_base.specs.Shortest.{shortest_tree}
 use Rattle.semver_base.specs.declared.range.VersionRange.{VersionRange}
-use Rattle.semver_req.specs.Comparators.{Comparator}
 use Rattle.semver_req.specs.KeptSet.{IsReadSet, kept}
-use Rattle.semver_req.specs.NormalText.{set_text}
 use Rattle.semver_req.specs.Outcome.{IsOutcome, Ranges, tree_ranges}
 use Rattle.semver_req.specs.Pieces.{IsCutting, npm, normal}
 use Rattle.semver_req.specs.Rereading.{IsRereadAs, NormalTextsKeepTheirMeaning, OneRereadingSettles, SettledSetsAreTheirTexts}
 use Rattle.semver_req.specs.Settled.{reread_set}
-use Rattle.semver_req.specs.Shortest.{shortest_tree}
 use Rattle.semver_req.specs.declared.common.values.Flavour.{Flavour}
 use Rattle.semver_req.specs.declared.common.values.Flavour.TheVariants.{Normal}
 use Rattle.semver_req.proofs.OneOutcome.{one_outcome}

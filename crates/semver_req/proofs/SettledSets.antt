@@ -5,11 +5,13 @@ use Rattle.std.specs.List.{list_all}
 use Rattle.std.specs.Prelude.{if◌then◌else◌}
 use Rattle.std.specs.declared.cmp.Ordering.{Ordering}
 use Rattle.std.specs.declared.cmp.Ordering.TheVariants.{Less, Equal, Greater}
+use Rattle.semver_base.specs.Comparators.{Comparator, comparator_range}
 use Rattle.semver_base.specs.Meaning.{alternatives, from, release, to_below, tree_means}
 use Rattle.semver_base.specs.Overlap.{ends_at_zero, lies_within, starts_before}
 use Rattle.semver_base.specs.PartialTable.{up_to, between, bound_at}
 use Rattle.semver_base.specs.Precedence.{precedence_cmp}
 use Rattle.semver_base.specs.PrecedenceLaws.{version_eq, version_told}
+use Rattle.semver_base.specs.Shortest.{ending, is_plain, shortest, shortest_between, shortest_of, shortest_tree, starting}
 use Rattle.semver_base.specs.declared.range.RangeBound.{RangeBound}
 use Rattle.semver_base.specs.declared.range.RangeBound.TheVariants as bound
 use Rattle.semver_base.specs.declared.range.VersionBoundKind.{VersionBoundKind}
@@ -17,18 +19,17 @@ use Rattle.semver_base.specs.declared.range.VersionBoundKind.TheVariants as kind
 use Rattle.semver_base.specs.declared.range.VersionRange.{VersionRange}
 use Rattle.semver_base.specs.declared.version.Version.{Version}
 use Rattle.semver_base.proofs.Orders.{and_both, and_first, and_second}
-use Rattle.semver_req.specs.Comparators.{Comparator, comparator_range}
+use Rattle.semver_base.proofs.PlainVersions.{same_number}
 use Rattle.semver_req.specs.KeptSet.{kept, kept_range}
 use Rattle.semver_req.specs.Outcome.{tree_ranges}
 use Rattle.semver_req.specs.Rereading.{has_no_build, has_own_form, is_orderly, is_pre_of_zero, keeps_meaning, keeps_start}
 use Rattle.semver_req.specs.Settled.{IsSettled, all, no_end, one_version, short, ordered, reread, reread_set}
-use Rattle.semver_req.specs.Shortest.{ending, is_plain, shortest, shortest_between, shortest_of, shortest_tree, starting}
 use Rattle.semver_req.specs.declared.common.values.Flavour.TheVariants.{Normal}
 use Rattle.semver_req.proofs.Folding.{comparator_empty, kept_means, nothing_means}
 use Rattle.semver_req.proofs.KeptRanges.{is_kept}
 use Rattle.semver_req.proofs.Settling.{both_kept, end_kept, form_read, reread_settled, same_version, settled_reread, version_read}
+use Rattle.semver_req.proofs.ShortestMeaning.{by_form, by_test, ge_turned, short_end, shortest_means, zero_le}
 use Rattle.semver_req.proofs.Starts.{has_start, kept_range_starts, starts_or_is_open}
-use Rattle.semver_req.proofs.ShortestMeaning.{by_form, by_test, ge_turned, same_number, short_end, shortest_means, zero_le}
 
 -- ---- what the form of a set means
 

@@ -7,10 +7,12 @@ use Rattle.std.specs.Prelude.{nat_lt}
 use Rattle.std.specs.declared.cmp.Ordering.{Ordering}
 use Rattle.std.specs.declared.cmp.Ordering.TheVariants.{Less, Equal, Greater}
 use Rattle.semver_base.specs.Clamp.{clamped, greater_of, of_tied, stopped_at, stopped_by}
+use Rattle.semver_base.specs.Comparators.{Caret, Comparator, Hyphen, Plain, Signed, Tilde, comparator_range}
 use Rattle.semver_base.specs.Meaning.{everything, from, release, to_below}
 use Rattle.semver_base.specs.PartialTable.{up_to, between, bound_at, without_build}
 use Rattle.semver_base.specs.Precedence.{precedence_cmp}
 use Rattle.semver_base.specs.PrecedenceLaws.{precedence-anti, precedence_total, version_eq, version_told}
+use Rattle.semver_base.specs.Shortest.{ending, has_short_form, is_caret_patch, is_major, is_plain, is_tilde, shortest_between, shortest_of, starting, whole}
 use Rattle.semver_base.specs.declared.range.RangeBound.{RangeBound}
 use Rattle.semver_base.specs.declared.range.RangeBound.TheVariants as bound
 use Rattle.semver_base.specs.declared.range.VersionBoundKind.{VersionBoundKind}
@@ -18,12 +20,11 @@ use Rattle.semver_base.specs.declared.range.VersionBoundKind.TheVariants as kind
 use Rattle.semver_base.specs.declared.range.VersionRange.{VersionRange}
 use Rattle.semver_base.specs.declared.version.Version.{Version}
 use Rattle.semver_base.proofs.Orders.{and_first, and_second, or_cases, turned}
-use Rattle.semver_req.specs.Comparators.{Caret, Comparator, Hyphen, Plain, Signed, Tilde, comparator_range}
+use Rattle.semver_base.proofs.PlainVersions.{plain_is, same_number, version_of}
 use Rattle.semver_req.specs.KeptSet.{kept_range}
 use Rattle.semver_req.specs.Settled.{IsSettled, all, no_end, one_version, short, ordered, empty_at_end, reread}
-use Rattle.semver_req.specs.Shortest.{ending, has_short_form, is_caret_patch, is_major, is_plain, is_tilde, shortest_between, shortest_of, starting, whole}
+use Rattle.semver_req.proofs.ShortestMeaning.{by_form, by_test}
 use Rattle.semver_req.proofs.Starts.{has_start, starts_or_is_open}
-use Rattle.semver_req.proofs.ShortestMeaning.{by_form, by_test, plain_is, same_number, version_of}
 
 -- ---- versions without builds
 

@@ -2,16 +2,17 @@
 use Rattle.std.proofs.Common.{◌≡◌, ◌&&◌, ◌||◌, ◌==◌, ◌+◌, ◌<◌, ℕ, List, [], ◌∷◌, length, Bool, true, false, map, not, refl, sym, ap, ap₂, ◌∙◌, inl, inr, arith}
 use Rattle.std.proofs.lemmas.Bool.Decides.{nat_tests}
 use Rattle.std.proofs.lemmas.Cmp.{ranked}
-use Rattle.std.proofs.lemmas.List.{nil_from_length}
 use Rattle.std.specs.FinMap.{nat_cmp-IsAntisymmetric}
 use Rattle.std.specs.Ordering.{is_ge, is_le, nat_cmp, ordering_then, MatchOrdering}
 use Rattle.std.specs.Prelude.{if◌then◌else◌, nat_lt}
 use Rattle.std.specs.declared.cmp.Ordering.{Ordering}
 use Rattle.std.specs.declared.cmp.Ordering.TheVariants.{Less, Equal, Greater}
+use Rattle.semver_base.specs.Comparators.{Caret, Comparator, Plain, Tilde, comparator_range}
 use Rattle.semver_base.specs.Meaning.{alternative_means, from, is_above, release, to_below}
 use Rattle.semver_base.specs.PartialTable.{up_to, between, bound_at, caret}
 use Rattle.semver_base.specs.Precedence.{precedence_cmp, pre_cmp}
 use Rattle.semver_base.specs.PrecedenceLaws.{precedence_total, version_eq, version_told}
+use Rattle.semver_base.specs.Shortest.{ending, has_short_form, is_caret_major, is_caret_patch, is_major, is_minor, is_plain, is_tilde, numbered, shortest, shortest_between, shortest_of, starting, whole}
 use Rattle.semver_base.specs.declared.partial.XRange.TheVariants.{Wildcard, Val}
 use Rattle.semver_base.specs.declared.range.RangeBound.{RangeBound}
 use Rattle.semver_base.specs.declared.range.RangeBound.TheVariants as bound
@@ -21,9 +22,8 @@ use Rattle.semver_base.specs.declared.range.VersionRange.{VersionRange}
 use Rattle.semver_base.specs.declared.version.Version.{Version}
 use Rattle.semver_base.proofs.ClampLemmas.{above_ge}
 use Rattle.semver_base.proofs.Orders.{and_both, and_first, and_second, le_le, le_turned, or_cases, or_first, or_second, turned}
-use Rattle.semver_req.specs.Comparators.{Caret, Comparator, Plain, Tilde, comparator_range}
+use Rattle.semver_base.proofs.PlainVersions.{plain_is, same_number}
 use Rattle.semver_req.specs.Rereading.{has_own_form, is_pre_of_zero, keeps_meaning, keeps_start}
-use Rattle.semver_req.specs.Shortest.{ending, has_short_form, is_caret_major, is_caret_patch, is_major, is_minor, is_plain, is_tilde, numbered, shortest, shortest_between, shortest_of, starting, whole}
 use Rattle.semver_req.proofs.Starts.{has_start, starts_or_is_open}
 
 -- the comparators mean what the range means
@@ -37,27 +37,8 @@ by_test P false fits other = other refl
 
 -- ---- plain versions
 
-pub same_number : (a b : ℕ) → (a == b) ≡ true → a ≡ b
-same_number a b e = grind (arith, nat_tests)
-
 number_same : (a b : ℕ) → a ≡ b → (a == b) ≡ true
 number_same a b e = grind (arith, nat_tests)
-
-abbrev pub version_of : ℕ → ℕ → ℕ → List (List ℕ) → List (List ℕ) → Version
-version_of major minor patch pre build = record { major = major; minor = minor; patch = patch; pre = pre; build = build }
-
-pub plain_is : (v : Version) (major minor patch : ℕ) → is_plain v major minor patch ≡ true → v ≡ release major minor patch
-plain_is v major minor patch h =
-    let h1 = and_second (v.major == major) _ h in
-    let h2 = and_second (v.minor == minor) _ h1 in
-    let h3 = and_second (v.patch == patch) _ h2 in
-    let major_is : v.major ≡ major = same_number _ _ (and_first (v.major == major) _ h) in
-    let minor_is : v.minor ≡ minor = same_number _ _ (and_first (v.minor == minor) _ h1) in
-    let patch_is : v.patch ≡ patch = same_number _ _ (and_first (v.patch == patch) _ h2) in
-    let pre_is : v.pre ≡ [] = nil_from_length v.pre (same_number _ _ (and_first (length v.pre == 0) _ h3)) in
-    let build_is : v.build ≡ [] = nil_from_length v.build (same_number _ _ (and_second (length v.pre == 0) _ h3)) in
-    let same : version_of v.major v.minor v.patch v.pre v.build ≡ version_of major minor patch [] [] = rw (major_is, minor_is, patch_is, pre_is, build_is) refl in
-    same
 
 -- ---- 0.0.0
 

@@ -3,19 +3,20 @@ use Rattle.std.proofs.Common.{◌≡◌, ◌≤◌, ◌<◌, ℕ, Bool, true, Li
 use Rattle.std.specs.Prelude.{◌||◌}
 use Rattle.std.proofs.lemmas.Bool.{cases_Bool, eq-eqb, or_left, or_right}
 use Rattle.std.proofs.lemmas.Bool.Decides.{nat_tests}
+use Rattle.semver_base.specs.Comparators.{sign_text}
 use Rattle.semver_base.specs.Grammar.{After, HasNone, IsLongest, IsSeen}
 use Rattle.semver_base.specs.Lexical.{IsBlanks}
 use Rattle.semver_base.specs.declared.lexical.values.Measured.{Measured}
 use Rattle.semver_base.specs.declared.partial.Partial.{Partial}
-use Rattle.semver_base.proofs.Fronts.{Apart, followed, followed_none_second, mapped, mapped_none}
+use Rattle.semver_base.specs.declared.partial.PrimitiveKind.{PrimitiveKind}
+use Rattle.semver_base.specs.declared.partial.PrimitiveKind.TheVariants.{GreaterThan, LessThan, GreaterThanOrEqual, LessThanOrEqual, Equal}
+use Rattle.semver_base.proofs.Blanks.{blanks_made, is_blank_byte}
 use Rattle.semver_base.proofs.Bytes.{BeginsBy, Disjoint, GoesBy, apart_by, begins_from_made, begins_wider, either_begins, goes_from_made, joined_begins_either, mapped_begins, marked_begins}
-use Rattle.semver_req.specs.Comparators.{IsPrimitive, IsSign, primitive_of, sign_text, sized_primitive}
+use Rattle.semver_base.proofs.Fronts.{Apart, followed, followed_none_second, mapped, mapped_none}
+use Rattle.semver_req.specs.Comparators.{IsPrimitive, IsSign, primitive_of, sized_primitive}
 use Rattle.semver_req.specs.Partials.{IsPartial, IsPlainPartial, partial_fits, sized_partial}
 use Rattle.semver_req.specs.declared.common.values.Flavour.{Flavour}
 use Rattle.semver_req.specs.declared.common.values.Flavour.TheVariants.{Npm, Normal, Specifier}
-use Rattle.semver_req.specs.declared.common.values.PrimitiveKind.{PrimitiveKind}
-use Rattle.semver_req.specs.declared.common.values.PrimitiveKind.TheVariants.{GreaterThan, LessThan, GreaterThanOrEqual, LessThanOrEqual, Equal}
-use Rattle.semver_base.proofs.Blanks.{blanks_made, is_blank_byte}
 use Rattle.semver_req.proofs.Components.{is_component_byte}
 use Rattle.semver_req.proofs.Partials.{partial_begins}
 

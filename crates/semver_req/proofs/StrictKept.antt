@@ -4,6 +4,7 @@ use Rattle.std.proofs.lemmas.Bool.Decides.{nat_tests}
 use Rattle.std.specs.Prelude.{if◌then◌else◌, nat_lt}
 use Rattle.std.specs.declared.cmp.Ordering.TheVariants.{Less}
 use Rattle.semver_base.specs.Clamp.{clamped}
+use Rattle.semver_base.specs.Comparators.{Caret, Comparator, Hyphen, Plain, Signed, Tilde, comparator_range}
 use Rattle.semver_base.specs.Grammar.{this, that}
 use Rattle.semver_base.specs.Meaning.{everything, from, release, to_below}
 use Rattle.semver_base.specs.Overlap.{ends_at_zero}
@@ -15,7 +16,6 @@ use Rattle.semver_base.specs.declared.partial.XRange.TheVariants.{Wildcard, Val}
 use Rattle.semver_base.specs.declared.range.VersionBoundKind.TheVariants as kind
 use Rattle.semver_base.specs.declared.range.VersionRange.{VersionRange}
 use Rattle.semver_base.specs.declared.version.Version.{Version}
-use Rattle.semver_req.specs.Comparators.{Caret, Comparator, Hyphen, Plain, Signed, Tilde, comparator_range}
 use Rattle.semver_req.specs.KeptSet.{kept_range}
 use Rattle.semver_req.specs.Outcome.{IsStrictRange}
 use Rattle.semver_req.proofs.Folding.{caret_ends, equal_ends, tilde_ends, upper_ends}

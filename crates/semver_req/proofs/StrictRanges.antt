@@ -5,6 +5,7 @@ use Rattle.std.specs.Result.{IsErrAnd}
 use Rattle.std.proofs.lemmas.Bool.{or_left, or_right}
 use Rattle.std.proofs.lemmas.Bool.Decides.{nat_tests}
 use Rattle.std.proofs.lemmas.List.{nil_from_length}
+use Rattle.semver_base.specs.Comparators.{Comparator, comparator_line, comparator_range}
 use Rattle.semver_base.specs.Failure.{message_of, refusal_message}
 use Rattle.semver_base.specs.Grammar.{this, that, HasNone}
 use Rattle.semver_base.specs.Lexical.{IsBlanks}
@@ -13,19 +14,19 @@ use Rattle.semver_base.specs.declared.failure.Refusal.{Refusal}
 use Rattle.semver_base.specs.declared.failure.Refusal.TheVariants.{BoundTooLarge, NumberTooLarge, UnexpectedCharacter}
 use Rattle.semver_base.specs.declared.partial.Partial.{Partial}
 use Rattle.semver_base.specs.declared.range.VersionRange.{VersionRange}
-use Rattle.semver_base.proofs.Fronts.{NonEmpty}
+use Rattle.semver_base.proofs.Blanks.{blanks_made, is_blank_byte}
 use Rattle.semver_base.proofs.Bytes.{BeginsBy, Disjoint, begins_from_made, begins_wider, either_begins, mapped_begins, marked_begins, none_by_byte}
-use Rattle.semver_req.specs.Comparators.{Comparator, comparator_line, comparator_range, fits}
+use Rattle.semver_base.proofs.Fronts.{NonEmpty}
+use Rattle.semver_req.specs.Comparators.{fits}
 use Rattle.semver_req.specs.Outcome.{IsStrictOutcome, whole, left_over, no_front, no_fit, IsStrictRange, IsTagOr, tag, no_tag, Outcome, Ranges, Tag, Refused}
 use Rattle.semver_req.specs.Readers.{Failure, IsReading}
 use Rattle.semver_req.specs.Strict.{IsNoTag, no_memory_left, blank_no_tag, other_no_tag, IsStrictRefusal, memory_wanting, something_follows, blank_text, no_range, large_number, large_bound, empty_constraint, unexpected_character}
-use Rattle.semver_req.specs.Written.{comparator_of}
 use Rattle.semver_req.specs.Tag.{is_valid_tag}
+use Rattle.semver_req.specs.Written.{comparator_of}
+use Rattle.semver_req.specs.declared.common.comparator.Mark.{Mark}
 use Rattle.semver_req.specs.declared.common.values.Flavour.TheVariants.{Specifier}
 use Rattle.semver_req.specs.declared.range_set_or_tag.RangeSetOrTag.{RangeSetOrTag}
 use Rattle.semver_req.specs.declared.range_set_or_tag.RangeSetOrTag.TheVariants as inner
-use Rattle.semver_req.specs.declared.common.comparator.Mark.{Mark}
-use Rattle.semver_base.proofs.Blanks.{blanks_made, is_blank_byte}
 use Rattle.semver_req.proofs.Components.{is_component_byte}
 use Rattle.semver_req.proofs.Fitting.{FittingFront, LargeFront}
 use Rattle.semver_req.proofs.OneOutcome.{some_or_none}

@@ -7,12 +7,16 @@ use Rattle.std.specs.Prelude.{if◌then◌else◌, nat_lt, ◌++◌, ◌^◌}
 use Rattle.std.specs.declared.cmp.Ordering.{Ordering}
 use Rattle.std.specs.declared.cmp.Ordering.TheVariants.{Less, Equal, Greater}
 use Rattle.semver_base.specs.Clamp.{clamped, clamped_end, clamped_start, greater_of, lesser_of, of_tied, stopped_at, stopped_by}
+use Rattle.semver_base.specs.Comparators.{Caret, Comparator, Hyphen, Plain, Signed, Tilde, comparator_range, signed_line}
 use Rattle.semver_base.specs.Meaning.{everything, release}
+use Rattle.semver_base.specs.NormalText.{AreWritableRanges, IsWritableBound, IsWritableRange}
 use Rattle.semver_base.specs.Overlap.{ends_at_zero}
 use Rattle.semver_base.specs.PartialTable.{above_by, all_fit, at_least_by, at_most_by, below_by, caret_by, caret_patch, equal_by, greater_range_by, lower_to_below, lowest, number_fits, or_zero, version_with_pre, tilde_by, upper_by, without_build, Line}
 use Rattle.semver_base.specs.Precedence.{precedence_cmp}
 use Rattle.semver_base.specs.VersionText.{AreParts, IsWritable}
 use Rattle.semver_base.specs.declared.partial.Partial.{Partial}
+use Rattle.semver_base.specs.declared.partial.PrimitiveKind.{PrimitiveKind}
+use Rattle.semver_base.specs.declared.partial.PrimitiveKind.TheVariants as sign
 use Rattle.semver_base.specs.declared.partial.XRange.{XRange}
 use Rattle.semver_base.specs.declared.partial.XRange.TheVariants.{Wildcard, Val}
 use Rattle.semver_base.specs.declared.range.RangeBound.{RangeBound}
@@ -22,13 +26,10 @@ use Rattle.semver_base.specs.declared.range.VersionBoundKind.{VersionBoundKind}
 use Rattle.semver_base.specs.declared.range.VersionBoundKind.TheVariants as kind
 use Rattle.semver_base.specs.declared.range.VersionRange.{VersionRange}
 use Rattle.semver_base.proofs.Orders.{and_first, and_second}
-use Rattle.semver_req.specs.Comparators.{Caret, Comparator, Hyphen, Plain, Signed, Tilde, comparator_range, component_numbers, fits, numbers, signed_line}
+use Rattle.semver_req.specs.Comparators.{component_numbers, fits, numbers}
 use Rattle.semver_req.specs.KeptSet.{kept, kept_range}
-use Rattle.semver_req.specs.NormalText.{AreWritableRanges, IsWritableBound, IsWritableRange}
 use Rattle.semver_req.specs.declared.common.values.Flavour.{Flavour}
 use Rattle.semver_req.specs.declared.common.values.Flavour.TheVariants.{Npm, Normal, Specifier}
-use Rattle.semver_req.specs.declared.common.values.PrimitiveKind.{PrimitiveKind}
-use Rattle.semver_req.specs.declared.common.values.PrimitiveKind.TheVariants as sign
 
 -- ---- identifiers that are parts
 

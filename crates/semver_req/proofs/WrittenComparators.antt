@@ -7,13 +7,18 @@ use Rattle.std.specs.List.{list_all}
 use Rattle.std.proofs.lemmas.Bool.{and_from, and_parts, eqb-true, lt-ltb}
 use Rattle.std.proofs.lemmas.Bool.Decides.{nat_tests}
 use Rattle.std.proofs.lemmas.Str.{NoCharPasses-nil}
+use Rattle.semver_base.specs.Comparators.{Comparator, Tilde, Caret, Signed, Plain, comparator_line, sign_text}
 use Rattle.semver_base.specs.Grammar.{Followed, Optional, this, that}
 use Rattle.semver_base.specs.Lexical.{IsBlanks}
 use Rattle.semver_base.specs.Meaning.{release}
+use Rattle.semver_base.specs.NormalText.{IsWritableBound, IsWritableRange, comparator_text, partial_text}
 use Rattle.semver_base.specs.PartialTable.{Line, all_fit, caret, caret_by, lower_to_below, equal, number_fits, tilde}
-use Rattle.semver_base.specs.VersionText.{IsWritable, marked, version_text}
 use Rattle.semver_base.specs.PrecedenceLaws.{version_eq}
+use Rattle.semver_base.specs.Shortest.{ending, is_caret_major, is_caret_patch, is_plain, numbered, shortest, shortest_between, shortest_of, starting, whole}
+use Rattle.semver_base.specs.VersionText.{IsWritable, marked, version_text}
 use Rattle.semver_base.specs.declared.partial.Partial.{Partial}
+use Rattle.semver_base.specs.declared.partial.PrimitiveKind.{PrimitiveKind}
+use Rattle.semver_base.specs.declared.partial.PrimitiveKind.TheVariants.{GreaterThan, LessThan, GreaterThanOrEqual, LessThanOrEqual}
 use Rattle.semver_base.specs.declared.partial.XRange.{XRange}
 use Rattle.semver_base.specs.declared.partial.XRange.TheVariants.{Wildcard, Val}
 use Rattle.semver_base.specs.declared.range.RangeBound.{RangeBound}
@@ -23,18 +28,14 @@ use Rattle.semver_base.specs.declared.range.VersionBoundKind.TheVariants as kind
 use Rattle.semver_base.specs.declared.range.VersionRange.{VersionRange}
 use Rattle.semver_base.specs.declared.version.Version.{Version}
 use Rattle.semver_base.proofs.Bytes.{MadeOf, joined_made, list_all-append, mapped_made, marked_made, optional_made}
+use Rattle.semver_base.proofs.PlainVersions.{plain_is}
 use Rattle.semver_base.proofs.Solid.{is_solid_byte, number_made, qualifier_made, some_text}
 use Rattle.semver_base.proofs.WrittenVersions.{after, follow, no_digit_written, number_written, qualifier_written}
-use Rattle.semver_req.specs.Comparators.{Comparator, Tilde, Caret, Signed, Plain, IsComparator, IsLed, comparator_line, fits, no_more, numbers, sign_text}
-use Rattle.semver_req.specs.NormalText.{IsWritableBound, IsWritableRange, comparator_text, partial_text}
+use Rattle.semver_req.specs.Comparators.{IsComparator, IsLed, fits, no_more, numbers}
 use Rattle.semver_req.specs.Partials.{IsComponent, IsPartial, IsPlainPartial, IsThird, is_wildcard, strictness_of}
-use Rattle.semver_req.specs.Shortest.{ending, is_caret_major, is_caret_patch, is_plain, numbered, shortest, shortest_between, shortest_of, starting, whole}
 use Rattle.semver_req.specs.declared.common.values.Flavour.{Flavour}
 use Rattle.semver_req.specs.declared.common.values.Flavour.TheVariants.{Npm, Normal, Specifier}
-use Rattle.semver_req.specs.declared.common.values.PrimitiveKind.{PrimitiveKind}
-use Rattle.semver_req.specs.declared.common.values.PrimitiveKind.TheVariants.{GreaterThan, LessThan, GreaterThanOrEqual, LessThanOrEqual}
 use Rattle.semver_req.proofs.Partials.{partial_some}
-use Rattle.semver_req.proofs.ShortestMeaning.{plain_is}
 
 -- ---- partial versions
 

@@ -9,18 +9,19 @@ use Rattle.std.proofs.lemmas.Bool.{and_from, and_parts}
 use Rattle.std.proofs.lemmas.Bool.Decides.{nat_tests}
 use Rattle.std.proofs.lemmas.Fmt.{decimal_digit}
 use Rattle.std.proofs.lemmas.Str.{encode_ascii}
+use Rattle.semver_base.specs.Comparators.{Comparator}
 use Rattle.semver_base.specs.Grammar.{Listed, last_item, closed_item, more_items, that}
 use Rattle.semver_base.specs.Lexical.{IsBlanks, IsSomeBlanks}
 use Rattle.semver_base.specs.Meaning.{release}
+use Rattle.semver_base.specs.NormalText.{AreWritableRanges, IsWritableRange, comparator_text, comparators_text, range_text, set_text}
+use Rattle.semver_base.specs.Shortest.{ending, shortest, shortest_tree}
 use Rattle.semver_base.specs.declared.range.VersionBoundKind.TheVariants as kind
 use Rattle.semver_base.specs.declared.range.VersionRange.{VersionRange}
+use Rattle.semver_base.proofs.Blanks.{blanks_made, is_blank_byte}
 use Rattle.semver_base.proofs.Bytes.{list_all-append, list_all-wider}
 use Rattle.semver_base.proofs.Fronts.{fronts, same, shorter, longer}
-use Rattle.semver_base.proofs.Blanks.{blanks_made, is_blank_byte}
 use Rattle.semver_base.proofs.Solid.{EndsSolid, StartsSolid, ends_after, ends_solid, is_solid_byte, solid_ascii, solid_no_blank, starts_before, starts_solid, trim_same}
-use Rattle.semver_req.specs.Comparators.{Comparator, fits}
-use Rattle.semver_req.specs.NormalText.{AreWritableRanges, IsWritableRange, comparator_text, comparators_text, range_text, set_text}
-use Rattle.semver_req.specs.Shortest.{ending, shortest, shortest_tree}
+use Rattle.semver_req.specs.Comparators.{fits}
 use Rattle.semver_req.specs.Outcome.{AreGoodOnes, none_left, good, IsCutOutcome, IsOutcome, one_good, npm_many, normal_many, Ranges}
 use Rattle.semver_req.specs.Pieces.{IsCutting, npm, normal, AreMorePieces, last_piece, cut_piece, one_piece, first_cut, HasNoBar, IsCutAt, IsFilled, IsPiece, IsTrimmed}
 use Rattle.semver_req.specs.declared.common.values.Flavour.{Flavour}

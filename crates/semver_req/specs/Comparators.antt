@@ -1,32 +1,22 @@
--- Comparators as they are written, and the bounds that they stand for. Source: node-semver's range grammar
--- (`primitive`, `tilde`, `caret`, `hyphen`), with the ignored signs and the leading `v` that npm accepts.
+-- Comparators as they are written. Source: node-semver's range grammar (`primitive`, `tilde`, `caret`), with the ignored
+-- signs and the leading `v` that npm accepts.
 use Rattle.std.specs.Prelude.{◌≡◌, ◌⊎◌, ℕ, List, [], ◌∷◌, ◌++◌, Bool, ◌&&◌, Option, codes, if◌then◌else◌}
+use Rattle.semver_base.specs.Comparators.{Caret, Comparator, Hyphen, Plain, Signed, Tilde, comparator_line, sign_text, signed}
 use Rattle.semver_base.specs.Grammar.{After, Either, Followed, IsText, Mapped, Marked, Optional}
 use Rattle.semver_base.specs.Lexical.{IsBlanks, IsByte, IsSomeBlanks}
-use Rattle.semver_base.specs.Meaning.{from}
-use Rattle.semver_base.specs.PartialTable.{Line, all_fit, between, caret, equal, greater_than, less_than, lowest, tilde, upper}
+use Rattle.semver_base.specs.PartialTable.{all_fit}
 use Rattle.semver_base.specs.declared.lexical.values.Measured.{Measured}
 use Rattle.semver_base.specs.declared.lexical.values.Measured.TheVariants.{Fits, TooLarge}
 use Rattle.semver_base.specs.declared.partial.Partial.{Partial}
+use Rattle.semver_base.specs.declared.partial.PrimitiveKind.{PrimitiveKind}
 use Rattle.semver_base.specs.declared.partial.XRange.{XRange}
 use Rattle.semver_base.specs.declared.partial.XRange.TheVariants.{Wildcard, Val}
-use Rattle.semver_base.specs.declared.range.VersionBoundKind.TheVariants as kind
-use Rattle.semver_base.specs.declared.range.VersionRange.{VersionRange}
 use Rattle.semver_req.specs.Partials.{IsPartial, partial_fits}
 use Rattle.semver_req.specs.declared.common.values.Flavour.{Flavour}
 use Rattle.semver_req.specs.declared.common.values.Flavour.TheVariants.{Npm, Normal, Specifier}
 use Rattle.semver_req.specs.declared.common.values.Primitive.{Primitive}
-use Rattle.semver_req.specs.declared.common.values.PrimitiveKind.{PrimitiveKind}
-use Rattle.semver_req.specs.declared.common.values.PrimitiveKind.TheVariants.{GreaterThan, LessThan, GreaterThanOrEqual, LessThanOrEqual, Equal}
 
 -- ---- signs
-
-abbrev pub sign_text : PrimitiveKind → List ℕ
-sign_text GreaterThan = codes ">"
-sign_text LessThan = codes "<"
-sign_text GreaterThanOrEqual = codes ">="
-sign_text LessThanOrEqual = codes "<="
-sign_text Equal = codes "="
 
 abbrev pub IsSign : List ℕ → PrimitiveKind → Type 0
 IsSign text sign = text ≡ sign_text sign
@@ -50,16 +40,6 @@ primitive_of kind (Fits p) = Fits (record { kind = kind; partial = p })
 primitive_of kind TooLarge = TooLarge
 
 -- ---- comparators as they are written
-
-pub data Comparator : Type 0 where
-  Tilde : Partial → Comparator
-  Caret : Partial → Comparator
-  Signed : PrimitiveKind → Partial → Comparator
-  Plain : Partial → Comparator
-  Hyphen : Partial → Partial → Comparator
-
-abbrev pub signed : PrimitiveKind × Partial → Comparator
-signed v = Signed v.0 v.1
 
 -- any number of `=`
 pub data IsEquals : List ℕ → Unit {0} → Type 0 where
@@ -95,26 +75,6 @@ abbrev pub IsComparator : Flavour → List ℕ → Comparator → Type 0
 IsComparator Npm = Either (Either IsNpmTilde IsNpmCaret) (Either (IsSigned Npm) (IsPlain Npm))
 IsComparator Normal = Either (IsMarked Normal) (Either (IsSigned Normal) (IsPlain Normal))
 IsComparator Specifier = Either (IsMarked Specifier) (IsPlain Specifier)
-
--- ---- what they stand for
-
-abbrev pub signed_line : PrimitiveKind → Partial → Line
-signed_line GreaterThan p = greater_than kind.Exclusive p
-signed_line LessThan p = less_than kind.Exclusive p
-signed_line GreaterThanOrEqual p = greater_than kind.Inclusive p
-signed_line LessThanOrEqual p = less_than kind.Inclusive p
-signed_line Equal p = equal p
-
--- the bounds of a comparator, and the sums that they need
-abbrev pub comparator_line : Comparator → Line
-comparator_line (Tilde p) = tilde p
-comparator_line (Caret p) = caret p
-comparator_line (Signed sign p) = signed_line sign p
-comparator_line (Plain p) = equal p
-comparator_line (Hyphen p q) = record { range = between (from (lowest p)) (upper q).end; sums = (upper q).sums }
-
-abbrev pub comparator_range : Comparator → VersionRange
-comparator_range c = (comparator_line c).range
 
 -- ---- which fit
 

@@ -3,11 +3,11 @@
 use Rattle.std.specs.Prelude.{◌≡◌, ℕ, List, [], ◌∷◌, map, not}
 use Rattle.std.specs.List.{filter, fold}
 use Rattle.semver_base.specs.Clamp.{clamped}
+use Rattle.semver_base.specs.Comparators.{Comparator, Hyphen, comparator_range}
 use Rattle.semver_base.specs.Meaning.{alternatives, everything, tree_means}
 use Rattle.semver_base.specs.Overlap.{ends_at_zero}
 use Rattle.semver_base.specs.declared.range.VersionRange.{VersionRange}
 use Rattle.semver_base.specs.declared.version.Version.{Version}
-use Rattle.semver_req.specs.Comparators.{Comparator, Hyphen, comparator_range}
 use Rattle.semver_req.specs.Outcome.{IsOutcome, Ranges, tree_ranges}
 use Rattle.semver_req.specs.declared.common.values.Flavour.{Flavour}
 use Rattle.semver_req.specs.declared.common.values.Flavour.TheVariants.{Npm, Normal, Specifier}

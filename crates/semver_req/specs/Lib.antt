@@ -1,7 +1,5 @@
 pub mod Comparators
 pub mod KeptSet
-pub mod NormalTable
-pub mod NormalText
 pub mod Outcome
 pub mod Partials
 pub mod PieceReading
@@ -11,7 +9,6 @@ pub mod Readers
 pub mod Requirement
 pub mod Rereading
 pub mod Settled
-pub mod Shortest
 pub mod Strict
 pub mod Tag
 pub mod Written

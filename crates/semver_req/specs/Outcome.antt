@@ -3,10 +3,11 @@
 use Rattle.std.specs.Prelude.{◌≡◌, ◌<◌, ℕ, List, [], ◌∷◌, length, map, Bool, true, false, ◌⊎◌}
 use Rattle.std.specs.List.{list_all}
 use Rattle.std.specs.Str.{trim}
+use Rattle.semver_base.specs.Comparators.{Comparator, comparator_range}
 use Rattle.semver_base.specs.Grammar.{HasNone, IsLongest}
 use Rattle.semver_base.specs.Lexical.{IsBlanks}
 use Rattle.semver_base.specs.declared.range.VersionRange.{VersionRange}
-use Rattle.semver_req.specs.Comparators.{Comparator, IsComparator, comparator_range, fits}
+use Rattle.semver_req.specs.Comparators.{IsComparator, fits}
 use Rattle.semver_req.specs.Pieces.{ArePieces, IsPiece}
 use Rattle.semver_req.specs.Tag.{is_valid_tag}
 use Rattle.semver_req.specs.declared.common.values.Flavour.{Flavour}

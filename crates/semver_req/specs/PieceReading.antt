@@ -1,13 +1,14 @@
 -- What is read of a piece, and why a bad one is bad.
 use Rattle.std.specs.Prelude.{◌≡◌, ℕ, List, ◌∷◌, map, Bool, true, false, Option, Some, None, if◌then◌else◌}
 use Rattle.std.specs.List.{list_all}
+use Rattle.semver_base.specs.Comparators.{Comparator, comparator_line, comparator_range}
 use Rattle.semver_base.specs.Failure.{refusal_message}
 use Rattle.semver_base.specs.Overlap.{ends_at_zero}
 use Rattle.semver_base.specs.PartialTable.{all_fit}
 use Rattle.semver_base.specs.declared.failure.Refusal.{Refusal}
 use Rattle.semver_base.specs.declared.failure.Refusal.TheVariants.{BoundTooLarge, NumberTooLarge, UnexpectedCharacter}
 use Rattle.semver_base.specs.declared.range.VersionRange.{VersionRange}
-use Rattle.semver_req.specs.Comparators.{Comparator, comparator_line, comparator_numbers, comparator_range}
+use Rattle.semver_req.specs.Comparators.{comparator_numbers}
 use Rattle.semver_req.specs.KeptSet.{folded, kept_range}
 use Rattle.semver_req.specs.Outcome.{IsBad, IsGood}
 use Rattle.semver_req.specs.Pieces.{ArePieces, IsPiece}

@@ -1,10 +1,11 @@
 -- The pieces of a requirement: how a text is cut at `||`, and which comparators a piece stands for. Source:
 -- node-semver's range grammar (`range-set`, `logical-or`, `range`), with the separators `&&` and `,` that npm accepts.
 use Rattle.std.specs.Prelude.{◌≡◌, ◌<◌, ◌≤◌, ℕ, List, [], ◌∷◌, ◌++◌, length, drop, Bool, true, false, Option, Some, None, codes}
+use Rattle.semver_base.specs.Comparators.{Comparator, Hyphen}
 use Rattle.semver_base.specs.Grammar.{After, Before, Either, Followed, IsLongest, IsText, Listed, Mapped, Marked}
 use Rattle.semver_base.specs.Lexical.{IsBlanks, IsSomeBlanks}
 use Rattle.semver_base.specs.declared.partial.Partial.{Partial}
-use Rattle.semver_req.specs.Comparators.{Comparator, Hyphen, IsComparator}
+use Rattle.semver_req.specs.Comparators.{IsComparator}
 use Rattle.semver_req.specs.Partials.{IsPartial}
 use Rattle.semver_req.specs.declared.common.values.Flavour.{Flavour}
 use Rattle.semver_req.specs.declared.common.values.Flavour.TheVariants.{Npm, Normal, Specifier}

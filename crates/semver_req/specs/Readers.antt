@@ -1,8 +1,8 @@
 -- What a reader answers to a text, by the outcome that its grammar gives the text.
 use Rattle.std.specs.Prelude.{◌≡◌, ◌⊎◌, ℕ, List, Option, None, Result, IfErr, IfOk, IsErr, MatchResult}
+use Rattle.semver_base.specs.Comparators.{Comparator}
 use Rattle.semver_base.specs.Meaning.{tree_means}
 use Rattle.semver_base.specs.declared.version.Version.{Version}
-use Rattle.semver_req.specs.Comparators.{Comparator}
 use Rattle.semver_req.specs.KeptSet.{IsReadSet, kept}
 use Rattle.semver_req.specs.Outcome.{IsOutcome, Outcome, Ranges, Refused, Tag, tree_ranges, worked_on}
 use Rattle.semver_req.specs.Requirement.{Requirement, inner_means}

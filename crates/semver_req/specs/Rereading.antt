@@ -3,21 +3,21 @@
 use Rattle.std.specs.Prelude.{◌≡◌, List, length, Bool, true, false, not, ◌==◌, ◌&&◌, ◌||◌}
 use Rattle.std.specs.List.{list_all}
 use Rattle.std.specs.Str.{trim}
+use Rattle.semver_base.specs.Comparators.{Comparator}
 use Rattle.semver_base.specs.Meaning.{alternatives, tree_means}
+use Rattle.semver_base.specs.NormalText.{set_text}
 use Rattle.semver_base.specs.Overlap.{starts_before}
 use Rattle.semver_base.specs.PrecedenceLaws.{version_eq}
+use Rattle.semver_base.specs.Shortest.{is_plain, shortest_tree}
 use Rattle.semver_base.specs.declared.range.RangeBound.{RangeBound}
 use Rattle.semver_base.specs.declared.range.RangeBound.TheVariants as bound
 use Rattle.semver_base.specs.declared.range.VersionBoundKind.{VersionBoundKind}
 use Rattle.semver_base.specs.declared.range.VersionBoundKind.TheVariants as kind
 use Rattle.semver_base.specs.declared.range.VersionRange.{VersionRange}
 use Rattle.semver_base.specs.declared.version.Version.{Version}
-use Rattle.semver_req.specs.Comparators.{Comparator}
 use Rattle.semver_req.specs.KeptSet.{IsReadSet, kept}
-use Rattle.semver_req.specs.NormalText.{set_text}
 use Rattle.semver_req.specs.Outcome.{IsOutcome, Outcome, Ranges, tree_ranges}
 use Rattle.semver_req.specs.Pieces.{IsCutting}
-use Rattle.semver_req.specs.Shortest.{is_plain, shortest_tree}
 use Rattle.semver_req.specs.declared.common.values.Flavour.{Flavour}
 
 -- ---- which ranges keep their meaning

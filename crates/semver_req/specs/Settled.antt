@@ -5,13 +5,13 @@ use Rattle.std.specs.declared.cmp.Ordering.TheVariants.{Less}
 use Rattle.semver_base.specs.Meaning.{everything, from, release, to_below}
 use Rattle.semver_base.specs.PartialTable.{up_to, between, bound_at}
 use Rattle.semver_base.specs.Precedence.{precedence_cmp}
+use Rattle.semver_base.specs.Shortest.{has_short_form, shortest, shortest_tree}
 use Rattle.semver_base.specs.declared.range.RangeBound.TheVariants as bound
 use Rattle.semver_base.specs.declared.range.VersionBoundKind.{VersionBoundKind}
 use Rattle.semver_base.specs.declared.range.VersionBoundKind.TheVariants as kind
 use Rattle.semver_base.specs.declared.range.VersionRange.{VersionRange}
 use Rattle.semver_base.specs.declared.version.Version.{Version}
 use Rattle.semver_req.specs.KeptSet.{kept, kept_range}
-use Rattle.semver_req.specs.Shortest.{has_short_form, shortest, shortest_tree}
 use Rattle.semver_req.specs.declared.common.values.Flavour.TheVariants.{Normal}
 
 -- the range that is kept of the shortest form of a range

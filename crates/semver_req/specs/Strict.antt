@@ -1,12 +1,13 @@
 -- Why the strict reader refuses a text.
 use Rattle.std.specs.Prelude.{◌≡◌, ◌<◌, ℕ, List, length, true, false, Some, None}
+use Rattle.semver_base.specs.Comparators.{Comparator, comparator_line}
 use Rattle.semver_base.specs.Failure.{refusal_message}
 use Rattle.semver_base.specs.Grammar.{HasNone, IsLongest}
 use Rattle.semver_base.specs.Lexical.{IsBlanks}
 use Rattle.semver_base.specs.PartialTable.{all_fit, bound_too_large}
 use Rattle.semver_base.specs.declared.failure.Refusal.{Refusal}
 use Rattle.semver_base.specs.declared.failure.Refusal.TheVariants.{EmptyConstraint, NumberTooLarge, UnexpectedCharacter}
-use Rattle.semver_req.specs.Comparators.{Comparator, comparator_line, comparator_numbers, fits}
+use Rattle.semver_req.specs.Comparators.{comparator_numbers, fits}
 use Rattle.semver_req.specs.Outcome.{IsStrictRange}
 use Rattle.semver_req.specs.Readers.{Failure}
 use Rattle.semver_req.specs.Tag.{is_valid_tag}

@@ -1,9 +1,10 @@
 -- Comparators as the readers answer them: a mark, and the partial version after it.
 use Rattle.std.specs.Prelude.{◌≡◌, ℕ, List, ◌∷◌, Option, Some, None, codes}
+use Rattle.semver_base.specs.Comparators.{Caret, Comparator, Plain, Signed, Tilde}
 use Rattle.semver_base.specs.Grammar.{Either, HasNone, IsLongest, IsSeen, IsText}
 use Rattle.semver_base.specs.declared.lexical.values.Measured.{Measured}
 use Rattle.semver_base.specs.declared.partial.Partial.{Partial}
-use Rattle.semver_req.specs.Comparators.{Caret, Comparator, IsLed, IsMarked, IsPlain, Plain, Signed, Tilde}
+use Rattle.semver_req.specs.Comparators.{IsLed, IsMarked, IsPlain}
 use Rattle.semver_req.specs.Partials.{IsPartial, sized_partial}
 use Rattle.semver_req.specs.declared.common.comparator.Mark.{Mark}
 use Rattle.semver_req.specs.declared.common.comparator.Mark.TheVariants as mark

@@ -9,11 +9,10 @@
 
 ghost use Rattle.std.specs.Prelude.{◌≡◌, ◌↔◌, IsTrue};
 ghost use Rattle.semver_req.specs.KeptSet.{KeptSetsMeanTheirTrees};
-ghost use Rattle.semver_req.specs.NormalTable.{IsNormalTable};
 ghost use Rattle.semver_req.specs.Outcome.{TextsHaveOneOutcome};
 ghost use Rattle.semver_req.specs.Rereading.{NormalTextsKeepTheirMeaning, OneRereadingSettles, SettledSetsAreTheirTexts};
 
-use crate::common::values::{Flavour, PrimitiveKind};
+use crate::common::values::Flavour;
 use crate::npm::NpmVersionReqParseError;
 use crate::range_set_or_tag::RangeSetOrTag;
 use crate::req::{VersionReq, VersionReqNormalizedParseError};
@@ -21,13 +20,6 @@ use crate::specifier::VersionReqSpecifierParseError;
 
 /// Whether two grammars are the same.
 pub fn same_flavours(one: &Flavour, other: &Flavour) -> bool
-    ensures { IsTrue result ↔ (one.now ≡ other.now) }
-{
-    one == other
-}
-
-/// Whether two signs are the same.
-pub fn same_signs(one: &PrimitiveKind, other: &PrimitiveKind) -> bool
     ensures { IsTrue result ↔ (one.now ≡ other.now) }
 {
     one == other
@@ -84,11 +76,6 @@ pub fn texts_have_one_outcome()
 /// bounds matches the same versions, and a range that is dropped matches none.
 pub fn kept_sets_mean_their_trees()
     ensures { KeptSetsMeanTheirTrees }
-{}
-
-/// The normal text of a range is the text that the table of short forms gives it, row by row.
-pub fn normal_texts_follow_the_table()
-    ensures { IsNormalTable }
 {}
 
 /// The normal text of ranges that some reader answered has one outcome in npm's grammar and in the normalized one, the

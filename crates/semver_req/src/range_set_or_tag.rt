@@ -3,12 +3,12 @@
 ghost use Rattle.std.specs.Prelude.{◌≡◌, ◌↔◌, ◌++◌, ◌∷◌, ◌⊎◌, [], IfErr, IfOk, IsTrue, List, MatchOption, None, OnOk, true, false};
 ghost use Rattle.std.specs.Bool.{OnFalse};
 ghost use Rattle.std.specs.Str.{trim};
+ghost use Rattle.semver_base.specs.Comparators.{Comparator};
 ghost use Rattle.semver_base.specs.Grammar.{ReadsAs, answer_of};
 ghost use Rattle.semver_base.specs.Lexical.{IsBlanks};
 ghost use Rattle.semver_base.specs.declared.partial.Partial.{Partial};
-ghost use Rattle.semver_req.specs.Comparators.{Comparator};
-ghost use Rattle.semver_req.specs.Partials.{sized_partial};
 ghost use Rattle.semver_req.specs.Outcome.{IsOutcome, Refused};
+ghost use Rattle.semver_req.specs.Partials.{sized_partial};
 ghost use Rattle.semver_req.specs.PieceReading.{IsCutRefusal, IsPieceRead, joined, kept_of, refusal_failure};
 ghost use Rattle.semver_req.specs.PieceSteps.{AreAllRead, IsEverything, IsFirstPiece, IsHyphenRead, IsNextPiece, IsOneMore, IsWholeRead, both_now};
 ghost use Rattle.semver_req.specs.Pieces.{HasNoBar, IsComparators, IsCutAt, IsCutting, IsFilled, IsHyphen};

@@ -1,9 +1,10 @@
 //! Comparators: what stands before a partial version, and the range of both.
 
 ghost use Rattle.std.specs.Prelude.{◌≡◌, IfErr, IfOk, OnOk, true};
+ghost use Rattle.semver_base.specs.Comparators.{comparator_line, comparator_range};
 ghost use Rattle.semver_base.specs.Grammar.{IsLongest, ReadsAs, answer_of};
 ghost use Rattle.semver_base.specs.PartialTable.{IsBoundRefusal, all_fit};
-ghost use Rattle.semver_req.specs.Comparators.{IsComparator, IsEquals, IsLed, comparator_line, comparator_range};
+ghost use Rattle.semver_req.specs.Comparators.{IsComparator, IsEquals, IsLed};
 ghost use Rattle.semver_req.specs.Partials.{sized_partial};
 ghost use Rattle.semver_req.specs.Written.{IsMarkCut, IsNpmFront, IsNpmMarkCut, IsUnsigned, ReadsComparator, comparator_of, with_mark};
 ghost use Rattle.semver_req.specs.declared.common.values.Flavour.TheVariants.{Normal, Npm};

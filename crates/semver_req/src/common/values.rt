@@ -1,14 +1,15 @@
 //! The three grammars of requirements, and the signs of comparators.
 
 ghost use Rattle.std.specs.Prelude.{◌≡◌, IfErr, IfOk, OnOk, true};
+ghost use Rattle.semver_base.specs.Comparators.{signed_line};
 ghost use Rattle.semver_base.specs.PartialTable.{IsBoundRefusal, all_fit};
-ghost use Rattle.semver_req.specs.Comparators.{signed_line};
 ghost use Rattle.semver_req.specs.Partials.{strictness_of};
 
 use semver_base::failure::ParseFailure;
 use semver_base::lexical::values::Strictness;
 use semver_base::partial::Partial;
-use semver_base::range::{VersionBoundKind, VersionRange};
+pub use semver_base::partial::PrimitiveKind;
+use semver_base::range::VersionRange;
 use std::alloc::{AllocError, Global};
 
 /// Which grammar of requirements a text is read by.
@@ -32,47 +33,6 @@ impl Flavour {
             Flavour::Npm => Strictness::Loose,
             Flavour::Normal => Strictness::Loose,
             Flavour::Specifier => Strictness::Strict,
-        }
-    }
-}
-
-/// The sign of a comparator.
-#[derive(Clone, Copy, Debug, PartialEq, Eq)]
-pub enum PrimitiveKind {
-    /// `>`
-    GreaterThan,
-    /// `<`
-    LessThan,
-    /// `>=`
-    GreaterThanOrEqual,
-    /// `<=`
-    LessThanOrEqual,
-    /// `=`
-    Equal,
-}
-
-impl PrimitiveKind {
-    /// The range of the sign and the partial version after it (node-semver's primitives).
-    ///
-    /// The refusal "Version bound is too large." comes exactly where a number that the range raises is past
-    /// 18446744073709551615; any other failure is want of memory.
-    pub fn range(self, alloc: Global, partial: &Partial) -> Result<VersionRange, ParseFailure>
-        ensures range { IfOk result (λ range. range ≡ (signed_line self partial.now).range) }
-        ensures fits { OnOk result (all_fit (signed_line self partial.now).sums ≡ true) }
-        ensures refused { IfErr result (IsBoundRefusal (signed_line self partial.now).sums) }
-    {
-        match self {
-            PrimitiveKind::Equal => partial.as_equal_range(alloc),
-            PrimitiveKind::GreaterThan => {
-                partial.as_greater_than(alloc, VersionBoundKind::Exclusive)
-            }
-            PrimitiveKind::GreaterThanOrEqual => {
-                partial.as_greater_than(alloc, VersionBoundKind::Inclusive)
-            }
-            PrimitiveKind::LessThan => partial.as_less_than(alloc, VersionBoundKind::Exclusive),
-            PrimitiveKind::LessThanOrEqual => {
-                partial.as_less_than(alloc, VersionBoundKind::Inclusive)
-            }
         }
     }
 }

@@ -1,8 +1,9 @@
 use Rattle.std.proofs.Common.{◌≡◌, List, length}
 use denote.Text.{Utf8}
 use denote.Shadow.{shadow}
+use Rattle.semver_base.specs.Comparators.{Comparator}
 use Rattle.semver_base.proofs.Lists.{SoFar}
-use Rattle.semver_req.specs.Comparators.{Comparator, IsComparator}
+use Rattle.semver_req.specs.Comparators.{IsComparator}
 use Rattle.semver_req.specs.PieceReading.{joined}
 use Rattle.semver_req.specs.Pieces.{IsSeparator}
 use Rattle.semver_req.proofs.range_set_or_tag.RangeOrInvalid.comparators.Given as goal

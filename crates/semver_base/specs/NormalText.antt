@@ -3,7 +3,9 @@
 use Rattle.std.specs.Prelude.{ℕ, List, [], ◌∷◌, ◌++◌, codes}
 use Rattle.std.specs.Fmt.{decimal}
 use Rattle.std.specs.List.{AllByRecursion, join_by}
+use Rattle.semver_base.specs.Comparators.{Comparator, Tilde, Caret, Signed, Plain, Hyphen, sign_text}
 use Rattle.semver_base.specs.PartialTable.{lowest}
+use Rattle.semver_base.specs.Shortest.{shortest}
 use Rattle.semver_base.specs.VersionText.{IsWritable, version_text}
 use Rattle.semver_base.specs.declared.partial.Partial.{Partial}
 use Rattle.semver_base.specs.declared.partial.XRange.{XRange}
@@ -11,8 +13,6 @@ use Rattle.semver_base.specs.declared.partial.XRange.TheVariants.{Wildcard, Val}
 use Rattle.semver_base.specs.declared.range.RangeBound.{RangeBound}
 use Rattle.semver_base.specs.declared.range.RangeBound.TheVariants as bound
 use Rattle.semver_base.specs.declared.range.VersionRange.{VersionRange}
-use Rattle.semver_req.specs.Comparators.{Comparator, Tilde, Caret, Signed, Plain, Hyphen, sign_text}
-use Rattle.semver_req.specs.Shortest.{shortest}
 
 -- ---- as letters
 

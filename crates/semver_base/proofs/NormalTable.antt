@@ -3,16 +3,16 @@ use Rattle.std.proofs.Common.{◌≡◌, ◌<◌, ◌+◌, ℕ, Bool, true, fals
 use Rattle.std.specs.Prelude.{◌&&◌, codes, if◌then◌else◌, nat_lt}
 use Rattle.std.proofs.lemmas.Bool.{and_from, and_parts, cases_lt, eq-eqb, eqb-true, lt-ltb, ltb-true}
 use Rattle.std.proofs.lemmas.Bool.Decides.{nat_tests}
+use Rattle.semver_base.specs.Comparators.{Comparator, Tilde, Caret, Plain}
 use Rattle.semver_base.specs.Meaning.{release}
+use Rattle.semver_base.specs.NormalTable.{IsNormalTable, zero_version}
+use Rattle.semver_base.specs.NormalText.{comparator_text, comparators_text}
 use Rattle.semver_base.specs.PrecedenceLaws.{version_eq, version_told}
+use Rattle.semver_base.specs.Shortest.{ending, is_plain, numbered, shortest_between, starting, whole}
 use Rattle.semver_base.specs.declared.partial.XRange.TheVariants.{Wildcard, Val}
 use Rattle.semver_base.specs.declared.range.VersionBoundKind.TheVariants as kind
 use Rattle.semver_base.specs.declared.version.Version.{Version}
-use Rattle.semver_req.specs.Comparators.{Comparator, Tilde, Caret, Plain}
-use Rattle.semver_req.specs.NormalTable.{IsNormalTable, zero_version}
-use Rattle.semver_req.specs.NormalText.{comparator_text, comparators_text}
-use Rattle.semver_req.specs.Shortest.{ending, is_plain, numbered, shortest_between, starting, whole}
-use Rattle.semver_req.proofs.ShortestMeaning.{plain_is}
+use Rattle.semver_base.proofs.PlainVersions.{plain_is}
 
 -- ---- which versions are the same
 

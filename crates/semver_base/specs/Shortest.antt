@@ -1,9 +1,11 @@
 -- The shortest usual form of a range, as comparators. Source: node-semver's range grammar, whose tilde, caret and partial
 -- versions are short for two bounds.
 use Rattle.std.specs.Prelude.{ℕ, List, [], ◌∷◌, length, map, ◌+◌, Bool, ◌==◌, ◌&&◌, ◌||◌, nat_lt, if◌then◌else◌}
+use Rattle.semver_base.specs.Comparators.{Comparator, Caret, Plain, Signed, Tilde}
 use Rattle.semver_base.specs.Meaning.{release}
 use Rattle.semver_base.specs.PrecedenceLaws.{version_eq}
 use Rattle.semver_base.specs.declared.partial.Partial.{Partial}
+use Rattle.semver_base.specs.declared.partial.PrimitiveKind.TheVariants as sign
 use Rattle.semver_base.specs.declared.partial.XRange.{XRange}
 use Rattle.semver_base.specs.declared.partial.XRange.TheVariants.{Wildcard, Val}
 use Rattle.semver_base.specs.declared.range.RangeBound.{RangeBound}
@@ -12,8 +14,6 @@ use Rattle.semver_base.specs.declared.range.VersionBoundKind.{VersionBoundKind}
 use Rattle.semver_base.specs.declared.range.VersionBoundKind.TheVariants as kind
 use Rattle.semver_base.specs.declared.range.VersionRange.{VersionRange}
 use Rattle.semver_base.specs.declared.version.Version.{Version}
-use Rattle.semver_req.specs.Comparators.{Comparator, Caret, Plain, Signed, Tilde}
-use Rattle.semver_req.specs.declared.common.values.PrimitiveKind.TheVariants as sign
 
 -- ---- comparators of versions
 

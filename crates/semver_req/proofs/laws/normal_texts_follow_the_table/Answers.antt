@@ -1,5 +1,0 @@
-use Rattle.semver_req.proofs.NormalTable.{normal_table}
-use Rattle.semver_req.proofs.laws.normal_texts_follow_the_table.Goals as goal
-
-pub returns : goal.returns
-returns c = normal_table
