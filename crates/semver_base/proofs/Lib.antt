@@ -14,6 +14,7 @@ pub mod Parts
 pub mod PlainVersions
 pub mod PrecedenceLemmas
 pub mod Qualifiers
+pub mod ReadVersions
 pub mod Readings
 pub mod Replaced
 pub mod Solid

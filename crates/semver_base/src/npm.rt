@@ -4,6 +4,7 @@ ghost use Rattle.std.specs.Prelude.{◌≡◌, ◌↔◌, Result, Ok, IfErr, IfO
 ghost use Rattle.std.specs.Str.{trim};
 ghost use Rattle.semver_base.specs.Failure.{message_of};
 ghost use Rattle.semver_base.specs.VersionGrammar.{IsVersionAnswer, IsVersionOutcome, IsVersionRefusal};
+ghost use Rattle.semver_base.specs.VersionText.{ReadsBack};
 ghost use Rattle.semver_base.specs.declared.failure.Refusal.{Refusal};
 
 use crate::failure::ParseFailure;
@@ -57,6 +58,7 @@ impl Version {
     /// refusal is told.
     pub fn parse_from_npm(alloc: Global, text: &str) -> Result<Version, NpmVersionParseError>
         ensures read { IfOk result (λ version. IsVersionOutcome (trim text.now) (Ok version)) }
+        ensures reads_back { IfOk result ReadsBack }
         ensures refused { IfErr result (λ error. IsVersionRefusal (trim text.now) error.source) }
         ensures answer { (outcome : Result Version Refusal) → IsVersionOutcome (trim text.now) outcome
             → IsVersionAnswer (λ (error : NpmVersionParseError). error.source) (trim text.now) outcome result }

@@ -13,12 +13,12 @@ ghost use Rattle.semver_base.specs.VersionGrammar.{IsLead, IsVersionAnswer, IsVe
 ghost use Rattle.semver_base.specs.VersionReaderSteps.{IsFittingNumber, IsFittingTriple, IsNumberRefusal, IsReadVersion, IsTripleRefusal};
 ghost use Rattle.semver_base.specs.Precedence.{identifier_cmp, number_of, pre_cmp, precedence_cmp, version_cmp};
 ghost use Rattle.semver_base.specs.PrecedenceLaws.{version_po, version_ties, version_total, SamePrecedence};
-ghost use Rattle.semver_base.specs.VersionText.{marked, version_text};
+ghost use Rattle.semver_base.specs.VersionText.{ReadsBack, marked, version_text};
 
 use crate::failure::{ParseFailure, Refusal};
 use crate::lexical;
 use crate::lexical::values::{Measured, Strictness};
-use crate::string::{CowVec, SmallStackString};
+use crate::string::{CowVec, SmallStackString, StringAppendable, StringType};
 use std::alloc::{AllocError, Global};
 use std::cmp::Ordering;
 use std::fmt;
@@ -96,8 +96,11 @@ impl Version {
     /// The first fault from the left decides the error: a number past 18446744073709551615, a missing `.` after the
     /// first or the second number, whose failure shows the whole trimmed text, or anything else that is outside the
     /// grammar. Want of memory is an error too.
+    ///
+    /// The text of a version that was read is read as that version again, build included.
     pub fn parse_standard(alloc: Global, text: &str) -> Result<Version, VersionParseError>
         ensures read { IfOk result (λ version. IsVersionOutcome (trim text.now) (Ok version)) }
+        ensures reads_back { IfOk result ReadsBack }
         ensures refused { IfErr result (λ error. IsVersionRefusal (trim text.now) error.source) }
         ensures answer { (outcome : Result Version Refusal) → IsVersionOutcome (trim text.now) outcome
             → IsVersionAnswer (λ (error : VersionParseError). error.source) (trim text.now) outcome result }
@@ -327,6 +330,15 @@ impl fmt::Display for Version {
         write!(f, "{major}.{minor}.{patch}")?;
         write_marked(f, '-', self.pre.as_slice())?;
         write_marked(f, '+', self.build.as_slice())
+    }
+}
+
+impl StringAppendable for Version {
+    ghost text = { version_text };
+
+    fn append_to<T: StringType>(&self, alloc: Global, target: &mut T) -> Result<(), AllocError> {
+        let text = format!(in alloc; "{self}")?;
+        target.push_str(text.as_str())
     }
 }
 

@@ -18,6 +18,7 @@ pub mod PartialReadings
 pub mod Partials
 pub mod PieceReadings
 pub mod PiecesRead
+pub mod Pinned
 pub mod Places
 pub mod ReadSets
 pub mod ReaderAnswers

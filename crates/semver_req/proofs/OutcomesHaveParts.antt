@@ -10,6 +10,7 @@ use Rattle.semver_base.specs.declared.lexical.values.Strictness.{Strictness}
 use Rattle.semver_base.specs.declared.lexical.values.Strictness.TheVariants.{Loose, Strict}
 use Rattle.semver_base.specs.declared.partial.Partial.{Partial}
 use Rattle.semver_base.specs.declared.partial.XRange.{XRange}
+use Rattle.semver_base.proofs.ReadVersions.{by_after, by_mapped, by_marked, qualifier_has}
 use Rattle.semver_req.specs.Comparators.{IsComparator, IsLed, IsMarked, IsPlain, IsSigned}
 use Rattle.semver_req.specs.KeptSet.{kept}
 use Rattle.semver_req.specs.Outcome.{AreGoodOnes, none_left, good, bad, IsGood, IsCutOutcome, IsOutcome, one_good, one_bad, npm_many, normal_many, normal_refused, IsStrictOutcome, whole, left_over, no_front, no_fit, IsTagOr, tag, no_tag, Outcome, Ranges, Tag, Refused}
@@ -19,48 +20,6 @@ use Rattle.semver_req.specs.declared.common.values.Flavour.{Flavour}
 use Rattle.semver_req.specs.declared.common.values.Flavour.TheVariants.{Npm, Normal, Specifier}
 use Rattle.semver_req.proofs.OutcomesFit.{outcome_fits}
 use Rattle.semver_req.proofs.WritableRanges.{AllHaveParts, ComparatorHasParts, PartialHasParts, TreeHasParts, kept_writable}
-
--- ---- combinators: what is true of what the inner rule says
-
-by_mapped : {V W : Type 0} {f : V → W} {A : List ℕ → V → Type 0} (P : W → Type 0) → ((t : List ℕ) (v : V) → A t v → P (f v)) → {text : List ℕ} {w : W} → Mapped f A text w → P w
-by_mapped P inner m = subst P (sym m.is) (inner _ m.value m.stands)
-
-by_after : {V W : Type 0} {A : List ℕ → V → Type 0} {B : List ℕ → W → Type 0} (P : W → Type 0) → ((t : List ℕ) (w : W) → B t w → P w) → {text : List ℕ} {w : W} → After A B text w → P w
-by_after P inner m = subst P (sym m.is) (inner m.stands.second m.value.1 m.stands.in_second)
-
-by_marked : {V : Type 0} (m : ℕ) (A : List ℕ → V → Type 0) (P : V → Type 0) → ((t : List ℕ) (v : V) → A t v → P v) → (text : List ℕ) (v : V) → Marked m A text v → P v
-by_marked m A P inner [] v h = absurd h
-by_marked m A P inner (b ∷ rest) v h = inner rest v h.1
-
--- ---- qualifiers
-
-part_itself : (text v : List ℕ) → IsPart text v → IsPart v v
-part_itself text v h = subst (λ (t : List ℕ). IsPart t t) (sym h.is) (record { some = h.some; pass = h.pass; is = refl })
-
-parts_are : {text : List ℕ} {ids : List (List ℕ)} → IsParts text ids → AreParts ids
-parts_are (last_item a) = (part_itself _ _ a, tt)
-parts_are (closed_item a s) = (part_itself _ _ a, tt)
-parts_are (more_items a s more) = (part_itself _ _ a, parts_are more)
-
-pre_are : (s : Strictness) (text : List ℕ) (ids : List (List ℕ)) → IsPre s text ids → AreParts ids
-pre_are Loose [] ids h = absurd h
-pre_are Loose (b ∷ rest) ids (inl h) = parts_are h.1
-pre_are Loose (b ∷ rest) ids (inr h) = parts_are h.1
-pre_are Strict text ids h = by_marked 45 IsParts AreParts (λ t v k. parts_are k) text ids h
-
-maybe_pre : (s : Strictness) (text : List ℕ) (o : Option (List (List ℕ))) → Optional (IsPre s) text o → AreParts (or_none o)
-maybe_pre s text None h = tt
-maybe_pre s text (Some ids) h = pre_are s text ids h
-
-maybe_build : (text : List ℕ) (o : Option (List (List ℕ))) → Optional IsBuild text o → AreParts (or_none o)
-maybe_build text None h = tt
-maybe_build text (Some ids) h = by_marked 43 IsParts AreParts (λ t v k. parts_are k) text ids h
-
-abbrev QualifierHas : Qualifier → Type 0
-QualifierHas q = AreParts q.pre × AreParts q.build
-
-qualifier_has : (s : Strictness) (text : List ℕ) (q : Qualifier) → IsQualifier s text q → QualifierHas q
-qualifier_has s text q h = by_mapped QualifierHas (λ t v k. (maybe_pre s k.first v.0 k.in_first, maybe_build k.second v.1 k.in_second)) h
 
 -- ---- partial versions
 

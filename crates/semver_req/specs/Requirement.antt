@@ -1,9 +1,13 @@
 -- What a requirement is, and which versions it matches. Source: node-semver's description of ranges; a requirement may
 -- also be a tag, as in npm's package specifiers.
-use Rattle.std.specs.Prelude.{◌≡◌, ◌&&◌, ◌↔◌, IsTrue, ℕ, List, Bool, false, Option, Some, None, nat_eq}
+use Rattle.std.specs.Prelude.{◌≡◌, ◌&&◌, ◌↔◌, IsTrue, ℕ, List, [], ◌∷◌, Bool, false, Option, Some, None, nat_eq}
 use Rattle.std.specs.Cmp.Lexicographic.{pointwise}
-use Rattle.semver_base.specs.Meaning.{alternatives, tree_means}
+use Rattle.semver_base.specs.Meaning.{alternatives, from, tree_means}
+use Rattle.semver_base.specs.NormalText.{set_text}
 use Rattle.semver_base.specs.Overlap.{some_overlap}
+use Rattle.semver_base.specs.PartialTable.{between, up_to}
+use Rattle.semver_base.specs.PrecedenceLaws.{SamePrecedence}
+use Rattle.semver_base.specs.VersionText.{version_text}
 use Rattle.semver_base.specs.declared.range.VersionRangeSet.{VersionRangeSet}
 use Rattle.semver_base.specs.declared.version.Version.{Version}
 use Rattle.semver_req.specs.declared.range_set_or_tag.RangeSetOrTag.{RangeSetOrTag}
@@ -42,3 +46,20 @@ MatchNoVersion one other = (v : Version) → (inner_means one v && inner_means o
 abbrev pub OverlapAsTags : RangeSetOrTag → RangeSetOrTag → Bool → Type 0
 OverlapAsTags (inner.Tag text) (inner.Tag other) result = IsTrue result ↔ (text ≡ other)
 OverlapAsTags one other result = Unit {0}
+
+-- ---- texts
+
+-- the normal text of ranges, and a tag as it is
+abbrev pub inner_text : RangeSetOrTag → List ℕ
+inner_text (inner.RangeSet set) = set_text set.0
+inner_text (inner.Tag text) = text
+
+-- ---- the requirement of one version
+
+-- from the version to itself, both inclusive; its text is the version's
+abbrev pub pinned : Version → Requirement
+pinned v = record { raw_text = version_text v; inner = inner.RangeSet (record { 0 = between (from v) (up_to v) ∷ [] }) }
+
+-- the versions of the same precedence match, and no other
+abbrev pub PinsTo : Version → RangeSetOrTag → Type 0
+PinsTo v answer = (w : Version) → IsTrue (inner_means answer w) ↔ SamePrecedence v w

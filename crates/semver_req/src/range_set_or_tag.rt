@@ -1,6 +1,6 @@
 //! What a requirement stands for, ranges of versions or a tag, and how npm's and the normalized grammar read it.
 
-ghost use Rattle.std.specs.Prelude.{◌≡◌, ◌↔◌, ◌++◌, ◌∷◌, ◌⊎◌, [], IfErr, IfOk, IsTrue, List, MatchOption, None, OnOk, true, false};
+ghost use Rattle.std.specs.Prelude.{◌≡◌, ◌↔◌, ◌++◌, ◌∷◌, ◌⊎◌, [], IfErr, IfOk, IsTrue, List, MatchOption, None, OnOk, Some, true, false};
 ghost use Rattle.std.specs.Bool.{OnFalse};
 ghost use Rattle.std.specs.Str.{trim};
 ghost use Rattle.semver_base.specs.Comparators.{Comparator};
@@ -13,7 +13,7 @@ ghost use Rattle.semver_req.specs.PieceReading.{IsCutRefusal, IsPieceRead, joine
 ghost use Rattle.semver_req.specs.PieceSteps.{AreAllRead, IsEverything, IsFirstPiece, IsHyphenRead, IsNextPiece, IsOneMore, IsWholeRead, both_now};
 ghost use Rattle.semver_req.specs.Pieces.{HasNoBar, IsComparators, IsCutAt, IsCutting, IsFilled, IsHyphen};
 ghost use Rattle.semver_req.specs.Readers.{IsReading};
-ghost use Rattle.semver_req.specs.Requirement.{MatchNoVersion, OverlapAsTags, inner_overlap};
+ghost use Rattle.semver_req.specs.Requirement.{MatchNoVersion, OverlapAsTags, inner_overlap, inner_text};
 ghost use Rattle.semver_req.specs.Tag.{is_valid_tag};
 ghost use Rattle.semver_req.specs.Written.{comparator_of};
 ghost use Rattle.semver_req.specs.declared.common.values.Flavour.TheVariants.{Normal, Npm};
@@ -27,8 +27,9 @@ use semver_base::failure::{ParseFailure, Refusal};
 use semver_base::lexical::after_blanks;
 use semver_base::lexical::values::Measured;
 use semver_base::range::{VersionRange, VersionRangeSet};
-use semver_base::string::{CowVec, SmallStackString};
+use semver_base::string::{CowVec, SmallStackString, StringAppendable, StringType};
 use std::alloc::{AllocError, Global};
+use std::fmt;
 
 /// The text of a tag.
 pub type PackageTag = SmallStackString;
@@ -388,5 +389,27 @@ impl RangeSetOrTag {
             RangeSetOrTag::RangeSet(set) => Ok(RangeSetOrTag::RangeSet(set.copy()?)),
             RangeSetOrTag::Tag(tag) => Ok(RangeSetOrTag::Tag(tag.copy()?)),
         }
+    }
+}
+
+/// The normal text of ranges (node-semver, "Advanced Range Syntax"; which of the forms is taken is `deno_semver`'s own
+/// choice), and a tag as it is.
+impl fmt::Display for RangeSetOrTag {
+    ghost output = { λ inner. Some (inner_text inner) };
+
+    fn fmt<W: fmt::Write>(&self, f: &mut fmt::Formatter<W>) -> fmt::Result {
+        match self {
+            RangeSetOrTag::RangeSet(set) => fmt::Display::fmt(set, f),
+            RangeSetOrTag::Tag(tag) => fmt::Display::fmt(tag, f),
+        }
+    }
+}
+
+impl StringAppendable for RangeSetOrTag {
+    ghost text = { inner_text };
+
+    fn append_to<T: StringType>(&self, alloc: Global, target: &mut T) -> Result<(), AllocError> {
+        let text = format!(in alloc; "{self}")?;
+        target.push_str(text.as_str())
     }
 }

@@ -1,17 +1,17 @@
 //! Requirements of versions.
 
-ghost use Rattle.std.specs.Prelude.{◌≡◌, ◌↔◌, IfErr, IfOk, IsTrue, None, Some};
+ghost use Rattle.std.specs.Prelude.{◌≡◌, ◌↔◌, IfErr, IfOk, IsTrue, None, Some, string_bytes};
 ghost use Rattle.std.specs.Bool.{OnFalse};
 ghost use Rattle.std.specs.Option.{option_copied};
 ghost use Rattle.semver_req.specs.PieceReading.{IsCutRefusal};
 ghost use Rattle.semver_req.specs.Readers.{IsReaderAnswer};
-ghost use Rattle.semver_req.specs.Requirement.{MatchNoVersion, OverlapAsTags, Requirement, inner_means, inner_overlap, set_of, tag_of};
+ghost use Rattle.semver_req.specs.Requirement.{MatchNoVersion, OverlapAsTags, PinsTo, Requirement, inner_means, inner_overlap, inner_text, pinned, set_of, tag_of};
 ghost use Rattle.semver_req.specs.declared.common.values.Flavour.TheVariants.{Normal};
 
 use crate::range_set_or_tag::RangeSetOrTag;
 use semver_base::failure::ParseFailure;
-use semver_base::range::VersionRangeSet;
-use semver_base::string::SmallStackString;
+use semver_base::range::{RangeBound, VersionRange, VersionRangeSet};
+use semver_base::string::{CowVec, SmallStackString};
 use semver_base::version::Version;
 use std::alloc::{AllocError, Global};
 use std::fmt;
@@ -170,6 +170,17 @@ impl VersionReq {
         self.inner.intersects(&other.inner)
     }
 
+    /// The normal text of what the requirement stands for: of ranges the shortest usual form of each, with ` || `
+    /// between, and `<0.0.0` of none; of a tag the tag.
+    ///
+    /// It is an error only where no memory is left.
+    pub fn to_string_normalized(&self, alloc: Global) -> Result<String, AllocError>
+        ensures { IfOk result (λ text. string_bytes text ≡ inner_text self.now.inner) }
+    {
+        let inner = &self.inner;
+        format!(in alloc; "{inner}")
+    }
+
     /// The same requirement again. It is an error only where no memory is left.
     pub fn copy(&self) -> Result<Self, AllocError>
         ensures { IfOk result (λ req. req ≡ self.now) }
@@ -186,5 +197,34 @@ impl fmt::Display for VersionReq {
 
     fn fmt<W: fmt::Write>(&self, f: &mut fmt::Formatter<W>) -> fmt::Result {
         f.write_str(self.version_text())
+    }
+}
+
+/// A value of which a requirement can be made.
+pub trait IntoVersionReq {
+    /// The version that the requirement is for.
+    ghost version: { Self → Version };
+
+    /// The requirement of the versions of the same precedence: one range from the version to itself, both inclusive. Its
+    /// text is the version's.
+    ///
+    /// It is an error only where no memory is left.
+    fn into_req(self, alloc: Global) -> Result<VersionReq, AllocError>
+        ensures value { IfOk result (λ req. req ≡ pinned (version self)) }
+        ensures matches { IfOk result (λ req. PinsTo (version self) req.inner) };
+}
+
+impl IntoVersionReq for Version {
+    ghost version = { λ v. v };
+
+    fn into_req(self, alloc: Global) -> Result<VersionReq, AllocError> {
+        let text = format!(in alloc; "{self}")?;
+        let raw_text = SmallStackString::from_string(alloc, text)?;
+        let start = RangeBound::inclusive(self.copy()?);
+        let end = RangeBound::inclusive(self);
+        let mut ranges = CowVec::new(alloc);
+        ranges.push(VersionRange { start, end })?;
+        let inner = RangeSetOrTag::RangeSet(VersionRangeSet(ranges));
+        Ok(VersionReq::from_raw_text_and_inner(raw_text, inner))
     }
 }

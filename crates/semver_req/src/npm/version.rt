@@ -3,6 +3,7 @@
 ghost use Rattle.std.specs.Prelude.{Result, Ok, IfErr, IfOk};
 ghost use Rattle.std.specs.Str.{trim};
 ghost use Rattle.semver_base.specs.VersionGrammar.{IsVersionAnswer, IsVersionOutcome, IsVersionRefusal};
+ghost use Rattle.semver_base.specs.VersionText.{ReadsBack};
 ghost use Rattle.semver_base.specs.declared.failure.Refusal.{Refusal};
 
 use semver_base::npm::NpmVersionParseError;
@@ -12,6 +13,7 @@ use std::alloc::Global;
 /// The version that a text stands for, as npm reads it ([`Version::parse_standard`], where each refusal is told).
 pub fn parse_npm_version(alloc: Global, text: &str) -> Result<Version, NpmVersionParseError>
     ensures read { IfOk result (λ version. IsVersionOutcome (trim text.now) (Ok version)) }
+    ensures reads_back { IfOk result ReadsBack }
     ensures refused { IfErr result (λ error. IsVersionRefusal (trim text.now) error.source) }
     ensures answer { (outcome : Result Version Refusal) → IsVersionOutcome (trim text.now) outcome
         → IsVersionAnswer (λ (error : NpmVersionParseError). error.source) (trim text.now) outcome result }

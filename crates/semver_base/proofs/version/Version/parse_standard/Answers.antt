@@ -1,9 +1,13 @@
 use Rattle.semver_base.specs.declared.version.VersionParseError.{VersionParseError}
+use Rattle.semver_base.proofs.ReadVersions.{read_back}
 use Rattle.semver_base.proofs.VersionReading.{read_answer, read_outcome, refused_answer}
 use Rattle.semver_base.proofs.version.Version.parse_standard.Goals as goal
 
 pub returns-in-Ok-clause-read : goal.returns-in-Ok-clause-read
 returns-in-Ok-clause-read c = rw c.trim.ensures.trim at (read_outcome c.in-Ok.ensures.read)
+
+pub returns-in-Ok-clause-reads_back : goal.returns-in-Ok-clause-reads_back
+returns-in-Ok-clause-reads_back c = read_back c.trim.result.now c.in-Ok.version (read_outcome c.in-Ok.ensures.read)
 
 pub returns-in-Ok-clause-answer : goal.returns-in-Ok-clause-answer
 returns-in-Ok-clause-answer c = rw c.trim.ensures.trim at (read_answer (λ (error : VersionParseError). error.source) c.trim.result.now c.in-Ok.version c.in-Ok.ensures.read)

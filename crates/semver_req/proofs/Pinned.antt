@@ -1,0 +1,47 @@
+-- Which versions the requirement of one version matches.
+use Rattle.std.proofs.Common.{◌≡◌, ◌==◌, Bool, true, false, List, length, refl, sym, ap, ◌∙◌}
+use Rattle.std.specs.Prelude.{◌&&◌, ◌||◌, not}
+use Rattle.std.specs.Ordering.{is_ge, is_le}
+use Rattle.std.specs.declared.cmp.Ordering.{Ordering}
+use Rattle.std.specs.declared.cmp.Ordering.TheVariants.{Less, Equal, Greater}
+use Rattle.std.proofs.lemmas.Bool.{and_from, eq-eqb}
+use Rattle.semver_base.specs.Meaning.{admits_pre, from, has_pre_of, is_release}
+use Rattle.semver_base.specs.PartialTable.{between, up_to}
+use Rattle.semver_base.specs.Precedence.{precedence_cmp}
+use Rattle.semver_base.specs.PrecedenceLaws.{SamePrecedence, precedence-anti, precedence-same}
+use Rattle.semver_base.specs.declared.version.Version.{Version}
+use Rattle.semver_base.proofs.Orders.{and_first, and_second, or_false}
+use Rattle.semver_req.specs.Requirement.{PinsTo, inner_means, pinned}
+
+tied : (r : Ordering) → is_ge r ≡ true → is_le r ≡ true → r ≡ Equal
+tied Less h k = cc h
+tied Equal h k = refl
+tied Greater h k = cc k
+
+turned : (v w : Version) → SamePrecedence v w → SamePrecedence w v
+turned v w s = record { major = sym s.major; minor = sym s.minor; patch = sym s.patch; pre = sym s.pre }
+
+-- a pre-release of the version's precedence has its numbers and is one where the version is
+admitted : (v w : Version) → SamePrecedence v w → (is_release w || (admits_pre (between (from v) (up_to v)) w || false)) ≡ true
+admitted v w s = go (is_release w) refl
+  where
+    go : (b : Bool) → is_release w ≡ b → (b || (admits_pre (between (from v) (up_to v)) w || false)) ≡ true
+    go true e = refl
+    go false e =
+        let pre : not (length v.pre == 0) ≡ true = rw (s.pre, e) refl in
+        let numbers = and_from _ _ (eq-eqb v.major w.major s.major) (and_from _ _ (eq-eqb v.minor w.minor s.minor) (eq-eqb v.patch w.patch s.patch)) in
+        let has : has_pre_of (from v) w ≡ true = and_from _ _ pre numbers in
+        rw has refl
+
+pub pinned_means : (v : Version) → PinsTo v (pinned v).inner
+pinned_means v w = (only, also)
+  where
+    only : inner_means (pinned v).inner w ≡ true → SamePrecedence v w
+    only h =
+        let held = and_first _ _ (and_first _ _ (sym (or_false _) ∙ h)) in
+        turned w v (precedence-anti w v (tied (precedence_cmp w v) (and_first _ _ held) (and_second _ _ held)))
+
+    also : SamePrecedence v w → inner_means (pinned v).inner w ≡ true
+    also s =
+        let same : precedence_cmp w v ≡ Equal = precedence-same w v (turned v w s) in
+        rw (same, admitted v w s) refl
