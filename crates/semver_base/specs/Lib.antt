@@ -1,6 +1,7 @@
 pub mod Clamp
 pub mod Comparators
 pub mod Failure
+pub mod Forms
 pub mod Grammar
 pub mod Lexical
 pub mod Meaning

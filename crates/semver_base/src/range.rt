@@ -1,4 +1,4 @@
-//! Ranges of versions: what their bounds hold, and which versions they match.
+//! Ranges of versions: what their bounds hold, which versions they match, and how they are written (`display`).
 
 ghost use Rattle.std.specs.Prelude.{◌≡◌, ◌∷◌, ◌⊎◌, [], IfOk};
 ghost use Rattle.std.specs.Bool.{OnFalse, OnTrue};
@@ -6,6 +6,8 @@ ghost use Rattle.std.specs.List.{list_any};
 ghost use Rattle.semver_base.specs.Clamp.{clamped, clamped_end, clamped_start, of_tied, stopped_at, HaveCrossed, HoldsBoth, HoldsNothing, MatchesBoth, MeansBoth};
 ghost use Rattle.semver_base.specs.Meaning.{alternative_means, alternatives, bounds_hold, end_holds, everything, has_pre_of, nothing, start_holds, tree_means};
 ghost use Rattle.semver_base.specs.Overlap.{ends_at_zero, overlap, some_overlap, starts_before, HoldNothingTogether, HoldsNoRelease, MatchNothingTogether};
+
+mod display;
 
 use crate::string::{CowItem, CowVec};
 use crate::version::Version;

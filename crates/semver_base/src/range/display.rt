@@ -1,0 +1,253 @@
+//! How ranges and sets of ranges are written.
+
+ghost use Rattle.std.specs.Prelude.{◌≡◌, ◌+◌, ◌++◌, ◌==◌, ◌&&◌, ◌∷◌, [], Some, codes, length};
+ghost use Rattle.std.specs.Fmt.{DisplaysOnOk};
+ghost use Rattle.std.specs.List.{flat_map};
+ghost use Rattle.semver_base.specs.Forms.{form_comparators};
+ghost use Rattle.semver_base.specs.NormalText.{comparator_text, comparators_text, range_text, set_text};
+ghost use Rattle.semver_base.specs.PartialTable.{between};
+ghost use Rattle.semver_base.specs.Shortest.{ending, is_plain, shortest_between, starting};
+
+use crate::range::{RangeBound, VersionBound, VersionBoundKind, VersionRange, VersionRangeSet};
+use crate::version::Version;
+use std::fmt;
+
+// How a range with both bounds is written.
+#[derive(Clone, Copy)]
+enum Form {
+    // The version that is both bounds.
+    Whole,
+    // The start's major number.
+    Major,
+    // The start's major and minor number.
+    Minor,
+    // `~` and the start.
+    Tilde,
+    // `^` and the start.
+    Caret,
+    // The end with its sign.
+    End,
+    // Both bounds with their signs.
+    Both,
+}
+
+// Whether the version has neither a pre-release nor a build.
+fn is_unqualified(version: &Version) -> bool
+    ensures { result ≡ ((length version.now.pre == 0) && (length version.now.build == 0)) }
+{
+    version.pre.is_empty() && version.build.is_empty()
+}
+
+// Whether the version has these numbers, and neither a pre-release nor a build.
+fn is_plain(version: &Version, major: u64, minor: u64, patch: u64) -> bool
+    ensures { result ≡ is_plain version.now major minor patch }
+{
+    version.major == major
+        && version.minor == minor
+        && version.patch == patch
+        && is_unqualified(version)
+}
+
+// Whether `next` is the number after `number`. After 18446744073709551615 there is none.
+fn is_next(number: u64, next: u64) -> bool
+    ensures { result ≡ (next == number + 1) }
+{
+    number.checked_add(1) == Some(next)
+}
+
+// Whether `end` is the first release of the major number after that of `start`.
+fn is_next_major(start: &Version, end: &Version) -> bool
+    ensures { result ≡ is_plain end.now (start.now.major + 1) 0 0 }
+{
+    is_next(start.major, end.major) && end.minor == 0 && end.patch == 0 && is_unqualified(end)
+}
+
+// Whether `end` is the first release of the minor number after that of `start`.
+fn is_next_minor(start: &Version, end: &Version) -> bool
+    ensures { result ≡ is_plain end.now start.now.major (start.now.minor + 1) 0 }
+{
+    end.major == start.major
+        && is_next(start.minor, end.minor)
+        && end.patch == 0
+        && is_unqualified(end)
+}
+
+// Whether `end` is the release 0.0 with the patch after that of `start`.
+fn is_next_patch(start: &Version, end: &Version) -> bool
+    ensures { result ≡ is_plain end.now 0 0 (start.now.patch + 1) }
+{
+    end.major == 0 && end.minor == 0 && is_next(start.patch, end.patch) && is_unqualified(end)
+}
+
+// The form from `start` up to `end`: the first that fits.
+fn closed_form(start: &Version, end: &Version) -> Form
+    ensures { shortest_between VersionBoundKind.Inclusive VersionBoundKind.Inclusive start.now end.now
+        ≡ form_comparators result VersionBoundKind.Inclusive VersionBoundKind.Inclusive start.now end.now }
+{
+    if start == end {
+        return Form::Whole;
+    }
+    if is_plain(start, 0, 0, 0) {
+        return Form::End;
+    }
+    Form::Both
+}
+
+// The form from `start` to below `end`: the first that fits.
+fn half_open_form(start: &Version, end: &Version) -> Form
+    ensures { shortest_between VersionBoundKind.Inclusive VersionBoundKind.Exclusive start.now end.now
+        ≡ form_comparators result VersionBoundKind.Inclusive VersionBoundKind.Exclusive start.now end.now }
+{
+    if is_plain(start, start.major, 0, 0) && is_next_major(start, end) {
+        return Form::Major;
+    }
+    if is_plain(start, start.major, start.minor, 0) && is_next_minor(start, end) {
+        return Form::Minor;
+    }
+    if is_next_minor(start, end) {
+        return Form::Tilde;
+    }
+    if start.major == 0 && start.minor == 0 && is_next_patch(start, end) {
+        return Form::Caret;
+    }
+    if start.major > 0 && is_next_major(start, end) {
+        return Form::Caret;
+    }
+    if is_plain(start, 0, 0, 0) {
+        return Form::End;
+    }
+    Form::Both
+}
+
+// The form between two bounds: the first that fits.
+fn form_between(start: &VersionBound, end: &VersionBound) -> Form
+    ensures { shortest_between start.now.kind end.now.kind start.now.version end.now.version
+        ≡ form_comparators result start.now.kind end.now.kind start.now.version end.now.version }
+{
+    match (start.kind, end.kind) {
+        (VersionBoundKind::Inclusive, VersionBoundKind::Inclusive) => {
+            closed_form(&start.version, &end.version)
+        }
+        (VersionBoundKind::Inclusive, VersionBoundKind::Exclusive) => {
+            half_open_form(&start.version, &end.version)
+        }
+        (VersionBoundKind::Exclusive, _) => Form::Both,
+    }
+}
+
+// Writes `>=` or `>` and the version.
+fn write_start<W: fmt::Write>(f: &mut fmt::Formatter<W>, start: &VersionBound) -> fmt::Result
+    ensures { DisplaysOnOk W.write_str_gives f.old result
+        (Some (comparator_text (starting start.now.kind start.now.version))) f.new }
+{
+    let version = &start.version;
+    match start.kind {
+        VersionBoundKind::Inclusive => write!(f, ">={version}"),
+        VersionBoundKind::Exclusive => write!(f, ">{version}"),
+    }
+}
+
+// Writes `<=` or `<` and the version.
+fn write_end<W: fmt::Write>(f: &mut fmt::Formatter<W>, end: &VersionBound) -> fmt::Result
+    ensures { DisplaysOnOk W.write_str_gives f.old result
+        (Some (comparator_text (ending end.now.kind end.now.version))) f.new }
+{
+    let version = &end.version;
+    match end.kind {
+        VersionBoundKind::Inclusive => write!(f, "<={version}"),
+        VersionBoundKind::Exclusive => write!(f, "<{version}"),
+    }
+}
+
+// Writes both bounds with a blank between.
+fn write_both<W: fmt::Write>(
+    f: &mut fmt::Formatter<W>,
+    start: &VersionBound,
+    end: &VersionBound,
+) -> fmt::Result
+    ensures { DisplaysOnOk W.write_str_gives f.old result
+        (Some (comparators_text (starting start.now.kind start.now.version ∷ ending end.now.kind end.now.version ∷ [])))
+        f.new }
+{
+    write_start(f, start)?;
+    f.write_str(" ")?;
+    write_end(f, end)
+}
+
+// Writes the shortest form between two bounds.
+fn write_between<W: fmt::Write>(
+    f: &mut fmt::Formatter<W>,
+    start: &VersionBound,
+    end: &VersionBound,
+) -> fmt::Result
+    ensures { DisplaysOnOk W.write_str_gives f.old result
+        (Some (range_text (between (RangeBound.Version start.now) (RangeBound.Version end.now)))) f.new }
+{
+    let version = &start.version;
+    let (major, minor) = (version.major, version.minor);
+    match form_between(start, end) {
+        Form::Whole => write!(f, "{version}"),
+        Form::Major => write!(f, "{major}"),
+        Form::Minor => write!(f, "{major}.{minor}"),
+        Form::Tilde => write!(f, "~{version}"),
+        Form::Caret => write!(f, "^{version}"),
+        Form::End => write_end(f, end),
+        Form::Both => write_both(f, start, end),
+    }
+}
+
+/// The shortest usual form of the range: the first line of this table that fits, where `s` and `e` are the texts of the
+/// start's and the end's version. `s` and `e` are plain where they have neither a pre-release nor a build.
+///
+/// | Range | Text |
+/// |---|---|
+/// | no bounds | `*` |
+/// | no start | `<=e` or `<e` |
+/// | no end | `>=s` or `>s` |
+/// | from a version to itself, builds included | `s` |
+/// | from plain `M.0.0` to below plain `(M+1).0.0` | `M` |
+/// | from plain `M.m.0` to below plain `M.(m+1).0` | `M.m` |
+/// | from `M.m.p` to below plain `M.(m+1).0` | `~s` |
+/// | from `0.0.p` to below plain `0.0.(p+1)` | `^s` |
+/// | from `M.m.p`, `M` above 0, to below plain `(M+1).0.0` | `^s` |
+/// | from plain `0.0.0` | `<=e` or `<e` |
+/// | any other | `>=s` or `>s`, a blank, and `<=e` or `<e` |
+///
+/// The forms are those of node-semver's "Advanced Range Syntax"; which of them is taken is `deno_semver`'s own choice.
+impl fmt::Display for VersionRange {
+    ghost output = { λ range. Some (range_text range) };
+
+    fn fmt<W: fmt::Write>(&self, f: &mut fmt::Formatter<W>) -> fmt::Result {
+        match (&self.start, &self.end) {
+            (RangeBound::Unbounded, RangeBound::Unbounded) => f.write_str("*"),
+            (RangeBound::Unbounded, RangeBound::Version(end)) => write_end(f, end),
+            (RangeBound::Version(start), RangeBound::Unbounded) => write_start(f, start),
+            (RangeBound::Version(start), RangeBound::Version(end)) => write_between(f, start, end),
+        }
+    }
+}
+
+// Writes the ranges, ` || ` before each.
+fn write_others<W: fmt::Write>(f: &mut fmt::Formatter<W>, others: &[VersionRange]) -> fmt::Result
+    ensures { DisplaysOnOk W.write_str_gives f.old result
+        (Some (flat_map (λ range. codes " || " ++ range_text range) others.now)) f.new }
+{
+    for range in others {
+        write!(f, " || {range}")?;
+    }
+    Ok(())
+}
+
+/// The texts of the ranges with ` || ` between (node-semver, ranges joined by `||`), or `<0.0.0`, which no release matches,
+/// where there are none.
+impl fmt::Display for VersionRangeSet {
+    ghost output = { λ set. Some (set_text set.0) };
+
+    fn fmt<W: fmt::Write>(&self, f: &mut fmt::Formatter<W>) -> fmt::Result {
+        let Some((first, others)) = self.0.as_slice().split_first() else {
+            return f.write_str("<0.0.0");
+        };
+        write!(f, "{first}")?;
+        write_others(f, others)
+    }
+}
