@@ -9,7 +9,9 @@ ghost use Rattle.semver_base.specs.PartialTable.{between};
 ghost use Rattle.semver_base.specs.Shortest.{ending, is_plain, shortest_between, starting};
 
 use crate::range::{RangeBound, VersionBound, VersionBoundKind, VersionRange, VersionRangeSet};
+use crate::string::{StringAppendable, StringType};
 use crate::version::Version;
+use std::alloc::{AllocError, Global};
 use std::fmt;
 
 // How a range with both bounds is written.
@@ -227,6 +229,15 @@ impl fmt::Display for VersionRange {
     }
 }
 
+impl StringAppendable for VersionRange {
+    ghost text = { range_text };
+
+    fn append_to<T: StringType>(&self, alloc: Global, target: &mut T) -> Result<(), AllocError> {
+        let text = format!(in alloc; "{self}")?;
+        target.push_str(text.as_str())
+    }
+}
+
 // Writes the ranges, ` || ` before each.
 fn write_others<W: fmt::Write>(f: &mut fmt::Formatter<W>, others: &[VersionRange]) -> fmt::Result
     ensures { DisplaysOnOk W.write_str_gives f.old result
@@ -249,5 +260,14 @@ impl fmt::Display for VersionRangeSet {
         };
         write!(f, "{first}")?;
         write_others(f, others)
+    }
+}
+
+impl StringAppendable for VersionRangeSet {
+    ghost text = { λ set. set_text set.0 };
+
+    fn append_to<T: StringType>(&self, alloc: Global, target: &mut T) -> Result<(), AllocError> {
+        let text = format!(in alloc; "{self}")?;
+        target.push_str(text.as_str())
     }
 }
