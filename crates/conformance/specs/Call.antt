@@ -1,6 +1,6 @@
 use Rattle.std.specs.Prelude.{List, ℕ, codes}
 use Rattle.conformance.specs.declared.call.Call.{Call}
-use Rattle.conformance.specs.declared.call.Call.TheVariants.{Text, Items, Failure, SameFailure, Refusal, Range, SameRange, TagRequirement, Version, NpmVersion, Equal, Compare, Precedence, Identifiers, Tag, Requirement, SameRequirement, Ranges, Fits, Overlap, Error, Satisfies, SetSatisfies, Admits, Clamp, ClampStart, ClampEnd, IsNone, IntersectsVersion, IntersectsRange, IntersectsSet, Partial, PartialAt, QualifierAt, SignAt, ComparatorAt, OperatorAt}
+use Rattle.conformance.specs.declared.call.Call.TheVariants.{Text, Items, Failure, SameFailure, Refusal, Range, SameRange, TagRequirement, Version, NpmVersion, Equal, Compare, Precedence, Identifiers, Tag, Requirement, SameRequirement, Ranges, Fits, Overlap, Error, Satisfies, SetSatisfies, Admits, Clamp, ClampStart, ClampEnd, IsNone, IntersectsVersion, IntersectsRange, IntersectsSet, Partial, PartialAt, QualifierAt, SignAt, ComparatorAt, OperatorAt, Made, Pushed, Replaced, Grown, Written, Normal, Reread, Pinned}
 
 -- the first word of a question that asks the call
 abbrev pub name_of : Call → List ℕ
@@ -41,3 +41,11 @@ name_of QualifierAt = codes "qualifier-at"
 name_of SignAt = codes "sign-at"
 name_of ComparatorAt = codes "comparator-at"
 name_of OperatorAt = codes "operator-at"
+name_of Made = codes "made"
+name_of Pushed = codes "pushed"
+name_of Replaced = codes "replaced"
+name_of Grown = codes "grown"
+name_of Written = codes "written"
+name_of Normal = codes "normal"
+name_of Reread = codes "reread"
+name_of Pinned = codes "pinned"

@@ -4,7 +4,7 @@ ghost use Rattle.std.specs.Prelude.{◌≡◌, IfSome};
 ghost use Rattle.conformance.specs.Call.{name_of};
 
 use crate::words::{Answer, Word};
-use crate::{partials, places, ranges, requirements, values, versions};
+use crate::{partials, places, ranges, requirements, texts, values, versions};
 use std::alloc::Global;
 
 /// A call that a row asks.
@@ -47,11 +47,19 @@ pub enum Call {
     SignAt,
     ComparatorAt,
     OperatorAt,
+    Made,
+    Pushed,
+    Replaced,
+    Grown,
+    Written,
+    Normal,
+    Reread,
+    Pinned,
 }
 
 impl Call {
     /// All calls, in the order in which they are counted.
-    pub const ALL: [Call; 37] = [
+    pub const ALL: [Call; 45] = [
         Call::Text,
         Call::Items,
         Call::Failure,
@@ -89,6 +97,14 @@ impl Call {
         Call::SignAt,
         Call::ComparatorAt,
         Call::OperatorAt,
+        Call::Made,
+        Call::Pushed,
+        Call::Replaced,
+        Call::Grown,
+        Call::Written,
+        Call::Normal,
+        Call::Reread,
+        Call::Pinned,
     ];
 
     /// The first word of a question that asks the call.
@@ -133,6 +149,14 @@ impl Call {
             Call::SignAt => "sign-at",
             Call::ComparatorAt => "comparator-at",
             Call::OperatorAt => "operator-at",
+            Call::Made => "made",
+            Call::Pushed => "pushed",
+            Call::Replaced => "replaced",
+            Call::Grown => "grown",
+            Call::Written => "written",
+            Call::Normal => "normal",
+            Call::Reread => "reread",
+            Call::Pinned => "pinned",
         }
     }
 
@@ -183,6 +207,14 @@ impl Call {
             Call::SignAt => places::sign_at(alloc, words),
             Call::ComparatorAt => places::comparator_at(alloc, words),
             Call::OperatorAt => places::operator_at(alloc, words),
+            Call::Made => texts::made(alloc, words),
+            Call::Pushed => texts::pushed(alloc, words),
+            Call::Replaced => texts::replaced(alloc, words),
+            Call::Grown => texts::grown(alloc, words),
+            Call::Written => texts::written_as(alloc, words),
+            Call::Normal => requirements::normal(alloc, words),
+            Call::Reread => requirements::reread(alloc, words),
+            Call::Pinned => requirements::pinned(alloc, words),
         }
     }
 }

@@ -20,6 +20,7 @@ mod row;
 mod shown;
 mod table;
 mod tally;
+mod texts;
 mod values;
 mod versions;
 mod words;

@@ -3,7 +3,7 @@
 use crate::shown;
 use crate::words::{Answer, Fault, Word, answer, yes_or_no};
 use deno_semver::npm::{is_valid_npm_tag, parse_npm_version, parse_npm_version_req};
-use deno_semver::{ParseFailure, RangeSetOrTag, Version, VersionReq};
+use deno_semver::{IntoVersionReq, ParseFailure, RangeSetOrTag, Version, VersionReq};
 use std::alloc::Global;
 
 // The requirement that the reader of this name makes of a text.
@@ -80,6 +80,61 @@ pub fn fits(alloc: Global, words: &[Word<'_>]) -> Answer {
         None => yes_or_no(alloc, requirement.matches(&version)),
         Some(tag) => answer(alloc, &[Some("tag"), Some(tag)]),
     }
+}
+
+/// `normal`, a reader and a text: `ranges` or `tag`, and the normal text of the requirement.
+pub fn normal(alloc: Global, words: &[Word<'_>]) -> Answer {
+    let [Some(reader), Some(text)] = words else {
+        return Err(Fault::Unreadable);
+    };
+    let requirement = read(alloc, reader, text)?;
+    let kind = match requirement.tag() {
+        None => "ranges",
+        Some(_) => "tag",
+    };
+    let normal = requirement.to_string_normalized(alloc)?;
+    answer(alloc, &[Some(kind), Some(normal.as_str())])
+}
+
+/// `reread`, a reader, a text and another reader: `equal` where what the other reader makes of the requirement's normal
+/// text equals the requirement, and else `differs`; and the normal text of that.
+pub fn reread(alloc: Global, words: &[Word<'_>]) -> Answer {
+    let [Some(reader), Some(text), Some(other)] = words else {
+        return Err(Fault::Unreadable);
+    };
+    let requirement = read(alloc, reader, text)?;
+    let normal = requirement.to_string_normalized(alloc)?;
+    let again = read(alloc, other, normal.as_str())?;
+    let word = if again == requirement {
+        "equal"
+    } else {
+        "differs"
+    };
+    let settled = again.to_string_normalized(alloc)?;
+    answer(alloc, &[Some(word), Some(settled.as_str())])
+}
+
+/// `pinned`, two versions: the text of the requirement that the first is turned into, its normal text, and whether the
+/// second matches.
+pub fn pinned(alloc: Global, words: &[Word<'_>]) -> Answer {
+    let [Some(version), Some(other)] = words else {
+        return Err(Fault::Unreadable);
+    };
+    let requirement = Version::parse_standard(alloc, version)?.into_req(alloc)?;
+    let other = Version::parse_standard(alloc, other)?;
+    let normal = requirement.to_string_normalized(alloc)?;
+    let matches = match requirement.tag() {
+        None if requirement.matches(&other) => "yes",
+        _ => "no",
+    };
+    answer(
+        alloc,
+        &[
+            Some(requirement.version_text()),
+            Some(normal.as_str()),
+            Some(matches),
+        ],
+    )
 }
 
 // The first line of the error, and that of its source.

@@ -3,8 +3,7 @@
 use crate::shown;
 use crate::words::{Answer, Fault, Word, answer};
 use deno_semver::{
-    CowVec, RangeSetOrTag, SmallStackString, StackString, StringAppendable, StringType, Version,
-    VersionReq,
+    CowVec, SmallStackString, StackString, StringAppendable, StringType, Version, VersionReq,
 };
 use semver_base::string::ShortText;
 use std::alloc::Global;
@@ -113,4 +112,49 @@ pub fn grown(alloc: Global, words: &[Word<'_>]) -> Answer {
     let copy = shown::identifiers(alloc, &copy)?;
     let list = shown::identifiers(alloc, &list)?;
     answer(alloc, &[Some(copy.as_str()), Some(list.as_str())])
+}
+
+// The start with the value's text appended to it, in a text of one of the types.
+fn appended_to<T: StringType, A: StringAppendable>(
+    alloc: Global,
+    start: &str,
+    value: &A,
+) -> Result<T, Fault> {
+    let mut text = T::with_capacity(alloc, start.len())?;
+    text.push_str(start)?;
+    value.append_to(alloc, &mut text)?;
+    Ok(text)
+}
+
+// How the value is displayed, and the start with its text appended to it, in a text of each type.
+fn written<A: StringAppendable + fmt::Display>(alloc: Global, start: &str, value: &A) -> Answer {
+    let displayed = format!(in alloc; "{value}")?;
+    let string: String = appended_to(alloc, start, value)?;
+    let small: SmallStackString = appended_to(alloc, start, value)?;
+    let stack: StackString = appended_to(alloc, start, value)?;
+    answer(
+        alloc,
+        &[
+            Some(displayed.as_str()),
+            Some(string.as_str()),
+            Some(small.as_str()),
+            Some(stack.as_str()),
+        ],
+    )
+}
+
+/// `written`, the kind of a value, the value and a start: how the value is displayed, and the start with the value's text
+/// appended to it as a `String`, a `SmallStackString` and a `StackString`. An `inner` is what npm's reader makes of a text.
+pub fn written_as(alloc: Global, words: &[Word<'_>]) -> Answer {
+    let [Some(kind), Some(value), Some(start)] = words else {
+        return Err(Fault::Unreadable);
+    };
+    match *kind {
+        "text" => written(alloc, start, &SmallStackString::from_str(alloc, value)?),
+        "version" => written(alloc, start, &Version::parse_standard(alloc, value)?),
+        "range" => written(alloc, start, &shown::range_of(alloc, value)?),
+        "set" => written(alloc, start, &shown::set_of(alloc, value)?),
+        "inner" => written(alloc, start, VersionReq::parse_from_npm(alloc, value)?.inner()),
+        _ => Err(Fault::Unreadable),
+    }
 }

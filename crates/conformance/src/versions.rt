@@ -7,13 +7,13 @@ use deno_semver::{Version, VersionPreOrBuild};
 use std::alloc::{AllocError, Global};
 use std::cmp::Ordering;
 
-/// `version`, a text: `read` and the text of the version's parts.
+/// `version`, a text: `read` and how the version is displayed.
 pub fn version(alloc: Global, words: &[Word<'_>]) -> Answer {
     let [Some(text)] = words else {
         return Err(Fault::Unreadable);
     };
     let version = Version::parse_standard(alloc, text)?;
-    let text = shown::version(alloc, &version)?;
+    let text = format!(in alloc; "{version}")?;
     answer(alloc, &[Some("read"), Some(text.as_str())])
 }
 

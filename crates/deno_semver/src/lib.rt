@@ -11,8 +11,10 @@ pub use semver_base::partial::{Partial, XRange};
 pub use semver_base::range::{
     RangeBound, VersionBound, VersionBoundKind, VersionRange, VersionRangeSet,
 };
-pub use semver_base::string::{CowItem, CowVec, SmallStackString};
+pub use semver_base::string::{
+    CowItem, CowVec, SmallStackString, StackString, StringAppendable, StringType,
+};
 pub use semver_base::version::{Version, VersionParseError, VersionPreOrBuild};
 pub use semver_req::range_set_or_tag::{PackageTag, RangeSetOrTag};
-pub use semver_req::req::{VersionReq, VersionReqNormalizedParseError};
+pub use semver_req::req::{IntoVersionReq, VersionReq, VersionReqNormalizedParseError};
 pub use semver_req::specifier::VersionReqSpecifierParseError;

@@ -1,8 +1,11 @@
 //! `npmver` answers questions about versions and version requirements of npm and JSR packages.
 //!
 //! `npmver fits READER REQ VERSION` prints `yes` (status 0) where the version matches the requirement, which is read by
-//! READER, `npm`, `normal` or `strict`, `no` (1) where it doesn't, and `tag NAME` (2) where the requirement is a tag. A
-//! refusal prints `refused: MESSAGE` on standard error (3); other words print the usage line there (4), want of memory
+//! READER, `npm`, `normal` or `strict`, `no` (1) where it doesn't, and `tag NAME` (2) where the requirement is a tag.
+//! `npmver normal READER REQ` prints the normal text of the requirement, or the tag (0). `npmver meet A B` prints `yes` (0)
+//! where two requirements overlap, both as npm reads them, and `no` (1) where they don't.
+//!
+//! A refusal prints `refused: MESSAGE` on standard error (3); other words print the usage line there (4), want of memory
 //! `out of memory` (5). The status is 6 where standard output can't be written.
 #![tactic(auto)]
 
@@ -26,6 +29,14 @@ enum Answer {
     No,
     /// The requirement is this tag.
     Tag(PackageTag),
+    /// The normal text of the requirement.
+    Text(String),
+}
+
+impl Answer {
+    fn of(holds: bool) -> Answer {
+        if holds { Answer::Yes } else { Answer::No }
+    }
 }
 
 /// Why a question has no answer.
@@ -88,14 +99,22 @@ pub fn run<O: Write, E: Write>(alloc: Global, words: &[String], out: &mut O, err
 }
 
 fn ask(alloc: Global, words: &[String]) -> Result<Answer, Problem> {
-    let [command, reader, requirement, version] = words else {
-        return Err(Problem::Usage);
-    };
-    if command.as_str() != "fits" {
-        return Err(Problem::Usage);
+    match words {
+        [command, reader, requirement, version] if command.as_str() == "fits" => {
+            let requirement = read(alloc, reader.as_str(), requirement.as_str())?;
+            fits(alloc, &requirement, version.as_str())
+        }
+        [command, reader, requirement] if command.as_str() == "normal" => {
+            let requirement = read(alloc, reader.as_str(), requirement.as_str())?;
+            Ok(Answer::Text(requirement.to_string_normalized(alloc)?))
+        }
+        [command, one, other] if command.as_str() == "meet" => {
+            let one = VersionReq::parse_from_npm(alloc, one.as_str())?;
+            let other = VersionReq::parse_from_npm(alloc, other.as_str())?;
+            Ok(Answer::of(one.intersects(&other)))
+        }
+        _ => Err(Problem::Usage),
     }
-    let requirement = read(alloc, reader.as_str(), requirement.as_str())?;
-    fits(alloc, &requirement, version.as_str())
 }
 
 // The requirement that the reader of this name makes of a text.
@@ -113,8 +132,7 @@ fn fits(alloc: Global, requirement: &VersionReq, version: &str) -> Result<Answer
     let version = Version::parse_standard(alloc, version)?;
     match requirement.tag() {
         Some(tag) => Ok(Answer::Tag(PackageTag::from_str(alloc, tag)?)),
-        None if requirement.matches(&version) => Ok(Answer::Yes),
-        None => Ok(Answer::No),
+        None => Ok(Answer::of(requirement.matches(&version))),
     }
 }
 
@@ -124,6 +142,7 @@ fn print<O: Write>(out: &mut O, answer: &Answer) -> u8 {
         Answer::Yes => (writeln!(out, "yes"), 0),
         Answer::No => (writeln!(out, "no"), 1),
         Answer::Tag(tag) => (writeln!(out, "tag {tag}"), 2),
+        Answer::Text(text) => (writeln!(out, "{text}"), 0),
     };
     match written {
         Ok(()) => status,

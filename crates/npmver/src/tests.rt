@@ -7,45 +7,66 @@ use std::io::Write;
 use std::process::Abort;
 use std::test::Fail;
 
-// The words of a question with `|` between, the status, and the line that is written.
+// The words of a question with `;` between, the status, and the line that is written.
 const QUESTIONS: &str = "\
-fits|strict|^1.2|1.3.0 => 0 => yes
-fits|strict|^1.2|2.0.0 => 1 => no
-fits|strict|1.x.3|2.0.2 => 0 => yes
-fits|strict|1.x.3|1.0.2 => 1 => no
-fits|strict|^0.0.0-pre|0.0.0-pre => 0 => yes
-fits|strict|^0.0.0-pre|0.0.1 => 1 => no
-fits|strict|latest|1.0.0 => 2 => tag latest
-fits|strict|latest|foo => 3 => refused: Unexpected character.
-fits|strict||1.0.0 => 3 => refused: Empty version constraint.
-fits|strict||1.0 => 3 => refused: Empty version constraint.
-fits|strict|1beta|1.0.0 => 3 => refused: Unexpected character.
-fits|strict| 1|1.0.0 => 3 => refused: Unexpected character.
-fits|strict|1 |1.0.0 => 3 => refused: Unexpected character.
-fits|strict|1| 1.0.0  => 0 => yes
-fits|strict|^18446744073709551616|1.0.0 => 3 => refused: Number is too large.
-fits|strict|^18446744073709551615|1.0.0 => 3 => refused: Version bound is too large.
-fits|strict|1|1.0 => 3 => refused: Missing patch version. Versions must be in the form MAJOR.MINOR.PATCH (ex. 1.0.0).
-fits|normal| 1|1.5.0 => 2 => tag 1
-fits|normal|1 |1.5.0 => 0 => yes
-fits|normal|>=1 <2|2.0.0 => 1 => no
-fits|normal|1 <2|1.5.0 => 0 => yes
-fits|normal||1.5.0 => 0 => yes
-fits|normal|1,2|1.0 => 3 => refused: Unexpected character.
-fits|npm|>=3.0.0 <=2.0.0|2.0.0 => 1 => no
-fits|npm| 1 - 2, |2.9.0 => 3 => refused: Unexpected character.
-fits|npm| 1 - 2 |2.9.0 => 0 => yes
-fits|npm|< ^1.2.3|1.3.0 => 0 => yes
-fits|npm|<^1.2.3|1.3.0 => 3 => refused: Unexpected character.
-fits|npm| latest |1.0.0 => 2 => tag latest
-fits|normal|latest|1.0 => 3 => refused: Missing patch version. Versions must be in the form MAJOR.MINOR.PATCH (ex. 1.0.0).
+fits;strict;^1.2;1.3.0 => 0 => yes
+fits;strict;^1.2;2.0.0 => 1 => no
+fits;strict;1.x.3;2.0.2 => 0 => yes
+fits;strict;1.x.3;1.0.2 => 1 => no
+fits;strict;^0.0.0-pre;0.0.0-pre => 0 => yes
+fits;strict;^0.0.0-pre;0.0.1 => 1 => no
+fits;strict;latest;1.0.0 => 2 => tag latest
+fits;strict;latest;foo => 3 => refused: Unexpected character.
+fits;strict;;1.0.0 => 3 => refused: Empty version constraint.
+fits;strict;;1.0 => 3 => refused: Empty version constraint.
+fits;strict;1beta;1.0.0 => 3 => refused: Unexpected character.
+fits;strict; 1;1.0.0 => 3 => refused: Unexpected character.
+fits;strict;1 ;1.0.0 => 3 => refused: Unexpected character.
+fits;strict;1; 1.0.0  => 0 => yes
+fits;strict;^18446744073709551616;1.0.0 => 3 => refused: Number is too large.
+fits;strict;^18446744073709551615;1.0.0 => 3 => refused: Version bound is too large.
+fits;strict;1;1.0 => 3 => refused: Missing patch version. Versions must be in the form MAJOR.MINOR.PATCH (ex. 1.0.0).
+fits;normal; 1;1.5.0 => 2 => tag 1
+fits;normal;1 ;1.5.0 => 0 => yes
+fits;normal;>=1 <2;2.0.0 => 1 => no
+fits;normal;1 <2;1.5.0 => 0 => yes
+fits;normal;;1.5.0 => 0 => yes
+fits;normal;1,2;1.0 => 3 => refused: Unexpected character.
+fits;npm;>=3.0.0 <=2.0.0;2.0.0 => 1 => no
+fits;npm; 1 - 2, ;2.9.0 => 3 => refused: Unexpected character.
+fits;npm; 1 - 2 ;2.9.0 => 0 => yes
+fits;npm;< ^1.2.3;1.3.0 => 0 => yes
+fits;npm;<^1.2.3;1.3.0 => 3 => refused: Unexpected character.
+fits;npm; latest ;1.0.0 => 2 => tag latest
+fits;normal;latest;1.0 => 3 => refused: Missing patch version. Versions must be in the form MAJOR.MINOR.PATCH (ex. 1.0.0).
  => 4 => usage: npmver fits|normal|meet ..
 fits => 4 => usage: npmver fits|normal|meet ..
-fits|strict|1 => 4 => usage: npmver fits|normal|meet ..
-fits|strict|1|1.0.0|2.0.0 => 4 => usage: npmver fits|normal|meet ..
-fits|loose|1|1.0.0 => 4 => usage: npmver fits|normal|meet ..
-meet|strict|1|1.0.0 => 4 => usage: npmver fits|normal|meet ..
- fits|strict|1|1.0.0 => 4 => usage: npmver fits|normal|meet ..
+fits;strict;1 => 4 => usage: npmver fits|normal|meet ..
+fits;strict;1;1.0.0;2.0.0 => 4 => usage: npmver fits|normal|meet ..
+fits;loose;1;1.0.0 => 4 => usage: npmver fits|normal|meet ..
+normal;npm;^1.0.0 >=1.2.3-alpha => 0 => ^1.2.3-alpha
+normal;npm;foo || bar => 0 => <0.0.0
+normal;npm;|| => 0 => *
+normal;npm;|||| => 0 => * || *
+normal;strict;latest => 0 => latest
+normal;strict;^1.2 => 0 => ^1.2.0
+normal;normal;1 || foo => 3 => refused: Unexpected character.
+normal;normal; 1 => 0 => 1
+normal;npm;>18446744073709551615 => 3 => refused: Version bound is too large.
+meet;<1;>=1 => 1 => no
+meet;>=3;>=1 => 0 => yes
+meet;>1.0.0;<1.0.1 => 0 => yes
+meet;latest;latest => 0 => yes
+meet;latest;* => 1 => no
+meet;foo bar;>=1 1.0 => 3 => refused: Unexpected character.
+meet;1;foo bar => 3 => refused: Unexpected character.
+meet;1 => 4 => usage: npmver fits|normal|meet ..
+meet;strict;1;1.0.0 => 4 => usage: npmver fits|normal|meet ..
+normal;loose;1 => 4 => usage: npmver fits|normal|meet ..
+normal;npm => 4 => usage: npmver fits|normal|meet ..
+normal;npm;1;1 => 4 => usage: npmver fits|normal|meet ..
+best;npm;1 => 4 => usage: npmver fits|normal|meet ..
+ fits;strict;1;1.0.0 => 4 => usage: npmver fits|normal|meet ..
 ";
 
 // The words of a question; the empty text has none.
@@ -54,7 +75,7 @@ fn words_of(alloc: Global, question: &str) -> Result<Vec<String>, AllocError> {
     if question.is_empty() {
         return Ok(words);
     }
-    for word in question.split('|') {
+    for word in question.split(';') {
         words.push(String::from_str(alloc, word)?)?;
     }
     Ok(words)

@@ -3,6 +3,7 @@
 ghost use Rattle.std.specs.Prelude.{◌≡◌, ◌↔◌, IfErr, IfOk, IsTrue, None, Some, string_bytes};
 ghost use Rattle.std.specs.Bool.{OnFalse};
 ghost use Rattle.std.specs.Option.{option_copied};
+ghost use Rattle.semver_base.specs.declared.version.Version.{Version};
 ghost use Rattle.semver_req.specs.PieceReading.{IsCutRefusal};
 ghost use Rattle.semver_req.specs.Readers.{IsReaderAnswer};
 ghost use Rattle.semver_req.specs.Requirement.{MatchNoVersion, OverlapAsTags, PinsTo, Requirement, inner_means, inner_overlap, inner_text, pinned, set_of, tag_of};
@@ -214,17 +215,24 @@ pub trait IntoVersionReq {
         ensures matches { IfOk result (λ req. PinsTo (version self) req.inner) };
 }
 
+// The requirement from the version to itself.
+fn pinned(alloc: Global, version: Version) -> Result<VersionReq, AllocError>
+    ensures { IfOk result (λ req. req ≡ pinned version) }
+{
+    let text = format!(in alloc; "{version}")?;
+    let raw_text = SmallStackString::from_string(alloc, text)?;
+    let start = RangeBound::inclusive(version.copy()?);
+    let end = RangeBound::inclusive(version);
+    let mut ranges = CowVec::new(alloc);
+    ranges.push(VersionRange { start, end })?;
+    let inner = RangeSetOrTag::RangeSet(VersionRangeSet(ranges));
+    Ok(VersionReq::from_raw_text_and_inner(raw_text, inner))
+}
+
 impl IntoVersionReq for Version {
     ghost version = { λ v. v };
 
     fn into_req(self, alloc: Global) -> Result<VersionReq, AllocError> {
-        let text = format!(in alloc; "{self}")?;
-        let raw_text = SmallStackString::from_string(alloc, text)?;
-        let start = RangeBound::inclusive(self.copy()?);
-        let end = RangeBound::inclusive(self);
-        let mut ranges = CowVec::new(alloc);
-        ranges.push(VersionRange { start, end })?;
-        let inner = RangeSetOrTag::RangeSet(VersionRangeSet(ranges));
-        Ok(VersionReq::from_raw_text_and_inner(raw_text, inner))
+        pinned(alloc, self)
     }
 }
