@@ -8,10 +8,13 @@ use Rattle.semver_base.specs.declared.range.VersionRange.{VersionRange}
 use Rattle.semver_req.specs.KeptSet.{IsReadSet, kept}
 use Rattle.semver_req.specs.Outcome.{IsOutcome, Ranges, tree_ranges}
 use Rattle.semver_req.specs.Pieces.{IsCutting, npm, normal}
-use Rattle.semver_req.specs.Rereading.{IsRereadAs, NormalTextsKeepTheirMeaning, OneRereadingSettles, SettledSetsAreTheirTexts}
+use Rattle.semver_req.specs.Rereading.{IsTree, NormalTextsKeepTheirMeaning, OneRereadingSettles, OfReadRanges, SettledSetsAreTheirTexts}
+use Rattle.semver_req.specs.Requirement.{inner_text}
 use Rattle.semver_req.specs.Settled.{reread_set}
 use Rattle.semver_req.specs.declared.common.values.Flavour.{Flavour}
 use Rattle.semver_req.specs.declared.common.values.Flavour.TheVariants.{Normal}
+use Rattle.semver_req.specs.declared.range_set_or_tag.RangeSetOrTag.{RangeSetOrTag}
+use Rattle.semver_req.specs.declared.range_set_or_tag.RangeSetOrTag.TheVariants as inner
 use Rattle.semver_req.proofs.OneOutcome.{one_outcome}
 use Rattle.semver_req.proofs.ReadSets.{read_again_means, read_form_means, read_orderly, read_settles, read_writable}
 use Rattle.semver_req.proofs.WrittenSets.{set_outcome, set_trimmed}
@@ -25,35 +28,34 @@ kept_alike f npm tree = refl
 kept_alike f normal tree = refl
 
 module _ (f : Flavour) (cut : IsCutting f) (ranges : List VersionRange) (r : IsReadSet ranges) where
-  text_read : IsRereadAs f ranges (shortest_tree ranges)
+  text_read : IsTree f (set_text ranges) (shortest_tree ranges)
   text_read = set_outcome f cut ranges (read_writable ranges r)
 
-  tree_read : (tree : List (List Comparator)) → IsRereadAs f ranges tree → tree ≡ shortest_tree ranges
+  tree_read : (tree : List (List Comparator)) → IsTree f (set_text ranges) tree → tree ≡ shortest_tree ranges
   tree_read tree h = one_tree tree (shortest_tree ranges) (one_outcome f (set_text ranges) (Ranges tree) (Ranges (shortest_tree ranges)) h text_read)
 
   -- what is kept of the tree that the text is read as
-  kept_read : (tree : List (List Comparator)) → IsRereadAs f ranges tree → kept f tree ≡ reread_set ranges
+  kept_read : (tree : List (List Comparator)) → IsTree f (set_text ranges) tree → kept f tree ≡ reread_set ranges
   kept_read tree h = kept_alike f cut tree ∙ ap (kept Normal) (tree_read tree h)
 
-  kept_settled : (tree : List (List Comparator)) → IsRereadAs f ranges tree → reread_set (kept f tree) ≡ kept f tree
+  kept_settled : (tree : List (List Comparator)) → IsTree f (set_text ranges) tree → reread_set (kept f tree) ≡ kept f tree
   kept_settled tree h = let e = kept_read tree h in ap reread_set e ∙ read_settles ranges r ∙ sym e
 
-pub rereadings : NormalTextsKeepTheirMeaning
-rereadings f cut ranges r = record {
-  is_read = text_read f cut ranges r;
-  no_other = λ o h. one_outcome f (set_text ranges) o (Ranges (shortest_tree ranges)) h (text_read f cut ranges r);
-  is_trimmed = set_trimmed ranges (read_writable ranges r);
-  means = λ k tree h v. ap (λ tree. tree_means (tree_ranges tree) v) (tree_read f cut ranges r tree h) ∙ read_form_means ranges r k v;
-  kept_means = λ k tree h v. ap (λ set. tree_means (alternatives set) v) (kept_read f cut ranges r tree h) ∙ read_again_means ranges r k v;
-  equal = λ orderly k tree h. kept_read f cut ranges r tree h ∙ read_orderly ranges r orderly k;
-}
-
-read_again : (f : Flavour) (ranges : List VersionRange) (tree : List (List Comparator)) → IsRereadAs f ranges tree → IsReadSet (kept f tree)
+read_again : (f : Flavour) (ranges : List VersionRange) (tree : List (List Comparator)) → IsTree f (set_text ranges) tree → IsReadSet (kept f tree)
 read_again f ranges tree h = record { flavour = f; text = set_text ranges; tree = tree; is_outcome = h; is_kept = refl }
 
 pub settles : OneRereadingSettles
-settles f cut ranges r tree h g other next k =
+settles ranges r f cut tree h g other next k =
     kept_read g other (kept f tree) (read_again f ranges tree h) next k ∙ kept_settled f cut ranges r tree h
+
+pub rereadings : NormalTextsKeepTheirMeaning
+rereadings ranges r = record {
+  forms = λ f cut. (text_read f cut ranges r, λ o h. one_outcome f (set_text ranges) o (Ranges (shortest_tree ranges)) h (text_read f cut ranges r));
+  is_trimmed = set_trimmed ranges (read_writable ranges r);
+  means = λ k f cut tree h v. ap (λ tree. tree_means (tree_ranges tree) v) (tree_read f cut ranges r tree h) ∙ read_form_means ranges r k v;
+  kept_means = λ k f cut tree h v. ap (λ set. tree_means (alternatives set) v) (kept_read f cut ranges r tree h) ∙ read_again_means ranges r k v;
+  equal = λ orderly k f cut tree h. kept_read f cut ranges r tree h ∙ read_orderly ranges r orderly k;
+}
 
 pub settled_by_text : SettledSetsAreTheirTexts
 settled_by_text some others r s settled_some settled_others same =
@@ -63,3 +65,9 @@ settled_by_text some others r s settled_some settled_others same =
   where
     IsRereadText : List ℕ → Type 0
     IsRereadText text = IsOutcome Normal text (Ranges (shortest_tree some))
+
+-- what is true of the normal text of every read set is true of the text of a requirement
+pub of_text : (Says : List ℕ → List VersionRange → Type 0) → ((ranges : List VersionRange) → IsReadSet ranges → Says (set_text ranges) ranges)
+    → (answer : RangeSetOrTag) (text : List ℕ) → text ≡ inner_text answer → OfReadRanges Says answer text
+of_text Says law (inner.RangeSet set) text is = λ r. subst (λ t. Says t set.0) (sym is) (law set.0 r)
+of_text Says law (inner.Tag tag) text is = tt

@@ -1,6 +1,6 @@
 -- The normal text of a set that was read, read again. Source: `deno_semver`, whose text of a requirement is meant to be
 -- read back.
-use Rattle.std.specs.Prelude.{◌≡◌, List, length, Bool, true, false, not, ◌==◌, ◌&&◌, ◌||◌}
+use Rattle.std.specs.Prelude.{◌≡◌, ℕ, List, length, Bool, true, false, not, ◌==◌, ◌&&◌, ◌||◌}
 use Rattle.std.specs.List.{list_all}
 use Rattle.std.specs.Str.{trim}
 use Rattle.semver_base.specs.Comparators.{Comparator}
@@ -19,6 +19,8 @@ use Rattle.semver_req.specs.KeptSet.{IsReadSet, kept}
 use Rattle.semver_req.specs.Outcome.{IsOutcome, Outcome, Ranges, tree_ranges}
 use Rattle.semver_req.specs.Pieces.{IsCutting}
 use Rattle.semver_req.specs.declared.common.values.Flavour.{Flavour}
+use Rattle.semver_req.specs.declared.range_set_or_tag.RangeSetOrTag.{RangeSetOrTag}
+use Rattle.semver_req.specs.declared.range_set_or_tag.RangeSetOrTag.TheVariants as inner
 
 -- ---- which ranges keep their meaning
 
@@ -52,42 +54,65 @@ is_orderly range = (has_no_build range.start && has_no_build range.end) && start
 
 -- ---- rereading
 
--- the reader takes the normal text of the ranges for this tree
-abbrev pub IsRereadAs : Flavour → List VersionRange → List (List Comparator) → Type 0
-IsRereadAs f ranges tree = IsOutcome f (set_text ranges) (Ranges tree)
+-- the reader takes the text for this tree
+abbrev pub IsTree : Flavour → List ℕ → List (List Comparator) → Type 0
+IsTree f text tree = IsOutcome f text (Ranges tree)
 
--- the normal text of the ranges, read again
-pub record IsRereading (f : Flavour) (ranges : List VersionRange) : Type 0 where
-  -- it has an outcome, the shortest forms of the ranges, and no other
-  pub is_read : IsRereadAs f ranges (shortest_tree ranges)
-  pub no_other : (o : Outcome) → IsOutcome f (set_text ranges) o → o ≡ Ranges (shortest_tree ranges)
-  pub is_trimmed : trim (set_text ranges) ≡ set_text ranges
-  -- where every range keeps its meaning, each tree of the text means what the ranges mean
-  pub means : list_all keeps_meaning ranges ≡ true → (tree : List (List Comparator)) → IsRereadAs f ranges tree
-      → (v : Version) → tree_means (tree_ranges tree) v ≡ tree_means (alternatives ranges) v
-  -- and the ranges that are kept of it mean that too
-  pub kept_means : list_all keeps_meaning ranges ≡ true → (tree : List (List Comparator)) → IsRereadAs f ranges tree
-      → (v : Version) → tree_means (alternatives (kept f tree)) v ≡ tree_means (alternatives ranges) v
-  -- they are the ranges themselves where these are orderly too
-  pub equal : list_all is_orderly ranges ≡ true → list_all keeps_meaning ranges ≡ true
-      → (tree : List (List Comparator)) → IsRereadAs f ranges tree → kept f tree ≡ ranges
+-- npm's and the normalized reader take the text for the shortest forms of the ranges, and for nothing else
+abbrev pub IsReadAsForms : List ℕ → List VersionRange → Type 0
+IsReadAsForms text ranges = (f : Flavour) → IsCutting f
+    → IsTree f text (shortest_tree ranges) × ((o : Outcome) → IsOutcome f text o → o ≡ Ranges (shortest_tree ranges))
 
--- the normal text of a read set, read again by npm's or the normalized reader
-abbrev pub NormalTextsKeepTheirMeaning : Type 0
-NormalTextsKeepTheirMeaning = (f : Flavour) → IsCutting f → (ranges : List VersionRange) → IsReadSet ranges → IsRereading f ranges
+-- where every range keeps its meaning, each tree of the text means what the ranges mean
+abbrev pub MeansTheSame : List ℕ → List VersionRange → Type 0
+MeansTheSame text ranges = list_all keeps_meaning ranges ≡ true → (f : Flavour) → IsCutting f
+    → (tree : List (List Comparator)) → IsTree f text tree → (v : Version) → tree_means (tree_ranges tree) v ≡ tree_means (alternatives ranges) v
+
+-- so do the ranges that either reader keeps of it
+abbrev pub KeepsTheSame : List ℕ → List VersionRange → Type 0
+KeepsTheSame text ranges = list_all keeps_meaning ranges ≡ true → (f : Flavour) → IsCutting f
+    → (tree : List (List Comparator)) → IsTree f text tree → (v : Version) → tree_means (alternatives (kept f tree)) v ≡ tree_means (alternatives ranges) v
+
+-- they are the ranges themselves where these are orderly too
+abbrev pub KeepsEqual : List ℕ → List VersionRange → Type 0
+KeepsEqual text ranges = list_all is_orderly ranges ≡ true → list_all keeps_meaning ranges ≡ true → (f : Flavour) → IsCutting f
+    → (tree : List (List Comparator)) → IsTree f text tree → kept f tree ≡ ranges
 
 -- ---- settling
 
 -- either reader keeps of its normal text the set itself
 abbrev pub IsSettledSet : List VersionRange → Type 0
-IsSettledSet ranges = (f : Flavour) → IsCutting f → (tree : List (List Comparator)) → IsRereadAs f ranges tree → kept f tree ≡ ranges
+IsSettledSet ranges = (f : Flavour) → IsCutting f → (tree : List (List Comparator)) → IsTree f (set_text ranges) tree → kept f tree ≡ ranges
+
+-- what either reader keeps of the text is settled
+abbrev pub KeepsSettled : List ℕ → List VersionRange → Type 0
+KeepsSettled text ranges = (f : Flavour) → IsCutting f → (tree : List (List Comparator)) → IsTree f text tree → IsSettledSet (kept f tree)
+
+-- ---- laws
+
+-- the normal text of a read set, read again by npm's or the normalized reader
+pub record IsRereading (text : List ℕ) (ranges : List VersionRange) : Type 0 where
+  pub forms : IsReadAsForms text ranges
+  pub is_trimmed : trim text ≡ text
+  pub means : MeansTheSame text ranges
+  pub kept_means : KeepsTheSame text ranges
+  pub equal : KeepsEqual text ranges
+
+abbrev pub NormalTextsKeepTheirMeaning : Type 0
+NormalTextsKeepTheirMeaning = (ranges : List VersionRange) → IsReadSet ranges → IsRereading (set_text ranges) ranges
 
 -- what either reader keeps of the normal text of a read set is settled
 abbrev pub OneRereadingSettles : Type 0
-OneRereadingSettles = (f : Flavour) → IsCutting f → (ranges : List VersionRange) → IsReadSet ranges
-    → (tree : List (List Comparator)) → IsRereadAs f ranges tree → IsSettledSet (kept f tree)
+OneRereadingSettles = (ranges : List VersionRange) → IsReadSet ranges → KeepsSettled (set_text ranges) ranges
 
 -- settled sets with the same normal text are the same
 abbrev pub SettledSetsAreTheirTexts : Type 0
 SettledSetsAreTheirTexts = (some others : List VersionRange) → IsReadSet some → IsReadSet others
     → IsSettledSet some → IsSettledSet others → set_text some ≡ set_text others → some ≡ others
+
+-- ---- requirements
+
+-- the text of a requirement of ranges that some reader answered
+abbrev pub OfReadRanges : (List ℕ → List VersionRange → Type 0) → RangeSetOrTag → List ℕ → Type 0
+OfReadRanges Says (inner.RangeSet set) text = IsReadSet set.0 → Says text set.0
+OfReadRanges Says (inner.Tag tag) text = Unit {0}

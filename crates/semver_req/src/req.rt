@@ -6,6 +6,7 @@ ghost use Rattle.std.specs.Option.{option_copied};
 ghost use Rattle.semver_base.specs.declared.version.Version.{Version};
 ghost use Rattle.semver_req.specs.PieceReading.{IsCutRefusal};
 ghost use Rattle.semver_req.specs.Readers.{IsReaderAnswer};
+ghost use Rattle.semver_req.specs.Rereading.{IsReadAsForms, KeepsEqual, KeepsSettled, KeepsTheSame, MeansTheSame, OfReadRanges};
 ghost use Rattle.semver_req.specs.Requirement.{MatchNoVersion, OverlapAsTags, PinsTo, Requirement, inner_means, inner_overlap, inner_text, pinned, set_of, tag_of};
 ghost use Rattle.semver_req.specs.declared.common.values.Flavour.TheVariants.{Normal};
 
@@ -93,6 +94,14 @@ impl From<VersionReqNormalizedParseError> for ParseFailure {
     }
 }
 
+// How what the requirement stands for is displayed.
+fn normal_text(alloc: Global, requirement: &VersionReq) -> Result<String, AllocError>
+    ensures { IfOk result (λ text. string_bytes text ≡ inner_text requirement.now.inner) }
+{
+    let inner = &requirement.inner;
+    format!(in alloc; "{inner}")
+}
+
 impl VersionReq {
     /// The requirement that was read from this text, and stands for this.
     pub fn from_raw_text_and_inner(raw_text: SmallStackString, inner: RangeSetOrTag) -> Self
@@ -174,12 +183,21 @@ impl VersionReq {
     /// The normal text of what the requirement stands for: of ranges the shortest usual form of each, with ` || `
     /// between, and `<0.0.0` of none; of a tag the tag.
     ///
+    /// Of ranges that some reader answered it is read by npm's reader and by the normalized one, which take it for the
+    /// same comparators. It keeps the meaning: what either reader makes of it matches the same versions, unless a range
+    /// with an end starts at a pre-release of 0.0.0 and is neither one version nor `^0.0.0-pre` or `~0.0.0-pre` of it.
+    /// Without builds and crossed bounds it is read back equal, and what is read back is read back equal from then on.
+    ///
     /// It is an error only where no memory is left.
     pub fn to_string_normalized(&self, alloc: Global) -> Result<String, AllocError>
-        ensures { IfOk result (λ text. string_bytes text ≡ inner_text self.now.inner) }
+        ensures text { IfOk result (λ text. string_bytes text ≡ inner_text self.now.inner) }
+        ensures forms { IfOk result (λ text. OfReadRanges IsReadAsForms self.now.inner (string_bytes text)) }
+        ensures means { IfOk result (λ text. OfReadRanges MeansTheSame self.now.inner (string_bytes text)) }
+        ensures kept_means { IfOk result (λ text. OfReadRanges KeepsTheSame self.now.inner (string_bytes text)) }
+        ensures equal { IfOk result (λ text. OfReadRanges KeepsEqual self.now.inner (string_bytes text)) }
+        ensures settled { IfOk result (λ text. OfReadRanges KeepsSettled self.now.inner (string_bytes text)) }
     {
-        let inner = &self.inner;
-        format!(in alloc; "{inner}")
+        normal_text(alloc, self)
     }
 
     /// The same requirement again. It is an error only where no memory is left.
