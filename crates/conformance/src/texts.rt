@@ -5,91 +5,107 @@ use crate::words::{Answer, Fault, Word, answer};
 use deno_semver::{
     CowVec, SmallStackString, StackString, StringAppendable, StringType, Version, VersionReq,
 };
-use semver_base::string::ShortText;
 use std::alloc::Global;
 use std::borrow::CowStr;
 use std::fmt;
 
-// The text, made in the way of this name. The only literal is `latest`.
-fn text_by<const LIMIT: usize>(
-    alloc: Global,
-    way: &str,
-    text: &str,
-) -> Result<ShortText<LIMIT>, Fault> {
-    match way {
-        "str" => Ok(ShortText::from_str(alloc, text)?),
-        "string" => {
-            let owned = String::from_str(alloc, text)?;
-            Ok(ShortText::from_string(alloc, owned)?)
+// The text as a text of this type, made in the way of this name. The only literal is `latest`.
+macro_rules! made_by {
+    ($kind:ident, $alloc:ident, $way:ident, $text:ident) => {
+        match $way {
+            "str" => Ok($kind::from_str($alloc, $text)?),
+            "string" => Ok($kind::from_string($alloc, String::from_str($alloc, $text)?)?),
+            "borrowed" => Ok($kind::from_cow($alloc, CowStr::Borrowed($text))?),
+            "owned" => {
+                let owned = String::from_str($alloc, $text)?;
+                Ok($kind::from_cow($alloc, CowStr::Owned(owned))?)
+            }
+            "static" if $text == "latest" => Ok($kind::from_static($alloc, "latest")?),
+            _ => Err(Fault::Unreadable),
         }
-        "borrowed" => Ok(ShortText::from_cow(alloc, CowStr::Borrowed(text))?),
-        "owned" => {
-            let owned = String::from_str(alloc, text)?;
-            Ok(ShortText::from_cow(alloc, CowStr::Owned(owned))?)
-        }
-        "static" if text == "latest" => Ok(ShortText::from_static(alloc, "latest")?),
-        _ => Err(Fault::Unreadable),
-    }
+    };
 }
 
-// The text, made in the way of this name: what it is, and what is a `String` made of it and of a copy of it.
-fn made_by<const LIMIT: usize>(alloc: Global, way: &str, text: &str) -> Answer {
-    let made: ShortText<LIMIT> = text_by(alloc, way, text)?;
+fn small_by(alloc: Global, way: &str, text: &str) -> Result<SmallStackString, Fault> {
+    made_by!(SmallStackString, alloc, way, text)
+}
+
+fn stack_by(alloc: Global, way: &str, text: &str) -> Result<StackString, Fault> {
+    made_by!(StackString, alloc, way, text)
+}
+
+// A text, and what a `String` is that is made of it and of a copy of it.
+fn told(alloc: Global, text: &str, lent: &str, given: &str) -> Answer {
+    answer(alloc, &[Some(text), Some(lent), Some(given)])
+}
+
+fn small(alloc: Global, way: &str, text: &str) -> Answer {
+    let made = small_by(alloc, way, text)?;
     let lent = made.to_string(alloc)?;
     let given = made.copy()?.into_string(alloc)?;
-    answer(
-        alloc,
-        &[
-            Some(made.as_str()),
-            Some(lent.as_str()),
-            Some(given.as_str()),
-        ],
-    )
+    told(alloc, made.as_str(), lent.as_str(), given.as_str())
+}
+
+fn stack(alloc: Global, way: &str, text: &str) -> Answer {
+    let made = stack_by(alloc, way, text)?;
+    let lent = made.to_string(alloc)?;
+    let given = made.copy()?.into_string(alloc)?;
+    told(alloc, made.as_str(), lent.as_str(), given.as_str())
 }
 
 /// `made`, `small` or `stack`, a way to make a text, and a text: the text that is made, and the two that a `String` is
 /// made of it.
 pub fn made(alloc: Global, words: &[Word<'_>]) -> Answer {
     match words {
-        [Some("small"), Some(way), Some(text)] => made_by::<15>(alloc, way, text),
-        [Some("stack"), Some(way), Some(text)] => made_by::<23>(alloc, way, text),
+        [Some("small"), Some(way), Some(text)] => small(alloc, way, text),
+        [Some("stack"), Some(way), Some(text)] => stack(alloc, way, text),
         _ => Err(Fault::Unreadable),
     }
 }
 
-// The text with each character pushed to it.
-fn with_characters<T: StringType>(mut text: T, characters: &str) -> Result<T, Fault> {
-    for character in characters.chars() {
-        text.push(character)?;
-    }
-    Ok(text)
+// The start with the text pushed to it.
+fn at_once<T: StringType>(alloc: Global, start: &str, text: &str) -> Result<String, Fault> {
+    let mut pushed = T::with_capacity(alloc, start.len())?;
+    pushed.push_str(start)?;
+    pushed.push_str(text)?;
+    Ok(String::from_str(alloc, pushed.as_str())?)
 }
 
-// A text that is pushed to a start, at once and character by character.
-fn pushed_to<T: StringType>(alloc: Global, start: &str, text: &str) -> Answer {
-    let mut at_once = T::with_capacity(alloc, start.len())?;
-    at_once.push_str(start)?;
-    at_once.push_str(text)?;
-    let mut started = T::with_capacity(alloc, 0)?;
-    started.push_str(start)?;
-    let by_character = with_characters(started, text)?;
-    answer(
-        alloc,
-        &[Some(at_once.as_str()), Some(by_character.as_str())],
-    )
+// The start with each character of the text pushed to it.
+fn by_character<T: StringType>(alloc: Global, start: &str, text: &str) -> Result<String, Fault> {
+    let mut pushed = T::with_capacity(alloc, 0)?;
+    pushed.push_str(start)?;
+    for character in text.chars() {
+        pushed.push(character)?;
+    }
+    Ok(String::from_str(alloc, pushed.as_str())?)
 }
 
 /// `pushed`, `small`, `stack` or `string`, a start and a text: the start with the text pushed to it, at once and
 /// character by character.
 pub fn pushed(alloc: Global, words: &[Word<'_>]) -> Answer {
-    match words {
-        [Some("small"), Some(start), Some(text)] => {
-            pushed_to::<SmallStackString>(alloc, start, text)
-        }
-        [Some("stack"), Some(start), Some(text)] => pushed_to::<StackString>(alloc, start, text),
-        [Some("string"), Some(start), Some(text)] => pushed_to::<String>(alloc, start, text),
-        _ => Err(Fault::Unreadable),
-    }
+    let [Some(kind), Some(start), Some(text)] = words else {
+        return Err(Fault::Unreadable);
+    };
+    let (at_once, by_character) = match *kind {
+        "small" => (
+            at_once::<SmallStackString>(alloc, start, text)?,
+            by_character::<SmallStackString>(alloc, start, text)?,
+        ),
+        "stack" => (
+            at_once::<StackString>(alloc, start, text)?,
+            by_character::<StackString>(alloc, start, text)?,
+        ),
+        "string" => (
+            at_once::<String>(alloc, start, text)?,
+            by_character::<String>(alloc, start, text)?,
+        ),
+        _ => return Err(Fault::Unreadable),
+    };
+    answer(
+        alloc,
+        &[Some(at_once.as_str()), Some(by_character.as_str())],
+    )
 }
 
 /// `replaced`, a text, what to replace and what by: the text with it replaced.
