@@ -3,7 +3,7 @@
 //! A contract sees a text as its UTF-8 bytes and a list as its items, whatever they are kept in. A short text stands in
 //! the value itself and a longer one in a `String`. Copies of a list share its items until one of them grows.
 
-ghost use Rattle.std.specs.Prelude.{List, ℕ, ◌≡◌, ◌≤◌, ◌+◌, ◌<◌, ◌^◌, ◌++◌, [], ◌∷◌, Some, IfOk, IsOk, OnOk, OnErr, IsTrue, ◌↔◌, encode_utf8, length, nat_eq, refl, slice_get, string_bytes, IsUtf8};
+ghost use Rattle.std.specs.Prelude.{List, ℕ, ◌≡◌, ◌≤◌, ◌+◌, ◌<◌, ◌^◌, ◌++◌, [], ◌∷◌, Some, IfOk, IfSome, IsOk, OnOk, OnErr, IsTrue, ◌↔◌, encode_utf8, length, nat_eq, refl, slice_get, string_bytes, IsUtf8};
 ghost use Rattle.std.proofs.Common.{rules};
 ghost use Rattle.std.specs.Cmp.{partial_equiv_from_equiv};
 ghost use Rattle.std.specs.Cmp.Lexicographic.{lists_equiv, lists_per, nat_list_cmp_total, nat_list_eq_equiv, pointwise, slice_cmp, texts_po, texts_ties};
@@ -309,6 +309,19 @@ pub trait StringAppendable {
     fn append_to<T: StringType>(&self, alloc: Global, target: &mut T) -> Result<(), AllocError>
         ensures ok { OnOk result (T.text target.new ≡ T.text target.old ++ text self.now) }
         ensures err { OnErr result (T.text target.new ≡ T.text target.old) };
+}
+
+/// Appends how the value is displayed. Where no memory is left the target is unchanged.
+pub fn append_displayed<D: fmt::Display, T: StringType>(
+    value: &D,
+    alloc: Global,
+    target: &mut T,
+) -> Result<(), AllocError>
+    ensures ok { OnOk result (IfSome (D.output value.now) (λ text. T.text target.new ≡ T.text target.old ++ text)) }
+    ensures err { OnErr result (T.text target.new ≡ T.text target.old) }
+{
+    let text = format!(in alloc; "{value}")?;
+    target.push_str(text.as_str())
 }
 
 impl StringType for String {

@@ -18,7 +18,9 @@ ghost use Rattle.semver_base.specs.VersionText.{ReadsBack, marked, version_text}
 use crate::failure::{ParseFailure, Refusal};
 use crate::lexical;
 use crate::lexical::values::{Measured, Strictness};
-use crate::string::{CowVec, SmallStackString, StringAppendable, StringType};
+use crate::string::{
+    CowVec, SmallStackString, StringAppendable, StringType, append_displayed,
+};
 use std::alloc::{AllocError, Global};
 use std::cmp::Ordering;
 use std::fmt;
@@ -337,8 +339,7 @@ impl StringAppendable for Version {
     ghost text = { version_text };
 
     fn append_to<T: StringType>(&self, alloc: Global, target: &mut T) -> Result<(), AllocError> {
-        let text = format!(in alloc; "{self}")?;
-        target.push_str(text.as_str())
+        append_displayed(self, alloc, target)
     }
 }
 

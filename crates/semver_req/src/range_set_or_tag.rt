@@ -27,7 +27,9 @@ use semver_base::failure::{ParseFailure, Refusal};
 use semver_base::lexical::after_blanks;
 use semver_base::lexical::values::Measured;
 use semver_base::range::{VersionRange, VersionRangeSet};
-use semver_base::string::{CowVec, SmallStackString, StringAppendable, StringType};
+use semver_base::string::{
+    CowVec, SmallStackString, StringAppendable, StringType, append_displayed,
+};
 use std::alloc::{AllocError, Global};
 use std::fmt;
 
@@ -409,7 +411,6 @@ impl StringAppendable for RangeSetOrTag {
     ghost text = { inner_text };
 
     fn append_to<T: StringType>(&self, alloc: Global, target: &mut T) -> Result<(), AllocError> {
-        let text = format!(in alloc; "{self}")?;
-        target.push_str(text.as_str())
+        append_displayed(self, alloc, target)
     }
 }

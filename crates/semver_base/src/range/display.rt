@@ -9,7 +9,7 @@ ghost use Rattle.semver_base.specs.PartialTable.{between};
 ghost use Rattle.semver_base.specs.Shortest.{ending, is_plain, shortest_between, starting};
 
 use crate::range::{RangeBound, VersionBound, VersionBoundKind, VersionRange, VersionRangeSet};
-use crate::string::{StringAppendable, StringType};
+use crate::string::{StringAppendable, StringType, append_displayed};
 use crate::version::Version;
 use std::alloc::{AllocError, Global};
 use std::fmt;
@@ -233,8 +233,7 @@ impl StringAppendable for VersionRange {
     ghost text = { range_text };
 
     fn append_to<T: StringType>(&self, alloc: Global, target: &mut T) -> Result<(), AllocError> {
-        let text = format!(in alloc; "{self}")?;
-        target.push_str(text.as_str())
+        append_displayed(self, alloc, target)
     }
 }
 
@@ -267,7 +266,6 @@ impl StringAppendable for VersionRangeSet {
     ghost text = { λ set. set_text set.0 };
 
     fn append_to<T: StringType>(&self, alloc: Global, target: &mut T) -> Result<(), AllocError> {
-        let text = format!(in alloc; "{self}")?;
-        target.push_str(text.as_str())
+        append_displayed(self, alloc, target)
     }
 }
