@@ -1,8 +1,8 @@
 -- The identifiers that were read are parts, so a version that was read has a text that reads back.
-use Rattle.std.proofs.Common.{◌≡◌, ℕ, List, [], ◌∷◌, Option, Some, None, Ok, refl, sym, subst, inl, inr}
+use Rattle.std.proofs.Common.{ℕ, List, [], ◌∷◌, Option, Some, None, Ok, refl, sym, subst, inl, inr}
 use Rattle.semver_base.specs.Grammar.{After, last_item, closed_item, more_items, Mapped, Marked, Optional}
 use Rattle.semver_base.specs.Lexical.{IsBuild, IsPart, IsParts, IsPre, IsQualifier, or_none}
-use Rattle.semver_base.specs.VersionGrammar.{AllNumbersFit, IsVersion, IsVersionOutcome, is_version, is_fault, is_outside}
+use Rattle.semver_base.specs.VersionGrammar.{AllNumbersFit, IsVersion, IsVersionOutcome, is_version}
 use Rattle.semver_base.specs.VersionText.{AreParts, IsWritable, ReadsBack}
 use Rattle.semver_base.specs.declared.lexical.values.Qualifier.{Qualifier}
 use Rattle.semver_base.specs.declared.lexical.values.Strictness.{Strictness}

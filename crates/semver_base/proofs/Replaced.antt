@@ -1,5 +1,5 @@
 -- What std's `replace` answers is each leftmost occurrence replaced.
-use Rattle.std.proofs.Common.{◌≡◌, ◌<◌, ℕ, zero, suc, List, [], ◌∷◌, ◌++◌, length, take, drop, Some, None, refl, sym, ap, ◌∙◌, subst, arith, inl, inr, append-nil}
+use Rattle.std.proofs.Common.{◌≡◌, ℕ, zero, suc, List, [], ◌++◌, length, take, drop, Some, None, refl, sym, ap, ◌∙◌, subst, arith, inl, inr, append-nil}
 use Rattle.std.specs.Prelude.{encode_utf8}
 use Rattle.std.specs.Str.Pattern.{FindsText}
 use Rattle.std.specs.Str.Replace.{ContinuesAfterMatch, ReplacesMatches}

@@ -1,13 +1,10 @@
 -- The identifiers of the comparators of every outcome are parts.
-use Rattle.std.proofs.Common.{ℕ, List, [], ◌∷◌, Bool, Option, Some, None, refl, sym, subst, inl, inr}
+use Rattle.std.proofs.Common.{ℕ, List, [], ◌∷◌, Bool, Option, Some, None, sym, subst, inl, inr}
 use Rattle.semver_base.specs.Comparators.{Comparator}
-use Rattle.semver_base.specs.Grammar.{After, Before, this, that, Listed, last_item, closed_item, more_items, Mapped, Marked, Optional}
-use Rattle.semver_base.specs.Lexical.{IsBlanks, IsBuild, IsSomeBlanks, IsPart, IsParts, IsPre, IsQualifier, or_none}
+use Rattle.semver_base.specs.Grammar.{After, Before, this, that, Listed, last_item, closed_item, more_items, Marked, Optional}
+use Rattle.semver_base.specs.Lexical.{IsBlanks, IsSomeBlanks}
 use Rattle.semver_base.specs.NormalText.{AreWritableRanges}
-use Rattle.semver_base.specs.VersionText.{AreParts}
 use Rattle.semver_base.specs.declared.lexical.values.Qualifier.{Qualifier}
-use Rattle.semver_base.specs.declared.lexical.values.Strictness.{Strictness}
-use Rattle.semver_base.specs.declared.lexical.values.Strictness.TheVariants.{Loose, Strict}
 use Rattle.semver_base.specs.declared.partial.Partial.{Partial}
 use Rattle.semver_base.specs.declared.partial.XRange.{XRange}
 use Rattle.semver_base.proofs.ReadVersions.{by_after, by_mapped, by_marked, qualifier_has}
