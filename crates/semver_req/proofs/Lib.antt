@@ -31,6 +31,7 @@ pub mod Signs
 pub mod Starts
 pub mod StrictKept
 pub mod StrictRanges
+pub mod Wider
 pub mod WritableRanges
 pub mod WrittenComparators
 pub mod WrittenSets

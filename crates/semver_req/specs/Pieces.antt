@@ -58,6 +58,10 @@ abbrev pub IsPiece : Flavour → List ℕ → List Comparator → Type 0
 IsPiece f text [] = text ≡ []
 IsPiece f text (c ∷ cs) = IsFilled f text (c ∷ cs)
 
+-- what is a piece of the normalized grammar is one of npm's, with the same comparators
+abbrev pub NormalPiecesAreNpms : Type 0
+NormalPiecesAreNpms = (text : List ℕ) (cs : List Comparator) → IsPiece Normal text cs → IsPiece Npm text cs
+
 -- ---- operators
 
 -- the byte m twice, with blanks on both sides or none

@@ -10,6 +10,7 @@
 ghost use Rattle.std.specs.Prelude.{◌≡◌, ◌↔◌, IsTrue};
 ghost use Rattle.semver_req.specs.KeptSet.{KeptSetsMeanTheirTrees};
 ghost use Rattle.semver_req.specs.Outcome.{TextsHaveOneOutcome};
+ghost use Rattle.semver_req.specs.Pieces.{NormalPiecesAreNpms};
 ghost use Rattle.semver_req.specs.Rereading.{NormalTextsKeepTheirMeaning, OneRereadingSettles, SettledSetsAreTheirTexts};
 
 use crate::common::values::Flavour;
@@ -70,6 +71,11 @@ pub fn same_npm_errors(one: &NpmVersionReqParseError, other: &NpmVersionReqParse
 /// tag and a refusal.
 pub fn texts_have_one_outcome()
     ensures { TextsHaveOneOutcome }
+{}
+
+/// What stands between two `||` in the normalized grammar is in npm's too, as the same comparators.
+pub fn normalized_pieces_are_npms()
+    ensures { NormalPiecesAreNpms }
 {}
 
 /// What a reader keeps of the comparators of a text means what they mean: each alternative folded into one pair of
