@@ -1,0 +1,3 @@
+pub mod NameAndVersion
+pub mod NvText
+pub mod Runs

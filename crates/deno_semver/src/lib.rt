@@ -5,6 +5,7 @@
 #![tactic(auto)]
 
 pub mod npm;
+pub mod package;
 
 pub use semver_base::failure::ParseFailure;
 pub use semver_base::partial::{Partial, XRange};
@@ -16,5 +17,7 @@ pub use semver_base::string::{
 };
 pub use semver_base::version::{Version, VersionParseError, VersionPreOrBuild};
 pub use semver_req::range_set_or_tag::{PackageTag, RangeSetOrTag};
-pub use semver_req::req::{IntoVersionReq, VersionReq, VersionReqNormalizedParseError};
+pub use semver_req::req::{
+    IntoVersionReq, VersionReq, VersionReqNormalizedParseError, wildcard_version_req,
+};
 pub use semver_req::specifier::VersionReqSpecifierParseError;

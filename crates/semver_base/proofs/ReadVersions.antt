@@ -57,7 +57,7 @@ qualifier_has s text q h = by_mapped QualifierHas (λ t v k. (maybe_pre s k.firs
 version_has : (text : List ℕ) (v : Version) → IsVersion text v → AreParts v.pre × AreParts v.build
 version_has text v h = by_mapped (λ (w : Version). AreParts w.pre × AreParts w.build) (λ t x k. by_after (λ y. AreParts y.1.pre × AreParts y.1.build) (λ u y j. qualifier_has Loose j.second y.1 j.in_second) k) h
 
-read_writable : (text : List ℕ) (v : Version) → IsVersion text v → AllNumbersFit v → IsWritable v
+pub read_writable : (text : List ℕ) (v : Version) → IsVersion text v → AllNumbersFit v → IsWritable v
 read_writable text v h fits = let parts = version_has text v h in record { numbers = fits; pre = parts.0; build = parts.1 }
 
 -- what a text stands for is read back from its own text

@@ -90,7 +90,7 @@ no_lead =
 triple_written : (v : Version) → IsWritable v → IsTriple (decimal v.major ++ (46 ∷ (decimal v.minor ++ (46 ∷ decimal v.patch)))) (v.major, (v.minor, v.patch))
 triple_written v h = follow _ _ (loose_written v.major h.numbers.major) (refl, follow _ _ (loose_written v.minor h.numbers.minor) (refl, loose_written v.patch h.numbers.patch))
 
-version_joined : (v : Version) → IsWritable v → Joined NoDigitFollows IsTriple (IsQualifier Loose) (version_text v) ((v.major, (v.minor, v.patch)), record { pre = v.pre; build = v.build })
+pub version_joined : (v : Version) → IsWritable v → Joined NoDigitFollows IsTriple (IsQualifier Loose) (version_text v) ((v.major, (v.minor, v.patch)), record { pre = v.pre; build = v.build })
 version_joined v h = record {
   first = decimal v.major ++ (46 ∷ (decimal v.minor ++ (46 ∷ decimal v.patch)));
   second = marked 45 v.pre ++ marked 43 v.build;

@@ -1,8 +1,8 @@
 -- What a requirement is, and which versions it matches. Source: node-semver's description of ranges; a requirement may
 -- also be a tag, as in npm's package specifiers.
-use Rattle.std.specs.Prelude.{◌≡◌, ◌&&◌, ◌↔◌, IsTrue, ℕ, List, [], ◌∷◌, Bool, false, Option, Some, None, nat_eq}
+use Rattle.std.specs.Prelude.{◌≡◌, ◌&&◌, ◌↔◌, IsTrue, ℕ, List, [], ◌∷◌, Bool, false, Option, Some, None, nat_eq, codes}
 use Rattle.std.specs.Cmp.Lexicographic.{pointwise}
-use Rattle.semver_base.specs.Meaning.{alternatives, from, tree_means}
+use Rattle.semver_base.specs.Meaning.{alternatives, everything, from, tree_means}
 use Rattle.semver_base.specs.NormalText.{set_text}
 use Rattle.semver_base.specs.Overlap.{some_overlap}
 use Rattle.semver_base.specs.PartialTable.{between, up_to}
@@ -63,3 +63,9 @@ pinned v = record { raw_text = version_text v; inner = inner.RangeSet (record { 
 -- the versions of the same precedence match, and no other
 abbrev pub PinsTo : Version → RangeSetOrTag → Type 0
 PinsTo v answer = (w : Version) → IsTrue (inner_means answer w) ↔ SamePrecedence v w
+
+-- ---- the requirement of any version
+
+-- the text `*`, and one range without bounds
+abbrev pub wildcard : Requirement
+wildcard = record { raw_text = codes "*"; inner = inner.RangeSet (record { 0 = everything ∷ [] }) }

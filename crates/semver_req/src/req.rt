@@ -7,7 +7,7 @@ ghost use Rattle.semver_base.specs.declared.version.Version.{Version};
 ghost use Rattle.semver_req.specs.PieceReading.{IsCutRefusal};
 ghost use Rattle.semver_req.specs.Readers.{IsReaderAnswer};
 ghost use Rattle.semver_req.specs.Rereading.{IsReadAsForms, KeepsEqual, KeepsSettled, KeepsTheSame, MeansTheSame, OfReadRanges};
-ghost use Rattle.semver_req.specs.Requirement.{MatchNoVersion, OverlapAsTags, PinsTo, Requirement, inner_means, inner_overlap, inner_text, pinned, set_of, tag_of};
+ghost use Rattle.semver_req.specs.Requirement.{MatchNoVersion, OverlapAsTags, PinsTo, Requirement, inner_means, inner_overlap, inner_text, pinned, set_of, tag_of, wildcard};
 ghost use Rattle.semver_req.specs.declared.common.values.Flavour.TheVariants.{Normal};
 
 use crate::range_set_or_tag::RangeSetOrTag;
@@ -217,6 +217,20 @@ impl fmt::Display for VersionReq {
     fn fmt<W: fmt::Write>(&self, f: &mut fmt::Formatter<W>) -> fmt::Result {
         f.write_str(self.version_text())
     }
+}
+
+/// The requirement of any version, which stands where none is written (npm's package specifiers): its text is `*`, and it
+/// has one range without bounds.
+///
+/// It is an error only where no memory is left.
+pub fn wildcard_version_req(alloc: Global) -> Result<VersionReq, AllocError>
+    ensures { IfOk result (λ req. req ≡ wildcard) }
+{
+    let raw_text = SmallStackString::from_static(alloc, "*")?;
+    let mut ranges = CowVec::new(alloc);
+    ranges.push(VersionRange::all())?;
+    let inner = RangeSetOrTag::RangeSet(VersionRangeSet(ranges));
+    Ok(VersionReq::from_raw_text_and_inner(raw_text, inner))
 }
 
 /// A value of which a requirement can be made.

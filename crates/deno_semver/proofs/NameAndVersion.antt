@@ -1,0 +1,168 @@
+-- What a text is cut into as a name and version, and that it is one cut.
+use Rattle.std.proofs.Common.{◌≡◌, ◌≤◌, ◌<◌, ◌==◌, ℕ, true, false, List, [], ◌∷◌, ◌++◌, length, take, drop, get_or, Option, None, Result, Ok, Err, refl, sym, ap, subst, ◌∙◌, arith, inl, inr, add-one, length-append}
+use Rattle.std.specs.Prelude.{◌⊎◌}
+use Rattle.std.specs.List.{list_all, take_while}
+use Rattle.std.specs.Str.{IsCharBoundary, trim}
+use Rattle.std.proofs.lemmas.Bool.Decides.{nat_tests}
+use Rattle.std.proofs.lemmas.List.{nil_from_length}
+use Rattle.semver_base.specs.Failure.{message_of, refusal_message}
+use Rattle.semver_base.specs.Grammar.{CutsRun, Stops}
+use Rattle.semver_base.specs.VersionGrammar.{IsVersionAnswer, IsVersionOutcome, IsVersionRefusal, version_failure}
+use Rattle.semver_base.specs.declared.failure.Refusal.{Refusal}
+use Rattle.semver_base.specs.declared.failure.Refusal.TheVariants.{UnexpectedCharacter}
+use Rattle.semver_base.specs.declared.version.Version.{Version}
+use Rattle.semver_base.proofs.Numbers.{cuts_run}
+use Rattle.deno_semver.specs.Cuts.{is_not}
+use Rattle.deno_semver.specs.NameAndVersion.{IsNoNvText, IsNvAnswer, IsNvMemory, IsNvName, IsNvOutcome, is_nv, is_uncut, is_bad_version, is_followed, IsNvRefusal, IsNvText, TellsNvFault, is_version_byte}
+use Rattle.deno_semver.specs.NameAndVersionSteps.{IsNameCut, TellsFailure, name_len}
+use Rattle.deno_semver.specs.declared.package.name_version.PackageNv.{PackageNv}
+use Rattle.deno_semver.specs.declared.package.name_version.PackageNvParseError.{PackageNvParseError}
+use Rattle.deno_semver.proofs.Runs.{cut_before, run_one, run_stop}
+
+-- ---- where the parts end
+
+at_low : (b : ℕ) → is_not 64 b ≡ false → b < 128
+at_low b h = grind (arith, nat_tests)
+
+version_end_low : (b : ℕ) → is_version_byte b ≡ false → b < 128
+version_end_low b h = grind (arith, nat_tests)
+
+pub version_boundary : (xs : List ℕ) (n : ℕ) → n ≡ length (take_while is_version_byte xs) → IsCharBoundary xs n
+version_boundary xs n e =
+    let stop = run_stop is_version_byte xs in
+    cut_before xs n (rw e stop.0) (λ h. version_end_low (get_or xs n 0) (rw e (stop.1 (rw e at h))))
+
+name_stop : (xs : List ℕ) → (name_len xs ≤ length xs) × (name_len xs < length xs → is_not 64 (get_or xs (name_len xs) 0) ≡ false)
+name_stop [] = (omega arith, λ h. absurd (omega (arith, h)))
+name_stop (x ∷ xs) = let stop = run_stop (is_not 64) xs in rw (add-one (length (take_while (is_not 64) xs))) (omega (arith, stop.0), λ h. stop.1 (omega (arith, h)))
+
+pub name_boundary : (xs : List ℕ) (n : ℕ) → n ≡ name_len xs → IsCharBoundary xs n
+name_boundary xs n e =
+    let stop = name_stop xs in
+    cut_before xs n (rw e stop.0) (λ h. at_low (get_or xs n 0) (rw e (stop.1 (rw e at h))))
+
+pub name_cut : (xs name rest : List ℕ) (n : ℕ) → n ≡ name_len xs → name ≡ take n xs → rest ≡ drop n xs → IsNameCut xs name rest
+name_cut [] name rest n e f g = rw (f, g, e) (record { text_is = refl; name_is = λ h. absurd (omega (arith, h)); ends = tt })
+name_cut (x ∷ xs) name rest n e f g =
+    let m = length (take_while (is_not 64) xs) in
+    let run = cuts_run (is_not 64) xs (take m xs) (drop m xs) m refl refl refl in
+    rw (f, g, e, add-one m) (record { text_is = ap (λ t. x ∷ t) run.text_is; name_is = λ h. run.pass; ends = run.stops })
+
+-- ---- one cut
+
+-- two names, each with a version and what follows it, of one text
+parts_one : (n m : List ℕ) {v r w s : List ℕ} → IsNvName n → IsNvName m → n ++ (64 ∷ (v ++ r)) ≡ m ++ (64 ∷ (w ++ s))
+    → list_all is_version_byte v ≡ true → Stops is_version_byte r → list_all is_version_byte w ≡ true → Stops is_version_byte s
+    → (n ≡ m) × (v ≡ w) × (r ≡ s)
+parts_one [] m a b e pv sr pw ss = absurd a
+parts_one (x ∷ n) [] a b e pv sr pw ss = absurd b
+parts_one (x ∷ n) (y ∷ m) {v} {r} {w} {s} a b e pv sr pw ss =
+    let head : x ≡ y = cc e in
+    let tail : n ++ (64 ∷ (v ++ r)) ≡ m ++ (64 ∷ (w ++ s)) = cc e in
+    let names = run_one (is_not 64) n (64 ∷ (v ++ r)) m (64 ∷ (w ++ s)) tail a refl b refl in
+    let after : v ++ r ≡ w ++ s = cc (names.1) in
+    let others = run_one is_version_byte v r w s after pv sr pw ss in
+    let whole : x ∷ n ≡ y ∷ m = rw (head, names.0) refl in
+    (whole, others.0, others.1)
+
+pub nv_one : {t n v r m w s : List ℕ} → IsNvText t n v r → IsNvText t m w s → (n ≡ m) × (v ≡ w) × (r ≡ s)
+nv_one {n = n} {m = m} h k = parts_one n m h.name_is k.name_is (sym h.text_is ∙ k.text_is) h.version_is h.version_ends k.version_is k.version_ends
+
+some_text : {t n v r : List ℕ} → IsNvText t n v r → 0 < length t
+some_text {n = n} {v} {r} h = omega (arith, ap length h.text_is, length-append n (64 ∷ (v ++ r)))
+
+pub no_version : {text name rest more v r : List ℕ} → IsNameCut text name rest → rest ≡ 64 ∷ more → CutsRun is_version_byte more v r → (length v == 0) ≡ true → IsNoNvText text
+no_version {name = name} {v = v} {r} c is run empty n w s k =
+    let cut_is = c.text_is ∙ ap (λ t. name ++ t) (is ∙ ap (λ t. 64 ∷ t) run.text_is) in
+    let parts = parts_one name n {v = v} {r = r} {w = w} {s = s} (c.name_is (some_text k)) k.name_is (sym cut_is ∙ k.text_is) run.pass run.stops k.version_is k.version_ends in
+    absurd (grind (arith, nat_tests, ap length parts.1, k.version_some))
+
+pub no_at : {text name rest : List ℕ} → IsNameCut text name rest → ((more : List ℕ) → rest ≡ 64 ∷ more → ⊥) → IsNoNvText text
+no_at {name = name} {rest} c none n w s k = go name n (c.name_is (some_text k)) k.name_is (sym c.text_is ∙ k.text_is)
+  where
+    go : (a b : List ℕ) → IsNvName a → IsNvName b → a ++ rest ≡ b ++ (64 ∷ (w ++ s)) → ⊥
+    go [] b h j e = absurd h
+    go (x ∷ a) [] h j e = absurd j
+    go (x ∷ a) (y ∷ b) h j e =
+        let tail : a ++ rest ≡ b ++ (64 ∷ (w ++ s)) = cc e in
+        none (w ++ s) (run_one (is_not 64) a rest b (64 ∷ (w ++ s)) tail h c.ends j refl).1
+
+-- ---- refusals
+
+pub told_fault : {text : List ℕ} {e : PackageNvParseError} (fault : Refusal) (message : List ℕ) → message ≡ refusal_message fault
+    → IsNvMemory e ⊎ ((e.message ≡ message) × (e.text ≡ text)) → IsNvMemory e ⊎ TellsNvFault fault text e
+told_fault fault message is (inl memory) = inl memory
+told_fault fault message is (inr told) = inr (record { message = told.0 ∙ is; text_is = told.1 })
+
+pub tells : {text : List ℕ} {e : PackageNvParseError} (fault : Refusal) (message : List ℕ) → IsNvOutcome text (Err fault) → message ≡ refusal_message fault
+    → IsNvMemory e ⊎ ((e.message ≡ message) × (e.text ≡ text)) → IsNvRefusal text e
+tells {text} {e} fault message o is told = go (told_fault fault message is told)
+  where
+    go : IsNvMemory e ⊎ TellsNvFault fault text e → IsNvRefusal text e
+    go (inl memory) = inl memory
+    go (inr h) = inr (fault, o, h)
+
+pub tells_version : {text name version rest : List ℕ} {failure : Option (List ℕ × Option (List ℕ))} {e : PackageNvParseError} → IsNvText text name version rest
+    → IsVersionRefusal (trim version) failure → IsNvMemory e ⊎ TellsFailure failure text e → IsNvRefusal text e
+tells_version h refused (inl memory) = inl memory
+tells_version h (inl none) (inr told) = absurd (told.no_memory none)
+tells_version h (inr refused) (inr told) = inr (refused.0, is_bad_version h refused.1, record { message = told.message ∙ ap message_of refused.2; text_is = told.text_is })
+
+-- ---- answers
+
+abbrev nv_of : List ℕ → Version → PackageNv
+nv_of name version = record { name = name; version = version }
+
+nv_same : {n m : List ℕ} {v w : Version} → n ≡ m → v ≡ w → nv_of n v ≡ nv_of m w
+nv_same e f = rw (e, f) refl
+
+-- a cut with nothing left is what was read
+pub reads : {text name version rest n : List ℕ} {v : Version} → IsNvText text name version rest → length rest ≡ 0 → n ≡ name
+    → IsVersionOutcome (trim version) (Ok v) → IsNvOutcome text (Ok (nv_of n v))
+reads {text} {name} {version} {rest} h nil is v =
+    let whole : IsNvText text name version [] = subst (λ (r : List ℕ). IsNvText text name version r) (nil_from_length rest nil) h in
+    rw is (is_nv whole v)
+
+-- what the reader of versions answers to each outcome of the version
+abbrev pub Answers : {E : Type 0} → (E → Option (List ℕ × Option (List ℕ))) → List ℕ → Result Version E → Type 0
+Answers source version result = (o : Result Version Refusal) → IsVersionOutcome (trim version) o → IsVersionAnswer source (trim version) o result
+
+moved : {v w : List ℕ} {o : Result Version Refusal} → v ≡ w → IsVersionOutcome (trim w) o → IsVersionOutcome (trim v) o
+moved {o = o} e h = subst (λ (t : List ℕ). IsVersionOutcome (trim t) o) (sym e) h
+
+module _ {E : Type 0} (source : E → Option (List ℕ × Option (List ℕ))) {text name version rest : List ℕ} (h : IsNvText text name version rest) where
+  pub refused_answer : (x : E) → Answers source version (Err x) → {e : PackageNvParseError} → IsNvMemory e ⊎ TellsFailure (source x) text e
+      → (o : Result PackageNv Refusal) → IsNvOutcome text o → IsNvAnswer text o (Err e)
+  refused_answer x answer {e} told _ (is_nv k v) = forgot told (answer (Ok _) (moved (nv_one h k).1 v))
+    where
+      forgot : IsNvMemory e ⊎ TellsFailure (source x) text e → source x ≡ None → IsNvMemory e
+      forgot (inl memory) none = memory
+      forgot (inr t) none = absurd (t.no_memory none)
+  refused_answer x answer told _ (is_uncut none) = absurd (none _ _ _ h)
+  refused_answer x answer {e} told _ (is_bad_version {fault} k v) = shows told (answer (Err _) (moved (nv_one h k).1 v))
+    where
+      shows : IsNvMemory e ⊎ TellsFailure (source x) text e → (source x ≡ None) ⊎ (source x ≡ version_failure fault (trim version)) → IsNvMemory e ⊎ TellsNvFault fault text e
+      shows (inl memory) is = inl memory
+      shows (inr t) (inl none) = absurd (t.no_memory none)
+      shows (inr t) (inr is) = inr (record { message = t.message ∙ ap message_of is; text_is = t.text_is })
+  refused_answer x answer {e} told _ (is_followed k some v) = forgot told (answer (Ok _) (moved (nv_one h k).1 v))
+    where
+      forgot : IsNvMemory e ⊎ TellsFailure (source x) text e → source x ≡ None → IsNvMemory e ⊎ TellsNvFault UnexpectedCharacter text e
+      forgot (inl memory) none = inl memory
+      forgot (inr t) none = absurd (t.no_memory none)
+
+  pub followed_answer : (x : Version) → Answers source version (Ok x) → 0 < length rest → {e : PackageNvParseError} → IsNvMemory e ⊎ TellsNvFault UnexpectedCharacter text e
+      → (o : Result PackageNv Refusal) → IsNvOutcome text o → IsNvAnswer text o (Err e)
+  followed_answer x answer some told _ (is_nv k v) = absurd (omega (arith, some, ap length (nv_one h k).2))
+  followed_answer x answer some told _ (is_uncut none) = absurd (none _ _ _ h)
+  followed_answer x answer some told _ (is_bad_version k v) = absurd (answer (Err _) (moved (nv_one h k).1 v))
+  followed_answer x answer some told _ (is_followed k l v) = told
+
+  pub read_answer : (x : Version) → Answers source version (Ok x) → length rest ≡ 0 → {n : List ℕ} → n ≡ name → (o : Result PackageNv Refusal) → IsNvOutcome text o → IsNvAnswer text o (Ok (nv_of n x))
+  read_answer x answer nil is_name _ (is_nv {name = m} {v = w} k v) =
+      let same = is_name ∙ (nv_one h k).0 in
+      let is : x ≡ w = answer (Ok w) (moved (nv_one h k).1 v) in
+      nv_same same is
+  read_answer x answer nil is_name _ (is_uncut none) = absurd (none _ _ _ h)
+  read_answer x answer nil is_name _ (is_bad_version k v) = absurd (answer (Err _) (moved (nv_one h k).1 v))
+  read_answer x answer nil is_name _ (is_followed k some v) = absurd (omega (arith, some, ap length (nv_one h k).2, nil))

@@ -1,0 +1,83 @@
+-- How a name and version is cut and written, and what it stands for. Source: the crate `deno_semver`.
+use Rattle.std.specs.Prelude.{◌≡◌, ◌<◌, ◌++◌, ◌∷◌, ◌&&◌, ◌==◌, ◌⊎◌, [], ℕ, List, Bool, true, length, Option, Some, None, Result, Ok, Err, MatchResult, IsErrAnd, if◌then◌else◌}
+use Rattle.std.specs.List.{list_all, take_while}
+use Rattle.std.specs.Str.{trim}
+use Rattle.semver_base.specs.Failure.{refusal_message}
+use Rattle.semver_base.specs.Grammar.{Stops}
+use Rattle.semver_base.specs.VersionGrammar.{IsVersionOutcome}
+use Rattle.semver_base.specs.VersionText.{version_text}
+use Rattle.semver_base.specs.declared.failure.Refusal.{Refusal}
+use Rattle.semver_base.specs.declared.failure.Refusal.TheVariants.{UnexpectedCharacter}
+use Rattle.semver_base.specs.declared.version.Version.{Version}
+use Rattle.deno_semver.specs.Cuts.{is_not}
+use Rattle.deno_semver.specs.declared.package.name_version.PackageNv.{PackageNv}
+use Rattle.deno_semver.specs.declared.package.name_version.PackageNvParseError.{PackageNvParseError}
+
+-- ---- the text
+
+-- one byte or more; past the first, which may be that of a scope, there is no `@`
+abbrev pub IsNvName : List ℕ → Type 0
+IsNvName [] = ⊥
+IsNvName (first ∷ more) = list_all (is_not 64) more ≡ true
+
+-- neither `_` nor `/`
+abbrev pub is_version_byte : ℕ → Bool
+is_version_byte b = is_not 95 b && is_not 47 b
+
+-- a name, `@`, a version that isn't empty and runs to the first `_` or `/`, and what follows it
+pub record IsNvText (text name version rest : List ℕ) : Type 0 where
+  pub text_is : text ≡ name ++ (64 ∷ (version ++ rest))
+  pub name_is : IsNvName name
+  pub version_some : 0 < length version
+  pub version_is : list_all is_version_byte version ≡ true
+  pub version_ends : Stops is_version_byte rest
+
+-- `name@version`
+abbrev pub nv_text : PackageNv → List ℕ
+nv_text nv = nv.name ++ (64 ∷ version_text nv.version)
+
+-- of a name that begins with `@` what stands before its first `/`, or all of it where it has none
+abbrev pub scope_of : List ℕ → Option (List ℕ)
+scope_of [] = None
+scope_of (first ∷ more) = if first == 64 then Some (take_while (is_not 47) (first ∷ more)) else None
+
+-- ---- outcomes
+
+-- the text isn't cut so
+abbrev pub IsNoNvText : List ℕ → Type 0
+IsNoNvText text = (name version rest : List ℕ) → IsNvText text name version rest → ⊥
+
+-- what a text stands for: a name and version with nothing after it, or the refusal of its first fault
+pub data IsNvOutcome (text : List ℕ) : Result PackageNv Refusal → Type 0 where
+  is_nv : {name version : List ℕ} {v : Version} → IsNvText text name version [] → IsVersionOutcome (trim version) (Ok v)
+      → IsNvOutcome text (Ok (record { name = name; version = v }))
+  is_uncut : IsNoNvText text → IsNvOutcome text (Err UnexpectedCharacter)
+  is_bad_version : {name version rest : List ℕ} {fault : Refusal} → IsNvText text name version rest
+      → IsVersionOutcome (trim version) (Err fault) → IsNvOutcome text (Err fault)
+  is_followed : {name version rest : List ℕ} {v : Version} → IsNvText text name version rest → 0 < length rest
+      → IsVersionOutcome (trim version) (Ok v) → IsNvOutcome text (Err UnexpectedCharacter)
+
+-- ---- answers
+
+-- want of memory has no texts
+pub record IsNvMemory (e : PackageNvParseError) : Type 0 where
+  pub message : e.message ≡ []
+  pub text : e.text ≡ []
+
+-- the line that tells of the fault, and the whole text
+pub record TellsNvFault (fault : Refusal) (text : List ℕ) (e : PackageNvParseError) : Type 0 where
+  pub message : e.message ≡ refusal_message fault
+  pub text_is : e.text ≡ text
+
+-- the error is want of memory, or tells the refusal that the text has as its outcome
+abbrev pub IsNvRefusal : List ℕ → PackageNvParseError → Type 0
+IsNvRefusal text e = IsNvMemory e ⊎ ((fault : Refusal) × IsNvOutcome text (Err fault) × TellsNvFault fault text e)
+
+-- the answer to a text with this outcome, want of memory aside
+abbrev pub IsNvAnswer : List ℕ → Result PackageNv Refusal → Result PackageNv PackageNvParseError → Type 0
+IsNvAnswer text (Ok nv) result = MatchResult result (λ answer. answer ≡ nv) IsNvMemory
+IsNvAnswer text (Err fault) result = IsErrAnd result (λ e. IsNvMemory e ⊎ TellsNvFault fault text e)
+
+-- the text of a name and version stands for it again
+abbrev pub NvReadsBack : PackageNv → Type 0
+NvReadsBack nv = IsNvOutcome (nv_text nv) (Ok nv)

@@ -1,0 +1,16 @@
+//! Packages: requirements of them, names with versions, and how both are read, written and ordered.
+
+mod kind;
+mod name_version;
+mod requirement;
+
+pub use kind::PackageKind;
+pub use name_version::{PackageNv, PackageNvParseError};
+pub use requirement::PackageReq;
+use semver_base::string::{SmallStackString, StackString};
+
+/// The name of a package, with its scope where it has one.
+pub type PackageName = StackString;
+
+/// The path of a module in a package.
+pub type PackageSubPath = SmallStackString;

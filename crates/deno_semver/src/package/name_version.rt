@@ -1,0 +1,289 @@
+//! Names with versions.
+
+ghost use Rattle.std.specs.Prelude.{◌≡◌, ◌↔◌, ◌++◌, ◌⊎◌, [], IfErr, IfOk, IsTrue, MatchOption, Ok, Result, Some, length, refl};
+ghost use Rattle.std.specs.List.{take_while};
+ghost use Rattle.std.specs.Option.{option_copied};
+ghost use Rattle.std.specs.Ordering.{as_partial_cmp};
+ghost use Rattle.semver_base.specs.Grammar.{CutsRun};
+ghost use Rattle.semver_base.specs.declared.failure.Refusal.{Refusal};
+ghost use Rattle.semver_req.specs.Requirement.{PinsTo, pinned};
+ghost use Rattle.deno_semver.specs.Cuts.{is_not};
+ghost use Rattle.deno_semver.specs.NameAndVersion.{IsNoNvText, IsNvAnswer, IsNvMemory, IsNvOutcome, IsNvRefusal, IsNvText, NvReadsBack, is_version_byte, nv_text, scope_of};
+ghost use Rattle.deno_semver.specs.NameAndVersionSteps.{IsNameCut, TellsFailure, name_len};
+ghost use Rattle.deno_semver.specs.declared.package.name_version.PackageNv.{PackageNv};
+ghost use Rattle.deno_semver.specs.NvOrder.{nv_cmp, nv_po, nv_ties, nv_total};
+
+use super::{PackageName, PackageReq};
+use semver_base::failure::Refusal;
+use semver_base::lexical::after;
+use semver_base::npm::NpmVersionParseError;
+use semver_base::string::{SmallStackString, StackString, StringAppendable, StringType};
+use semver_base::version::Version;
+use semver_req::req::IntoVersionReq;
+use std::alloc::{AllocError, Global};
+use std::cmp::Ordering;
+use std::fmt;
+use thiserror::Error;
+
+/// Why a text is no name and version, or that memory was wanting.
+///
+/// The message is that of the version's refusal, or "Unexpected character." where anything else is wrong, and the text
+/// is the whole one that was given. Both are empty where memory was wanting.
+#[derive(Debug, Drop, Error)]
+#[error("Invalid package name and version '{text}'. {message}")]
+pub struct PackageNvParseError {
+    pub message: SmallStackString,
+    pub text: StackString,
+}
+
+impl PackageNvParseError {
+    /// Whether memory was wanting, which an error without a message says.
+    pub fn is_memory(&self) -> bool
+        ensures { IsTrue result ↔ (self.now.message ≡ []) }
+    {
+        self.message.as_str().is_empty()
+    }
+
+    /// The same error again. It is an error only where no memory is left.
+    pub fn copy(&self) -> Result<Self, AllocError>
+        ensures { IfOk result (λ error. error ≡ self.now) }
+    {
+        Ok(PackageNvParseError {
+            message: self.message.copy()?,
+            text: self.text.copy()?,
+        })
+    }
+}
+
+// The error of want of memory.
+fn memory(alloc: Global) -> PackageNvParseError
+    ensures { IsNvMemory result }
+{
+    PackageNvParseError {
+        message: SmallStackString::new(alloc),
+        text: StackString::new(alloc),
+    }
+}
+
+// The error with these texts.
+fn texts(alloc: Global, message: &str, text: &str) -> Result<PackageNvParseError, AllocError>
+    ensures { IfOk result (λ e. (e.message ≡ message.now) × (e.text ≡ text.now)) }
+{
+    Ok(PackageNvParseError {
+        message: SmallStackString::from_str(alloc, message)?,
+        text: StackString::from_str(alloc, text)?,
+    })
+}
+
+// The error with these texts, or want of memory where there is none for them.
+fn told(alloc: Global, message: &str, text: &str) -> PackageNvParseError
+    ensures { IsNvMemory result ⊎ ((result.message ≡ message.now) × (result.text ≡ text.now)) }
+{
+    match texts(alloc, message, text) {
+        Ok(error) => error,
+        Err(_) => memory(alloc),
+    }
+}
+
+/// A package's name and one version of it.
+///
+/// Two are ordered by their names as texts, and then by their versions.
+#[derive(PartialEq, Eq, Hash, Debug, Drop)]
+pub struct PackageNv {
+    pub name: PackageName,
+    pub version: Version,
+}
+
+// What a text is cut into.
+#[derive(Clone, Copy)]
+struct Parts<'a> {
+    name: &'a str,
+    version: &'a str,
+    // What follows the version.
+    rest: &'a str,
+}
+
+// How many bytes stand before the first `@`.
+fn before_at(bytes: &[u8]) -> usize
+    ensures { result ≡ length (take_while (is_not 64) bytes.now) }
+{
+    bytes.iter().take_while(|b| **b != b'@').count()
+}
+
+// How many bytes the name at the front has: one, and those before the next `@`.
+fn name_len(bytes: &[u8]) -> usize
+    ensures { result ≡ name_len bytes.now }
+{
+    match bytes.split_first() {
+        None => 0,
+        Some((_, more)) => before_at(more) + 1,
+    }
+}
+
+// The name at the front, and what follows it.
+fn split_name(text: &str) -> (&str, &str)
+    ensures { IsNameCut text.now result.0.now result.1.now }
+{
+    text.split_at(name_len(text.as_bytes()))
+}
+
+fn is_version_byte(byte: u8) -> bool
+    ensures { result ≡ is_version_byte byte }
+{
+    byte != b'_' && byte != b'/'
+}
+
+// How many bytes at the front belong to the version.
+fn version_len(bytes: &[u8]) -> usize
+    ensures { result ≡ length (take_while is_version_byte bytes.now) }
+{
+    bytes.iter().take_while(|b| is_version_byte(**b)).count()
+}
+
+// The version at the front, which may be empty, and what follows it.
+fn split_version(text: &str) -> (&str, &str)
+    ensures { CutsRun is_version_byte text.now result.0.now result.1.now }
+{
+    text.split_at(version_len(text.as_bytes()))
+}
+
+// The name and the version at the front.
+fn cut(text: &str) -> Option<Parts<'_>>
+    ensures { MatchOption result (IsNoNvText text.now) (λ p. IsNvText text.now p.name.now p.version.now p.rest.now) }
+{
+    let (name, rest) = split_name(text);
+    let Some(rest) = after(rest, '@') else {
+        return None;
+    };
+    let (version, rest) = split_version(rest);
+    if version.is_empty() {
+        return None;
+    }
+    Some(Parts {
+        name,
+        version,
+        rest,
+    })
+}
+
+// The error that tells why a version is refused.
+fn version_error(alloc: Global, error: &NpmVersionParseError, text: &str) -> PackageNvParseError
+    ensures { IsNvMemory result ⊎ TellsFailure error.now.source text.now result }
+{
+    if error.is_memory() {
+        return memory(alloc);
+    }
+    told(alloc, error.message(), text)
+}
+
+impl PackageNv {
+    /// The name and version that a text is, as in `@scope/name@1.0.0`: a name, which isn't empty and has no `@` past its
+    /// first character; `@`; and a version, which isn't empty, has neither `_` nor `/`, and is read as npm reads it
+    /// ([`Version::parse_from_npm`]).
+    ///
+    /// The text of a name and version that was read is read as it again, build included. A version that is refused gives
+    /// the message of its refusal; anything else that is wrong, as text after the version, gives "Unexpected character.".
+    /// Any other error is want of memory.
+    pub fn from_str(alloc: Global, text: &str) -> Result<Self, PackageNvParseError>
+        ensures read { IfOk result (λ nv. IsNvOutcome text.now (Ok nv)) }
+        ensures reads_back { IfOk result NvReadsBack }
+        ensures refused { IfErr result (IsNvRefusal text.now) }
+        ensures answer { (outcome : Result PackageNv Refusal) → IsNvOutcome text.now outcome → IsNvAnswer text.now outcome result }
+    {
+        let Some(parts) = cut(text) else {
+            return Err(told(alloc, Refusal::UnexpectedCharacter.message(), text));
+        };
+        let version = match Version::parse_from_npm(alloc, parts.version) {
+            Ok(version) => version,
+            Err(error) => return Err(version_error(alloc, &error, text)),
+        };
+        if !parts.rest.is_empty() {
+            return Err(told(alloc, Refusal::UnexpectedCharacter.message(), text));
+        }
+        match PackageName::from_str(alloc, parts.name) {
+            Ok(name) => Ok(PackageNv { name, version }),
+            Err(_) => Err(memory(alloc)),
+        }
+    }
+
+    /// The same name and version again. It is an error only where no memory is left.
+    pub fn copy(&self) -> Result<Self, AllocError>
+        ensures { IfOk result (λ nv. nv ≡ self.now) }
+    {
+        Ok(PackageNv {
+            name: self.name.copy()?,
+            version: self.version.copy()?,
+        })
+    }
+
+    /// The scope of a name that begins with `@`: what stands before its first `/`, or the whole name where it has none.
+    pub fn scope(&self) -> Option<&str>
+        ensures { option_copied result ≡ scope_of self.now.name }
+    {
+        let name = self.name.as_str();
+        if !name.starts_with('@') {
+            return None;
+        }
+        match name.split_once('/') {
+            Some((scope, _)) => Some(scope),
+            None => Some(name),
+        }
+    }
+
+    /// The requirement of the package with this name, and of the versions of the same precedence
+    /// ([`IntoVersionReq::into_req`]). It is an error only where no memory is left.
+    pub fn into_req(self, alloc: Global) -> Result<PackageReq, AllocError>
+        ensures name { IfOk result (λ req. req.name ≡ self.name) }
+        ensures version { IfOk result (λ req. req.version_req ≡ pinned self.version) }
+        ensures matches { IfOk result (λ req. PinsTo self.version req.version_req.inner) }
+    {
+        let PackageNv { name, version } = self;
+        let version_req = version.into_req(alloc)?;
+        Ok(PackageReq { name, version_req })
+    }
+}
+
+/// `name@version`.
+impl fmt::Display for PackageNv {
+    ghost output = { λ nv. Some (nv_text nv) };
+
+    fn fmt<W: fmt::Write>(&self, f: &mut fmt::Formatter<W>) -> fmt::Result {
+        let (name, version) = (self.name.as_str(), &self.version);
+        write!(f, "{name}@{version}")
+    }
+}
+
+impl StringAppendable for PackageNv {
+    ghost text = { nv_text };
+
+    fn append_to<T: StringType>(&self, alloc: Global, target: &mut T) -> Result<(), AllocError> {
+        let text = format!(in alloc; "{self}")?;
+        target.push_str(text.as_str())
+    }
+}
+
+impl PartialOrd for PackageNv {
+    ghost partial_cmp = { as_partial_cmp nv_cmp };
+
+    ghost laws = { nv_po };
+
+    fn partial_cmp(&self, other: &PackageNv) -> Option<Ordering> {
+        Some(self.cmp(other))
+    }
+}
+
+impl Ord for PackageNv {
+    ghost cmp = { nv_cmp };
+
+    ghost total = { nv_total };
+
+    ghost matches_partial_cmp = { λ a b. refl };
+
+    ghost matches_eq = { nv_ties };
+
+    fn cmp(&self, other: &PackageNv) -> Ordering {
+        self.name
+            .cmp(&other.name)
+            .then_with(|| self.version.cmp(&other.version))
+    }
+}
