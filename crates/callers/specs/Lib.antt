@@ -1,0 +1,3 @@
+pub mod Allowance
+pub mod Stored
+pub mod Versions

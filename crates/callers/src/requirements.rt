@@ -1,0 +1,85 @@
+//! Is this version allowed by this requirement?
+
+ghost use Rattle.std.specs.Prelude.{◌≡◌, IfErr};
+ghost use Rattle.std.specs.Str.{trim};
+ghost use Rattle.semver_req.specs.PieceReading.{IsCutRefusal};
+ghost use Rattle.semver_req.specs.Strict.{IsStrictRefusal};
+ghost use Rattle.semver_req.specs.declared.common.values.Flavour.TheVariants.{Normal, Npm, Specifier};
+ghost use Rattle.callers.specs.Allowance.{IsAllowance, allowance_of, yes_or_no};
+
+use deno_semver::npm::NpmVersionReqParseError;
+use deno_semver::{
+    Version, VersionReq, VersionReqNormalizedParseError, VersionReqSpecifierParseError,
+};
+use std::alloc::Global;
+
+/// Whether a requirement allows a version.
+#[derive(Clone, Copy, Debug, PartialEq, Eq)]
+pub enum Allowance {
+    Yes,
+    No,
+    /// The requirement is a tag, which is no question of versions.
+    Tag,
+}
+
+fn yes_or_no(is_allowed: bool) -> Allowance
+    ensures { result ≡ yes_or_no is_allowed }
+{
+    if is_allowed {
+        Allowance::Yes
+    } else {
+        Allowance::No
+    }
+}
+
+/// Is the version allowed by this requirement?
+pub fn allowance_by(requirement: &VersionReq, version: &Version) -> Allowance
+    ensures { result ≡ allowance_of requirement.now.inner version.now }
+{
+    match requirement.tag() {
+        Some(_) => Allowance::Tag,
+        None => yes_or_no(requirement.matches(version)),
+    }
+}
+
+/// Is the version allowed by this text, as npm reads it?
+///
+/// It is exactly where the comparators of the text mean it, and a text that is a tag is told as one. Otherwise the
+/// answer is the refusal of npm's reader, or want of memory.
+pub fn allowed_by_npm(
+    alloc: Global,
+    text: &str,
+    version: &Version,
+) -> Result<Allowance, NpmVersionReqParseError>
+    ensures answers { IsAllowance (λ e. e.source) Npm text.now version.now result }
+    ensures refusal { IfErr result (λ e. IsCutRefusal Npm (trim text.now) e.source) }
+{
+    let requirement = VersionReq::parse_from_npm(alloc, text)?;
+    Ok(allowance_by(&requirement, version))
+}
+
+/// Is the version allowed by this text, as a normalized requirement? ([`allowed_by_npm`] says what is answered.)
+pub fn allowed_by_normalized(
+    alloc: Global,
+    text: &str,
+    version: &Version,
+) -> Result<Allowance, VersionReqNormalizedParseError>
+    ensures answers { IsAllowance (λ e. e.source) Normal text.now version.now result }
+    ensures refusal { IfErr result (λ e. IsCutRefusal Normal text.now e.source) }
+{
+    let requirement = VersionReq::parse_from_normalized(alloc, text)?;
+    Ok(allowance_by(&requirement, version))
+}
+
+/// Is the version allowed by this text of a package specifier? ([`allowed_by_npm`] says what is answered.)
+pub fn allowed_by_specifier(
+    alloc: Global,
+    text: &str,
+    version: &Version,
+) -> Result<Allowance, VersionReqSpecifierParseError>
+    ensures answers { IsAllowance (λ e. e.source) Specifier text.now version.now result }
+    ensures refusal { IfErr result (λ e. IsStrictRefusal text.now e.source) }
+{
+    let requirement = VersionReq::parse_from_specifier(alloc, text)?;
+    Ok(allowance_by(&requirement, version))
+}
