@@ -1,6 +1,6 @@
 use Rattle.std.specs.Prelude.{List, ℕ, codes}
 use Rattle.conformance.specs.declared.call.Call.{Call}
-use Rattle.conformance.specs.declared.call.Call.TheVariants.{Text, Items, Failure, SameFailure, Refusal, Range, SameRange, TagRequirement, Version, NpmVersion, Equal, Compare, Precedence, Identifiers, Tag, Requirement, SameRequirement, Ranges, Fits, Overlap, Error, Satisfies, SetSatisfies, Admits, Clamp, ClampStart, ClampEnd, IsNone, IntersectsVersion, IntersectsRange, IntersectsSet, Partial, PartialAt, QualifierAt, SignAt, ComparatorAt, OperatorAt, Made, Pushed, Replaced, Grown, Written, Normal, Reread, Pinned}
+use Rattle.conformance.specs.declared.call.Call.TheVariants.{Text, Items, Failure, SameFailure, Refusal, Range, SameRange, TagRequirement, Version, NpmVersion, Equal, Compare, Precedence, Identifiers, Tag, Requirement, SameRequirement, Ranges, Fits, Overlap, Error, Satisfies, SetSatisfies, Admits, Clamp, ClampStart, ClampEnd, IsNone, IntersectsVersion, IntersectsRange, IntersectsSet, Partial, PartialAt, QualifierAt, SignAt, ComparatorAt, OperatorAt, Made, Pushed, Replaced, Grown, Written, Normal, Reread, Pinned, NameVersion}
 
 -- the first word of a question that asks the call
 abbrev pub name_of : Call → List ℕ
@@ -49,3 +49,4 @@ name_of Written = codes "written"
 name_of Normal = codes "normal"
 name_of Reread = codes "reread"
 name_of Pinned = codes "pinned"
+name_of NameVersion = codes "name-version"

@@ -4,7 +4,7 @@ ghost use Rattle.std.specs.Prelude.{◌≡◌, IfSome};
 ghost use Rattle.conformance.specs.Call.{name_of};
 
 use crate::words::{Answer, Word};
-use crate::{partials, places, ranges, requirements, texts, values, versions};
+use crate::{packages, partials, places, ranges, requirements, texts, values, versions};
 use std::alloc::Global;
 
 /// A call that a row asks.
@@ -55,11 +55,12 @@ pub enum Call {
     Normal,
     Reread,
     Pinned,
+    NameVersion,
 }
 
 impl Call {
     /// All calls, in the order in which they are counted.
-    pub const ALL: [Call; 45] = [
+    pub const ALL: [Call; 46] = [
         Call::Text,
         Call::Items,
         Call::Failure,
@@ -105,6 +106,7 @@ impl Call {
         Call::Normal,
         Call::Reread,
         Call::Pinned,
+        Call::NameVersion,
     ];
 
     /// The first word of a question that asks the call.
@@ -157,6 +159,7 @@ impl Call {
             Call::Normal => "normal",
             Call::Reread => "reread",
             Call::Pinned => "pinned",
+            Call::NameVersion => "name-version",
         }
     }
 
@@ -215,6 +218,7 @@ impl Call {
             Call::Normal => requirements::normal(alloc, words),
             Call::Reread => requirements::reread(alloc, words),
             Call::Pinned => requirements::pinned(alloc, words),
+            Call::NameVersion => packages::name_version(alloc, words),
         }
     }
 }

@@ -12,6 +12,7 @@
 ghost use Rattle.std.specs.Prelude.{◌≡◌, ◌↔◌, true};
 
 mod call;
+mod packages;
 mod partials;
 mod places;
 mod ranges;
