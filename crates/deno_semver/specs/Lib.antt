@@ -3,5 +3,7 @@ pub mod Kind
 pub mod NameAndVersion
 pub mod NameAndVersionSteps
 pub mod NvOrder
+pub mod RequirementOrder
 pub mod RequirementText
+pub mod RequirementTies
 pub mod Ties

@@ -2,6 +2,7 @@
 
 mod kind;
 mod name_version;
+mod order;
 mod requirement;
 
 pub use kind::PackageKind;
