@@ -1,9 +1,13 @@
 //! Packages: requirements of them, names with versions, and how both are read, written and ordered.
 
+mod cut;
+mod errors;
 mod kind;
 mod name_version;
+mod read;
 mod requirement;
 
+pub use errors::{PackageReqParseError, PackageReqPartsParseError};
 pub use kind::PackageKind;
 pub use name_version::{PackageNv, PackageNvParseError};
 pub use requirement::PackageReq;
