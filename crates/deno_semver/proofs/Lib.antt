@@ -1,3 +1,5 @@
 pub mod NameAndVersion
 pub mod NvText
+pub mod PackageFaults
+pub mod PackageText
 pub mod Runs

@@ -3,6 +3,10 @@ pub mod Kind
 pub mod NameAndVersion
 pub mod NameAndVersionSteps
 pub mod NvOrder
+pub mod PackageOutcome
+pub mod PackageReading
+pub mod PackageSteps
+pub mod PackageText
 pub mod RequirementOrder
 pub mod RequirementText
 pub mod RequirementTies

@@ -1,13 +1,18 @@
 //! Packages: requirements of them, names with versions, and how both are read, written and ordered.
 
+mod cut;
+mod errors;
 mod kind;
 mod name_version;
 mod order;
+mod read;
 mod requirement;
 
+pub use errors::{PackageReqParseError, PackageReqPartsParseError};
 pub use kind::PackageKind;
 pub use name_version::{PackageNv, PackageNvParseError};
 pub use requirement::PackageReq;
+
 use semver_base::string::{SmallStackString, StackString};
 
 /// The name of a package, with its scope where it has one.

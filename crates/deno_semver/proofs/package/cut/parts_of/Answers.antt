@@ -1,0 +1,25 @@
+use Rattle.std.proofs.Common.{◌≡◌, ◌<◌, ◌==◌, ◌∙◌, List, ℕ, Bool, length, true, false, sym, inr, refl, arith}
+use Rattle.std.specs.Option.{option_copied}
+use Rattle.std.proofs.lemmas.Bool.Decides.{nat_tests}
+use Rattle.deno_semver.proofs.PackageText.{scope_alone, scoped_cut}
+use Rattle.deno_semver.proofs.package.cut.parts_of.Goals as goal
+
+some_left : (xs : List ℕ) (b : Bool) → b ≡ (length xs == 0) → b ≡ false → 0 < length xs
+some_left xs b e f = grind (arith, nat_tests)
+
+none_left : (xs : List ℕ) (b : Bool) → b ≡ (length xs == 0) → b ≡ true → length xs ≡ 0
+none_left xs b e f = grind (arith, nat_tests)
+
+pub returns-clause-cut : goal.returns-clause-cut
+returns-clause-cut c =
+    scoped_cut c.args.text.now c.without_slash.ensures c.split_part.ensures (sym c.starts_with_at.ensures ∙ c.if-not-starts_with_at.false) (c.path_of-2.ensures c.split_part.ensures.stops) c.split_part-2.ensures
+    (some_left _ _ c.is_empty-2.ensures c.if-is_empty-2.false) c.split_name-2.result.0.now (option_copied c.split_name-2.result.1) c.path_of-3.result.now
+    c.split_name-2.ensures (c.path_of-3.ensures c.split_part-2.ensures.stops)
+
+pub returns-then-is_empty-2-clause-uncut : goal.returns-then-is_empty-2-clause-uncut
+returns-then-is_empty-2-clause-uncut c =
+    inr (
+      refl,
+      scope_alone c.args.text.now c.without_slash.ensures c.split_part.ensures (sym c.starts_with_at.ensures ∙ c.if-not-starts_with_at.false) (c.path_of-2.ensures c.split_part.ensures.stops) c.split_part-2.ensures
+          (none_left _ _ c.is_empty-2.ensures c.if-is_empty-2.true),
+    )

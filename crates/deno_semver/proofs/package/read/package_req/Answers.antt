@@ -1,0 +1,15 @@
+use Rattle.deno_semver.specs.PackageOutcome.{is_package}
+use Rattle.deno_semver.proofs.PackageFaults.{read_answer, refused, refused_answer}
+use Rattle.deno_semver.proofs.package.read.package_req.Goals as goal
+
+pub returns-in-Ok-clause-read : goal.returns-in-Ok-clause-read
+returns-in-Ok-clause-read c = is_package c.in-Ok.ensures
+
+pub returns-in-Ok-clause-answer : goal.returns-in-Ok-clause-answer
+returns-in-Ok-clause-answer c = read_answer c.in-Ok.req c.in-Ok.ensures
+
+pub returns-in-Err-clause-refused : goal.returns-in-Err-clause-refused
+returns-in-Err-clause-refused c = refused c.in-Err.source c.whole_error.result c.in-Err.ensures c.whole_error.ensures
+
+pub returns-in-Err-clause-answer : goal.returns-in-Err-clause-answer
+returns-in-Err-clause-answer c = refused_answer c.in-Err.source c.whole_error.result c.in-Err.ensures c.whole_error.ensures

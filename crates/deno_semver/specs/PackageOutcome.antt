@@ -1,0 +1,98 @@
+-- What the text of a package stands for, and why it is refused. Sources: npm's package specifiers; which fault comes first is
+-- the crate `deno_semver`'s choice.
+use Rattle.std.specs.Prelude.{◌≡◌, ◌<◌, ◌∷◌, ◌⊎◌, [], ℕ, List, length, Option, Some, None, Result, Ok, Err, MatchResult, IsErrAnd, codes, if◌then◌else◌}
+use Rattle.std.specs.Str.{trim}
+use Rattle.semver_req.specs.Outcome.{IsOutcome, Refused}
+use Rattle.semver_req.specs.PieceReading.{IsCutRefusal}
+use Rattle.semver_req.specs.Readers.{Failure, IsReaderAnswer}
+use Rattle.semver_req.specs.Requirement.{Requirement, wildcard}
+use Rattle.semver_req.specs.Strict.{IsStrictRefusal}
+use Rattle.semver_req.specs.declared.common.values.Flavour.{Flavour}
+use Rattle.semver_req.specs.declared.common.values.Flavour.TheVariants.{Npm, Normal, Specifier}
+use Rattle.deno_semver.specs.PackageText.{IsPackageText, IsScopeAlone, LacksPart, PackageParts, lacks_at, scoped_name, without_slash}
+use Rattle.deno_semver.specs.declared.package.errors.PackageReqPartsParseError.{PackageReqPartsParseError}
+use Rattle.deno_semver.specs.declared.package.errors.PackageReqPartsParseError.TheVariants as parts
+use Rattle.deno_semver.specs.declared.package.errors.PackageReqParseError.{PackageReqParseError}
+use Rattle.deno_semver.specs.declared.package.requirement.PackageReq.{PackageReq}
+
+-- the requirement of the version's text is what its reader answers; without such a text it is that of any version
+abbrev pub IsVersionReq : Flavour → Option (List ℕ) → Requirement → Type 0
+IsVersionReq f None req = req ≡ wildcard
+IsVersionReq f (Some text) req = IsReaderAnswer (λ (e : Failure). e) f text (Ok req)
+
+-- why a text is refused
+pub data Fault : Type 0 where
+  NoName : Fault
+  BadName : Fault
+  -- the text of the version is refused
+  BadVersion : List ℕ → Fault
+  -- a path stands after the requirement
+  HasPath : List ℕ → Fault
+  NoAt : Fault
+
+-- the first fault of a text: the part of it that is missing, then its version, then its path
+pub data IsFirstFault (f : Flavour) (text : List ℕ) : Fault → Type 0 where
+  no_name : LacksPart (without_slash text) → IsFirstFault f text NoName
+  bad_name : IsScopeAlone (without_slash text) → IsFirstFault f text BadName
+  bad_version : {cut : PackageParts} {version : List ℕ} → IsPackageText text cut → cut.version ≡ Some version → IsOutcome f version Refused
+      → IsFirstFault f text (BadVersion version)
+  has_path : {cut : PackageParts} (req : Requirement) → IsPackageText text cut → IsVersionReq f cut.version req → 0 < length cut.path
+      → IsFirstFault f text (HasPath cut.path)
+
+-- the requirement that a text is: its parts, without a path
+pub record IsReadReq (f : Flavour) (text : List ℕ) (req : PackageReq) : Type 0 where
+  pub cut : PackageParts
+  pub is_cut : IsPackageText text cut
+  pub name : req.name ≡ scoped_name cut.scope cut.name
+  pub version_req : IsVersionReq f cut.version req.version_req
+  pub no_path : length cut.path ≡ 0
+
+-- what a text stands for; whatever its fault, one that holds a `/` and doesn't begin with `@` lacks an `@`
+pub data IsPackageOutcome (f : Flavour) (text : List ℕ) : Result PackageReq Fault → Type 0 where
+  is_package : {req : PackageReq} → IsReadReq f text req → IsPackageOutcome f text (Ok req)
+  is_fault : {fault : Fault} → IsFirstFault f text fault → IsPackageOutcome f text (Err (if lacks_at text then NoAt else fault))
+
+-- ---- answers
+
+-- why the reader of a flavour refuses the text of a version
+abbrev pub IsRefusalOf : Flavour → List ℕ → Failure → Type 0
+IsRefusalOf Specifier text = IsStrictRefusal text
+IsRefusalOf Npm text = IsCutRefusal Npm (trim text)
+IsRefusalOf Normal text = IsCutRefusal Normal text
+
+-- the error of that reader
+abbrev pub refused_by : Flavour → Failure → PackageReqPartsParseError
+refused_by Specifier failure = parts.SpecifierVersionReq (record { source = failure })
+refused_by Npm failure = parts.NpmVersionReq (record { source = failure })
+refused_by Normal failure = parts.NormalizedVersionReq (record { source = failure })
+
+-- what the error shows of a path: the text from its `/` on
+abbrev pub path_failure : List ℕ → Failure
+path_failure path = Some (codes "Unexpected character '/'", Some (47 ∷ path))
+
+-- the error tells of the fault
+abbrev pub Tells : Flavour → Fault → PackageReqPartsParseError → Type 0
+Tells f NoName e = e ≡ parts.NoPackageName
+Tells f BadName e = e ≡ parts.InvalidPackageName
+Tells f (BadVersion version) e = (failure : Failure) × (failure ≡ None → ⊥) × IsRefusalOf f version failure × (e ≡ refused_by f failure)
+Tells f (HasPath path) e = e ≡ parts.SpecifierVersionReq (record { source = path_failure path })
+Tells f NoAt e = e ≡ parts.MissingAtSymbol
+
+-- want of memory has no text
+pub record IsWantOfMemory (e : PackageReqParseError) : Type 0 where
+  pub source : e.source ≡ parts.Memory
+  pub text : e.text ≡ []
+
+-- the error tells of the fault, and shows the whole text
+pub record TellsFault (f : Flavour) (fault : Fault) (text : List ℕ) (e : PackageReqParseError) : Type 0 where
+  pub source : Tells f fault e.source
+  pub text_is : e.text ≡ text
+
+-- the error is want of memory, or tells the fault that the text has as its outcome
+abbrev pub IsPackageRefusal : Flavour → List ℕ → PackageReqParseError → Type 0
+IsPackageRefusal f text e = IsWantOfMemory e ⊎ ((fault : Fault) × IsPackageOutcome f text (Err fault) × TellsFault f fault text e)
+
+-- the answer to a text with this outcome, want of memory aside
+abbrev pub IsPackageAnswer : Flavour → List ℕ → Result PackageReq Fault → Result PackageReq PackageReqParseError → Type 0
+IsPackageAnswer f text (Ok req) result = MatchResult result (λ answer. answer ≡ req) IsWantOfMemory
+IsPackageAnswer f text (Err fault) result = IsErrAnd result (λ e. IsWantOfMemory e ⊎ TellsFault f fault text e)

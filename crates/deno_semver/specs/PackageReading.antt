@@ -1,0 +1,40 @@
+-- What the steps of the reader of packages answer.
+use Rattle.std.specs.Prelude.{◌≡◌, ◌⊎◌, ℕ, List, Option, Some, None, Result, MatchResult, codes, if◌then◌else◌}
+use Rattle.semver_req.specs.Outcome.{IsOutcome, Refused}
+use Rattle.semver_req.specs.declared.common.values.Flavour.{Flavour}
+use Rattle.deno_semver.specs.PackageOutcome.{BadVersion, Fault, IsFirstFault, IsReadReq, Tells}
+use Rattle.deno_semver.specs.PackageText.{lacks_at}
+use Rattle.deno_semver.specs.declared.package.errors.PackageReqParseError.{PackageReqParseError}
+use Rattle.deno_semver.specs.declared.package.errors.PackageReqPartsParseError.{PackageReqPartsParseError}
+use Rattle.deno_semver.specs.declared.package.errors.PackageReqPartsParseError.TheVariants as parts
+use Rattle.deno_semver.specs.declared.package.requirement.PackageReq.{PackageReq}
+
+-- the text of the version is refused, and the error tells why
+pub record IsBadVersion (f : Flavour) (version : List ℕ) (e : PackageReqPartsParseError) : Type 0 where
+  pub refused : IsOutcome f version Refused
+  pub tells : Tells f (BadVersion version) e
+
+abbrev pub IsVersionRefusal : Flavour → List ℕ → PackageReqPartsParseError → Type 0
+IsVersionRefusal f version e = (e ≡ parts.Memory) ⊎ IsBadVersion f version e
+
+-- the same; where there is no version's text, only want of memory
+abbrev pub IsPartsRefusal : Flavour → Option (List ℕ) → PackageReqPartsParseError → Type 0
+IsPartsRefusal f None e = e ≡ parts.Memory
+IsPartsRefusal f (Some version) e = IsVersionRefusal f version e
+
+-- the error shows the path with the `/` before it, unless memory was wanting
+abbrev pub IsPathError : List ℕ → PackageReqPartsParseError → Type 0
+IsPathError tail e = (e ≡ parts.Memory) ⊎ (e ≡ parts.SpecifierVersionReq (record { source = Some (codes "Unexpected character '/'", Some tail) }))
+
+-- the error tells the first fault of the text, unless memory was wanting
+abbrev pub IsFaultError : Flavour → List ℕ → PackageReqPartsParseError → Type 0
+IsFaultError f text e = (e ≡ parts.Memory) ⊎ ((fault : Fault) × IsFirstFault f text fault × Tells f fault e)
+
+abbrev pub IsReadPackage : Flavour → List ℕ → Result PackageReq PackageReqPartsParseError → Type 0
+IsReadPackage f text result = MatchResult result (IsReadReq f text) (IsFaultError f text)
+
+-- the error shows the whole text and its source, which lacks an `@` instead where the text does
+pub record TellsSource (text : List ℕ) (source : PackageReqPartsParseError) (e : PackageReqParseError) : Type 0 where
+  pub no_memory : source ≡ parts.Memory → ⊥
+  pub source_is : e.source ≡ (if lacks_at text then parts.MissingAtSymbol else source)
+  pub text_is : e.text ≡ text

@@ -1,0 +1,85 @@
+-- How the text of a package is cut: a `/` that import maps may leave in front, a scope with `/` after it, the last part of
+-- the name, `@` and the version's text, and a `/` with the path. Sources: npm's package specifiers; for the `/` in front and
+-- the path the crate `deno_semver`.
+use Rattle.std.specs.Prelude.{◌≡◌, ◌<◌, ◌++◌, ◌∷◌, ◌&&◌, ◌==◌, [], ℕ, List, Bool, true, false, not, length, Option, Some, None, if◌then◌else◌}
+use Rattle.std.specs.List.{list_all, list_any}
+use Rattle.semver_base.specs.Grammar.{Stops}
+use Rattle.deno_semver.specs.Cuts.{is_not}
+
+-- what a text is cut into
+pub record PackageParts : Type 0 where
+  pub scope : Option (List ℕ)
+  -- the last part of the name
+  pub name : List ℕ
+  pub version : Option (List ℕ)
+  pub path : List ℕ
+
+-- without the `/` at the front, where there is one
+abbrev pub without_slash : List ℕ → List ℕ
+without_slash [] = []
+without_slash (first ∷ rest) = if first == 47 then rest else first ∷ rest
+
+-- whether the text begins with `@`
+abbrev pub starts_with_at : List ℕ → Bool
+starts_with_at [] = false
+starts_with_at (first ∷ rest) = first == 64
+
+-- `@`, and what follows it holds no `/`
+pub record IsScope (scope : List ℕ) : Type 0 where
+  pub at : starts_with_at scope ≡ true
+  pub no_slash : list_all (is_not 47) scope ≡ true
+
+-- rest is what follows the scope and its `/`, or everything where that doesn't begin with `@`
+abbrev pub IsAfterScope : Option (List ℕ) → List ℕ → List ℕ → Type 0
+IsAfterScope None body rest = (starts_with_at body ≡ false) × (body ≡ rest)
+IsAfterScope (Some scope) body rest = IsScope scope × (body ≡ scope ++ (47 ∷ rest))
+
+-- the version stands after the last `@`; there is none where there is no `@`
+abbrev pub IsNamePart : List ℕ → List ℕ → Option (List ℕ) → Type 0
+IsNamePart last name None = (last ≡ name) × (list_all (is_not 64) name ≡ true)
+IsNamePart last name (Some version) = (last ≡ name ++ (64 ∷ version)) × (list_all (is_not 64) version ≡ true)
+
+-- nothing, or a `/` and the path
+abbrev pub IsPathPart : List ℕ → List ℕ → Type 0
+IsPathPart [] path = path ≡ []
+IsPathPart (first ∷ rest) path = (first ≡ 47) × (path ≡ rest)
+
+-- the parts of a text; the last part of the name with its version isn't empty and holds no `/`
+pub record IsPackageText (text : List ℕ) (parts : PackageParts) : Type 0 where
+  pub rest : List ℕ
+  pub scope : IsAfterScope parts.scope (without_slash text) rest
+  pub last : List ℕ
+  pub tail : List ℕ
+  pub rest_is : rest ≡ last ++ tail
+  pub last_some : 0 < length last
+  pub last_is : list_all (is_not 47) last ≡ true
+  pub named : IsNamePart last parts.name parts.version
+  pub path : IsPathPart tail parts.path
+
+-- the last part of a name, with the scope and `/` before it where there is one
+abbrev pub scoped_name : Option (List ℕ) → List ℕ → List ℕ
+scoped_name None name = name
+scoped_name (Some scope) name = scope ++ (47 ∷ name)
+
+-- ---- texts that lack a part
+
+-- nothing stands before the end or the next `/`
+abbrev pub LacksPart : List ℕ → Type 0
+LacksPart = Stops (is_not 47)
+
+-- nothing stands after the scope's `/`, or there is no such `/`
+abbrev pub LacksLast : List ℕ → Type 0
+LacksLast [] = Unit {0}
+LacksLast (first ∷ rest) = (first ≡ 47) × LacksPart rest
+
+-- a scope without the last part of a name
+pub record IsScopeAlone (body : List ℕ) : Type 0 where
+  pub scope : List ℕ
+  pub tail : List ℕ
+  pub body_is : body ≡ scope ++ tail
+  pub is_scope : IsScope scope
+  pub lacks : LacksLast tail
+
+-- whether the text holds a `/` and doesn't begin with `@`
+abbrev pub lacks_at : List ℕ → Bool
+lacks_at text = list_any (λ b. b == 47) text && not (starts_with_at text)

@@ -1,0 +1,123 @@
+//! How the text of a package is cut.
+
+ghost use Rattle.std.specs.Prelude.{◌≡◌, ◌⊎◌, IfErr, IfOk, length, ◌==◌};
+ghost use Rattle.std.specs.List.{list_any, take_while};
+ghost use Rattle.std.specs.Option.{option_copied};
+ghost use Rattle.semver_base.specs.Grammar.{CutsRun, Stops};
+ghost use Rattle.deno_semver.specs.Cuts.{is_not};
+ghost use Rattle.deno_semver.specs.PackageSteps.{IsCut, IsUncut};
+ghost use Rattle.deno_semver.specs.PackageText.{IsNamePart, IsPathPart, lacks_at, starts_with_at, without_slash};
+
+use super::errors::PackageReqPartsParseError;
+use semver_base::lexical::after;
+
+/// What the text of a package is cut into.
+#[derive(Clone, Copy)]
+pub(crate) struct Cut<'a> {
+    pub(crate) scope: Option<&'a str>,
+    // The last part of the name.
+    pub(crate) name: &'a str,
+    pub(crate) version: Option<&'a str>,
+    // What follows these: nothing, or a `/` and the path.
+    pub(crate) tail: &'a str,
+    pub(crate) path: &'a str,
+}
+
+// The text without one `/` at its front.
+fn without_slash(text: &str) -> &str
+    ensures { result.now ≡ without_slash text.now }
+{
+    match after(text, '/') {
+        Some(rest) => rest,
+        None => text,
+    }
+}
+
+// How many bytes stand before the first `/`.
+fn before_slash(bytes: &[u8]) -> usize
+    ensures { result ≡ length (take_while (is_not 47) bytes.now) }
+{
+    bytes.iter().take_while(|b| **b != b'/').count()
+}
+
+// What stands before the first `/`, and what follows from that on.
+fn split_part(text: &str) -> (&str, &str)
+    ensures { CutsRun (is_not 47) text.now result.0.now result.1.now }
+{
+    text.split_at(before_slash(text.as_bytes()))
+}
+
+// What follows the `/` at the front, or nothing.
+fn path_of(tail: &str) -> &str
+    ensures { Stops (is_not 47) tail.now → IsPathPart tail.now result.now }
+{
+    match after(tail, '/') {
+        Some(path) => path,
+        None => "",
+    }
+}
+
+// What stands before the last `@`, and after it.
+fn split_name(last: &str) -> (&str, Option<&str>)
+    ensures { IsNamePart last.now result.0.now (option_copied result.1) }
+{
+    match last.rsplit_once('@') {
+        Some((name, version)) => (name, Some(version)),
+        None => (last, None),
+    }
+}
+
+fn starts_with_at(text: &str) -> bool
+    ensures { result ≡ starts_with_at text.now }
+{
+    match text.as_bytes().first() {
+        Some(first) => *first == b'@',
+        None => false,
+    }
+}
+
+/// The parts of the text of a package, or the part that is missing.
+pub(crate) fn parts_of(text: &str) -> Result<Cut<'_>, PackageReqPartsParseError>
+    ensures cut { IfOk result (λ c. IsCut text.now (option_copied c.scope) c.name.now (option_copied c.version) c.tail.now c.path.now) }
+    ensures uncut { IfErr result (IsUncut text.now) }
+{
+    let (first, tail) = split_part(without_slash(text));
+    if first.is_empty() {
+        return Err(PackageReqPartsParseError::NoPackageName);
+    }
+    if !starts_with_at(first) {
+        let (name, version) = split_name(first);
+        return Ok(Cut {
+            scope: None,
+            name,
+            version,
+            tail,
+            path: path_of(tail),
+        });
+    }
+    let (last, tail) = split_part(path_of(tail));
+    if last.is_empty() {
+        return Err(PackageReqPartsParseError::InvalidPackageName);
+    }
+    let (name, version) = split_name(last);
+    Ok(Cut {
+        scope: Some(first),
+        name,
+        version,
+        tail,
+        path: path_of(tail),
+    })
+}
+
+fn holds_slash(bytes: &[u8]) -> bool
+    ensures { result ≡ list_any (λ b. b == 47) bytes.now }
+{
+    bytes.iter().any(|b| *b == b'/')
+}
+
+/// Whether the text holds a `/` and doesn't begin with `@`.
+pub(crate) fn lacks_at(text: &str) -> bool
+    ensures { result ≡ lacks_at text.now }
+{
+    holds_slash(text.as_bytes()) && !starts_with_at(text)
+}

@@ -1,0 +1,111 @@
+//! Why the text of a package is refused.
+
+ghost use Rattle.std.specs.Prelude.{◌≡◌, ◌↔◌, ◌⊎◌, IfOk, IsTrue};
+ghost use Rattle.deno_semver.specs.PackageOutcome.{IsWantOfMemory};
+
+use semver_base::string::StackString;
+use semver_req::npm::NpmVersionReqParseError;
+use semver_req::req::VersionReqNormalizedParseError;
+use semver_req::specifier::VersionReqSpecifierParseError;
+use std::alloc::{AllocError, Global};
+use thiserror::Error;
+
+/// What is wrong in the text of a package, or that memory was wanting.
+#[derive(PartialEq, Eq, Debug, Drop, Error)]
+pub enum PackageReqPartsParseError {
+    /// Nothing stands before the first `/`, or before the end.
+    #[error("Did not contain a package name")]
+    NoPackageName,
+    /// A scope stands alone.
+    #[error("Did not contain a valid package name")]
+    InvalidPackageName,
+    /// The text holds a `/` and doesn't begin with `@`.
+    #[error("Packages in the format <scope>/<name> must start with an '@' symbol")]
+    MissingAtSymbol,
+    /// The strict reader refuses the version's text, or a path stands after the requirement.
+    #[error(transparent)]
+    SpecifierVersionReq(VersionReqSpecifierParseError),
+    /// npm's reader refuses the version's text.
+    #[error(transparent)]
+    NpmVersionReq(NpmVersionReqParseError),
+    /// The normalized reader refuses the version's text.
+    #[error(transparent)]
+    NormalizedVersionReq(VersionReqNormalizedParseError),
+    /// Memory was wanting.
+    #[error("Out of memory.")]
+    Memory,
+}
+
+impl PackageReqPartsParseError {
+    /// Whether memory was wanting.
+    pub fn is_memory(&self) -> bool
+        ensures { IsTrue result ↔ (self.now ≡ PackageReqPartsParseError.Memory) }
+    {
+        matches!(self, PackageReqPartsParseError::Memory)
+    }
+
+    /// The same error again. It is an error only where no memory is left.
+    pub fn copy(&self) -> Result<Self, AllocError>
+        ensures { IfOk result (λ error. error ≡ self.now) }
+    {
+        match self {
+            PackageReqPartsParseError::NoPackageName => Ok(
+                PackageReqPartsParseError::NoPackageName,
+            ),
+            PackageReqPartsParseError::InvalidPackageName => {
+                Ok(PackageReqPartsParseError::InvalidPackageName)
+            }
+            PackageReqPartsParseError::MissingAtSymbol => {
+                Ok(PackageReqPartsParseError::MissingAtSymbol)
+            }
+            PackageReqPartsParseError::SpecifierVersionReq(error) => Ok(
+                PackageReqPartsParseError::SpecifierVersionReq(error.copy()?),
+            ),
+            PackageReqPartsParseError::NpmVersionReq(error) => {
+                Ok(PackageReqPartsParseError::NpmVersionReq(error.copy()?))
+            }
+            PackageReqPartsParseError::NormalizedVersionReq(error) => Ok(
+                PackageReqPartsParseError::NormalizedVersionReq(error.copy()?),
+            ),
+            PackageReqPartsParseError::Memory => Ok(PackageReqPartsParseError::Memory),
+        }
+    }
+}
+
+/// Why a text is no requirement of a package, with the whole text, or that memory was wanting, with no text.
+#[derive(Debug, Drop, Error)]
+#[error("Invalid package requirement '{text}'")]
+pub struct PackageReqParseError {
+    pub text: StackString,
+    #[source]
+    pub source: PackageReqPartsParseError,
+}
+
+impl PackageReqParseError {
+    /// The error of want of memory.
+    pub(crate) fn memory(alloc: Global) -> PackageReqParseError
+        ensures { IsWantOfMemory result }
+    {
+        PackageReqParseError {
+            text: StackString::new(alloc),
+            source: PackageReqPartsParseError::Memory,
+        }
+    }
+
+    /// Whether memory was wanting.
+    pub fn is_memory(&self) -> bool
+        ensures { IsTrue result ↔ (self.now.source ≡ PackageReqPartsParseError.Memory) }
+    {
+        self.source.is_memory()
+    }
+
+    /// The same error again. It is an error only where no memory is left.
+    pub fn copy(&self) -> Result<Self, AllocError>
+        ensures { IfOk result (λ error. error ≡ self.now) }
+    {
+        Ok(PackageReqParseError {
+            text: self.text.copy()?,
+            source: self.source.copy()?,
+        })
+    }
+}

@@ -1,0 +1,174 @@
+//! How requirements of packages are read.
+
+ghost use Rattle.std.specs.Prelude.{◌≡◌, ◌⊎◌, IfErr, IfOk, Ok, Result, Some};
+ghost use Rattle.std.specs.Option.{option_copied};
+ghost use Rattle.semver_req.specs.declared.common.values.Flavour.TheVariants.{Normal, Npm, Specifier};
+ghost use Rattle.deno_semver.specs.PackageOutcome.{Fault, IsPackageAnswer, IsPackageOutcome, IsPackageRefusal, IsVersionReq, IsWantOfMemory};
+ghost use Rattle.deno_semver.specs.PackageReading.{IsPartsRefusal, IsPathError, IsReadPackage, IsVersionRefusal, TellsSource};
+ghost use Rattle.deno_semver.specs.PackageText.{scoped_name};
+ghost use Rattle.deno_semver.specs.declared.package.requirement.PackageReq.{PackageReq};
+
+use super::cut::{lacks_at, parts_of};
+use super::{PackageName, PackageReq, PackageReqParseError, PackageReqPartsParseError};
+use semver_base::failure::ParseFailure;
+use semver_base::string::StackString;
+use semver_req::common::values::Flavour;
+use semver_req::req::{VersionReq, wildcard_version_req};
+use semver_req::specifier::VersionReqSpecifierParseError;
+use std::alloc::{AllocError, Global};
+
+// The requirement that the strict reader reads.
+fn strict(alloc: Global, text: &str) -> Result<VersionReq, PackageReqPartsParseError>
+    ensures read { IfOk result (IsVersionReq Specifier (Some text.now)) }
+    ensures refused { IfErr result (IsVersionRefusal Specifier text.now) }
+{
+    match VersionReq::parse_from_specifier(alloc, text) {
+        Ok(req) => Ok(req),
+        Err(error) if error.is_memory() => Err(PackageReqPartsParseError::Memory),
+        Err(error) => Err(PackageReqPartsParseError::SpecifierVersionReq(error)),
+    }
+}
+
+// The requirement that npm's reader reads.
+fn loose(alloc: Global, text: &str) -> Result<VersionReq, PackageReqPartsParseError>
+    ensures read { IfOk result (IsVersionReq Npm (Some text.now)) }
+    ensures refused { IfErr result (IsVersionRefusal Npm text.now) }
+{
+    match VersionReq::parse_from_npm(alloc, text) {
+        Ok(req) => Ok(req),
+        Err(error) if error.is_memory() => Err(PackageReqPartsParseError::Memory),
+        Err(error) => Err(PackageReqPartsParseError::NpmVersionReq(error)),
+    }
+}
+
+// The requirement that the normalized reader reads.
+fn normalized(alloc: Global, text: &str) -> Result<VersionReq, PackageReqPartsParseError>
+    ensures read { IfOk result (IsVersionReq Normal (Some text.now)) }
+    ensures refused { IfErr result (IsVersionRefusal Normal text.now) }
+{
+    match VersionReq::parse_from_normalized(alloc, text) {
+        Ok(req) => Ok(req),
+        Err(error) if error.is_memory() => Err(PackageReqPartsParseError::Memory),
+        Err(error) => Err(PackageReqPartsParseError::NormalizedVersionReq(error)),
+    }
+}
+
+// The requirement that the reader of a flavour reads.
+fn version_req(
+    alloc: Global,
+    text: &str,
+    flavour: Flavour,
+) -> Result<VersionReq, PackageReqPartsParseError>
+    ensures read { IfOk result (IsVersionReq flavour (Some text.now)) }
+    ensures refused { IfErr result (IsVersionRefusal flavour text.now) }
+{
+    match flavour {
+        Flavour::Npm => loose(alloc, text),
+        Flavour::Normal => normalized(alloc, text),
+        Flavour::Specifier => strict(alloc, text),
+    }
+}
+
+// The same, and the requirement of any version where there is no text.
+fn version_req_or_any(
+    alloc: Global,
+    text: Option<&str>,
+    flavour: Flavour,
+) -> Result<VersionReq, PackageReqPartsParseError>
+    ensures read { IfOk result (IsVersionReq flavour (option_copied text.entry)) }
+    ensures refused { IfErr result (IsPartsRefusal flavour (option_copied text.entry)) }
+{
+    match text {
+        Some(text) => version_req(alloc, text, flavour),
+        None => match wildcard_version_req(alloc) {
+            Ok(req) => Ok(req),
+            Err(_) => Err(PackageReqPartsParseError::Memory),
+        },
+    }
+}
+
+// The name, with the scope and `/` before it where there is one.
+fn full_name(alloc: Global, scope: Option<&str>, name: &str) -> Result<PackageName, AllocError>
+    ensures { IfOk result (λ full. full ≡ scoped_name (option_copied scope.entry) name.now) }
+{
+    let Some(scope) = scope else {
+        return PackageName::from_str(alloc, name);
+    };
+    let mut full = PackageName::from_str(alloc, scope)?;
+    full.push_str("/")?;
+    full.push_str(name)?;
+    Ok(full)
+}
+
+// The error that shows a path with the `/` before it.
+fn path_error(alloc: Global, tail: &str) -> PackageReqPartsParseError
+    ensures { IsPathError tail.now result }
+{
+    let source = ParseFailure::with_texts(alloc, "Unexpected character '/'", Some(tail));
+    if source.is_memory() {
+        return PackageReqPartsParseError::Memory;
+    }
+    PackageReqPartsParseError::SpecifierVersionReq(VersionReqSpecifierParseError { source })
+}
+
+// The requirement of a package, or what is wrong first.
+fn read(
+    alloc: Global,
+    text: &str,
+    flavour: Flavour,
+) -> Result<PackageReq, PackageReqPartsParseError>
+    ensures { IsReadPackage flavour text.now result }
+{
+    let cut = match parts_of(text) {
+        Ok(cut) => cut,
+        Err(error) => return Err(error),
+    };
+    let version_req = match version_req_or_any(alloc, cut.version, flavour) {
+        Ok(req) => req,
+        Err(error) => return Err(error),
+    };
+    if !cut.path.is_empty() {
+        return Err(path_error(alloc, cut.tail));
+    }
+    match full_name(alloc, cut.scope, cut.name) {
+        Ok(name) => Ok(PackageReq { name, version_req }),
+        Err(_) => Err(PackageReqPartsParseError::Memory),
+    }
+}
+
+// The error with the whole text, or want of memory where there is none for it.
+fn whole_error(alloc: Global, text: &str, source: PackageReqPartsParseError) -> PackageReqParseError
+    ensures { IsWantOfMemory result ⊎ TellsSource text.now source result }
+{
+    if source.is_memory() {
+        return PackageReqParseError::memory(alloc);
+    }
+    let Ok(whole) = StackString::from_str(alloc, text) else {
+        return PackageReqParseError::memory(alloc);
+    };
+    let source = if lacks_at(text) {
+        PackageReqPartsParseError::MissingAtSymbol
+    } else {
+        source
+    };
+    PackageReqParseError {
+        text: whole,
+        source,
+    }
+}
+
+/// The requirement of a package that a text is, where the reader of a flavour reads its version.
+pub(crate) fn package_req(
+    alloc: Global,
+    text: &str,
+    flavour: Flavour,
+) -> Result<PackageReq, PackageReqParseError>
+    ensures read { IfOk result (λ req. IsPackageOutcome flavour text.now (Ok req)) }
+    ensures refused { IfErr result (IsPackageRefusal flavour text.now) }
+    ensures answer { (outcome : Result PackageReq Fault) → IsPackageOutcome flavour text.now outcome → IsPackageAnswer flavour text.now outcome result }
+{
+    match read(alloc, text, flavour) {
+        Ok(req) => Ok(req),
+        Err(source) => Err(whole_error(alloc, text, source)),
+    }
+}
