@@ -1,6 +1,6 @@
 use Rattle.std.specs.Prelude.{List, ℕ, codes}
 use Rattle.conformance.specs.declared.call.Call.{Call}
-use Rattle.conformance.specs.declared.call.Call.TheVariants.{Text, Items, Failure, SameFailure, Refusal, Range, SameRange, TagRequirement, Version, NpmVersion, Equal, Compare, Precedence, Identifiers, Tag, Requirement, SameRequirement, Ranges, Fits, Overlap, Error, Satisfies, SetSatisfies, Admits, Clamp, ClampStart, ClampEnd, IsNone, IntersectsVersion, IntersectsRange, IntersectsSet, Partial, PartialAt, QualifierAt, SignAt, ComparatorAt, OperatorAt, Made, Pushed, Replaced, Grown, Written, Normal, Reread, Pinned, NameVersion}
+use Rattle.conformance.specs.declared.call.Call.TheVariants.{Text, Items, Failure, SameFailure, Refusal, Range, SameRange, TagRequirement, Version, NpmVersion, Equal, Compare, Precedence, Identifiers, Tag, Requirement, SameRequirement, Ranges, Fits, Overlap, Error, Satisfies, SetSatisfies, Admits, Clamp, ClampStart, ClampEnd, IsNone, IntersectsVersion, IntersectsRange, IntersectsSet, Partial, PartialAt, QualifierAt, SignAt, ComparatorAt, OperatorAt, Made, Pushed, Replaced, Grown, Written, Normal, Reread, Pinned, NameVersion, Package, PackageError, Order}
 
 -- the first word of a question that asks the call
 abbrev pub name_of : Call → List ℕ
@@ -50,3 +50,6 @@ name_of Normal = codes "normal"
 name_of Reread = codes "reread"
 name_of Pinned = codes "pinned"
 name_of NameVersion = codes "name-version"
+name_of Package = codes "package"
+name_of PackageError = codes "package-error"
+name_of Order = codes "order"

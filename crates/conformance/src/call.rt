@@ -56,11 +56,14 @@ pub enum Call {
     Reread,
     Pinned,
     NameVersion,
+    Package,
+    PackageError,
+    Order,
 }
 
 impl Call {
     /// All calls, in the order in which they are counted.
-    pub const ALL: [Call; 46] = [
+    pub const ALL: [Call; 49] = [
         Call::Text,
         Call::Items,
         Call::Failure,
@@ -107,6 +110,9 @@ impl Call {
         Call::Reread,
         Call::Pinned,
         Call::NameVersion,
+        Call::Package,
+        Call::PackageError,
+        Call::Order,
     ];
 
     /// The first word of a question that asks the call.
@@ -160,6 +166,9 @@ impl Call {
             Call::Reread => "reread",
             Call::Pinned => "pinned",
             Call::NameVersion => "name-version",
+            Call::Package => "package",
+            Call::PackageError => "package-error",
+            Call::Order => "order",
         }
     }
 
@@ -219,6 +228,9 @@ impl Call {
             Call::Reread => requirements::reread(alloc, words),
             Call::Pinned => requirements::pinned(alloc, words),
             Call::NameVersion => packages::name_version(alloc, words),
+            Call::Package => packages::package(alloc, words),
+            Call::PackageError => packages::package_error(alloc, words),
+            Call::Order => packages::order(alloc, words),
         }
     }
 }

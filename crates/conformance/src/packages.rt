@@ -1,8 +1,98 @@
-//! Packages: names with versions.
+//! Packages: requirements of them, and names with versions.
 
 use crate::words::{Answer, Fault, Word, answer};
-use deno_semver::package::PackageNv;
+use deno_semver::package::{PackageNv, PackageReq, PackageReqParseError, PackageReqPartsParseError};
 use std::alloc::Global;
+use std::cmp::Ordering;
+
+// The requirement that the reader of this name makes of the text of a package.
+fn read(
+    alloc: Global,
+    reader: &str,
+    text: &str,
+) -> Result<Result<PackageReq, PackageReqParseError>, Fault> {
+    match reader {
+        "strict" => Ok(PackageReq::from_str(alloc, text)),
+        "loose" => Ok(PackageReq::from_str_loose(alloc, text)),
+        "normalized" => Ok(PackageReq::from_str_normalized(alloc, text)),
+        _ => Err(Fault::Unreadable),
+    }
+}
+
+// The kind of an error.
+fn kind(error: &PackageReqPartsParseError) -> Result<&'static str, Fault> {
+    match error {
+        PackageReqPartsParseError::NoPackageName => Ok("NoPackageName"),
+        PackageReqPartsParseError::InvalidPackageName => Ok("InvalidPackageName"),
+        PackageReqPartsParseError::MissingAtSymbol => Ok("MissingAtSymbol"),
+        PackageReqPartsParseError::SpecifierVersionReq(_) => Ok("SpecifierVersionReq"),
+        PackageReqPartsParseError::NpmVersionReq(_) => Ok("NpmVersionReq"),
+        PackageReqPartsParseError::NormalizedVersionReq(_) => Ok("NormalizedVersionReq"),
+        PackageReqPartsParseError::Memory => Err(Fault::OutOfMemory),
+    }
+}
+
+// What is told of a requirement that was read.
+fn told(alloc: Global, req: &PackageReq) -> Answer {
+    let normal = req.to_string_normalized(alloc)?;
+    let displayed = format!(in alloc; "{req}")?;
+    answer(
+        alloc,
+        &[
+            Some("read"),
+            Some(req.name.as_str()),
+            Some(req.version_req.version_text()),
+            Some(normal.as_str()),
+            Some(displayed.as_str()),
+        ],
+    )
+}
+
+/// `package`, `strict`, `loose` or `normalized`, and the text of a package: `read`, the name, the text of the requirement
+/// of versions, and the requirement with its normal text and as it is displayed; or `refused` and the kind of the error.
+pub fn package(alloc: Global, words: &[Word<'_>]) -> Answer {
+    let [Some(reader), Some(text)] = words else {
+        return Err(Fault::Unreadable);
+    };
+    match read(alloc, reader, text)? {
+        Ok(req) => told(alloc, &req.copy()?),
+        Err(error) => answer(alloc, &[Some("refused"), Some(kind(&error.copy()?.source)?)]),
+    }
+}
+
+/// `package-error`, a reader as above, and the text of a package that is refused: the lines of the error and of its source.
+pub fn package_error(alloc: Global, words: &[Word<'_>]) -> Answer {
+    let [Some(reader), Some(text)] = words else {
+        return Err(Fault::Unreadable);
+    };
+    let error = read(alloc, reader, text)?.err().ok_or(Fault::Unreadable)?;
+    let line = format!(in alloc; "{error}")?;
+    let source = &error.source;
+    let inner = format!(in alloc; "{source}")?;
+    answer(alloc, &[Some(line.as_str()), Some(inner.as_str())])
+}
+
+// The requirement of a package that npm's reader reads.
+fn loose(alloc: Global, text: &str) -> Result<PackageReq, Fault> {
+    match PackageReq::from_str_loose(alloc, text) {
+        Ok(req) => Ok(req),
+        Err(error) if error.is_memory() => Err(Fault::OutOfMemory),
+        Err(_) => Err(Fault::Unreadable),
+    }
+}
+
+/// `order`, two texts of packages, by npm's reader: how the first requirement compares to the second.
+pub fn order(alloc: Global, words: &[Word<'_>]) -> Answer {
+    let [Some(one), Some(other)] = words else {
+        return Err(Fault::Unreadable);
+    };
+    let word = match loose(alloc, one)?.cmp(&loose(alloc, other)?) {
+        Ordering::Less => "less",
+        Ordering::Equal => "equal",
+        Ordering::Greater => "greater",
+    };
+    answer(alloc, &[Some(word)])
+}
 
 /// `name-version`, a text: `read`, the name, the version, the scope or null, how it is displayed, and the name with the
 /// normal text of the requirement that it is turned into; or `refused` and the message.
