@@ -6,6 +6,7 @@ use Rattle.std.specs.Str.{trim}
 use Rattle.npmver.specs.Question.{ByReader, IsAnswer, IsAsked, IsFit, IsForm, IsMeeting, IsNormal, IsReader, NoReader, a_tag, allowance_of, asks_fits, asks_meet, asks_normal, asks_nothing, by, by_none, form_fits, form_meet, form_normal, no_normal_text, no_one, no_other, no_requirement, no_version, normal_text, npm, normal, overlap, ranges, strict, yes_or_no}
 use Rattle.npmver.specs.Told.{ATag, IsProper, OutOfMemory, Refused, Text, Told, Usage, failure_of, problem_of, told_answer, told_by, told_problem}
 use Rattle.npmver.specs.declared.Answer.{Answer}
+use Rattle.npmver.specs.declared.Answer.TheVariants as answer
 use Rattle.npmver.specs.declared.Problem.{Problem}
 use Rattle.npmver.specs.declared.Problem.TheVariants as problem
 use Rattle.semver_base.specs.Comparators.{Comparator}
@@ -69,10 +70,11 @@ not_refused f text req h p = cc (h.answer outcome.Refused p)
 
 -- the answer to a refused requirement, where a refusal is what is asked
 unread : (Asked : Told → Type 0) (f : Flavour) (text : List ℕ) (p : Problem) → IsReaderAnswer failure_of f text (Err p) → IsProper p
-    → (IsOutcome f text outcome.Refused → Asked Refused) → ((told : Told) → Asked told → (failure_of p ≡ None) ⊎ (told ≡ Refused)) → IsAnswer Asked (Err p)
-unread Asked f text p h proper refused others = record {
+    → (IsOutcome f text outcome.Refused → Asked Refused) → ((told : Told) → Asked told → (failure_of p ≡ None) ⊎ (told ≡ Refused)) → (Asked Usage → ⊥) → IsAnswer Asked (Err p)
+unread Asked f text p h proper refused others never = record {
   tells = go (told_proper p proper) h.refused;
   every = λ told a. told_so told (told_proper p proper) (others told a);
+  usage = λ a. absurd (never a);
 }
   where
     go : (told_problem p ≡ OutOfMemory) ⊎ (told_problem p ≡ Refused) → (failure_of p ≡ None) ⊎ IsOutcome f text outcome.Refused
@@ -87,11 +89,41 @@ unread Asked f text p h proper refused others = record {
     told_so told (inr e) (inl none) = inl (told_wanting p proper none)
     told_so told (inr e) (inr is) = inr (e ∙ sym is)
 
+-- ---- the usage is no answer to a question
+
+answer_usage : (a : Answer) → told_answer a ≡ Usage → ⊥
+answer_usage answer.Yes e = cc e
+answer_usage answer.No e = cc e
+answer_usage (answer.Tag tag) e = cc e
+answer_usage (answer.Text text) e = cc e
+
+fit_usage : {f : Flavour} {requirement version : List ℕ} (told : Told) → told ≡ Usage → IsFit f requirement version told → ⊥
+fit_usage told e (ranges tree v o q) = answer_usage (yes_or_no (tree_means (tree_ranges tree) v)) e
+fit_usage told e (a_tag o q) = cc e
+fit_usage told e (no_requirement o) = cc e
+fit_usage told e (no_version q) = cc e
+
+normal_usage : {f : Flavour} {requirement : List ℕ} (told : Told) → told ≡ Usage → IsNormal f requirement told → ⊥
+normal_usage told e (normal_text read k) = cc e
+normal_usage told e (no_normal_text o) = cc e
+
+meeting_usage : {one other : List ℕ} (told : Told) → told ≡ Usage → IsMeeting one other told → ⊥
+meeting_usage told e (overlap read others k l) = answer_usage (yes_or_no (inner_overlap read others)) e
+meeting_usage told e (no_one o) = cc e
+meeting_usage told e (no_other o) = cc e
+
+-- want of memory while a question is answered
+wanting : (Asked : Told → Type 0) → (Asked Usage → ⊥) → IsAnswer Asked (Err problem.OutOfMemory)
+wanting Asked never = record { tells = inl refl; every = λ told a. inl refl; usage = λ a. absurd (never a) }
+
 -- ---- fits
 
 module _ (f : Flavour) (requirement version : List ℕ) where
+  pub fits_wanting : IsAnswer (IsFit f requirement version) (Err problem.OutOfMemory)
+  fits_wanting = wanting (IsFit f requirement version) (fit_usage Usage refl)
+
   pub fits_unread : (p : Problem) → IsReaderAnswer failure_of f requirement (Err p) → IsProper p → IsAnswer (IsFit f requirement version) (Err p)
-  fits_unread p h proper = unread (IsFit f requirement version) f requirement p h proper no_requirement others
+  fits_unread p h proper = unread (IsFit f requirement version) f requirement p h proper no_requirement others (fit_usage Usage refl)
     where
       others : (told : Told) → IsFit f requirement version told → (failure_of p ≡ None) ⊎ (told ≡ Refused)
       others told (ranges tree v o q) = inl (h.answer (Ranges tree) o)
@@ -105,6 +137,7 @@ module _ (f : Flavour) (requirement version : List ℕ) where
   fits_no_version failure refused none_of = record {
     tells = go (told_proper (problem_of failure) (of_failure failure)) refused;
     every = λ told a. every told (told_proper (problem_of failure) (of_failure failure)) a;
+    usage = λ a. absurd (fit_usage Usage refl a);
   }
     where
       wanting : failure ≡ None → told_problem (problem_of failure) ≡ OutOfMemory
@@ -144,6 +177,7 @@ module _ (f : Flavour) (requirement version : List ℕ) where
   fits_read req v h q only never result is = subst (λ a. IsAnswer (IsFit f requirement version) (Ok a)) (sym is) (record {
     tells = inr (tells h.outcome.outcome h.outcome.is_outcome h.outcome.is_read);
     every = λ told a. inr (every told a);
+    usage = λ a. absurd (fit_usage Usage refl a);
   })
     where
       tells : (o : Outcome) → IsOutcome f requirement o → IsRead f o req.inner → IsFit f requirement version (told_answer (allowance_of req.inner v))
@@ -160,8 +194,11 @@ module _ (f : Flavour) (requirement version : List ℕ) where
 -- ---- normal
 
 module _ (f : Flavour) (requirement : List ℕ) where
+  pub normal_wanting : IsAnswer (IsNormal f requirement) (Err problem.OutOfMemory)
+  normal_wanting = wanting (IsNormal f requirement) (normal_usage Usage refl)
+
   pub normal_unread : (p : Problem) → IsReaderAnswer failure_of f requirement (Err p) → IsProper p → IsAnswer (IsNormal f requirement) (Err p)
-  normal_unread p h proper = unread (IsNormal f requirement) f requirement p h proper no_normal_text others
+  normal_unread p h proper = unread (IsNormal f requirement) f requirement p h proper no_normal_text others (normal_usage Usage refl)
     where
       others : (told : Told) → IsNormal f requirement told → (failure_of p ≡ None) ⊎ (told ≡ Refused)
       others told (normal_text read k) = inl (reading_wanting f requirement p h read k)
@@ -172,6 +209,7 @@ module _ (f : Flavour) (requirement : List ℕ) where
   normal_read req h result is = record {
     tells = inr (subst (IsNormal f requirement) (sym is) (normal_text req.inner h.outcome));
     every = λ told a. inr (is ∙ every told a);
+    usage = λ a. absurd (normal_usage Usage refl a);
   }
     where
       every : (told : Told) → IsNormal f requirement told → Text (inner_text req.inner) ≡ told
@@ -182,7 +220,7 @@ module _ (f : Flavour) (requirement : List ℕ) where
 
 module _ (one other : List ℕ) where
   pub meet_no_one : (p : Problem) → IsReaderAnswer failure_of Npm one (Err p) → IsProper p → IsAnswer (IsMeeting one other) (Err p)
-  meet_no_one p h proper = unread (IsMeeting one other) Npm one p h proper no_one others
+  meet_no_one p h proper = unread (IsMeeting one other) Npm one p h proper no_one others (meeting_usage Usage refl)
     where
       others : (told : Told) → IsMeeting one other told → (failure_of p ≡ None) ⊎ (told ≡ Refused)
       others told (overlap read reads k l) = inl (reading_wanting Npm one p h read k)
@@ -190,7 +228,7 @@ module _ (one other : List ℕ) where
       others told (no_other o) = inr refl
 
   pub meet_no_other : (p : Problem) → IsReaderAnswer failure_of Npm other (Err p) → IsProper p → IsAnswer (IsMeeting one other) (Err p)
-  meet_no_other p h proper = unread (IsMeeting one other) Npm other p h proper no_other others
+  meet_no_other p h proper = unread (IsMeeting one other) Npm other p h proper no_other others (meeting_usage Usage refl)
     where
       others : (told : Told) → IsMeeting one other told → (failure_of p ≡ None) ⊎ (told ≡ Refused)
       others told (overlap read reads k l) = inl (reading_wanting Npm other p h reads l)
@@ -202,6 +240,7 @@ module _ (one other : List ℕ) where
   meet_read req others h i result is = subst (λ a. IsAnswer (IsMeeting one other) (Ok a)) (sym is) (record {
     tells = inr (overlap req.inner others.inner h.outcome i.outcome);
     every = λ told a. inr (every told a);
+    usage = λ a. absurd (meeting_usage Usage refl a);
   })
     where
       every : (told : Told) → IsMeeting one other told → told_answer (yes_or_no (inner_overlap req.inner others.inner)) ≡ told
@@ -231,6 +270,7 @@ module _ (name : List ℕ) (Asked : Flavour → Told → Type 0) where
   by_reader f r result h = record {
     tells = tells h.tells;
     every = every;
+    usage = usage;
   }
     where
       tells : (told_by result ≡ OutOfMemory) ⊎ Asked f (told_by result) → (told_by result ≡ OutOfMemory) ⊎ ByReader name Asked (told_by result)
@@ -240,9 +280,12 @@ module _ (name : List ℕ) (Asked : Flavour → Told → Type 0) where
       every : (told : Told) → ByReader name Asked told → (told_by result ≡ OutOfMemory) ⊎ (told_by result ≡ told)
       every told (by {f = g} s a) = h.every told (subst (λ (x : Flavour). Asked x told) (one_reader name g f s r) a)
       every told (by_none n) = absurd (n f r)
+      usage : ByReader name Asked Usage → told_by result ≡ Usage
+      usage (by {f = g} s a) = h.usage (subst (λ (x : Flavour). Asked x Usage) (one_reader name g f s r) a)
+      usage (by_none n) = absurd (n f r)
 
   pub by_no_reader : NoReader name → IsAnswer (ByReader name Asked) (Err problem.Usage)
-  by_no_reader n = record { tells = inr (by_none n); every = every }
+  by_no_reader n = record { tells = inr (by_none n); every = every; usage = λ a. refl }
     where
       every : (told : Told) → ByReader name Asked told → (Usage ≡ OutOfMemory) ⊎ (Usage ≡ told)
       every told (by {f = f} r a) = absurd (n f r)
@@ -256,6 +299,7 @@ same_answer : (Asked Others : Told → Type 0) → ((told : Told) → Asked told
 same_answer Asked Others to from result h = record {
   tells = go h.tells;
   every = λ told a. h.every told (from told a);
+  usage = λ a. h.usage (from Usage a);
 }
   where
     go : (told_by result ≡ OutOfMemory) ⊎ Asked (told_by result) → (told_by result ≡ OutOfMemory) ⊎ Others (told_by result)
@@ -324,7 +368,7 @@ three_meet command one other is result h = same_answer _ (IsAsked (of_three comm
 
 -- words of no form are told the usage
 pub no_form : (words : List (List ℕ)) → (IsForm words → ⊥) → IsAnswer (IsAsked words) (Err problem.Usage)
-no_form words n = record { tells = inr (asks_nothing n); every = every }
+no_form words n = record { tells = inr (asks_nothing n); every = every; usage = λ a. refl }
   where
     every : (told : Told) → IsAsked words told → (Usage ≡ OutOfMemory) ⊎ (Usage ≡ told)
     every told (asks_fits e a) = absurd (n (form_fits e))

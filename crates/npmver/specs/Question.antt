@@ -89,7 +89,9 @@ pub data IsAsked (words : List (List ℕ)) : Told → Type 0 where
   asks_meet : {one other : List ℕ} {told : Told} → words ≡ codes "meet" ∷ one ∷ other ∷ [] → IsMeeting one other told → IsAsked words told
   asks_nothing : (IsForm words → ⊥) → IsAsked words Usage
 
--- the result tells what is asked, and whatever is asked is what it tells, want of memory aside
+-- the result tells what is asked, and whatever is asked is what it tells, want of memory aside; the usage is told
+-- whatever memory is left
 pub record IsAnswer (Asked : Told → Type 0) (result : Result Answer Problem) : Type 0 where
   pub tells : (told_by result ≡ OutOfMemory) ⊎ Asked (told_by result)
   pub every : (told : Told) → Asked told → (told_by result ≡ OutOfMemory) ⊎ (told_by result ≡ told)
+  pub usage : Asked Usage → told_by result ≡ Usage
