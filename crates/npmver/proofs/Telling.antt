@@ -3,8 +3,8 @@ use Rattle.std.proofs.Common.{◌≡◌, ◌==◌, ℕ, false, length, get_or, L
 use Rattle.std.specs.Prelude.{◌⊎◌, codes, slice_index}
 use Rattle.std.proofs.lemmas.Bool.{eq-eqb}
 use Rattle.std.specs.Str.{trim}
-use Rattle.npmver.specs.Question.{ByReader, IsAnswer, IsAsked, IsFit, IsForm, IsMeeting, IsNormal, IsReader, NoReader, a_tag, allowance_of, asks_fits, asks_meet, asks_normal, asks_nothing, by, by_none, form_fits, form_meet, form_normal, no_normal_text, no_one, no_other, no_requirement, no_version, normal_text, npm, normal, overlap, ranges, strict, yes_or_no}
-use Rattle.npmver.specs.Told.{ATag, IsProper, OutOfMemory, Refused, Text, Told, Usage, failure_of, problem_of, told_answer, told_by, told_problem}
+use Rattle.npmver.specs.Question.{ByReader, IsAnswer, IsAsked, IsFit, IsForm, IsMeeting, IsNormal, IsReader, IsStatus, NoReader, a_tag, allowance_of, asks_fits, asks_meet, asks_normal, asks_nothing, by, by_none, form_fits, form_meet, form_normal, no_normal_text, no_one, no_other, no_requirement, no_version, normal_text, npm, normal, of_told, of_unwritten, of_wanting, overlap, ranges, strict, yes_or_no}
+use Rattle.npmver.specs.Told.{ATag, IsProper, OutOfMemory, Refused, Text, Told, Usage, failure_of, problem_of, status_of, told_answer, told_by, told_problem}
 use Rattle.npmver.specs.declared.Answer.{Answer}
 use Rattle.npmver.specs.declared.Answer.TheVariants as answer
 use Rattle.npmver.specs.declared.Problem.{Problem}
@@ -280,6 +280,7 @@ module _ (name : List ℕ) (Asked : Flavour → Told → Type 0) where
       every : (told : Told) → ByReader name Asked told → (told_by result ≡ OutOfMemory) ⊎ (told_by result ≡ told)
       every told (by {f = g} s a) = h.every told (subst (λ (x : Flavour). Asked x told) (one_reader name g f s r) a)
       every told (by_none n) = absurd (n f r)
+
       usage : ByReader name Asked Usage → told_by result ≡ Usage
       usage (by {f = g} s a) = h.usage (subst (λ (x : Flavour). Asked x Usage) (one_reader name g f s r) a)
       usage (by_none n) = absurd (n f r)
@@ -391,3 +392,26 @@ pub other_count : (words : List (List ℕ)) → (length words ≡ 3 → ⊥) →
 other_count words three four (form_fits e) = four (same_length words _ e)
 other_count words three four (form_normal e) = three (same_length words _ e)
 other_count words three four (form_meet e) = three (same_length words _ e)
+
+-- ---- statuses
+
+no_wanting : (a : Answer) → told_answer a ≡ OutOfMemory → ⊥
+no_wanting answer.Yes e = cc e
+no_wanting answer.No e = cc e
+no_wanting (answer.Tag tag) e = cc e
+no_wanting (answer.Text text) e = cc e
+
+pub answer_status : (words : List (List ℕ)) (a : Answer) (s : ℕ) → IsAnswer (IsAsked words) (Ok a) → (s ≡ 6) ⊎ (s ≡ status_of (told_answer a)) → IsStatus words s
+answer_status words a s h is = go h.tells is
+  where
+    go : (told_answer a ≡ OutOfMemory) ⊎ IsAsked words (told_answer a) → (s ≡ 6) ⊎ (s ≡ status_of (told_answer a)) → IsStatus words s
+    go (inl e) k = absurd (no_wanting a e)
+    go (inr asked) (inl e) = subst (IsStatus words) (sym e) (of_unwritten a asked)
+    go (inr asked) (inr e) = subst (IsStatus words) (sym e) (of_told (told_answer a) asked)
+
+pub problem_status : (words : List (List ℕ)) (p : Problem) (s : ℕ) → IsAnswer (IsAsked words) (Err p) → s ≡ status_of (told_problem p) → IsStatus words s
+problem_status words p s h is = subst (IsStatus words) (sym is) (go h.tells)
+  where
+    go : (told_problem p ≡ OutOfMemory) ⊎ IsAsked words (told_problem p) → IsStatus words (status_of (told_problem p))
+    go (inl e) = subst (λ (t : Told). IsStatus words (status_of t)) (sym e) of_wanting
+    go (inr asked) = of_told (told_problem p) asked

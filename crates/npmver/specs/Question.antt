@@ -1,7 +1,7 @@
 -- What the words of a question ask, and what is told to them.
 use Rattle.std.specs.Prelude.{◌≡◌, ◌⊎◌, ℕ, List, [], ◌∷◌, Bool, true, false, Result, Ok, Err, codes}
 use Rattle.std.specs.Str.{trim}
-use Rattle.npmver.specs.Told.{Told, Refused, ATag, Text, Usage, OutOfMemory, told_answer, told_by}
+use Rattle.npmver.specs.Told.{Told, Refused, ATag, Text, Usage, OutOfMemory, status_of, told_answer, told_by}
 use Rattle.npmver.specs.declared.Answer.{Answer}
 use Rattle.npmver.specs.declared.Answer.TheVariants as answer
 use Rattle.npmver.specs.declared.Problem.{Problem}
@@ -95,3 +95,10 @@ pub record IsAnswer (Asked : Told → Type 0) (result : Result Answer Problem) :
   pub tells : (told_by result ≡ OutOfMemory) ⊎ Asked (told_by result)
   pub every : (told : Told) → Asked told → (told_by result ≡ OutOfMemory) ⊎ (told_by result ≡ told)
   pub usage : Asked Usage → told_by result ≡ Usage
+
+-- the exit status of these words: that of what they are told, or of want of memory, or 6 where an answer to them can't be
+-- written
+pub data IsStatus (words : List (List ℕ)) : ℕ → Type 0 where
+  of_told : (told : Told) → IsAsked words told → IsStatus words (status_of told)
+  of_wanting : IsStatus words (status_of OutOfMemory)
+  of_unwritten : (given : Answer) → IsAsked words (told_answer given) → IsStatus words 6

@@ -46,3 +46,13 @@ failure_of problem.OutOfMemory = None
 -- want of memory is told as that
 abbrev pub IsProper : Problem → Type 0
 IsProper problem = problem ≡ problem_of (failure_of problem)
+
+-- the exit status of what is told
+abbrev pub status_of : Told → ℕ
+status_of Yes = 0
+status_of No = 1
+status_of (ATag tag) = 2
+status_of (Text text) = 0
+status_of Refused = 3
+status_of Usage = 4
+status_of OutOfMemory = 5

@@ -9,10 +9,10 @@
 //! `out of memory` (5). The status is 6 where standard output can't be written.
 #![tactic(auto)]
 
-ghost use Rattle.std.specs.Prelude.{◌≡◌, ◌∷◌, [], IfErr, IfOk, MatchOption, None, map, string_bytes};
+ghost use Rattle.std.specs.Prelude.{◌≡◌, ◌⊎◌, ◌∷◌, [], IfErr, IfOk, MatchOption, None, map, string_bytes};
 ghost use Rattle.semver_req.specs.Readers.{IsReaderAnswer};
-ghost use Rattle.npmver.specs.Question.{ByReader, IsAnswer, IsAsked, IsFit, IsMeeting, IsNormal, IsReader, NoReader, allowance_of, flavour_of, yes_or_no};
-ghost use Rattle.npmver.specs.Told.{IsProper, failure_of, problem_of};
+ghost use Rattle.npmver.specs.Question.{ByReader, IsAnswer, IsAsked, IsFit, IsMeeting, IsNormal, IsReader, IsStatus, NoReader, allowance_of, flavour_of, yes_or_no};
+ghost use Rattle.npmver.specs.Told.{IsProper, failure_of, problem_of, status_of, told_answer, told_problem};
 
 use deno_semver::npm::NpmVersionReqParseError;
 use deno_semver::{
@@ -110,7 +110,9 @@ impl From<AllocError> for Problem {
 
 /// Answers the question that the words ask, as one line on `out`, or tells on `err` why there is no answer. Answers the
 /// exit status.
-pub fn run<O: Write, E: Write>(alloc: Global, words: &[String], out: &mut O, err: &mut E) -> u8 {
+pub fn run<O: Write, E: Write>(alloc: Global, words: &[String], out: &mut O, err: &mut E) -> u8
+    ensures { IsStatus (map string_bytes words.now) result }
+{
     match ask(alloc, words) {
         Ok(answer) => print(out, &answer),
         Err(problem) => explain(err, &problem),
@@ -256,7 +258,9 @@ fn meet(alloc: Global, one: &str, other: &str) -> Result<Answer, Problem>
 }
 
 // Prints an answer, and answers its status, or 6 where it can't be written.
-fn print<O: Write>(out: &mut O, answer: &Answer) -> u8 {
+fn print<O: Write>(out: &mut O, answer: &Answer) -> u8
+    ensures { (result ≡ 6) ⊎ (result ≡ status_of (told_answer answer.now)) }
+{
     let (written, status) = match answer {
         Answer::Yes => (writeln!(out, "yes"), 0),
         Answer::No => (writeln!(out, "no"), 1),
@@ -270,7 +274,9 @@ fn print<O: Write>(out: &mut O, answer: &Answer) -> u8 {
 }
 
 // Tells of a problem, and answers its status, which a failure to write doesn't change.
-fn explain<E: Write>(err: &mut E, problem: &Problem) -> u8 {
+fn explain<E: Write>(err: &mut E, problem: &Problem) -> u8
+    ensures { result ≡ status_of (told_problem problem.now) }
+{
     let (written, status) = match problem {
         Problem::Usage => (writeln!(err, "{USAGE}"), 4),
         Problem::Refused(failure) => (writeln!(err, "refused: {}", failure.message()), 3),
