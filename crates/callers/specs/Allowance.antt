@@ -1,11 +1,14 @@
 -- Whether a requirement allows a version, and what is answered of its text.
-use Rattle.std.specs.Prelude.{◌≡◌, ◌⊎◌, ℕ, List, Bool, true, false, None, Result, IfErr, IfOk, IsErr, MatchResult}
+use Rattle.std.specs.Prelude.{◌≡◌, ◌⊎◌, ℕ, List, Bool, true, false, None, Result, Ok, IfErr, IfOk, IsErr, MatchResult}
+use Rattle.std.specs.Str.{trim}
 use Rattle.callers.specs.declared.requirements.Allowance.{Allowance}
 use Rattle.callers.specs.declared.requirements.Allowance.TheVariants as answer
 use Rattle.semver_base.specs.Comparators.{Comparator}
 use Rattle.semver_base.specs.Meaning.{tree_means}
+use Rattle.semver_base.specs.VersionGrammar.{IsVersionOutcome, IsVersionRefusal}
 use Rattle.semver_base.specs.declared.version.Version.{Version}
-use Rattle.semver_req.specs.Outcome.{IsOutcome, Outcome, Ranges, Refused, Tag, tree_ranges}
+use Rattle.semver_req.specs.Outcome.{IsOutcome, Outcome, Ranges, Refused, Tag, tree_ranges, worked_on}
+use Rattle.semver_req.specs.PieceReading.{IsCutRefusal}
 use Rattle.semver_req.specs.Readers.{Failure}
 use Rattle.semver_req.specs.Requirement.{inner_means}
 use Rattle.semver_req.specs.declared.common.values.Flavour.{Flavour}
@@ -39,3 +42,13 @@ pub record IsAllowance {E : Type 0} (source : E → Failure) (f : Flavour) (text
   -- a text is refused where that is its outcome, and nowhere else, want of memory aside
   pub refused : IsOutcome f text Refused → IsErr result
   pub refused_only : IfErr result (λ e. (source e ≡ None) ⊎ IsOutcome f text Refused)
+
+-- for every tree of the one text and every version of the other: yes exactly where the tree means the version, want of
+-- memory aside
+abbrev pub AllowsText : Flavour → List ℕ → List ℕ → Result Allowance Failure → Type 0
+AllowsText f text version result = (tree : List (List Comparator)) (v : Version) → IsOutcome f text (Ranges tree) → IsVersionOutcome (trim version) (Ok v)
+    → MatchResult result (λ allowance. allowance ≡ yes_or_no (tree_means (tree_ranges tree) v)) (λ failure. failure ≡ None)
+
+-- why either text is refused: the requirement's first bad piece, or the version's first fault
+abbrev pub IsEitherRefusal : Flavour → List ℕ → List ℕ → Failure → Type 0
+IsEitherRefusal f text version failure = IsCutRefusal f (worked_on f text) failure ⊎ IsVersionRefusal (trim version) failure

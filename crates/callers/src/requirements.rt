@@ -5,11 +5,12 @@ ghost use Rattle.std.specs.Str.{trim};
 ghost use Rattle.semver_req.specs.PieceReading.{IsCutRefusal};
 ghost use Rattle.semver_req.specs.Strict.{IsStrictRefusal};
 ghost use Rattle.semver_req.specs.declared.common.values.Flavour.TheVariants.{Normal, Npm, Specifier};
-ghost use Rattle.callers.specs.Allowance.{IsAllowance, allowance_of, yes_or_no};
+ghost use Rattle.callers.specs.Allowance.{AllowsText, IsAllowance, IsEitherRefusal, allowance_of, yes_or_no};
 
-use deno_semver::npm::NpmVersionReqParseError;
+use deno_semver::npm::{NpmVersionReqParseError, parse_npm_version};
 use deno_semver::{
-    Version, VersionReq, VersionReqNormalizedParseError, VersionReqSpecifierParseError,
+    ParseFailure, Version, VersionReq, VersionReqNormalizedParseError,
+    VersionReqSpecifierParseError,
 };
 use std::alloc::Global;
 
@@ -82,4 +83,21 @@ pub fn allowed_by_specifier(
 {
     let requirement = VersionReq::parse_from_specifier(alloc, text)?;
     Ok(allowance_by(&requirement, version))
+}
+
+/// Is the version that one text is allowed by the requirement that the other is, both as npm reads them?
+///
+/// For every tree of comparators and the version of the texts it is exactly where the tree means the version. Otherwise
+/// the answer is the refusal of either text, or want of memory.
+pub fn text_allowed_by_npm(
+    alloc: Global,
+    requirement: &str,
+    version: &str,
+) -> Result<Allowance, ParseFailure>
+    ensures allows { AllowsText Npm requirement.now version.now result }
+    ensures refusal { IfErr result (IsEitherRefusal Npm requirement.now version.now) }
+{
+    let requirement = VersionReq::parse_from_npm(alloc, requirement)?;
+    let version = parse_npm_version(alloc, version)?;
+    Ok(allowance_by(&requirement, &version))
 }

@@ -9,6 +9,11 @@
 //! `out of memory` (5). The status is 6 where standard output can't be written.
 #![tactic(auto)]
 
+ghost use Rattle.std.specs.Prelude.{◌≡◌, ◌⊎◌, ◌∷◌, [], IfErr, IfOk, MatchOption, None, map, string_bytes};
+ghost use Rattle.semver_req.specs.Readers.{IsReaderAnswer};
+ghost use Rattle.npmver.specs.Question.{ByReader, IsAnswer, IsAsked, IsFit, IsMeeting, IsNormal, IsReader, IsStatus, NoReader, allowance_of, flavour_of, yes_or_no};
+ghost use Rattle.npmver.specs.Told.{IsProper, failure_of, problem_of, status_of, told_answer, told_problem};
+
 use deno_semver::npm::NpmVersionReqParseError;
 use deno_semver::{
     PackageTag, ParseFailure, Version, VersionParseError, VersionReq,
@@ -34,7 +39,9 @@ enum Answer {
 }
 
 impl Answer {
-    fn of(holds: bool) -> Answer {
+    fn of(holds: bool) -> Answer
+        ensures { result ≡ yes_or_no holds }
+    {
         if holds { Answer::Yes } else { Answer::No }
     }
 }
@@ -50,6 +57,8 @@ enum Problem {
 }
 
 impl From<ParseFailure> for Problem {
+    ghost from_gives = { λ failure problem. problem ≡ problem_of failure };
+
     fn from(failure: ParseFailure) -> Problem {
         if failure.is_memory() {
             Problem::OutOfMemory
@@ -60,30 +69,40 @@ impl From<ParseFailure> for Problem {
 }
 
 impl From<VersionReqSpecifierParseError> for Problem {
+    ghost from_gives = { λ error problem. problem ≡ problem_of error.source };
+
     fn from(error: VersionReqSpecifierParseError) -> Problem {
         Problem::from(error.source)
     }
 }
 
 impl From<VersionReqNormalizedParseError> for Problem {
+    ghost from_gives = { λ error problem. problem ≡ problem_of error.source };
+
     fn from(error: VersionReqNormalizedParseError) -> Problem {
         Problem::from(error.source)
     }
 }
 
 impl From<NpmVersionReqParseError> for Problem {
+    ghost from_gives = { λ error problem. problem ≡ problem_of error.source };
+
     fn from(error: NpmVersionReqParseError) -> Problem {
         Problem::from(error.source)
     }
 }
 
 impl From<VersionParseError> for Problem {
+    ghost from_gives = { λ error problem. problem ≡ problem_of error.source };
+
     fn from(error: VersionParseError) -> Problem {
         Problem::from(error.source)
     }
 }
 
 impl From<AllocError> for Problem {
+    ghost from_gives = { λ _ problem. problem ≡ problem_of None };
+
     fn from(_error: AllocError) -> Problem {
         Problem::OutOfMemory
     }
@@ -91,53 +110,157 @@ impl From<AllocError> for Problem {
 
 /// Answers the question that the words ask, as one line on `out`, or tells on `err` why there is no answer. Answers the
 /// exit status.
-pub fn run<O: Write, E: Write>(alloc: Global, words: &[String], out: &mut O, err: &mut E) -> u8 {
+pub fn run<O: Write, E: Write>(alloc: Global, words: &[String], out: &mut O, err: &mut E) -> u8
+    ensures { IsStatus (map string_bytes words.now) result }
+{
     match ask(alloc, words) {
         Ok(answer) => print(out, &answer),
         Err(problem) => explain(err, &problem),
     }
 }
 
-fn ask(alloc: Global, words: &[String]) -> Result<Answer, Problem> {
+// Answers the question that the words ask.
+fn ask(alloc: Global, words: &[String]) -> Result<Answer, Problem>
+    ensures { IsAnswer (IsAsked (map string_bytes words.now)) result }
+{
     match words {
-        [command, reader, requirement, version] if command.as_str() == "fits" => {
-            let requirement = read(alloc, reader.as_str(), requirement.as_str())?;
-            fits(alloc, &requirement, version.as_str())
-        }
-        [command, reader, requirement] if command.as_str() == "normal" => {
-            let requirement = read(alloc, reader.as_str(), requirement.as_str())?;
-            Ok(Answer::Text(requirement.to_string_normalized(alloc)?))
-        }
-        [command, one, other] if command.as_str() == "meet" => {
-            let one = VersionReq::parse_from_npm(alloc, one.as_str())?;
-            let other = VersionReq::parse_from_npm(alloc, other.as_str())?;
-            Ok(Answer::of(one.intersects(&other)))
-        }
+        [command, reader, requirement, version] => four(
+            alloc,
+            command.as_str(),
+            reader.as_str(),
+            requirement.as_str(),
+            version.as_str(),
+        ),
+        [command, one, other] => three(alloc, command.as_str(), one.as_str(), other.as_str()),
         _ => Err(Problem::Usage),
     }
 }
 
-// The requirement that the reader of this name makes of a text.
-fn read(alloc: Global, reader: &str, text: &str) -> Result<VersionReq, Problem> {
-    match reader {
-        "npm" => Ok(VersionReq::parse_from_npm(alloc, text)?),
-        "normal" => Ok(VersionReq::parse_from_normalized(alloc, text)?),
-        "strict" => Ok(VersionReq::parse_from_specifier(alloc, text)?),
+// Answers the question that four words ask.
+fn four(
+    alloc: Global,
+    command: &str,
+    reader: &str,
+    requirement: &str,
+    version: &str,
+) -> Result<Answer, Problem>
+    ensures { IsAnswer (IsAsked (command.now ∷ reader.now ∷ requirement.now ∷ version.now ∷ [])) result }
+{
+    match command {
+        "fits" => fits(alloc, reader, requirement, version),
         _ => Err(Problem::Usage),
     }
 }
 
-// Whether the version, which is read also where the requirement is a tag, matches the requirement.
-fn fits(alloc: Global, requirement: &VersionReq, version: &str) -> Result<Answer, Problem> {
-    let version = Version::parse_standard(alloc, version)?;
+// Answers the question that three words ask.
+fn three(alloc: Global, command: &str, one: &str, other: &str) -> Result<Answer, Problem>
+    ensures { IsAnswer (IsAsked (command.now ∷ one.now ∷ other.now ∷ [])) result }
+{
+    match command {
+        "normal" => normal(alloc, one, other),
+        "meet" => meet(alloc, one, other),
+        _ => Err(Problem::Usage),
+    }
+}
+
+/// A reader of requirements.
+#[derive(Clone, Copy)]
+enum Reader {
+    Npm,
+    Normal,
+    Strict,
+}
+
+impl Reader {
+    // The reader of this name.
+    fn named(name: &str) -> Option<Reader>
+        ensures { MatchOption result (NoReader name.now) (λ reader. IsReader name.now (flavour_of reader)) }
+    {
+        match name {
+            "npm" => Some(Reader::Npm),
+            "normal" => Some(Reader::Normal),
+            "strict" => Some(Reader::Strict),
+            _ => None,
+        }
+    }
+
+    // The requirement that the reader makes of a text.
+    fn read(self, alloc: Global, text: &str) -> Result<VersionReq, Problem>
+        ensures reads { IsReaderAnswer failure_of (flavour_of self) text.now result }
+        ensures proper { IfErr result IsProper }
+    {
+        match self {
+            Reader::Npm => Ok(VersionReq::parse_from_npm(alloc, text)?),
+            Reader::Normal => Ok(VersionReq::parse_from_normalized(alloc, text)?),
+            Reader::Strict => Ok(VersionReq::parse_from_specifier(alloc, text)?),
+        }
+    }
+
+    // Whether the version, which is read also where the requirement is a tag, matches the requirement.
+    fn fits(self, alloc: Global, requirement: &str, version: &str) -> Result<Answer, Problem>
+        ensures { IsAnswer (IsFit (flavour_of self) requirement.now version.now) result }
+    {
+        let requirement = self.read(alloc, requirement)?;
+        let version = Version::parse_standard(alloc, version)?;
+        Ok(allowance(alloc, &requirement, &version)?)
+    }
+
+    // The normal text of the requirement, or the tag.
+    fn normal(self, alloc: Global, requirement: &str) -> Result<Answer, Problem>
+        ensures { IsAnswer (IsNormal (flavour_of self) requirement.now) result }
+    {
+        let requirement = self.read(alloc, requirement)?;
+        Ok(Answer::Text(requirement.to_string_normalized(alloc)?))
+    }
+}
+
+// Whether the requirement allows the version, or which tag it is.
+fn allowance(
+    alloc: Global,
+    requirement: &VersionReq,
+    version: &Version,
+) -> Result<Answer, AllocError>
+    ensures { IfOk result (λ answer. answer ≡ allowance_of requirement.now.inner version.now) }
+{
     match requirement.tag() {
         Some(tag) => Ok(Answer::Tag(PackageTag::from_str(alloc, tag)?)),
-        None => Ok(Answer::of(requirement.matches(&version))),
+        None => Ok(Answer::of(requirement.matches(version))),
     }
+}
+
+// Whether the version matches the requirement that the reader of this name reads.
+fn fits(alloc: Global, reader: &str, requirement: &str, version: &str) -> Result<Answer, Problem>
+    ensures { IsAnswer (ByReader reader.now (λ f. IsFit f requirement.now version.now)) result }
+{
+    match Reader::named(reader) {
+        Some(reader) => reader.fits(alloc, requirement, version),
+        None => Err(Problem::Usage),
+    }
+}
+
+// The normal text of the requirement that the reader of this name reads.
+fn normal(alloc: Global, reader: &str, requirement: &str) -> Result<Answer, Problem>
+    ensures { IsAnswer (ByReader reader.now (λ f. IsNormal f requirement.now)) result }
+{
+    match Reader::named(reader) {
+        Some(reader) => reader.normal(alloc, requirement),
+        None => Err(Problem::Usage),
+    }
+}
+
+// Whether two requirements overlap, both as npm reads them.
+fn meet(alloc: Global, one: &str, other: &str) -> Result<Answer, Problem>
+    ensures { IsAnswer (IsMeeting one.now other.now) result }
+{
+    let one = Reader::Npm.read(alloc, one)?;
+    let other = Reader::Npm.read(alloc, other)?;
+    Ok(Answer::of(one.intersects(&other)))
 }
 
 // Prints an answer, and answers its status, or 6 where it can't be written.
-fn print<O: Write>(out: &mut O, answer: &Answer) -> u8 {
+fn print<O: Write>(out: &mut O, answer: &Answer) -> u8
+    ensures { (result ≡ 6) ⊎ (result ≡ status_of (told_answer answer.now)) }
+{
     let (written, status) = match answer {
         Answer::Yes => (writeln!(out, "yes"), 0),
         Answer::No => (writeln!(out, "no"), 1),
@@ -151,7 +274,9 @@ fn print<O: Write>(out: &mut O, answer: &Answer) -> u8 {
 }
 
 // Tells of a problem, and answers its status, which a failure to write doesn't change.
-fn explain<E: Write>(err: &mut E, problem: &Problem) -> u8 {
+fn explain<E: Write>(err: &mut E, problem: &Problem) -> u8
+    ensures { result ≡ status_of (told_problem problem.now) }
+{
     let (written, status) = match problem {
         Problem::Usage => (writeln!(err, "{USAGE}"), 4),
         Problem::Refused(failure) => (writeln!(err, "refused: {}", failure.message()), 3),

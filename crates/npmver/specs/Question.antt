@@ -1,0 +1,104 @@
+-- What the words of a question ask, and what is told to them.
+use Rattle.std.specs.Prelude.{◌≡◌, ◌⊎◌, ℕ, List, [], ◌∷◌, Bool, true, false, Result, Ok, Err, codes}
+use Rattle.std.specs.Str.{trim}
+use Rattle.npmver.specs.Told.{Told, Refused, ATag, Text, Usage, OutOfMemory, status_of, told_answer, told_by}
+use Rattle.npmver.specs.declared.Answer.{Answer}
+use Rattle.npmver.specs.declared.Answer.TheVariants as answer
+use Rattle.npmver.specs.declared.Problem.{Problem}
+use Rattle.npmver.specs.declared.Reader.{Reader}
+use Rattle.npmver.specs.declared.Reader.TheVariants as reader
+use Rattle.semver_base.specs.Comparators.{Comparator}
+use Rattle.semver_base.specs.Meaning.{tree_means}
+use Rattle.semver_base.specs.VersionGrammar.{IsVersionOutcome}
+use Rattle.semver_base.specs.declared.failure.Refusal.{Refusal}
+use Rattle.semver_base.specs.declared.version.Version.{Version}
+use Rattle.semver_req.specs.Outcome as outcome
+use Rattle.semver_req.specs.Outcome.{IsOutcome, Ranges, Tag, tree_ranges}
+use Rattle.semver_req.specs.Readers.{IsReading}
+use Rattle.semver_req.specs.Requirement.{inner_means, inner_overlap, inner_text}
+use Rattle.semver_req.specs.declared.common.values.Flavour.{Flavour}
+use Rattle.semver_req.specs.declared.common.values.Flavour.TheVariants.{Npm, Normal, Specifier}
+use Rattle.semver_req.specs.declared.range_set_or_tag.RangeSetOrTag.{RangeSetOrTag}
+use Rattle.semver_req.specs.declared.range_set_or_tag.RangeSetOrTag.TheVariants as inner
+
+abbrev pub yes_or_no : Bool → Answer
+yes_or_no true = answer.Yes
+yes_or_no false = answer.No
+
+-- a requirement of ranges allows what it means; a tag is answered as it is
+abbrev pub allowance_of : RangeSetOrTag → Version → Answer
+allowance_of (inner.RangeSet set) v = yes_or_no (inner_means (inner.RangeSet set) v)
+allowance_of (inner.Tag tag) v = answer.Tag tag
+
+-- ---- readers
+
+abbrev pub flavour_of : Reader → Flavour
+flavour_of reader.Npm = Npm
+flavour_of reader.Normal = Normal
+flavour_of reader.Strict = Specifier
+
+-- the reader of a name
+pub data IsReader (name : List ℕ) : Flavour → Type 0 where
+  npm : name ≡ codes "npm" → IsReader name Npm
+  normal : name ≡ codes "normal" → IsReader name Normal
+  strict : name ≡ codes "strict" → IsReader name Specifier
+
+abbrev pub NoReader : List ℕ → Type 0
+NoReader name = (f : Flavour) → IsReader name f → ⊥
+
+-- ---- what each question is told
+
+-- does the version fit the requirement: yes exactly where its comparators mean the version, or that it is a tag
+pub data IsFit (f : Flavour) (requirement version : List ℕ) : Told → Type 0 where
+  ranges : (tree : List (List Comparator)) (v : Version) → IsOutcome f requirement (Ranges tree) → IsVersionOutcome (trim version) (Ok v)
+      → IsFit f requirement version (told_answer (yes_or_no (tree_means (tree_ranges tree) v)))
+  a_tag : {name : List ℕ} {v : Version} → IsOutcome f requirement (Tag name) → IsVersionOutcome (trim version) (Ok v) → IsFit f requirement version (ATag name)
+  no_requirement : IsOutcome f requirement outcome.Refused → IsFit f requirement version Refused
+  no_version : {fault : Refusal} → IsVersionOutcome (trim version) (Err fault) → IsFit f requirement version Refused
+
+-- what is the normal text of the requirement
+pub data IsNormal (f : Flavour) (requirement : List ℕ) : Told → Type 0 where
+  normal_text : (read : RangeSetOrTag) → IsReading f requirement read → IsNormal f requirement (Text (inner_text read))
+  no_normal_text : IsOutcome f requirement outcome.Refused → IsNormal f requirement Refused
+
+-- do the two requirements overlap, as npm reads them
+pub data IsMeeting (one other : List ℕ) : Told → Type 0 where
+  overlap : (read others : RangeSetOrTag) → IsReading Npm one read → IsReading Npm other others → IsMeeting one other (told_answer (yes_or_no (inner_overlap read others)))
+  no_one : IsOutcome Npm one outcome.Refused → IsMeeting one other Refused
+  no_other : IsOutcome Npm other outcome.Refused → IsMeeting one other Refused
+
+-- what is asked of the reader of a name; of no reader, the usage
+pub data ByReader (name : List ℕ) (Asked : Flavour → Told → Type 0) : Told → Type 0 where
+  by : {f : Flavour} {told : Told} → IsReader name f → Asked f told → ByReader name Asked told
+  by_none : NoReader name → ByReader name Asked Usage
+
+-- ---- the words
+
+-- the three forms of questions
+pub data IsForm (words : List (List ℕ)) : Type 0 where
+  form_fits : {reader requirement version : List ℕ} → words ≡ codes "fits" ∷ reader ∷ requirement ∷ version ∷ [] → IsForm words
+  form_normal : {reader requirement : List ℕ} → words ≡ codes "normal" ∷ reader ∷ requirement ∷ [] → IsForm words
+  form_meet : {one other : List ℕ} → words ≡ codes "meet" ∷ one ∷ other ∷ [] → IsForm words
+
+-- what the words are told
+pub data IsAsked (words : List (List ℕ)) : Told → Type 0 where
+  asks_fits : {reader requirement version : List ℕ} {told : Told} → words ≡ codes "fits" ∷ reader ∷ requirement ∷ version ∷ []
+      → ByReader reader (λ f. IsFit f requirement version) told → IsAsked words told
+  asks_normal : {reader requirement : List ℕ} {told : Told} → words ≡ codes "normal" ∷ reader ∷ requirement ∷ []
+      → ByReader reader (λ f. IsNormal f requirement) told → IsAsked words told
+  asks_meet : {one other : List ℕ} {told : Told} → words ≡ codes "meet" ∷ one ∷ other ∷ [] → IsMeeting one other told → IsAsked words told
+  asks_nothing : (IsForm words → ⊥) → IsAsked words Usage
+
+-- the result tells what is asked, and whatever is asked is what it tells, want of memory aside; the usage is told
+-- whatever memory is left
+pub record IsAnswer (Asked : Told → Type 0) (result : Result Answer Problem) : Type 0 where
+  pub tells : (told_by result ≡ OutOfMemory) ⊎ Asked (told_by result)
+  pub every : (told : Told) → Asked told → (told_by result ≡ OutOfMemory) ⊎ (told_by result ≡ told)
+  pub usage : Asked Usage → told_by result ≡ Usage
+
+-- the exit status of these words: that of what they are told, or of want of memory, or 6 where an answer to them can't be
+-- written
+pub data IsStatus (words : List (List ℕ)) : ℕ → Type 0 where
+  of_told : (told : Told) → IsAsked words told → IsStatus words (status_of told)
+  of_wanting : IsStatus words (status_of OutOfMemory)
+  of_unwritten : (given : Answer) → IsAsked words (told_answer given) → IsStatus words 6
