@@ -17,7 +17,9 @@ use super::{PackageName, PackageReq};
 use semver_base::failure::Refusal;
 use semver_base::lexical::after;
 use semver_base::npm::NpmVersionParseError;
-use semver_base::string::{SmallStackString, StackString, StringAppendable, StringType};
+use semver_base::string::{
+    SmallStackString, StackString, StringAppendable, StringType, append_displayed,
+};
 use semver_base::version::Version;
 use semver_req::req::IntoVersionReq;
 use std::alloc::{AllocError, Global};
@@ -188,7 +190,8 @@ impl PackageNv {
         ensures read { IfOk result (λ nv. IsNvOutcome text.now (Ok nv)) }
         ensures reads_back { IfOk result NvReadsBack }
         ensures refused { IfErr result (IsNvRefusal text.now) }
-        ensures answer { (outcome : Result PackageNv Refusal) → IsNvOutcome text.now outcome → IsNvAnswer text.now outcome result }
+        ensures answer { (outcome : Result PackageNv Refusal) → IsNvOutcome text.now outcome
+            → IsNvAnswer text.now outcome result }
     {
         let Some(parts) = cut(text) else {
             return Err(told(alloc, Refusal::UnexpectedCharacter.message(), text));
@@ -257,8 +260,7 @@ impl StringAppendable for PackageNv {
     ghost text = { nv_text };
 
     fn append_to<T: StringType>(&self, alloc: Global, target: &mut T) -> Result<(), AllocError> {
-        let text = format!(in alloc; "{self}")?;
-        target.push_str(text.as_str())
+        append_displayed(self, alloc, target)
     }
 }
 

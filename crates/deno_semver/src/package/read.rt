@@ -165,7 +165,8 @@ pub(crate) fn package_req(
 ) -> Result<PackageReq, PackageReqParseError>
     ensures read { IfOk result (λ req. IsPackageOutcome flavour text.now (Ok req)) }
     ensures refused { IfErr result (IsPackageRefusal flavour text.now) }
-    ensures answer { (outcome : Result PackageReq Fault) → IsPackageOutcome flavour text.now outcome → IsPackageAnswer flavour text.now outcome result }
+    ensures answer { (outcome : Result PackageReq Fault) → IsPackageOutcome flavour text.now outcome
+        → IsPackageAnswer flavour text.now outcome result }
 {
     match read(alloc, text, flavour) {
         Ok(req) => Ok(req),
