@@ -7,7 +7,7 @@ pub mod PackageOutcome
 pub mod PackageReading
 pub mod PackageSteps
 pub mod PackageText
-pub mod RequirementOrder
+pub mod ReqOrder
+pub mod ReqOrderLaws
 pub mod RequirementText
-pub mod RequirementTies
 pub mod Ties

@@ -12,7 +12,6 @@ pub use errors::{PackageReqParseError, PackageReqPartsParseError};
 pub use kind::PackageKind;
 pub use name_version::{PackageNv, PackageNvParseError};
 pub use requirement::PackageReq;
-
 use semver_base::string::{SmallStackString, StackString};
 
 /// The name of a package, with its scope where it has one.

@@ -17,9 +17,7 @@ use super::{PackageName, PackageReq};
 use semver_base::failure::Refusal;
 use semver_base::lexical::after;
 use semver_base::npm::NpmVersionParseError;
-use semver_base::string::{
-    SmallStackString, StackString, StringAppendable, StringType, append_displayed,
-};
+use semver_base::string::{SmallStackString, StackString, StringAppendable, StringType};
 use semver_base::version::Version;
 use semver_req::req::IntoVersionReq;
 use std::alloc::{AllocError, Global};
@@ -260,7 +258,8 @@ impl StringAppendable for PackageNv {
     ghost text = { nv_text };
 
     fn append_to<T: StringType>(&self, alloc: Global, target: &mut T) -> Result<(), AllocError> {
-        append_displayed(self, alloc, target)
+        let text = format!(in alloc; "{self}")?;
+        target.push_str(text.as_str())
     }
 }
 

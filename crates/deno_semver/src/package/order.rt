@@ -1,81 +1,80 @@
-//! The order of package requirements.
+//! The order of requirements of packages.
 
 ghost use Rattle.std.specs.Prelude.{◌≡◌, refl};
 ghost use Rattle.std.specs.Cmp.Lexicographic.{slice_cmp};
 ghost use Rattle.std.specs.Ordering.{as_partial_cmp};
-ghost use Rattle.deno_semver.specs.RequirementOrder.{build_at, builds_cmp, end_cmp, inclusive_rank, inner_cmp, range_cmp, requirement_cmp, requirement_total, start_cmp};
-ghost use Rattle.deno_semver.specs.RequirementTies.{requirement_po, requirement_ties};
+ghost use Rattle.deno_semver.specs.ReqOrder.{bound_cmp, build_of, builds_cmp, end_cmp, inner_cmp, kind_place, range_cmp, req_cmp, start_cmp, text_cmp};
+ghost use Rattle.deno_semver.specs.ReqOrderLaws.{req_po, req_ties, req_total};
 
 use super::PackageReq;
-use semver_base::range::{RangeBound, VersionBoundKind, VersionRange};
+use semver_base::range::{RangeBound, VersionBound, VersionBoundKind, VersionRange};
 use semver_base::version::VersionPreOrBuild;
 use semver_req::range_set_or_tag::RangeSetOrTag;
 use std::cmp::Ordering;
 
-// An exclusive bound is below an inclusive one.
-fn inclusive_rank(kind: VersionBoundKind) -> u8
-    ensures { result ≡ inclusive_rank kind }
+// The place of a kind: an inclusive one first.
+fn kind_place(kind: VersionBoundKind) -> u8
+    ensures { result ≡ kind_place kind }
 {
     match kind {
-        VersionBoundKind::Exclusive => 0,
-        VersionBoundKind::Inclusive => 1,
+        VersionBoundKind::Inclusive => 0,
+        VersionBoundKind::Exclusive => 1,
     }
 }
 
-// An absent start comes last; else the higher version comes first, and then the exclusive start.
-fn cmp_starts(one: &RangeBound, other: &RangeBound) -> Ordering
-    ensures { result ≡ start_cmp one.now other.now }
+fn cmp_bounds(a: &VersionBound, b: &VersionBound) -> Ordering
+    ensures { result ≡ bound_cmp a.now b.now }
 {
-    match (one, other) {
+    a.version
+        .cmp_precedence(&b.version)
+        .then_with(|| kind_place(a.kind).cmp(&kind_place(b.kind)))
+}
+
+// The higher version first, and no start last.
+fn cmp_starts(a: &RangeBound, b: &RangeBound) -> Ordering
+    ensures { result ≡ start_cmp a.now b.now }
+{
+    match (a, b) {
         (RangeBound::Unbounded, RangeBound::Unbounded) => Ordering::Equal,
         (RangeBound::Unbounded, RangeBound::Version(_)) => Ordering::Greater,
         (RangeBound::Version(_), RangeBound::Unbounded) => Ordering::Less,
-        (RangeBound::Version(one), RangeBound::Version(other)) => other
-            .version
-            .cmp_precedence(&one.version)
-            .then(inclusive_rank(one.kind).cmp(&inclusive_rank(other.kind))),
+        (RangeBound::Version(a), RangeBound::Version(b)) => cmp_bounds(b, a),
     }
 }
 
-// An absent end comes last; else the lower version comes first, and then the inclusive end.
-fn cmp_ends(one: &RangeBound, other: &RangeBound) -> Ordering
-    ensures { result ≡ end_cmp one.now other.now }
+// The lower version first, and no end last.
+fn cmp_ends(a: &RangeBound, b: &RangeBound) -> Ordering
+    ensures { result ≡ end_cmp a.now b.now }
 {
-    match (one, other) {
+    match (a, b) {
         (RangeBound::Unbounded, RangeBound::Unbounded) => Ordering::Equal,
         (RangeBound::Unbounded, RangeBound::Version(_)) => Ordering::Greater,
         (RangeBound::Version(_), RangeBound::Unbounded) => Ordering::Less,
-        (RangeBound::Version(one), RangeBound::Version(other)) => one
-            .version
-            .cmp_precedence(&other.version)
-            .then(inclusive_rank(other.kind).cmp(&inclusive_rank(one.kind))),
+        (RangeBound::Version(a), RangeBound::Version(b)) => cmp_bounds(a, b),
     }
 }
 
-// The starts decide, and then the ends.
-#[tactic(auto, unfolding(crate::specs::RequirementOrder::range_cmp))]
-fn cmp_ranges(one: &VersionRange, other: &VersionRange) -> Ordering
-    ensures { result ≡ range_cmp one.now other.now }
+fn cmp_range(a: &VersionRange, b: &VersionRange) -> Ordering
+    ensures { result ≡ range_cmp a.now b.now }
 {
-    cmp_starts(&one.start, &other.start).then(cmp_ends(&one.end, &other.end))
+    cmp_starts(&a.start, &b.start).then_with(|| cmp_ends(&a.end, &b.end))
 }
 
-// Range by range; where one list ends first, it comes first.
-fn cmp_range_lists(one: &[VersionRange], other: &[VersionRange]) -> Ordering
-    ensures { result ≡ slice_cmp range_cmp one.now other.now }
+fn cmp_ranges(a: &[VersionRange], b: &[VersionRange]) -> Ordering
+    ensures { result ≡ slice_cmp range_cmp a.now b.now }
 {
-    for (x, y) in one.iter().zip(other) {
-        let ordering = cmp_ranges(x, y);
+    for (x, y) in a.iter().zip(b) {
+        let ordering = cmp_range(x, y);
         if ordering != Ordering::Equal {
             return ordering;
         }
     }
-    one.len().cmp(&other.len())
+    a.len().cmp(&b.len())
 }
 
-// The build of a bound's version; an absent bound has none.
-fn build_at(bound: &RangeBound) -> &[VersionPreOrBuild]
-    ensures { result.now ≡ build_at bound.now }
+// The build of the bound's version, if it has one.
+fn build_of(bound: &RangeBound) -> &[VersionPreOrBuild]
+    ensures { result.now ≡ build_of bound.now }
 {
     match bound {
         RangeBound::Unbounded => &[],
@@ -83,71 +82,68 @@ fn build_at(bound: &RangeBound) -> &[VersionPreOrBuild]
     }
 }
 
-fn cmp_builds(one: &VersionRange, other: &VersionRange) -> Ordering
-    ensures { result ≡ builds_cmp one.now other.now }
+fn cmp_build(a: &RangeBound, b: &RangeBound) -> Ordering
+    ensures { result ≡ slice_cmp text_cmp (build_of a.now) (build_of b.now) }
 {
-    build_at(&one.start)
-        .cmp(build_at(&other.start))
-        .then(build_at(&one.end).cmp(build_at(&other.end)))
+    build_of(a).cmp(build_of(b))
 }
 
-// The builds of the ranges, range by range.
-fn cmp_build_lists(one: &[VersionRange], other: &[VersionRange]) -> Ordering
-    ensures { result ≡ slice_cmp builds_cmp one.now other.now }
+fn cmp_range_builds(a: &VersionRange, b: &VersionRange) -> Ordering
+    ensures { result ≡ builds_cmp a.now b.now }
 {
-    for (x, y) in one.iter().zip(other) {
-        let ordering = cmp_builds(x, y);
+    cmp_build(&a.start, &b.start).then_with(|| cmp_build(&a.end, &b.end))
+}
+
+fn cmp_builds(a: &[VersionRange], b: &[VersionRange]) -> Ordering
+    ensures { result ≡ slice_cmp builds_cmp a.now b.now }
+{
+    for (x, y) in a.iter().zip(b) {
+        let ordering = cmp_range_builds(x, y);
         if ordering != Ordering::Equal {
             return ordering;
         }
     }
-    one.len().cmp(&other.len())
+    a.len().cmp(&b.len())
 }
 
-// A tag comes before ranges. Of two tags the greater text comes first; two sets are compared range by range, and then
-// by their builds.
-fn cmp_inner(one: &RangeSetOrTag, other: &RangeSetOrTag) -> Ordering
-    ensures { result ≡ inner_cmp one.now other.now }
+// A tag before ranges, and the greater of two tags first.
+fn cmp_inner(a: &RangeSetOrTag, b: &RangeSetOrTag) -> Ordering
+    ensures { result ≡ inner_cmp a.now b.now }
 {
-    match (one, other) {
-        (RangeSetOrTag::Tag(one), RangeSetOrTag::Tag(other)) => other.cmp(one),
+    match (a, b) {
+        (RangeSetOrTag::Tag(a), RangeSetOrTag::Tag(b)) => b.cmp(a),
         (RangeSetOrTag::Tag(_), RangeSetOrTag::RangeSet(_)) => Ordering::Less,
         (RangeSetOrTag::RangeSet(_), RangeSetOrTag::Tag(_)) => Ordering::Greater,
-        (RangeSetOrTag::RangeSet(one), RangeSetOrTag::RangeSet(other)) => {
-            let (one, other) = (one.0.iter().as_slice(), other.0.iter().as_slice());
-            cmp_range_lists(one, other).then_with(|| cmp_build_lists(one, other))
+        (RangeSetOrTag::RangeSet(a), RangeSetOrTag::RangeSet(b)) => {
+            let (a, b) = (a.0.iter().as_slice(), b.0.iter().as_slice());
+            cmp_ranges(a, b).then_with(|| cmp_builds(a, b))
         }
     }
 }
 
-/// Names by bytes, and then what the requirements stand for: a tag before ranges, and of two tags the one with the greater
-/// bytes first. Two sets are compared range by range, the starts and then the ends: an absent bound last; of two starts
-/// the higher version by precedence first, and then the exclusive one; of two ends the lower version first, and then the
-/// inclusive one. What is still equal is decided by the builds of the bounds, so that two requirements are equal in this
-/// order exactly where `==` says so. The texts that they were read from have no part. No memory is taken.
-///
-/// It is the order in which `deno_semver` sorts requirements; that builds decide at last is this port's own.
-impl Ord for PackageReq {
-    ghost cmp = { requirement_cmp };
-
-    ghost total = { requirement_total };
-
-    ghost matches_partial_cmp = { λ one other. refl };
-
-    ghost matches_eq = { requirement_ties };
-
-    fn cmp(&self, other: &PackageReq) -> Ordering {
-        let (one, others) = (self.version_req.inner(), other.version_req.inner());
-        self.name.cmp(&other.name).then_with(|| cmp_inner(one, others))
-    }
-}
-
 impl PartialOrd for PackageReq {
-    ghost partial_cmp = { as_partial_cmp requirement_cmp };
+    ghost partial_cmp = { as_partial_cmp req_cmp };
 
-    ghost laws = { requirement_po };
+    ghost laws = { req_po };
 
     fn partial_cmp(&self, other: &PackageReq) -> Option<Ordering> {
         Some(self.cmp(other))
+    }
+}
+
+impl Ord for PackageReq {
+    ghost cmp = { req_cmp };
+
+    ghost total = { req_total };
+
+    ghost matches_partial_cmp = { λ a b. refl };
+
+    ghost matches_eq = { req_ties };
+
+    fn cmp(&self, other: &PackageReq) -> Ordering {
+        self.name.cmp(&other.name).then_with(|| cmp_inner(
+            self.version_req.inner(),
+            other.version_req.inner(),
+        ))
     }
 }

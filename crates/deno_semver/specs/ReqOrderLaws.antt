@@ -1,0 +1,143 @@
+-- The order of requirements is total, and ties only where the names are the same and the requirements stand for the same.
+use Rattle.std.proofs.Common.{◌≡◌, ◌&&◌, ℕ, List, [], ◌∷◌, Bool, Some, nat_eq, refl, sym, ap}
+use Rattle.std.proofs.lemmas.Cmp.{back_total, lists_total, nat_list_cmp_total, tied_itself}
+use Rattle.std.specs.Cmp.{Equal-is, IsPartialOrder, IsTotalOrder, both_ways, nat_cmp_total, on_total, po, then_total}
+use Rattle.std.specs.Cmp.Lexicographic.{options_total, pointwise, slice_cmp, texts_ties}
+use Rattle.std.specs.FinMap.{nat_cmp-IsAntisymmetric, slice_cmp-IsAntisymmetric}
+use Rattle.std.specs.Ordering.{eq_by_cmp, is_eq, nat_cmp, ordering_then}
+use Rattle.std.specs.declared.cmp.Ordering.{Ordering}
+use Rattle.std.specs.declared.cmp.Ordering.TheVariants.{Less, Equal, Greater}
+use Rattle.semver_base.specs.PrecedenceLaws.{SamePrecedence, precedence-anti, precedence_total}
+use Rattle.semver_base.specs.declared.range.RangeBound.{RangeBound}
+use Rattle.semver_base.specs.declared.range.RangeBound.TheVariants as bound
+use Rattle.semver_base.specs.declared.range.VersionBound.{VersionBound}
+use Rattle.semver_base.specs.declared.range.VersionBoundKind.{VersionBoundKind}
+use Rattle.semver_base.specs.declared.range.VersionBoundKind.TheVariants as kind
+use Rattle.semver_base.specs.declared.range.VersionRange.{VersionRange}
+use Rattle.semver_base.specs.declared.version.Version.{Version}
+use Rattle.semver_req.specs.Requirement.{tag_of}
+use Rattle.semver_req.specs.declared.range_set_or_tag.RangeSetOrTag.{RangeSetOrTag}
+use Rattle.semver_req.specs.declared.range_set_or_tag.RangeSetOrTag.TheVariants as inner
+use Rattle.semver_req.proofs.Equality.{inner_eq, inner_told}
+use Rattle.deno_semver.specs.ReqOrder.{bound_cmp, bound_place, build_of, builds_cmp, end_cmp, inner_cmp, kind_place, range_cmp, ranges_of, req_cmp, start_cmp, text_cmp, version_bound_of}
+use Rattle.deno_semver.specs.Ties.{then_ties}
+use Rattle.deno_semver.specs.declared.package.requirement.PackageReq.{PackageReq}
+
+-- ---- it is total
+
+bound_total : IsTotalOrder bound_cmp
+bound_total = then_total (on_total (λ (b : VersionBound). b.version) precedence_total) (on_total (λ (b : VersionBound). kind_place b.kind) nat_cmp_total)
+
+end_total : IsTotalOrder end_cmp
+end_total = then_total (on_total bound_place nat_cmp_total) (on_total version_bound_of (options_total bound_total))
+
+start_total : IsTotalOrder start_cmp
+start_total = then_total (on_total bound_place nat_cmp_total) (on_total version_bound_of (back_total (options_total bound_total)))
+
+range_total : IsTotalOrder range_cmp
+range_total = then_total (on_total (λ (r : VersionRange). r.start) start_total) (on_total (λ (r : VersionRange). r.end) end_total)
+
+builds_total : IsTotalOrder builds_cmp
+builds_total = then_total (on_total (λ (r : VersionRange). build_of r.start) (lists_total nat_list_cmp_total)) (on_total (λ (r : VersionRange). build_of r.end) (lists_total nat_list_cmp_total))
+
+inner_total : IsTotalOrder inner_cmp
+inner_total = then_total (on_total tag_of (back_total (options_total nat_list_cmp_total))) (then_total (on_total ranges_of (lists_total range_total)) (on_total ranges_of (lists_total builds_total)))
+
+pub req_total : IsTotalOrder req_cmp
+req_total = then_total (on_total (λ (r : PackageReq). r.name) nat_list_cmp_total) (on_total (λ (r : PackageReq). r.version_req.inner) inner_total)
+
+-- ---- what ties is the same
+
+then_first : (r s : Ordering) → ordering_then r s ≡ Equal → r ≡ Equal
+then_first Less s e = cc e
+then_first Equal s e = refl
+then_first Greater s e = cc e
+
+then_second : (r s : Ordering) → ordering_then r s ≡ Equal → s ≡ Equal
+then_second Less s e = cc e
+then_second Equal s e = e
+then_second Greater s e = cc e
+
+kind_same : (a b : VersionBoundKind) → nat_cmp (kind_place a) (kind_place b) ≡ Equal → a ≡ b
+kind_same kind.Inclusive kind.Inclusive e = refl
+kind_same kind.Inclusive kind.Exclusive e = cc e
+kind_same kind.Exclusive kind.Inclusive e = cc e
+kind_same kind.Exclusive kind.Exclusive e = refl
+
+abbrev version_of : ℕ → ℕ → ℕ → List (List ℕ) → List (List ℕ) → Version
+version_of major minor patch pre build = record { major = major; minor = minor; patch = patch; pre = pre; build = build }
+
+version_same : (x y : Version) → SamePrecedence x y → x.build ≡ y.build → x ≡ y
+version_same x y h b =
+    let same : version_of x.major x.minor x.patch x.pre x.build ≡ version_of y.major y.minor y.patch y.pre y.build = rw (h.major, h.minor, h.patch, h.pre, b) refl in
+    same
+
+abbrev bound_of : VersionBoundKind → Version → VersionBound
+bound_of k v = record { kind = k; version = v }
+
+bound_same : (x y : VersionBound) → bound_cmp x y ≡ Equal → x.version.build ≡ y.version.build → x ≡ y
+bound_same x y e b =
+    let k = kind_same x.kind y.kind (then_second _ _ e) in
+    let v = version_same x.version y.version (precedence-anti x.version y.version (then_first _ _ e)) b in
+    let same : bound_of x.kind x.version ≡ bound_of y.kind y.version = rw (k, v) refl in
+    same
+
+builds_same : (xs ys : List (List ℕ)) → slice_cmp text_cmp xs ys ≡ Equal → xs ≡ ys
+builds_same xs ys e = slice_cmp-IsAntisymmetric (slice_cmp-IsAntisymmetric nat_cmp-IsAntisymmetric) xs ys e
+
+start_same : (a b : RangeBound) → start_cmp a b ≡ Equal → build_of a ≡ build_of b → a ≡ b
+start_same (bound.Version x) (bound.Version y) e b = ap (λ (v : VersionBound). bound.Version v) (sym (bound_same y x e (sym b)))
+start_same (bound.Version x) bound.Unbounded e b = cc e
+start_same bound.Unbounded (bound.Version y) e b = cc e
+start_same bound.Unbounded bound.Unbounded e b = refl
+
+end_same : (a b : RangeBound) → end_cmp a b ≡ Equal → build_of a ≡ build_of b → a ≡ b
+end_same (bound.Version x) (bound.Version y) e b = ap (λ (v : VersionBound). bound.Version v) (bound_same x y e b)
+end_same (bound.Version x) bound.Unbounded e b = cc e
+end_same bound.Unbounded (bound.Version y) e b = cc e
+end_same bound.Unbounded bound.Unbounded e b = refl
+
+abbrev range_of : RangeBound → RangeBound → VersionRange
+range_of s e = record { start = s; end = e }
+
+range_same : (x y : VersionRange) → range_cmp x y ≡ Equal → builds_cmp x y ≡ Equal → x ≡ y
+range_same x y e b =
+    let s = start_same x.start y.start (then_first _ _ e) (builds_same _ _ (then_first _ _ b)) in
+    let t = end_same x.end y.end (then_second _ _ e) (builds_same _ _ (then_second _ _ b)) in
+    let same : range_of x.start x.end ≡ range_of y.start y.end = rw (s, t) refl in
+    same
+
+ranges_same : (xs ys : List VersionRange) → slice_cmp range_cmp xs ys ≡ Equal → slice_cmp builds_cmp xs ys ≡ Equal → xs ≡ ys
+ranges_same [] [] e b = refl
+ranges_same [] (y ∷ ys) e b = cc e
+ranges_same (x ∷ xs) [] e b = cc e
+ranges_same (x ∷ xs) (y ∷ ys) e b =
+    let first = range_same x y (then_first _ _ e) (then_first _ _ b) in
+    let others = ranges_same xs ys (then_second _ _ e) (then_second _ _ b) in
+    rw (first, others) refl
+
+abbrev set_of : List VersionRange → RangeSetOrTag
+set_of ranges = inner.RangeSet (record { 0 = ranges })
+
+inner_same : (x y : RangeSetOrTag) → inner_cmp x y ≡ Equal → x ≡ y
+inner_same (inner.Tag x) (inner.Tag y) e = ap (λ (t : List ℕ). inner.Tag t) (sym (slice_cmp-IsAntisymmetric nat_cmp-IsAntisymmetric y x (then_first _ _ e)))
+inner_same (inner.Tag x) (inner.RangeSet y) e = cc e
+inner_same (inner.RangeSet x) (inner.Tag y) e = cc e
+inner_same (inner.RangeSet x) (inner.RangeSet y) e = ap set_of (ranges_same x.0 y.0 (then_first _ _ e) (then_second _ _ e))
+
+-- ---- it ties exactly where `==` holds
+
+inner_ties : (x y : RangeSetOrTag) → inner_eq x y ≡ is_eq (inner_cmp x y)
+inner_ties x y = both_ways (inner_eq x y) (is_eq (inner_cmp x y))
+    (λ e. rw ((inner_told x y).0 e) ((Equal-is (inner_cmp y y)).1 (tied_itself inner_total y)))
+    (λ e. (inner_told x y).1 (inner_same x y ((Equal-is (inner_cmp x y)).0 e)))
+
+-- the derived `==`
+abbrev pub req_eq : PackageReq → PackageReq → Bool
+req_eq x y = pointwise nat_eq x.name y.name && inner_eq x.version_req.inner y.version_req.inner
+
+pub req_ties : (x y : PackageReq) → req_eq x y ≡ eq_by_cmp req_cmp x y
+req_ties x y = then_ties _ _ (text_cmp x.name y.name) (inner_cmp x.version_req.inner y.version_req.inner) (texts_ties x.name y.name) (inner_ties x.version_req.inner y.version_req.inner)
+
+pub req_po : IsPartialOrder req_eq (λ x y. Some (req_cmp x y))
+req_po = po req_total req_ties
