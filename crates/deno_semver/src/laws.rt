@@ -26,7 +26,8 @@ pub fn same_names_and_versions(one: &PackageNv, other: &PackageNv) -> bool
 /// Whether two requirements of packages are equal: they are where their names are and they stand for the same, whatever
 /// texts they were read from.
 pub fn equal_package_requirements(one: &PackageReq, other: &PackageReq) -> bool
-    ensures { IsTrue result ↔ ((one.now.name ≡ other.now.name) × (one.now.version_req.inner ≡ other.now.version_req.inner)) }
+    ensures { IsTrue result
+        ↔ ((one.now.name ≡ other.now.name) × (one.now.version_req.inner ≡ other.now.version_req.inner)) }
 {
     one == other
 }
