@@ -1,7 +1,9 @@
 //! Packages: requirements of them, and names with versions.
 
 use crate::words::{Answer, Fault, Word, answer};
-use deno_semver::package::{PackageNv, PackageReq, PackageReqParseError, PackageReqPartsParseError};
+use deno_semver::package::{
+    PackageNv, PackageReq, PackageReqParseError, PackageReqPartsParseError,
+};
 use std::alloc::Global;
 use std::cmp::Ordering;
 
@@ -56,7 +58,10 @@ pub fn package(alloc: Global, words: &[Word<'_>]) -> Answer {
     };
     match read(alloc, reader, text)? {
         Ok(req) => told(alloc, &req.copy()?),
-        Err(error) => answer(alloc, &[Some("refused"), Some(kind(&error.copy()?.source)?)]),
+        Err(error) => answer(
+            alloc,
+            &[Some("refused"), Some(kind(&error.copy()?.source)?)],
+        ),
     }
 }
 

@@ -170,7 +170,11 @@ pub fn written_as(alloc: Global, words: &[Word<'_>]) -> Answer {
         "version" => written(alloc, start, &Version::parse_standard(alloc, value)?),
         "range" => written(alloc, start, &shown::range_of(alloc, value)?),
         "set" => written(alloc, start, &shown::set_of(alloc, value)?),
-        "inner" => written(alloc, start, VersionReq::parse_from_npm(alloc, value)?.inner()),
+        "inner" => written(
+            alloc,
+            start,
+            VersionReq::parse_from_npm(alloc, value)?.inner(),
+        ),
         _ => Err(Fault::Unreadable),
     }
 }

@@ -34,4 +34,4 @@ module _ {P : Type 0} (text_of : P → List ℕ) (from to : List ℕ) where
   replaced zero p s out same h = subst (IsReplaced from to s) (sym h.1) (no_more (subst (λ t. FindsText t s None) same h.0))
   replaced (suc n) p s out same (a, b, q, rest, found, keeps, on, is) =
       subst (IsReplaced from to s) (sym is)
-          (past (Answers n q) (λ t o. replaced n q t o (keeps ∙ same)) s rest a b (subst (λ t. FindsText t s (Some (a, b))) same found) on)
+      (past (Answers n q) (λ t o. replaced n q t o (keeps ∙ same)) s rest a b (subst (λ t. FindsText t s (Some (a, b))) same found) on)

@@ -18,9 +18,7 @@ ghost use Rattle.semver_base.specs.VersionText.{ReadsBack, marked, version_text}
 use crate::failure::{ParseFailure, Refusal};
 use crate::lexical;
 use crate::lexical::values::{Measured, Strictness};
-use crate::string::{
-    CowVec, SmallStackString, StringAppendable, StringType, append_displayed,
-};
+use crate::string::{CowVec, SmallStackString, StringAppendable, StringType, append_displayed};
 use std::alloc::{AllocError, Global};
 use std::cmp::Ordering;
 use std::fmt;

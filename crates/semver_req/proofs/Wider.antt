@@ -57,7 +57,10 @@ comparator_wider text c (that (this m)) =
     that (this (record {
       value = m.value;
       stands = record {
-        first = h.first; second = h.second; text_is = h.text_is; in_first = h.in_first;
+        first = h.first;
+        second = h.second;
+        text_is = h.text_is;
+        in_first = h.in_first;
         in_second = record { value = k.value; stands = record { first = k.stands.first; second = k.stands.second; text_is = k.stands.text_is; in_first = k.stands.in_first; in_second = that (plain_wider k.stands.second k.value.1 k.stands.in_second); seam = tt }; is = k.is };
         seam = tt;
       };
