@@ -43,7 +43,7 @@ component_wildcard f b text rest wild e = record {
         absurd (wildcard_no_digit f b wild (rw byte at digit))
 
 module _ (f : Flavour) (text : List ℕ) (other : (b : ℕ) (r : List ℕ) → is_wildcard f b ≡ true → text ≡ b ∷ r → ⊥) where
-  component_number : (rest : List ℕ) (n : ℕ) → IsLongest (IsNumber (strictness_of f)) text n rest → IsLongest (IsComponent f) text (Val n) rest
+  pub component_number : (rest : List ℕ) (n : ℕ) → IsLongest (IsNumber (strictness_of f)) text n rest → IsLongest (IsComponent f) text (Val n) rest
   component_number rest n p = record { front = p.front; text_is = p.text_is; stands = p.stands; longest = go }
     where
       go : (a c : List ℕ) (w : XRange) → text ≡ a ++ c → IsComponent f a w → (length a ≤ length p.front) × (length a ≡ length p.front → w ≡ Val n)

@@ -1,3 +1,4 @@
+pub mod BlanksBehind
 pub mod ComparatorReadings
 pub mod Components
 pub mod Cuts
@@ -28,9 +29,17 @@ pub mod SettledSets
 pub mod Settling
 pub mod ShortestMeaning
 pub mod Signs
+pub mod SignsNoTag
 pub mod Starts
+pub mod StrictFits
+pub mod StrictFronts
 pub mod StrictKept
 pub mod StrictRanges
+pub mod StrictTags
+pub mod TagCharacters
+pub mod TagPieces
+pub mod TagTexts
+pub mod TagsReadBack
 pub mod Wider
 pub mod WritableRanges
 pub mod WrittenComparators

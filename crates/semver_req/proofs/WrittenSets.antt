@@ -69,7 +69,7 @@ module _ (f : Flavour) (cut : IsCutting f) (r : VersionRange) (h : IsWritableRan
 
 -- ---- their bytes
 
-abbrev is_no_bar : ℕ → Bool
+abbrev pub is_no_bar : ℕ → Bool
 is_no_bar b = not (b == 124)
 
 solid_no_bar : (b : ℕ) → is_solid_byte b ≡ true → is_no_bar b ≡ true
@@ -114,7 +114,7 @@ bar_there : (a b : List ℕ) → list_all is_no_bar (a ++ (124 ∷ b)) ≡ true 
 bar_there [] b h = let same_bits : false ≡ true = (and_parts false (list_all is_no_bar b) h).0 in cc same_bits
 bar_there (x ∷ a) b h = bar_there a b (and_parts _ _ h).1
 
-no_bar : (text : List ℕ) → list_all is_no_bar text ≡ true → HasNoBar text
+pub no_bar : (text : List ℕ) → list_all is_no_bar text ≡ true → HasNoBar text
 no_bar text h = λ a b e. bar_there a (124 ∷ b) (rw e at h)
 
 cut_at : (piece rest : List ℕ) → list_all is_no_bar piece ≡ true → IsCutAt (piece ++ (124 ∷ 124 ∷ rest)) piece rest

@@ -1,8 +1,8 @@
 -- The normal text of a set that was read, read again. Source: `deno_semver`, whose text of a requirement is meant to be
 -- read back.
-use Rattle.std.specs.Prelude.{◌≡◌, ℕ, List, length, Bool, true, false, not, ◌==◌, ◌&&◌, ◌||◌}
+use Rattle.std.specs.Prelude.{◌≡◌, ℕ, List, length, Bool, true, false, not, ◌==◌, ◌&&◌, ◌||◌, IsUtf8}
 use Rattle.std.specs.List.{list_all}
-use Rattle.std.specs.Str.{trim}
+use Rattle.std.specs.Str.{trim, trim_start}
 use Rattle.semver_base.specs.Comparators.{Comparator}
 use Rattle.semver_base.specs.Meaning.{alternatives, tree_means}
 use Rattle.semver_base.specs.NormalText.{set_text}
@@ -16,9 +16,10 @@ use Rattle.semver_base.specs.declared.range.VersionBoundKind.TheVariants as kind
 use Rattle.semver_base.specs.declared.range.VersionRange.{VersionRange}
 use Rattle.semver_base.specs.declared.version.Version.{Version}
 use Rattle.semver_req.specs.KeptSet.{IsReadSet, kept}
-use Rattle.semver_req.specs.Outcome.{IsOutcome, Outcome, Ranges, tree_ranges}
+use Rattle.semver_req.specs.Outcome.{IsOutcome, Outcome, Ranges, Tag, tree_ranges, worked_on}
 use Rattle.semver_req.specs.Pieces.{IsCutting}
 use Rattle.semver_req.specs.declared.common.values.Flavour.{Flavour}
+use Rattle.semver_req.specs.declared.common.values.Flavour.TheVariants.{Normal}
 use Rattle.semver_req.specs.declared.range_set_or_tag.RangeSetOrTag.{RangeSetOrTag}
 use Rattle.semver_req.specs.declared.range_set_or_tag.RangeSetOrTag.TheVariants as inner
 
@@ -109,6 +110,13 @@ OneRereadingSettles = (ranges : List VersionRange) → IsReadSet ranges → Keep
 abbrev pub SettledSetsAreTheirTexts : Type 0
 SettledSetsAreTheirTexts = (some others : List VersionRange) → IsReadSet some → IsReadSet others
     → IsSettledSet some → IsSettledSet others → set_text some ≡ set_text others → some ≡ others
+
+-- ---- tags
+
+-- the normalized reader makes a tag of what some reader made a tag of, where the text that it worked on begins with no blank
+abbrev pub TagsReadBack : Type 0
+TagsReadBack = (f : Flavour) (text t : List ℕ) → IsUtf8 (worked_on f text) → trim_start (worked_on f text) ≡ worked_on f text
+    → IsOutcome f text (Tag t) → IsOutcome Normal t (Tag t)
 
 -- ---- requirements
 

@@ -11,7 +11,7 @@ ghost use Rattle.std.specs.Prelude.{◌≡◌, ◌↔◌, IsTrue};
 ghost use Rattle.semver_req.specs.KeptSet.{KeptSetsMeanTheirTrees};
 ghost use Rattle.semver_req.specs.Outcome.{TextsHaveOneOutcome};
 ghost use Rattle.semver_req.specs.Pieces.{NormalPiecesAreNpms};
-ghost use Rattle.semver_req.specs.Rereading.{NormalTextsKeepTheirMeaning, OneRereadingSettles, SettledSetsAreTheirTexts};
+ghost use Rattle.semver_req.specs.Rereading.{NormalTextsKeepTheirMeaning, OneRereadingSettles, SettledSetsAreTheirTexts, TagsReadBack};
 
 use crate::common::values::Flavour;
 use crate::npm::NpmVersionReqParseError;
@@ -96,4 +96,10 @@ pub fn normal_texts_keep_their_meaning()
 pub fn one_rereading_settles()
     ensures settles { OneRereadingSettles }
     ensures by_text { SettledSetsAreTheirTexts }
+{}
+
+/// A tag that a reader made of a text is read back: the normalized reader makes the same tag of it, where the text that
+/// the first reader worked on (npm's trims it) begins with no blank.
+pub fn tags_read_back()
+    ensures { TagsReadBack }
 {}

@@ -1,0 +1,112 @@
+-- What trimming leaves of a piece at the start of a text that begins with no blank.
+use Rattle.std.proofs.Common.{◌≡◌, ◌≤◌, ◌<◌, ◌⊎◌, ◌-◌, ℕ, Bool, true, false, List, [], ◌∷◌, ◌++◌, length, get_or, refl, sym, ap, ◌∙◌, inl, inr, arith, length-append, ◌==◌}
+use Rattle.std.specs.Prelude.{◌&&◌, IsUtf8, encode_utf8_all}
+use Rattle.std.specs.Char.{is_not_whitespace, is_whitespace}
+use Rattle.std.specs.Str.{NonePass, all_scalars, chars, drop_trailing_whitespace, skip_leading_whitespace, trim, trim_end, trim_start}
+use Rattle.std.proofs.lemmas.Bool.{and_from, and_parts, cases_Bool, eqb-true}
+use Rattle.std.proofs.lemmas.Str.{IsCharBoundary-before_ascii, IsUtf8-take, chars-append, encodes-append, encodes-chars, encodes_same, scalars-chars}
+use Rattle.std.proofs.Math.Seq.{take-append_seam}
+use Rattle.std.proofs.lemmas.List.{get_or-append_right, nil_from_length}
+use Rattle.semver_base.specs.Lexical.{IsBlanks}
+use Rattle.semver_req.specs.Pieces.{ArePieces, first_cut, one_piece}
+
+-- ---- at the start
+
+shorter : (cs : List ℕ) → length (skip_leading_whitespace cs) ≤ length cs
+shorter [] = omega arith
+shorter (c ∷ cs) = elim (cases_Bool (is_whitespace c)) [
+  | inl white ↦ rw white (omega (arith, shorter cs))
+  | inr other ↦ rw other (omega arith)
+]
+
+-- what a text that begins with no blank begins with
+front_starts : (cs ds : List ℕ) → skip_leading_whitespace (cs ++ ds) ≡ cs ++ ds → skip_leading_whitespace cs ≡ cs
+front_starts [] ds e = refl
+front_starts (c ∷ cs) ds e = elim (cases_Bool (is_whitespace c)) [
+  | inl white ↦ let skipped : skip_leading_whitespace (cs ++ ds) ≡ c ∷ (cs ++ ds) = rw white at e in absurd (omega (arith, shorter (cs ++ ds), ap length skipped))
+  | inr other ↦ rw other refl
+]
+
+module _ (text : List ℕ) (utf8 : IsUtf8 text) where
+  none_skipped : trim_start text ≡ text → skip_leading_whitespace (chars text) ≡ chars text
+  unfolding trim_start
+  none_skipped e = encodes_same _ _ (e ∙ sym (encodes-chars text utf8))
+
+  start_same : skip_leading_whitespace (chars text) ≡ chars text → trim_start text ≡ text
+  unfolding trim_start
+  start_same e = ap encode_utf8_all e ∙ encodes-chars text utf8
+
+front_start : (piece rest : List ℕ) → IsUtf8 piece → IsUtf8 (piece ++ rest) → trim_start (piece ++ rest) ≡ piece ++ rest → trim_start piece ≡ piece
+front_start piece rest u v e = start_same piece u (front_starts (chars piece) (chars rest) (rw (chars-append piece rest u) at (none_skipped (piece ++ rest) v e)))
+
+-- ---- at the end
+
+record EndsBlank (cs : List ℕ) : Type 0 where
+  blanks : List ℕ
+  text_is : cs ≡ drop_trailing_whitespace cs ++ blanks
+  white : NonePass is_not_whitespace blanks
+
+-- a character before characters of which this is known
+one_more : (c : ℕ) (cs : List ℕ) → EndsBlank cs → EndsBlank (c ∷ cs)
+one_more c cs rest = go (cases_Bool (is_whitespace c)) (cases_Bool (length (drop_trailing_whitespace cs) == 0))
+  where
+    kept : is_whitespace c && (length (drop_trailing_whitespace cs) == 0) ≡ false → EndsBlank (c ∷ cs)
+    kept e = record { blanks = rest.blanks; text_is = rw e (ap (λ t. c ∷ t) rest.text_is); white = rest.white }
+
+    go : (is_whitespace c ≡ true) ⊎ (is_whitespace c ≡ false) → ((length (drop_trailing_whitespace cs) == 0) ≡ true) ⊎ ((length (drop_trailing_whitespace cs) == 0) ≡ false) → EndsBlank (c ∷ cs)
+    go (inl w) (inl none) =
+        let gone : drop_trailing_whitespace cs ≡ [] = nil_from_length _ (eqb-true _ _ none) in
+        record { blanks = c ∷ rest.blanks; text_is = rw (w, none) (ap (λ t. c ∷ t) (rest.text_is ∙ ap (λ t. t ++ rest.blanks) gone)); white = (rw w refl, rest.white) }
+    go (inl w) (inr some) = kept (rw (w, some) refl)
+    go (inr o) n = kept (rw o refl)
+
+ends_blank : (cs : List ℕ) → EndsBlank cs
+ends_blank [] = record { blanks = []; text_is = refl; white = tt }
+ends_blank (c ∷ cs) = one_more c cs (ends_blank cs)
+
+front_scalars : (cs ds : List ℕ) → all_scalars (cs ++ ds) ≡ true → all_scalars cs ≡ true
+front_scalars [] ds h = refl
+front_scalars (c ∷ cs) ds h = let both = and_parts _ _ h in and_from _ _ both.0 (front_scalars cs ds both.1)
+
+-- what is left of a piece that begins with no blank, and the blanks behind it
+pub record IsLeft (piece left : List ℕ) : Type 0 where
+  pub behind : List ℕ
+  pub text_is : piece ≡ left ++ behind
+  pub blank : IsBlanks behind tt
+  pub utf8 : IsUtf8 left
+
+end_left : (piece : List ℕ) → IsUtf8 piece → IsLeft piece (trim_end piece)
+unfolding trim_end
+end_left piece u =
+    let ends = ends_blank (chars piece) in
+    record {
+      behind = encode_utf8_all ends.blanks;
+      text_is = sym (encodes-chars piece u) ∙ (ap encode_utf8_all ends.text_is ∙ encodes-append (drop_trailing_whitespace (chars piece)) ends.blanks);
+      blank = (ends.blanks, refl, ends.white);
+      utf8 = (drop_trailing_whitespace (chars piece), (front_scalars (drop_trailing_whitespace (chars piece)) ends.blanks (ap all_scalars (sym ends.text_is) ∙ scalars-chars piece u), refl));
+    }
+
+pub piece_left : (piece : List ℕ) → IsUtf8 piece → trim_start piece ≡ piece → IsLeft piece (trim piece)
+piece_left piece u start = rw start (end_left piece u)
+
+-- ---- the only piece of a text
+
+-- it is some text, and begins with no blank where the text doesn't
+pub record IsFirst (piece : List ℕ) : Type 0 where
+  pub utf8 : IsUtf8 piece
+  pub start : trim_start piece ≡ piece
+
+pub only_piece : (text piece : List ℕ) (b : Bool) → IsUtf8 text → trim_start text ≡ text → ArePieces text b (piece ∷ []) → IsFirst piece
+only_piece text piece b u start (one_piece n) = record { utf8 = u; start = start }
+only_piece text piece b u start (first_cut {rest = rest} cut more) = record { utf8 = some; start = front_start piece (124 ∷ 124 ∷ rest) some (rw cut.text_is at u) (rw cut.text_is at start) }
+  where
+    bar : get_or text (length piece) 0 ≡ 124
+    bar =
+        let here : length piece - length piece ≡ 0 = omega arith in
+        rw cut.text_is (get_or-append_right piece (124 ∷ 124 ∷ rest) (length piece) (length piece) 0 refl (omega arith) ∙ ap (λ k. get_or (124 ∷ 124 ∷ rest) k 0) here)
+
+    some : IsUtf8 piece
+    some =
+        let inside : length piece < length text = omega (arith, ap length cut.text_is, length-append piece (124 ∷ 124 ∷ rest)) in
+        let front = IsUtf8-take text (length piece) u (IsCharBoundary-before_ascii text (length piece) inside (omega (arith, bar))) in
+        rw (cut.text_is, take-append_seam piece (124 ∷ 124 ∷ rest)) at front

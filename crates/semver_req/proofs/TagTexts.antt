@@ -1,0 +1,78 @@
+-- A valid tag is some text with no `||` and nothing to trim; and what trimming leaves of a text that begins with no blank.
+use Rattle.std.proofs.Common.{◌≡◌, ◌<◌, ℕ, Bool, true, false, List, [], ◌∷◌, length, get_or, refl, sym, ap, ◌∙◌, inl, inr, arith, append-nil}
+use Rattle.std.specs.Prelude.{not, IsUtf8, encode_utf8, encode_utf8_all}
+use Rattle.std.specs.Char.{is_whitespace}
+use Rattle.std.specs.List.{list_all}
+use Rattle.std.specs.Str.{chars, drop_trailing_whitespace, skip_leading_whitespace, trim, trim_end, trim_start}
+use Rattle.std.proofs.lemmas.Bool.{and_parts, cases_lt}
+use Rattle.std.proofs.lemmas.Bool.Decides.{nat_tests}
+use Rattle.std.proofs.lemmas.List.Elements.{All-from_get_or}
+use Rattle.std.proofs.lemmas.List.Sums.{list_all-from_AllPass}
+use Rattle.std.proofs.lemmas.Str.{encodes-chars, inside_one}
+use Rattle.semver_base.proofs.Bytes.{list_all-append}
+use Rattle.semver_req.specs.Pieces.{HasNoBar}
+use Rattle.semver_req.specs.Tag.{is_tag_character, is_valid_tag}
+use Rattle.semver_req.proofs.SignsNoTag.{are_tag_characters}
+use Rattle.semver_req.proofs.TagCharacters.{bar_no_tag, white_no_tag}
+use Rattle.semver_req.proofs.WrittenSets.{is_no_bar, no_bar}
+
+-- ---- the bytes of a tag
+
+is_other : (b : Bool) → (b ≡ true → ⊥) → b ≡ false
+is_other true h = absurd (h refl)
+is_other false h = refl
+
+character_bytes : (c : ℕ) → is_tag_character c ≡ true → list_all is_no_bar (encode_utf8 c) ≡ true
+character_bytes c tag = list_all-from_AllPass is_no_bar (encode_utf8 c) (All-from_get_or (λ b. is_no_bar b ≡ true) (encode_utf8 c) 0 each)
+  where
+    bar : c ≡ 124 → ⊥
+    bar e = let same : true ≡ false = sym tag ∙ (ap is_tag_character e ∙ bar_no_tag) in cc same
+
+    each : (k : ℕ) → k < length (encode_utf8 c) → is_no_bar (get_or (encode_utf8 c) k 0) ≡ true
+    each k h = elim (cases_lt (get_or (encode_utf8 c) k 0) 124) [
+      | inl low ↦ grind (arith, nat_tests)
+      | inr high ↦ elim (cases_lt 124 (get_or (encode_utf8 c) k 0)) [
+        | inl above ↦ grind (arith, nat_tests)
+        | inr at_most ↦
+            let byte : get_or (encode_utf8 c) k 0 ≡ 124 = omega (arith, high, at_most) in
+            absurd (bar (inside_one c [] (encode_utf8 c) k (sym (append-nil (encode_utf8 c))) h (omega (arith, byte)) ∙ byte))
+      ]
+    ]
+
+tag_bytes : (cs : List ℕ) → list_all is_tag_character cs ≡ true → list_all is_no_bar (encode_utf8_all cs) ≡ true
+tag_bytes [] h = refl
+tag_bytes (c ∷ cs) h =
+    let both = and_parts (is_tag_character c) _ h in
+    list_all-append is_no_bar (encode_utf8 c) (encode_utf8_all cs) (character_bytes c both.0) (tag_bytes cs both.1)
+
+-- ---- the blanks of a tag
+
+none_skipped : (cs : List ℕ) → list_all is_tag_character cs ≡ true → skip_leading_whitespace cs ≡ cs
+none_skipped [] h = refl
+none_skipped (c ∷ cs) h =
+    let both = and_parts (is_tag_character c) _ h in
+    rw (is_other (is_whitespace c) (λ white. white_no_tag c white both.0)) refl
+
+none_dropped : (cs : List ℕ) → list_all is_tag_character cs ≡ true → drop_trailing_whitespace cs ≡ cs
+none_dropped [] h = refl
+none_dropped (c ∷ cs) h =
+    let both = and_parts (is_tag_character c) _ h in
+    rw (is_other (is_whitespace c) (λ white. white_no_tag c white both.0)) (ap (λ t. c ∷ t) (none_dropped cs both.1))
+
+module _ (text : List ℕ) (utf8 : IsUtf8 text) (valid : is_valid_tag text ≡ true) where
+  characters : list_all is_tag_character (chars text) ≡ true
+  characters = (and_parts (not (list_all is_whitespace (chars text))) (are_tag_characters text) valid).1
+
+  pub tag_no_bar : HasNoBar text
+  tag_no_bar = no_bar text (rw (encodes-chars text utf8) at (tag_bytes (chars text) characters))
+
+  start_same : trim_start text ≡ text
+  unfolding trim_start
+  start_same = ap encode_utf8_all (none_skipped (chars text) characters) ∙ encodes-chars text utf8
+
+  end_same : trim_end text ≡ text
+  unfolding trim_end
+  end_same = ap encode_utf8_all (none_dropped (chars text) characters) ∙ encodes-chars text utf8
+
+  pub tag_trimmed : trim text ≡ text
+  tag_trimmed = ap trim_end start_same ∙ end_same
