@@ -30,9 +30,6 @@ record Longest {V : Type 0} (R : List ℕ → V → Type 0) (text : List ℕ) (v
   stands : R front v
   longest : (a b : List ℕ) (w : V) → text ≡ a ++ b → R a w → length a ≤ length front
 
-by_length : {V : Type 0} {R : List ℕ → V → Type 0} {text rest : List ℕ} {v : V} → IsLongest R text v rest → Longest R text v rest
-by_length h = record { front = h.front; text_is = h.text_is; stands = h.stands; longest = λ a b w e r. (h.longest a b w e r).0 }
-
 -- the longest text of A, and then the longest text of C, which may be nothing
 module _ {V W : Type 0} {A : List ℕ → V → Type 0} {C : List ℕ → W → Type 0} (apart : Apart A C) (none : W) (empty : C [] none) where
   joined_front : (a c : List ℕ) (v : V) (w : W) → A a v → C c w → Followed A C (a ++ c) (v, w)
