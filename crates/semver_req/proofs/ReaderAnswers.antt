@@ -1,15 +1,16 @@
 -- What a reader answers, from the outcome that it read.
 use Rattle.std.proofs.Common.{◌≡◌, ℕ, List, Result, Ok, Err, None, refl, sym, subst, inl, inr}
-use Rattle.std.specs.Prelude.{◌⊎◌, IfErr}
+use Rattle.std.specs.Prelude.{◌⊎◌, IfErr, IsUtf8}
 use Rattle.std.specs.Result.{IsErrAnd}
 use Rattle.semver_base.specs.Meaning.{tree_means}
 use Rattle.semver_req.specs.Outcome.{IsOutcome, Outcome, Ranges, Tag, Refused, tree_ranges, worked_on}
-use Rattle.semver_req.specs.Readers.{Failure, HasTree, IsAnswer, IsRead, IsReading, IsReadOrTag, IsReaderAnswer, MeansTrees}
+use Rattle.semver_req.specs.Readers.{Failure, HasTree, IsAnswer, IsRead, IsReading, IsReadOrTag, IsReaderAnswer, MeansTrees, TagReadsBack}
 use Rattle.semver_req.specs.Requirement.{Requirement, inner_means}
 use Rattle.semver_req.specs.declared.common.values.Flavour.{Flavour}
 use Rattle.semver_req.specs.declared.range_set_or_tag.RangeSetOrTag.{RangeSetOrTag}
 use Rattle.semver_req.proofs.Folding.{kept_means}
 use Rattle.semver_req.proofs.OneOutcome.{one_outcome}
+use Rattle.semver_req.proofs.TagsReadBack.{tag_back}
 
 module _ (f : Flavour) (text : List ℕ) where
   module _ {E : Type 0} (source : E → Failure) where
@@ -50,15 +51,24 @@ module _ (f : Flavour) (text : List ℕ) where
       go (Tag t) p k = subst IsReadOrTag (sym k) tt
       go Refused p k = absurd k
 
+  reading_tag : IsUtf8 (worked_on f text) → (answer : RangeSetOrTag) → IsReading f text answer → TagReadsBack (worked_on f text) answer
+  reading_tag u answer h = go h.outcome h.is_outcome h.is_read
+    where
+      go : (o : Outcome) → IsOutcome f text o → IsRead f o answer → TagReadsBack (worked_on f text) answer
+      go (Ranges tree) p k = subst (TagReadsBack (worked_on f text)) (sym k) tt
+      go (Tag t) p k = subst (TagReadsBack (worked_on f text)) (sym k) (λ start. tag_back f text t u start p)
+      go Refused p k = absurd k
+
   -- what is read of a text
-  pub answers_read : {E : Type 0} (source : E → Failure) (req : Requirement) → IsReading f text req.inner → req.raw_text ≡ worked_on f text → IsReaderAnswer source f text (Ok req)
-  answers_read source req h raw = record {
+  pub answers_read : {E : Type 0} (source : E → Failure) (req : Requirement) → IsUtf8 (worked_on f text) → IsReading f text req.inner → req.raw_text ≡ worked_on f text → IsReaderAnswer source f text (Ok req)
+  answers_read source req u h raw = record {
     outcome = h;
     refused = tt;
     answer = answer_read source req h;
     means = reading_means req.inner h;
     tree = reading_tree req.inner h;
     read_set = reading_set req.inner h;
+    tag = reading_tag u req.inner h;
     raw_text = raw;
   }
 
@@ -71,6 +81,7 @@ module _ (f : Flavour) (text : List ℕ) where
     means = tt;
     tree = tt;
     read_set = tt;
+    tag = tt;
     raw_text = tt;
   }
 

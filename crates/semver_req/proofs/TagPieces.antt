@@ -89,6 +89,20 @@ end_left piece u =
 pub piece_left : (piece : List ℕ) → IsUtf8 piece → trim_start piece ≡ piece → IsLeft piece (trim piece)
 piece_left piece u start = rw start (end_left piece u)
 
+left_scalars : (cs : List ℕ) → all_scalars cs ≡ true → all_scalars (skip_leading_whitespace cs) ≡ true
+left_scalars [] h = refl
+left_scalars (c ∷ cs) h = elim (cases_Bool (is_whitespace c)) [
+  | inl white ↦ rw white (left_scalars cs (and_parts _ _ h).1)
+  | inr other ↦ rw other h
+]
+
+start_utf8 : (text : List ℕ) → IsUtf8 text → IsUtf8 (trim_start text)
+unfolding trim_start
+start_utf8 text u = (skip_leading_whitespace (chars text), (left_scalars (chars text) (scalars-chars text u), refl))
+
+pub trimmed_utf8 : (text : List ℕ) → IsUtf8 text → IsUtf8 (trim text)
+trimmed_utf8 text u = (end_left (trim_start text) (start_utf8 text u)).utf8
+
 -- ---- the only piece of a text
 
 -- it is some text, and begins with no blank where the text doesn't

@@ -1,5 +1,6 @@
 -- What a reader answers to a text, by the outcome that its grammar gives the text.
 use Rattle.std.specs.Prelude.{◌≡◌, ◌⊎◌, ℕ, List, Option, None, Result, IfErr, IfOk, IsErr, MatchResult}
+use Rattle.std.specs.Str.{trim_start}
 use Rattle.semver_base.specs.Comparators.{Comparator}
 use Rattle.semver_base.specs.Meaning.{tree_means}
 use Rattle.semver_base.specs.declared.version.Version.{Version}
@@ -7,6 +8,7 @@ use Rattle.semver_req.specs.KeptSet.{IsReadSet, kept}
 use Rattle.semver_req.specs.Outcome.{IsOutcome, Outcome, Ranges, Refused, Tag, tree_ranges, worked_on}
 use Rattle.semver_req.specs.Requirement.{Requirement, inner_means}
 use Rattle.semver_req.specs.declared.common.values.Flavour.{Flavour}
+use Rattle.semver_req.specs.declared.common.values.Flavour.TheVariants.{Normal}
 use Rattle.semver_req.specs.declared.range_set_or_tag.RangeSetOrTag.{RangeSetOrTag}
 use Rattle.semver_req.specs.declared.range_set_or_tag.RangeSetOrTag.TheVariants as inner
 
@@ -47,6 +49,11 @@ abbrev pub IsReadOrTag : RangeSetOrTag → Type 0
 IsReadOrTag (inner.RangeSet set) = IsReadSet set.0
 IsReadOrTag (inner.Tag tag) = Unit {0}
 
+-- a tag is what the normalized reader makes of it again, where the text that was worked on begins with no blank
+abbrev pub TagReadsBack : List ℕ → RangeSetOrTag → Type 0
+TagReadsBack worked (inner.RangeSet set) = Unit {0}
+TagReadsBack worked (inner.Tag tag) = trim_start worked ≡ worked → IsOutcome Normal tag (Tag tag)
+
 -- what the reader of a flavour answers to a text
 pub record IsReaderAnswer {E : Type 0} (source : E → Failure) (f : Flavour) (text : List ℕ) (result : Result Requirement E) : Type 0 where
   -- what is read is what some outcome of the text stands for
@@ -60,5 +67,7 @@ pub record IsReaderAnswer {E : Type 0} (source : E → Failure) (f : Flavour) (t
   -- ranges are kept of a tree of the text
   pub tree : IfOk result (λ req. HasTree f text req.inner)
   pub read_set : IfOk result (λ req. IsReadOrTag req.inner)
+  -- a tag is read back
+  pub tag : IfOk result (λ req. TagReadsBack (worked_on f text) req.inner)
   -- the requirement keeps the text that the reader worked on
   pub raw_text : IfOk result (λ req. req.raw_text ≡ worked_on f text)

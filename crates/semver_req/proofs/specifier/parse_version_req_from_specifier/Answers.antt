@@ -27,4 +27,4 @@ returns-in_err-raw_text-clause-reads c =
     answers_err Specifier c.args.text.now (λ e. e.source) c.from_residual-in_err-raw_text.result None c.from_residual-in_err-raw_text.ensures.1 (inl refl)
 
 pub returns-clause-reads : goal.returns-clause-reads
-returns-clause-reads c = rw c.from_raw_text_and_inner.ensures (answers_read Specifier c.args.text.now (λ e. e.source) (record { raw_text = c.in_ok-raw_text.raw_text; inner = c.in_ok-inner.inner }) c.in_ok-inner.ensures.reading c.in_ok-raw_text.ensures.value)
+returns-clause-reads c = rw c.from_raw_text_and_inner.ensures (answers_read Specifier c.args.text.now (λ e. e.source) (record { raw_text = c.in_ok-raw_text.raw_text; inner = c.in_ok-inner.inner }) c.utf8.text c.in_ok-inner.ensures.reading c.in_ok-raw_text.ensures.value)

@@ -17,4 +17,4 @@ returns-in_err-raw_text-clause-refusal c =
     err_tells (λ e. e.source) c.from_residual-in_err-raw_text.result None (IsCutRefusal Normal c.args.text.now) c.from_residual-in_err-raw_text.ensures.1 memory_wanting
 
 pub returns-clause-reads : goal.returns-clause-reads
-returns-clause-reads c = rw c.from_raw_text_and_inner.ensures (answers_read Normal c.args.text.now (λ e. e.source) (record { raw_text = c.in_ok-raw_text.raw_text; inner = c.in_ok-inner.inner }) c.in_ok-inner.ensures.reading c.in_ok-raw_text.ensures.value)
+returns-clause-reads c = rw c.from_raw_text_and_inner.ensures (answers_read Normal c.args.text.now (λ e. e.source) (record { raw_text = c.in_ok-raw_text.raw_text; inner = c.in_ok-inner.inner }) c.utf8.text c.in_ok-inner.ensures.reading c.in_ok-raw_text.ensures.value)
