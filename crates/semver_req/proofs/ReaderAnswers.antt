@@ -51,16 +51,16 @@ module _ (f : Flavour) (text : List ℕ) where
       go (Tag t) p k = subst IsReadOrTag (sym k) tt
       go Refused p k = absurd k
 
-  reading_tag : IsUtf8 (worked_on f text) → (answer : RangeSetOrTag) → IsReading f text answer → TagReadsBack (worked_on f text) answer
+  reading_tag : IsUtf8 text → (answer : RangeSetOrTag) → IsReading f text answer → TagReadsBack f text answer
   reading_tag u answer h = go h.outcome h.is_outcome h.is_read
     where
-      go : (o : Outcome) → IsOutcome f text o → IsRead f o answer → TagReadsBack (worked_on f text) answer
-      go (Ranges tree) p k = subst (TagReadsBack (worked_on f text)) (sym k) tt
-      go (Tag t) p k = subst (TagReadsBack (worked_on f text)) (sym k) (λ start. tag_back f text t u start p)
+      go : (o : Outcome) → IsOutcome f text o → IsRead f o answer → TagReadsBack f text answer
+      go (Ranges tree) p k = subst (TagReadsBack f text) (sym k) tt
+      go (Tag t) p k = subst (TagReadsBack f text) (sym k) (λ start. tag_back f text t u start p)
       go Refused p k = absurd k
 
   -- what is read of a text
-  pub answers_read : {E : Type 0} (source : E → Failure) (req : Requirement) → IsUtf8 (worked_on f text) → IsReading f text req.inner → req.raw_text ≡ worked_on f text → IsReaderAnswer source f text (Ok req)
+  pub answers_read : {E : Type 0} (source : E → Failure) (req : Requirement) → IsUtf8 text → IsReading f text req.inner → req.raw_text ≡ worked_on f text → IsReaderAnswer source f text (Ok req)
   answers_read source req u h raw = record {
     outcome = h;
     refused = tt;

@@ -1,5 +1,5 @@
 -- What trimming leaves of a piece at the start of a text that begins with no blank.
-use Rattle.std.proofs.Common.{◌≡◌, ◌≤◌, ◌<◌, ◌⊎◌, ◌-◌, ℕ, Bool, true, false, List, [], ◌∷◌, ◌++◌, length, get_or, refl, sym, ap, ◌∙◌, inl, inr, arith, length-append, ◌==◌}
+use Rattle.std.proofs.Common.{◌≡◌, ◌≤◌, ◌<◌, ◌⊎◌, ◌-◌, ℕ, Bool, true, false, List, [], ◌∷◌, ◌++◌, length, get_or, refl, sym, ap, subst, ◌∙◌, inl, inr, arith, length-append, ◌==◌}
 use Rattle.std.specs.Prelude.{◌&&◌, IsUtf8, encode_utf8_all}
 use Rattle.std.specs.Char.{is_not_whitespace, is_whitespace}
 use Rattle.std.specs.Str.{NonePass, all_scalars, chars, drop_trailing_whitespace, skip_leading_whitespace, trim, trim_end, trim_start}
@@ -102,6 +102,27 @@ start_utf8 text u = (skip_leading_whitespace (chars text), (left_scalars (chars 
 
 pub trimmed_utf8 : (text : List ℕ) → IsUtf8 text → IsUtf8 (trim text)
 trimmed_utf8 text u = (end_left (trim_start text) (start_utf8 text u)).utf8
+
+skipped_once : (cs : List ℕ) → skip_leading_whitespace (skip_leading_whitespace cs) ≡ skip_leading_whitespace cs
+skipped_once [] = refl
+skipped_once (c ∷ cs) = elim (cases_Bool (is_whitespace c)) [
+  | inl white ↦ rw white (skipped_once cs)
+  | inr other ↦ rw other (rw other refl)
+]
+
+left_chars : (text : List ℕ) → IsUtf8 text → chars (trim_start text) ≡ skip_leading_whitespace (chars text)
+unfolding trim_start
+left_chars text u = encodes_same _ _ (encodes-chars (trim_start text) (start_utf8 text u))
+
+started_once : (text : List ℕ) → IsUtf8 text → trim_start (trim_start text) ≡ trim_start text
+started_once text u = start_same (trim_start text) (start_utf8 text u) (rw (left_chars text u) (skipped_once (chars text)))
+
+-- what is trimmed begins with no blank
+pub trimmed_start : (text : List ℕ) → IsUtf8 text → trim_start (trim text) ≡ trim text
+trimmed_start text u =
+    let v = start_utf8 text u in
+    let left = end_left (trim_start text) v in
+    front_start (trim text) left.behind left.utf8 (subst IsUtf8 left.text_is v) (subst (λ t. trim_start t ≡ t) left.text_is (started_once text u))
 
 -- ---- the only piece of a text
 

@@ -10,7 +10,7 @@ use Rattle.semver_req.specs.declared.common.values.Flavour.{Flavour}
 use Rattle.semver_req.specs.declared.common.values.Flavour.TheVariants.{Npm, Normal, Specifier}
 use Rattle.semver_req.proofs.BlanksBehind.{bad_before}
 use Rattle.semver_req.proofs.StrictTags.{nothing_no_tag, strict_no_tag}
-use Rattle.semver_req.proofs.TagPieces.{IsFirst, only_piece, piece_left}
+use Rattle.semver_req.proofs.TagPieces.{IsFirst, only_piece, piece_left, trimmed_start, trimmed_utf8}
 use Rattle.semver_req.proofs.TagTexts.{tag_no_bar, tag_trimmed}
 
 -- what the normalized reader makes of a valid tag that is bad as a piece
@@ -37,6 +37,6 @@ strict_back text t u (no_front n (tag valid)) = bad_tag text u valid (λ cs good
 strict_back text t u (no_fit l f (tag valid)) = bad_tag text u valid (λ cs good. strict_no_tag text text cs good (no_fit l f (tag valid)))
 
 pub tag_back : TagsReadBack
-tag_back Npm text t u start o = cut_back Npm npm (trim text) t u start o
+tag_back Npm text t u start o = cut_back Npm npm (trim text) t (trimmed_utf8 text u) (trimmed_start text u) o
 tag_back Normal text t u start o = cut_back Normal normal text t u start o
 tag_back Specifier text t u start o = strict_back text t u o

@@ -8,7 +8,7 @@ use Rattle.semver_req.specs.KeptSet.{IsReadSet, kept}
 use Rattle.semver_req.specs.Outcome.{IsOutcome, Outcome, Ranges, Refused, Tag, tree_ranges, worked_on}
 use Rattle.semver_req.specs.Requirement.{Requirement, inner_means}
 use Rattle.semver_req.specs.declared.common.values.Flavour.{Flavour}
-use Rattle.semver_req.specs.declared.common.values.Flavour.TheVariants.{Normal}
+use Rattle.semver_req.specs.declared.common.values.Flavour.TheVariants.{Npm, Normal, Specifier}
 use Rattle.semver_req.specs.declared.range_set_or_tag.RangeSetOrTag.{RangeSetOrTag}
 use Rattle.semver_req.specs.declared.range_set_or_tag.RangeSetOrTag.TheVariants as inner
 
@@ -49,10 +49,16 @@ abbrev pub IsReadOrTag : RangeSetOrTag → Type 0
 IsReadOrTag (inner.RangeSet set) = IsReadSet set.0
 IsReadOrTag (inner.Tag tag) = Unit {0}
 
--- a tag is what the normalized reader makes of it again, where the text that was worked on begins with no blank
-abbrev pub TagReadsBack : List ℕ → RangeSetOrTag → Type 0
-TagReadsBack worked (inner.RangeSet set) = Unit {0}
-TagReadsBack worked (inner.Tag tag) = trim_start worked ≡ worked → IsOutcome Normal tag (Tag tag)
+-- only the normalized reader makes a tag of a text that begins with a blank, and leaves the blank out
+abbrev pub StartsFit : Flavour → List ℕ → Type 0
+StartsFit Npm text = Unit {0}
+StartsFit Normal text = trim_start text ≡ text
+StartsFit Specifier text = Unit {0}
+
+-- a tag is what the normalized reader makes of it again
+abbrev pub TagReadsBack : Flavour → List ℕ → RangeSetOrTag → Type 0
+TagReadsBack f text (inner.RangeSet set) = Unit {0}
+TagReadsBack f text (inner.Tag tag) = StartsFit f text → IsOutcome Normal tag (Tag tag)
 
 -- what the reader of a flavour answers to a text
 pub record IsReaderAnswer {E : Type 0} (source : E → Failure) (f : Flavour) (text : List ℕ) (result : Result Requirement E) : Type 0 where
@@ -68,6 +74,6 @@ pub record IsReaderAnswer {E : Type 0} (source : E → Failure) (f : Flavour) (t
   pub tree : IfOk result (λ req. HasTree f text req.inner)
   pub read_set : IfOk result (λ req. IsReadOrTag req.inner)
   -- a tag is read back
-  pub tag : IfOk result (λ req. TagReadsBack (worked_on f text) req.inner)
+  pub tag : IfOk result (λ req. TagReadsBack f text req.inner)
   -- the requirement keeps the text that the reader worked on
   pub raw_text : IfOk result (λ req. req.raw_text ≡ worked_on f text)

@@ -2,7 +2,7 @@
 -- read back.
 use Rattle.std.specs.Prelude.{◌≡◌, ℕ, List, length, Bool, true, false, not, ◌==◌, ◌&&◌, ◌||◌, IsUtf8}
 use Rattle.std.specs.List.{list_all}
-use Rattle.std.specs.Str.{trim, trim_start}
+use Rattle.std.specs.Str.{trim}
 use Rattle.semver_base.specs.Comparators.{Comparator}
 use Rattle.semver_base.specs.Meaning.{alternatives, tree_means}
 use Rattle.semver_base.specs.NormalText.{set_text}
@@ -16,8 +16,9 @@ use Rattle.semver_base.specs.declared.range.VersionBoundKind.TheVariants as kind
 use Rattle.semver_base.specs.declared.range.VersionRange.{VersionRange}
 use Rattle.semver_base.specs.declared.version.Version.{Version}
 use Rattle.semver_req.specs.KeptSet.{IsReadSet, kept}
-use Rattle.semver_req.specs.Outcome.{IsOutcome, Outcome, Ranges, Tag, tree_ranges, worked_on}
+use Rattle.semver_req.specs.Outcome.{IsOutcome, Outcome, Ranges, Tag, tree_ranges}
 use Rattle.semver_req.specs.Pieces.{IsCutting}
+use Rattle.semver_req.specs.Readers.{StartsFit}
 use Rattle.semver_req.specs.declared.common.values.Flavour.{Flavour}
 use Rattle.semver_req.specs.declared.common.values.Flavour.TheVariants.{Normal}
 use Rattle.semver_req.specs.declared.range_set_or_tag.RangeSetOrTag.{RangeSetOrTag}
@@ -113,10 +114,9 @@ SettledSetsAreTheirTexts = (some others : List VersionRange) → IsReadSet some 
 
 -- ---- tags
 
--- the normalized reader makes a tag of what some reader made a tag of, where the text that it worked on begins with no blank
+-- the normalized reader makes a tag of what some reader made a tag of; its own text begins with no blank
 abbrev pub TagsReadBack : Type 0
-TagsReadBack = (f : Flavour) (text t : List ℕ) → IsUtf8 (worked_on f text) → trim_start (worked_on f text) ≡ worked_on f text
-    → IsOutcome f text (Tag t) → IsOutcome Normal t (Tag t)
+TagsReadBack = (f : Flavour) (text t : List ℕ) → IsUtf8 text → StartsFit f text → IsOutcome f text (Tag t) → IsOutcome Normal t (Tag t)
 
 -- ---- requirements
 

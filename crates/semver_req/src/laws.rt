@@ -98,8 +98,8 @@ pub fn one_rereading_settles()
     ensures by_text { SettledSetsAreTheirTexts }
 {}
 
-/// A tag that a reader made of a text is read back: the normalized reader makes the same tag of it, where the text that
-/// the first reader worked on (npm's trims it) begins with no blank.
+/// A tag that a reader made of a text is read back: the normalized reader makes the same tag of it. A tag of the normalized
+/// reader itself is where its text begins with no blank: of ` 1` it makes the tag `1`, whose text is a range.
 pub fn tags_read_back()
     ensures { TagsReadBack }
 {}

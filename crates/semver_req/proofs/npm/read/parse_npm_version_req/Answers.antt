@@ -3,7 +3,6 @@ use Rattle.std.specs.Str.{trim}
 use Rattle.semver_req.specs.PieceReading.{IsCutRefusal, memory_wanting}
 use Rattle.semver_req.specs.declared.common.values.Flavour.TheVariants.{Npm}
 use Rattle.semver_req.proofs.ReaderAnswers.{answers_err, answers_read, err_tells}
-use Rattle.semver_req.proofs.TagPieces.{trimmed_utf8}
 use Rattle.semver_req.proofs.npm.read.parse_npm_version_req.Goals as goal
 
 pub returns-in_err-inner-clause-reads : goal.returns-in_err-inner-clause-reads
@@ -19,4 +18,4 @@ returns-in_err-raw_text-clause-refusal c =
     err_tells (λ e. e.source) c.from_residual-in_err-raw_text.result None (IsCutRefusal Npm (trim c.args.text.now)) c.from_residual-in_err-raw_text.ensures.1 memory_wanting
 
 pub returns-clause-reads : goal.returns-clause-reads
-returns-clause-reads c = rw c.from_raw_text_and_inner.ensures (answers_read Npm c.args.text.now (λ e. e.source) (record { raw_text = c.in_ok-raw_text.raw_text; inner = c.in_ok-inner.inner }) (trimmed_utf8 c.args.text.now c.utf8.text) c.in_ok-inner.ensures.reading (rw c.trim.ensures.trim at c.in_ok-raw_text.ensures.value))
+returns-clause-reads c = rw c.from_raw_text_and_inner.ensures (answers_read Npm c.args.text.now (λ e. e.source) (record { raw_text = c.in_ok-raw_text.raw_text; inner = c.in_ok-inner.inner }) c.utf8.text c.in_ok-inner.ensures.reading (rw c.trim.ensures.trim at c.in_ok-raw_text.ensures.value))
