@@ -8,11 +8,12 @@ use Rattle.semver_base.specs.Meaning.{alternatives, tree_means}
 use Rattle.semver_base.specs.declared.range.VersionRange.{VersionRange}
 use Rattle.semver_base.specs.declared.version.Version.{Version}
 use Rattle.semver_req.specs.KeptSet.{IsReadSet, kept}
-use Rattle.semver_req.specs.Outcome.{IsOutcome, Ranges, tree_ranges}
+use Rattle.semver_req.specs.Outcome.{IsOutcome, Ranges, Tag, tree_ranges}
 use Rattle.semver_req.specs.Readers.{Failure}
 use Rattle.semver_req.specs.Requirement.{Requirement}
 use Rattle.semver_req.specs.Rereading.{IsSettledSet, is_orderly, keeps_meaning}
 use Rattle.semver_req.specs.declared.common.values.Flavour.{Flavour}
+use Rattle.semver_req.specs.declared.common.values.Flavour.TheVariants.{Normal}
 use Rattle.semver_req.specs.declared.range_set_or_tag.RangeSetOrTag.{RangeSetOrTag}
 use Rattle.semver_req.specs.declared.range_set_or_tag.RangeSetOrTag.TheVariants as inner
 
@@ -20,6 +21,15 @@ use Rattle.semver_req.specs.declared.range_set_or_tag.RangeSetOrTag.TheVariants 
 abbrev pub OfRanges : (List VersionRange → Type 0) → RangeSetOrTag → Type 0
 OfRanges Says (inner.RangeSet set) = IsReadSet set.0 → Says set.0
 OfRanges Says (inner.Tag tag) = Unit {0}
+
+-- what is known of a tag that the normalized reader makes of it again
+abbrev pub OfTag : Type 0 → RangeSetOrTag → Type 0
+OfTag Says (inner.RangeSet set) = Unit {0}
+OfTag Says (inner.Tag tag) = IsOutcome Normal tag (Tag tag) → Says
+
+-- what is known of a text that is a tag
+abbrev pub TagOfText : Flavour → List ℕ → Type 0 → Type 0
+TagOfText f text Says = (name : List ℕ) → IsOutcome f text (Tag name) → Says
 
 -- the value is so, want of memory aside
 abbrev pub Answers : {T E : Type 0} → (E → Failure) → (T → Type 0) → Result T E → Type 0

@@ -1,13 +1,14 @@
 //! Does a requirement that is stored as its normal text mean the same when it is read again?
 //!
-//! What is answered of ranges holds of those that some reader answered. Of tags nothing is said: of the text ` 1` the
-//! normalized reader makes the tag `1`, which is stored as a text that is read as a range.
+//! What is answered of ranges holds of those that some reader answered. A tag that npm's or the strict reader made is read
+//! back; one of the normalized reader need not be: of the text ` 1` it makes the tag `1`, which is stored as a text that is
+//! read as a range.
 
 ghost use Rattle.std.specs.Prelude.{◌≡◌, true};
 ghost use Rattle.std.specs.List.{list_all};
 ghost use Rattle.semver_req.specs.Rereading.{is_orderly, keeps_meaning};
 ghost use Rattle.semver_req.specs.declared.common.values.Flavour.TheVariants.{Npm, Specifier};
-ghost use Rattle.callers.specs.Stored.{AllowsAsBefore, AllowsAsItsText, Answers, IsReread, OfRanges};
+ghost use Rattle.callers.specs.Stored.{AllowsAsBefore, AllowsAsItsText, Answers, IsReread, OfRanges, OfTag, TagOfText};
 
 use crate::requirements::{Allowance, allowance_by};
 use deno_semver::npm::NpmVersionReqParseError;
@@ -113,4 +114,35 @@ pub fn is_settled_once_read_back(
     let once = read_again_by_npm(alloc, requirement)?;
     let twice = read_again_by_npm(alloc, &once)?;
     Ok(equal_requirements(&twice, &once))
+}
+
+/// Is the requirement, which is a tag, equal to what the normalized reader makes of the text that it is stored as? Yes, if
+/// that reader makes the tag of it.
+pub fn is_tag_read_back(
+    alloc: Global,
+    requirement: &VersionReq,
+) -> Result<bool, VersionReqNormalizedParseError>
+    ensures { OfTag (Answers (λ e. e.source) (λ is_equal. is_equal ≡ true) result) requirement.now.inner }
+{
+    let stored = requirement.to_string_normalized(alloc)?;
+    let again = VersionReq::parse_from_normalized(alloc, stored.as_str())?;
+    Ok(equal_requirements(&again, requirement))
+}
+
+/// Is the tag that npm's reader makes of a text equal to what is read again of it by the normalized reader? Yes, whatever
+/// tag it is.
+pub fn is_npm_tag_read_back(alloc: Global, text: &str) -> Result<bool, ParseFailure>
+    ensures { TagOfText Npm text.now (Answers (λ failure. failure) (λ is_equal. is_equal ≡ true) result) }
+{
+    let requirement = VersionReq::parse_from_npm(alloc, text)?;
+    Ok(is_tag_read_back(alloc, &requirement)?)
+}
+
+/// Is the tag that the strict reader makes of a text equal to what is read again of it by the normalized reader? Yes,
+/// whatever tag it is.
+pub fn is_specifier_tag_read_back(alloc: Global, text: &str) -> Result<bool, ParseFailure>
+    ensures { TagOfText Specifier text.now (Answers (λ failure. failure) (λ is_equal. is_equal ≡ true) result) }
+{
+    let requirement = VersionReq::parse_from_specifier(alloc, text)?;
+    Ok(is_tag_read_back(alloc, &requirement)?)
 }

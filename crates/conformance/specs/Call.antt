@@ -1,55 +1,95 @@
+-- The first word of a question that asks a call.
 use Rattle.std.specs.Prelude.{List, ℕ, codes}
 use Rattle.conformance.specs.declared.call.Call.{Call}
-use Rattle.conformance.specs.declared.call.Call.TheVariants.{Text, Items, Failure, SameFailure, Refusal, Range, SameRange, TagRequirement, Version, NpmVersion, Equal, Compare, Precedence, Identifiers, Tag, Requirement, SameRequirement, Ranges, Fits, Overlap, Error, Satisfies, SetSatisfies, Admits, Clamp, ClampStart, ClampEnd, IsNone, IntersectsVersion, IntersectsRange, IntersectsSet, Partial, PartialAt, QualifierAt, SignAt, ComparatorAt, OperatorAt, Made, Pushed, Replaced, Grown, Written, Normal, Reread, Pinned, NameVersion, Package, PackageError, Order}
+use Rattle.conformance.specs.declared.call.Call.TheVariants.{Values, Versions, Requirements, Ranges, Partials, Places, Texts, Packages}
+use Rattle.conformance.specs.declared.values.ValueCall.{ValueCall}
+use Rattle.conformance.specs.declared.values.ValueCall.TheVariants as values
+use Rattle.conformance.specs.declared.versions.VersionCall.{VersionCall}
+use Rattle.conformance.specs.declared.versions.VersionCall.TheVariants as versions
+use Rattle.conformance.specs.declared.requirements.RequirementCall.{RequirementCall}
+use Rattle.conformance.specs.declared.requirements.RequirementCall.TheVariants as requirements
+use Rattle.conformance.specs.declared.ranges.RangeCall.{RangeCall}
+use Rattle.conformance.specs.declared.ranges.RangeCall.TheVariants as ranges
+use Rattle.conformance.specs.declared.partials.PartialCall.{PartialCall}
+use Rattle.conformance.specs.declared.partials.PartialCall.TheVariants as partials
+use Rattle.conformance.specs.declared.places.PlaceCall.{PlaceCall}
+use Rattle.conformance.specs.declared.places.PlaceCall.TheVariants as places
+use Rattle.conformance.specs.declared.texts.TextCall.{TextCall}
+use Rattle.conformance.specs.declared.texts.TextCall.TheVariants as texts
+use Rattle.conformance.specs.declared.packages.PackageCall.{PackageCall}
+use Rattle.conformance.specs.declared.packages.PackageCall.TheVariants as packages
 
--- the first word of a question that asks the call
+abbrev pub value_call_name : ValueCall → List ℕ
+value_call_name values.Text = codes "text"
+value_call_name values.Items = codes "items"
+value_call_name values.Failure = codes "failure"
+value_call_name values.SameFailure = codes "same-failure"
+value_call_name values.Refusal = codes "refusal"
+value_call_name values.Range = codes "range"
+value_call_name values.SameRange = codes "same-range"
+value_call_name values.TagRequirement = codes "tag-requirement"
+
+abbrev pub version_call_name : VersionCall → List ℕ
+version_call_name versions.Version = codes "version"
+version_call_name versions.NpmVersion = codes "npm-version"
+version_call_name versions.Equal = codes "equal"
+version_call_name versions.Compare = codes "compare"
+version_call_name versions.Precedence = codes "precedence"
+version_call_name versions.Identifiers = codes "identifiers"
+
+abbrev pub requirement_call_name : RequirementCall → List ℕ
+requirement_call_name requirements.Tag = codes "tag"
+requirement_call_name requirements.Requirement = codes "requirement"
+requirement_call_name requirements.SameRequirement = codes "same-requirement"
+requirement_call_name requirements.Ranges = codes "ranges"
+requirement_call_name requirements.Fits = codes "fits"
+requirement_call_name requirements.Overlap = codes "overlap"
+requirement_call_name requirements.Error = codes "error"
+requirement_call_name requirements.Normal = codes "normal"
+requirement_call_name requirements.Reread = codes "reread"
+requirement_call_name requirements.Pinned = codes "pinned"
+
+abbrev pub range_call_name : RangeCall → List ℕ
+range_call_name ranges.Satisfies = codes "satisfies"
+range_call_name ranges.SetSatisfies = codes "set-satisfies"
+range_call_name ranges.Admits = codes "admits"
+range_call_name ranges.Clamp = codes "clamp"
+range_call_name ranges.ClampStart = codes "clamp-start"
+range_call_name ranges.ClampEnd = codes "clamp-end"
+range_call_name ranges.IsNone = codes "is-none"
+range_call_name ranges.IntersectsVersion = codes "intersects-version"
+range_call_name ranges.IntersectsRange = codes "intersects-range"
+range_call_name ranges.IntersectsSet = codes "intersects-set"
+
+abbrev pub partial_call_name : PartialCall → List ℕ
+partial_call_name partials.Partial = codes "partial"
+
+abbrev pub place_call_name : PlaceCall → List ℕ
+place_call_name places.PartialAt = codes "partial-at"
+place_call_name places.QualifierAt = codes "qualifier-at"
+place_call_name places.SignAt = codes "sign-at"
+place_call_name places.ComparatorAt = codes "comparator-at"
+place_call_name places.OperatorAt = codes "operator-at"
+
+abbrev pub text_call_name : TextCall → List ℕ
+text_call_name texts.Made = codes "made"
+text_call_name texts.Pushed = codes "pushed"
+text_call_name texts.Replaced = codes "replaced"
+text_call_name texts.Grown = codes "grown"
+text_call_name texts.Written = codes "written"
+
+abbrev pub package_call_name : PackageCall → List ℕ
+package_call_name packages.NameVersion = codes "name-version"
+package_call_name packages.Package = codes "package"
+package_call_name packages.PackageError = codes "package-error"
+package_call_name packages.Order = codes "order"
+
 abbrev pub name_of : Call → List ℕ
-name_of Text = codes "text"
-name_of Items = codes "items"
-name_of Failure = codes "failure"
-name_of SameFailure = codes "same-failure"
-name_of Refusal = codes "refusal"
-name_of Range = codes "range"
-name_of SameRange = codes "same-range"
-name_of TagRequirement = codes "tag-requirement"
-name_of Version = codes "version"
-name_of NpmVersion = codes "npm-version"
-name_of Equal = codes "equal"
-name_of Compare = codes "compare"
-name_of Precedence = codes "precedence"
-name_of Identifiers = codes "identifiers"
-name_of Tag = codes "tag"
-name_of Requirement = codes "requirement"
-name_of SameRequirement = codes "same-requirement"
-name_of Ranges = codes "ranges"
-name_of Fits = codes "fits"
-name_of Overlap = codes "overlap"
-name_of Error = codes "error"
-name_of Satisfies = codes "satisfies"
-name_of SetSatisfies = codes "set-satisfies"
-name_of Admits = codes "admits"
-name_of Clamp = codes "clamp"
-name_of ClampStart = codes "clamp-start"
-name_of ClampEnd = codes "clamp-end"
-name_of IsNone = codes "is-none"
-name_of IntersectsVersion = codes "intersects-version"
-name_of IntersectsRange = codes "intersects-range"
-name_of IntersectsSet = codes "intersects-set"
-name_of Partial = codes "partial"
-name_of PartialAt = codes "partial-at"
-name_of QualifierAt = codes "qualifier-at"
-name_of SignAt = codes "sign-at"
-name_of ComparatorAt = codes "comparator-at"
-name_of OperatorAt = codes "operator-at"
-name_of Made = codes "made"
-name_of Pushed = codes "pushed"
-name_of Replaced = codes "replaced"
-name_of Grown = codes "grown"
-name_of Written = codes "written"
-name_of Normal = codes "normal"
-name_of Reread = codes "reread"
-name_of Pinned = codes "pinned"
-name_of NameVersion = codes "name-version"
-name_of Package = codes "package"
-name_of PackageError = codes "package-error"
-name_of Order = codes "order"
+name_of (Values call) = value_call_name call
+name_of (Versions call) = version_call_name call
+name_of (Requirements call) = requirement_call_name call
+name_of (Ranges call) = range_call_name call
+name_of (Partials call) = partial_call_name call
+name_of (Places call) = place_call_name call
+name_of (Texts call) = text_call_name call
+name_of (Packages call) = package_call_name call

@@ -1,11 +1,47 @@
 //! Packages: requirements of them, and names with versions.
 
+ghost use Rattle.std.specs.Prelude.{◌≡◌};
+ghost use Rattle.conformance.specs.Call.{package_call_name};
+
 use crate::words::{Answer, Fault, Word, answer};
 use deno_semver::package::{
     PackageNv, PackageReq, PackageReqParseError, PackageReqPartsParseError,
 };
 use std::alloc::Global;
 use std::cmp::Ordering;
+
+/// The calls on packages.
+#[derive(Clone, Copy, Debug, PartialEq, Eq)]
+pub enum PackageCall {
+    NameVersion,
+    Package,
+    PackageError,
+    Order,
+}
+
+impl PackageCall {
+    /// The first word of a question that asks the call.
+    pub fn name(self) -> &'static str
+        ensures { result.now ≡ package_call_name self }
+    {
+        match self {
+            PackageCall::NameVersion => "name-version",
+            PackageCall::Package => "package",
+            PackageCall::PackageError => "package-error",
+            PackageCall::Order => "order",
+        }
+    }
+
+    /// What the call answers to a question's words after its name.
+    pub fn ask(self, alloc: Global, words: &[Word<'_>]) -> Answer {
+        match self {
+            PackageCall::NameVersion => name_version(alloc, words),
+            PackageCall::Package => package(alloc, words),
+            PackageCall::PackageError => package_error(alloc, words),
+            PackageCall::Order => order(alloc, words),
+        }
+    }
+}
 
 // The requirement that the reader of this name makes of the text of a package.
 fn read(
@@ -50,9 +86,9 @@ fn told(alloc: Global, req: &PackageReq) -> Answer {
     )
 }
 
-/// `package`, `strict`, `loose` or `normalized`, and the text of a package: `read`, the name, the text of the requirement
-/// of versions, and the requirement with its normal text and as it is displayed; or `refused` and the kind of the error.
-pub fn package(alloc: Global, words: &[Word<'_>]) -> Answer {
+// `package`, `strict`, `loose` or `normalized`, and the text of a package: `read`, the name, the text of the requirement
+// of versions, and the requirement with its normal text and as it is displayed; or `refused` and the kind of the error.
+fn package(alloc: Global, words: &[Word<'_>]) -> Answer {
     let [Some(reader), Some(text)] = words else {
         return Err(Fault::Unreadable);
     };
@@ -65,8 +101,8 @@ pub fn package(alloc: Global, words: &[Word<'_>]) -> Answer {
     }
 }
 
-/// `package-error`, a reader as above, and the text of a package that is refused: the lines of the error and of its source.
-pub fn package_error(alloc: Global, words: &[Word<'_>]) -> Answer {
+// `package-error`, a reader as above, and the text of a package that is refused: the lines of the error and of its source.
+fn package_error(alloc: Global, words: &[Word<'_>]) -> Answer {
     let [Some(reader), Some(text)] = words else {
         return Err(Fault::Unreadable);
     };
@@ -86,8 +122,8 @@ fn loose(alloc: Global, text: &str) -> Result<PackageReq, Fault> {
     }
 }
 
-/// `order`, two texts of packages, by npm's reader: how the first requirement compares to the second.
-pub fn order(alloc: Global, words: &[Word<'_>]) -> Answer {
+// `order`, two texts of packages, by npm's reader: how the first requirement compares to the second.
+fn order(alloc: Global, words: &[Word<'_>]) -> Answer {
     let [Some(one), Some(other)] = words else {
         return Err(Fault::Unreadable);
     };
@@ -99,9 +135,9 @@ pub fn order(alloc: Global, words: &[Word<'_>]) -> Answer {
     answer(alloc, &[Some(word)])
 }
 
-/// `name-version`, a text: `read`, the name, the version, the scope or null, how it is displayed, and the name with the
-/// normal text of the requirement that it is turned into; or `refused` and the message.
-pub fn name_version(alloc: Global, words: &[Word<'_>]) -> Answer {
+// `name-version`, a text: `read`, the name, the version, the scope or null, how it is displayed, and the name with the
+// normal text of the requirement that it is turned into; or `refused` and the message.
+fn name_version(alloc: Global, words: &[Word<'_>]) -> Answer {
     let [Some(text)] = words else {
         return Err(Fault::Unreadable);
     };

@@ -1,5 +1,7 @@
 //! What the readers over a text and a place read, and what follows it.
 
+ghost use Rattle.std.specs.Prelude.{◌≡◌};
+ghost use Rattle.conformance.specs.Call.{place_call_name};
 ghost use Rattle.std.specs.Prelude.{IfOk};
 ghost use Rattle.std.specs.Str.{IsCharBoundary};
 
@@ -9,6 +11,42 @@ use semver_base::lexical::values::Measured;
 use semver_req::common;
 use semver_req::common::values::{Flavour, PrimitiveKind};
 use std::alloc::Global;
+
+/// The calls on the parts of a requirement at a place of its text.
+#[derive(Clone, Copy, Debug, PartialEq, Eq)]
+pub enum PlaceCall {
+    PartialAt,
+    QualifierAt,
+    SignAt,
+    ComparatorAt,
+    OperatorAt,
+}
+
+impl PlaceCall {
+    /// The first word of a question that asks the call.
+    pub fn name(self) -> &'static str
+        ensures { result.now ≡ place_call_name self }
+    {
+        match self {
+            PlaceCall::PartialAt => "partial-at",
+            PlaceCall::QualifierAt => "qualifier-at",
+            PlaceCall::SignAt => "sign-at",
+            PlaceCall::ComparatorAt => "comparator-at",
+            PlaceCall::OperatorAt => "operator-at",
+        }
+    }
+
+    /// What the call answers to a question's words after its name.
+    pub fn ask(self, alloc: Global, words: &[Word<'_>]) -> Answer {
+        match self {
+            PlaceCall::PartialAt => partial_at(alloc, words),
+            PlaceCall::QualifierAt => qualifier_at(alloc, words),
+            PlaceCall::SignAt => sign_at(alloc, words),
+            PlaceCall::ComparatorAt => comparator_at(alloc, words),
+            PlaceCall::OperatorAt => operator_at(alloc, words),
+        }
+    }
+}
 
 fn flavour_of(name: &str) -> Result<Flavour, Fault> {
     match name {
@@ -29,9 +67,9 @@ fn place_in(text: &str, word: &str) -> Result<usize, Fault>
     }
 }
 
-/// `partial-at`, a grammar, a text and a place: the partial version there and what follows it; `none`, or `too large`
-/// where a number in it doesn't fit.
-pub fn partial_at(alloc: Global, words: &[Word<'_>]) -> Answer {
+// `partial-at`, a grammar, a text and a place: the partial version there and what follows it; `none`, or `too large`
+// where a number in it doesn't fit.
+fn partial_at(alloc: Global, words: &[Word<'_>]) -> Answer {
     let [Some(flavour), Some(text), Some(place)] = words else {
         return Err(Fault::Unreadable);
     };
@@ -47,8 +85,8 @@ pub fn partial_at(alloc: Global, words: &[Word<'_>]) -> Answer {
     answer(alloc, &[Some(value.as_str()), Some(&text[reached..])])
 }
 
-/// `qualifier-at`, a grammar, a text and a place: the pre-release and the build there, and what follows them.
-pub fn qualifier_at(alloc: Global, words: &[Word<'_>]) -> Answer {
+// `qualifier-at`, a grammar, a text and a place: the pre-release and the build there, and what follows them.
+fn qualifier_at(alloc: Global, words: &[Word<'_>]) -> Answer {
     let [Some(flavour), Some(text), Some(place)] = words else {
         return Err(Fault::Unreadable);
     };
@@ -69,8 +107,8 @@ fn sign(kind: PrimitiveKind) -> &'static str {
     }
 }
 
-/// `sign-at`, a text and a place: the sign there and what follows it, or `none`.
-pub fn sign_at(alloc: Global, words: &[Word<'_>]) -> Answer {
+// `sign-at`, a text and a place: the sign there and what follows it, or `none`.
+fn sign_at(alloc: Global, words: &[Word<'_>]) -> Answer {
     let [Some(text), Some(place)] = words else {
         return Err(Fault::Unreadable);
     };
@@ -81,9 +119,9 @@ pub fn sign_at(alloc: Global, words: &[Word<'_>]) -> Answer {
     }
 }
 
-/// `comparator-at`, a grammar, a text and a place: the range of the sign and the partial version there; `none`, or
-/// `too large` where a number doesn't fit.
-pub fn comparator_at(alloc: Global, words: &[Word<'_>]) -> Answer {
+// `comparator-at`, a grammar, a text and a place: the range of the sign and the partial version there; `none`, or
+// `too large` where a number doesn't fit.
+fn comparator_at(alloc: Global, words: &[Word<'_>]) -> Answer {
     let [Some(flavour), Some(text), Some(place)] = words else {
         return Err(Fault::Unreadable);
     };
@@ -98,8 +136,8 @@ pub fn comparator_at(alloc: Global, words: &[Word<'_>]) -> Answer {
     }
 }
 
-/// `operator-at`, `or` or `and`, a text and a place: what follows the operator there and the blanks round it, or `none`.
-pub fn operator_at(alloc: Global, words: &[Word<'_>]) -> Answer {
+// `operator-at`, `or` or `and`, a text and a place: what follows the operator there and the blanks round it, or `none`.
+fn operator_at(alloc: Global, words: &[Word<'_>]) -> Answer {
     let [Some(operator), Some(text), Some(place)] = words else {
         return Err(Fault::Unreadable);
     };

@@ -1,9 +1,63 @@
 //! What ranges match, and how they are clamped and overlap.
 
+ghost use Rattle.std.specs.Prelude.{◌≡◌};
+ghost use Rattle.conformance.specs.Call.{range_call_name};
+
 use crate::shown;
 use crate::words::{Answer, Fault, Word, answer, yes_or_no};
 use deno_semver::Version;
 use std::alloc::Global;
+
+/// The calls on ranges and bounds.
+#[derive(Clone, Copy, Debug, PartialEq, Eq)]
+pub enum RangeCall {
+    Satisfies,
+    SetSatisfies,
+    Admits,
+    Clamp,
+    ClampStart,
+    ClampEnd,
+    IsNone,
+    IntersectsVersion,
+    IntersectsRange,
+    IntersectsSet,
+}
+
+impl RangeCall {
+    /// The first word of a question that asks the call.
+    pub fn name(self) -> &'static str
+        ensures { result.now ≡ range_call_name self }
+    {
+        match self {
+            RangeCall::Satisfies => "satisfies",
+            RangeCall::SetSatisfies => "set-satisfies",
+            RangeCall::Admits => "admits",
+            RangeCall::Clamp => "clamp",
+            RangeCall::ClampStart => "clamp-start",
+            RangeCall::ClampEnd => "clamp-end",
+            RangeCall::IsNone => "is-none",
+            RangeCall::IntersectsVersion => "intersects-version",
+            RangeCall::IntersectsRange => "intersects-range",
+            RangeCall::IntersectsSet => "intersects-set",
+        }
+    }
+
+    /// What the call answers to a question's words after its name.
+    pub fn ask(self, alloc: Global, words: &[Word<'_>]) -> Answer {
+        match self {
+            RangeCall::Satisfies => satisfies(alloc, words),
+            RangeCall::SetSatisfies => set_satisfies(alloc, words),
+            RangeCall::Admits => admits(alloc, words),
+            RangeCall::Clamp => clamp(alloc, words),
+            RangeCall::ClampStart => clamp_start(alloc, words),
+            RangeCall::ClampEnd => clamp_end(alloc, words),
+            RangeCall::IsNone => is_none(alloc, words),
+            RangeCall::IntersectsVersion => intersects_version(alloc, words),
+            RangeCall::IntersectsRange => intersects_range(alloc, words),
+            RangeCall::IntersectsSet => intersects_set(alloc, words),
+        }
+    }
+}
 
 // The two texts that the words are.
 fn pair<'a>(words: &[Word<'a>]) -> Result<(&'a str, &'a str), Fault> {
@@ -13,62 +67,62 @@ fn pair<'a>(words: &[Word<'a>]) -> Result<(&'a str, &'a str), Fault> {
     }
 }
 
-/// `satisfies`, a range and a version: whether the version matches.
-pub fn satisfies(alloc: Global, words: &[Word<'_>]) -> Answer {
+// `satisfies`, a range and a version: whether the version matches.
+fn satisfies(alloc: Global, words: &[Word<'_>]) -> Answer {
     let (range, version) = pair(words)?;
     let version = Version::parse_standard(alloc, version)?;
     yes_or_no(alloc, shown::range_of(alloc, range)?.satisfies(&version))
 }
 
-/// `set-satisfies`, a set of ranges and a version: whether the version matches some range.
-pub fn set_satisfies(alloc: Global, words: &[Word<'_>]) -> Answer {
+// `set-satisfies`, a set of ranges and a version: whether the version matches some range.
+fn set_satisfies(alloc: Global, words: &[Word<'_>]) -> Answer {
     let (set, version) = pair(words)?;
     let version = Version::parse_standard(alloc, version)?;
     yes_or_no(alloc, shown::set_of(alloc, set)?.satisfies(&version))
 }
 
-/// `admits`, a start and a version: whether the start is a pre-release of the version's three numbers.
-pub fn admits(alloc: Global, words: &[Word<'_>]) -> Answer {
+// `admits`, a start and a version: whether the start is a pre-release of the version's three numbers.
+fn admits(alloc: Global, words: &[Word<'_>]) -> Answer {
     let (start, version) = pair(words)?;
     let start = shown::start_of(alloc, start)?;
     let version = Version::parse_standard(alloc, version)?;
     yes_or_no(alloc, start.has_pre_with_exact_major_minor_patch(&version))
 }
 
-/// `clamp`, two ranges: the range that the first is clamped to by the second.
-pub fn clamp(alloc: Global, words: &[Word<'_>]) -> Answer {
+// `clamp`, two ranges: the range that the first is clamped to by the second.
+fn clamp(alloc: Global, words: &[Word<'_>]) -> Answer {
     let (range, other) = pair(words)?;
     let other = shown::range_of(alloc, other)?;
     let clamped = shown::range_of(alloc, range)?.clamp(alloc, &other)?;
     answer(alloc, &[Some(shown::range(alloc, &clamped)?.as_str())])
 }
 
-/// `clamp-start`, two starts: the start that the first is clamped to by the second.
-pub fn clamp_start(alloc: Global, words: &[Word<'_>]) -> Answer {
+// `clamp-start`, two starts: the start that the first is clamped to by the second.
+fn clamp_start(alloc: Global, words: &[Word<'_>]) -> Answer {
     let (start, other) = pair(words)?;
     let other = shown::start_of(alloc, other)?;
     let clamped = shown::start_of(alloc, start)?.clamp_start(alloc, &other)?;
     answer(alloc, &[Some(shown::start(alloc, &clamped)?.as_str())])
 }
 
-/// `clamp-end`, two ends: the end that the first is clamped to by the second.
-pub fn clamp_end(alloc: Global, words: &[Word<'_>]) -> Answer {
+// `clamp-end`, two ends: the end that the first is clamped to by the second.
+fn clamp_end(alloc: Global, words: &[Word<'_>]) -> Answer {
     let (end, other) = pair(words)?;
     let other = shown::end_of(alloc, other)?;
     let clamped = shown::end_of(alloc, end)?.clamp_end(alloc, &other)?;
     answer(alloc, &[Some(shown::end(alloc, &clamped)?.as_str())])
 }
 
-/// `is-none`, a range: whether its end is exclusive and at the numbers 0.0.0.
-pub fn is_none(alloc: Global, words: &[Word<'_>]) -> Answer {
+// `is-none`, a range: whether its end is exclusive and at the numbers 0.0.0.
+fn is_none(alloc: Global, words: &[Word<'_>]) -> Answer {
     let [Some(range)] = words else {
         return Err(Fault::Unreadable);
     };
     yes_or_no(alloc, shown::range_of(alloc, range)?.is_none())
 }
 
-/// `intersects-version`, a range and a version: whether the version stands between the bounds.
-pub fn intersects_version(alloc: Global, words: &[Word<'_>]) -> Answer {
+// `intersects-version`, a range and a version: whether the version stands between the bounds.
+fn intersects_version(alloc: Global, words: &[Word<'_>]) -> Answer {
     let (range, version) = pair(words)?;
     let version = Version::parse_standard(alloc, version)?;
     yes_or_no(
@@ -77,8 +131,8 @@ pub fn intersects_version(alloc: Global, words: &[Word<'_>]) -> Answer {
     )
 }
 
-/// `intersects-range`, two ranges: whether they overlap.
-pub fn intersects_range(alloc: Global, words: &[Word<'_>]) -> Answer {
+// `intersects-range`, two ranges: whether they overlap.
+fn intersects_range(alloc: Global, words: &[Word<'_>]) -> Answer {
     let (range, other) = pair(words)?;
     let other = shown::range_of(alloc, other)?;
     yes_or_no(
@@ -87,8 +141,8 @@ pub fn intersects_range(alloc: Global, words: &[Word<'_>]) -> Answer {
     )
 }
 
-/// `intersects-set`, two sets of ranges: whether a range of the one overlaps a range of the other.
-pub fn intersects_set(alloc: Global, words: &[Word<'_>]) -> Answer {
+// `intersects-set`, two sets of ranges: whether a range of the one overlaps a range of the other.
+fn intersects_set(alloc: Global, words: &[Word<'_>]) -> Answer {
     let (set, other) = pair(words)?;
     let other = shown::set_of(alloc, other)?;
     yes_or_no(alloc, shown::set_of(alloc, set)?.intersects_set(&other))

@@ -1,10 +1,64 @@
 //! How requirements are read, and what they match.
 
+ghost use Rattle.std.specs.Prelude.{◌≡◌};
+ghost use Rattle.conformance.specs.Call.{requirement_call_name};
+
 use crate::shown;
 use crate::words::{Answer, Fault, Word, answer, yes_or_no};
 use deno_semver::npm::{is_valid_npm_tag, parse_npm_version, parse_npm_version_req};
 use deno_semver::{IntoVersionReq, ParseFailure, RangeSetOrTag, Version, VersionReq};
 use std::alloc::Global;
+
+/// The calls on requirements.
+#[derive(Clone, Copy, Debug, PartialEq, Eq)]
+pub enum RequirementCall {
+    Tag,
+    Requirement,
+    SameRequirement,
+    Ranges,
+    Fits,
+    Overlap,
+    Error,
+    Normal,
+    Reread,
+    Pinned,
+}
+
+impl RequirementCall {
+    /// The first word of a question that asks the call.
+    pub fn name(self) -> &'static str
+        ensures { result.now ≡ requirement_call_name self }
+    {
+        match self {
+            RequirementCall::Tag => "tag",
+            RequirementCall::Requirement => "requirement",
+            RequirementCall::SameRequirement => "same-requirement",
+            RequirementCall::Ranges => "ranges",
+            RequirementCall::Fits => "fits",
+            RequirementCall::Overlap => "overlap",
+            RequirementCall::Error => "error",
+            RequirementCall::Normal => "normal",
+            RequirementCall::Reread => "reread",
+            RequirementCall::Pinned => "pinned",
+        }
+    }
+
+    /// What the call answers to a question's words after its name.
+    pub fn ask(self, alloc: Global, words: &[Word<'_>]) -> Answer {
+        match self {
+            RequirementCall::Tag => tag(alloc, words),
+            RequirementCall::Requirement => requirement(alloc, words),
+            RequirementCall::SameRequirement => same_requirement(alloc, words),
+            RequirementCall::Ranges => ranges(alloc, words),
+            RequirementCall::Fits => fits(alloc, words),
+            RequirementCall::Overlap => overlap(alloc, words),
+            RequirementCall::Error => error(alloc, words),
+            RequirementCall::Normal => normal(alloc, words),
+            RequirementCall::Reread => reread(alloc, words),
+            RequirementCall::Pinned => pinned(alloc, words),
+        }
+    }
+}
 
 // The requirement that the reader of this name makes of a text.
 fn read(alloc: Global, reader: &str, text: &str) -> Result<VersionReq, Fault> {
@@ -16,16 +70,16 @@ fn read(alloc: Global, reader: &str, text: &str) -> Result<VersionReq, Fault> {
     }
 }
 
-/// `tag`, a text: whether it is a valid tag.
-pub fn tag(alloc: Global, words: &[Word<'_>]) -> Answer {
+// `tag`, a text: whether it is a valid tag.
+fn tag(alloc: Global, words: &[Word<'_>]) -> Answer {
     let [Some(text)] = words else {
         return Err(Fault::Unreadable);
     };
     yes_or_no(alloc, is_valid_npm_tag(text))
 }
 
-/// `requirement`, a reader and a text: `ranges`, or `tag` and the tag; and the text that the requirement keeps.
-pub fn requirement(alloc: Global, words: &[Word<'_>]) -> Answer {
+// `requirement`, a reader and a text: `ranges`, or `tag` and the tag; and the text that the requirement keeps.
+fn requirement(alloc: Global, words: &[Word<'_>]) -> Answer {
     let [Some(reader), Some(text)] = words else {
         return Err(Fault::Unreadable);
     };
@@ -37,9 +91,9 @@ pub fn requirement(alloc: Global, words: &[Word<'_>]) -> Answer {
     }
 }
 
-/// `ranges`, a reader and a text that is no tag: the ranges of a copy of the requirement, and the text that the copy
-/// keeps.
-pub fn ranges(alloc: Global, words: &[Word<'_>]) -> Answer {
+// `ranges`, a reader and a text that is no tag: the ranges of a copy of the requirement, and the text that the copy
+// keeps.
+fn ranges(alloc: Global, words: &[Word<'_>]) -> Answer {
     let [Some(reader), Some(text)] = words else {
         return Err(Fault::Unreadable);
     };
@@ -49,8 +103,8 @@ pub fn ranges(alloc: Global, words: &[Word<'_>]) -> Answer {
     answer(alloc, &[Some(ranges.as_str()), Some(copy.version_text())])
 }
 
-/// `overlap`, a reader and two texts: whether the requirements overlap.
-pub fn overlap(alloc: Global, words: &[Word<'_>]) -> Answer {
+// `overlap`, a reader and two texts: whether the requirements overlap.
+fn overlap(alloc: Global, words: &[Word<'_>]) -> Answer {
     let [Some(reader), Some(left), Some(right)] = words else {
         return Err(Fault::Unreadable);
     };
@@ -59,8 +113,8 @@ pub fn overlap(alloc: Global, words: &[Word<'_>]) -> Answer {
     yes_or_no(alloc, left.intersects(&right))
 }
 
-/// `same-requirement`, a reader and two texts: whether the requirements stand for the same.
-pub fn same_requirement(alloc: Global, words: &[Word<'_>]) -> Answer {
+// `same-requirement`, a reader and two texts: whether the requirements stand for the same.
+fn same_requirement(alloc: Global, words: &[Word<'_>]) -> Answer {
     let [Some(reader), Some(left), Some(right)] = words else {
         return Err(Fault::Unreadable);
     };
@@ -69,8 +123,8 @@ pub fn same_requirement(alloc: Global, words: &[Word<'_>]) -> Answer {
     yes_or_no(alloc, left == right)
 }
 
-/// `fits`, a reader, a requirement and a version: whether the version matches, or `tag` and the tag.
-pub fn fits(alloc: Global, words: &[Word<'_>]) -> Answer {
+// `fits`, a reader, a requirement and a version: whether the version matches, or `tag` and the tag.
+fn fits(alloc: Global, words: &[Word<'_>]) -> Answer {
     let [Some(reader), Some(requirement), Some(version)] = words else {
         return Err(Fault::Unreadable);
     };
@@ -82,8 +136,8 @@ pub fn fits(alloc: Global, words: &[Word<'_>]) -> Answer {
     }
 }
 
-/// `normal`, a reader and a text: `ranges` or `tag`, and the normal text of the requirement.
-pub fn normal(alloc: Global, words: &[Word<'_>]) -> Answer {
+// `normal`, a reader and a text: `ranges` or `tag`, and the normal text of the requirement.
+fn normal(alloc: Global, words: &[Word<'_>]) -> Answer {
     let [Some(reader), Some(text)] = words else {
         return Err(Fault::Unreadable);
     };
@@ -96,9 +150,9 @@ pub fn normal(alloc: Global, words: &[Word<'_>]) -> Answer {
     answer(alloc, &[Some(kind), Some(normal.as_str())])
 }
 
-/// `reread`, a reader, a text and another reader: `equal` where what the other reader makes of the requirement's normal
-/// text equals the requirement, and else `differs`; and the normal text of that.
-pub fn reread(alloc: Global, words: &[Word<'_>]) -> Answer {
+// `reread`, a reader, a text and another reader: `equal` where what the other reader makes of the requirement's normal
+// text equals the requirement, and else `differs`; and the normal text of that.
+fn reread(alloc: Global, words: &[Word<'_>]) -> Answer {
     let [Some(reader), Some(text), Some(other)] = words else {
         return Err(Fault::Unreadable);
     };
@@ -114,9 +168,9 @@ pub fn reread(alloc: Global, words: &[Word<'_>]) -> Answer {
     answer(alloc, &[Some(word), Some(settled.as_str())])
 }
 
-/// `pinned`, two versions: the text of the requirement that the first is turned into, its normal text, and whether the
-/// second matches.
-pub fn pinned(alloc: Global, words: &[Word<'_>]) -> Answer {
+// `pinned`, two versions: the text of the requirement that the first is turned into, its normal text, and whether the
+// second matches.
+fn pinned(alloc: Global, words: &[Word<'_>]) -> Answer {
     let [Some(version), Some(other)] = words else {
         return Err(Fault::Unreadable);
     };
@@ -178,9 +232,9 @@ fn npm_version_error(alloc: Global, text: &str) -> Answer {
     told(alloc, format!(in alloc; "{error}")?.as_str(), &error.source)
 }
 
-/// `error`, `version`, `npm-version` or a reader, and a text that is refused: the lines of a copy of the error and of
-/// its source.
-pub fn error(alloc: Global, words: &[Word<'_>]) -> Answer {
+// `error`, `version`, `npm-version` or a reader, and a text that is refused: the lines of a copy of the error and of
+// its source.
+fn error(alloc: Global, words: &[Word<'_>]) -> Answer {
     let [Some(reader), Some(text)] = words else {
         return Err(Fault::Unreadable);
     };

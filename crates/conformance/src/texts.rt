@@ -1,5 +1,8 @@
 //! Texts that are made and grow, and what is appended to them.
 
+ghost use Rattle.std.specs.Prelude.{◌≡◌};
+ghost use Rattle.conformance.specs.Call.{text_call_name};
+
 use crate::shown;
 use crate::words::{Answer, Fault, Word, answer};
 use deno_semver::{
@@ -8,6 +11,42 @@ use deno_semver::{
 use std::alloc::Global;
 use std::borrow::CowStr;
 use std::fmt;
+
+/// The calls on the two text types.
+#[derive(Clone, Copy, Debug, PartialEq, Eq)]
+pub enum TextCall {
+    Made,
+    Pushed,
+    Replaced,
+    Grown,
+    Written,
+}
+
+impl TextCall {
+    /// The first word of a question that asks the call.
+    pub fn name(self) -> &'static str
+        ensures { result.now ≡ text_call_name self }
+    {
+        match self {
+            TextCall::Made => "made",
+            TextCall::Pushed => "pushed",
+            TextCall::Replaced => "replaced",
+            TextCall::Grown => "grown",
+            TextCall::Written => "written",
+        }
+    }
+
+    /// What the call answers to a question's words after its name.
+    pub fn ask(self, alloc: Global, words: &[Word<'_>]) -> Answer {
+        match self {
+            TextCall::Made => made(alloc, words),
+            TextCall::Pushed => pushed(alloc, words),
+            TextCall::Replaced => replaced(alloc, words),
+            TextCall::Grown => grown(alloc, words),
+            TextCall::Written => written_as(alloc, words),
+        }
+    }
+}
 
 // The text as a text of this type, made in the way of this name. The only literal is `latest`.
 macro_rules! made_by {
@@ -53,9 +92,9 @@ fn stack(alloc: Global, way: &str, text: &str) -> Answer {
     told(alloc, made.as_str(), lent.as_str(), given.as_str())
 }
 
-/// `made`, `small` or `stack`, a way to make a text, and a text: the text that is made, and the two that a `String` is
-/// made of it.
-pub fn made(alloc: Global, words: &[Word<'_>]) -> Answer {
+// `made`, `small` or `stack`, a way to make a text, and a text: the text that is made, and the two that a `String` is
+// made of it.
+fn made(alloc: Global, words: &[Word<'_>]) -> Answer {
     match words {
         [Some("small"), Some(way), Some(text)] => small(alloc, way, text),
         [Some("stack"), Some(way), Some(text)] => stack(alloc, way, text),
@@ -81,9 +120,9 @@ fn by_character<T: StringType>(alloc: Global, start: &str, text: &str) -> Result
     Ok(String::from_str(alloc, pushed.as_str())?)
 }
 
-/// `pushed`, `small`, `stack` or `string`, a start and a text: the start with the text pushed to it, at once and
-/// character by character.
-pub fn pushed(alloc: Global, words: &[Word<'_>]) -> Answer {
+// `pushed`, `small`, `stack` or `string`, a start and a text: the start with the text pushed to it, at once and
+// character by character.
+fn pushed(alloc: Global, words: &[Word<'_>]) -> Answer {
     let [Some(kind), Some(start), Some(text)] = words else {
         return Err(Fault::Unreadable);
     };
@@ -108,8 +147,8 @@ pub fn pushed(alloc: Global, words: &[Word<'_>]) -> Answer {
     )
 }
 
-/// `replaced`, a text, what to replace and what by: the text with it replaced.
-pub fn replaced(alloc: Global, words: &[Word<'_>]) -> Answer {
+// `replaced`, a text, what to replace and what by: the text with it replaced.
+fn replaced(alloc: Global, words: &[Word<'_>]) -> Answer {
     let [Some(text), Some(from), Some(to)] = words else {
         return Err(Fault::Unreadable);
     };
@@ -117,8 +156,8 @@ pub fn replaced(alloc: Global, words: &[Word<'_>]) -> Answer {
     answer(alloc, &[Some(replaced.as_str())])
 }
 
-/// `grown`, identifiers and one more: a copy of their list with that pushed to it, and the list that was copied.
-pub fn grown(alloc: Global, words: &[Word<'_>]) -> Answer {
+// `grown`, identifiers and one more: a copy of their list with that pushed to it, and the list that was copied.
+fn grown(alloc: Global, words: &[Word<'_>]) -> Answer {
     let [Some(identifiers), Some(more)] = words else {
         return Err(Fault::Unreadable);
     };
@@ -159,9 +198,9 @@ fn written<A: StringAppendable + fmt::Display>(alloc: Global, start: &str, value
     )
 }
 
-/// `written`, the kind of a value, the value and a start: how the value is displayed, and the start with the value's text
-/// appended to it as a `String`, a `SmallStackString` and a `StackString`. An `inner` is what npm's reader makes of a text.
-pub fn written_as(alloc: Global, words: &[Word<'_>]) -> Answer {
+// `written`, the kind of a value, the value and a start: how the value is displayed, and the start with the value's text
+// appended to it as a `String`, a `SmallStackString` and a `StackString`. An `inner` is what npm's reader makes of a text.
+fn written_as(alloc: Global, words: &[Word<'_>]) -> Answer {
     let [Some(kind), Some(value), Some(start)] = words else {
         return Err(Fault::Unreadable);
     };

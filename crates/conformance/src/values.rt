@@ -1,5 +1,8 @@
 //! Texts, lists, failures, ranges and requirements that are made by hand.
 
+ghost use Rattle.std.specs.Prelude.{◌≡◌};
+ghost use Rattle.conformance.specs.Call.{value_call_name};
+
 use crate::shown;
 use crate::words::{Answer, Fault, Word, answer, yes_or_no};
 use deno_semver::{
@@ -8,8 +11,53 @@ use deno_semver::{
 use semver_base::failure::Refusal;
 use std::alloc::Global;
 
-/// `text`, two texts: the text of a copy of the first, how that is displayed, and whether it is the second.
-pub fn text(alloc: Global, words: &[Word<'_>]) -> Answer {
+/// The calls on values, failures and requirements that are made by hand.
+#[derive(Clone, Copy, Debug, PartialEq, Eq)]
+pub enum ValueCall {
+    Text,
+    Items,
+    Failure,
+    SameFailure,
+    Refusal,
+    Range,
+    SameRange,
+    TagRequirement,
+}
+
+impl ValueCall {
+    /// The first word of a question that asks the call.
+    pub fn name(self) -> &'static str
+        ensures { result.now ≡ value_call_name self }
+    {
+        match self {
+            ValueCall::Text => "text",
+            ValueCall::Items => "items",
+            ValueCall::Failure => "failure",
+            ValueCall::SameFailure => "same-failure",
+            ValueCall::Refusal => "refusal",
+            ValueCall::Range => "range",
+            ValueCall::SameRange => "same-range",
+            ValueCall::TagRequirement => "tag-requirement",
+        }
+    }
+
+    /// What the call answers to a question's words after its name.
+    pub fn ask(self, alloc: Global, words: &[Word<'_>]) -> Answer {
+        match self {
+            ValueCall::Text => text(alloc, words),
+            ValueCall::Items => items(alloc, words),
+            ValueCall::Failure => failure(alloc, words),
+            ValueCall::SameFailure => same_failure(alloc, words),
+            ValueCall::Refusal => refusal(alloc, words),
+            ValueCall::Range => range(alloc, words),
+            ValueCall::SameRange => same_range(alloc, words),
+            ValueCall::TagRequirement => tag_requirement(alloc, words),
+        }
+    }
+}
+
+// `text`, two texts: the text of a copy of the first, how that is displayed, and whether it is the second.
+fn text(alloc: Global, words: &[Word<'_>]) -> Answer {
     let [Some(text), Some(other)] = words else {
         return Err(Fault::Unreadable);
     };
@@ -26,9 +74,9 @@ pub fn text(alloc: Global, words: &[Word<'_>]) -> Answer {
     )
 }
 
-/// `items`, identifiers and a place among them: how many a copy of their list has, the one at the place or null, and
-/// all of them.
-pub fn items(alloc: Global, words: &[Word<'_>]) -> Answer {
+// `items`, identifiers and a place among them: how many a copy of their list has, the one at the place or null, and
+// all of them.
+fn items(alloc: Global, words: &[Word<'_>]) -> Answer {
     let [Some(identifiers), Some(place)] = words else {
         return Err(Fault::Unreadable);
     };
@@ -77,9 +125,9 @@ fn parts_of(alloc: Global, failure: &ParseFailure) -> Answer {
     )
 }
 
-/// `failure`, a message and a part of a text or null, or twice null for want of memory: whether the failure is want of
-/// memory, its message, and its part of the text or null, all of a copy.
-pub fn failure(alloc: Global, words: &[Word<'_>]) -> Answer {
+// `failure`, a message and a part of a text or null, or twice null for want of memory: whether the failure is want of
+// memory, its message, and its part of the text or null, all of a copy.
+fn failure(alloc: Global, words: &[Word<'_>]) -> Answer {
     let [message, code_snippet] = words else {
         return Err(Fault::Unreadable);
     };
@@ -87,8 +135,8 @@ pub fn failure(alloc: Global, words: &[Word<'_>]) -> Answer {
     parts_of(alloc, &copy)
 }
 
-/// `same-failure`, the words of two failures: whether they are equal.
-pub fn same_failure(alloc: Global, words: &[Word<'_>]) -> Answer {
+// `same-failure`, the words of two failures: whether they are equal.
+fn same_failure(alloc: Global, words: &[Word<'_>]) -> Answer {
     let [message, code_snippet, other, others] = words else {
         return Err(Fault::Unreadable);
     };
@@ -96,8 +144,8 @@ pub fn same_failure(alloc: Global, words: &[Word<'_>]) -> Answer {
     yes_or_no(alloc, failure == failure_of(alloc, *other, *others)?)
 }
 
-/// `refusal`, the kind of a refusal: that refusal.
-pub fn refusal(alloc: Global, words: &[Word<'_>]) -> Answer {
+// `refusal`, the kind of a refusal: that refusal.
+fn refusal(alloc: Global, words: &[Word<'_>]) -> Answer {
     let [Some(kind)] = words else {
         return Err(Fault::Unreadable);
     };
@@ -113,8 +161,8 @@ pub fn refusal(alloc: Global, words: &[Word<'_>]) -> Answer {
     Err(Fault::from(ParseFailure::of_refusal(alloc, refusal)))
 }
 
-/// `range`, `all`, `none` or a range: that range, copied.
-pub fn range(alloc: Global, words: &[Word<'_>]) -> Answer {
+// `range`, `all`, `none` or a range: that range, copied.
+fn range(alloc: Global, words: &[Word<'_>]) -> Answer {
     let [Some(text)] = words else {
         return Err(Fault::Unreadable);
     };
@@ -127,8 +175,8 @@ pub fn range(alloc: Global, words: &[Word<'_>]) -> Answer {
     answer(alloc, &[Some(shown::range(alloc, &copy)?.as_str())])
 }
 
-/// `same-range`, two ranges: whether they are equal.
-pub fn same_range(alloc: Global, words: &[Word<'_>]) -> Answer {
+// `same-range`, two ranges: whether they are equal.
+fn same_range(alloc: Global, words: &[Word<'_>]) -> Answer {
     let [Some(range), Some(other)] = words else {
         return Err(Fault::Unreadable);
     };
@@ -136,9 +184,9 @@ pub fn same_range(alloc: Global, words: &[Word<'_>]) -> Answer {
     yes_or_no(alloc, range == shown::range_of(alloc, other)?)
 }
 
-/// `tag-requirement`, a text and a tag: of the requirement that was read from the text and is the tag, the tag, the
-/// text, and how a copy of it is displayed.
-pub fn tag_requirement(alloc: Global, words: &[Word<'_>]) -> Answer {
+// `tag-requirement`, a text and a tag: of the requirement that was read from the text and is the tag, the tag, the
+// text, and how a copy of it is displayed.
+fn tag_requirement(alloc: Global, words: &[Word<'_>]) -> Answer {
     let [Some(text), Some(tag)] = words else {
         return Err(Fault::Unreadable);
     };

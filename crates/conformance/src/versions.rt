@@ -1,5 +1,8 @@
 //! How versions are read and compared.
 
+ghost use Rattle.std.specs.Prelude.{◌≡◌};
+ghost use Rattle.conformance.specs.Call.{version_call_name};
+
 use crate::shown;
 use crate::words::{Answer, Fault, Word, answer, yes_or_no};
 use deno_semver::npm::parse_npm_version;
@@ -7,8 +10,47 @@ use deno_semver::{Version, VersionPreOrBuild};
 use std::alloc::{AllocError, Global};
 use std::cmp::Ordering;
 
-/// `version`, a text: `read` and how the version is displayed.
-pub fn version(alloc: Global, words: &[Word<'_>]) -> Answer {
+/// The calls on versions.
+#[derive(Clone, Copy, Debug, PartialEq, Eq)]
+pub enum VersionCall {
+    Version,
+    NpmVersion,
+    Equal,
+    Compare,
+    Precedence,
+    Identifiers,
+}
+
+impl VersionCall {
+    /// The first word of a question that asks the call.
+    pub fn name(self) -> &'static str
+        ensures { result.now ≡ version_call_name self }
+    {
+        match self {
+            VersionCall::Version => "version",
+            VersionCall::NpmVersion => "npm-version",
+            VersionCall::Equal => "equal",
+            VersionCall::Compare => "compare",
+            VersionCall::Precedence => "precedence",
+            VersionCall::Identifiers => "identifiers",
+        }
+    }
+
+    /// What the call answers to a question's words after its name.
+    pub fn ask(self, alloc: Global, words: &[Word<'_>]) -> Answer {
+        match self {
+            VersionCall::Version => version(alloc, words),
+            VersionCall::NpmVersion => npm_version(alloc, words),
+            VersionCall::Equal => equal(alloc, words),
+            VersionCall::Compare => compare(alloc, words),
+            VersionCall::Precedence => precedence(alloc, words),
+            VersionCall::Identifiers => identifiers(alloc, words),
+        }
+    }
+}
+
+// `version`, a text: `read` and how the version is displayed.
+fn version(alloc: Global, words: &[Word<'_>]) -> Answer {
     let [Some(text)] = words else {
         return Err(Fault::Unreadable);
     };
@@ -17,8 +59,8 @@ pub fn version(alloc: Global, words: &[Word<'_>]) -> Answer {
     answer(alloc, &[Some("read"), Some(text.as_str())])
 }
 
-/// `npm-version`, a text: `read` and the text of the version's parts, as npm's reader has them.
-pub fn npm_version(alloc: Global, words: &[Word<'_>]) -> Answer {
+// `npm-version`, a text: `read` and the text of the version's parts, as npm's reader has them.
+fn npm_version(alloc: Global, words: &[Word<'_>]) -> Answer {
     let [Some(text)] = words else {
         return Err(Fault::Unreadable);
     };
@@ -47,20 +89,20 @@ fn order(alloc: Global, ordering: Ordering) -> Answer {
     answer(alloc, &[Some(word)])
 }
 
-/// `equal`, two versions: whether they are the same, build included.
-pub fn equal(alloc: Global, words: &[Word<'_>]) -> Answer {
+// `equal`, two versions: whether they are the same, build included.
+fn equal(alloc: Global, words: &[Word<'_>]) -> Answer {
     let (left, right) = pair(alloc, words)?;
     yes_or_no(alloc, left == right)
 }
 
-/// `compare`, two versions: their order, in which the build has a part.
-pub fn compare(alloc: Global, words: &[Word<'_>]) -> Answer {
+// `compare`, two versions: their order, in which the build has a part.
+fn compare(alloc: Global, words: &[Word<'_>]) -> Answer {
     let (left, right) = pair(alloc, words)?;
     order(alloc, left.cmp(&right))
 }
 
-/// `precedence`, two versions: their precedence.
-pub fn precedence(alloc: Global, words: &[Word<'_>]) -> Answer {
+// `precedence`, two versions: their precedence.
+fn precedence(alloc: Global, words: &[Word<'_>]) -> Answer {
     let (left, right) = pair(alloc, words)?;
     order(alloc, left.cmp_precedence(&right))
 }
@@ -74,9 +116,9 @@ fn pre_release(alloc: Global, identifier: &str) -> Result<Version, AllocError> {
     Ok(version)
 }
 
-/// `identifiers`, two texts: the precedence of 0.0.0 with the one and with the other as its only pre-release
-/// identifier, which may be such as no version's text has.
-pub fn identifiers(alloc: Global, words: &[Word<'_>]) -> Answer {
+// `identifiers`, two texts: the precedence of 0.0.0 with the one and with the other as its only pre-release
+// identifier, which may be such as no version's text has.
+fn identifiers(alloc: Global, words: &[Word<'_>]) -> Answer {
     let [Some(left), Some(right)] = words else {
         return Err(Fault::Unreadable);
     };
