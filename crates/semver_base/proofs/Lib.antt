@@ -22,3 +22,4 @@ pub mod Triples
 pub mod VersionReading
 pub mod WordReadings
 pub mod WrittenVersions
+pub mod Zeros

@@ -67,11 +67,17 @@ after_low : (xs : List ℕ) (n : ℕ) → IsUtf8 xs → n ≤ length xs → ((i 
 after_low xs zero u h ascii = IsCharBoundary-start xs u
 after_low xs (suc n) u h ascii = rw (← add-one) (IsCharBoundary-after_ascii xs n u (omega arith) (ascii n (omega arith)))
 
+pub inside_boundary : (p : ℕ → Bool) → ((x : ℕ) → p x ≡ true → x < 128) → (xs : List ℕ) (n : ℕ) → IsUtf8 xs → n ≤ length (take_while p xs) → IsCharBoundary xs n
+inside_boundary p ascii xs n u h = after_low xs n u (omega (arith, h, bound p xs)) (λ i k. low p ascii xs i (omega (arith, h, k)))
+
 pub run_boundary : (p : ℕ → Bool) → ((x : ℕ) → p x ≡ true → x < 128) → (xs : List ℕ) (n : ℕ) → IsUtf8 xs → n ≡ length (take_while p xs) → IsCharBoundary xs n
-run_boundary p ascii xs n u e = after_low xs n u (rw e (bound p xs)) (λ i h. low p ascii xs i (rw e at h))
+run_boundary p ascii xs n u e = inside_boundary p ascii xs n u (omega (arith, e))
 
 pub digit_ascii : (x : ℕ) → is_ascii_digit x ≡ true → x < 128
 digit_ascii x h = grind (arith, nat_tests)
+
+pub zero_ascii : (x : ℕ) → (x == 48) ≡ true → x < 128
+zero_ascii x h = grind (arith, nat_tests)
 
 pub part_ascii : (x : ℕ) → is_part_byte x ≡ true → x < 128
 part_ascii x h = grind (arith, nat_tests)

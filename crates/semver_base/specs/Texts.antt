@@ -1,5 +1,6 @@
 -- Texts that stand in the value itself where they are short, lists whose copies share their items, and what replacing is.
-use Rattle.std.specs.Prelude.{◌≡◌, ℕ, List, [], ◌++◌, ◌<◌, length, take, drop, string_bytes, encode_utf8, Option, Some, None}
+use Rattle.std.specs.Prelude.{◌≡◌, ℕ, List, [], ◌++◌, ◌<◌, ◌==◌, length, take, drop, string_bytes, encode_utf8, Option, Some, None}
+use Rattle.std.specs.List.{take_while}
 use Rattle.std.specs.Str.Pattern.{FindsText}
 use Rattle.std.specs.declared.alloc.Global.{Global}
 use Rattle.std.specs.declared.rc.Rc.{Rc}
@@ -16,6 +17,15 @@ kept_bytes (kept.Heap s) = string_bytes s
 abbrev pub IsInlineIfShort : {limit : ℕ} → Kept limit → Type 0
 IsInlineIfShort (kept.Inline s) = Unit {0}
 IsInlineIfShort {limit} (kept.Heap s) = limit < length (string_bytes s)
+
+-- how many zeros stand at the front
+abbrev pub zeros_in_front : List ℕ → ℕ
+zeros_in_front bytes = length (take_while (λ b. b == 48) bytes)
+
+-- how a text stands, with the number of its zeros
+pub record IsKept {limit : ℕ} (text : Kept limit) (zeros : ℕ) : Type 0 where
+  pub inline : IsInlineIfShort text
+  pub zeros_are : zeros ≡ zeros_in_front (kept_bytes text)
 
 -- the items behind a shared pointer, which an empty list lacks
 abbrev pub shared_items : {T : Type 0} → Option (Rc (Vec T Global) Global) → List T

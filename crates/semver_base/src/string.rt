@@ -16,7 +16,7 @@ ghost use Rattle.std.specs.Ordering.{nat_cmp};
 ghost use Rattle.std.specs.Slice.{IsItemAt};
 ghost use Rattle.std.specs.Iterator.Adapters.{IterYieldsInOrder};
 ghost use Rattle.std.specs.Slice.Iter.{iter_rest};
-ghost use Rattle.semver_base.specs.Texts.{IsReplaced};
+ghost use Rattle.semver_base.specs.Texts.{IsInlineIfShort, IsReplaced, kept_bytes, zeros_in_front};
 
 use arrayvec::ArrayString;
 use std::alloc::{AllocError, Global};
@@ -35,6 +35,8 @@ use std::{fmt, slice};
 pub struct ShortText<const LIMIT: usize> {
     alloc: Global,
     kept: Kept<LIMIT>,
+    // How many zeros the text begins with.
+    zeros: usize,
 }
 
 /// A text of which up to 15 bytes stand in the value itself.
@@ -52,13 +54,60 @@ enum Kept<const LIMIT: usize> {
 
 impl<const LIMIT: usize> Model for ShortText<LIMIT> {
     ghost use Rattle.std.specs.Prelude.{List, ℕ};
-    ghost use Rattle.semver_base.specs.Texts.{kept_bytes, IsInlineIfShort};
+    ghost use Rattle.semver_base.specs.Texts.{kept_bytes, IsKept};
 
     ghost Value = { List ℕ };
 
     ghost view = { λ s. kept_bytes s.kept };
 
-    ghost invariant = { λ s. IsInlineIfShort s.kept };
+    ghost invariant = { λ s. IsKept s.kept s.zeros };
+}
+
+// How many zeros stand at the front.
+fn leading_zeros(bytes: &[u8]) -> usize
+    ensures { result ≡ zeros_in_front bytes.now }
+{
+    bytes.iter().take_while(|byte| **byte == b'0').count()
+}
+
+// The same, where so many bytes at the front are known to be zeros.
+fn zeros_from(bytes: &[u8], known: usize) -> usize
+    requires { known ≤ zeros_in_front bytes.now }
+    ensures { result ≡ zeros_in_front bytes.now }
+{
+    known + leading_zeros(&bytes[known..])
+}
+
+impl<const LIMIT: usize> Kept<LIMIT> {
+    // The text.
+    fn as_str(&self) -> &str
+        ensures { result.now ≡ kept_bytes self.now }
+    {
+        match self {
+            Kept::Inline(short) => short.as_str(),
+            Kept::Heap(long) => long.as_str(),
+        }
+    }
+
+    // Appends a text. Where no memory is left the text is unchanged.
+    fn push_str(&mut self, alloc: Global, text: &str) -> Result<(), AllocError>
+        ensures ok { OnOk result (kept_bytes self.new ≡ kept_bytes self.old ++ text.now) }
+        ensures err { OnErr result (kept_bytes self.new ≡ kept_bytes self.old) }
+        ensures inline { IsInlineIfShort self.old → IsInlineIfShort self.new }
+        ensures succeeds { IsInlineIfShort self.old → length (kept_bytes self.old) + length text.now ≤ LIMIT → IsOk result }
+    {
+        match self {
+            Kept::Inline(short) => {
+                if short.try_push_str(text).is_err() {
+                    let mut long = String::from_str(alloc, short.as_str())?;
+                    long.push_str(text)?;
+                    *self = Kept::Heap(long);
+                }
+                Ok(())
+            }
+            Kept::Heap(long) => long.push_str(text),
+        }
+    }
 }
 
 impl<const LIMIT: usize> ShortText<LIMIT> {
@@ -69,6 +118,7 @@ impl<const LIMIT: usize> ShortText<LIMIT> {
         ShortText {
             alloc,
             kept: Kept::Inline(ArrayString::new()),
+            zeros: 0,
         }
     }
 
@@ -89,7 +139,8 @@ impl<const LIMIT: usize> ShortText<LIMIT> {
             Ok(short) => Kept::Inline(short),
             Err(_) => Kept::Heap(String::from_str(alloc, text)?),
         };
-        Ok(ShortText { alloc, kept })
+        let zeros = leading_zeros(text.as_bytes());
+        Ok(ShortText { alloc, kept, zeros })
     }
 
     /// The text of a literal, as [`ShortText::from_str`] makes it.
@@ -105,11 +156,12 @@ impl<const LIMIT: usize> ShortText<LIMIT> {
         ensures value { IfOk result (λ s. s ≡ string_bytes text) }
         ensures succeeds { IsOk result }
     {
+        let zeros = leading_zeros(text.as_str().as_bytes());
         let kept = match ArrayString::from(text.as_str()) {
             Ok(short) => Kept::Inline(short),
             Err(_) => Kept::Heap(text),
         };
-        Ok(ShortText { alloc, kept })
+        Ok(ShortText { alloc, kept, zeros })
     }
 
     /// The text `text`, as [`ShortText::from_str`] or [`ShortText::from_string`] makes it.
@@ -127,10 +179,14 @@ impl<const LIMIT: usize> ShortText<LIMIT> {
         ensures value { result.now ≡ self.now }
         ensures utf8 { IsUtf8 self.now }
     {
-        match &self.kept {
-            Kept::Inline(short) => short.as_str(),
-            Kept::Heap(long) => long.as_str(),
-        }
+        self.kept.as_str()
+    }
+
+    // How many zeros the text begins with, which takes no reading.
+    pub(crate) fn leading_zeros(&self) -> usize
+        ensures { result ≡ zeros_in_front self.now }
+    {
+        self.zeros
     }
 
     /// Whether this is the text `other`.
@@ -146,17 +202,9 @@ impl<const LIMIT: usize> ShortText<LIMIT> {
         ensures err { OnErr result (self.new ≡ self.old) }
         ensures succeeds { length self.old + length text.now ≤ LIMIT → IsOk result }
     {
-        match &mut self.kept {
-            Kept::Inline(short) => {
-                if short.try_push_str(text).is_err() {
-                    let mut long = String::from_str(self.alloc, short.as_str())?;
-                    long.push_str(text)?;
-                    self.kept = Kept::Heap(long);
-                }
-                Ok(())
-            }
-            Kept::Heap(long) => long.push_str(text),
-        }
+        self.kept.push_str(self.alloc, text)?;
+        self.zeros = zeros_from(self.kept.as_str().as_bytes(), self.zeros);
+        Ok(())
     }
 
     /// Appends a character. Where no memory is left the text is unchanged; up to `LIMIT` bytes need none.
@@ -192,6 +240,7 @@ impl<const LIMIT: usize> ShortText<LIMIT> {
         Ok(ShortText {
             alloc: self.alloc,
             kept,
+            zeros: self.zeros,
         })
     }
 

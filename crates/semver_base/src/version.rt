@@ -237,14 +237,24 @@ fn read(alloc: Global, text: &str) -> Result<Version, ParseFailure>
     })
 }
 
-// The number that an identifier is, if it is one.
-fn number(text: &str) -> Option<u64>
-    ensures { result ≡ number_of text.now }
+// An identifier without the zeros at its front, but for the last of them: the same number, if it is one. It is found
+// without reading the zeros, so that a number with many of them is compared in no time.
+fn without_zeros(identifier: &VersionPreOrBuild) -> &str
+    ensures { number_of result.now ≡ number_of identifier.now }
 {
-    text.parse::<u64>().ok()
+    let spare = identifier.leading_zeros().saturating_sub(1);
+    let (_, rest) = identifier.as_str().split_at(spare);
+    rest
 }
 
-fn cmp_identifier(a: &str, b: &str) -> Ordering
+// The number that an identifier is, if it is one.
+fn number(identifier: &VersionPreOrBuild) -> Option<u64>
+    ensures { result ≡ number_of identifier.now }
+{
+    without_zeros(identifier).parse::<u64>().ok()
+}
+
+fn cmp_identifier(a: &VersionPreOrBuild, b: &VersionPreOrBuild) -> Ordering
     ensures { result ≡ identifier_cmp a.now b.now }
 {
     match (number(a), number(b)) {
@@ -259,7 +269,7 @@ fn cmp_identifiers(a: &[VersionPreOrBuild], b: &[VersionPreOrBuild]) -> Ordering
     ensures { result ≡ slice_cmp identifier_cmp a.now b.now }
 {
     for (x, y) in a.iter().zip(b) {
-        let ordering = cmp_identifier(x.as_str(), y.as_str());
+        let ordering = cmp_identifier(x, y);
         if ordering != Ordering::Equal {
             return ordering;
         }
