@@ -1,3 +1,4 @@
+pub mod JsonReading
 pub mod NameAndVersion
 pub mod NvText
 pub mod PackageFaults

@@ -1,4 +1,6 @@
 pub mod Cuts
+pub mod Json
+pub mod JsonAnswers
 pub mod Kind
 pub mod NameAndVersion
 pub mod NameAndVersionSteps

@@ -7,6 +7,7 @@
 
 ghost use Rattle.std.specs.Prelude.{◌≡◌, ◌↔◌, IsTrue};
 
+use crate::json::JsonError;
 use crate::package::{PackageKind, PackageNv, PackageReq, PackageReqPartsParseError};
 
 /// Whether two registries are the same.
@@ -34,6 +35,13 @@ pub fn equal_package_requirements(one: &PackageReq, other: &PackageReq) -> bool
 
 /// Whether two errors are the same.
 pub fn same_parts_errors(one: &PackageReqPartsParseError, other: &PackageReqPartsParseError) -> bool
+    ensures { IsTrue result ↔ (one.now ≡ other.now) }
+{
+    one == other
+}
+
+/// Whether two errors of reading JSON are the same.
+pub fn same_json_errors(one: &JsonError, other: &JsonError) -> bool
     ensures { IsTrue result ↔ (one.now ≡ other.now) }
 {
     one == other

@@ -4,6 +4,7 @@
 //! `semver_base` and `semver_req`; this crate shows their public names at the paths that users write.
 #![tactic(auto)]
 
+pub mod json;
 pub mod laws;
 pub mod npm;
 pub mod package;

@@ -1,0 +1,200 @@
+//! Values whose JSON is an object or an array.
+
+ghost use Rattle.std.specs.Prelude.{◌≡◌, ◌↔◌, IfOk, IsTrue, List, MatchOption, codes, map};
+ghost use Rattle.serde_json.specs.Data.{Data, member, no_members, object, string};
+ghost use Rattle.serde_json.specs.View.{items_view, view};
+ghost use Rattle.semver_base.specs.declared.range.VersionRange.{VersionRange};
+ghost use Rattle.deno_semver.specs.Json.{AreItemsOf, IsJsonOfBound, IsJsonOfRange, IsJsonOfRangeBound, IsJsonOfSet, IsJsonOfVersionReq, IsMemberOf, bound_json, range_bound_json, range_json, set_json, version_req_json};
+ghost use Rattle.deno_semver.specs.JsonAnswers.{IsJsonAnswer};
+
+use super::{JsonError, JsonForm};
+use semver_base::range::{
+    RangeBound, VersionBound, VersionBoundKind, VersionRange, VersionRangeSet,
+};
+use semver_base::string::{CowVec, SmallStackString};
+use semver_base::version::Version;
+use semver_req::range_set_or_tag::RangeSetOrTag;
+use semver_req::req::VersionReq;
+use serde_json::{Value, json};
+use std::alloc::{AllocError, Global};
+
+// The value that is read of the member of an object with this key.
+fn of_member<T: JsonForm>(alloc: Global, value: &Value, key: &str) -> Result<T, JsonError>
+    ensures read { IfOk result (IsMemberOf T.stands_for key.now (view value.now)) }
+    ensures answer { (x : T) → IsMemberOf T.stands_for key.now (view value.now) x → IsJsonAnswer x result }
+{
+    match value.get(key) {
+        Some(member) => T::from_json(alloc, member),
+        None => Err(JsonError::Json),
+    }
+}
+
+// The values that are read of the members of an object with these two keys.
+fn of_members<A: JsonForm, B: JsonForm>(
+    alloc: Global,
+    value: &Value,
+    first: &str,
+    second: &str,
+) -> Result<(A, B), JsonError>
+    ensures read { IfOk result (λ both. IsMemberOf A.stands_for first.now (view value.now) both.0
+        × IsMemberOf B.stands_for second.now (view value.now) both.1) }
+    ensures answer { (a : A) (b : B) → IsMemberOf A.stands_for first.now (view value.now) a
+        → IsMemberOf B.stands_for second.now (view value.now) b → IsJsonAnswer (a, b) result }
+{
+    let one = of_member(alloc, value, first)?;
+    let other = of_member(alloc, value, second)?;
+    Ok((one, other))
+}
+
+/// An object with the members `kind` and `version`.
+impl JsonForm for VersionBound {
+    ghost json = { bound_json };
+
+    ghost stands_for = { IsJsonOfBound };
+
+    fn to_json(&self, alloc: Global) -> Result<Value, AllocError> {
+        let kind = self.kind.to_json(alloc)?;
+        let version = self.version.to_json(alloc)?;
+        json!(in alloc; {"kind": kind, "version": version})
+    }
+
+    fn from_json(alloc: Global, value: &Value) -> Result<Self, JsonError> {
+        let (kind, version) = of_members::<VersionBoundKind, Version>(
+            alloc, value, "kind", "version",
+        )?;
+        Ok(VersionBound::new(kind, version))
+    }
+}
+
+// The member of an object that has this one alone.
+fn only_member<'v>(value: &'v Value, key: &str) -> Option<&'v Value>
+    ensures { MatchOption result
+        ((d : Data) → view value.now ≡ object (member key.now d no_members) → ⊥)
+        (λ only. view value.now ≡ object (member key.now (view only.now) no_members)) }
+{
+    let members = value.as_object()?;
+    if members.len() != 1 {
+        return None;
+    }
+    value.get(key)
+}
+
+fn is_unbounded(value: &Value) -> bool
+    ensures { IsTrue result ↔ (view value.now ≡ string (codes "Unbounded")) }
+{
+    match value.as_str() {
+        Some(text) => text == "Unbounded",
+        None => false,
+    }
+}
+
+/// The string `Unbounded`, or an object with the one member `Version`. An object with another member besides is refused.
+impl JsonForm for RangeBound {
+    ghost json = { range_bound_json };
+
+    ghost stands_for = { IsJsonOfRangeBound };
+
+    fn to_json(&self, alloc: Global) -> Result<Value, AllocError> {
+        match self {
+            RangeBound::Unbounded => Value::try_from_str(alloc, "Unbounded"),
+            RangeBound::Version(bound) => {
+                let bound = bound.to_json(alloc)?;
+                json!(in alloc; {"Version": bound})
+            }
+        }
+    }
+
+    fn from_json(alloc: Global, value: &Value) -> Result<Self, JsonError> {
+        if is_unbounded(value) {
+            return Ok(RangeBound::Unbounded);
+        }
+        match only_member(value, "Version") {
+            Some(bound) => Ok(RangeBound::Version(VersionBound::from_json(alloc, bound)?)),
+            None => Err(JsonError::Json),
+        }
+    }
+}
+
+/// An object with the members `end` and `start`.
+impl JsonForm for VersionRange {
+    ghost json = { range_json };
+
+    ghost stands_for = { IsJsonOfRange };
+
+    fn to_json(&self, alloc: Global) -> Result<Value, AllocError> {
+        let start = self.start.to_json(alloc)?;
+        let end = self.end.to_json(alloc)?;
+        json!(in alloc; {"start": start, "end": end})
+    }
+
+    fn from_json(alloc: Global, value: &Value) -> Result<Self, JsonError> {
+        let (start, end) = of_members::<RangeBound, RangeBound>(alloc, value, "start", "end")?;
+        Ok(VersionRange { start, end })
+    }
+}
+
+// The JSON of the ranges, in order.
+fn items_json(alloc: Global, ranges: &[VersionRange]) -> Result<Vec<Value>, AllocError>
+    ensures { IfOk result (λ items. map view items.items ≡ map range_json ranges.now) }
+{
+    let mut items = Vec::new(alloc);
+    for range in ranges {
+        items.push(range.to_json(alloc)?)?;
+    }
+    Ok(items)
+}
+
+// The ranges that the items stand for, in order.
+fn of_items(alloc: Global, items: &[Value]) -> Result<CowVec<VersionRange>, JsonError>
+    ensures read { IfOk result (AreItemsOf IsJsonOfRange (items_view items.now)) }
+    ensures answer { (ranges : List VersionRange) → AreItemsOf IsJsonOfRange (items_view items.now) ranges
+        → IsJsonAnswer ranges result }
+{
+    let mut ranges = CowVec::new(alloc);
+    for item in items {
+        let range = VersionRange::from_json(alloc, item)?;
+        if ranges.push(range).is_err() {
+            return Err(JsonError::Memory);
+        }
+    }
+    Ok(ranges)
+}
+
+/// The array of the ranges.
+impl JsonForm for VersionRangeSet {
+    ghost json = { set_json };
+
+    ghost stands_for = { IsJsonOfSet };
+
+    fn to_json(&self, alloc: Global) -> Result<Value, AllocError> {
+        let items = items_json(alloc, self.0.iter().as_slice())?;
+        Ok(Value::Array(items))
+    }
+
+    fn from_json(alloc: Global, value: &Value) -> Result<Self, JsonError> {
+        match value.as_array() {
+            Some(items) => Ok(VersionRangeSet(of_items(alloc, items.as_slice())?)),
+            None => Err(JsonError::Json),
+        }
+    }
+}
+
+/// An object with the members `inner`, as [`RangeSetOrTag`] has it, and `raw_text`, any string.
+impl JsonForm for VersionReq {
+    ghost json = { version_req_json };
+
+    ghost stands_for = { IsJsonOfVersionReq };
+
+    fn to_json(&self, alloc: Global) -> Result<Value, AllocError> {
+        let inner = self.inner().to_json(alloc)?;
+        let raw_text = self.version_text();
+        json!(in alloc; {"inner": inner, "raw_text": raw_text})
+    }
+
+    fn from_json(alloc: Global, value: &Value) -> Result<Self, JsonError> {
+        let (raw_text, inner) = of_members::<SmallStackString, RangeSetOrTag>(
+            alloc, value, "raw_text", "inner",
+        )?;
+        Ok(VersionReq::from_raw_text_and_inner(raw_text, inner))
+    }
+}

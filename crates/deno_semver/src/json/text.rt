@@ -1,0 +1,254 @@
+//! Values whose JSON is the string of their text.
+
+ghost use Rattle.std.specs.Prelude.{◌≡◌, ◌⊎◌, IfErr, IfOk, IfSome, List, ℕ, None};
+ghost use Rattle.serde_json.specs.Data.{string};
+ghost use Rattle.serde_json.specs.Find.{as_str};
+ghost use Rattle.serde_json.specs.View.{view};
+ghost use Rattle.semver_base.specs.VersionText.{version_text};
+ghost use Rattle.semver_req.specs.Requirement.{inner_text};
+ghost use Rattle.deno_semver.specs.Json.{IsStringOf, IsTextItself, IsTextOfInner, IsTextOfKind, IsTextOfNv, IsTextOfReq, IsTextOfVersion, kind_text};
+ghost use Rattle.deno_semver.specs.JsonAnswers.{IsJsonAnswer, IsJsonRefusal};
+ghost use Rattle.deno_semver.specs.NameAndVersion.{nv_text};
+ghost use Rattle.deno_semver.specs.RequirementText.{normal_req_text};
+
+use super::{JsonError, JsonForm};
+use crate::package::{PackageNv, PackageReq};
+use semver_base::range::VersionBoundKind;
+use semver_base::string::{SmallStackString, StackString};
+use semver_base::version::Version;
+use semver_req::range_set_or_tag::RangeSetOrTag;
+use semver_req::req::VersionReq;
+use serde_json::Value;
+use std::alloc::{AllocError, Global};
+use std::fmt;
+
+// A value that is read of a text.
+trait TextForm: Drop {
+    // The text is read as the value.
+    ghost reads: { List ℕ → Self → Type 0 };
+
+    // The value that the text is read as.
+    fn of_text(alloc: Global, text: &str) -> Result<Self, JsonError>
+        ensures read { IfOk result (reads text.now) }
+        ensures answer { (x : Self) → reads text.now x → IsJsonAnswer x result };
+}
+
+// The string of how the value is displayed.
+fn displayed<D: fmt::Display>(alloc: Global, value: &D) -> Result<Value, AllocError>
+    ensures { IfOk result (λ json. IfSome (D.output value.now) (λ text. view json ≡ string text)) }
+{
+    let text = format!(in alloc; "{value}")?;
+    Ok(Value::String(text))
+}
+
+// The value that is read of the text of a string.
+fn of_string<T: TextForm>(alloc: Global, value: &Value) -> Result<T, JsonError>
+    ensures read { IfOk result (IsStringOf T.reads (view value.now)) }
+    ensures refused { IfErr result (IsJsonRefusal (IsStringOf T.reads) (view value.now)) }
+    ensures answer { (x : T) → IsStringOf T.reads (view value.now) x → IsJsonAnswer x result }
+{
+    match value.as_str() {
+        Some(text) => T::of_text(alloc, text),
+        None => Err(JsonError::Json),
+    }
+}
+
+impl TextForm for SmallStackString {
+    ghost reads = { IsTextItself };
+
+    fn of_text(alloc: Global, text: &str) -> Result<Self, JsonError> {
+        match SmallStackString::from_str(alloc, text) {
+            Ok(copy) => Ok(copy),
+            Err(_) => Err(JsonError::Memory),
+        }
+    }
+}
+
+impl TextForm for StackString {
+    ghost reads = { IsTextItself };
+
+    fn of_text(alloc: Global, text: &str) -> Result<Self, JsonError> {
+        match StackString::from_str(alloc, text) {
+            Ok(copy) => Ok(copy),
+            Err(_) => Err(JsonError::Memory),
+        }
+    }
+}
+
+impl TextForm for Version {
+    ghost reads = { IsTextOfVersion };
+
+    fn of_text(alloc: Global, text: &str) -> Result<Self, JsonError> {
+        match Version::parse_standard(alloc, text) {
+            Ok(version) => Ok(version),
+            Err(error) => Err(JsonError::of_reader(error.is_memory())),
+        }
+    }
+}
+
+impl TextForm for PackageNv {
+    ghost reads = { IsTextOfNv };
+
+    fn of_text(alloc: Global, text: &str) -> Result<Self, JsonError> {
+        match PackageNv::from_str(alloc, text) {
+            Ok(nv) => Ok(nv),
+            Err(error) => Err(JsonError::of_reader(error.is_memory())),
+        }
+    }
+}
+
+impl TextForm for PackageReq {
+    ghost reads = { IsTextOfReq };
+
+    fn of_text(alloc: Global, text: &str) -> Result<Self, JsonError> {
+        match PackageReq::from_str_normalized(alloc, text) {
+            Ok(req) => Ok(req),
+            Err(error) => Err(JsonError::of_reader(error.is_memory())),
+        }
+    }
+}
+
+impl TextForm for RangeSetOrTag {
+    ghost reads = { IsTextOfInner };
+
+    fn of_text(alloc: Global, text: &str) -> Result<Self, JsonError> {
+        let req = match VersionReq::parse_from_normalized(alloc, text) {
+            Ok(req) => req,
+            Err(error) => return Err(JsonError::of_reader(error.is_memory())),
+        };
+        match req.inner().copy() {
+            Ok(inner) => Ok(inner),
+            Err(_) => Err(JsonError::Memory),
+        }
+    }
+}
+
+fn kind_text(kind: VersionBoundKind) -> &'static str
+    ensures { result.now ≡ kind_text kind }
+{
+    match kind {
+        VersionBoundKind::Inclusive => "Inclusive",
+        VersionBoundKind::Exclusive => "Exclusive",
+    }
+}
+
+impl TextForm for VersionBoundKind {
+    ghost reads = { IsTextOfKind };
+
+    fn of_text(_alloc: Global, text: &str) -> Result<Self, JsonError> {
+        if text == "Inclusive" {
+            return Ok(VersionBoundKind::Inclusive);
+        }
+        if text == "Exclusive" {
+            return Ok(VersionBoundKind::Exclusive);
+        }
+        Err(JsonError::Json)
+    }
+}
+
+/// The string that is the text.
+impl JsonForm for SmallStackString {
+    ghost json = { string };
+
+    ghost stands_for = { IsStringOf IsTextItself };
+
+    fn to_json(&self, alloc: Global) -> Result<Value, AllocError> {
+        displayed(alloc, self)
+    }
+
+    fn from_json(alloc: Global, value: &Value) -> Result<Self, JsonError> {
+        of_string(alloc, value)
+    }
+}
+
+/// The string that is the text.
+impl JsonForm for StackString {
+    ghost json = { string };
+
+    ghost stands_for = { IsStringOf IsTextItself };
+
+    fn to_json(&self, alloc: Global) -> Result<Value, AllocError> {
+        displayed(alloc, self)
+    }
+
+    fn from_json(alloc: Global, value: &Value) -> Result<Self, JsonError> {
+        of_string(alloc, value)
+    }
+}
+
+/// The string of the version's text; it is read as [`Version::parse_standard`] reads it.
+impl JsonForm for Version {
+    ghost json = { λ version. string (version_text version) };
+
+    ghost stands_for = { IsStringOf IsTextOfVersion };
+
+    fn to_json(&self, alloc: Global) -> Result<Value, AllocError> {
+        displayed(alloc, self)
+    }
+
+    fn from_json(alloc: Global, value: &Value) -> Result<Self, JsonError> {
+        of_string(alloc, value)
+    }
+}
+
+/// The string `name@version`; it is read as [`PackageNv::from_str`] reads it.
+impl JsonForm for PackageNv {
+    ghost json = { λ nv. string (nv_text nv) };
+
+    ghost stands_for = { IsStringOf IsTextOfNv };
+
+    fn to_json(&self, alloc: Global) -> Result<Value, AllocError> {
+        displayed(alloc, self)
+    }
+
+    fn from_json(alloc: Global, value: &Value) -> Result<Self, JsonError> {
+        of_string(alloc, value)
+    }
+}
+
+/// The string of the normal text ([`PackageReq::to_string_normalized`]); it is read as [`PackageReq::from_str_normalized`]
+/// reads it.
+impl JsonForm for PackageReq {
+    ghost json = { λ req. string (normal_req_text req) };
+
+    ghost stands_for = { IsStringOf IsTextOfReq };
+
+    fn to_json(&self, alloc: Global) -> Result<Value, AllocError> {
+        let text = self.to_string_normalized(alloc)?;
+        displayed(alloc, &text)
+    }
+
+    fn from_json(alloc: Global, value: &Value) -> Result<Self, JsonError> {
+        of_string(alloc, value)
+    }
+}
+
+/// The string of the normal text; it is read as [`VersionReq::parse_from_normalized`] reads it.
+impl JsonForm for RangeSetOrTag {
+    ghost json = { λ inner. string (inner_text inner) };
+
+    ghost stands_for = { IsStringOf IsTextOfInner };
+
+    fn to_json(&self, alloc: Global) -> Result<Value, AllocError> {
+        displayed(alloc, self)
+    }
+
+    fn from_json(alloc: Global, value: &Value) -> Result<Self, JsonError> {
+        of_string(alloc, value)
+    }
+}
+
+/// The string `Inclusive` or `Exclusive`.
+impl JsonForm for VersionBoundKind {
+    ghost json = { λ kind. string (kind_text kind) };
+
+    ghost stands_for = { IsStringOf IsTextOfKind };
+
+    fn to_json(&self, alloc: Global) -> Result<Value, AllocError> {
+        Value::try_from_str(alloc, kind_text(*self))
+    }
+
+    fn from_json(alloc: Global, value: &Value) -> Result<Self, JsonError> {
+        of_string(alloc, value)
+    }
+}
