@@ -1,3 +1,4 @@
+pub mod ExportNames
 pub mod JsonReading
 pub mod NameAndVersion
 pub mod NvText

@@ -1,4 +1,5 @@
 pub mod Cuts
+pub mod ExportName
 pub mod Json
 pub mod JsonAnswers
 pub mod Kind

@@ -5,6 +5,7 @@
 #![tactic(auto)]
 
 pub mod json;
+pub mod jsr;
 pub mod laws;
 pub mod npm;
 pub mod package;

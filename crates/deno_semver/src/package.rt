@@ -8,6 +8,7 @@ mod order;
 mod read;
 mod requirement;
 
+pub(crate) use cut::without_slash;
 pub use errors::{PackageReqParseError, PackageReqPartsParseError};
 pub use kind::PackageKind;
 pub use name_version::{PackageNv, PackageNvParseError};

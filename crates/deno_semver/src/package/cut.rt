@@ -23,8 +23,8 @@ pub(crate) struct Cut<'a> {
     pub(crate) path: &'a str,
 }
 
-// The text without one `/` at its front.
-fn without_slash(text: &str) -> &str
+/// The text without one `/` at its front.
+pub(crate) fn without_slash(text: &str) -> &str
     ensures { result.now ≡ without_slash text.now }
 {
     match after(text, '/') {

@@ -1,0 +1,58 @@
+//! The names of what a package exports.
+
+ghost use Rattle.std.specs.Prelude.{◌≡◌, IfOk};
+ghost use Rattle.std.specs.Cow.{cow_str_bytes};
+ghost use Rattle.std.specs.Option.{option_copied};
+ghost use Rattle.deno_semver.specs.ExportName.{IsExportName, dotted, export_name, is_whole_package, without_last_slash};
+
+use crate::package::without_slash;
+use std::alloc::{AllocError, Global};
+use std::borrow::CowStr;
+
+fn is_whole_package(path: &str) -> bool
+    ensures { result ≡ is_whole_package path.now }
+{
+    matches!(path, "" | "/" | ".")
+}
+
+// The path without one `/` at its end.
+fn without_last_slash(path: &str) -> &str
+    ensures { result.now ≡ without_last_slash path.now }
+{
+    match path.strip_suffix('/') {
+        Some(front) => front,
+        None => path,
+    }
+}
+
+// The path with `./` in front, in place of one `/`, or as it is where it begins so.
+fn dotted(alloc: Global, path: &str) -> Result<CowStr<'_, Global>, AllocError>
+    ensures { IfOk result (λ name. cow_str_bytes name ≡ dotted path.now) }
+{
+    if path.starts_with("./") {
+        return Ok(CowStr::Borrowed(path));
+    }
+    let path = without_slash(path);
+    Ok(CowStr::Owned(format!(in alloc; "./{path}")?))
+}
+
+/// The name of the export that a path in a package of JSR is: `.`, which is the package's own, without a path and for
+/// the paths that are empty, `/` and `.`. Any other path loses one `/` at its end, and then has `./` in front, in place
+/// of one `/`, unless it begins so (the exports of JSR's packages; the crate `deno_semver`).
+///
+/// It is an error only where no memory is left.
+pub fn normalized_export_name(
+    alloc: Global,
+    sub_path: Option<&str>,
+) -> Result<CowStr<'_, Global>, AllocError>
+    ensures value { IfOk result (λ name. cow_str_bytes name ≡ export_name (option_copied sub_path.entry)) }
+    ensures form { IfOk result (λ name. IsExportName (cow_str_bytes name)) }
+{
+    let Some(path) = sub_path else {
+        return Ok(CowStr::Borrowed("."));
+    };
+    if is_whole_package(path) {
+        return Ok(CowStr::Borrowed("."));
+    }
+    dotted(alloc, without_last_slash(path))
+}
