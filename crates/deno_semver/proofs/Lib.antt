@@ -4,4 +4,5 @@ pub mod NameAndVersion
 pub mod NvText
 pub mod PackageFaults
 pub mod PackageText
+pub mod References
 pub mod Runs

@@ -9,6 +9,7 @@ use Rattle.semver_req.specs.declared.range_set_or_tag.RangeSetOrTag.{RangeSetOrT
 use Rattle.deno_semver.specs.PackageOutcome.{BadName, BadVersion, Fault, HasPath, IsFirstFault, IsPackageAnswer, IsPackageOutcome, IsPackageRefusal, IsReadReq, IsVersionReq, IsWantOfMemory, NoAt, NoName, Tells, TellsFault, bad_name, bad_version, has_path, is_fault, is_package, no_name}
 use Rattle.deno_semver.specs.PackageReading.{IsFaultError, IsPartsRefusal, IsPathError, TellsSource}
 use Rattle.deno_semver.specs.PackageSteps.{IsUncut}
+use Rattle.deno_semver.specs.ReferenceReading.{IsFrontError, IsReadWithPath}
 use Rattle.deno_semver.specs.PackageText.{IsPackageText, IsPathPart, PackageParts, lacks_at, scoped_name}
 use Rattle.deno_semver.specs.declared.package.errors.PackageReqParseError.{PackageReqParseError}
 use Rattle.deno_semver.specs.declared.package.errors.PackageReqPartsParseError.{PackageReqPartsParseError}
@@ -19,19 +20,23 @@ use Rattle.deno_semver.proofs.PackageText.{no_alone, no_part, package_one, part_
 -- ---- the fault that an error tells
 
 module _ (f : Flavour) (text : List ℕ) {e : PackageReqPartsParseError} where
-  pub uncut_error : IsUncut text e → IsFaultError f text e
-  uncut_error (inl h) = inr (NoName, no_name h.1, h.0)
-  uncut_error (inr h) = inr (BadName, bad_name h.1, h.0)
+  pub uncut_error : IsUncut text e → IsFrontError f text e
+  uncut_error (inl h) = inr (NoName, no_name h.1, tt, h.0)
+  uncut_error (inr h) = inr (BadName, bad_name h.1, tt, h.0)
 
-  pub version_error : (cut : PackageParts) → IsPackageText text cut → IsPartsRefusal f cut.version e → IsFaultError f text e
+  pub version_error : (cut : PackageParts) → IsPackageText text cut → IsPartsRefusal f cut.version e → IsFrontError f text e
   version_error cut h refused = go cut.version refl refused
     where
-      go : (v : Option (List ℕ)) → cut.version ≡ v → IsPartsRefusal f v e → IsFaultError f text e
+      go : (v : Option (List ℕ)) → cut.version ≡ v → IsPartsRefusal f v e → IsFrontError f text e
       go None is memory = inl memory
       go (Some v) is (inl memory) = inl memory
-      go (Some v) is (inr bad) = inr (BadVersion v, bad_version h is bad.refused, bad.tells)
+      go (Some v) is (inr bad) = inr (BadVersion v, bad_version h is bad.refused, tt, bad.tells)
 
-  pub path_error : (cut : PackageParts) (req : Requirement) (tail : List ℕ) → IsPackageText text cut → IsVersionReq f cut.version req → IsPathPart tail cut.path → 0 < length cut.path
+  pub front_error : IsFrontError f text e → IsFaultError f text e
+  front_error (inl memory) = inl memory
+  front_error (inr h) = inr (h.0, h.1, h.3)
+
+  path_error : (cut : PackageParts) (req : Requirement) (tail : List ℕ) → IsPackageText text cut → IsVersionReq f cut.version req → IsPathPart tail cut.path → 0 < length cut.path
       → IsPathError tail e → IsFaultError f text e
   path_error cut req tail h is is_path some (inl memory) = inl memory
   path_error cut req tail h is is_path some (inr told) = inr (HasPath cut.path, has_path req h is some, told ∙ ap shown (tail_is tail is_path))
@@ -42,6 +47,12 @@ module _ (f : Flavour) (text : List ℕ) {e : PackageReqPartsParseError} where
       tail_is : (t : List ℕ) → IsPathPart t cut.path → t ≡ 47 ∷ cut.path
       tail_is [] k = absurd (omega (arith, some, ap length k))
       tail_is (b ∷ rest) k = rw (k.0, k.1) refl
+
+  pub path_fault : {req : PackageReq} {tail path : List ℕ} → IsReadWithPath f text req tail path → 0 < length path → IsPathError tail e → IsFaultError f text e
+  path_fault {req} {tail} h some told = path_error h.cut req.version_req tail h.is_cut h.version_req h.tail_is (rw (sym h.path_is) some) told
+
+pub no_path : (f : Flavour) (text : List ℕ) {req : PackageReq} {tail path : List ℕ} → IsReadWithPath f text req tail path → length path ≡ 0 → IsReadReq f text req
+no_path f text h none = record { cut = h.cut; is_cut = h.is_cut; name = h.name; version_req = h.version_req; no_path = rw (sym h.path_is) none }
 
 -- ---- one outcome
 
@@ -62,32 +73,32 @@ moved_answer f (Tag tag) y h = h
 moved_answer f Refused y h = h
 
 -- what one reader answers to one text
-version_one : (f : Flavour) (v : Option (List ℕ)) (x y : Requirement) → IsVersionReq f v x → IsVersionReq f v y → x ≡ y
+pub version_one : (f : Flavour) (v : Option (List ℕ)) (x y : Requirement) → IsVersionReq f v x → IsVersionReq f v y → x ≡ y
 version_one f None x y h k = h ∙ sym k
 version_one f (Some text) x y h k =
     let read = h.outcome in
     let inner : x.inner ≡ y.inner = same_read f read.outcome x.inner y.inner read.is_read (moved_answer f read.outcome y (k.answer read.outcome read.is_outcome)) in
     same_req (h.raw_text ∙ sym k.raw_text) inner
 
-read_or_refused : (f : Flavour) (v : Option (List ℕ)) (w : List ℕ) (x : Requirement) → v ≡ Some w → IsVersionReq f v x → IsOutcome f w Refused → ⊥
+pub read_or_refused : (f : Flavour) (v : Option (List ℕ)) (w : List ℕ) (x : Requirement) → v ≡ Some w → IsVersionReq f v x → IsOutcome f w Refused → ⊥
 read_or_refused f None w x is h refused = cc is
 read_or_refused f (Some v) w x is h refused = let same : v ≡ w = cc is in cc (h.answer Refused (rw same refused))
 
-version_at : (f : Flavour) {x y : PackageParts} (req : Requirement) → x ≡ y → IsVersionReq f x.version req → IsVersionReq f y.version req
+pub version_at : (f : Flavour) {x y : PackageParts} (req : Requirement) → x ≡ y → IsVersionReq f x.version req → IsVersionReq f y.version req
 version_at f req e h = subst (λ (c : PackageParts). IsVersionReq f c.version req) e h
 
 told : (f : Flavour) (b : Bool) (fault : Fault) (source e : PackageReqPartsParseError) → e ≡ (if b then parts.MissingAtSymbol else source) → Tells f fault source → Tells f (if b then NoAt else fault) e
 told f true fault source e is tells = is
 told f false fault source e is tells = subst (λ (x : PackageReqPartsParseError). Tells f fault x) (sym is) tells
 
-abbrev pair_of : List ℕ → Requirement → PackageReq
+abbrev pub pair_of : List ℕ → Requirement → PackageReq
 pair_of name req = record { name = name; version_req = req }
 
-same_pair : {n m : List ℕ} {x y : Requirement} → n ≡ m → x ≡ y → pair_of n x ≡ pair_of m y
+pub same_pair : {n m : List ℕ} {x y : Requirement} → n ≡ m → x ≡ y → pair_of n x ≡ pair_of m y
 same_pair a b = rw (a, b) refl
 
 module _ {f : Flavour} {text : List ℕ} where
-  fault_one : (a b : Fault) → IsFirstFault f text a → IsFirstFault f text b → a ≡ b
+  pub fault_one : (a b : Fault) → IsFirstFault f text a → IsFirstFault f text b → a ≡ b
   fault_one _ _ (no_name s) (no_name t) = refl
   fault_one _ _ (no_name s) (bad_name t) = absurd (part_or_alone text s t)
   fault_one _ _ (no_name s) (bad_version {cut} k is r) = absurd (no_part cut k s)

@@ -42,12 +42,12 @@ at_last last name version h = (
   none_passes version (rw h.4 h.2.0),
 )
 
-holds_at : (a v : List ℕ) → list_all (is_not 64) (a ++ (64 ∷ v)) ≡ true → ⊥
+pub holds_at : (a v : List ℕ) → list_all (is_not 64) (a ++ (64 ∷ v)) ≡ true → ⊥
 holds_at [] v h = cc h
 holds_at (x ∷ a) v h = holds_at a v (and_parts (is_not 64 x) (list_all (is_not 64) (a ++ (64 ∷ v))) h).1
 
 -- what stands before the last `@`, and after it, are one pair
-last_one : (a v b w : List ℕ) → a ++ (64 ∷ v) ≡ b ++ (64 ∷ w) → list_all (is_not 64) v ≡ true → list_all (is_not 64) w ≡ true → (a ≡ b) × (v ≡ w)
+pub last_one : (a v b w : List ℕ) → a ++ (64 ∷ v) ≡ b ++ (64 ∷ w) → list_all (is_not 64) v ≡ true → list_all (is_not 64) w ≡ true → (a ≡ b) × (v ≡ w)
 last_one [] v [] w e p q = (refl, cc e)
 last_one [] v (y ∷ b) w e p q =
     let tail : v ≡ b ++ (64 ∷ w) = cc e in

@@ -10,6 +10,9 @@ pub mod PackageOutcome
 pub mod PackageReading
 pub mod PackageSteps
 pub mod PackageText
+pub mod ReferenceOutcome
+pub mod ReferenceReading
+pub mod ReferenceText
 pub mod ReqOrder
 pub mod ReqOrderLaws
 pub mod RequirementText

@@ -6,12 +6,19 @@ mod kind;
 mod name_version;
 mod order;
 mod read;
+mod reference;
+mod reference_errors;
 mod requirement;
 
 pub(crate) use cut::without_slash;
 pub use errors::{PackageReqParseError, PackageReqPartsParseError};
 pub use kind::PackageKind;
 pub use name_version::{PackageNv, PackageNvParseError};
+pub use reference::PackageReqReference;
+pub use reference_errors::{
+    PackageReqReferenceInvalidParseError, PackageReqReferenceInvalidWithVersionParseError,
+    PackageReqReferenceParseError,
+};
 pub use requirement::PackageReq;
 use semver_base::string::{SmallStackString, StackString};
 

@@ -57,8 +57,8 @@ fn path_of(tail: &str) -> &str
     }
 }
 
-// What stands before the last `@`, and after it.
-fn split_name(last: &str) -> (&str, Option<&str>)
+/// What stands before the last `@`, and after it.
+pub(crate) fn split_name(last: &str) -> (&str, Option<&str>)
     ensures { IsNamePart last.now result.0.now (option_copied result.1) }
 {
     match last.rsplit_once('@') {

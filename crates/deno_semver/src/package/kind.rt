@@ -3,6 +3,7 @@
 ghost use Rattle.std.specs.Prelude.{◌≡◌, refl};
 ghost use Rattle.std.specs.Ordering.{as_partial_cmp};
 ghost use Rattle.deno_semver.specs.Kind.{kind_cmp, kind_po, kind_rank, kind_ties, kind_total, scheme_of};
+ghost use Rattle.deno_semver.specs.ReferenceReading.{IsAfterScheme};
 
 use std::cmp::Ordering;
 
@@ -26,6 +27,13 @@ impl PackageKind {
             PackageKind::Jsr => "jsr:",
             PackageKind::Npm => "npm:",
         }
+    }
+
+    /// What follows the registry's scheme, where the text begins with it.
+    pub(crate) fn after_scheme(self, text: &str) -> Option<&str>
+        ensures { IsAfterScheme self text.now result }
+    {
+        text.strip_prefix(self.scheme_with_colon())
     }
 
     // Its place in the order.

@@ -6,6 +6,7 @@ ghost use Rattle.semver_req.specs.declared.common.values.Flavour.TheVariants.{No
 ghost use Rattle.deno_semver.specs.PackageOutcome.{Fault, IsPackageAnswer, IsPackageOutcome, IsPackageRefusal, IsVersionReq, IsWantOfMemory};
 ghost use Rattle.deno_semver.specs.PackageReading.{IsPartsRefusal, IsPathError, IsReadPackage, IsVersionRefusal, TellsSource};
 ghost use Rattle.deno_semver.specs.PackageText.{scoped_name};
+ghost use Rattle.deno_semver.specs.ReferenceReading.{IsFrontError, IsReadWithPath};
 ghost use Rattle.deno_semver.specs.declared.package.requirement.PackageReq.{PackageReq};
 
 use super::cut::{lacks_at, parts_of};
@@ -111,13 +112,15 @@ fn path_error(alloc: Global, tail: &str) -> PackageReqPartsParseError
     PackageReqPartsParseError::SpecifierVersionReq(VersionReqSpecifierParseError { source })
 }
 
-// The requirement of a package, or what is wrong first.
-fn read(
+/// The requirement at the front of a text, and the path after it, with its `/` and without; or what is wrong first, which a
+/// path isn't.
+pub(crate) fn read_with_path(
     alloc: Global,
     text: &str,
     flavour: Flavour,
-) -> Result<PackageReq, PackageReqPartsParseError>
-    ensures { IsReadPackage flavour text.now result }
+) -> Result<(PackageReq, &str, &str), PackageReqPartsParseError>
+    ensures read { IfOk result (λ r. IsReadWithPath flavour text.now r.0 r.1.now r.2.now) }
+    ensures refused { IfErr result (IsFrontError flavour text.now) }
 {
     let cut = match parts_of(text) {
         Ok(cut) => cut,
@@ -127,13 +130,28 @@ fn read(
         Ok(req) => req,
         Err(error) => return Err(error),
     };
-    if !cut.path.is_empty() {
-        return Err(path_error(alloc, cut.tail));
-    }
     match full_name(alloc, cut.scope, cut.name) {
-        Ok(name) => Ok(PackageReq { name, version_req }),
+        Ok(name) => Ok((PackageReq { name, version_req }, cut.tail, cut.path)),
         Err(_) => Err(PackageReqPartsParseError::Memory),
     }
+}
+
+// The requirement of a package, or what is wrong first.
+fn read(
+    alloc: Global,
+    text: &str,
+    flavour: Flavour,
+) -> Result<PackageReq, PackageReqPartsParseError>
+    ensures { IsReadPackage flavour text.now result }
+{
+    let (req, tail, path) = match read_with_path(alloc, text, flavour) {
+        Ok(front) => front,
+        Err(error) => return Err(error),
+    };
+    if !path.is_empty() {
+        return Err(path_error(alloc, tail));
+    }
+    Ok(req)
 }
 
 // The error with the whole text, or want of memory where there is none for it.

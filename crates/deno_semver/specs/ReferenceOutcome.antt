@@ -1,0 +1,87 @@
+-- What the text of a reference to a package stands for, and why it is refused. Sources: npm's and JSR's specifiers; which
+-- fault is told is the crate `deno_semver`'s choice.
+use Rattle.std.specs.Prelude.{◌≡◌, ◌++◌, ◌∷◌, ◌⊎◌, ℕ, List, true, Some, Result, Ok, Err, MatchResult, IsErrAnd, codes}
+use Rattle.std.specs.List.{list_all}
+use Rattle.semver_req.specs.declared.common.values.Flavour.TheVariants.{Specifier}
+use Rattle.deno_semver.specs.Cuts.{is_not}
+use Rattle.deno_semver.specs.Kind.{scheme_of}
+use Rattle.deno_semver.specs.PackageOutcome.{Fault, HasPath, IsFirstFault, IsVersionReq, Tells}
+use Rattle.deno_semver.specs.PackageText.{IsPackageText, PackageParts, scoped_name}
+use Rattle.deno_semver.specs.ReferenceText.{LacksScheme, reference_text, sub_path_of, text_with_version}
+use Rattle.deno_semver.specs.declared.package.errors.PackageReqPartsParseError.{PackageReqPartsParseError}
+use Rattle.deno_semver.specs.declared.package.kind.PackageKind.{PackageKind}
+use Rattle.deno_semver.specs.declared.package.reference.PackageReqReference.{PackageReqReference}
+use Rattle.deno_semver.specs.declared.package.reference_errors.PackageReqReferenceInvalidParseError.{PackageReqReferenceInvalidParseError}
+use Rattle.deno_semver.specs.declared.package.reference_errors.PackageReqReferenceInvalidWithVersionParseError.{PackageReqReferenceInvalidWithVersionParseError}
+use Rattle.deno_semver.specs.declared.package.reference_errors.PackageReqReferenceParseError.{PackageReqReferenceParseError}
+use Rattle.deno_semver.specs.declared.package.reference_errors.PackageReqReferenceParseError.TheVariants as boxed
+
+-- a requirement, read by the strict reader, and the path after it, where the text has one: a text without a scheme
+pub record IsReadReference (body : List ℕ) (reference : PackageReqReference) : Type 0 where
+  pub cut : PackageParts
+  pub is_cut : IsPackageText body cut
+  pub name : reference.req.name ≡ scoped_name cut.scope cut.name
+  pub version_req : IsVersionReq Specifier cut.version reference.req.version_req
+  pub sub_path : reference.sub_path ≡ sub_path_of cut.path
+
+-- any version is meant, as `*` says, and a version stands after the last `@` of the path
+pub record HasVersionInPath (reference : PackageReqReference) (before version : List ℕ) : Type 0 where
+  pub any : reference.req.version_req.raw_text ≡ codes "*"
+  pub path : reference.sub_path ≡ Some (before ++ (64 ∷ version))
+  pub last_at : list_all (is_not 64) version ≡ true
+
+abbrev pub HasNoVersionInPath : PackageReqReference → Type 0
+HasNoVersionInPath reference = (before version : List ℕ) → HasVersionInPath reference before version → ⊥
+
+-- why a text is refused
+pub data ReferenceFault : Type 0 where
+  OtherScheme : ReferenceFault
+  -- what follows the scheme is no requirement
+  BadText : Fault → ReferenceFault
+  -- the text as it would be written, and with its version moved behind the name
+  VersionInPath : List ℕ → List ℕ → ReferenceFault
+
+-- a path may follow the requirement
+abbrev pub IsOfReference : Fault → Type 0
+IsOfReference (HasPath path) = ⊥
+IsOfReference fault = Unit {0}
+
+-- what a text stands for: a reference without a version in its path, or its first fault
+pub data IsReferenceOutcome (kind : PackageKind) (text : List ℕ) : Result PackageReqReference ReferenceFault → Type 0 where
+  other_scheme : LacksScheme kind text → IsReferenceOutcome kind text (Err OtherScheme)
+  is_reference : {body : List ℕ} {reference : PackageReqReference} → text ≡ scheme_of kind ++ body → IsReadReference body reference → HasNoVersionInPath reference
+      → IsReferenceOutcome kind text (Ok reference)
+  bad_text : {body : List ℕ} {fault : Fault} → text ≡ scheme_of kind ++ body → IsFirstFault Specifier body fault → IsOfReference fault
+      → IsReferenceOutcome kind text (Err (BadText fault))
+  version_in_path : {body before version : List ℕ} {reference : PackageReqReference} → text ≡ scheme_of kind ++ body → IsReadReference body reference → HasVersionInPath reference before version
+      → IsReferenceOutcome kind text (Err (VersionInPath (reference_text reference) (text_with_version reference.req version before)))
+
+-- ---- answers
+
+-- an error without its boxes
+pub data ReferenceError : Type 0 where
+  NotExpectedScheme : PackageKind → ReferenceError
+  Invalid : PackageReqReferenceInvalidParseError → ReferenceError
+  InvalidPathWithVersion : PackageReqReferenceInvalidWithVersionParseError → ReferenceError
+  Memory : ReferenceError
+
+abbrev pub unboxed : PackageReqReferenceParseError → ReferenceError
+unboxed (boxed.NotExpectedScheme kind) = NotExpectedScheme kind
+unboxed (boxed.Invalid error) = Invalid error.value
+unboxed (boxed.InvalidPathWithVersion error) = InvalidPathWithVersion error.value
+unboxed boxed.Memory = Memory
+
+-- the error tells of the fault
+abbrev pub TellsReference : PackageKind → List ℕ → ReferenceFault → PackageReqReferenceParseError → Type 0
+TellsReference kind text OtherScheme e = unboxed e ≡ NotExpectedScheme kind
+TellsReference kind text (BadText fault) e = (source : PackageReqPartsParseError) × Tells Specifier fault source × (unboxed e ≡ Invalid (record { specifier = text; source = source }))
+TellsReference kind text (VersionInPath current suggested) e = unboxed e ≡ InvalidPathWithVersion (record { kind = kind; current = current; suggested = suggested })
+
+-- the error is want of memory, or tells the fault that the text has as its outcome
+abbrev pub IsReferenceRefusal : PackageKind → List ℕ → PackageReqReferenceParseError → Type 0
+IsReferenceRefusal kind text e = (unboxed e ≡ Memory) ⊎ ((fault : ReferenceFault) × IsReferenceOutcome kind text (Err fault) × TellsReference kind text fault e)
+
+-- the answer to a text with this outcome, want of memory aside
+abbrev pub IsReferenceAnswer : PackageKind → List ℕ → Result PackageReqReference ReferenceFault → Result PackageReqReference PackageReqReferenceParseError → Type 0
+IsReferenceAnswer kind text (Ok reference) result = MatchResult result (λ answer. answer ≡ reference) (λ e. unboxed e ≡ Memory)
+IsReferenceAnswer kind text (Err fault) result = IsErrAnd result (λ e. (unboxed e ≡ Memory) ⊎ TellsReference kind text fault e)

@@ -1,0 +1,29 @@
+-- How references to packages are written: the text of a requirement, or of a name and version, and the path of a module
+-- after a `/`; before them may stand a registry's scheme. Sources: npm's and JSR's specifiers; the crate `deno_semver`.
+use Rattle.std.specs.Prelude.{◌≡◌, ◌++◌, ◌∷◌, ◌||◌, [], ℕ, List, Option, Some, None, bytes_eq, codes, if◌then◌else◌}
+use Rattle.deno_semver.specs.Kind.{scheme_of}
+use Rattle.deno_semver.specs.RequirementText.{req_text}
+use Rattle.deno_semver.specs.declared.package.kind.PackageKind.{PackageKind}
+use Rattle.deno_semver.specs.declared.package.reference.PackageReqReference.{PackageReqReference}
+use Rattle.deno_semver.specs.declared.package.requirement.PackageReq.{PackageReq}
+
+-- no text begins with the scheme so that the rest is this one
+abbrev pub LacksScheme : PackageKind → List ℕ → Type 0
+LacksScheme kind text = (body : List ℕ) → text ≡ scheme_of kind ++ body → ⊥
+
+-- the path of a module that a text names; nothing and `/` name none
+abbrev pub sub_path_of : List ℕ → Option (List ℕ)
+sub_path_of path = if bytes_eq path [] || bytes_eq path (codes "/") then None else Some path
+
+-- nothing, or `/` and the path
+abbrev pub path_text : Option (List ℕ) → List ℕ
+path_text None = []
+path_text (Some path) = 47 ∷ path
+
+-- the requirement, and the path after a `/`
+abbrev pub reference_text : PackageReqReference → List ℕ
+reference_text reference = req_text reference.req ++ path_text reference.sub_path
+
+-- the same with a version behind the requirement
+abbrev pub text_with_version : PackageReq → List ℕ → List ℕ → List ℕ
+text_with_version req version path = req_text req ++ (64 ∷ (version ++ (47 ∷ path)))

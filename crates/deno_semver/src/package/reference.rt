@@ -1,0 +1,210 @@
+//! References to packages: a requirement of one, and the path of a module in it.
+
+ghost use Rattle.std.specs.Prelude.{◌≡◌, IfErr, IfOk, Ok, Result, Some};
+ghost use Rattle.deno_semver.specs.ReferenceOutcome.{IsReferenceAnswer, IsReferenceOutcome, IsReferenceRefusal, ReferenceFault};
+ghost use Rattle.deno_semver.specs.ReferenceReading.{FindsVersion, IsReferenceRead, IsToldInvalid, IsToldVersion};
+ghost use Rattle.deno_semver.specs.ReferenceText.{reference_text, sub_path_of, text_with_version};
+ghost use Rattle.deno_semver.specs.declared.package.reference.PackageReqReference.{PackageReqReference};
+
+use super::cut::split_name;
+use super::read::read_with_path;
+use super::{
+    PackageKind, PackageReq, PackageReqPartsParseError, PackageReqReferenceInvalidParseError,
+    PackageReqReferenceInvalidWithVersionParseError, PackageReqReferenceParseError, PackageSubPath,
+};
+use semver_base::string::{StackString, StringAppendable, StringType};
+use semver_req::common::values::Flavour;
+use std::alloc::{AllocError, Global};
+use std::fmt;
+
+/// A reference to a package: a requirement of it, and the path of a module in it, if one is named.
+///
+/// Two are equal where their requirements and their paths are. It is displayed as its requirement, with `/` and the path
+/// after it.
+#[derive(PartialEq, Eq, Hash, Debug, Drop)]
+pub struct PackageReqReference {
+    pub req: PackageReq,
+    pub sub_path: Option<PackageSubPath>,
+}
+
+// The path of a module, if this path is one.
+fn sub_path(alloc: Global, path: &str) -> Result<Option<PackageSubPath>, AllocError>
+    ensures { IfOk result (λ sub_path. sub_path ≡ sub_path_of path.now) }
+{
+    if matches!(path, "" | "/") {
+        return Ok(None);
+    }
+    Ok(Some(PackageSubPath::from_str(alloc, path)?))
+}
+
+// The reference that a text without a scheme is, wherever its version stands.
+fn read(alloc: Global, body: &str) -> Result<PackageReqReference, PackageReqPartsParseError>
+    ensures { IsReferenceRead body.now result }
+{
+    let (req, _, path) = match read_with_path(alloc, body, Flavour::Specifier) {
+        Ok(front) => front,
+        Err(error) => return Err(error),
+    };
+    match sub_path(alloc, path) {
+        Ok(sub_path) => Ok(PackageReqReference { req, sub_path }),
+        Err(_) => Err(PackageReqPartsParseError::Memory),
+    }
+}
+
+// The error with the whole text, or want of memory where there is none for it.
+fn invalid(
+    alloc: Global,
+    text: &str,
+    source: PackageReqPartsParseError,
+) -> PackageReqReferenceParseError
+    ensures { IsToldInvalid text.now source result }
+{
+    if source.is_memory() {
+        return PackageReqReferenceParseError::Memory;
+    }
+    let Ok(specifier) = StackString::from_str(alloc, text) else {
+        return PackageReqReferenceParseError::Memory;
+    };
+    match Box::new(
+        alloc,
+        PackageReqReferenceInvalidParseError { specifier, source },
+    ) {
+        Ok(error) => PackageReqReferenceParseError::Invalid(error),
+        Err(_) => PackageReqReferenceParseError::Memory,
+    }
+}
+
+// What stands before the version in the path, and that version, where any version is required.
+fn version_in_path(reference: &PackageReqReference) -> Option<(&str, &str)>
+    ensures { FindsVersion reference.now result }
+{
+    if reference.req.version_req.version_text() != "*" {
+        return None;
+    }
+    let Some(path) = &reference.sub_path else {
+        return None;
+    };
+    match split_name(path.as_str()) {
+        (before, Some(version)) => Some((before, version)),
+        (_, None) => None,
+    }
+}
+
+// The requirement with a version behind it, and the path.
+fn suggestion(
+    alloc: Global,
+    req: &PackageReq,
+    version: &str,
+    path: &str,
+) -> Result<StackString, AllocError>
+    ensures { IfOk result (λ text. text ≡ text_with_version req.now version.now path.now) }
+{
+    let text = format!(in alloc; "{req}@{version}/{path}")?;
+    StackString::from_string(alloc, text)
+}
+
+// How the reference is written.
+fn current(alloc: Global, reference: &PackageReqReference) -> Result<StackString, AllocError>
+    ensures { IfOk result (λ text. text ≡ reference_text reference.now) }
+{
+    let text = format!(in alloc; "{reference}")?;
+    StackString::from_string(alloc, text)
+}
+
+// The texts of the error for a version in the path.
+fn texts(
+    alloc: Global,
+    kind: PackageKind,
+    reference: &PackageReqReference,
+    before: &str,
+    version: &str,
+) -> Result<PackageReqReferenceInvalidWithVersionParseError, AllocError>
+    ensures { IfOk result (λ error. error ≡ record { kind = kind; current = reference_text reference.now; suggested = text_with_version reference.now.req version.now before.now }) }
+{
+    Ok(PackageReqReferenceInvalidWithVersionParseError {
+        kind,
+        current: current(alloc, reference)?,
+        suggested: suggestion(alloc, &reference.req, version, before)?,
+    })
+}
+
+// The error for a version in the path, or want of memory.
+fn told(
+    alloc: Global,
+    kind: PackageKind,
+    reference: &PackageReqReference,
+    before: &str,
+    version: &str,
+) -> PackageReqReferenceParseError
+    ensures { IsToldVersion kind reference.now before.now version.now result }
+{
+    let Ok(error) = texts(alloc, kind, reference, before, version) else {
+        return PackageReqReferenceParseError::Memory;
+    };
+    match Box::new(alloc, error) {
+        Ok(error) => PackageReqReferenceParseError::InvalidPathWithVersion(error),
+        Err(_) => PackageReqReferenceParseError::Memory,
+    }
+}
+
+impl PackageReqReference {
+    /// The reference to a package of this registry that a text is.
+    pub(crate) fn from_str(
+        alloc: Global,
+        text: &str,
+        kind: PackageKind,
+    ) -> Result<Self, PackageReqReferenceParseError>
+        ensures read { IfOk result (λ r. IsReferenceOutcome kind text.now (Ok r)) }
+        ensures refused { IfErr result (IsReferenceRefusal kind text.now) }
+        ensures answer { (outcome : Result PackageReqReference ReferenceFault) → IsReferenceOutcome kind text.now outcome
+            → IsReferenceAnswer kind text.now outcome result }
+    {
+        let Some(body) = kind.after_scheme(text) else {
+            return Err(PackageReqReferenceParseError::NotExpectedScheme(kind));
+        };
+        let reference = match read(alloc, body) {
+            Ok(reference) => reference,
+            Err(source) => return Err(invalid(alloc, text, source)),
+        };
+        if let Some((before, version)) = version_in_path(&reference) {
+            return Err(told(alloc, kind, &reference, before, version));
+        }
+        Ok(reference)
+    }
+
+    /// The same reference again. It is an error only where no memory is left.
+    pub fn copy(&self) -> Result<Self, AllocError>
+        ensures { IfOk result (λ reference. reference ≡ self.now) }
+    {
+        let sub_path = match &self.sub_path {
+            Some(path) => Some(path.copy()?),
+            None => None,
+        };
+        Ok(PackageReqReference {
+            req: self.req.copy()?,
+            sub_path,
+        })
+    }
+}
+
+/// The requirement, and `/` and the path where there is one.
+impl fmt::Display for PackageReqReference {
+    ghost output = { λ reference. Some (reference_text reference) };
+
+    fn fmt<W: fmt::Write>(&self, f: &mut fmt::Formatter<W>) -> fmt::Result {
+        let req = &self.req;
+        match &self.sub_path {
+            Some(path) => write!(f, "{req}/{path}"),
+            None => write!(f, "{req}"),
+        }
+    }
+}
+
+impl StringAppendable for PackageReqReference {
+    ghost text = { reference_text };
+
+    fn append_to<T: StringType>(&self, alloc: Global, target: &mut T) -> Result<(), AllocError> {
+        let text = format!(in alloc; "{self}")?;
+        target.push_str(text.as_str())
+    }
+}
