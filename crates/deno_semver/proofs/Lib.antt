@@ -1,6 +1,7 @@
 pub mod ExportNames
 pub mod JsonReading
 pub mod NameAndVersion
+pub mod NvReferences
 pub mod NvText
 pub mod PackageFaults
 pub mod PackageText

@@ -1,5 +1,6 @@
 -- What a text is cut into as a name and version, and that it is one cut.
 use Rattle.std.proofs.Common.{◌≡◌, ◌≤◌, ◌<◌, ◌==◌, ℕ, true, false, List, [], ◌∷◌, ◌++◌, length, take, drop, get_or, Option, None, Result, Ok, Err, refl, sym, ap, subst, ◌∙◌, arith, inl, inr, add-one, length-append}
+use Rattle.std.specs.Borrow.{Bor}
 use Rattle.std.specs.Prelude.{◌⊎◌}
 use Rattle.std.specs.List.{list_all, take_while}
 use Rattle.std.specs.Str.{IsCharBoundary, trim}
@@ -13,8 +14,8 @@ use Rattle.semver_base.specs.declared.failure.Refusal.TheVariants.{UnexpectedCha
 use Rattle.semver_base.specs.declared.version.Version.{Version}
 use Rattle.semver_base.proofs.Numbers.{cuts_run}
 use Rattle.deno_semver.specs.Cuts.{is_not}
-use Rattle.deno_semver.specs.NameAndVersion.{IsNoNvText, IsNvAnswer, IsNvMemory, IsNvName, IsNvOutcome, is_nv, is_uncut, is_bad_version, is_followed, IsNvRefusal, IsNvText, TellsNvFault, is_version_byte}
-use Rattle.deno_semver.specs.NameAndVersionSteps.{IsNameCut, TellsFailure, name_len}
+use Rattle.deno_semver.specs.NameAndVersion.{IsNoNvText, IsNvAnswer, IsNvFront, IsNvMemory, IsNvName, IsNvOutcome, IsNvRefusal, IsNvText, TellsNvFault, is_bad, is_bad_version, is_followed, is_front, is_nv, is_uncut, is_version_byte}
+use Rattle.deno_semver.specs.NameAndVersionSteps.{IsFrontAnswer, IsFrontRefusal, IsNameCut, TellsFailure, name_len}
 use Rattle.deno_semver.specs.declared.package.name_version.PackageNv.{PackageNv}
 use Rattle.deno_semver.specs.declared.package.name_version.PackageNvParseError.{PackageNvParseError}
 use Rattle.deno_semver.proofs.Runs.{cut_before, run_one, run_stop}
@@ -87,28 +88,22 @@ no_at {name = name} {rest} c none n w s k = go name n (c.name_is (some_text k)) 
         let tail : a ++ rest ≡ b ++ (64 ∷ (w ++ s)) = cc e in
         none (w ++ s) (run_one (is_not 64) a rest b (64 ∷ (w ++ s)) tail h c.ends j refl).1
 
--- ---- refusals
+-- ---- the front
 
 pub told_fault : {text : List ℕ} {e : PackageNvParseError} (fault : Refusal) (message : List ℕ) → message ≡ refusal_message fault
     → IsNvMemory e ⊎ ((e.message ≡ message) × (e.text ≡ text)) → IsNvMemory e ⊎ TellsNvFault fault text e
 told_fault fault message is (inl memory) = inl memory
 told_fault fault message is (inr told) = inr (record { message = told.0 ∙ is; text_is = told.1 })
 
-pub tells : {text : List ℕ} {e : PackageNvParseError} (fault : Refusal) (message : List ℕ) → IsNvOutcome text (Err fault) → message ≡ refusal_message fault
-    → IsNvMemory e ⊎ ((e.message ≡ message) × (e.text ≡ text)) → IsNvRefusal text e
-tells {text} {e} fault message o is told = go (told_fault fault message is told)
-  where
-    go : IsNvMemory e ⊎ TellsNvFault fault text e → IsNvRefusal text e
-    go (inl memory) = inl memory
-    go (inr h) = inr (fault, o, h)
+pub tells_uncut : {text whole : List ℕ} {e : PackageNvParseError} → IsNoNvText text → IsNvMemory e ⊎ TellsNvFault UnexpectedCharacter whole e → IsFrontRefusal text whole e
+tells_uncut none (inl memory) = inl memory
+tells_uncut none (inr told) = inr (UnexpectedCharacter, is_uncut none, told)
 
-pub tells_version : {text name version rest : List ℕ} {failure : Option (List ℕ × Option (List ℕ))} {e : PackageNvParseError} → IsNvText text name version rest
-    → IsVersionRefusal (trim version) failure → IsNvMemory e ⊎ TellsFailure failure text e → IsNvRefusal text e
+pub tells_version : {text whole name version rest : List ℕ} {failure : Option (List ℕ × Option (List ℕ))} {e : PackageNvParseError} → IsNvText text name version rest
+    → IsVersionRefusal (trim version) failure → IsNvMemory e ⊎ TellsFailure failure whole e → IsFrontRefusal text whole e
 tells_version h refused (inl memory) = inl memory
 tells_version h (inl none) (inr told) = absurd (told.no_memory none)
 tells_version h (inr refused) (inr told) = inr (refused.0, is_bad_version h refused.1, record { message = told.message ∙ ap message_of refused.2; text_is = told.text_is })
-
--- ---- answers
 
 abbrev nv_of : List ℕ → Version → PackageNv
 nv_of name version = record { name = name; version = version }
@@ -116,12 +111,8 @@ nv_of name version = record { name = name; version = version }
 nv_same : {n m : List ℕ} {v w : Version} → n ≡ m → v ≡ w → nv_of n v ≡ nv_of m w
 nv_same e f = rw (e, f) refl
 
--- a cut with nothing left is what was read
-pub reads : {text name version rest n : List ℕ} {v : Version} → IsNvText text name version rest → length rest ≡ 0 → n ≡ name
-    → IsVersionOutcome (trim version) (Ok v) → IsNvOutcome text (Ok (nv_of n v))
-reads {text} {name} {version} {rest} h nil is v =
-    let whole : IsNvText text name version [] = subst (λ (r : List ℕ). IsNvText text name version r) (nil_from_length rest nil) h in
-    rw is (is_nv whole v)
+pub reads : {text name version rest n : List ℕ} {v : Version} → IsNvText text name version rest → n ≡ name → IsVersionOutcome (trim version) (Ok v) → IsNvFront text (Ok (nv_of n v, rest))
+reads h is v = rw is (is_front h v)
 
 -- what the reader of versions answers to each outcome of the version
 abbrev pub Answers : {E : Type 0} → (E → Option (List ℕ × Option (List ℕ))) → List ℕ → Result Version E → Type 0
@@ -130,39 +121,68 @@ Answers source version result = (o : Result Version Refusal) → IsVersionOutcom
 moved : {v w : List ℕ} {o : Result Version Refusal} → v ≡ w → IsVersionOutcome (trim w) o → IsVersionOutcome (trim v) o
 moved {o = o} e h = subst (λ (t : List ℕ). IsVersionOutcome (trim t) o) (sym e) h
 
+pub uncut_answer : {text whole : List ℕ} {e : PackageNvParseError} → IsNoNvText text → IsNvMemory e ⊎ TellsNvFault UnexpectedCharacter whole e
+    → (o : Result (PackageNv × List ℕ) Refusal) → IsNvFront text o → IsFrontAnswer whole o (Err e)
+uncut_answer none told _ (is_front h v) = absurd (none _ _ _ h)
+uncut_answer none told _ (is_uncut k) = told
+uncut_answer none told _ (is_bad_version h v) = absurd (none _ _ _ h)
+
 module _ {E : Type 0} (source : E → Option (List ℕ × Option (List ℕ))) {text name version rest : List ℕ} (h : IsNvText text name version rest) where
-  pub refused_answer : (x : E) → Answers source version (Err x) → {e : PackageNvParseError} → IsNvMemory e ⊎ TellsFailure (source x) text e
-      → (o : Result PackageNv Refusal) → IsNvOutcome text o → IsNvAnswer text o (Err e)
-  refused_answer x answer {e} told _ (is_nv k v) = forgot told (answer (Ok _) (moved (nv_one h k).1 v))
+  pub refused_answer : {whole : List ℕ} (x : E) → Answers source version (Err x) → {e : PackageNvParseError} → IsNvMemory e ⊎ TellsFailure (source x) whole e
+      → (o : Result (PackageNv × List ℕ) Refusal) → IsNvFront text o → IsFrontAnswer whole o (Err e)
+  refused_answer {whole} x answer {e} told _ (is_front k v) = forgot told (answer (Ok _) (moved (nv_one h k).1 v))
     where
-      forgot : IsNvMemory e ⊎ TellsFailure (source x) text e → source x ≡ None → IsNvMemory e
+      forgot : IsNvMemory e ⊎ TellsFailure (source x) whole e → source x ≡ None → IsNvMemory e
       forgot (inl memory) none = memory
       forgot (inr t) none = absurd (t.no_memory none)
   refused_answer x answer told _ (is_uncut none) = absurd (none _ _ _ h)
-  refused_answer x answer {e} told _ (is_bad_version {fault} k v) = shows told (answer (Err _) (moved (nv_one h k).1 v))
+  refused_answer {whole} x answer {e} told _ (is_bad_version {fault} k v) = shows told (answer (Err _) (moved (nv_one h k).1 v))
     where
-      shows : IsNvMemory e ⊎ TellsFailure (source x) text e → (source x ≡ None) ⊎ (source x ≡ version_failure fault (trim version)) → IsNvMemory e ⊎ TellsNvFault fault text e
+      shows : IsNvMemory e ⊎ TellsFailure (source x) whole e → (source x ≡ None) ⊎ (source x ≡ version_failure fault (trim version)) → IsNvMemory e ⊎ TellsNvFault fault whole e
       shows (inl memory) is = inl memory
       shows (inr t) (inl none) = absurd (t.no_memory none)
       shows (inr t) (inr is) = inr (record { message = t.message ∙ ap message_of is; text_is = t.text_is })
-  refused_answer x answer {e} told _ (is_followed k some v) = forgot told (answer (Ok _) (moved (nv_one h k).1 v))
-    where
-      forgot : IsNvMemory e ⊎ TellsFailure (source x) text e → source x ≡ None → IsNvMemory e ⊎ TellsNvFault UnexpectedCharacter text e
-      forgot (inl memory) none = inl memory
-      forgot (inr t) none = absurd (t.no_memory none)
 
-  pub followed_answer : (x : Version) → Answers source version (Ok x) → 0 < length rest → {e : PackageNvParseError} → IsNvMemory e ⊎ TellsNvFault UnexpectedCharacter text e
-      → (o : Result PackageNv Refusal) → IsNvOutcome text o → IsNvAnswer text o (Err e)
-  followed_answer x answer some told _ (is_nv k v) = absurd (omega (arith, some, ap length (nv_one h k).2))
-  followed_answer x answer some told _ (is_uncut none) = absurd (none _ _ _ h)
-  followed_answer x answer some told _ (is_bad_version k v) = absurd (answer (Err _) (moved (nv_one h k).1 v))
-  followed_answer x answer some told _ (is_followed k l v) = told
-
-  pub read_answer : (x : Version) → Answers source version (Ok x) → length rest ≡ 0 → {n : List ℕ} → n ≡ name → (o : Result PackageNv Refusal) → IsNvOutcome text o → IsNvAnswer text o (Ok (nv_of n x))
-  read_answer x answer nil is_name _ (is_nv {name = m} {v = w} k v) =
+  pub read_answer : (whole : List ℕ) (x : Version) → Answers source version (Ok x) → {n : List ℕ} → n ≡ name → (r : Bor (List ℕ)) → r.now ≡ rest
+      → (o : Result (PackageNv × List ℕ) Refusal) → IsNvFront text o → IsFrontAnswer whole o (Ok (nv_of n x, r))
+  read_answer whole x answer is_name r is_rest _ (is_front {name = m} {v = w} k v) =
       let same = is_name ∙ (nv_one h k).0 in
       let is : x ≡ w = answer (Ok w) (moved (nv_one h k).1 v) in
-      nv_same same is
-  read_answer x answer nil is_name _ (is_uncut none) = absurd (none _ _ _ h)
-  read_answer x answer nil is_name _ (is_bad_version k v) = absurd (answer (Err _) (moved (nv_one h k).1 v))
-  read_answer x answer nil is_name _ (is_followed k some v) = absurd (omega (arith, some, ap length (nv_one h k).2, nil))
+      (nv_same same is, is_rest ∙ (nv_one h k).2)
+  read_answer whole x answer is_name r is_rest _ (is_uncut none) = absurd (none _ _ _ h)
+  read_answer whole x answer is_name r is_rest _ (is_bad_version k v) = absurd (answer (Err _) (moved (nv_one h k).1 v))
+
+-- ---- the whole text
+
+-- what the reader of the front answers to each outcome
+abbrev pub FrontAnswers : List ℕ → List ℕ → Result (PackageNv × Bor (List ℕ)) PackageNvParseError → Type 0
+FrontAnswers text whole result = (o : Result (PackageNv × List ℕ) Refusal) → IsNvFront text o → IsFrontAnswer whole o result
+
+pub bad_refusal : {text : List ℕ} {e : PackageNvParseError} → IsFrontRefusal text text e → IsNvRefusal text e
+bad_refusal (inl memory) = inl memory
+bad_refusal (inr h) = inr (h.0, is_bad h.1, h.2)
+
+pub followed_refusal : {text rest : List ℕ} {nv : PackageNv} {e : PackageNvParseError} → IsNvFront text (Ok (nv, rest)) → 0 < length rest → IsNvMemory e ⊎ TellsNvFault UnexpectedCharacter text e
+    → IsNvRefusal text e
+followed_refusal h some (inl memory) = inl memory
+followed_refusal h some (inr told) = inr (UnexpectedCharacter, is_followed h some, told)
+
+pub bad_answer : {text : List ℕ} {e : PackageNvParseError} → FrontAnswers text text (Err e) → (o : Result PackageNv Refusal) → IsNvOutcome text o → IsNvAnswer text o (Err e)
+bad_answer answer _ (is_nv k) = answer _ k
+bad_answer answer _ (is_bad k) = answer _ k
+bad_answer answer _ (is_followed k some) = inl (answer _ k)
+
+module _ {text : List ℕ} {nv : PackageNv} {rest : Bor (List ℕ)} (answer : FrontAnswers text text (Ok (nv, rest))) where
+  pub followed_answer : {e : PackageNvParseError} → 0 < length rest.now → IsNvMemory e ⊎ TellsNvFault UnexpectedCharacter text e
+      → (o : Result PackageNv Refusal) → IsNvOutcome text o → IsNvAnswer text o (Err e)
+  followed_answer some told _ (is_nv k) = absurd (omega (arith, some, ap length (answer _ k).1))
+  followed_answer some told _ (is_bad k) = absurd (answer _ k)
+  followed_answer some told _ (is_followed k more) = told
+
+  pub whole_answer : length rest.now ≡ 0 → (o : Result PackageNv Refusal) → IsNvOutcome text o → IsNvAnswer text o (Ok nv)
+  whole_answer none _ (is_nv k) = (answer _ k).0
+  whole_answer none _ (is_bad k) = absurd (answer _ k)
+  whole_answer none _ (is_followed k more) = absurd (omega (arith, none, more, ap length (answer _ k).1))
+
+pub whole_read : {text rest : List ℕ} {nv : PackageNv} → IsNvFront text (Ok (nv, rest)) → length rest ≡ 0 → IsNvOutcome text (Ok nv)
+whole_read {text} {rest} {nv} h none = is_nv (subst (λ (r : List ℕ). IsNvFront text (Ok (nv, r))) (nil_from_length rest none) h)

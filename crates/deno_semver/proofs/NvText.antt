@@ -1,9 +1,10 @@
 -- The text of a name and version that was read is cut into that name and that version.
-use Rattle.std.proofs.Common.{◌≡◌, ◌<◌, ℕ, true, List, ◌∷◌, ◌++◌, length, Ok, refl, ap, arith, append-nil, length-append, sym}
+use Rattle.std.proofs.Common.{◌≡◌, ◌<◌, ℕ, true, List, [], ◌∷◌, ◌++◌, length, Ok, refl, ap, arith, append-nil, length-append, subst}
 use Rattle.std.specs.Char.{is_ascii_digit}
 use Rattle.std.specs.Fmt.{decimal}
 use Rattle.std.specs.List.{list_all}
 use Rattle.std.proofs.lemmas.Bool.Decides.{nat_tests}
+use Rattle.semver_base.specs.Grammar.{Stops}
 use Rattle.semver_base.specs.Lexical.{IsLooseNumber, IsQualifier}
 use Rattle.semver_base.specs.VersionGrammar.{IsTriple, IsVersionOutcome, is_version}
 use Rattle.semver_base.specs.VersionText.{IsWritable, ReadsBack, marked, version_text}
@@ -14,7 +15,8 @@ use Rattle.semver_base.proofs.Parts.{is_parts_byte, parts_made}
 use Rattle.semver_base.proofs.Qualifiers.{pre_made}
 use Rattle.semver_base.proofs.ReadVersions.{read_writable}
 use Rattle.semver_base.proofs.WrittenVersions.{version_joined}
-use Rattle.deno_semver.specs.NameAndVersion.{IsNvName, is_nv, NvReadsBack, is_version_byte}
+use Rattle.deno_semver.specs.NameAndVersion.{IsNvFront, IsNvName, IsNvText, NvReadsBack, is_front, is_nv, is_version_byte}
+use Rattle.deno_semver.specs.declared.package.name_version.PackageNv.{PackageNv}
 
 digit_passes : (b : ℕ) → is_ascii_digit b ≡ true → is_version_byte b ≡ true
 digit_passes b h = grind (arith, nat_tests)
@@ -41,11 +43,25 @@ version_some v = omega (arith, length-append (decimal v.major) (46 ∷ (decimal 
 writable : {text : List ℕ} {v : Version} → IsVersionOutcome text (Ok v) → IsWritable v
 writable {text} {v} (is_version h fits) = read_writable text v h fits
 
-pub reads_back : {text name : List ℕ} {v : Version} → IsNvName name → IsVersionOutcome text (Ok v) → ReadsBack v → NvReadsBack (record { name = name; version = v })
-reads_back {name = name} {v} name_is outcome back = is_nv (record {
-  text_is = ap (λ t. name ++ (64 ∷ t)) (sym (append-nil (version_text v)));
+-- what is written of a name and a version that was read, with what doesn't go on with the version behind it
+pub writes_text : {name rest : List ℕ} {v : Version} → IsNvName name → IsWritable v → Stops is_version_byte rest → IsNvText (name ++ (64 ∷ (version_text v ++ rest))) name (version_text v) rest
+writes_text {v = v} name_is h ends = record {
+  text_is = refl;
   name_is = name_is;
   version_some = version_some v;
-  version_is = version_passes v (writable outcome);
-  version_ends = tt;
-}) back
+  version_is = version_passes v h;
+  version_ends = ends;
+}
+
+-- the name of a front, and that its version can be written
+pub front_name : {text rest : List ℕ} {nv : PackageNv} → IsNvFront text (Ok (nv, rest)) → IsNvName nv.name
+front_name (is_front h v) = h.name_is
+
+pub front_writable : {text rest : List ℕ} {nv : PackageNv} → IsNvFront text (Ok (nv, rest)) → IsWritable nv.version
+front_writable (is_front h v) = writable v
+
+pub reads_back : {text rest : List ℕ} {nv : PackageNv} → IsNvFront text (Ok (nv, rest)) → ReadsBack nv.version → NvReadsBack nv
+reads_back {nv = nv} h back =
+    let whole = writes_text {rest = []} (front_name h) (front_writable h) tt in
+    let text = ap (λ t. nv.name ++ (64 ∷ t)) (append-nil (version_text nv.version)) in
+    is_nv (is_front (subst (λ (t : List ℕ). IsNvText t nv.name (version_text nv.version) []) text whole) back)

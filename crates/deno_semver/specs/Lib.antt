@@ -6,6 +6,9 @@ pub mod Kind
 pub mod NameAndVersion
 pub mod NameAndVersionSteps
 pub mod NvOrder
+pub mod NvReference
+pub mod NvReferenceOrder
+pub mod NvReferenceReading
 pub mod PackageOutcome
 pub mod PackageReading
 pub mod PackageSteps

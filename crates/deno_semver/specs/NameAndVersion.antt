@@ -47,15 +47,19 @@ scope_of (first ∷ more) = if first == 64 then Some (take_while (is_not 47) (fi
 abbrev pub IsNoNvText : List ℕ → Type 0
 IsNoNvText text = (name version rest : List ℕ) → IsNvText text name version rest → ⊥
 
+-- what stands at the front of a text: a name and version with what follows them, or the refusal of the first fault
+pub data IsNvFront (text : List ℕ) : Result (PackageNv × List ℕ) Refusal → Type 0 where
+  is_front : {name version rest : List ℕ} {v : Version} → IsNvText text name version rest → IsVersionOutcome (trim version) (Ok v)
+      → IsNvFront text (Ok (record { name = name; version = v }, rest))
+  is_uncut : IsNoNvText text → IsNvFront text (Err UnexpectedCharacter)
+  is_bad_version : {name version rest : List ℕ} {fault : Refusal} → IsNvText text name version rest
+      → IsVersionOutcome (trim version) (Err fault) → IsNvFront text (Err fault)
+
 -- what a text stands for: a name and version with nothing after it, or the refusal of its first fault
 pub data IsNvOutcome (text : List ℕ) : Result PackageNv Refusal → Type 0 where
-  is_nv : {name version : List ℕ} {v : Version} → IsNvText text name version [] → IsVersionOutcome (trim version) (Ok v)
-      → IsNvOutcome text (Ok (record { name = name; version = v }))
-  is_uncut : IsNoNvText text → IsNvOutcome text (Err UnexpectedCharacter)
-  is_bad_version : {name version rest : List ℕ} {fault : Refusal} → IsNvText text name version rest
-      → IsVersionOutcome (trim version) (Err fault) → IsNvOutcome text (Err fault)
-  is_followed : {name version rest : List ℕ} {v : Version} → IsNvText text name version rest → 0 < length rest
-      → IsVersionOutcome (trim version) (Ok v) → IsNvOutcome text (Err UnexpectedCharacter)
+  is_nv : {nv : PackageNv} → IsNvFront text (Ok (nv, [])) → IsNvOutcome text (Ok nv)
+  is_bad : {fault : Refusal} → IsNvFront text (Err fault) → IsNvOutcome text (Err fault)
+  is_followed : {nv : PackageNv} {rest : List ℕ} → IsNvFront text (Ok (nv, rest)) → 0 < length rest → IsNvOutcome text (Err UnexpectedCharacter)
 
 -- ---- answers
 

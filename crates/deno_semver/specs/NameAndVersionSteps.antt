@@ -1,10 +1,13 @@
 -- The steps of the reader of names with versions.
-use Rattle.std.specs.Prelude.{◌≡◌, ◌<◌, ◌+◌, ◌++◌, ◌∷◌, [], ℕ, List, length, Option, None}
+use Rattle.std.specs.Prelude.{◌≡◌, ◌<◌, ◌+◌, ◌++◌, ◌∷◌, ◌⊎◌, [], ℕ, List, length, Option, None, Result, Ok, Err, MatchResult, IsErrAnd}
+use Rattle.std.specs.Borrow.{Bor}
 use Rattle.std.specs.List.{take_while}
 use Rattle.semver_base.specs.Failure.{message_of}
 use Rattle.semver_base.specs.Grammar.{Stops}
 use Rattle.deno_semver.specs.Cuts.{is_not}
-use Rattle.deno_semver.specs.NameAndVersion.{IsNvName}
+use Rattle.deno_semver.specs.NameAndVersion.{IsNvFront, IsNvMemory, IsNvName, TellsNvFault}
+use Rattle.semver_base.specs.declared.failure.Refusal.{Refusal}
+use Rattle.deno_semver.specs.declared.package.name_version.PackageNv.{PackageNv}
 use Rattle.deno_semver.specs.declared.package.name_version.PackageNvParseError.{PackageNvParseError}
 
 -- how many bytes the name at the front has
@@ -23,3 +26,12 @@ pub record TellsFailure (failure : Option (List ℕ × Option (List ℕ))) (text
   pub no_memory : failure ≡ None → ⊥
   pub message : e.message ≡ message_of failure
   pub text_is : e.text ≡ text
+
+-- the error is want of memory, or tells the whole text and the fault at the front of a text
+abbrev pub IsFrontRefusal : List ℕ → List ℕ → PackageNvParseError → Type 0
+IsFrontRefusal text whole e = IsNvMemory e ⊎ ((fault : Refusal) × IsNvFront text (Err fault) × TellsNvFault fault whole e)
+
+-- the answer to a text with this at its front, want of memory aside
+abbrev pub IsFrontAnswer : List ℕ → Result (PackageNv × List ℕ) Refusal → Result (PackageNv × Bor (List ℕ)) PackageNvParseError → Type 0
+IsFrontAnswer whole (Ok front) result = MatchResult result (λ answer. (answer.0 ≡ front.0) × (answer.1.now ≡ front.1)) IsNvMemory
+IsFrontAnswer whole (Err fault) result = IsErrAnd result (λ e. IsNvMemory e ⊎ TellsNvFault fault whole e)

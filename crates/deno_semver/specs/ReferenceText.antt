@@ -11,6 +11,10 @@ use Rattle.deno_semver.specs.declared.package.requirement.PackageReq.{PackageReq
 abbrev pub LacksScheme : PackageKind → List ℕ → Type 0
 LacksScheme kind text = (body : List ℕ) → text ≡ scheme_of kind ++ body → ⊥
 
+-- the scheme and the text
+abbrev pub with_scheme : PackageKind → List ℕ → List ℕ
+with_scheme kind text = scheme_of kind ++ text
+
 -- the path of a module that a text names; nothing and `/` name none
 abbrev pub sub_path_of : List ℕ → Option (List ℕ)
 sub_path_of path = if bytes_eq path [] || bytes_eq path (codes "/") then None else Some path

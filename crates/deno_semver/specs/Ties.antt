@@ -1,5 +1,6 @@
--- When two comparisons, one after the other, tie.
-use Rattle.std.proofs.Common.{◌≡◌, ◌&&◌, Bool, refl}
+-- When two comparisons, one after the other, tie, and when optional values do.
+use Rattle.std.proofs.Common.{◌≡◌, ◌&&◌, Bool, Option, None, Some, refl}
+use Rattle.std.specs.Option.{option_cmp, option_eq}
 use Rattle.std.specs.Ordering.{is_eq, ordering_then}
 use Rattle.std.specs.declared.cmp.Ordering.{Ordering}
 use Rattle.std.specs.declared.cmp.Ordering.TheVariants.{Less, Equal, Greater}
@@ -9,3 +10,10 @@ pub then_ties : (a b : Bool) (r s : Ordering) → a ≡ is_eq r → b ≡ is_eq 
 then_ties a b Less s e f = rw e refl
 then_ties a b Equal s e f = rw (e, f) refl
 then_ties a b Greater s e f = rw e refl
+
+-- `==` of two optional values, where that of the values says that they tie
+pub option_ties : {T : Type 0} (eq : T → T → Bool) (R : T → T → Ordering) → ((x y : T) → eq x y ≡ is_eq (R x y)) → (x y : Option T) → option_eq eq x y ≡ is_eq (option_cmp R x y)
+option_ties eq R tie None None = refl
+option_ties eq R tie None (Some y) = refl
+option_ties eq R tie (Some x) None = refl
+option_ties eq R tie (Some x) (Some y) = tie x y

@@ -1,5 +1,9 @@
-//! What npm's rules say of versions and requirements: its readers, their errors, and which texts are tags.
+//! What npm's rules say of versions and requirements: its readers, their errors, and which texts are tags; and
+//! references to its packages.
 
+mod reference;
+
+pub use reference::{NpmPackageNvReference, NpmPackageReqReference};
 pub use semver_req::npm::{
     NpmVersionParseError, NpmVersionReqParseError, is_valid_npm_tag, parse_npm_version,
     parse_npm_version_req,

@@ -4,6 +4,7 @@ mod cut;
 mod errors;
 mod kind;
 mod name_version;
+mod nv_reference;
 mod order;
 mod read;
 mod reference;
@@ -14,6 +15,7 @@ pub(crate) use cut::without_slash;
 pub use errors::{PackageReqParseError, PackageReqPartsParseError};
 pub use kind::PackageKind;
 pub use name_version::{PackageNv, PackageNvParseError};
+pub use nv_reference::{PackageNvReference, PackageNvReferenceParseError};
 pub use reference::PackageReqReference;
 pub use reference_errors::{
     PackageReqReferenceInvalidParseError, PackageReqReferenceInvalidWithVersionParseError,

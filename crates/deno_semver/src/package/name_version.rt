@@ -1,15 +1,17 @@
 //! Names with versions.
 
-ghost use Rattle.std.specs.Prelude.{◌≡◌, ◌↔◌, ◌++◌, ◌⊎◌, [], IfErr, IfOk, IsTrue, MatchOption, Ok, Result, Some, length, refl};
+ghost use Rattle.std.specs.Prelude.{◌≡◌, ◌↔◌, ◌++◌, ◌⊎◌, [], IfErr, IfOk, IsTrue, List, MatchOption, Ok, Result, Some, length, refl, ℕ};
 ghost use Rattle.std.specs.List.{take_while};
 ghost use Rattle.std.specs.Option.{option_copied};
 ghost use Rattle.std.specs.Ordering.{as_partial_cmp};
 ghost use Rattle.semver_base.specs.Grammar.{CutsRun};
+ghost use Rattle.semver_base.specs.VersionText.{ReadsBack};
 ghost use Rattle.semver_base.specs.declared.failure.Refusal.{Refusal};
+ghost use Rattle.semver_base.specs.declared.failure.Refusal.TheVariants.{UnexpectedCharacter};
 ghost use Rattle.semver_req.specs.Requirement.{PinsTo, pinned};
 ghost use Rattle.deno_semver.specs.Cuts.{is_not};
-ghost use Rattle.deno_semver.specs.NameAndVersion.{IsNoNvText, IsNvAnswer, IsNvMemory, IsNvOutcome, IsNvRefusal, IsNvText, NvReadsBack, is_version_byte, nv_text, scope_of};
-ghost use Rattle.deno_semver.specs.NameAndVersionSteps.{IsNameCut, TellsFailure, name_len};
+ghost use Rattle.deno_semver.specs.NameAndVersion.{IsNoNvText, IsNvAnswer, IsNvFront, IsNvMemory, IsNvOutcome, IsNvRefusal, IsNvText, NvReadsBack, TellsNvFault, is_version_byte, nv_text, scope_of};
+ghost use Rattle.deno_semver.specs.NameAndVersionSteps.{IsFrontAnswer, IsFrontRefusal, IsNameCut, TellsFailure, name_len};
 ghost use Rattle.deno_semver.specs.declared.package.name_version.PackageNv.{PackageNv};
 ghost use Rattle.deno_semver.specs.NvOrder.{nv_cmp, nv_po, nv_ties, nv_total};
 
@@ -55,8 +57,8 @@ impl PackageNvParseError {
     }
 }
 
-// The error of want of memory.
-fn memory(alloc: Global) -> PackageNvParseError
+/// The error of want of memory.
+pub(crate) fn memory(alloc: Global) -> PackageNvParseError
     ensures { IsNvMemory result }
 {
     PackageNvParseError {
@@ -176,6 +178,38 @@ fn version_error(alloc: Global, error: &NpmVersionParseError, text: &str) -> Pac
     told(alloc, error.message(), text)
 }
 
+/// The error for what is no fault of a version, or want of memory.
+pub(crate) fn unexpected(alloc: Global, whole: &str) -> PackageNvParseError
+    ensures { IsNvMemory result ⊎ TellsNvFault UnexpectedCharacter whole.now result }
+{
+    told(alloc, Refusal::UnexpectedCharacter.message(), whole)
+}
+
+/// The name and version at the front of a text, and what follows it; an error shows the whole text.
+pub(crate) fn nv_at_front<'a>(
+    alloc: Global,
+    text: &'a str,
+    whole: &str,
+) -> Result<(PackageNv, &'a str), PackageNvParseError>
+    ensures read { IfOk result (λ r. IsNvFront text.now (Ok (r.0, r.1.now))) }
+    ensures reads_back { IfOk result (λ r. ReadsBack r.0.version) }
+    ensures refused { IfErr result (IsFrontRefusal text.now whole.now) }
+    ensures answer { (outcome : Result (PackageNv × List ℕ) Refusal) → IsNvFront text.now outcome
+        → IsFrontAnswer whole.now outcome result }
+{
+    let Some(parts) = cut(text) else {
+        return Err(unexpected(alloc, whole));
+    };
+    let version = match Version::parse_from_npm(alloc, parts.version) {
+        Ok(version) => version,
+        Err(error) => return Err(version_error(alloc, &error, whole)),
+    };
+    match PackageName::from_str(alloc, parts.name) {
+        Ok(name) => Ok((PackageNv { name, version }, parts.rest)),
+        Err(_) => Err(memory(alloc)),
+    }
+}
+
 impl PackageNv {
     /// The name and version that a text is, as in `@scope/name@1.0.0`: a name, which isn't empty and has no `@` past its
     /// first character; `@`; and a version, which isn't empty, has neither `_` nor `/`, and is read as npm reads it
@@ -191,20 +225,14 @@ impl PackageNv {
         ensures answer { (outcome : Result PackageNv Refusal) → IsNvOutcome text.now outcome
             → IsNvAnswer text.now outcome result }
     {
-        let Some(parts) = cut(text) else {
-            return Err(told(alloc, Refusal::UnexpectedCharacter.message(), text));
+        let (nv, rest) = match nv_at_front(alloc, text, text) {
+            Ok(front) => front,
+            Err(error) => return Err(error),
         };
-        let version = match Version::parse_from_npm(alloc, parts.version) {
-            Ok(version) => version,
-            Err(error) => return Err(version_error(alloc, &error, text)),
-        };
-        if !parts.rest.is_empty() {
-            return Err(told(alloc, Refusal::UnexpectedCharacter.message(), text));
+        if !rest.is_empty() {
+            return Err(unexpected(alloc, text));
         }
-        match PackageName::from_str(alloc, parts.name) {
-            Ok(name) => Ok(PackageNv { name, version }),
-            Err(_) => Err(memory(alloc)),
-        }
+        Ok(nv)
     }
 
     /// The same name and version again. It is an error only where no memory is left.

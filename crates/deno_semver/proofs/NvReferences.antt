@@ -1,0 +1,129 @@
+-- A text stands for one reference to a version or has one fault, and a reference that was read is read back.
+use Rattle.std.proofs.Common.{◌≡◌, ◌==◌, ◌++◌, ◌∷◌, [], ℕ, true, List, Option, None, Some, Result, Ok, Err, refl, sym, ap, subst, ◌∙◌, inl, inr, arith, append_assoc}
+use Rattle.std.specs.Prelude.{◌⊎◌}
+use Rattle.std.specs.Borrow.{Bor}
+use Rattle.std.proofs.lemmas.Bool.{cases_Bool}
+use Rattle.std.proofs.lemmas.Bool.Decides.{nat_tests}
+use Rattle.semver_base.specs.Grammar.{Stops}
+use Rattle.semver_base.specs.VersionText.{IsWritable, ReadsBack, version_text}
+use Rattle.semver_base.specs.declared.failure.Refusal.{Refusal}
+use Rattle.semver_base.specs.declared.failure.Refusal.TheVariants.{UnexpectedCharacter}
+use Rattle.deno_semver.specs.Kind.{scheme_of}
+use Rattle.deno_semver.specs.NameAndVersion.{IsNvFront, IsNvMemory, IsNvName, TellsNvFault, is_front, is_version_byte, nv_text}
+use Rattle.deno_semver.specs.NameAndVersionSteps.{IsFrontRefusal}
+use Rattle.deno_semver.specs.NvReference.{IsNoPath, IsNvReferenceAnswer, IsNvReferenceOutcome, IsNvReferenceRefusal, NvReferenceReadsBack, bad_front, is_followed, is_reference, nv_error, other_scheme}
+use Rattle.deno_semver.specs.PackageText.{without_slash}
+use Rattle.deno_semver.specs.ReferenceText.{LacksScheme, path_text}
+use Rattle.deno_semver.specs.declared.package.kind.PackageKind.{PackageKind}
+use Rattle.deno_semver.specs.declared.package.name_version.PackageNv.{PackageNv}
+use Rattle.deno_semver.specs.declared.package.name_version.PackageNvParseError.{PackageNvParseError}
+use Rattle.deno_semver.specs.declared.package.nv_reference.PackageNvReference.{PackageNvReference}
+use Rattle.deno_semver.specs.declared.package.nv_reference.PackageNvReferenceParseError.{PackageNvReferenceParseError}
+use Rattle.deno_semver.proofs.NameAndVersion.{FrontAnswers}
+use Rattle.deno_semver.proofs.NvText.{front_name, front_writable, writes_text}
+use Rattle.deno_semver.proofs.References.{bodies}
+
+abbrev reference_of : PackageNv → Option (List ℕ) → PackageNvReference
+reference_of nv path = record { nv = nv; sub_path = path }
+
+same_reference : {x y : PackageNv} {p q : Option (List ℕ)} → x ≡ y → p ≡ q → reference_of x p ≡ reference_of y q
+same_reference a b = rw (a, b) refl
+
+path_one : (p q : Option (List ℕ)) → path_text p ≡ path_text q → p ≡ q
+path_one None None e = refl
+path_one None (Some q) e = cc e
+path_one (Some p) None e = cc e
+path_one (Some p) (Some q) e = let same : p ≡ q = cc e in ap Some same
+
+no_path : (path : Option (List ℕ)) (rest : List ℕ) → IsNoPath rest → rest ≡ path_text path → ⊥
+no_path None [] h e = h
+no_path None (b ∷ rest) h e = cc e
+no_path (Some p) [] h e = h
+no_path (Some p) (b ∷ rest) h e = let first : b ≡ 47 = cc e in h first
+
+-- ---- what is read and refused
+
+module _ {kind : PackageKind} {text : List ℕ} (body : List ℕ) (is : text ≡ scheme_of kind ++ body) where
+  pub reads : {nv : PackageNv} {rest : List ℕ} (r : PackageNvReference) → IsNvFront (without_slash body) (Ok (nv, rest)) → (r.nv ≡ nv) × (rest ≡ path_text r.sub_path) → IsNvReferenceOutcome kind text (Ok r)
+  reads {nv} {rest} r h e = is_reference body is (subst (λ (x : PackageNv). IsNvFront (without_slash body) (Ok (x, path_text r.sub_path))) (sym e.0) (subst (λ (t : List ℕ). IsNvFront (without_slash body) (Ok (nv, t))) e.1 h))
+
+  pub refused_front : {e : PackageNvParseError} {x : PackageNvReferenceParseError} → IsFrontRefusal (without_slash body) text e → nv_error x ≡ e → IsNvReferenceRefusal kind text x
+  refused_front (inl memory) same = inl (rw same memory)
+  refused_front (inr h) same = inr (h.0, bad_front body is h.1, rw same h.2)
+
+  pub refused_rest : {nv : PackageNv} {rest : List ℕ} {e : PackageNvParseError} {x : PackageNvReferenceParseError} → IsNvFront (without_slash body) (Ok (nv, rest))
+      → IsNvMemory e ⊎ (IsNoPath rest × TellsNvFault UnexpectedCharacter text e) → nv_error x ≡ e → IsNvReferenceRefusal kind text x
+  refused_rest h (inl memory) same = inl (rw same memory)
+  refused_rest h (inr told) same = inr (UnexpectedCharacter, is_followed body is h told.0, rw same told.1)
+
+pub refused_scheme : {kind : PackageKind} {text : List ℕ} {e : PackageNvParseError} {x : PackageNvReferenceParseError} → LacksScheme kind text → IsNvMemory e ⊎ TellsNvFault UnexpectedCharacter text e → nv_error x ≡ e
+    → IsNvReferenceRefusal kind text x
+refused_scheme none (inl memory) same = inl (rw same memory)
+refused_scheme none (inr told) same = inr (UnexpectedCharacter, other_scheme none, rw same told)
+
+-- ---- answers
+
+pub scheme_answer : {kind : PackageKind} {text : List ℕ} {e : PackageNvParseError} {x : PackageNvReferenceParseError} → LacksScheme kind text → IsNvMemory e ⊎ TellsNvFault UnexpectedCharacter text e → nv_error x ≡ e
+    → (o : Result PackageNvReference Refusal) → IsNvReferenceOutcome kind text o → IsNvReferenceAnswer text o (Err x)
+scheme_answer none told same _ (other_scheme k) = rw same told
+scheme_answer none told same _ (is_reference body is h) = absurd (none body is)
+scheme_answer none told same _ (bad_front body is h) = absurd (none body is)
+scheme_answer none told same _ (is_followed body is h k) = absurd (none body is)
+
+at : (kind : PackageKind) {text : List ℕ} (body other : List ℕ) {o : Result (PackageNv × List ℕ) Refusal} → text ≡ scheme_of kind ++ body → text ≡ scheme_of kind ++ other
+    → IsNvFront (without_slash other) o → IsNvFront (without_slash body) o
+at kind body other {o = o} is e h = subst (λ (t : List ℕ). IsNvFront (without_slash t) o) (bodies kind e is) h
+
+module _ {kind : PackageKind} {text : List ℕ} (body : List ℕ) (is : text ≡ scheme_of kind ++ body) where
+  pub front_answer : {e : PackageNvParseError} {x : PackageNvReferenceParseError} → FrontAnswers (without_slash body) text (Err e) → nv_error x ≡ e
+      → (o : Result PackageNvReference Refusal) → IsNvReferenceOutcome kind text o → IsNvReferenceAnswer text o (Err x)
+  front_answer answer same _ (other_scheme none) = absurd (none body is)
+  front_answer answer same _ (is_reference other e h) = rw same (answer _ (at kind body other is e h))
+  front_answer answer same _ (bad_front other e h) = rw same (answer _ (at kind body other is e h))
+  front_answer answer same _ (is_followed other e h k) = rw same (inl (answer _ (at kind body other is e h)))
+
+  module _ {nv : PackageNv} {rest : Bor (List ℕ)} (answer : FrontAnswers (without_slash body) text (Ok (nv, rest))) where
+    pub rest_answer : {e : PackageNvParseError} {x : PackageNvReferenceParseError} → IsNvMemory e ⊎ (IsNoPath rest.now × TellsNvFault UnexpectedCharacter text e) → nv_error x ≡ e
+        → (o : Result PackageNvReference Refusal) → IsNvReferenceOutcome kind text o → IsNvReferenceAnswer text o (Err x)
+    rest_answer told same _ (other_scheme none) = absurd (none body is)
+    rest_answer (inl memory) same _ (is_reference other e h) = rw same memory
+    rest_answer (inr told) same _ (is_reference other {path} e h) = absurd (no_path path rest.now told.0 (answer _ (at kind body other is e h)).1)
+    rest_answer told same _ (bad_front other e h) = absurd (answer _ (at kind body other is e h))
+    rest_answer (inl memory) same _ (is_followed other e h k) = rw same (inl memory)
+    rest_answer (inr told) same _ (is_followed other e h k) = rw same (inr told.1)
+
+    pub read_answer : (r : PackageNvReference) → (r.nv ≡ nv) × (rest.now ≡ path_text r.sub_path) → (o : Result PackageNvReference Refusal) → IsNvReferenceOutcome kind text o → IsNvReferenceAnswer text o (Ok r)
+    read_answer r same _ (other_scheme none) = absurd (none body is)
+    read_answer r same _ (is_reference other {nv = w} {path} e h) =
+        let both = answer _ (at kind body other is e h) in
+        let nvs : r.nv ≡ w = same.0 ∙ both.0 in
+        same_reference nvs (path_one r.sub_path path (sym same.1 ∙ both.1))
+    read_answer r same _ (bad_front other e h) = absurd (answer _ (at kind body other is e h))
+    read_answer r same _ (is_followed other {rest = tail} e h k) = absurd (no_path r.sub_path tail k (sym (answer _ (at kind body other is e h)).1 ∙ same.1))
+
+-- ---- it reads back
+
+is_slash : (b : ℕ) → (b == 47) ≡ true → b ≡ 47
+is_slash b h = grind (arith, nat_tests)
+
+keeps_slash : (name rest : List ℕ) → IsNvName name → ((more : List ℕ) → name ≡ 47 ∷ more → ⊥) → without_slash (name ++ rest) ≡ name ++ rest
+keeps_slash [] rest h free = absurd h
+keeps_slash (b ∷ more) rest h free = elim (cases_Bool (b == 47)) [
+  | inl is ↦ absurd (free more (rw (is_slash b is) refl))
+  | inr isnt ↦ rw isnt refl
+]
+
+ends : (path : Option (List ℕ)) → Stops is_version_byte (path_text path)
+ends None = tt
+ends (Some path) = refl
+
+written : (kind : PackageKind) (nv : PackageNv) (path : Option (List ℕ)) → IsNvName nv.name → IsWritable nv.version → ReadsBack nv.version → NvReferenceReadsBack kind (reference_of nv path)
+written kind nv path name_is fits back free =
+    let text = append_assoc nv.name (64 ∷ version_text nv.version) (path_text path) in
+    let same = ap without_slash text ∙ keeps_slash nv.name (64 ∷ (version_text nv.version ++ path_text path)) name_is free in
+    let front : IsNvFront (nv.name ++ (64 ∷ (version_text nv.version ++ path_text path))) (Ok (nv, path_text path)) = is_front (writes_text name_is fits (ends path)) back in
+    is_reference (nv_text nv ++ path_text path) refl (subst (λ (t : List ℕ). IsNvFront t (Ok (nv, path_text path))) (sym same) front)
+
+pub reads_back : {text rest : List ℕ} {nv : PackageNv} (kind : PackageKind) (r : PackageNvReference) → IsNvFront text (Ok (nv, rest)) → ReadsBack nv.version → r.nv ≡ nv → NvReferenceReadsBack kind r
+reads_back {nv = nv} kind r h back same =
+    subst (λ (x : PackageNv). NvReferenceReadsBack kind (reference_of x r.sub_path)) (sym same) (written kind nv r.sub_path (front_name h) (front_writable h) back)

@@ -1,0 +1,22 @@
+use Rattle.std.proofs.Common.{refl}
+use Rattle.deno_semver.proofs.NameAndVersion.{read_answer, reads, refused_answer, tells_uncut, tells_version, uncut_answer}
+use Rattle.deno_semver.proofs.package.name_version.nv_at_front.Goals as goal
+
+pub returns-in_default-clause-refused : goal.returns-in_default-clause-refused
+returns-in_default-clause-refused c = tells_uncut c.in_default.ensures c.unexpected.ensures
+
+pub returns-in_default-clause-answer : goal.returns-in_default-clause-answer
+returns-in_default-clause-answer c = uncut_answer c.in_default.ensures c.unexpected.ensures
+
+pub returns-in-Err-clause-refused : goal.returns-in-Err-clause-refused
+returns-in-Err-clause-refused c = tells_version c.in-Some.ensures c.in-Err.ensures.refused c.version_error.ensures
+
+pub returns-in-Err-clause-answer : goal.returns-in-Err-clause-answer
+returns-in-Err-clause-answer c = refused_answer (λ e. e.source) c.in-Some.ensures c.in-Err.error c.in-Err.ensures.answer c.version_error.ensures
+
+pub returns-in-Ok-from_str-clause-read : goal.returns-in-Ok-from_str-clause-read
+returns-in-Ok-from_str-clause-read c = reads c.in-Some.ensures c.in-Ok-from_str.ensures.value c.in-Ok.ensures.read
+
+pub returns-in-Ok-from_str-clause-answer : goal.returns-in-Ok-from_str-clause-answer
+returns-in-Ok-from_str-clause-answer c =
+    read_answer (λ e. e.source) c.in-Some.ensures c.args.whole.now c.in-Ok.version c.in-Ok.ensures.answer c.in-Ok-from_str.ensures.value c.in-Some.parts.rest refl

@@ -1,0 +1,53 @@
+-- How references to one version of a package are read and written, and what they stand for. Sources: npm's and JSR's
+-- specifiers; the crate `deno_semver`.
+use Rattle.std.specs.Prelude.{◌≡◌, ◌≢◌, ◌++◌, ◌∷◌, ◌⊎◌, [], ℕ, List, Option, Result, Ok, Err, MatchResult, IsErrAnd}
+use Rattle.semver_base.specs.declared.failure.Refusal.{Refusal}
+use Rattle.semver_base.specs.declared.failure.Refusal.TheVariants.{UnexpectedCharacter}
+use Rattle.deno_semver.specs.Kind.{scheme_of}
+use Rattle.deno_semver.specs.NameAndVersion.{IsNvFront, IsNvMemory, TellsNvFault, nv_text}
+use Rattle.deno_semver.specs.PackageText.{without_slash}
+use Rattle.deno_semver.specs.ReferenceText.{LacksScheme, path_text}
+use Rattle.deno_semver.specs.declared.package.kind.PackageKind.{PackageKind}
+use Rattle.deno_semver.specs.declared.package.name_version.PackageNv.{PackageNv}
+use Rattle.deno_semver.specs.declared.package.name_version.PackageNvParseError.{PackageNvParseError}
+use Rattle.deno_semver.specs.declared.package.nv_reference.PackageNvReference.{PackageNvReference}
+use Rattle.deno_semver.specs.declared.package.nv_reference.PackageNvReferenceParseError.{PackageNvReferenceParseError}
+
+-- `name@version`, and `/` and the path where there is one
+abbrev pub nv_reference_text : PackageNvReference → List ℕ
+nv_reference_text reference = nv_text reference.nv ++ path_text reference.sub_path
+
+-- what begins with neither a path nor the end
+abbrev pub IsNoPath : List ℕ → Type 0
+IsNoPath [] = ⊥
+IsNoPath (first ∷ rest) = first ≢ 47
+
+-- what a text stands for: a name and version after the scheme and one `/` or none, with a path, which may be empty, or
+-- nothing after it; or the refusal of its first fault
+pub data IsNvReferenceOutcome (kind : PackageKind) (text : List ℕ) : Result PackageNvReference Refusal → Type 0 where
+  other_scheme : LacksScheme kind text → IsNvReferenceOutcome kind text (Err UnexpectedCharacter)
+  is_reference : (body : List ℕ) {nv : PackageNv} {path : Option (List ℕ)} → text ≡ scheme_of kind ++ body → IsNvFront (without_slash body) (Ok (nv, path_text path))
+      → IsNvReferenceOutcome kind text (Ok (record { nv = nv; sub_path = path }))
+  bad_front : (body : List ℕ) {fault : Refusal} → text ≡ scheme_of kind ++ body → IsNvFront (without_slash body) (Err fault) → IsNvReferenceOutcome kind text (Err fault)
+  is_followed : (body : List ℕ) {rest : List ℕ} {nv : PackageNv} → text ≡ scheme_of kind ++ body → IsNvFront (without_slash body) (Ok (nv, rest)) → IsNoPath rest
+      → IsNvReferenceOutcome kind text (Err UnexpectedCharacter)
+
+-- ---- answers
+
+-- the same texts as the error of a name and version
+abbrev pub nv_error : PackageNvReferenceParseError → PackageNvParseError
+nv_error e = record { message = e.message; text = e.text }
+
+-- the error is want of memory, or tells the refusal that the text has as its outcome
+abbrev pub IsNvReferenceRefusal : PackageKind → List ℕ → PackageNvReferenceParseError → Type 0
+IsNvReferenceRefusal kind text e = IsNvMemory (nv_error e) ⊎ ((fault : Refusal) × IsNvReferenceOutcome kind text (Err fault) × TellsNvFault fault text (nv_error e))
+
+-- the answer to a text with this outcome, want of memory aside
+abbrev pub IsNvReferenceAnswer : List ℕ → Result PackageNvReference Refusal → Result PackageNvReference PackageNvReferenceParseError → Type 0
+IsNvReferenceAnswer text (Ok reference) result = MatchResult result (λ answer. answer ≡ reference) (λ e. IsNvMemory (nv_error e))
+IsNvReferenceAnswer text (Err fault) result = IsErrAnd result (λ e. IsNvMemory (nv_error e) ⊎ TellsNvFault fault text (nv_error e))
+
+-- with the scheme in front the text of a reference stands for it again, where its name doesn't begin with `/`
+abbrev pub NvReferenceReadsBack : PackageKind → PackageNvReference → Type 0
+NvReferenceReadsBack kind reference = ((rest : List ℕ) → reference.nv.name ≡ 47 ∷ rest → ⊥)
+    → IsNvReferenceOutcome kind (scheme_of kind ++ nv_reference_text reference) (Ok reference)

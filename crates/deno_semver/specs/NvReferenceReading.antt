@@ -1,0 +1,13 @@
+-- What the step after the name and version answers, in the reader of references to versions.
+use Rattle.std.specs.Prelude.{◌≡◌, ◌⊎◌, ℕ, List, Result, MatchResult}
+use Rattle.semver_base.specs.declared.failure.Refusal.TheVariants.{UnexpectedCharacter}
+use Rattle.deno_semver.specs.NameAndVersion.{IsNvMemory, TellsNvFault}
+use Rattle.deno_semver.specs.NvReference.{IsNoPath}
+use Rattle.deno_semver.specs.ReferenceText.{path_text}
+use Rattle.deno_semver.specs.declared.package.name_version.PackageNv.{PackageNv}
+use Rattle.deno_semver.specs.declared.package.name_version.PackageNvParseError.{PackageNvParseError}
+use Rattle.deno_semver.specs.declared.package.nv_reference.PackageNvReference.{PackageNvReference}
+
+-- the name and version with the path that the rest is, or the refusal of a rest that is none
+abbrev pub IsWithRest : PackageNv → List ℕ → List ℕ → Result PackageNvReference PackageNvParseError → Type 0
+IsWithRest nv rest whole result = MatchResult result (λ r. (r.nv ≡ nv) × (rest ≡ path_text r.sub_path)) (λ e. IsNvMemory e ⊎ (IsNoPath rest × TellsNvFault UnexpectedCharacter whole e))

@@ -1,0 +1,179 @@
+//! References to packages: a name and version of one, and the path of a module in it.
+
+ghost use Rattle.std.specs.Prelude.{◌≡◌, ◌↔◌, [], IfErr, IfOk, IsTrue, Ok, Result, Some, refl};
+ghost use Rattle.std.specs.Ordering.{as_partial_cmp};
+ghost use Rattle.semver_base.specs.declared.failure.Refusal.{Refusal};
+ghost use Rattle.deno_semver.specs.NvReference.{IsNvReferenceAnswer, IsNvReferenceOutcome, IsNvReferenceRefusal, NvReferenceReadsBack, nv_error, nv_reference_text};
+ghost use Rattle.deno_semver.specs.NvReferenceOrder.{nv_reference_cmp, nv_reference_po, nv_reference_ties, nv_reference_total};
+ghost use Rattle.deno_semver.specs.NvReferenceReading.{IsWithRest};
+ghost use Rattle.deno_semver.specs.declared.package.nv_reference.PackageNvReference.{PackageNvReference};
+
+use super::cut::without_slash;
+use super::name_version::{memory, nv_at_front, unexpected};
+use super::{PackageKind, PackageNv, PackageNvParseError, PackageSubPath};
+use semver_base::lexical::after;
+use semver_base::string::{SmallStackString, StackString, StringAppendable, StringType};
+use std::alloc::{AllocError, Global};
+use std::cmp::Ordering;
+use std::fmt;
+use thiserror::Error;
+
+/// Why a text is no reference to a version of a package, or that memory was wanting.
+///
+/// The message is that of the version's refusal, or "Unexpected character." where anything else is wrong, and the text
+/// is the whole one that was given. Both are empty where memory was wanting.
+#[derive(Debug, Drop, Error)]
+#[error("Invalid package name and version reference '{text}'. {message}")]
+pub struct PackageNvReferenceParseError {
+    pub message: SmallStackString,
+    pub text: StackString,
+}
+
+impl PackageNvReferenceParseError {
+    /// Whether memory was wanting, which an error without a message says.
+    pub fn is_memory(&self) -> bool
+        ensures { IsTrue result ↔ (self.now.message ≡ []) }
+    {
+        self.message.as_str().is_empty()
+    }
+
+    /// The same error again. It is an error only where no memory is left.
+    pub fn copy(&self) -> Result<Self, AllocError>
+        ensures { IfOk result (λ error. error ≡ self.now) }
+    {
+        Ok(PackageNvReferenceParseError {
+            message: self.message.copy()?,
+            text: self.text.copy()?,
+        })
+    }
+}
+
+/// A reference to one version of a package, and to a module in it by its path, if one is named.
+///
+/// Two are ordered by their names and versions, and then by their paths as texts, an absent one first.
+#[derive(PartialEq, Eq, Hash, Debug, Drop)]
+pub struct PackageNvReference {
+    pub nv: PackageNv,
+    pub sub_path: Option<PackageSubPath>,
+}
+
+// The error with the texts of that of a name and version.
+fn of_nv_error(error: PackageNvParseError) -> PackageNvReferenceParseError
+    ensures { nv_error result ≡ error }
+{
+    let PackageNvParseError { message, text } = error;
+    PackageNvReferenceParseError { message, text }
+}
+
+// The reference that a name and version is with what follows it.
+fn with_rest(
+    alloc: Global,
+    nv: PackageNv,
+    rest: &str,
+    whole: &str,
+) -> Result<PackageNvReference, PackageNvParseError>
+    ensures { IsWithRest nv rest.now whole.now result }
+{
+    if rest.is_empty() {
+        return Ok(PackageNvReference { nv, sub_path: None });
+    }
+    let Some(path) = after(rest, '/') else {
+        return Err(unexpected(alloc, whole));
+    };
+    match PackageSubPath::from_str(alloc, path) {
+        Ok(path) => Ok(PackageNvReference {
+            nv,
+            sub_path: Some(path),
+        }),
+        Err(_) => Err(memory(alloc)),
+    }
+}
+
+impl PackageNvReference {
+    /// The reference to a version of a package of this registry that a text is.
+    pub(crate) fn from_str(
+        alloc: Global,
+        text: &str,
+        kind: PackageKind,
+    ) -> Result<Self, PackageNvReferenceParseError>
+        ensures read { IfOk result (λ r. IsNvReferenceOutcome kind text.now (Ok r)) }
+        ensures reads_back { IfOk result (NvReferenceReadsBack kind) }
+        ensures refused { IfErr result (IsNvReferenceRefusal kind text.now) }
+        ensures answer { (outcome : Result PackageNvReference Refusal) → IsNvReferenceOutcome kind text.now outcome
+            → IsNvReferenceAnswer text.now outcome result }
+    {
+        let Some(body) = kind.after_scheme(text) else {
+            return Err(of_nv_error(unexpected(alloc, text)));
+        };
+        let (nv, rest) = match nv_at_front(alloc, without_slash(body), text) {
+            Ok(front) => front,
+            Err(error) => return Err(of_nv_error(error)),
+        };
+        match with_rest(alloc, nv, rest, text) {
+            Ok(reference) => Ok(reference),
+            Err(error) => Err(of_nv_error(error)),
+        }
+    }
+
+    /// The same reference again. It is an error only where no memory is left.
+    pub fn copy(&self) -> Result<Self, AllocError>
+        ensures { IfOk result (λ reference. reference ≡ self.now) }
+    {
+        let sub_path = match &self.sub_path {
+            Some(path) => Some(path.copy()?),
+            None => None,
+        };
+        Ok(PackageNvReference {
+            nv: self.nv.copy()?,
+            sub_path,
+        })
+    }
+}
+
+/// `name@version`, and `/` and the path where there is one.
+impl fmt::Display for PackageNvReference {
+    ghost output = { λ reference. Some (nv_reference_text reference) };
+
+    fn fmt<W: fmt::Write>(&self, f: &mut fmt::Formatter<W>) -> fmt::Result {
+        let nv = &self.nv;
+        match &self.sub_path {
+            Some(path) => write!(f, "{nv}/{path}"),
+            None => write!(f, "{nv}"),
+        }
+    }
+}
+
+impl StringAppendable for PackageNvReference {
+    ghost text = { nv_reference_text };
+
+    fn append_to<T: StringType>(&self, alloc: Global, target: &mut T) -> Result<(), AllocError> {
+        let text = format!(in alloc; "{self}")?;
+        target.push_str(text.as_str())
+    }
+}
+
+impl PartialOrd for PackageNvReference {
+    ghost partial_cmp = { as_partial_cmp nv_reference_cmp };
+
+    ghost laws = { nv_reference_po };
+
+    fn partial_cmp(&self, other: &PackageNvReference) -> Option<Ordering> {
+        Some(self.cmp(other))
+    }
+}
+
+impl Ord for PackageNvReference {
+    ghost cmp = { nv_reference_cmp };
+
+    ghost total = { nv_reference_total };
+
+    ghost matches_partial_cmp = { λ a b. refl };
+
+    ghost matches_eq = { nv_reference_ties };
+
+    fn cmp(&self, other: &PackageNvReference) -> Ordering {
+        self.nv
+            .cmp(&other.nv)
+            .then_with(|| self.sub_path.cmp(&other.sub_path))
+    }
+}
