@@ -17,9 +17,9 @@ use Rattle.semver_base.proofs.Fronts.{NonEmpty}
 use Rattle.semver_base.proofs.Parts.{is_parts_byte, parts_made}
 use Rattle.semver_base.proofs.Qualifiers.{pre_made}
 
--- a graphic byte of ASCII, so of no blank, and not `|`
+-- a graphic byte of ASCII, so of no blank, and none of `|`, `@` and `/`
 abbrev pub is_solid_byte : ℕ → Bool
-is_solid_byte b = is_ascii_graphic b && not (b == 124)
+is_solid_byte b = is_ascii_graphic b && (not (b == 124) && (not (b == 64) && not (b == 47)))
 
 digit_solid : (b : ℕ) → is_ascii_digit b ≡ true → is_solid_byte b ≡ true
 digit_solid b h = grind (arith, nat_tests)

@@ -1,4 +1,4 @@
--- No character of a tag is a blank or `|`.
+-- No character of a tag is a blank, `|`, `@` or `/`.
 use Rattle.std.proofs.Common.{◌≡◌, ℕ, Bool, true, false, List, [], ◌∷◌, refl, arith, inl, inr, ◌==◌}
 use Rattle.std.specs.Prelude.{◌⊎◌, ◌||◌, not}
 use Rattle.std.specs.Char.{is_whitespace}
@@ -12,6 +12,14 @@ use Rattle.semver_req.specs.Tag.{is_tag_character}
 pub bar_no_tag : is_tag_character 124 ≡ false
 unfolding ucd_derived ucd_category
 bar_no_tag = refl
+
+pub at_no_tag : is_tag_character 64 ≡ false
+unfolding ucd_derived ucd_category
+at_no_tag = refl
+
+pub slash_no_tag : is_tag_character 47 ≡ false
+unfolding ucd_derived ucd_category
+slash_no_tag = refl
 
 abbrev is_one_of : ℕ → List ℕ → Bool
 is_one_of c [] = false

@@ -36,7 +36,7 @@ module _ (text : List ℕ) (utf8 : IsUtf8 text) where
   unfolding trim_start
   start_same e = ap encode_utf8_all e ∙ encodes-chars text utf8
 
-front_start : (piece rest : List ℕ) → IsUtf8 piece → IsUtf8 (piece ++ rest) → trim_start (piece ++ rest) ≡ piece ++ rest → trim_start piece ≡ piece
+pub front_start : (piece rest : List ℕ) → IsUtf8 piece → IsUtf8 (piece ++ rest) → trim_start (piece ++ rest) ≡ piece ++ rest → trim_start piece ≡ piece
 front_start piece rest u v e = start_same piece u (front_starts (chars piece) (chars rest) (rw (chars-append piece rest u) at (none_skipped (piece ++ rest) v e)))
 
 -- ---- at the end
@@ -89,40 +89,32 @@ end_left piece u =
 pub piece_left : (piece : List ℕ) → IsUtf8 piece → trim_start piece ≡ piece → IsLeft piece (trim piece)
 piece_left piece u start = rw start (end_left piece u)
 
-left_scalars : (cs : List ℕ) → all_scalars cs ≡ true → all_scalars (skip_leading_whitespace cs) ≡ true
-left_scalars [] h = refl
-left_scalars (c ∷ cs) h = elim (cases_Bool (is_whitespace c)) [
-  | inl white ↦ rw white (left_scalars cs (and_parts _ _ h).1)
+-- ---- a text without the blanks at both ends
+
+skipped_twice : (cs : List ℕ) → skip_leading_whitespace (skip_leading_whitespace cs) ≡ skip_leading_whitespace cs
+skipped_twice [] = refl
+skipped_twice (c ∷ cs) = elim (cases_Bool (is_whitespace c)) [
+  | inl white ↦ rw white (skipped_twice cs)
+  | inr other ↦ rw (other, other) refl
+]
+
+skipped_scalars : (cs : List ℕ) → all_scalars cs ≡ true → all_scalars (skip_leading_whitespace cs) ≡ true
+skipped_scalars [] h = refl
+skipped_scalars (c ∷ cs) h = elim (cases_Bool (is_whitespace c)) [
+  | inl white ↦ rw white (skipped_scalars cs (and_parts _ _ h).1)
   | inr other ↦ rw other h
 ]
 
-start_utf8 : (text : List ℕ) → IsUtf8 text → IsUtf8 (trim_start text)
-unfolding trim_start
-start_utf8 text u = (skip_leading_whitespace (chars text), (left_scalars (chars text) (scalars-chars text u), refl))
+module _ (text : List ℕ) (utf8 : IsUtf8 text) where
+  started : IsUtf8 (trim_start text)
+  unfolding trim_start
+  started = (skip_leading_whitespace (chars text), (skipped_scalars (chars text) (scalars-chars text utf8), refl))
 
-pub trimmed_utf8 : (text : List ℕ) → IsUtf8 text → IsUtf8 (trim text)
-trimmed_utf8 text u = (end_left (trim_start text) (start_utf8 text u)).utf8
-
-skipped_once : (cs : List ℕ) → skip_leading_whitespace (skip_leading_whitespace cs) ≡ skip_leading_whitespace cs
-skipped_once [] = refl
-skipped_once (c ∷ cs) = elim (cases_Bool (is_whitespace c)) [
-  | inl white ↦ rw white (skipped_once cs)
-  | inr other ↦ rw other (rw other refl)
-]
-
-left_chars : (text : List ℕ) → IsUtf8 text → chars (trim_start text) ≡ skip_leading_whitespace (chars text)
-unfolding trim_start
-left_chars text u = encodes_same _ _ (encodes-chars (trim_start text) (start_utf8 text u))
-
-started_once : (text : List ℕ) → IsUtf8 text → trim_start (trim_start text) ≡ trim_start text
-started_once text u = start_same (trim_start text) (start_utf8 text u) (rw (left_chars text u) (skipped_once (chars text)))
-
--- what is trimmed begins with no blank
-pub trimmed_start : (text : List ℕ) → IsUtf8 text → trim_start (trim text) ≡ trim text
-trimmed_start text u =
-    let v = start_utf8 text u in
-    let left = end_left (trim_start text) v in
-    front_start (trim text) left.behind left.utf8 (subst IsUtf8 left.text_is v) (subst (λ t. trim_start t ≡ t) left.text_is (started_once text u))
+  started_same : trim_start (trim_start text) ≡ trim_start text
+  unfolding trim_start
+  started_same =
+      let are : chars (trim_start text) ≡ skip_leading_whitespace (chars text) = encodes_same _ _ (encodes-chars (trim_start text) started) in
+      ap encode_utf8_all (ap skip_leading_whitespace are ∙ skipped_twice (chars text))
 
 -- ---- the only piece of a text
 
@@ -130,6 +122,15 @@ trimmed_start text u =
 pub record IsFirst (piece : List ℕ) : Type 0 where
   pub utf8 : IsUtf8 piece
   pub start : trim_start piece ≡ piece
+
+-- so is what trimming leaves of a text
+pub trimmed : (text : List ℕ) → IsUtf8 text → IsFirst (trim text)
+trimmed text u =
+    let left = piece_left (trim_start text) (started text u) (started_same text u) in
+    let same : trim (trim_start text) ≡ trim text = ap trim_end (started_same text u) in
+    let some : IsUtf8 (trim text) = subst IsUtf8 same left.utf8 in
+    let whole : trim_start text ≡ trim text ++ left.behind = left.text_is ∙ ap (λ t. t ++ left.behind) same in
+    record { utf8 = some; start = front_start (trim text) left.behind some (rw whole at (started text u)) (rw whole at (started_same text u)) }
 
 pub only_piece : (text piece : List ℕ) (b : Bool) → IsUtf8 text → trim_start text ≡ text → ArePieces text b (piece ∷ []) → IsFirst piece
 only_piece text piece b u start (one_piece n) = record { utf8 = u; start = start }

@@ -1,5 +1,5 @@
 -- A valid tag is some text with no `||` and nothing to trim; and what trimming leaves of a text that begins with no blank.
-use Rattle.std.proofs.Common.{◌≡◌, ◌<◌, ℕ, Bool, true, false, List, [], ◌∷◌, length, get_or, refl, sym, ap, ◌∙◌, inl, inr, arith, append-nil}
+use Rattle.std.proofs.Common.{◌≡◌, ◌<◌, ◌==◌, ℕ, Bool, true, false, List, [], ◌∷◌, length, get_or, refl, sym, ap, ◌∙◌, inl, inr, arith, append-nil}
 use Rattle.std.specs.Prelude.{not, IsUtf8, encode_utf8, encode_utf8_all}
 use Rattle.std.specs.Char.{is_whitespace}
 use Rattle.std.specs.List.{list_all}
@@ -14,7 +14,7 @@ use Rattle.semver_req.specs.Pieces.{HasNoBar}
 use Rattle.semver_req.specs.Tag.{is_tag_character, is_valid_tag}
 use Rattle.semver_req.proofs.SignsNoTag.{are_tag_characters}
 use Rattle.semver_req.proofs.TagCharacters.{bar_no_tag, white_no_tag}
-use Rattle.semver_req.proofs.WrittenSets.{is_no_bar, no_bar}
+use Rattle.semver_req.proofs.WrittenSets.{no_bar}
 
 -- ---- the bytes of a tag
 
@@ -22,28 +22,33 @@ is_other : (b : Bool) → (b ≡ true → ⊥) → b ≡ false
 is_other true h = absurd (h refl)
 is_other false h = refl
 
-character_bytes : (c : ℕ) → is_tag_character c ≡ true → list_all is_no_bar (encode_utf8 c) ≡ true
-character_bytes c tag = list_all-from_AllPass is_no_bar (encode_utf8 c) (All-from_get_or (λ b. is_no_bar b ≡ true) (encode_utf8 c) 0 each)
-  where
-    bar : c ≡ 124 → ⊥
-    bar e = let same : true ≡ false = sym tag ∙ (ap is_tag_character e ∙ bar_no_tag) in cc same
+-- a character of ASCII that no tag has is none of its bytes
+module _ (b : ℕ) (low : b < 128) (none : is_tag_character b ≡ false) where
+  abbrev pub is_other_byte : ℕ → Bool
+  is_other_byte d = not (d == b)
 
-    each : (k : ℕ) → k < length (encode_utf8 c) → is_no_bar (get_or (encode_utf8 c) k 0) ≡ true
-    each k h = elim (cases_lt (get_or (encode_utf8 c) k 0) 124) [
-      | inl low ↦ grind (arith, nat_tests)
-      | inr high ↦ elim (cases_lt 124 (get_or (encode_utf8 c) k 0)) [
-        | inl above ↦ grind (arith, nat_tests)
-        | inr at_most ↦
-            let byte : get_or (encode_utf8 c) k 0 ≡ 124 = omega (arith, high, at_most) in
-            absurd (bar (inside_one c [] (encode_utf8 c) k (sym (append-nil (encode_utf8 c))) h (omega (arith, byte)) ∙ byte))
+  character_bytes : (c : ℕ) → is_tag_character c ≡ true → list_all is_other_byte (encode_utf8 c) ≡ true
+  character_bytes c tag = list_all-from_AllPass is_other_byte (encode_utf8 c) (All-from_get_or (λ d. is_other_byte d ≡ true) (encode_utf8 c) 0 each)
+    where
+      there : c ≡ b → ⊥
+      there e = let same : true ≡ false = sym tag ∙ (ap is_tag_character e ∙ none) in cc same
+
+      each : (k : ℕ) → k < length (encode_utf8 c) → is_other_byte (get_or (encode_utf8 c) k 0) ≡ true
+      each k h = elim (cases_lt (get_or (encode_utf8 c) k 0) b) [
+        | inl less ↦ grind (arith, nat_tests)
+        | inr high ↦ elim (cases_lt b (get_or (encode_utf8 c) k 0)) [
+          | inl above ↦ grind (arith, nat_tests)
+          | inr at_most ↦
+              let byte : get_or (encode_utf8 c) k 0 ≡ b = omega (arith, high, at_most) in
+              absurd (there (inside_one c [] (encode_utf8 c) k (sym (append-nil (encode_utf8 c))) h (omega (arith, byte, low)) ∙ byte))
+        ]
       ]
-    ]
 
-tag_bytes : (cs : List ℕ) → list_all is_tag_character cs ≡ true → list_all is_no_bar (encode_utf8_all cs) ≡ true
-tag_bytes [] h = refl
-tag_bytes (c ∷ cs) h =
-    let both = and_parts (is_tag_character c) _ h in
-    list_all-append is_no_bar (encode_utf8 c) (encode_utf8_all cs) (character_bytes c both.0) (tag_bytes cs both.1)
+  tag_bytes : (cs : List ℕ) → list_all is_tag_character cs ≡ true → list_all is_other_byte (encode_utf8_all cs) ≡ true
+  tag_bytes [] h = refl
+  tag_bytes (c ∷ cs) h =
+      let both = and_parts (is_tag_character c) _ h in
+      list_all-append is_other_byte (encode_utf8 c) (encode_utf8_all cs) (character_bytes c both.0) (tag_bytes cs both.1)
 
 -- ---- the blanks of a tag
 
@@ -63,8 +68,12 @@ module _ (text : List ℕ) (utf8 : IsUtf8 text) (valid : is_valid_tag text ≡ t
   characters : list_all is_tag_character (chars text) ≡ true
   characters = (and_parts (not (list_all is_whitespace (chars text))) (are_tag_characters text) valid).1
 
+  -- no byte of a tag is a character of ASCII that no tag has
+  pub tag_without : (b : ℕ) → b < 128 → is_tag_character b ≡ false → list_all (λ d. not (d == b)) text ≡ true
+  tag_without b low none = rw (encodes-chars text utf8) at (tag_bytes b low none (chars text) characters)
+
   pub tag_no_bar : HasNoBar text
-  tag_no_bar = no_bar text (rw (encodes-chars text utf8) at (tag_bytes (chars text) characters))
+  tag_no_bar = no_bar text (tag_without 124 (omega arith) bar_no_tag)
 
   start_same : trim_start text ≡ text
   unfolding trim_start

@@ -10,7 +10,7 @@ use Rattle.semver_req.specs.declared.common.values.Flavour.{Flavour}
 use Rattle.semver_req.specs.declared.common.values.Flavour.TheVariants.{Npm, Normal, Specifier}
 use Rattle.semver_req.proofs.BlanksBehind.{bad_before}
 use Rattle.semver_req.proofs.StrictTags.{nothing_no_tag, strict_no_tag}
-use Rattle.semver_req.proofs.TagPieces.{IsFirst, only_piece, piece_left, trimmed_start, trimmed_utf8}
+use Rattle.semver_req.proofs.TagPieces.{IsFirst, only_piece, piece_left, trimmed}
 use Rattle.semver_req.proofs.TagTexts.{tag_no_bar, tag_trimmed}
 
 -- what the normalized reader makes of a valid tag that is bad as a piece
@@ -37,6 +37,27 @@ strict_back text t u (no_front n (tag valid)) = bad_tag text u valid (λ cs good
 strict_back text t u (no_fit l f (tag valid)) = bad_tag text u valid (λ cs good. strict_no_tag text text cs good (no_fit l f (tag valid)))
 
 pub tag_back : TagsReadBack
-tag_back Npm text t u start o = cut_back Npm npm (trim text) t (trimmed_utf8 text u) (trimmed_start text u) o
+tag_back Npm text t u start o = let first = trimmed text u in cut_back Npm npm (trim text) t first.utf8 first.start o
 tag_back Normal text t u start o = cut_back Normal normal text t u start o
 tag_back Specifier text t u start o = strict_back text t u o
+
+-- the tag that npm's reader makes of a text is a valid one, and read back
+pub record IsNpmTag (t : List ℕ) : Type 0 where
+  pub utf8 : IsUtf8 t
+  pub valid : is_valid_tag t ≡ true
+  pub back : IsCutOutcome Normal t (Tag t)
+
+pub npm_tag : (text t : List ℕ) → IsUtf8 text → IsCutOutcome Npm (trim text) (Tag t) → IsNpmTag t
+npm_tag text t u o =
+    let first = trimmed text u in
+    let back = cut_back Npm npm (trim text) t first.utf8 first.start o in
+    let tells = told (trim text) t first.utf8 first.start o in
+    record { utf8 = tells.0; valid = tells.1; back = back }
+  where
+    of_tag : (piece t : List ℕ) → IsUtf8 (trim piece) → IsTagOr (trim piece) (Tag t) → IsUtf8 t × (is_valid_tag t ≡ true)
+    of_tag piece t u (tag valid) = (u, valid)
+
+    told : (text t : List ℕ) → IsUtf8 text → trim_start text ≡ text → IsCutOutcome Npm text (Tag t) → IsUtf8 t × (is_valid_tag t ≡ true)
+    told text t u start (one_bad {piece = piece} {b = b} pieces bad is) =
+        let first = only_piece text piece b u start pieces in
+        of_tag piece t (piece_left piece first.utf8 first.start).utf8 is

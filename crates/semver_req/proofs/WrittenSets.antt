@@ -96,9 +96,6 @@ module _ (r : VersionRange) (h : IsWritableRange r) where
   pub range_no_bar : list_all is_no_bar (range_text r) ≡ true
   range_no_bar = comparators_pass is_no_bar solid_no_bar refl (shortest r) (shortest_written r h)
 
-  range_ascii : list_all is_ascii (range_text r) ≡ true
-  range_ascii = comparators_pass is_ascii solid_ascii refl (shortest r) (shortest_written r h)
-
   pub range_starts : StartsSolid (range_text r)
   range_starts = comparators_start (shortest r) (shortest_written r h)
 
@@ -200,10 +197,12 @@ cut_outcome f cut (r ∷ q ∷ others) h = many_outcome f cut r q others h
 
 -- ---- nothing of a set's text is trimmed
 
-set_ascii : (ranges : List VersionRange) → AreWritableRanges ranges → list_all is_ascii (set_text ranges) ≡ true
-set_ascii [] h = refl
-set_ascii (r ∷ []) h = rw append-nil (range_ascii r h.0)
-set_ascii (r ∷ q ∷ others) h = list_all-append is_ascii (range_text r) _ (range_ascii r h.0) (list_all-append is_ascii (codes " || ") (set_text (q ∷ others)) refl (set_ascii (q ∷ others) h.1))
+-- a test that passes each byte of comparators, the blank and the bars passes each byte of the text of a set
+pub set_passes : (p : ℕ → Bool) → ((b : ℕ) → is_solid_byte b ≡ true → p b ≡ true) → p 32 ≡ true → list_all p (codes " || ") ≡ true → (ranges : List VersionRange) → AreWritableRanges ranges → list_all p (set_text ranges) ≡ true
+set_passes p wider blank bars [] h = list_all-wider is_solid_byte p wider (codes "<0.0.0") refl
+set_passes p wider blank bars (r ∷ []) h = rw append-nil (comparators_pass p wider blank (shortest r) (shortest_written r h.0))
+set_passes p wider blank bars (r ∷ q ∷ others) h =
+    list_all-append p (range_text r) _ (comparators_pass p wider blank (shortest r) (shortest_written r h.0)) (list_all-append p (codes " || ") (set_text (q ∷ others)) bars (set_passes p wider blank bars (q ∷ others) h.1))
 
 set_starts : (ranges : List VersionRange) → AreWritableRanges ranges → StartsSolid (set_text ranges)
 set_starts [] h = record { first = 60; rest = codes "0.0.0"; text_is = refl; solid = refl }
@@ -215,7 +214,7 @@ set_ends (r ∷ []) h = rw append-nil (range_ends r h.0)
 set_ends (r ∷ q ∷ others) h = ends_after (range_text r) _ (ends_after (codes " || ") _ (set_ends (q ∷ others) h.1))
 
 pub set_trimmed : (ranges : List VersionRange) → AreWritableRanges ranges → trim (set_text ranges) ≡ set_text ranges
-set_trimmed ranges h = trim_same (set_text ranges) (set_ascii ranges h) (set_starts ranges h) (set_ends ranges h)
+set_trimmed ranges h = trim_same (set_text ranges) (set_passes is_ascii solid_ascii refl refl ranges h) (set_starts ranges h) (set_ends ranges h)
 
 -- the text of a set is read, by npm's and by the normalized reader, as the shortest forms of its ranges
 pub set_outcome : (f : Flavour) → IsCutting f → (ranges : List VersionRange) → AreWritableRanges ranges → IsOutcome f (set_text ranges) (Ranges (shortest_tree ranges))
