@@ -7,3 +7,5 @@ pub mod PackageFaults
 pub mod PackageText
 pub mod References
 pub mod Runs
+pub mod StoredNames
+pub mod StoredReqs

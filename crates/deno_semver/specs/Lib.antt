@@ -19,4 +19,5 @@ pub mod ReferenceText
 pub mod ReqOrder
 pub mod ReqOrderLaws
 pub mod RequirementText
+pub mod Stored
 pub mod Ties

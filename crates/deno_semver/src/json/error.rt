@@ -45,3 +45,13 @@ impl JsonError {
         }
     }
 }
+
+impl From<AllocError> for JsonError {
+    ghost use Rattle.deno_semver.specs.declared.json.error.JsonError.TheVariants.{Memory};
+
+    ghost from_gives = { λ _ error. error ≡ Memory };
+
+    fn from(_error: AllocError) -> JsonError {
+        JsonError::Memory
+    }
+}

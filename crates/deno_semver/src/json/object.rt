@@ -1,6 +1,6 @@
 //! Values whose JSON is an object or an array.
 
-ghost use Rattle.std.specs.Prelude.{◌≡◌, ◌↔◌, IfOk, IsTrue, List, MatchOption, codes, map};
+ghost use Rattle.std.specs.Prelude.{◌≡◌, ◌↔◌, IfOk, IsTrue, List, MatchOption, codes, length, map};
 ghost use Rattle.serde_json.specs.Data.{Data, member, no_members, object, string};
 ghost use Rattle.serde_json.specs.View.{items_view, view};
 ghost use Rattle.semver_base.specs.declared.range.VersionRange.{VersionRange};
@@ -15,7 +15,7 @@ use semver_base::string::{CowVec, SmallStackString};
 use semver_base::version::Version;
 use semver_req::range_set_or_tag::RangeSetOrTag;
 use semver_req::req::VersionReq;
-use serde_json::{Value, json};
+use serde_json::{Map, Value, json};
 use std::alloc::{AllocError, Global};
 
 // The value that is read of the member of an object with this key.
@@ -66,6 +66,12 @@ impl JsonForm for VersionBound {
     }
 }
 
+fn is_single(members: &Map<String, Value>) -> bool
+    ensures { IsTrue result ↔ (length members.now.entries ≡ 1) }
+{
+    members.len() == 1
+}
+
 // The member of an object that has this one alone.
 fn only_member<'v>(value: &'v Value, key: &str) -> Option<&'v Value>
     ensures { MatchOption result
@@ -73,7 +79,7 @@ fn only_member<'v>(value: &'v Value, key: &str) -> Option<&'v Value>
         (λ only. view value.now ≡ object (member key.now (view only.now) no_members)) }
 {
     let members = value.as_object()?;
-    if members.len() != 1 {
+    if !is_single(members) {
         return None;
     }
     value.get(key)

@@ -1,15 +1,18 @@
 //! Values whose JSON is the string of their text.
 
-ghost use Rattle.std.specs.Prelude.{◌≡◌, ◌⊎◌, IfErr, IfOk, IfSome, List, ℕ, None};
+ghost use Rattle.std.specs.Prelude.{◌≡◌, ◌⊎◌, IfErr, IfOk, IfSome, IsUtf8, List, Ok, ℕ};
 ghost use Rattle.serde_json.specs.Data.{string};
 ghost use Rattle.serde_json.specs.Find.{as_str};
 ghost use Rattle.serde_json.specs.View.{view};
 ghost use Rattle.semver_base.specs.VersionText.{version_text};
 ghost use Rattle.semver_req.specs.Requirement.{inner_text};
+ghost use Rattle.semver_req.specs.declared.common.values.Flavour.TheVariants.{Npm};
 ghost use Rattle.deno_semver.specs.Json.{IsStringOf, IsTextItself, IsTextOfInner, IsTextOfKind, IsTextOfNv, IsTextOfReq, IsTextOfVersion, kind_text};
 ghost use Rattle.deno_semver.specs.JsonAnswers.{IsJsonAnswer, IsJsonRefusal};
 ghost use Rattle.deno_semver.specs.NameAndVersion.{nv_text};
+ghost use Rattle.deno_semver.specs.PackageOutcome.{IsPackageOutcome};
 ghost use Rattle.deno_semver.specs.RequirementText.{normal_req_text};
+ghost use Rattle.deno_semver.specs.Stored.{IsStoredReq};
 
 use super::{JsonError, JsonForm};
 use crate::package::{PackageNv, PackageReq};
@@ -208,12 +211,21 @@ impl JsonForm for PackageNv {
 
 /// The string of the normal text ([`PackageReq::to_string_normalized`]); it is read as [`PackageReq::from_str_normalized`]
 /// reads it.
+///
+/// Of the JSON of a requirement that [`PackageReq::from_str_loose`] read a requirement is read again, with the same name
+/// and the same tag, or ranges that match the same versions, unless a range with an end starts at a pre-release of 0.0.0
+/// and is neither one version nor `^0.0.0-pre` or `~0.0.0-pre` of it. What is read again is stored and read as an equal
+/// requirement from then on.
 impl JsonForm for PackageReq {
     ghost json = { λ req. string (normal_req_text req) };
 
     ghost stands_for = { IsStringOf IsTextOfReq };
 
-    fn to_json(&self, alloc: Global) -> Result<Value, AllocError> {
+    fn to_json(&self, alloc: Global) -> Result<Value, AllocError>
+        ensures value { IfOk result (λ json. view json ≡ string (normal_req_text self.now)) }
+        ensures read_again { IfOk result (λ json. (text : List ℕ) → IsUtf8 text
+            → IsPackageOutcome Npm text (Ok self.now) → IsStoredReq self.now (view json)) }
+    {
         let text = self.to_string_normalized(alloc)?;
         displayed(alloc, &text)
     }

@@ -1,0 +1,201 @@
+-- What is read again of a requirement of a package that npm's reader read, and that was stored as its normal text.
+use Rattle.std.proofs.Common.{◌≡◌, ◌<◌, ◌==◌, ℕ, true, false, Bool, List, [], ◌∷◌, ◌++◌, length, drop, get_or, Option, Some, None, Ok, refl, sym, ap, subst, ◌∙◌, arith, append-nil, append_assoc, length-append}
+use Rattle.std.specs.Prelude.{◌-◌, ◌+◌, IsUtf8, codes, if◌then◌else◌}
+use Rattle.std.specs.List.{list_all}
+use Rattle.std.proofs.lemmas.Bool.{eqb-true}
+use Rattle.std.proofs.lemmas.Bool.Decides.{nat_tests}
+use Rattle.std.proofs.lemmas.List.{drop_at, get_or-append_right}
+use Rattle.std.proofs.lemmas.Str.{IsCharBoundary-after_ascii, IsCharBoundary-before_ascii, IsUtf8-drop, IsUtf8-take}
+use Rattle.std.proofs.Math.Seq.{take-append_seam}
+use Rattle.serde_json.specs.Data.{string}
+use Rattle.semver_base.specs.Meaning.{everything}
+use Rattle.semver_base.specs.NormalText.{set_text}
+use Rattle.semver_base.specs.Shortest.{shortest_tree}
+use Rattle.semver_base.specs.declared.range.VersionRange.{VersionRange}
+use Rattle.semver_base.proofs.Solid.{is_solid_byte}
+use Rattle.semver_req.specs.KeptSet.{IsReadSet, kept}
+use Rattle.semver_req.specs.Outcome.{IsOutcome, Outcome, Ranges, Refused, Tag}
+use Rattle.semver_req.specs.Pieces.{normal}
+use Rattle.semver_req.specs.Readers.{Failure, IsRead, IsReaderAnswer, IsReading, IsReadOrTag}
+use Rattle.semver_req.specs.Requirement.{Requirement, inner_text}
+use Rattle.semver_req.specs.declared.common.values.Flavour.TheVariants.{Npm, Normal}
+use Rattle.semver_req.specs.declared.range_set_or_tag.RangeSetOrTag.{RangeSetOrTag}
+use Rattle.semver_req.specs.declared.range_set_or_tag.RangeSetOrTag.TheVariants as inner
+use Rattle.semver_req.proofs.ReaderAnswers.{answers_read}
+use Rattle.semver_req.proofs.ReadSets.{read_writable}
+use Rattle.semver_req.proofs.Rereading.{rereadings, settles}
+use Rattle.semver_req.proofs.TagCharacters.{at_no_tag, slash_no_tag}
+use Rattle.semver_req.proofs.TagTexts.{tag_without}
+use Rattle.semver_req.proofs.TagsReadBack.{IsNpmTag, npm_tag}
+use Rattle.semver_req.proofs.WrittenSets.{set_outcome, set_passes}
+use Rattle.deno_semver.specs.Cuts.{is_not}
+use Rattle.deno_semver.specs.Json.{IsTextOfReq}
+use Rattle.deno_semver.specs.PackageOutcome.{IsPackageOutcome, IsReadReq, IsVersionReq, is_package}
+use Rattle.deno_semver.specs.PackageText.{IsAfterScope, IsNamePart, IsPackageText, IsPathPart, PackageParts, without_slash}
+use Rattle.deno_semver.specs.RequirementText.{normal_req_text}
+use Rattle.deno_semver.specs.Stored.{IsReadFor, IsSettledReq, IsStoredReq}
+use Rattle.deno_semver.specs.declared.package.requirement.PackageReq.{PackageReq}
+use Rattle.deno_semver.proofs.StoredNames.{IsReadName, cut_again}
+
+-- ---- the bytes of a normal text
+
+solid_no_at : (b : ℕ) → is_solid_byte b ≡ true → is_not 64 b ≡ true
+solid_no_at b h = grind (arith, nat_tests)
+
+solid_no_slash : (b : ℕ) → is_solid_byte b ≡ true → is_not 47 b ≡ true
+solid_no_slash b h = grind (arith, nat_tests)
+
+-- ranges that some reader answered, or a tag that is read back
+abbrev CanBeStored : RangeSetOrTag → Type 0
+CanBeStored (inner.RangeSet set) = IsReadSet set.0
+CanBeStored (inner.Tag t) = IsNpmTag t
+
+no_at : (answer : RangeSetOrTag) → CanBeStored answer → list_all (is_not 64) (inner_text answer) ≡ true
+no_at (inner.RangeSet set) h = set_passes (is_not 64) solid_no_at refl refl set.0 (read_writable set.0 h)
+no_at (inner.Tag t) h = tag_without t h.utf8 h.valid 64 (omega arith) at_no_tag
+
+no_slash : (answer : RangeSetOrTag) → CanBeStored answer → list_all (is_not 47) (inner_text answer) ≡ true
+no_slash (inner.RangeSet set) h = set_passes (is_not 47) solid_no_slash refl refl set.0 (read_writable set.0 h)
+no_slash (inner.Tag t) h = tag_without t h.utf8 h.valid 47 (omega arith) slash_no_tag
+
+-- ---- what the normal text is read as
+
+abbrev as_inner : List VersionRange → RangeSetOrTag
+as_inner ranges = inner.RangeSet (record { 0 = ranges })
+
+abbrev again_of : RangeSetOrTag → RangeSetOrTag
+again_of (inner.RangeSet set) = as_inner (kept Normal (shortest_tree set.0))
+again_of (inner.Tag t) = inner.Tag t
+
+reading : (answer : RangeSetOrTag) → CanBeStored answer → IsReading Normal (inner_text answer) (again_of answer)
+reading (inner.RangeSet set) h = record { outcome = Ranges (shortest_tree set.0); is_outcome = ((rereadings set.0 h).forms Normal normal).0; is_read = refl }
+reading (inner.Tag t) h = record { outcome = Tag t; is_outcome = h.back; is_read = refl }
+
+can_again : (answer : RangeSetOrTag) → CanBeStored answer → CanBeStored (again_of answer)
+can_again (inner.RangeSet set) h = record { flavour = Normal; text = set_text set.0; tree = shortest_tree set.0; is_outcome = ((rereadings set.0 h).forms Normal normal).0; is_kept = refl }
+can_again (inner.Tag t) h = h
+
+kept_again : (answer : RangeSetOrTag) → CanBeStored answer → IsReadFor answer (again_of answer)
+kept_again (inner.RangeSet set) h =
+    let r = rereadings set.0 h in
+    let tree = (r.forms Normal normal).0 in
+    record { means = λ k v. r.kept_means k Normal normal (shortest_tree set.0) tree v; equal = λ o k. r.equal o k Normal normal (shortest_tree set.0) tree }
+kept_again (inner.Tag t) h = refl
+
+-- what is read again is read again as it is
+settled_again : (answer : RangeSetOrTag) → CanBeStored answer → again_of (again_of answer) ≡ again_of answer
+settled_again (inner.RangeSet set) h =
+    let tree = ((rereadings set.0 h).forms Normal normal).0 in
+    let once = kept Normal (shortest_tree set.0) in
+    let next = can_again (inner.RangeSet set) h in
+    ap as_inner (settles set.0 h Normal normal (shortest_tree set.0) tree Normal normal (shortest_tree once) ((rereadings once next).forms Normal normal).0)
+settled_again (inner.Tag t) h = refl
+
+-- ---- the requirement of a package
+
+abbrev req_of : List ℕ → RangeSetOrTag → Requirement
+req_of text answer = record { raw_text = text; inner = answer }
+
+abbrev package_of : List ℕ → RangeSetOrTag → PackageReq
+package_of name answer = record { name = name; version_req = req_of (inner_text answer) (again_of answer) }
+
+abbrev stored_text : List ℕ → RangeSetOrTag → List ℕ
+stored_text name answer = name ++ (64 ∷ inner_text answer)
+
+reads_again : (name : List ℕ) (answer : RangeSetOrTag) → IsReadName name → CanBeStored answer → IsTextOfReq (stored_text name answer) (package_of name answer)
+reads_again name answer n h =
+    let c = cut_again (inner_text answer) (no_at answer h) (no_slash answer h) name n in
+    let version : IsVersionReq Normal c.cut.version (req_of (inner_text answer) (again_of answer)) =
+    subst (λ v. IsVersionReq Normal v (req_of (inner_text answer) (again_of answer))) (sym c.version_is)
+    (answers_read Normal (inner_text answer) (λ (e : Failure). e) (req_of (inner_text answer) (again_of answer)) (reading answer h) refl) in
+    is_package (record { cut = c.cut; is_cut = c.is_cut; name = c.is_name; version_req = version; no_path = c.no_path })
+
+settled_req : (name : List ℕ) (answer : RangeSetOrTag) → IsReadName name → CanBeStored answer → IsSettledReq (package_of name answer)
+settled_req name answer n h = record {
+  again = package_of name (again_of answer);
+  stands_for = record { text = stored_text name (again_of answer); is_string = refl; reads = reads_again name (again_of answer) n (can_again answer h) };
+  equal = record { name = refl; inner = settled_again answer h };
+}
+
+stored : (req : PackageReq) → IsReadName req.name → CanBeStored req.version_req.inner → IsStoredReq req (string (normal_req_text req))
+stored req n h = record {
+  again = package_of req.name req.version_req.inner;
+  stands_for = record { text = normal_req_text req; is_string = refl; reads = reads_again req.name req.version_req.inner n h };
+  name = refl;
+  kept = kept_again req.version_req.inner h;
+  settled = settled_req req.name req.version_req.inner n h;
+}
+
+-- ---- what npm's reader reads can be stored
+
+-- the text of the version stands behind a byte of ASCII, and before another or at the end
+after_ascii : (before rest : List ℕ) (a : ℕ) → a < 128 → IsUtf8 (before ++ (a ∷ rest)) → IsUtf8 rest
+after_ascii before rest a low u =
+    let text = before ++ (a ∷ rest) in
+    let zero : length before - length before ≡ 0 = omega arith in
+    let at : get_or text (length before) 0 ≡ a = get_or-append_right before (a ∷ rest) (length before) (length before) 0 refl (omega arith) ∙ ap (λ k. get_or (a ∷ rest) k 0) zero in
+    let inside : length before < length text = omega (arith, length-append before (a ∷ rest)) in
+    let some = IsUtf8-drop text (length before + 1) u (IsCharBoundary-after_ascii text (length before) u inside (omega (arith, at, low))) in
+    let split : text ≡ (before ++ (a ∷ [])) ++ rest = sym (append_assoc before (a ∷ []) rest) in
+    let whole : length (before ++ (a ∷ [])) ≡ length before + 1 = length-append before (a ∷ []) in
+    subst IsUtf8 (ap (drop (length before + 1)) split ∙ drop_at (before ++ (a ∷ [])) rest (length before + 1) whole) some
+
+before_ascii : (front rest : List ℕ) (a : ℕ) → a < 128 → IsUtf8 (front ++ (a ∷ rest)) → IsUtf8 front
+before_ascii front rest a low u =
+    let text = front ++ (a ∷ rest) in
+    let zero : length front - length front ≡ 0 = omega arith in
+    let at : get_or text (length front) 0 ≡ a = get_or-append_right front (a ∷ rest) (length front) (length front) 0 refl (omega arith) ∙ ap (λ k. get_or (a ∷ rest) k 0) zero in
+    let inside : length front < length text = omega (arith, length-append front (a ∷ rest)) in
+    let some = IsUtf8-take text (length front) u (IsCharBoundary-before_ascii text (length front) inside (omega (arith, at, low))) in
+    rw (take-append_seam front (a ∷ rest)) at some
+
+version_end : (version tail path : List ℕ) → IsPathPart tail path → IsUtf8 (version ++ tail) → IsUtf8 version
+version_end version [] path h u = rw append-nil at u
+version_end version (b ∷ tail) path h u = before_ascii version tail b (omega (arith, h.0)) u
+
+body_utf8 : (text : List ℕ) → IsUtf8 text → IsUtf8 (without_slash text)
+body_utf8 [] u = u
+body_utf8 (b ∷ rest) u = go (b == 47) refl
+  where
+    go : (is : Bool) → (b == 47) ≡ is → IsUtf8 (if is then rest else b ∷ rest)
+    go true e = let byte : b ≡ 47 = eqb-true b 47 e in after_ascii [] rest b (omega (arith, byte)) u
+    go false e = u
+
+rest_utf8 : (scope : Option (List ℕ)) (body rest : List ℕ) → IsAfterScope scope body rest → IsUtf8 body → IsUtf8 rest
+rest_utf8 None body rest h u = subst IsUtf8 h.1 u
+rest_utf8 (Some s) body rest h u = after_ascii s rest 47 (omega arith) (subst IsUtf8 h.1 u)
+
+version_utf8 : (text : List ℕ) (cut : PackageParts) (version : List ℕ) → IsPackageText text cut → cut.version ≡ Some version → IsUtf8 text → IsUtf8 version
+version_utf8 text cut version h is u =
+    let some : IsUtf8 h.rest = rest_utf8 cut.scope (without_slash text) h.rest h.scope (body_utf8 text u) in
+    let named : IsNamePart h.last cut.name (Some version) = subst (IsNamePart h.last cut.name) is h.named in
+    let whole : h.rest ≡ cut.name ++ (64 ∷ (version ++ h.tail)) = h.rest_is ∙ (ap (λ t. t ++ h.tail) named.0 ∙ append_assoc cut.name (64 ∷ version) h.tail) in
+    version_end version h.tail cut.path h.path (after_ascii cut.name (version ++ h.tail) 64 (omega arith) (subst IsUtf8 whole some))
+
+-- any version
+any_read : IsReadSet (everything ∷ [])
+any_read = record { flavour = Normal; text = codes "*"; tree = shortest_tree (everything ∷ []); is_outcome = set_outcome Normal normal (everything ∷ []) (record { start = tt; end = tt }, tt); is_kept = refl }
+
+tag_read : (version t : List ℕ) (o : Outcome) → IsUtf8 version → IsOutcome Npm version o → IsRead Npm o (inner.Tag t) → IsNpmTag t
+tag_read version t (Ranges tree) u h k = cc k
+tag_read version t (Tag s) u h k = let same : t ≡ s = cc k in subst IsNpmTag (sym same) (npm_tag version s u h)
+tag_read version t Refused u h k = absurd k
+
+some_read : (version : List ℕ) (req : Requirement) → IsUtf8 version → IsReaderAnswer (λ (e : Failure). e) Npm version (Ok req) → CanBeStored req.inner
+some_read version req u h = go req.inner h.outcome h.read_set
+  where
+    go : (answer : RangeSetOrTag) → IsReading Npm version answer → IsReadOrTag answer → CanBeStored answer
+    go (inner.RangeSet set) r k = k
+    go (inner.Tag t) r k = tag_read version t r.outcome u r.is_outcome r.is_read
+
+can_be_stored : (text : List ℕ) (cut : PackageParts) (req : Requirement) → IsPackageText text cut → IsUtf8 text → (version : Option (List ℕ)) → cut.version ≡ version → IsVersionReq Npm version req → CanBeStored req.inner
+can_be_stored text cut req h u None is k = subst CanBeStored (sym (ap (λ (r : Requirement). r.inner) k)) any_read
+can_be_stored text cut req h u (Some version) is k = some_read version req (version_utf8 text cut version h is u) k
+
+stored_read : (req : PackageReq) (text : List ℕ) → IsUtf8 text → IsReadReq Npm text req → IsStoredReq req (string (normal_req_text req))
+stored_read req text u h =
+    stored req (record { text = text; cut = h.cut; is_cut = h.is_cut; is_name = h.name }) (can_be_stored text h.cut req.version_req h.is_cut u h.cut.version refl h.version_req)
+
+-- what is stored of a requirement that npm's reader read of a text
+pub stored_loose : (req : PackageReq) (text : List ℕ) → IsUtf8 text → IsPackageOutcome Npm text (Ok req) → IsStoredReq req (string (normal_req_text req))
+stored_loose req text u (is_package h) = stored_read req text u h

@@ -1,0 +1,11 @@
+use Rattle.std.proofs.Common.{sym, subst, ap, ◌∙◌}
+use Rattle.std.proofs.lemmas.Result.{IfOk-weaker}
+use Rattle.serde_json.specs.Data.{string}
+use Rattle.deno_semver.specs.Stored.{IsStoredReq}
+use Rattle.deno_semver.proofs.StoredReqs.{stored_loose}
+use Rattle.deno_semver.proofs.json.text.PackageReqJsonForm.to_json.Goals as goal
+
+pub returns-clause-read_again : goal.returns-clause-read_again
+returns-clause-read_again c =
+    let req = c.args.self.now in
+    IfOk-weaker c.displayed.result _ _ (λ json is text u h. subst (λ d. IsStoredReq req d) (sym (is ∙ ap string c.in_ok-text.ensures)) (stored_loose req text u h)) c.displayed.ensures

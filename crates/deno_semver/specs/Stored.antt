@@ -1,0 +1,51 @@
+-- What is read again of a requirement of a package that was stored as its normal text. Source: the crate `deno_semver`,
+-- whose text of a requirement is meant to be read back.
+use Rattle.std.specs.Prelude.{◌≡◌, List, true}
+use Rattle.std.specs.List.{list_all}
+use Rattle.serde_json.specs.Data.{Data, string}
+use Rattle.semver_base.specs.Meaning.{alternatives, tree_means}
+use Rattle.semver_base.specs.declared.range.VersionRange.{VersionRange}
+use Rattle.semver_base.specs.declared.version.Version.{Version}
+use Rattle.semver_req.specs.Rereading.{is_orderly, keeps_meaning}
+use Rattle.semver_req.specs.declared.range_set_or_tag.RangeSetOrTag.{RangeSetOrTag}
+use Rattle.semver_req.specs.declared.range_set_or_tag.RangeSetOrTag.TheVariants as inner
+use Rattle.deno_semver.specs.Json.{IsStringOf, IsTextOfReq}
+use Rattle.deno_semver.specs.RequirementText.{normal_req_text}
+use Rattle.deno_semver.specs.declared.package.requirement.PackageReq.{PackageReq}
+
+-- ranges that are read in place of these
+pub record AreReadFor (ranges again : List VersionRange) : Type 0 where
+  -- they match the same versions where each of these keeps its meaning
+  pub means : list_all keeps_meaning ranges ≡ true → (v : Version) → tree_means (alternatives again) v ≡ tree_means (alternatives ranges) v
+  -- they are the same where each of these is orderly too
+  pub equal : list_all is_orderly ranges ≡ true → list_all keeps_meaning ranges ≡ true → again ≡ ranges
+
+-- ranges are read as such ranges, and a tag as itself
+abbrev pub IsReadFor : RangeSetOrTag → RangeSetOrTag → Type 0
+IsReadFor (inner.RangeSet set) (inner.RangeSet again) = AreReadFor set.0 again.0
+IsReadFor (inner.RangeSet set) (inner.Tag again) = ⊥
+IsReadFor (inner.Tag tag) (inner.RangeSet again) = ⊥
+IsReadFor (inner.Tag tag) (inner.Tag again) = again ≡ tag
+
+-- the names are the same, and both stand for the same, whatever their texts are
+pub record AreEqualReqs (one other : PackageReq) : Type 0 where
+  pub name : one.name ≡ other.name
+  pub inner : one.version_req.inner ≡ other.version_req.inner
+
+-- the JSON stands for a requirement that is equal to this one
+pub record StandsForEqual (json : Data) (req : PackageReq) : Type 0 where
+  pub again : PackageReq
+  pub stands_for : IsStringOf IsTextOfReq json again
+  pub equal : AreEqualReqs again req
+
+-- its JSON does so
+abbrev pub IsSettledReq : PackageReq → Type 0
+IsSettledReq req = StandsForEqual (string (normal_req_text req)) req
+
+-- the JSON stands for a requirement with the same name, which keeps what this one means, and is settled
+pub record IsStoredReq (req : PackageReq) (json : Data) : Type 0 where
+  pub again : PackageReq
+  pub stands_for : IsStringOf IsTextOfReq json again
+  pub name : again.name ≡ req.name
+  pub kept : IsReadFor req.version_req.inner again.version_req.inner
+  pub settled : IsSettledReq again
