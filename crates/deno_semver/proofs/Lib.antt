@@ -1,3 +1,4 @@
+pub mod Dependencies
 pub mod ExportNames
 pub mod JsonReading
 pub mod NameAndVersion

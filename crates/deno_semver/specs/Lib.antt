@@ -1,4 +1,6 @@
 pub mod Cuts
+pub mod DependencyOrder
+pub mod DependencyOutcome
 pub mod ExportName
 pub mod Json
 pub mod JsonAnswers

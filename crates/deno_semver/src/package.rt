@@ -16,6 +16,7 @@ pub use errors::{PackageReqParseError, PackageReqPartsParseError};
 pub use kind::PackageKind;
 pub use name_version::{PackageNv, PackageNvParseError};
 pub use nv_reference::{PackageNvReference, PackageNvReferenceParseError};
+pub(crate) use read::package_req;
 pub use reference::PackageReqReference;
 pub use reference_errors::{
     PackageReqReferenceInvalidParseError, PackageReqReferenceInvalidWithVersionParseError,

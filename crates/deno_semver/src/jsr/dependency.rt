@@ -1,0 +1,254 @@
+//! Dependencies of JSR packages.
+
+ghost use Rattle.std.specs.Prelude.{◌≡◌, ◌↔◌, IfErr, IfOk, IsTrue, Ok, Result, Some, refl};
+ghost use Rattle.std.specs.Ordering.{as_partial_cmp};
+ghost use Rattle.semver_req.specs.declared.common.values.Flavour.TheVariants.{Normal, Npm, Specifier};
+ghost use Rattle.deno_semver.specs.DependencyOrder.{dependency_cmp, dependency_po, dependency_text, dependency_ties, dependency_total, normal_dependency_text};
+ghost use Rattle.deno_semver.specs.DependencyOutcome.{DependencyFault, IsAfterEither, IsDependencyAnswer, IsDependencyOutcome, IsDependencyRefusal, IsOfPackageError, IsSameError, IsToldScheme, told_scheme};
+ghost use Rattle.deno_semver.specs.declared.jsr.dependency.JsrDepPackageReq.{JsrDepPackageReq};
+ghost use Rattle.deno_semver.specs.declared.package.kind.PackageKind.TheVariants as kind;
+
+use crate::package::{PackageKind, PackageReq, PackageReqParseError, package_req};
+use semver_base::string::{StackString, StringAppendable, StringType};
+use semver_req::common::values::Flavour;
+use std::alloc::{AllocError, Global};
+use std::cmp::Ordering;
+use std::fmt;
+use thiserror::Error;
+
+/// Why a text is no dependency of a JSR package, or that memory was wanting.
+#[derive(Debug, Drop, Error)]
+pub enum JsrDepPackageReqParseError {
+    /// The text begins with neither scheme. This shows what stands before its first `:`, or all of it.
+    #[error("Unexpected JSR dependency scheme '{0}'. Expected 'npm:' or 'jsr:'")]
+    NotExpectedScheme(String),
+    /// What follows the scheme is no requirement of a package.
+    #[error(transparent)]
+    PackageReqParse(PackageReqParseError),
+    /// Memory was wanting.
+    #[error("Out of memory.")]
+    Memory,
+}
+
+impl From<PackageReqParseError> for JsrDepPackageReqParseError {
+    ghost from_gives = { IsOfPackageError };
+
+    fn from(error: PackageReqParseError) -> JsrDepPackageReqParseError {
+        if error.is_memory() {
+            return JsrDepPackageReqParseError::Memory;
+        }
+        JsrDepPackageReqParseError::PackageReqParse(error)
+    }
+}
+
+impl JsrDepPackageReqParseError {
+    /// Whether memory was wanting.
+    pub fn is_memory(&self) -> bool
+        ensures { IsTrue result ↔ (self.now ≡ JsrDepPackageReqParseError.Memory) }
+    {
+        matches!(self, JsrDepPackageReqParseError::Memory)
+    }
+
+    /// The same error again. It is an error only where no memory is left.
+    pub fn copy(&self) -> Result<Self, AllocError>
+        ensures { IfOk result (IsSameError self.now) }
+    {
+        match self {
+            JsrDepPackageReqParseError::NotExpectedScheme(scheme) => Ok(
+                JsrDepPackageReqParseError::NotExpectedScheme(scheme.clone()?),
+            ),
+            JsrDepPackageReqParseError::PackageReqParse(error) => {
+                Ok(JsrDepPackageReqParseError::PackageReqParse(error.copy()?))
+            }
+            JsrDepPackageReqParseError::Memory => Ok(JsrDepPackageReqParseError::Memory),
+        }
+    }
+}
+
+/// A requirement of a package of npm or of JSR, on which a JSR package depends.
+///
+/// Two are ordered by their registries, JSR below npm, and then by their requirements.
+#[derive(PartialEq, Eq, Hash, Debug, Drop)]
+pub struct JsrDepPackageReq {
+    pub kind: PackageKind,
+    pub req: PackageReq,
+}
+
+// What follows the scheme of either registry.
+fn after_either(text: &str) -> Option<(PackageKind, &str)>
+    ensures { IsAfterEither text.now result }
+{
+    if let Some(body) = PackageKind::Jsr.after_scheme(text) {
+        return Some((PackageKind::Jsr, body));
+    }
+    match PackageKind::Npm.after_scheme(text) {
+        Some(body) => Some((PackageKind::Npm, body)),
+        None => None,
+    }
+}
+
+// What stands before the first `:`, or the whole text.
+fn told_scheme(text: &str) -> &str
+    ensures { result.now ≡ told_scheme text.now }
+{
+    match text.split_once(':') {
+        Some((scheme, _)) => scheme,
+        None => text,
+    }
+}
+
+// The error for another scheme, or want of memory.
+fn other_scheme(alloc: Global, text: &str) -> JsrDepPackageReqParseError
+    ensures { IsToldScheme text.now result }
+{
+    match String::from_str(alloc, told_scheme(text)) {
+        Ok(scheme) => JsrDepPackageReqParseError::NotExpectedScheme(scheme),
+        Err(_) => JsrDepPackageReqParseError::Memory,
+    }
+}
+
+// The dependency that a text is, where the reader of a flavour reads its version.
+fn read(
+    alloc: Global,
+    text: &str,
+    flavour: Flavour,
+) -> Result<JsrDepPackageReq, JsrDepPackageReqParseError>
+    ensures read { IfOk result (λ d. IsDependencyOutcome flavour text.now (Ok d)) }
+    ensures refused { IfErr result (IsDependencyRefusal flavour text.now) }
+    ensures answer { (outcome : Result JsrDepPackageReq DependencyFault) → IsDependencyOutcome flavour text.now outcome
+        → IsDependencyAnswer flavour text.now outcome result }
+{
+    let Some((kind, body)) = after_either(text) else {
+        return Err(other_scheme(alloc, text));
+    };
+    match package_req(alloc, body, flavour) {
+        Ok(req) => Ok(JsrDepPackageReq { kind, req }),
+        Err(error) => Err(JsrDepPackageReqParseError::from(error)),
+    }
+}
+
+impl JsrDepPackageReq {
+    /// The requirement of a package of JSR.
+    pub fn jsr(req: PackageReq) -> Self
+        ensures { result ≡ record { kind = kind.Jsr; req = req } }
+    {
+        JsrDepPackageReq {
+            kind: PackageKind::Jsr,
+            req,
+        }
+    }
+
+    /// The requirement of a package of npm.
+    pub fn npm(req: PackageReq) -> Self
+        ensures { result ≡ record { kind = kind.Npm; req = req } }
+    {
+        JsrDepPackageReq {
+            kind: PackageKind::Npm,
+            req,
+        }
+    }
+
+    /// The dependency that a text such as `jsr:@scope/name@^1.2` or `npm:name@1` is: the scheme of a registry, and a
+    /// requirement as [`PackageReq::from_str`] reads it.
+    ///
+    /// `NotExpectedScheme`: the text begins with neither `jsr:` nor `npm:`; what stands before its first `:` is shown, or
+    /// the whole text. `PackageReqParse`: what follows the scheme is refused, with that text. Any other error is want of
+    /// memory.
+    pub fn from_str(alloc: Global, text: &str) -> Result<Self, JsrDepPackageReqParseError>
+        ensures read { IfOk result (λ d. IsDependencyOutcome Specifier text.now (Ok d)) }
+        ensures refused { IfErr result (IsDependencyRefusal Specifier text.now) }
+        ensures answer { (outcome : Result JsrDepPackageReq DependencyFault) → IsDependencyOutcome Specifier text.now outcome
+            → IsDependencyAnswer Specifier text.now outcome result }
+    {
+        read(alloc, text, Flavour::Specifier)
+    }
+
+    /// The same ([`JsrDepPackageReq::from_str`]), by [`PackageReq::from_str_loose`].
+    pub fn from_str_loose(alloc: Global, text: &str) -> Result<Self, JsrDepPackageReqParseError>
+        ensures read { IfOk result (λ d. IsDependencyOutcome Npm text.now (Ok d)) }
+        ensures refused { IfErr result (IsDependencyRefusal Npm text.now) }
+        ensures answer { (outcome : Result JsrDepPackageReq DependencyFault) → IsDependencyOutcome Npm text.now outcome
+            → IsDependencyAnswer Npm text.now outcome result }
+    {
+        read(alloc, text, Flavour::Npm)
+    }
+
+    /// The same ([`JsrDepPackageReq::from_str`]), by [`PackageReq::from_str_normalized`].
+    pub fn from_str_normalized(
+        alloc: Global,
+        text: &str,
+    ) -> Result<Self, JsrDepPackageReqParseError>
+        ensures read { IfOk result (λ d. IsDependencyOutcome Normal text.now (Ok d)) }
+        ensures refused { IfErr result (IsDependencyRefusal Normal text.now) }
+        ensures answer { (outcome : Result JsrDepPackageReq DependencyFault) → IsDependencyOutcome Normal text.now outcome
+            → IsDependencyAnswer Normal text.now outcome result }
+    {
+        read(alloc, text, Flavour::Normal)
+    }
+
+    /// The scheme, and the normal text of the requirement ([`PackageReq::to_string_normalized`]). It is an error only where
+    /// no memory is left.
+    pub fn to_string_normalized(&self, alloc: Global) -> Result<StackString, AllocError>
+        ensures { IfOk result (λ text. text ≡ normal_dependency_text self.now) }
+    {
+        let normal = self.req.to_string_normalized(alloc)?;
+        let mut text = StackString::from_static(alloc, self.kind.scheme_with_colon())?;
+        text.push_str(normal.as_str())?;
+        Ok(text)
+    }
+
+    /// The same dependency again. It is an error only where no memory is left.
+    pub fn copy(&self) -> Result<Self, AllocError>
+        ensures { IfOk result (λ d. d ≡ self.now) }
+    {
+        Ok(JsrDepPackageReq {
+            kind: self.kind,
+            req: self.req.copy()?,
+        })
+    }
+}
+
+/// The scheme and the requirement.
+impl fmt::Display for JsrDepPackageReq {
+    ghost output = { λ d. Some (dependency_text d) };
+
+    fn fmt<W: fmt::Write>(&self, f: &mut fmt::Formatter<W>) -> fmt::Result {
+        let (scheme, req) = (self.kind.scheme_with_colon(), &self.req);
+        write!(f, "{scheme}{req}")
+    }
+}
+
+impl StringAppendable for JsrDepPackageReq {
+    ghost text = { dependency_text };
+
+    fn append_to<T: StringType>(&self, alloc: Global, target: &mut T) -> Result<(), AllocError> {
+        let text = format!(in alloc; "{self}")?;
+        target.push_str(text.as_str())
+    }
+}
+
+impl PartialOrd for JsrDepPackageReq {
+    ghost partial_cmp = { as_partial_cmp dependency_cmp };
+
+    ghost laws = { dependency_po };
+
+    fn partial_cmp(&self, other: &JsrDepPackageReq) -> Option<Ordering> {
+        Some(self.cmp(other))
+    }
+}
+
+impl Ord for JsrDepPackageReq {
+    ghost cmp = { dependency_cmp };
+
+    ghost total = { dependency_total };
+
+    ghost matches_partial_cmp = { λ a b. refl };
+
+    ghost matches_eq = { dependency_ties };
+
+    fn cmp(&self, other: &JsrDepPackageReq) -> Ordering {
+        self.kind
+            .cmp(&other.kind)
+            .then_with(|| self.req.cmp(&other.req))
+    }
+}
