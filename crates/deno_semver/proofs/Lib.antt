@@ -7,6 +7,7 @@ pub mod NvText
 pub mod PackageFaults
 pub mod PackageText
 pub mod References
+pub mod ReferencesBack
 pub mod Runs
 pub mod StoredNames
 pub mod StoredReqs

@@ -56,10 +56,10 @@ no_path f text h none = record { cut = h.cut; is_cut = h.is_cut; name = h.name; 
 
 -- ---- one outcome
 
-abbrev req_of : List ℕ → RangeSetOrTag → Requirement
+abbrev pub req_of : List ℕ → RangeSetOrTag → Requirement
 req_of text answer = record { raw_text = text; inner = answer }
 
-same_req : {s t : List ℕ} {i j : RangeSetOrTag} → s ≡ t → i ≡ j → req_of s i ≡ req_of t j
+pub same_req : {s t : List ℕ} {i j : RangeSetOrTag} → s ≡ t → i ≡ j → req_of s i ≡ req_of t j
 same_req a b = rw (a, b) refl
 
 same_read : (f : Flavour) (o : Outcome) (x y : RangeSetOrTag) → IsRead f o x → IsAnswer (λ (e : Failure). e) f o (Ok (req_of [] y)) → x ≡ y

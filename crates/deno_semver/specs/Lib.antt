@@ -21,5 +21,6 @@ pub mod ReferenceText
 pub mod ReqOrder
 pub mod ReqOrderLaws
 pub mod RequirementText
+pub mod Specifier
 pub mod Stored
 pub mod Ties

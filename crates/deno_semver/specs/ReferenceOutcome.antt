@@ -1,6 +1,6 @@
 -- What the text of a reference to a package stands for, and why it is refused. Sources: npm's and JSR's specifiers; which
 -- fault is told is the crate `deno_semver`'s choice.
-use Rattle.std.specs.Prelude.{◌≡◌, ◌++◌, ◌∷◌, ◌⊎◌, ℕ, List, true, Some, Result, Ok, Err, MatchResult, IsErrAnd, codes}
+use Rattle.std.specs.Prelude.{◌≡◌, ◌++◌, ◌∷◌, ◌⊎◌, [], ℕ, List, drop, true, Some, Result, Ok, Err, MatchResult, IsErrAnd, codes}
 use Rattle.std.specs.List.{list_all}
 use Rattle.semver_req.specs.declared.common.values.Flavour.TheVariants.{Specifier}
 use Rattle.deno_semver.specs.Cuts.{is_not}
@@ -85,3 +85,16 @@ IsReferenceRefusal kind text e = (unboxed e ≡ Memory) ⊎ ((fault : ReferenceF
 abbrev pub IsReferenceAnswer : PackageKind → List ℕ → Result PackageReqReference ReferenceFault → Result PackageReqReference PackageReqReferenceParseError → Type 0
 IsReferenceAnswer kind text (Ok reference) result = MatchResult result (λ answer. answer ≡ reference) (λ e. unboxed e ≡ Memory)
 IsReferenceAnswer kind text (Err fault) result = IsErrAnd result (λ e. (unboxed e ≡ Memory) ⊎ TellsReference kind text fault e)
+
+-- ---- rereading
+
+-- no `@` past the first byte, which may be that of a scope, and no `/` at the end
+pub record IsPlainName (name : List ℕ) : Type 0 where
+  pub no_at : list_all (is_not 64) (drop 1 name) ≡ true
+  pub no_slash : (front : List ℕ) → name ≡ front ++ (47 ∷ []) → ⊥
+
+-- with the scheme in front the text of a reference stands for it again, where the text of its version isn't `*` or its name
+-- is plain
+abbrev pub ReferenceReadsBack : PackageKind → PackageReqReference → Type 0
+ReferenceReadsBack kind reference = (reference.req.version_req.raw_text ≡ codes "*" → IsPlainName reference.req.name)
+    → IsReferenceOutcome kind (scheme_of kind ++ reference_text reference) (Ok reference)

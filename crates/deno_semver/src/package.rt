@@ -10,6 +10,7 @@ mod read;
 mod reference;
 mod reference_errors;
 mod requirement;
+mod specifier;
 
 pub(crate) use cut::without_slash;
 pub use errors::{PackageReqParseError, PackageReqPartsParseError};
@@ -24,6 +25,8 @@ pub use reference_errors::{
 };
 pub use requirement::PackageReq;
 use semver_base::string::{SmallStackString, StackString};
+pub use specifier::SpecifierError;
+pub(crate) use specifier::specifier_of;
 
 /// The name of a package, with its scope where it has one.
 pub type PackageName = StackString;

@@ -8,8 +8,10 @@ ghost use Rattle.semver_base.specs.declared.failure.Refusal.{Refusal};
 ghost use Rattle.deno_semver.specs.ExportName.{export_name};
 ghost use Rattle.deno_semver.specs.NvReference.{IsNvReferenceAnswer, IsNvReferenceOutcome, IsNvReferenceRefusal, NvReferenceReadsBack, nv_reference_text};
 ghost use Rattle.deno_semver.specs.NvReferenceOrder.{nv_reference_cmp, nv_reference_po, nv_reference_ties, nv_reference_total};
-ghost use Rattle.deno_semver.specs.ReferenceOutcome.{IsReferenceAnswer, IsReferenceOutcome, IsReferenceRefusal, ReferenceFault};
+ghost use Rattle.deno_semver.specs.ReferenceOutcome.{IsReferenceAnswer, IsReferenceOutcome, IsReferenceRefusal, ReferenceFault, ReferenceReadsBack};
 ghost use Rattle.deno_semver.specs.ReferenceText.{reference_text, with_scheme};
+ghost use Rattle.deno_semver.specs.Specifier.{IsSpecifier, specifier_text};
+ghost use Rattle.url.specs.Parts.{serialize};
 ghost use Rattle.deno_semver.specs.declared.package.kind.PackageKind.TheVariants.{Jsr};
 ghost use Rattle.deno_semver.specs.declared.package.nv_reference.PackageNvReference.{PackageNvReference};
 ghost use Rattle.deno_semver.specs.declared.package.reference.PackageReqReference.{PackageReqReference};
@@ -17,7 +19,7 @@ ghost use Rattle.deno_semver.specs.declared.package.reference.PackageReqReferenc
 use super::normalized_export_name;
 use crate::package::{
     PackageKind, PackageNv, PackageNvReference, PackageNvReferenceParseError, PackageReq,
-    PackageReqReference, PackageReqReferenceParseError,
+    PackageReqReference, PackageReqReferenceParseError, SpecifierError, specifier_of,
 };
 use semver_base::string::{StringAppendable, StringType};
 use std::alloc::{AllocError, Global};
@@ -25,6 +27,7 @@ use std::borrow::CowStr;
 use std::cmp::Ordering;
 use std::fmt;
 use std::marker::Model;
+use url::Url;
 
 /// A reference to a package of JSR: a requirement of it, and the path of a module in it, if one is named.
 ///
@@ -53,12 +56,16 @@ impl JsrPackageReqReference {
     /// The reference that a text such as `jsr:@scope/name@1/mod.ts` is (JSR's specifiers): the scheme `jsr:`, and a
     /// requirement as [`PackageReq::from_str`] cuts it, with the path of a module after it, where `/` alone is none.
     ///
+    /// The text of a reference that was read is read as it again, unless the text of its version is `*` and its name has an
+    /// `@` past its first character or ends in `/`.
+    ///
     /// The first of these faults is told: `NotExpectedScheme`, the text doesn't begin with `jsr:`; `Invalid`, what follows
     /// is no requirement, with the whole text and the fault, which a path isn't; `InvalidPathWithVersion`, any version is
     /// meant, as `*` says, and the path holds an `@`: this shows the text without its scheme, and what it would be with the
     /// part from the last `@` on behind the name. Any other error is want of memory.
     pub fn from_str(alloc: Global, specifier: &str) -> Result<Self, PackageReqReferenceParseError>
         ensures read { IfOk result (λ r. IsReferenceOutcome Jsr specifier.now (Ok r)) }
+        ensures reads_back { IfOk result (ReferenceReadsBack Jsr) }
         ensures refused { IfErr result (IsReferenceRefusal Jsr specifier.now) }
         ensures answer { (outcome : Result PackageReqReference ReferenceFault) → IsReferenceOutcome Jsr specifier.now outcome
             → IsReferenceAnswer Jsr specifier.now outcome result }
@@ -67,6 +74,20 @@ impl JsrPackageReqReference {
             Ok(inner) => Ok(JsrPackageReqReference(inner)),
             Err(error) => Err(error),
         }
+    }
+
+    /// The reference that the text of a URL is ([`JsrPackageReqReference::from_str`]).
+    pub fn from_specifier(
+        alloc: Global,
+        specifier: &Url,
+    ) -> Result<Self, PackageReqReferenceParseError>
+        ensures read { IfOk result (λ r. IsReferenceOutcome Jsr (serialize specifier.now) (Ok r)) }
+        ensures reads_back { IfOk result (ReferenceReadsBack Jsr) }
+        ensures refused { IfErr result (IsReferenceRefusal Jsr (serialize specifier.now)) }
+        ensures answer { (outcome : Result PackageReqReference ReferenceFault) → IsReferenceOutcome Jsr (serialize specifier.now) outcome
+            → IsReferenceAnswer Jsr (serialize specifier.now) outcome result }
+    {
+        JsrPackageReqReference::from_str(alloc, specifier.as_str())
     }
 
     /// The requirement.
@@ -170,6 +191,28 @@ impl JsrPackageNvReference {
             Ok(inner) => Ok(JsrPackageNvReference(inner)),
             Err(error) => Err(error),
         }
+    }
+
+    /// The reference that the text of a URL is ([`JsrPackageNvReference::from_str`]).
+    pub fn from_specifier(
+        alloc: Global,
+        specifier: &Url,
+    ) -> Result<Self, PackageNvReferenceParseError>
+        ensures read { IfOk result (λ r. IsNvReferenceOutcome Jsr (serialize specifier.now) (Ok r)) }
+        ensures reads_back { IfOk result (NvReferenceReadsBack Jsr) }
+        ensures refused { IfErr result (IsNvReferenceRefusal Jsr (serialize specifier.now)) }
+        ensures answer { (outcome : Result PackageNvReference Refusal) → IsNvReferenceOutcome Jsr (serialize specifier.now) outcome
+            → IsNvReferenceAnswer (serialize specifier.now) outcome result }
+    {
+        JsrPackageNvReference::from_str(alloc, specifier.as_str())
+    }
+
+    /// The URL that the crate `url` makes of `jsr:`, `/` and the reference. `SpecifierError::Url`: that crate refuses the text
+    /// for another cause than want of memory. Any other error is want of memory.
+    pub fn as_specifier(&self, alloc: Global) -> Result<Url, SpecifierError>
+        ensures { IsSpecifier (specifier_text Jsr self.now) result }
+    {
+        specifier_of(alloc, PackageKind::Jsr, &self.0)
     }
 
     /// The name and version.

@@ -6,21 +6,24 @@ ghost use Rattle.std.specs.Ordering.{as_partial_cmp};
 ghost use Rattle.semver_base.specs.declared.failure.Refusal.{Refusal};
 ghost use Rattle.deno_semver.specs.NvReference.{IsNvReferenceAnswer, IsNvReferenceOutcome, IsNvReferenceRefusal, NvReferenceReadsBack, nv_reference_text};
 ghost use Rattle.deno_semver.specs.NvReferenceOrder.{nv_reference_cmp, nv_reference_po, nv_reference_ties, nv_reference_total};
-ghost use Rattle.deno_semver.specs.ReferenceOutcome.{IsReferenceAnswer, IsReferenceOutcome, IsReferenceRefusal, ReferenceFault};
+ghost use Rattle.deno_semver.specs.ReferenceOutcome.{IsReferenceAnswer, IsReferenceOutcome, IsReferenceRefusal, ReferenceFault, ReferenceReadsBack};
 ghost use Rattle.deno_semver.specs.ReferenceText.{reference_text, with_scheme};
+ghost use Rattle.deno_semver.specs.Specifier.{IsSpecifier, specifier_text};
+ghost use Rattle.url.specs.Parts.{serialize};
 ghost use Rattle.deno_semver.specs.declared.package.kind.PackageKind.TheVariants.{Npm};
 ghost use Rattle.deno_semver.specs.declared.package.nv_reference.PackageNvReference.{PackageNvReference};
 ghost use Rattle.deno_semver.specs.declared.package.reference.PackageReqReference.{PackageReqReference};
 
 use crate::package::{
     PackageKind, PackageNv, PackageNvReference, PackageNvReferenceParseError, PackageReq,
-    PackageReqReference, PackageReqReferenceParseError,
+    PackageReqReference, PackageReqReferenceParseError, SpecifierError, specifier_of,
 };
 use semver_base::string::{StringAppendable, StringType};
 use std::alloc::{AllocError, Global};
 use std::cmp::Ordering;
 use std::fmt;
 use std::marker::Model;
+use url::Url;
 
 /// A reference to a package of npm: a requirement of it, and the path of a module in it, if one is named.
 ///
@@ -49,12 +52,16 @@ impl NpmPackageReqReference {
     /// The reference that a text such as `npm:@scope/name@1/mod.js` is (npm's package specifiers): the scheme `npm:`, and a
     /// requirement as [`PackageReq::from_str`] cuts it, with the path of a module after it, where `/` alone is none.
     ///
+    /// The text of a reference that was read is read as it again, unless the text of its version is `*` and its name has an
+    /// `@` past its first character or ends in `/`.
+    ///
     /// The first of these faults is told: `NotExpectedScheme`, the text doesn't begin with `npm:`; `Invalid`, what follows
     /// is no requirement, with the whole text and the fault, which a path isn't; `InvalidPathWithVersion`, any version is
     /// meant, as `*` says, and the path holds an `@`: this shows the text without its scheme, and what it would be with the
     /// part from the last `@` on behind the name. Any other error is want of memory.
     pub fn from_str(alloc: Global, specifier: &str) -> Result<Self, PackageReqReferenceParseError>
         ensures read { IfOk result (λ r. IsReferenceOutcome Npm specifier.now (Ok r)) }
+        ensures reads_back { IfOk result (ReferenceReadsBack Npm) }
         ensures refused { IfErr result (IsReferenceRefusal Npm specifier.now) }
         ensures answer { (outcome : Result PackageReqReference ReferenceFault) → IsReferenceOutcome Npm specifier.now outcome
             → IsReferenceAnswer Npm specifier.now outcome result }
@@ -63,6 +70,20 @@ impl NpmPackageReqReference {
             Ok(inner) => Ok(NpmPackageReqReference(inner)),
             Err(error) => Err(error),
         }
+    }
+
+    /// The reference that the text of a URL is ([`NpmPackageReqReference::from_str`]).
+    pub fn from_specifier(
+        alloc: Global,
+        specifier: &Url,
+    ) -> Result<Self, PackageReqReferenceParseError>
+        ensures read { IfOk result (λ r. IsReferenceOutcome Npm (serialize specifier.now) (Ok r)) }
+        ensures reads_back { IfOk result (ReferenceReadsBack Npm) }
+        ensures refused { IfErr result (IsReferenceRefusal Npm (serialize specifier.now)) }
+        ensures answer { (outcome : Result PackageReqReference ReferenceFault) → IsReferenceOutcome Npm (serialize specifier.now) outcome
+            → IsReferenceAnswer Npm (serialize specifier.now) outcome result }
+    {
+        NpmPackageReqReference::from_str(alloc, specifier.as_str())
     }
 
     /// The requirement.
@@ -159,6 +180,28 @@ impl NpmPackageNvReference {
             Ok(inner) => Ok(NpmPackageNvReference(inner)),
             Err(error) => Err(error),
         }
+    }
+
+    /// The reference that the text of a URL is ([`NpmPackageNvReference::from_str`]).
+    pub fn from_specifier(
+        alloc: Global,
+        specifier: &Url,
+    ) -> Result<Self, PackageNvReferenceParseError>
+        ensures read { IfOk result (λ r. IsNvReferenceOutcome Npm (serialize specifier.now) (Ok r)) }
+        ensures reads_back { IfOk result (NvReferenceReadsBack Npm) }
+        ensures refused { IfErr result (IsNvReferenceRefusal Npm (serialize specifier.now)) }
+        ensures answer { (outcome : Result PackageNvReference Refusal) → IsNvReferenceOutcome Npm (serialize specifier.now) outcome
+            → IsNvReferenceAnswer (serialize specifier.now) outcome result }
+    {
+        NpmPackageNvReference::from_str(alloc, specifier.as_str())
+    }
+
+    /// The URL that the crate `url` makes of `npm:`, `/` and the reference. `SpecifierError::Url`: that crate refuses the text
+    /// for another cause than want of memory. Any other error is want of memory.
+    pub fn as_specifier(&self, alloc: Global) -> Result<Url, SpecifierError>
+        ensures { IsSpecifier (specifier_text Npm self.now) result }
+    {
+        specifier_of(alloc, PackageKind::Npm, &self.0)
     }
 
     /// The name and version.

@@ -1,7 +1,7 @@
 //! References to packages: a requirement of one, and the path of a module in it.
 
 ghost use Rattle.std.specs.Prelude.{◌≡◌, IfErr, IfOk, Ok, Result, Some};
-ghost use Rattle.deno_semver.specs.ReferenceOutcome.{IsReferenceAnswer, IsReferenceOutcome, IsReferenceRefusal, ReferenceFault};
+ghost use Rattle.deno_semver.specs.ReferenceOutcome.{IsReferenceAnswer, IsReferenceOutcome, IsReferenceRefusal, ReferenceFault, ReferenceReadsBack};
 ghost use Rattle.deno_semver.specs.ReferenceReading.{FindsVersion, IsReferenceRead, IsToldInvalid, IsToldVersion};
 ghost use Rattle.deno_semver.specs.ReferenceText.{reference_text, sub_path_of, text_with_version};
 ghost use Rattle.deno_semver.specs.declared.package.reference.PackageReqReference.{PackageReqReference};
@@ -155,6 +155,7 @@ impl PackageReqReference {
         kind: PackageKind,
     ) -> Result<Self, PackageReqReferenceParseError>
         ensures read { IfOk result (λ r. IsReferenceOutcome kind text.now (Ok r)) }
+        ensures reads_back { IfOk result (ReferenceReadsBack kind) }
         ensures refused { IfErr result (IsReferenceRefusal kind text.now) }
         ensures answer { (outcome : Result PackageReqReference ReferenceFault) → IsReferenceOutcome kind text.now outcome
             → IsReferenceAnswer kind text.now outcome result }

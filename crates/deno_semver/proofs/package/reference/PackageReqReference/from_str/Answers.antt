@@ -1,6 +1,7 @@
 use Rattle.std.proofs.Common.{inr, refl}
 use Rattle.deno_semver.specs.ReferenceOutcome.{OtherScheme, is_reference, other_scheme}
 use Rattle.deno_semver.proofs.References.{read_answer, refused_answer, refused_text, refused_version}
+use Rattle.deno_semver.proofs.ReferencesBack.{reads_back}
 use Rattle.deno_semver.proofs.package.reference.PackageReqReference.from_str.Goals as goal
 
 pub returns-in_default-clause-refused : goal.returns-in_default-clause-refused
@@ -26,3 +27,6 @@ returns-clause-read c = is_reference c.in-Some.ensures c.in-Ok.ensures c.in_defa
 
 pub returns-clause-answer : goal.returns-clause-answer
 returns-clause-answer c = read_answer c.in-Ok.reference (is_reference c.in-Some.ensures c.in-Ok.ensures c.in_default-version_in_path.ensures)
+
+pub returns-clause-reads_back : goal.returns-clause-reads_back
+returns-clause-reads_back c = reads_back c.args.kind c.in-Ok.reference c.in-Ok.ensures c.in_default-version_in_path.ensures

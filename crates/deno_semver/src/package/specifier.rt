@@ -1,0 +1,68 @@
+//! References as URLs.
+
+ghost use Rattle.std.specs.Prelude.{◌≡◌, ◌↔◌, IfOk, IsTrue, string_bytes};
+ghost use Rattle.deno_semver.specs.Specifier.{IsSpecifier, specifier_text, told_refusal};
+
+use super::{PackageKind, PackageNvReference};
+use std::alloc::{AllocError, Global};
+use thiserror::Error;
+use url::{ParseError, Url};
+
+/// Why a reference has no URL, or that memory was wanting.
+#[derive(Clone, Copy, Debug, Error)]
+pub enum SpecifierError {
+    /// The crate `url` refuses its text.
+    #[error("Invalid URL")]
+    Url,
+    /// Memory was wanting.
+    #[error("Out of memory.")]
+    Memory,
+}
+
+impl SpecifierError {
+    /// Whether memory was wanting.
+    pub fn is_memory(&self) -> bool
+        ensures { IsTrue result ↔ (self.now ≡ SpecifierError.Memory) }
+    {
+        matches!(self, SpecifierError::Memory)
+    }
+}
+
+// The scheme, `/` and the reference.
+fn text(
+    alloc: Global,
+    kind: PackageKind,
+    reference: &PackageNvReference,
+) -> Result<String, AllocError>
+    ensures { IfOk result (λ text. string_bytes text ≡ specifier_text kind reference.now) }
+{
+    let scheme = kind.scheme_with_colon();
+    format!(in alloc; "{scheme}/{reference}")
+}
+
+// What a refusal of `url` is told as.
+fn of_url(error: ParseError) -> SpecifierError
+    ensures { result ≡ told_refusal error }
+{
+    match error {
+        ParseError::OutOfMemory => SpecifierError::Memory,
+        _ => SpecifierError::Url,
+    }
+}
+
+/// The URL that the text of a reference is, with the scheme and `/` in front.
+pub(crate) fn specifier_of(
+    alloc: Global,
+    kind: PackageKind,
+    reference: &PackageNvReference,
+) -> Result<Url, SpecifierError>
+    ensures { IsSpecifier (specifier_text kind reference.now) result }
+{
+    let Ok(text) = text(alloc, kind, reference) else {
+        return Err(SpecifierError::Memory);
+    };
+    match Url::parse(alloc, text.as_str()) {
+        Ok(url) => Ok(url),
+        Err(error) => Err(of_url(error)),
+    }
+}
