@@ -1,7 +1,7 @@
 -- The first word of a question that asks a call.
 use Rattle.std.specs.Prelude.{List, ℕ, codes}
 use Rattle.conformance.specs.declared.call.Call.{Call}
-use Rattle.conformance.specs.declared.call.Call.TheVariants.{Values, Versions, Requirements, Ranges, Partials, Places, Texts, Packages}
+use Rattle.conformance.specs.declared.call.Call.TheVariants.{Values, Versions, Requirements, Ranges, Partials, Places, Texts, Packages, References, Dependencies, JsonForms}
 use Rattle.conformance.specs.declared.values.ValueCall.{ValueCall}
 use Rattle.conformance.specs.declared.values.ValueCall.TheVariants as values
 use Rattle.conformance.specs.declared.versions.VersionCall.{VersionCall}
@@ -18,6 +18,12 @@ use Rattle.conformance.specs.declared.texts.TextCall.{TextCall}
 use Rattle.conformance.specs.declared.texts.TextCall.TheVariants as texts
 use Rattle.conformance.specs.declared.packages.PackageCall.{PackageCall}
 use Rattle.conformance.specs.declared.packages.PackageCall.TheVariants as packages
+use Rattle.conformance.specs.declared.references.ReferenceCall.{ReferenceCall}
+use Rattle.conformance.specs.declared.references.ReferenceCall.TheVariants as references
+use Rattle.conformance.specs.declared.dependencies.DependencyCall.{DependencyCall}
+use Rattle.conformance.specs.declared.dependencies.DependencyCall.TheVariants as dependencies
+use Rattle.conformance.specs.declared.json_forms.JsonCall.{JsonCall}
+use Rattle.conformance.specs.declared.json_forms.JsonCall.TheVariants as json_forms
 
 abbrev pub value_call_name : ValueCall → List ℕ
 value_call_name values.Text = codes "text"
@@ -84,6 +90,26 @@ package_call_name packages.Package = codes "package"
 package_call_name packages.PackageError = codes "package-error"
 package_call_name packages.Order = codes "order"
 
+abbrev pub reference_call_name : ReferenceCall → List ℕ
+reference_call_name references.Reference = codes "reference"
+reference_call_name references.ReferenceError = codes "reference-error"
+reference_call_name references.VersionReference = codes "version-reference"
+reference_call_name references.VersionReferenceError = codes "version-reference-error"
+reference_call_name references.Specifier = codes "specifier"
+reference_call_name references.OfSpecifier = codes "of-specifier"
+reference_call_name references.Export = codes "export"
+
+abbrev pub dependency_call_name : DependencyCall → List ℕ
+dependency_call_name dependencies.Dependency = codes "dependency"
+dependency_call_name dependencies.DependencyError = codes "dependency-error"
+dependency_call_name dependencies.DependencyOrder = codes "dependency-order"
+dependency_call_name dependencies.DependencyMade = codes "dependency-made"
+
+abbrev pub json_call_name : JsonCall → List ℕ
+json_call_name json_forms.Json = codes "json"
+json_call_name json_forms.JsonOf = codes "json-of"
+json_call_name json_forms.Stored = codes "stored"
+
 abbrev pub name_of : Call → List ℕ
 name_of (Values call) = value_call_name call
 name_of (Versions call) = version_call_name call
@@ -93,3 +119,6 @@ name_of (Partials call) = partial_call_name call
 name_of (Places call) = place_call_name call
 name_of (Texts call) = text_call_name call
 name_of (Packages call) = package_call_name call
+name_of (References call) = reference_call_name call
+name_of (Dependencies call) = dependency_call_name call
+name_of (JsonForms call) = json_call_name call

@@ -3,10 +3,13 @@
 ghost use Rattle.std.specs.Prelude.{◌≡◌, IfSome};
 ghost use Rattle.conformance.specs.Call.{name_of};
 
+use crate::dependencies::DependencyCall;
+use crate::json_forms::JsonCall;
 use crate::packages::PackageCall;
 use crate::partials::PartialCall;
 use crate::places::PlaceCall;
 use crate::ranges::RangeCall;
+use crate::references::ReferenceCall;
 use crate::requirements::RequirementCall;
 use crate::texts::TextCall;
 use crate::values::ValueCall;
@@ -25,11 +28,14 @@ pub enum Call {
     Places(PlaceCall),
     Texts(TextCall),
     Packages(PackageCall),
+    References(ReferenceCall),
+    Dependencies(DependencyCall),
+    JsonForms(JsonCall),
 }
 
 impl Call {
     /// All calls, in the order in which they are counted.
-    pub const ALL: [Call; 49] = [
+    pub const ALL: [Call; 63] = [
         Call::Values(ValueCall::Text),
         Call::Values(ValueCall::Items),
         Call::Values(ValueCall::Failure),
@@ -79,6 +85,20 @@ impl Call {
         Call::Packages(PackageCall::Package),
         Call::Packages(PackageCall::PackageError),
         Call::Packages(PackageCall::Order),
+        Call::References(ReferenceCall::Reference),
+        Call::References(ReferenceCall::ReferenceError),
+        Call::References(ReferenceCall::VersionReference),
+        Call::References(ReferenceCall::VersionReferenceError),
+        Call::References(ReferenceCall::Specifier),
+        Call::References(ReferenceCall::OfSpecifier),
+        Call::References(ReferenceCall::Export),
+        Call::Dependencies(DependencyCall::Dependency),
+        Call::Dependencies(DependencyCall::DependencyError),
+        Call::Dependencies(DependencyCall::DependencyOrder),
+        Call::Dependencies(DependencyCall::DependencyMade),
+        Call::JsonForms(JsonCall::Json),
+        Call::JsonForms(JsonCall::JsonOf),
+        Call::JsonForms(JsonCall::Stored),
     ];
 
     /// The first word of a question that asks the call.
@@ -94,6 +114,9 @@ impl Call {
             Call::Places(call) => call.name(),
             Call::Texts(call) => call.name(),
             Call::Packages(call) => call.name(),
+            Call::References(call) => call.name(),
+            Call::Dependencies(call) => call.name(),
+            Call::JsonForms(call) => call.name(),
         }
     }
 
@@ -115,6 +138,9 @@ impl Call {
             Call::Places(call) => call.ask(alloc, words),
             Call::Texts(call) => call.ask(alloc, words),
             Call::Packages(call) => call.ask(alloc, words),
+            Call::References(call) => call.ask(alloc, words),
+            Call::Dependencies(call) => call.ask(alloc, words),
+            Call::JsonForms(call) => call.ask(alloc, words),
         }
     }
 }

@@ -12,10 +12,13 @@
 ghost use Rattle.std.specs.Prelude.{◌≡◌, ◌↔◌, true};
 
 mod call;
+mod dependencies;
+mod json_forms;
 mod packages;
 mod partials;
 mod places;
 mod ranges;
+mod references;
 mod requirements;
 mod row;
 mod shown;

@@ -57,8 +57,8 @@ fn read(
     }
 }
 
-// The kind of an error.
-fn kind(error: &PackageReqPartsParseError) -> Result<&'static str, Fault> {
+/// The kind of an error.
+pub fn kind(error: &PackageReqPartsParseError) -> Result<&'static str, Fault> {
     match error {
         PackageReqPartsParseError::NoPackageName => Ok("NoPackageName"),
         PackageReqPartsParseError::InvalidPackageName => Ok("InvalidPackageName"),

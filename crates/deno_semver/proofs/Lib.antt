@@ -9,5 +9,6 @@ pub mod PackageText
 pub mod References
 pub mod ReferencesBack
 pub mod Runs
+pub mod StoredDependencies
 pub mod StoredNames
 pub mod StoredReqs

@@ -1,18 +1,19 @@
 -- What is read again of a requirement of a package that npm's reader read, and that was stored as its normal text.
 use Rattle.std.proofs.Common.{◌≡◌, ◌<◌, ◌==◌, ℕ, true, false, Bool, List, [], ◌∷◌, ◌++◌, length, drop, get_or, Option, Some, None, Ok, refl, sym, ap, subst, ◌∙◌, arith, append-nil, append_assoc, length-append}
 use Rattle.std.specs.Prelude.{◌-◌, ◌+◌, IsUtf8, codes, if◌then◌else◌}
+use Rattle.std.specs.Char.{is_ascii}
 use Rattle.std.specs.List.{list_all}
 use Rattle.std.proofs.lemmas.Bool.{eqb-true}
 use Rattle.std.proofs.lemmas.Bool.Decides.{nat_tests}
 use Rattle.std.proofs.lemmas.List.{drop_at, get_or-append_right}
-use Rattle.std.proofs.lemmas.Str.{IsCharBoundary-after_ascii, IsCharBoundary-before_ascii, IsUtf8-drop, IsUtf8-take}
+use Rattle.std.proofs.lemmas.Str.{IsCharBoundary-after_ascii, IsCharBoundary-before_ascii, IsUtf8-drop, IsUtf8-from_ascii, IsUtf8-take}
 use Rattle.std.proofs.Math.Seq.{take-append_seam}
 use Rattle.serde_json.specs.Data.{string}
 use Rattle.semver_base.specs.Meaning.{everything}
 use Rattle.semver_base.specs.NormalText.{set_text}
 use Rattle.semver_base.specs.Shortest.{shortest_tree}
 use Rattle.semver_base.specs.declared.range.VersionRange.{VersionRange}
-use Rattle.semver_base.proofs.Solid.{is_solid_byte}
+use Rattle.semver_base.proofs.Solid.{all_ascii, is_solid_byte, solid_ascii}
 use Rattle.semver_req.specs.KeptSet.{IsReadSet, kept}
 use Rattle.semver_req.specs.Outcome.{IsOutcome, Outcome, Ranges, Refused, Tag}
 use Rattle.semver_req.specs.Pieces.{normal}
@@ -57,6 +58,10 @@ no_at (inner.Tag t) h = tag_without t h.utf8 h.valid 64 (omega arith) at_no_tag
 no_slash : (answer : RangeSetOrTag) → CanBeStored answer → list_all (is_not 47) (inner_text answer) ≡ true
 no_slash (inner.RangeSet set) h = set_passes (is_not 47) solid_no_slash refl refl set.0 (read_writable set.0 h)
 no_slash (inner.Tag t) h = tag_without t h.utf8 h.valid 47 (omega arith) slash_no_tag
+
+text_utf8 : (answer : RangeSetOrTag) → CanBeStored answer → IsUtf8 (inner_text answer)
+text_utf8 (inner.RangeSet set) h = IsUtf8-from_ascii (set_text set.0) (all_ascii (set_text set.0) (set_passes is_ascii solid_ascii refl refl set.0 (read_writable set.0 h)))
+text_utf8 (inner.Tag t) h = h.utf8
 
 -- ---- what the normal text is read as
 
@@ -107,7 +112,7 @@ reads_again name answer n h =
     let c = cut_again (inner_text answer) (no_at answer h) (no_slash answer h) name n in
     let version : IsVersionReq Normal c.cut.version (req_of (inner_text answer) (again_of answer)) =
     subst (λ v. IsVersionReq Normal v (req_of (inner_text answer) (again_of answer))) (sym c.version_is)
-    (answers_read Normal (inner_text answer) (λ (e : Failure). e) (req_of (inner_text answer) (again_of answer)) (reading answer h) refl) in
+    (answers_read Normal (inner_text answer) (λ (e : Failure). e) (req_of (inner_text answer) (again_of answer)) (text_utf8 answer h) (reading answer h) refl) in
     is_package (record { cut = c.cut; is_cut = c.is_cut; name = c.is_name; version_req = version; no_path = c.no_path })
 
 settled_req : (name : List ℕ) (answer : RangeSetOrTag) → IsReadName name → CanBeStored answer → IsSettledReq (package_of name answer)
@@ -129,7 +134,7 @@ stored req n h = record {
 -- ---- what npm's reader reads can be stored
 
 -- the text of the version stands behind a byte of ASCII, and before another or at the end
-after_ascii : (before rest : List ℕ) (a : ℕ) → a < 128 → IsUtf8 (before ++ (a ∷ rest)) → IsUtf8 rest
+pub after_ascii : (before rest : List ℕ) (a : ℕ) → a < 128 → IsUtf8 (before ++ (a ∷ rest)) → IsUtf8 rest
 after_ascii before rest a low u =
     let text = before ++ (a ∷ rest) in
     let zero : length before - length before ≡ 0 = omega arith in

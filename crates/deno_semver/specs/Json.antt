@@ -19,9 +19,14 @@ use Rattle.semver_req.specs.Readers.{IsReading}
 use Rattle.semver_req.specs.Requirement.{Requirement, inner_text}
 use Rattle.semver_req.specs.declared.common.values.Flavour.TheVariants.{Normal}
 use Rattle.semver_req.specs.declared.range_set_or_tag.RangeSetOrTag.{RangeSetOrTag}
+use Rattle.deno_semver.specs.DependencyOutcome.{IsDependencyOutcome}
 use Rattle.deno_semver.specs.NameAndVersion.{IsNvOutcome}
+use Rattle.deno_semver.specs.NvReference.{IsNvReferenceOutcome}
 use Rattle.deno_semver.specs.PackageOutcome.{IsPackageOutcome}
+use Rattle.deno_semver.specs.declared.jsr.dependency.JsrDepPackageReq.{JsrDepPackageReq}
+use Rattle.deno_semver.specs.declared.package.kind.PackageKind.{PackageKind}
 use Rattle.deno_semver.specs.declared.package.name_version.PackageNv.{PackageNv}
+use Rattle.deno_semver.specs.declared.package.nv_reference.PackageNvReference.{PackageNvReference}
 use Rattle.deno_semver.specs.declared.package.requirement.PackageReq.{PackageReq}
 
 -- ---- strings
@@ -44,6 +49,13 @@ IsTextOfNv text nv = IsNvOutcome text (Ok nv)
 
 abbrev pub IsTextOfReq : List ℕ → PackageReq → Type 0
 IsTextOfReq text req = IsPackageOutcome Normal text (Ok req)
+
+-- as a reference to a version of a package of this registry
+abbrev pub IsTextOfReference : PackageKind → List ℕ → PackageNvReference → Type 0
+IsTextOfReference kind text reference = IsNvReferenceOutcome kind text (Ok reference)
+
+abbrev pub IsTextOfDependency : List ℕ → JsrDepPackageReq → Type 0
+IsTextOfDependency text dependency = IsDependencyOutcome Normal text (Ok dependency)
 
 -- as ranges or a tag by the normalized grammar
 abbrev pub IsTextOfInner : List ℕ → RangeSetOrTag → Type 0

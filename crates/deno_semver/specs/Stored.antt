@@ -1,4 +1,4 @@
--- What is read again of a requirement of a package that was stored as its normal text. Source: the crate `deno_semver`,
+-- What is read again of a requirement of a package, or a dependency, that was stored as its normal text. Source: the crate `deno_semver`,
 -- whose text of a requirement is meant to be read back.
 use Rattle.std.specs.Prelude.{◌≡◌, List, true}
 use Rattle.std.specs.List.{list_all}
@@ -9,8 +9,10 @@ use Rattle.semver_base.specs.declared.version.Version.{Version}
 use Rattle.semver_req.specs.Rereading.{is_orderly, keeps_meaning}
 use Rattle.semver_req.specs.declared.range_set_or_tag.RangeSetOrTag.{RangeSetOrTag}
 use Rattle.semver_req.specs.declared.range_set_or_tag.RangeSetOrTag.TheVariants as inner
-use Rattle.deno_semver.specs.Json.{IsStringOf, IsTextOfReq}
+use Rattle.deno_semver.specs.DependencyOrder.{normal_dependency_text}
+use Rattle.deno_semver.specs.Json.{IsStringOf, IsTextOfDependency, IsTextOfReq}
 use Rattle.deno_semver.specs.RequirementText.{normal_req_text}
+use Rattle.deno_semver.specs.declared.jsr.dependency.JsrDepPackageReq.{JsrDepPackageReq}
 use Rattle.deno_semver.specs.declared.package.requirement.PackageReq.{PackageReq}
 
 -- ranges that are read in place of these
@@ -49,3 +51,24 @@ pub record IsStoredReq (req : PackageReq) (json : Data) : Type 0 where
   pub name : again.name ≡ req.name
   pub kept : IsReadFor req.version_req.inner again.version_req.inner
   pub settled : IsSettledReq again
+
+-- ---- dependencies
+
+-- the JSON stands for a dependency of the same registry that is equal to this one
+pub record StandsForEqualDependency (json : Data) (dependency : JsrDepPackageReq) : Type 0 where
+  pub again : JsrDepPackageReq
+  pub stands_for : IsStringOf IsTextOfDependency json again
+  pub kind : again.kind ≡ dependency.kind
+  pub equal : AreEqualReqs again.req dependency.req
+
+abbrev pub IsSettledDependency : JsrDepPackageReq → Type 0
+IsSettledDependency dependency = StandsForEqualDependency (string (normal_dependency_text dependency)) dependency
+
+-- the JSON stands for a dependency of the same registry and name, which keeps what this one means, and is settled
+pub record IsStoredDependency (dependency : JsrDepPackageReq) (json : Data) : Type 0 where
+  pub again : JsrDepPackageReq
+  pub stands_for : IsStringOf IsTextOfDependency json again
+  pub kind : again.kind ≡ dependency.kind
+  pub name : again.req.name ≡ dependency.req.name
+  pub kept : IsReadFor dependency.req.version_req.inner again.req.version_req.inner
+  pub settled : IsSettledDependency again

@@ -84,7 +84,7 @@ ends_solid (x ∷ y ∷ text) some h = ends_after (x ∷ []) (y ∷ text) (ends_
 
 -- ---- trimming
 
-all_ascii : (text : List ℕ) → list_all is_ascii text ≡ true → IsAscii text
+pub all_ascii : (text : List ℕ) → list_all is_ascii text ≡ true → IsAscii text
 all_ascii text h = IsAscii-from_all text (λ k d l. low _ (AllPass-from_list_all is_ascii text h k d l))
   where
     low : (b : ℕ) → is_ascii b ≡ true → b < 128

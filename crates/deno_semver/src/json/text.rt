@@ -7,14 +7,21 @@ ghost use Rattle.serde_json.specs.View.{view};
 ghost use Rattle.semver_base.specs.VersionText.{version_text};
 ghost use Rattle.semver_req.specs.Requirement.{inner_text};
 ghost use Rattle.semver_req.specs.declared.common.values.Flavour.TheVariants.{Npm};
-ghost use Rattle.deno_semver.specs.Json.{IsStringOf, IsTextItself, IsTextOfInner, IsTextOfKind, IsTextOfNv, IsTextOfReq, IsTextOfVersion, kind_text};
+ghost use Rattle.deno_semver.specs.DependencyOrder.{normal_dependency_text};
+ghost use Rattle.deno_semver.specs.DependencyOutcome.{IsDependencyOutcome};
+ghost use Rattle.deno_semver.specs.Json.{IsStringOf, IsTextItself, IsTextOfDependency, IsTextOfInner, IsTextOfKind, IsTextOfNv, IsTextOfReference, IsTextOfReq, IsTextOfVersion, kind_text};
 ghost use Rattle.deno_semver.specs.JsonAnswers.{IsJsonAnswer, IsJsonRefusal};
 ghost use Rattle.deno_semver.specs.NameAndVersion.{nv_text};
+ghost use Rattle.deno_semver.specs.NvReference.{nv_reference_text};
 ghost use Rattle.deno_semver.specs.PackageOutcome.{IsPackageOutcome};
+ghost use Rattle.deno_semver.specs.ReferenceText.{with_scheme};
 ghost use Rattle.deno_semver.specs.RequirementText.{normal_req_text};
-ghost use Rattle.deno_semver.specs.Stored.{IsStoredReq};
+ghost use Rattle.deno_semver.specs.Stored.{IsStoredDependency, IsStoredReq};
+ghost use Rattle.deno_semver.specs.declared.package.kind.PackageKind.TheVariants as kind;
 
 use super::{JsonError, JsonForm};
+use crate::jsr::{JsrDepPackageReq, JsrPackageNvReference};
+use crate::npm::NpmPackageNvReference;
 use crate::package::{PackageNv, PackageReq};
 use semver_base::range::VersionBoundKind;
 use semver_base::string::{SmallStackString, StackString};
@@ -106,6 +113,39 @@ impl TextForm for PackageReq {
     fn of_text(alloc: Global, text: &str) -> Result<Self, JsonError> {
         match PackageReq::from_str_normalized(alloc, text) {
             Ok(req) => Ok(req),
+            Err(error) => Err(JsonError::of_reader(error.is_memory())),
+        }
+    }
+}
+
+impl TextForm for JsrPackageNvReference {
+    ghost reads = { IsTextOfReference kind.Jsr };
+
+    fn of_text(alloc: Global, text: &str) -> Result<Self, JsonError> {
+        match JsrPackageNvReference::from_str(alloc, text) {
+            Ok(reference) => Ok(reference),
+            Err(error) => Err(JsonError::of_reader(error.is_memory())),
+        }
+    }
+}
+
+impl TextForm for NpmPackageNvReference {
+    ghost reads = { IsTextOfReference kind.Npm };
+
+    fn of_text(alloc: Global, text: &str) -> Result<Self, JsonError> {
+        match NpmPackageNvReference::from_str(alloc, text) {
+            Ok(reference) => Ok(reference),
+            Err(error) => Err(JsonError::of_reader(error.is_memory())),
+        }
+    }
+}
+
+impl TextForm for JsrDepPackageReq {
+    ghost reads = { IsTextOfDependency };
+
+    fn of_text(alloc: Global, text: &str) -> Result<Self, JsonError> {
+        match JsrDepPackageReq::from_str_normalized(alloc, text) {
+            Ok(dependency) => Ok(dependency),
             Err(error) => Err(JsonError::of_reader(error.is_memory())),
         }
     }
@@ -225,6 +265,60 @@ impl JsonForm for PackageReq {
         ensures value { IfOk result (λ json. view json ≡ string (normal_req_text self.now)) }
         ensures read_again { IfOk result (λ json. (text : List ℕ) → IsUtf8 text
             → IsPackageOutcome Npm text (Ok self.now) → IsStoredReq self.now (view json)) }
+    {
+        let text = self.to_string_normalized(alloc)?;
+        displayed(alloc, &text)
+    }
+
+    fn from_json(alloc: Global, value: &Value) -> Result<Self, JsonError> {
+        of_string(alloc, value)
+    }
+}
+
+/// The string of the reference with its scheme; it is read as [`JsrPackageNvReference::from_str`] reads it.
+impl JsonForm for JsrPackageNvReference {
+    ghost json = { λ reference. string (with_scheme kind.Jsr (nv_reference_text reference)) };
+
+    ghost stands_for = { IsStringOf (IsTextOfReference kind.Jsr) };
+
+    fn to_json(&self, alloc: Global) -> Result<Value, AllocError> {
+        displayed(alloc, self)
+    }
+
+    fn from_json(alloc: Global, value: &Value) -> Result<Self, JsonError> {
+        of_string(alloc, value)
+    }
+}
+
+/// The string of the reference with its scheme; it is read as [`NpmPackageNvReference::from_str`] reads it.
+impl JsonForm for NpmPackageNvReference {
+    ghost json = { λ reference. string (with_scheme kind.Npm (nv_reference_text reference)) };
+
+    ghost stands_for = { IsStringOf (IsTextOfReference kind.Npm) };
+
+    fn to_json(&self, alloc: Global) -> Result<Value, AllocError> {
+        displayed(alloc, self)
+    }
+
+    fn from_json(alloc: Global, value: &Value) -> Result<Self, JsonError> {
+        of_string(alloc, value)
+    }
+}
+
+/// The string of the normal text ([`JsrDepPackageReq::to_string_normalized`]); it is read as
+/// [`JsrDepPackageReq::from_str_normalized`] reads it.
+///
+/// Of the JSON of a dependency that [`JsrDepPackageReq::from_str_loose`] read a dependency of the same registry is read
+/// again, and what is said of the JSON of a [`PackageReq`] holds of its requirement.
+impl JsonForm for JsrDepPackageReq {
+    ghost json = { λ dependency. string (normal_dependency_text dependency) };
+
+    ghost stands_for = { IsStringOf IsTextOfDependency };
+
+    fn to_json(&self, alloc: Global) -> Result<Value, AllocError>
+        ensures value { IfOk result (λ json. view json ≡ string (normal_dependency_text self.now)) }
+        ensures read_again { IfOk result (λ json. (text : List ℕ) → IsUtf8 text
+            → IsDependencyOutcome Npm text (Ok self.now) → IsStoredDependency self.now (view json)) }
     {
         let text = self.to_string_normalized(alloc)?;
         displayed(alloc, &text)

@@ -1,0 +1,159 @@
+//! Dependencies of either kind.
+
+ghost use Rattle.std.specs.Prelude.{◌≡◌};
+ghost use Rattle.conformance.specs.Call.{dependency_call_name};
+
+use crate::packages::kind;
+use crate::words::{Answer, Fault, Word, answer};
+use deno_semver::jsr::{JsrDepPackageReq, JsrDepPackageReqParseError};
+use deno_semver::package::{PackageKind, PackageReq};
+use std::alloc::Global;
+use std::cmp::Ordering;
+
+/// The calls on dependencies.
+#[derive(Clone, Copy, Debug, PartialEq, Eq)]
+pub enum DependencyCall {
+    Dependency,
+    DependencyError,
+    DependencyOrder,
+    DependencyMade,
+}
+
+impl DependencyCall {
+    /// The first word of a question that asks the call.
+    pub fn name(self) -> &'static str
+        ensures { result.now ≡ dependency_call_name self }
+    {
+        match self {
+            DependencyCall::Dependency => "dependency",
+            DependencyCall::DependencyError => "dependency-error",
+            DependencyCall::DependencyOrder => "dependency-order",
+            DependencyCall::DependencyMade => "dependency-made",
+        }
+    }
+
+    /// What the call answers to a question's words after its name.
+    pub fn ask(self, alloc: Global, words: &[Word<'_>]) -> Answer {
+        match self {
+            DependencyCall::Dependency => dependency(alloc, words),
+            DependencyCall::DependencyError => dependency_error(alloc, words),
+            DependencyCall::DependencyOrder => dependency_order(alloc, words),
+            DependencyCall::DependencyMade => dependency_made(alloc, words),
+        }
+    }
+}
+
+// What the reader of this name makes of a text.
+fn read(
+    alloc: Global,
+    reader: &str,
+    text: &str,
+) -> Result<Result<JsrDepPackageReq, JsrDepPackageReqParseError>, Fault> {
+    match reader {
+        "strict" => Ok(JsrDepPackageReq::from_str(alloc, text)),
+        "loose" => Ok(JsrDepPackageReq::from_str_loose(alloc, text)),
+        "normalized" => Ok(JsrDepPackageReq::from_str_normalized(alloc, text)),
+        _ => Err(Fault::Unreadable),
+    }
+}
+
+// `dependency`, `strict`, `loose` or `normalized`, and a text: `read`, the registry, the name, the text of the requirement of
+// versions, and the dependency with its normal text and as it is displayed; or `refused`, the kind of the error, and the
+// scheme where that is another.
+fn dependency(alloc: Global, words: &[Word<'_>]) -> Answer {
+    let [Some(reader), Some(text)] = words else {
+        return Err(Fault::Unreadable);
+    };
+    match read(alloc, reader, text)? {
+        Ok(dependency) => told(alloc, &dependency.copy()?),
+        Err(error) => refused(alloc, &error.copy()?),
+    }
+}
+
+// What is told of a dependency that was read.
+fn told(alloc: Global, dependency: &JsrDepPackageReq) -> Answer {
+    let registry = match dependency.kind {
+        PackageKind::Jsr => "jsr",
+        PackageKind::Npm => "npm",
+    };
+    let normal = dependency.to_string_normalized(alloc)?;
+    let displayed = format!(in alloc; "{dependency}")?;
+    answer(
+        alloc,
+        &[
+            Some("read"),
+            Some(registry),
+            Some(dependency.req.name.as_str()),
+            Some(dependency.req.version_req.version_text()),
+            Some(normal.as_str()),
+            Some(displayed.as_str()),
+        ],
+    )
+}
+
+// What is told of a text that is no dependency.
+fn refused(alloc: Global, error: &JsrDepPackageReqParseError) -> Answer {
+    match error {
+        JsrDepPackageReqParseError::NotExpectedScheme(scheme) => answer(
+            alloc,
+            &[
+                Some("refused"),
+                Some("NotExpectedScheme"),
+                Some(scheme.as_str()),
+            ],
+        ),
+        JsrDepPackageReqParseError::PackageReqParse(error) => {
+            answer(alloc, &[Some("refused"), Some(kind(&error.source)?)])
+        }
+        JsrDepPackageReqParseError::Memory => Err(Fault::OutOfMemory),
+    }
+}
+
+// `dependency-error`, a reader as above, and a text that is refused: the line of the error.
+fn dependency_error(alloc: Global, words: &[Word<'_>]) -> Answer {
+    let [Some(reader), Some(text)] = words else {
+        return Err(Fault::Unreadable);
+    };
+    let error = read(alloc, reader, text)?.err().ok_or(Fault::Unreadable)?;
+    let line = format!(in alloc; "{error}")?;
+    answer(alloc, &[Some(line.as_str())])
+}
+
+// The dependency that npm's reader reads.
+fn loose(alloc: Global, text: &str) -> Result<JsrDepPackageReq, Fault> {
+    match JsrDepPackageReq::from_str_loose(alloc, text) {
+        Ok(dependency) => Ok(dependency),
+        Err(error) if error.is_memory() => Err(Fault::OutOfMemory),
+        Err(_) => Err(Fault::Unreadable),
+    }
+}
+
+// `dependency-order`, two texts of dependencies, by npm's reader: how the first compares to the second.
+fn dependency_order(alloc: Global, words: &[Word<'_>]) -> Answer {
+    let [Some(one), Some(other)] = words else {
+        return Err(Fault::Unreadable);
+    };
+    let word = match loose(alloc, one)?.cmp(&loose(alloc, other)?) {
+        Ordering::Less => "less",
+        Ordering::Equal => "equal",
+        Ordering::Greater => "greater",
+    };
+    answer(alloc, &[Some(word)])
+}
+
+// `dependency-made`, `jsr` or `npm`, and the text of a package: how the dependency of that registry is displayed.
+fn dependency_made(alloc: Global, words: &[Word<'_>]) -> Answer {
+    let [Some(registry), Some(text)] = words else {
+        return Err(Fault::Unreadable);
+    };
+    let Ok(req) = PackageReq::from_str(alloc, text) else {
+        return Err(Fault::Unreadable);
+    };
+    let dependency = match *registry {
+        "jsr" => JsrDepPackageReq::jsr(req),
+        "npm" => JsrDepPackageReq::npm(req),
+        _ => return Err(Fault::Unreadable),
+    };
+    let displayed = format!(in alloc; "{dependency}")?;
+    answer(alloc, &[Some(displayed.as_str())])
+}

@@ -1,0 +1,160 @@
+//! The JSON forms of values.
+
+ghost use Rattle.std.specs.Prelude.{◌≡◌};
+ghost use Rattle.conformance.specs.Call.{json_call_name};
+
+use crate::words::{Answer, Fault, Word, answer, yes_or_no};
+use deno_semver::json::{JsonError, JsonForm};
+use deno_semver::jsr::{JsrDepPackageReq, JsrPackageNvReference};
+use deno_semver::npm::NpmPackageNvReference;
+use deno_semver::package::{PackageNv, PackageReq};
+use deno_semver::{
+    RangeBound, RangeSetOrTag, SmallStackString, StackString, Version, VersionBound,
+    VersionBoundKind, VersionRange, VersionRangeSet, VersionReq,
+};
+use serde_json::{Category, Value};
+use std::alloc::Global;
+
+/// The calls on JSON forms.
+#[derive(Clone, Copy, Debug, PartialEq, Eq)]
+pub enum JsonCall {
+    Json,
+    JsonOf,
+    Stored,
+}
+
+impl JsonCall {
+    /// The first word of a question that asks the call.
+    pub fn name(self) -> &'static str
+        ensures { result.now ≡ json_call_name self }
+    {
+        match self {
+            JsonCall::Json => "json",
+            JsonCall::JsonOf => "json-of",
+            JsonCall::Stored => "stored",
+        }
+    }
+
+    /// What the call answers to a question's words after its name.
+    pub fn ask(self, alloc: Global, words: &[Word<'_>]) -> Answer {
+        match self {
+            JsonCall::Json => json(alloc, words),
+            JsonCall::JsonOf => json_of(alloc, words),
+            JsonCall::Stored => stored(alloc, words),
+        }
+    }
+}
+
+// The JSON value that a text is.
+fn value_of(alloc: Global, text: &str) -> Result<Value, Fault> {
+    match Value::from_str(alloc, text) {
+        Ok(value) => Ok(value),
+        Err(error) if error.classify() == Category::Memory => Err(Fault::OutOfMemory),
+        Err(_) => Err(Fault::Unreadable),
+    }
+}
+
+// `read` and the JSON value of the value of this type that a JSON value stands for; or `refused` and the line of the error.
+fn form<T: JsonForm + Drop>(alloc: Global, json: &Value) -> Answer {
+    match T::from_json(alloc, json) {
+        Ok(read) => {
+            let text = read.to_json(alloc)?.to_string(alloc)?;
+            answer(alloc, &[Some("read"), Some(text.as_str())])
+        }
+        Err(JsonError::Json) => answer(alloc, &[Some("refused"), Some("Invalid JSON value")]),
+        Err(JsonError::Memory) => Err(Fault::OutOfMemory),
+    }
+}
+
+// `json`, the name of a type, and a JSON text: what its reader makes of it.
+fn json(alloc: Global, words: &[Word<'_>]) -> Answer {
+    let [Some(of_type), Some(text)] = words else {
+        return Err(Fault::Unreadable);
+    };
+    let json = value_of(alloc, text)?;
+    match *of_type {
+        "SmallStackString" => form::<SmallStackString>(alloc, &json),
+        "StackString" => form::<StackString>(alloc, &json),
+        "Version" => form::<Version>(alloc, &json),
+        "VersionBoundKind" => form::<VersionBoundKind>(alloc, &json),
+        "VersionBound" => form::<VersionBound>(alloc, &json),
+        "RangeBound" => form::<RangeBound>(alloc, &json),
+        "VersionRange" => form::<VersionRange>(alloc, &json),
+        "VersionRangeSet" => form::<VersionRangeSet>(alloc, &json),
+        "RangeSetOrTag" => form::<RangeSetOrTag>(alloc, &json),
+        "VersionReq" => form::<VersionReq>(alloc, &json),
+        "PackageReq" => form::<PackageReq>(alloc, &json),
+        "PackageNv" => form::<PackageNv>(alloc, &json),
+        "JsrPackageNvReference" => form::<JsrPackageNvReference>(alloc, &json),
+        "NpmPackageNvReference" => form::<NpmPackageNvReference>(alloc, &json),
+        "JsrDepPackageReq" => form::<JsrDepPackageReq>(alloc, &json),
+        _ => Err(Fault::Unreadable),
+    }
+}
+
+// The requirement of a package that the reader of this name makes of a text.
+fn package(alloc: Global, reader: &str, text: &str) -> Result<PackageReq, Fault> {
+    let read = match reader {
+        "strict" => PackageReq::from_str(alloc, text),
+        "loose" => PackageReq::from_str_loose(alloc, text),
+        _ => return Err(Fault::Unreadable),
+    };
+    read.map_err(|_| Fault::Unreadable)
+}
+
+// The dependency that the reader of this name makes of a text.
+fn dependency(alloc: Global, reader: &str, text: &str) -> Result<JsrDepPackageReq, Fault> {
+    let read = match reader {
+        "strict" => JsrDepPackageReq::from_str(alloc, text),
+        "loose" => JsrDepPackageReq::from_str_loose(alloc, text),
+        _ => return Err(Fault::Unreadable),
+    };
+    read.map_err(|_| Fault::Unreadable)
+}
+
+// The JSON value of the ranges of a requirement.
+fn json_of_ranges(alloc: Global, requirement: &VersionReq) -> Result<Value, Fault> {
+    match requirement.range() {
+        Some(ranges) => Ok(ranges.to_json(alloc)?),
+        None => Err(Fault::Unreadable),
+    }
+}
+
+// `json-of`, the name of a type, a reader, and a text: the JSON value of what the reader makes of it, of the ranges of a
+// requirement for `VersionRangeSet`. The texts of requirements of versions are npm's.
+fn json_of(alloc: Global, words: &[Word<'_>]) -> Answer {
+    let [Some(of_type), Some(reader), Some(text)] = words else {
+        return Err(Fault::Unreadable);
+    };
+    let json = match *of_type {
+        "VersionReq" => VersionReq::parse_from_npm(alloc, text)?.to_json(alloc)?,
+        "VersionRangeSet" => json_of_ranges(alloc, &VersionReq::parse_from_npm(alloc, text)?)?,
+        "PackageReq" => package(alloc, reader, text)?.to_json(alloc)?,
+        "JsrDepPackageReq" => dependency(alloc, reader, text)?.to_json(alloc)?,
+        _ => return Err(Fault::Unreadable),
+    };
+    let text = json.to_string(alloc)?;
+    answer(alloc, &[Some(text.as_str())])
+}
+
+// Whether a value is read back equal from its JSON value.
+fn is_read_back<T: JsonForm + PartialEq + Drop>(alloc: Global, value: &T) -> Answer {
+    match T::from_json(alloc, &value.to_json(alloc)?) {
+        Ok(again) => yes_or_no(alloc, again == *value),
+        Err(JsonError::Json) => answer(alloc, &[Some("refused")]),
+        Err(JsonError::Memory) => Err(Fault::OutOfMemory),
+    }
+}
+
+// `stored`, the name of a type, a reader, and a text: whether what the reader makes of it is read back equal from its JSON
+// value.
+fn stored(alloc: Global, words: &[Word<'_>]) -> Answer {
+    let [Some(of_type), Some(reader), Some(text)] = words else {
+        return Err(Fault::Unreadable);
+    };
+    match *of_type {
+        "PackageReq" => is_read_back(alloc, &package(alloc, reader, text)?),
+        "JsrDepPackageReq" => is_read_back(alloc, &dependency(alloc, reader, text)?),
+        _ => Err(Fault::Unreadable),
+    }
+}

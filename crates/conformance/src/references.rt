@@ -1,0 +1,330 @@
+//! References to packages, and the names of exports.
+
+ghost use Rattle.std.specs.Prelude.{◌≡◌};
+ghost use Rattle.conformance.specs.Call.{reference_call_name};
+
+use crate::packages::kind;
+use crate::words::{Answer, Fault, Word, answer};
+use deno_semver::jsr::{JsrPackageNvReference, JsrPackageReqReference, normalized_export_name};
+use deno_semver::npm::{NpmPackageNvReference, NpmPackageReqReference};
+use deno_semver::package::{
+    PackageNv, PackageNvReferenceParseError, PackageReq, PackageReqReferenceParseError,
+    SpecifierError,
+};
+use std::alloc::Global;
+use url::Url;
+
+/// The calls on references to packages.
+#[derive(Clone, Copy, Debug, PartialEq, Eq)]
+pub enum ReferenceCall {
+    Reference,
+    ReferenceError,
+    VersionReference,
+    VersionReferenceError,
+    Specifier,
+    OfSpecifier,
+    Export,
+}
+
+impl ReferenceCall {
+    /// The first word of a question that asks the call.
+    pub fn name(self) -> &'static str
+        ensures { result.now ≡ reference_call_name self }
+    {
+        match self {
+            ReferenceCall::Reference => "reference",
+            ReferenceCall::ReferenceError => "reference-error",
+            ReferenceCall::VersionReference => "version-reference",
+            ReferenceCall::VersionReferenceError => "version-reference-error",
+            ReferenceCall::Specifier => "specifier",
+            ReferenceCall::OfSpecifier => "of-specifier",
+            ReferenceCall::Export => "export",
+        }
+    }
+
+    /// What the call answers to a question's words after its name.
+    pub fn ask(self, alloc: Global, words: &[Word<'_>]) -> Answer {
+        match self {
+            ReferenceCall::Reference => reference(alloc, words),
+            ReferenceCall::ReferenceError => reference_error(alloc, words),
+            ReferenceCall::VersionReference => version_reference(alloc, words),
+            ReferenceCall::VersionReferenceError => version_reference_error(alloc, words),
+            ReferenceCall::Specifier => specifier(alloc, words),
+            ReferenceCall::OfSpecifier => of_specifier(alloc, words),
+            ReferenceCall::Export => export(alloc, words),
+        }
+    }
+}
+
+// The two texts that the words are.
+fn pair<'a>(words: &[Word<'a>]) -> Result<(&'a str, &'a str), Fault> {
+    match words {
+        [Some(one), Some(other)] => Ok((one, other)),
+        _ => Err(Fault::Unreadable),
+    }
+}
+
+// `reference`, `jsr` or `npm`, and a text: `read`, the name, the text of the requirement of versions, the path or null, how
+// the reference is displayed, and the name of the export of a JSR package or null; or `refused`, the kind of the error, and
+// of one that names another text the text without its scheme and the one that is suggested.
+fn reference(alloc: Global, words: &[Word<'_>]) -> Answer {
+    let (registry, text) = pair(words)?;
+    match registry {
+        "jsr" => match JsrPackageReqReference::from_str(alloc, text) {
+            Ok(reference) => jsr_reference(alloc, &reference.copy()?),
+            Err(error) => refused_reference(alloc, &error.copy()?),
+        },
+        "npm" => match NpmPackageReqReference::from_str(alloc, text) {
+            Ok(reference) => npm_reference(alloc, &reference.copy()?),
+            Err(error) => refused_reference(alloc, &error.copy()?),
+        },
+        _ => Err(Fault::Unreadable),
+    }
+}
+
+fn jsr_reference(alloc: Global, reference: &JsrPackageReqReference) -> Answer {
+    let displayed = format!(in alloc; "{reference}")?;
+    let export = reference.export_name(alloc)?;
+    told(
+        alloc,
+        reference.req(),
+        reference.sub_path(),
+        displayed.as_str(),
+        Some(export.as_str()),
+    )
+}
+
+fn npm_reference(alloc: Global, reference: &NpmPackageReqReference) -> Answer {
+    let displayed = format!(in alloc; "{reference}")?;
+    told(
+        alloc,
+        reference.req(),
+        reference.sub_path(),
+        displayed.as_str(),
+        None,
+    )
+}
+
+// What is told of a reference that was read.
+fn told(
+    alloc: Global,
+    req: &PackageReq,
+    sub_path: Word<'_>,
+    displayed: &str,
+    export: Word<'_>,
+) -> Answer {
+    answer(
+        alloc,
+        &[
+            Some("read"),
+            Some(req.name.as_str()),
+            Some(req.version_req.version_text()),
+            sub_path,
+            Some(displayed),
+            export,
+        ],
+    )
+}
+
+// What is told of a text that is no reference.
+fn refused_reference(alloc: Global, error: &PackageReqReferenceParseError) -> Answer {
+    match error {
+        PackageReqReferenceParseError::NotExpectedScheme(_) => {
+            answer(alloc, &[Some("refused"), Some("NotExpectedScheme")])
+        }
+        PackageReqReferenceParseError::Invalid(error) => {
+            answer(alloc, &[Some("refused"), Some(kind(&error.source)?)])
+        }
+        PackageReqReferenceParseError::InvalidPathWithVersion(error) => answer(
+            alloc,
+            &[
+                Some("refused"),
+                Some("InvalidPathWithVersion"),
+                Some(error.current.as_str()),
+                Some(error.suggested.as_str()),
+            ],
+        ),
+        PackageReqReferenceParseError::Memory => Err(Fault::OutOfMemory),
+    }
+}
+
+// Why a text is no reference to a package of the registry.
+fn reference_refusal(
+    alloc: Global,
+    registry: &str,
+    text: &str,
+) -> Result<PackageReqReferenceParseError, Fault> {
+    let error = match registry {
+        "jsr" => JsrPackageReqReference::from_str(alloc, text).err(),
+        "npm" => NpmPackageReqReference::from_str(alloc, text).err(),
+        _ => None,
+    };
+    error.ok_or(Fault::Unreadable)
+}
+
+// `reference-error`, a registry, and a text that is no reference: the line of the error.
+fn reference_error(alloc: Global, words: &[Word<'_>]) -> Answer {
+    let (registry, text) = pair(words)?;
+    let error = reference_refusal(alloc, registry, text)?;
+    let line = format!(in alloc; "{error}")?;
+    answer(alloc, &[Some(line.as_str())])
+}
+
+// `version-reference`, a registry, and a text: `read`, the name, the version, the path or null, how the reference is
+// displayed, and the name of the export of a JSR package or null; or `refused` and the message.
+fn version_reference(alloc: Global, words: &[Word<'_>]) -> Answer {
+    let (registry, text) = pair(words)?;
+    match registry {
+        "jsr" => match JsrPackageNvReference::from_str(alloc, text) {
+            Ok(reference) => jsr_version_reference(alloc, &reference.copy()?),
+            Err(error) => refused_version_reference(alloc, &error),
+        },
+        "npm" => match NpmPackageNvReference::from_str(alloc, text) {
+            Ok(reference) => npm_version_reference(alloc, &reference.copy()?),
+            Err(error) => refused_version_reference(alloc, &error),
+        },
+        _ => Err(Fault::Unreadable),
+    }
+}
+
+fn jsr_version_reference(alloc: Global, reference: &JsrPackageNvReference) -> Answer {
+    let displayed = format!(in alloc; "{reference}")?;
+    let export = reference.export_name(alloc)?;
+    told_version(
+        alloc,
+        reference.nv(),
+        reference.sub_path(),
+        displayed.as_str(),
+        Some(export.as_str()),
+    )
+}
+
+fn npm_version_reference(alloc: Global, reference: &NpmPackageNvReference) -> Answer {
+    let displayed = format!(in alloc; "{reference}")?;
+    told_version(
+        alloc,
+        reference.nv(),
+        reference.sub_path(),
+        displayed.as_str(),
+        None,
+    )
+}
+
+// What is told of a version reference that was read.
+fn told_version(
+    alloc: Global,
+    nv: &PackageNv,
+    sub_path: Word<'_>,
+    displayed: &str,
+    export: Word<'_>,
+) -> Answer {
+    let version = format!(in alloc; "{}", nv.version)?;
+    answer(
+        alloc,
+        &[
+            Some("read"),
+            Some(nv.name.as_str()),
+            Some(version.as_str()),
+            sub_path,
+            Some(displayed),
+            export,
+        ],
+    )
+}
+
+fn refused_version_reference(alloc: Global, error: &PackageNvReferenceParseError) -> Answer {
+    if error.is_memory() {
+        return Err(Fault::OutOfMemory);
+    }
+    answer(alloc, &[Some("refused"), Some(error.message.as_str())])
+}
+
+// Why a text is no version reference to a package of the registry.
+fn version_reference_refusal(
+    alloc: Global,
+    registry: &str,
+    text: &str,
+) -> Result<PackageNvReferenceParseError, Fault> {
+    let error = match registry {
+        "jsr" => JsrPackageNvReference::from_str(alloc, text).err(),
+        "npm" => NpmPackageNvReference::from_str(alloc, text).err(),
+        _ => None,
+    };
+    error.ok_or(Fault::Unreadable)
+}
+
+// `version-reference-error`, a registry, and a text that is no version reference: the line of the error.
+fn version_reference_error(alloc: Global, words: &[Word<'_>]) -> Answer {
+    let (registry, text) = pair(words)?;
+    let error = version_reference_refusal(alloc, registry, text)?;
+    let line = format!(in alloc; "{error}")?;
+    answer(alloc, &[Some(line.as_str())])
+}
+
+// `specifier`, a registry, and the text of a version reference: `read` and the URL that it is; or `refused` where it is
+// none.
+fn specifier(alloc: Global, words: &[Word<'_>]) -> Answer {
+    let (registry, text) = pair(words)?;
+    match registry {
+        "jsr" => match JsrPackageNvReference::from_str(alloc, text) {
+            Ok(reference) => told_specifier(alloc, reference.as_specifier(alloc)),
+            Err(error) => refused_version_reference(alloc, &error),
+        },
+        "npm" => match NpmPackageNvReference::from_str(alloc, text) {
+            Ok(reference) => told_specifier(alloc, reference.as_specifier(alloc)),
+            Err(error) => refused_version_reference(alloc, &error),
+        },
+        _ => Err(Fault::Unreadable),
+    }
+}
+
+fn told_specifier(alloc: Global, specifier: Result<Url, SpecifierError>) -> Answer {
+    match specifier {
+        Ok(url) => answer(alloc, &[Some("read"), Some(url.as_str())]),
+        Err(error) if error.is_memory() => Err(Fault::OutOfMemory),
+        Err(error) => {
+            let line = format!(in alloc; "{error}")?;
+            answer(alloc, &[Some("refused"), Some(line.as_str())])
+        }
+    }
+}
+
+// The URL that a text is.
+fn url_of(alloc: Global, text: &str) -> Result<Url, Fault> {
+    Url::parse(alloc, text).map_err(|_| Fault::Unreadable)
+}
+
+// `of-specifier`, a registry, and the text of a URL: what `reference` tells of it where it is a reference, and what
+// `version-reference` tells where it is a version reference.
+fn of_specifier(alloc: Global, words: &[Word<'_>]) -> Answer {
+    let (registry, text) = pair(words)?;
+    let url = url_of(alloc, text)?;
+    match registry {
+        "jsr" => match JsrPackageReqReference::from_specifier(alloc, &url) {
+            Ok(reference) => jsr_reference(alloc, &reference),
+            Err(error) => refused_reference(alloc, &error),
+        },
+        "npm" => match NpmPackageReqReference::from_specifier(alloc, &url) {
+            Ok(reference) => npm_reference(alloc, &reference),
+            Err(error) => refused_reference(alloc, &error),
+        },
+        "jsr-version" => match JsrPackageNvReference::from_specifier(alloc, &url) {
+            Ok(reference) => jsr_version_reference(alloc, &reference),
+            Err(error) => refused_version_reference(alloc, &error),
+        },
+        "npm-version" => match NpmPackageNvReference::from_specifier(alloc, &url) {
+            Ok(reference) => npm_version_reference(alloc, &reference),
+            Err(error) => refused_version_reference(alloc, &error),
+        },
+        _ => Err(Fault::Unreadable),
+    }
+}
+
+// `export`, a path or null: the name of the export.
+fn export(alloc: Global, words: &[Word<'_>]) -> Answer {
+    let [path] = words else {
+        return Err(Fault::Unreadable);
+    };
+    let name = normalized_export_name(alloc, *path)?;
+    answer(alloc, &[Some(name.as_str())])
+}

@@ -1,0 +1,56 @@
+-- What is read again of a dependency that npm's reader read, and that was stored as its normal text.
+use Rattle.std.proofs.Common.{◌≡◌, ℕ, List, ◌++◌, Ok, refl, sym, subst, arith}
+use Rattle.std.specs.Prelude.{IsUtf8, codes}
+use Rattle.serde_json.specs.Data.{string}
+use Rattle.semver_req.specs.declared.common.values.Flavour.TheVariants.{Npm}
+use Rattle.deno_semver.specs.DependencyOrder.{normal_dependency_text}
+use Rattle.deno_semver.specs.DependencyOutcome.{IsDependencyOutcome, is_dependency}
+use Rattle.deno_semver.specs.Json.{IsStringOf, IsTextOfDependency, IsTextOfReq}
+use Rattle.deno_semver.specs.Kind.{scheme_of}
+use Rattle.deno_semver.specs.RequirementText.{normal_req_text}
+use Rattle.deno_semver.specs.Stored.{IsSettledDependency, IsSettledReq, IsStoredDependency, IsStoredReq}
+use Rattle.deno_semver.specs.declared.jsr.dependency.JsrDepPackageReq.{JsrDepPackageReq}
+use Rattle.deno_semver.specs.declared.package.kind.PackageKind.{PackageKind}
+use Rattle.deno_semver.specs.declared.package.kind.PackageKind.TheVariants as registry
+use Rattle.deno_semver.specs.declared.package.requirement.PackageReq.{PackageReq}
+use Rattle.deno_semver.proofs.StoredReqs.{after_ascii, stored_loose}
+
+abbrev of_kind : PackageKind → PackageReq → JsrDepPackageReq
+of_kind kind req = record { kind = kind; req = req }
+
+text_same : (a b : List ℕ) → string a ≡ string b → a ≡ b
+text_same a b e = cc e
+
+-- behind the scheme a text that stands for a requirement stands for a dependency
+string_of : (kind : PackageKind) (text : List ℕ) (again : PackageReq) → IsStringOf IsTextOfReq (string text) again → IsStringOf IsTextOfDependency (string (scheme_of kind ++ text)) (of_kind kind again)
+string_of kind text again h = record {
+  text = scheme_of kind ++ text;
+  is_string = refl;
+  reads = is_dependency kind text refl (subst (λ t. IsTextOfReq t again) (sym (text_same text h.text h.is_string)) h.reads);
+}
+
+settled : (kind : PackageKind) (req : PackageReq) → IsSettledReq req → IsSettledDependency (of_kind kind req)
+settled kind req h = record {
+  again = of_kind kind h.again;
+  stands_for = string_of kind (normal_req_text req) h.again h.stands_for;
+  kind = refl;
+  equal = h.equal;
+}
+
+stored : (kind : PackageKind) (req : PackageReq) → IsStoredReq req (string (normal_req_text req)) → IsStoredDependency (of_kind kind req) (string (normal_dependency_text (of_kind kind req)))
+stored kind req h = record {
+  again = of_kind kind h.again;
+  stands_for = string_of kind (normal_req_text req) h.again h.stands_for;
+  kind = refl;
+  name = h.name;
+  kept = h.kept;
+  settled = settled kind h.again h.settled;
+}
+
+scheme_utf8 : (kind : PackageKind) (body : List ℕ) → IsUtf8 (scheme_of kind ++ body) → IsUtf8 body
+scheme_utf8 registry.Jsr body u = after_ascii (codes "jsr") body 58 (omega arith) u
+scheme_utf8 registry.Npm body u = after_ascii (codes "npm") body 58 (omega arith) u
+
+-- what is stored of a dependency that npm's reader read of a text
+pub stored_dependency : (d : JsrDepPackageReq) (text : List ℕ) → IsUtf8 text → IsDependencyOutcome Npm text (Ok d) → IsStoredDependency d (string (normal_dependency_text d))
+stored_dependency d text u (is_dependency kind body {req = req} is outcome) = stored kind req (stored_loose req body (scheme_utf8 kind body (subst IsUtf8 is u)) outcome)
