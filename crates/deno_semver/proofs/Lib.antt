@@ -1,4 +1,5 @@
 pub mod Dependencies
+pub mod Equality
 pub mod ExportNames
 pub mod JsonReading
 pub mod NameAndVersion

@@ -1,6 +1,7 @@
 pub mod Cuts
 pub mod DependencyOrder
 pub mod DependencyOutcome
+pub mod Equal
 pub mod ExportName
 pub mod Json
 pub mod JsonAnswers

@@ -6,9 +6,18 @@
 //! of each type that has `Hash`.
 
 ghost use Rattle.std.specs.Prelude.{◌≡◌, ◌↔◌, IsTrue};
+ghost use Rattle.deno_semver.specs.Equal.{AreEqualDependencies, AreEqualReferences};
+ghost use Rattle.deno_semver.specs.ReferenceOutcome.{unboxed};
 
 use crate::json::JsonError;
 use crate::package::{PackageKind, PackageNv, PackageReq, PackageReqPartsParseError};
+use crate::jsr::{JsrDepPackageReq, JsrPackageNvReference, JsrPackageReqReference};
+use crate::npm::{NpmPackageNvReference, NpmPackageReqReference};
+use crate::package::{
+    PackageKind, PackageNv, PackageNvReference, PackageReq, PackageReqPartsParseError,
+    PackageReqReference, PackageReqReferenceInvalidParseError,
+    PackageReqReferenceInvalidWithVersionParseError, PackageReqReferenceParseError,
+};
 
 /// Whether two registries are the same.
 pub fn same_kinds(one: &PackageKind, other: &PackageKind) -> bool
@@ -42,6 +51,86 @@ pub fn same_parts_errors(one: &PackageReqPartsParseError, other: &PackageReqPart
 
 /// Whether two errors of reading JSON are the same.
 pub fn same_json_errors(one: &JsonError, other: &JsonError) -> bool
+/// Whether two references are equal: their requirements are, and their paths are the same.
+pub fn equal_references(one: &PackageReqReference, other: &PackageReqReference) -> bool
+    ensures { IsTrue result ↔ AreEqualReferences one.now other.now }
+{
+    one == other
+}
+
+/// The same of references to packages of JSR.
+pub fn equal_jsr_references(one: &JsrPackageReqReference, other: &JsrPackageReqReference) -> bool
+    ensures { IsTrue result ↔ AreEqualReferences one.now other.now }
+{
+    one == other
+}
+
+/// The same of references to packages of npm.
+pub fn equal_npm_references(one: &NpmPackageReqReference, other: &NpmPackageReqReference) -> bool
+    ensures { IsTrue result ↔ AreEqualReferences one.now other.now }
+{
+    one == other
+}
+
+/// Whether two references to versions are the same, builds included.
+pub fn same_version_references(one: &PackageNvReference, other: &PackageNvReference) -> bool
+    ensures { IsTrue result ↔ (one.now ≡ other.now) }
+{
+    one == other
+}
+
+/// The same of references to packages of JSR.
+pub fn same_jsr_version_references(
+    one: &JsrPackageNvReference,
+    other: &JsrPackageNvReference,
+) -> bool
+    ensures { IsTrue result ↔ (one.now ≡ other.now) }
+{
+    one == other
+}
+
+/// The same of references to packages of npm.
+pub fn same_npm_version_references(
+    one: &NpmPackageNvReference,
+    other: &NpmPackageNvReference,
+) -> bool
+    ensures { IsTrue result ↔ (one.now ≡ other.now) }
+{
+    one == other
+}
+
+/// Whether two dependencies are equal: their registries are the same, and their requirements are equal.
+pub fn equal_dependencies(one: &JsrDepPackageReq, other: &JsrDepPackageReq) -> bool
+    ensures { IsTrue result ↔ AreEqualDependencies one.now other.now }
+{
+    one == other
+}
+
+/// Whether two errors of references are the same, wherever their boxes lie.
+pub fn same_reference_errors(
+    one: &PackageReqReferenceParseError,
+    other: &PackageReqReferenceParseError,
+) -> bool
+    ensures { IsTrue result ↔ (unboxed one.now ≡ unboxed other.now) }
+{
+    one == other
+}
+
+/// Whether two errors are the same.
+pub fn same_invalid_errors(
+    one: &PackageReqReferenceInvalidParseError,
+    other: &PackageReqReferenceInvalidParseError,
+) -> bool
+    ensures { IsTrue result ↔ (one.now ≡ other.now) }
+{
+    one == other
+}
+
+/// Whether two errors are the same.
+pub fn same_path_errors(
+    one: &PackageReqReferenceInvalidWithVersionParseError,
+    other: &PackageReqReferenceInvalidWithVersionParseError,
+) -> bool
     ensures { IsTrue result ↔ (one.now ≡ other.now) }
 {
     one == other

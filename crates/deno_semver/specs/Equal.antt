@@ -1,0 +1,16 @@
+-- When requirements of packages, and what is made of them, are equal. Source: the crate `deno_semver`, in which the text of a
+-- version has no part in it.
+use Rattle.std.specs.Prelude.{◌≡◌}
+use Rattle.deno_semver.specs.declared.jsr.dependency.JsrDepPackageReq.{JsrDepPackageReq}
+use Rattle.deno_semver.specs.declared.package.reference.PackageReqReference.{PackageReqReference}
+use Rattle.deno_semver.specs.declared.package.requirement.PackageReq.{PackageReq}
+
+-- the names are the same, and the requirements of versions stand for the same
+abbrev pub AreEqualReqs : PackageReq → PackageReq → Type 0
+AreEqualReqs x y = (x.name ≡ y.name) × (x.version_req.inner ≡ y.version_req.inner)
+
+abbrev pub AreEqualReferences : PackageReqReference → PackageReqReference → Type 0
+AreEqualReferences x y = AreEqualReqs x.req y.req × (x.sub_path ≡ y.sub_path)
+
+abbrev pub AreEqualDependencies : JsrDepPackageReq → JsrDepPackageReq → Type 0
+AreEqualDependencies x y = (x.kind ≡ y.kind) × AreEqualReqs x.req y.req
