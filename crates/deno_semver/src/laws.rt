@@ -10,7 +10,6 @@ ghost use Rattle.deno_semver.specs.Equal.{AreEqualDependencies, AreEqualReferenc
 ghost use Rattle.deno_semver.specs.ReferenceOutcome.{unboxed};
 
 use crate::json::JsonError;
-use crate::package::{PackageKind, PackageNv, PackageReq, PackageReqPartsParseError};
 use crate::jsr::{JsrDepPackageReq, JsrPackageNvReference, JsrPackageReqReference};
 use crate::npm::{NpmPackageNvReference, NpmPackageReqReference};
 use crate::package::{
@@ -51,6 +50,11 @@ pub fn same_parts_errors(one: &PackageReqPartsParseError, other: &PackageReqPart
 
 /// Whether two errors of reading JSON are the same.
 pub fn same_json_errors(one: &JsonError, other: &JsonError) -> bool
+    ensures { IsTrue result ↔ (one.now ≡ other.now) }
+{
+    one == other
+}
+
 /// Whether two references are equal: their requirements are, and their paths are the same.
 pub fn equal_references(one: &PackageReqReference, other: &PackageReqReference) -> bool
     ensures { IsTrue result ↔ AreEqualReferences one.now other.now }
