@@ -1,3 +1,4 @@
 pub mod Allowance
+pub mod Lockfile
 pub mod Stored
 pub mod Versions

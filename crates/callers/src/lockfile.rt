@@ -1,0 +1,47 @@
+//! Does a requirement of a package survive a lockfile, which keeps it as JSON?
+
+ghost use Rattle.std.specs.Prelude.{◌≡◌, true};
+ghost use Rattle.deno_semver.specs.Stored.{AreEqualReqs, IsSettledReq};
+ghost use Rattle.callers.specs.Allowance.{allowance_of};
+ghost use Rattle.callers.specs.Lockfile.{IsLocked, KeepsMeaning, Locks, OfLoose};
+
+use crate::requirements::{Allowance, allowance_by};
+use deno_semver::Version;
+use deno_semver::json::{JsonError, JsonForm};
+use deno_semver::laws::equal_package_requirements;
+use deno_semver::package::PackageReq;
+use std::alloc::Global;
+
+/// What is read of the entry that a lockfile keeps of the requirement? Of one that npm's reader read, a requirement with
+/// the same name, and the same tag or ranges that mean the same where each keeps its meaning, which is settled. Of one
+/// that is settled an equal one.
+pub fn locked(alloc: Global, req: &PackageReq) -> Result<PackageReq, JsonError>
+    ensures loose { OfLoose req.now (Locks (IsLocked req.now) result) }
+    ensures settled { IsSettledReq req.now → Locks (λ again. AreEqualReqs again req.now) result }
+{
+    let entry = req.to_json(alloc)?;
+    PackageReq::from_json(alloc, &entry)
+}
+
+/// Is a requirement that was kept in a lockfile once the same from then on? Yes, if npm's reader read it.
+pub fn is_settled_once_locked(alloc: Global, req: &PackageReq) -> Result<bool, JsonError>
+    ensures { OfLoose req.now (Locks (λ is_equal. is_equal ≡ true) result) }
+{
+    let once = locked(alloc, req)?;
+    let twice = locked(alloc, &once)?;
+    Ok(equal_package_requirements(&twice, &once))
+}
+
+/// Is the version allowed by the requirement once a lockfile has kept it? Exactly where the requirement allows it, if npm's
+/// reader read that and each of its ranges keeps its meaning; a tag is told as one.
+pub fn allows_when_locked(
+    alloc: Global,
+    req: &PackageReq,
+    version: &Version,
+) -> Result<Allowance, JsonError>
+    ensures { OfLoose req.now (KeepsMeaning req.now.version_req.inner
+        → Locks (λ allowance. allowance ≡ allowance_of req.now.version_req.inner version.now) result) }
+{
+    let again = locked(alloc, req)?;
+    Ok(allowance_by(&again.version_req, version))
+}
