@@ -1,7 +1,8 @@
 //! Does a requirement of a package survive a lockfile, which keeps it as JSON?
 
 ghost use Rattle.std.specs.Prelude.{◌≡◌, true};
-ghost use Rattle.deno_semver.specs.Stored.{AreEqualReqs, IsSettledReq};
+ghost use Rattle.deno_semver.specs.Equal.{AreEqualReqs};
+ghost use Rattle.deno_semver.specs.Stored.{IsSettledReq};
 ghost use Rattle.callers.specs.Allowance.{allowance_of};
 ghost use Rattle.callers.specs.Lockfile.{IsLocked, KeepsMeaning, Locks, OfLoose};
 

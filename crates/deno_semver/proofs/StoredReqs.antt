@@ -119,7 +119,7 @@ settled_req : (name : List ℕ) (answer : RangeSetOrTag) → IsReadName name →
 settled_req name answer n h = record {
   again = package_of name (again_of answer);
   stands_for = record { text = stored_text name (again_of answer); is_string = refl; reads = reads_again name (again_of answer) n (can_again answer h) };
-  equal = record { name = refl; inner = settled_again answer h };
+  equal = (refl, settled_again answer h);
 }
 
 stored : (req : PackageReq) → IsReadName req.name → CanBeStored req.version_req.inner → IsStoredReq req (string (normal_req_text req))

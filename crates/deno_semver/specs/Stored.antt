@@ -10,6 +10,7 @@ use Rattle.semver_req.specs.Rereading.{is_orderly, keeps_meaning}
 use Rattle.semver_req.specs.declared.range_set_or_tag.RangeSetOrTag.{RangeSetOrTag}
 use Rattle.semver_req.specs.declared.range_set_or_tag.RangeSetOrTag.TheVariants as inner
 use Rattle.deno_semver.specs.DependencyOrder.{normal_dependency_text}
+use Rattle.deno_semver.specs.Equal.{AreEqualReqs}
 use Rattle.deno_semver.specs.Json.{IsStringOf, IsTextOfDependency, IsTextOfReq}
 use Rattle.deno_semver.specs.RequirementText.{normal_req_text}
 use Rattle.deno_semver.specs.declared.jsr.dependency.JsrDepPackageReq.{JsrDepPackageReq}
@@ -28,11 +29,6 @@ IsReadFor (inner.RangeSet set) (inner.RangeSet again) = AreReadFor set.0 again.0
 IsReadFor (inner.RangeSet set) (inner.Tag again) = ⊥
 IsReadFor (inner.Tag tag) (inner.RangeSet again) = ⊥
 IsReadFor (inner.Tag tag) (inner.Tag again) = again ≡ tag
-
--- the names are the same, and both stand for the same, whatever their texts are
-pub record AreEqualReqs (one other : PackageReq) : Type 0 where
-  pub name : one.name ≡ other.name
-  pub inner : one.version_req.inner ≡ other.version_req.inner
 
 -- the JSON stands for a requirement that is equal to this one
 pub record StandsForEqual (json : Data) (req : PackageReq) : Type 0 where

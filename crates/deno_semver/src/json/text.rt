@@ -320,8 +320,8 @@ impl JsonForm for JsrDepPackageReq {
         ensures read_again { IfOk result (λ json. (text : List ℕ) → IsUtf8 text
             → IsDependencyOutcome Npm text (Ok self.now) → IsStoredDependency self.now (view json)) }
     {
-        let text = self.to_string_normalized(alloc)?;
-        displayed(alloc, &text)
+        let normal = self.to_string_normalized(alloc)?;
+        displayed(alloc, &normal)
     }
 
     fn from_json(alloc: Global, value: &Value) -> Result<Self, JsonError> {

@@ -1,7 +1,7 @@
 use Rattle.std.proofs.Common.{sym, subst}
 use Rattle.callers.specs.Lockfile.{IsLocked}
 use Rattle.deno_semver.specs.Json.{IsStringOf, IsTextOfReq}
-use Rattle.deno_semver.specs.Stored.{AreEqualReqs}
+use Rattle.deno_semver.specs.Equal.{AreEqualReqs}
 use Rattle.callers.proofs.Locking.{answered}
 use Rattle.callers.proofs.lockfile.locked.Goals as goal
 
