@@ -1,4 +1,5 @@
 pub mod Allowance
+pub mod ImportMap
 pub mod Lockfile
 pub mod Stored
 pub mod Versions

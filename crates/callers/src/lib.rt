@@ -4,6 +4,7 @@
 #![tactic(auto)]
 
 pub mod lockfile;
+pub mod import_map;
 pub mod overlap;
 pub mod requirements;
 pub mod stored;
