@@ -3,8 +3,8 @@
 //! What is proved here rests on the public contracts of the crates below alone, and on no lemma of theirs.
 #![tactic(auto)]
 
-pub mod lockfile;
 pub mod import_map;
+pub mod lockfile;
 pub mod overlap;
 pub mod requirements;
 pub mod stored;

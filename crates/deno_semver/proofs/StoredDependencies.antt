@@ -33,8 +33,7 @@ settled : (kind : PackageKind) (req : PackageReq) → IsSettledReq req → IsSet
 settled kind req h = record {
   again = of_kind kind h.again;
   stands_for = string_of kind (normal_req_text req) h.again h.stands_for;
-  kind = refl;
-  equal = h.equal;
+  equal = (refl, h.equal);
 }
 
 stored : (kind : PackageKind) (req : PackageReq) → IsStoredReq req (string (normal_req_text req)) → IsStoredDependency (of_kind kind req) (string (normal_dependency_text (of_kind kind req)))

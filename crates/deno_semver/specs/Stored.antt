@@ -10,7 +10,7 @@ use Rattle.semver_req.specs.Rereading.{is_orderly, keeps_meaning}
 use Rattle.semver_req.specs.declared.range_set_or_tag.RangeSetOrTag.{RangeSetOrTag}
 use Rattle.semver_req.specs.declared.range_set_or_tag.RangeSetOrTag.TheVariants as inner
 use Rattle.deno_semver.specs.DependencyOrder.{normal_dependency_text}
-use Rattle.deno_semver.specs.Equal.{AreEqualReqs}
+use Rattle.deno_semver.specs.Equal.{AreEqualDependencies, AreEqualReqs}
 use Rattle.deno_semver.specs.Json.{IsStringOf, IsTextOfDependency, IsTextOfReq}
 use Rattle.deno_semver.specs.RequirementText.{normal_req_text}
 use Rattle.deno_semver.specs.declared.jsr.dependency.JsrDepPackageReq.{JsrDepPackageReq}
@@ -50,12 +50,11 @@ pub record IsStoredReq (req : PackageReq) (json : Data) : Type 0 where
 
 -- ---- dependencies
 
--- the JSON stands for a dependency of the same registry that is equal to this one
+-- the JSON stands for a dependency that is equal to this one
 pub record StandsForEqualDependency (json : Data) (dependency : JsrDepPackageReq) : Type 0 where
   pub again : JsrDepPackageReq
   pub stands_for : IsStringOf IsTextOfDependency json again
-  pub kind : again.kind ≡ dependency.kind
-  pub equal : AreEqualReqs again.req dependency.req
+  pub equal : AreEqualDependencies again dependency
 
 abbrev pub IsSettledDependency : JsrDepPackageReq → Type 0
 IsSettledDependency dependency = StandsForEqualDependency (string (normal_dependency_text dependency)) dependency
