@@ -13,10 +13,3 @@ use Rattle.deno_semver.specs.declared.json.error.JsonError.{JsonError}
 pub answered : {T : Type 0} (Says : T → Type 0) (x : T) (r : Result T JsonError) → IsJsonAnswer x r → Says x → Locks Says r
 answered Says x (Ok y) is h = subst Says (sym is) h
 answered Says x (Err e) is h = is
-
--- a requirement that keeps its meaning allows what it allowed
-pub allows_again : (req again : RangeSetOrTag) (v : Version) → IsReadFor req again → KeepsMeaning req → allowance_of again v ≡ allowance_of req v
-allows_again (inner.RangeSet set) (inner.RangeSet again) v h k = ap yes_or_no (h.means k v)
-allows_again (inner.RangeSet set) (inner.Tag again) v h k = absurd h
-allows_again (inner.Tag tag) (inner.RangeSet again) v h k = absurd h
-allows_again (inner.Tag tag) (inner.Tag again) v h k = refl

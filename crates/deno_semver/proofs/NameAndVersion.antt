@@ -90,11 +90,6 @@ no_at {name = name} {rest} c none n w s k = go name n (c.name_is (some_text k)) 
 
 -- ---- the front
 
-pub told_fault : {text : List ℕ} {e : PackageNvParseError} (fault : Refusal) (message : List ℕ) → message ≡ refusal_message fault
-    → IsNvMemory e ⊎ ((e.message ≡ message) × (e.text ≡ text)) → IsNvMemory e ⊎ TellsNvFault fault text e
-told_fault fault message is (inl memory) = inl memory
-told_fault fault message is (inr told) = inr (record { message = told.0 ∙ is; text_is = told.1 })
-
 pub tells_uncut : {text whole : List ℕ} {e : PackageNvParseError} → IsNoNvText text → IsNvMemory e ⊎ TellsNvFault UnexpectedCharacter whole e → IsFrontRefusal text whole e
 tells_uncut none (inl memory) = inl memory
 tells_uncut none (inr told) = inr (UnexpectedCharacter, is_uncut none, told)

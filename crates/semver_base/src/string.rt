@@ -94,7 +94,8 @@ impl<const LIMIT: usize> Kept<LIMIT> {
         ensures ok { OnOk result (kept_bytes self.new ≡ kept_bytes self.old ++ text.now) }
         ensures err { OnErr result (kept_bytes self.new ≡ kept_bytes self.old) }
         ensures inline { IsInlineIfShort self.old → IsInlineIfShort self.new }
-        ensures succeeds { IsInlineIfShort self.old → length (kept_bytes self.old) + length text.now ≤ LIMIT → IsOk result }
+        ensures succeeds { IsInlineIfShort self.old → length (kept_bytes self.old) + length text.now ≤ LIMIT
+            → IsOk result }
     {
         match self {
             Kept::Inline(short) => {

@@ -157,7 +157,8 @@ impl JsrDepPackageReq {
     pub fn from_str(alloc: Global, text: &str) -> Result<Self, JsrDepPackageReqParseError>
         ensures read { IfOk result (λ d. IsDependencyOutcome Specifier text.now (Ok d)) }
         ensures refused { IfErr result (IsDependencyRefusal Specifier text.now) }
-        ensures answer { (outcome : Result JsrDepPackageReq DependencyFault) → IsDependencyOutcome Specifier text.now outcome
+        ensures answer { (outcome : Result JsrDepPackageReq DependencyFault)
+            → IsDependencyOutcome Specifier text.now outcome
             → IsDependencyAnswer Specifier text.now outcome result }
     {
         read(alloc, text, Flavour::Specifier)
@@ -180,7 +181,8 @@ impl JsrDepPackageReq {
     ) -> Result<Self, JsrDepPackageReqParseError>
         ensures read { IfOk result (λ d. IsDependencyOutcome Normal text.now (Ok d)) }
         ensures refused { IfErr result (IsDependencyRefusal Normal text.now) }
-        ensures answer { (outcome : Result JsrDepPackageReq DependencyFault) → IsDependencyOutcome Normal text.now outcome
+        ensures answer { (outcome : Result JsrDepPackageReq DependencyFault)
+            → IsDependencyOutcome Normal text.now outcome
             → IsDependencyAnswer Normal text.now outcome result }
     {
         read(alloc, text, Flavour::Normal)

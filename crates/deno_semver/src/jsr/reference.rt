@@ -67,7 +67,8 @@ impl JsrPackageReqReference {
         ensures read { IfOk result (λ r. IsReferenceOutcome Jsr specifier.now (Ok r)) }
         ensures reads_back { IfOk result (ReferenceReadsBack Jsr) }
         ensures refused { IfErr result (IsReferenceRefusal Jsr specifier.now) }
-        ensures answer { (outcome : Result PackageReqReference ReferenceFault) → IsReferenceOutcome Jsr specifier.now outcome
+        ensures answer { (outcome : Result PackageReqReference ReferenceFault)
+            → IsReferenceOutcome Jsr specifier.now outcome
             → IsReferenceAnswer Jsr specifier.now outcome result }
     {
         match PackageReqReference::from_str(alloc, specifier, PackageKind::Jsr) {
@@ -84,7 +85,8 @@ impl JsrPackageReqReference {
         ensures read { IfOk result (λ r. IsReferenceOutcome Jsr (serialize specifier.now) (Ok r)) }
         ensures reads_back { IfOk result (ReferenceReadsBack Jsr) }
         ensures refused { IfErr result (IsReferenceRefusal Jsr (serialize specifier.now)) }
-        ensures answer { (outcome : Result PackageReqReference ReferenceFault) → IsReferenceOutcome Jsr (serialize specifier.now) outcome
+        ensures answer { (outcome : Result PackageReqReference ReferenceFault)
+            → IsReferenceOutcome Jsr (serialize specifier.now) outcome
             → IsReferenceAnswer Jsr (serialize specifier.now) outcome result }
     {
         JsrPackageReqReference::from_str(alloc, specifier.as_str())
@@ -201,7 +203,8 @@ impl JsrPackageNvReference {
         ensures read { IfOk result (λ r. IsNvReferenceOutcome Jsr (serialize specifier.now) (Ok r)) }
         ensures reads_back { IfOk result (NvReferenceReadsBack Jsr) }
         ensures refused { IfErr result (IsNvReferenceRefusal Jsr (serialize specifier.now)) }
-        ensures answer { (outcome : Result PackageNvReference Refusal) → IsNvReferenceOutcome Jsr (serialize specifier.now) outcome
+        ensures answer { (outcome : Result PackageNvReference Refusal)
+            → IsNvReferenceOutcome Jsr (serialize specifier.now) outcome
             → IsNvReferenceAnswer (serialize specifier.now) outcome result }
     {
         JsrPackageNvReference::from_str(alloc, specifier.as_str())

@@ -63,7 +63,8 @@ impl NpmPackageReqReference {
         ensures read { IfOk result (λ r. IsReferenceOutcome Npm specifier.now (Ok r)) }
         ensures reads_back { IfOk result (ReferenceReadsBack Npm) }
         ensures refused { IfErr result (IsReferenceRefusal Npm specifier.now) }
-        ensures answer { (outcome : Result PackageReqReference ReferenceFault) → IsReferenceOutcome Npm specifier.now outcome
+        ensures answer { (outcome : Result PackageReqReference ReferenceFault)
+            → IsReferenceOutcome Npm specifier.now outcome
             → IsReferenceAnswer Npm specifier.now outcome result }
     {
         match PackageReqReference::from_str(alloc, specifier, PackageKind::Npm) {
@@ -80,7 +81,8 @@ impl NpmPackageReqReference {
         ensures read { IfOk result (λ r. IsReferenceOutcome Npm (serialize specifier.now) (Ok r)) }
         ensures reads_back { IfOk result (ReferenceReadsBack Npm) }
         ensures refused { IfErr result (IsReferenceRefusal Npm (serialize specifier.now)) }
-        ensures answer { (outcome : Result PackageReqReference ReferenceFault) → IsReferenceOutcome Npm (serialize specifier.now) outcome
+        ensures answer { (outcome : Result PackageReqReference ReferenceFault)
+            → IsReferenceOutcome Npm (serialize specifier.now) outcome
             → IsReferenceAnswer Npm (serialize specifier.now) outcome result }
     {
         NpmPackageReqReference::from_str(alloc, specifier.as_str())
@@ -190,7 +192,8 @@ impl NpmPackageNvReference {
         ensures read { IfOk result (λ r. IsNvReferenceOutcome Npm (serialize specifier.now) (Ok r)) }
         ensures reads_back { IfOk result (NvReferenceReadsBack Npm) }
         ensures refused { IfErr result (IsNvReferenceRefusal Npm (serialize specifier.now)) }
-        ensures answer { (outcome : Result PackageNvReference Refusal) → IsNvReferenceOutcome Npm (serialize specifier.now) outcome
+        ensures answer { (outcome : Result PackageNvReference Refusal)
+            → IsNvReferenceOutcome Npm (serialize specifier.now) outcome
             → IsNvReferenceAnswer (serialize specifier.now) outcome result }
     {
         NpmPackageNvReference::from_str(alloc, specifier.as_str())

@@ -119,7 +119,11 @@ fn texts(
     before: &str,
     version: &str,
 ) -> Result<PackageReqReferenceInvalidWithVersionParseError, AllocError>
-    ensures { IfOk result (λ error. error ≡ record { kind = kind; current = reference_text reference.now; suggested = text_with_version reference.now.req version.now before.now }) }
+    ensures { IfOk result (λ error. error ≡ record {
+      kind = kind;
+      current = reference_text reference.now;
+      suggested = text_with_version reference.now.req version.now before.now;
+    }) }
 {
     Ok(PackageReqReferenceInvalidWithVersionParseError {
         kind,
@@ -157,7 +161,8 @@ impl PackageReqReference {
         ensures read { IfOk result (λ r. IsReferenceOutcome kind text.now (Ok r)) }
         ensures reads_back { IfOk result (ReferenceReadsBack kind) }
         ensures refused { IfErr result (IsReferenceRefusal kind text.now) }
-        ensures answer { (outcome : Result PackageReqReference ReferenceFault) → IsReferenceOutcome kind text.now outcome
+        ensures answer { (outcome : Result PackageReqReference ReferenceFault)
+            → IsReferenceOutcome kind text.now outcome
             → IsReferenceAnswer kind text.now outcome result }
     {
         let Some(body) = kind.after_scheme(text) else {
