@@ -1,12 +1,7 @@
 -- What is read again of a requirement that a lockfile kept, from the contracts of its JSON.
-use Rattle.std.proofs.Common.{◌≡◌, Result, Ok, Err, refl, sym, ap, subst}
-use Rattle.callers.specs.Allowance.{allowance_of, yes_or_no}
-use Rattle.callers.specs.Lockfile.{KeepsMeaning, Locks}
-use Rattle.semver_base.specs.declared.version.Version.{Version}
-use Rattle.semver_req.specs.declared.range_set_or_tag.RangeSetOrTag.{RangeSetOrTag}
-use Rattle.semver_req.specs.declared.range_set_or_tag.RangeSetOrTag.TheVariants as inner
+use Rattle.std.proofs.Common.{Result, Ok, Err, sym, subst}
+use Rattle.callers.specs.Lockfile.{Locks}
 use Rattle.deno_semver.specs.JsonAnswers.{IsJsonAnswer}
-use Rattle.deno_semver.specs.Stored.{IsReadFor}
 use Rattle.deno_semver.specs.declared.json.error.JsonError.{JsonError}
 
 -- what is true of the value that is answered

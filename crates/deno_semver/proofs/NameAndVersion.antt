@@ -6,7 +6,7 @@ use Rattle.std.specs.List.{list_all, take_while}
 use Rattle.std.specs.Str.{IsCharBoundary, trim}
 use Rattle.std.proofs.lemmas.Bool.Decides.{nat_tests}
 use Rattle.std.proofs.lemmas.List.{nil_from_length}
-use Rattle.semver_base.specs.Failure.{message_of, refusal_message}
+use Rattle.semver_base.specs.Failure.{message_of}
 use Rattle.semver_base.specs.Grammar.{CutsRun, Stops}
 use Rattle.semver_base.specs.VersionGrammar.{IsVersionAnswer, IsVersionOutcome, IsVersionRefusal, version_failure}
 use Rattle.semver_base.specs.declared.failure.Refusal.{Refusal}
