@@ -106,12 +106,12 @@ fn npm_reference(alloc: Global, reference: &NpmPackageReqReference) -> Answer {
 }
 
 // What is told of a reference that was read.
-fn told(
+fn told<'a>(
     alloc: Global,
-    req: &PackageReq,
-    sub_path: Word<'_>,
-    displayed: &str,
-    export: Word<'_>,
+    req: &'a PackageReq,
+    sub_path: Word<'a>,
+    displayed: &'a str,
+    export: Word<'a>,
 ) -> Answer {
     answer(
         alloc,
@@ -211,12 +211,12 @@ fn npm_version_reference(alloc: Global, reference: &NpmPackageNvReference) -> An
 }
 
 // What is told of a version reference that was read.
-fn told_version(
+fn told_version<'a>(
     alloc: Global,
-    nv: &PackageNv,
-    sub_path: Word<'_>,
-    displayed: &str,
-    export: Word<'_>,
+    nv: &'a PackageNv,
+    sub_path: Word<'a>,
+    displayed: &'a str,
+    export: Word<'a>,
 ) -> Answer {
     let version = format!(in alloc; "{}", nv.version)?;
     answer(
@@ -320,11 +320,16 @@ fn of_specifier(alloc: Global, words: &[Word<'_>]) -> Answer {
     }
 }
 
+// The answer of one word.
+fn single(alloc: Global, word: &str) -> Answer {
+    answer(alloc, &[Some(word)])
+}
+
 // `export`, a path or null: the name of the export.
 fn export(alloc: Global, words: &[Word<'_>]) -> Answer {
     let [path] = words else {
         return Err(Fault::Unreadable);
     };
     let name = normalized_export_name(alloc, *path)?;
-    answer(alloc, &[Some(name.as_str())])
+    single(alloc, name.as_str())
 }
