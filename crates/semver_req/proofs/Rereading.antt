@@ -58,13 +58,16 @@ rereadings ranges r = record {
 }
 
 pub settled_by_text : SettledSetsAreTheirTexts
-settled_by_text some others r s settled_some settled_others same =
-    let read = text_read Normal normal some r in
-    sym (settled_some Normal normal (shortest_tree some) read)
-    ∙ settled_others Normal normal (shortest_tree some) (subst (λ text. IsRereadText text) same read)
+settled_by_text some others r s settled_some settled_others = (ap set_text, from_text)
   where
     IsRereadText : List ℕ → Type 0
     IsRereadText text = IsOutcome Normal text (Ranges (shortest_tree some))
+
+    from_text : set_text some ≡ set_text others → some ≡ others
+    from_text same =
+        let read = text_read Normal normal some r in
+        sym (settled_some Normal normal (shortest_tree some) read)
+        ∙ settled_others Normal normal (shortest_tree some) (subst (λ text. IsRereadText text) same read)
 
 -- what is true of the normal text of every read set is true of the text of a requirement
 pub of_text : (Says : List ℕ → List VersionRange → Type 0) → ((ranges : List VersionRange) → IsReadSet ranges → Says (set_text ranges) ranges)

@@ -1,6 +1,6 @@
 -- The normal text of a set that was read, read again. Source: `deno_semver`, whose text of a requirement is meant to be
 -- read back.
-use Rattle.std.specs.Prelude.{◌≡◌, ℕ, List, length, Bool, true, false, not, ◌==◌, ◌&&◌, ◌||◌, IsUtf8}
+use Rattle.std.specs.Prelude.{◌≡◌, ◌↔◌, ℕ, List, length, Bool, true, false, not, ◌==◌, ◌&&◌, ◌||◌, IsUtf8}
 use Rattle.std.specs.List.{list_all}
 use Rattle.std.specs.Str.{trim}
 use Rattle.semver_base.specs.Comparators.{Comparator}
@@ -107,10 +107,10 @@ NormalTextsKeepTheirMeaning = (ranges : List VersionRange) → IsReadSet ranges 
 abbrev pub OneRereadingSettles : Type 0
 OneRereadingSettles = (ranges : List VersionRange) → IsReadSet ranges → KeepsSettled (set_text ranges) ranges
 
--- settled sets with the same normal text are the same
+-- settled sets are the same exactly where their normal texts are
 abbrev pub SettledSetsAreTheirTexts : Type 0
 SettledSetsAreTheirTexts = (some others : List VersionRange) → IsReadSet some → IsReadSet others
-    → IsSettledSet some → IsSettledSet others → set_text some ≡ set_text others → some ≡ others
+    → IsSettledSet some → IsSettledSet others → (some ≡ others) ↔ (set_text some ≡ set_text others)
 
 -- ---- tags
 

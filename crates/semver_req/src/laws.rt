@@ -92,7 +92,7 @@ pub fn normal_texts_keep_their_meaning()
 {}
 
 /// What either reader keeps of the normal text of ranges that some reader answered is settled: either reader keeps the
-/// same ranges of its own normal text. Two settled sets are the same where their normal texts are.
+/// same ranges of its own normal text. Two settled sets are the same exactly where their normal texts are.
 pub fn one_rereading_settles()
     ensures settles { OneRereadingSettles }
     ensures by_text { SettledSetsAreTheirTexts }
