@@ -14,7 +14,7 @@ pub use error::JsonError;
 use serde_json::Value;
 use std::alloc::{AllocError, Global};
 
-/// A value that is stored as JSON, and read again.
+/// A value that is stored as JSON, and read again, in the form that the crate `deno_semver` gives it.
 pub trait JsonForm: Drop {
     /// The JSON of a value.
     ghost json: { Self → Data };

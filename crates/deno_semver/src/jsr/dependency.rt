@@ -149,7 +149,7 @@ impl JsrDepPackageReq {
     }
 
     /// The dependency that a text such as `jsr:@scope/name@^1.2` or `npm:name@1` is: the scheme of a registry, and a
-    /// requirement as [`PackageReq::from_str`] reads it.
+    /// requirement as [`PackageReq::from_str`] reads it (the dependencies of JSR's packages; the crate `deno_semver`).
     ///
     /// `NotExpectedScheme`: the text begins with neither `jsr:` nor `npm:`; what stands before its first `:` is shown, or
     /// the whole text. `PackageReqParse`: what follows the scheme is refused, with that text. Any other error is want of
