@@ -11,6 +11,7 @@ mod reference;
 mod reference_errors;
 mod requirement;
 mod specifier;
+mod sub_path;
 
 pub(crate) use cut::without_slash;
 pub use errors::{PackageReqParseError, PackageReqPartsParseError};
@@ -27,6 +28,7 @@ pub use requirement::PackageReq;
 use semver_base::string::{SmallStackString, StackString};
 pub use specifier::SpecifierError;
 pub(crate) use specifier::specifier_of;
+pub(crate) use sub_path::sub_path_text;
 
 /// The name of a package, with its scope where it has one.
 pub type PackageName = StackString;

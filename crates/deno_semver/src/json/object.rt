@@ -85,6 +85,12 @@ fn only_member<'v>(value: &'v Value, key: &str) -> Option<&'v Value>
     value.get(key)
 }
 
+fn unbounded(alloc: Global) -> Result<Value, AllocError>
+    ensures { IfOk result (λ json. view json ≡ string (codes "Unbounded")) }
+{
+    Value::try_from_str(alloc, "Unbounded")
+}
+
 fn is_unbounded(value: &Value) -> bool
     ensures { IsTrue result ↔ (view value.now ≡ string (codes "Unbounded")) }
 {
@@ -102,7 +108,7 @@ impl JsonForm for RangeBound {
 
     fn to_json(&self, alloc: Global) -> Result<Value, AllocError> {
         match self {
-            RangeBound::Unbounded => Value::try_from_str(alloc, "Unbounded"),
+            RangeBound::Unbounded => unbounded(alloc),
             RangeBound::Version(bound) => {
                 let bound = bound.to_json(alloc)?;
                 json!(in alloc; {"Version": bound})

@@ -9,7 +9,7 @@ ghost use Rattle.deno_semver.specs.declared.jsr.dependency.JsrDepPackageReq.{Jsr
 ghost use Rattle.deno_semver.specs.declared.package.kind.PackageKind.TheVariants as kind;
 
 use crate::package::{PackageKind, PackageReq, PackageReqParseError, package_req};
-use semver_base::string::{StackString, StringAppendable, StringType};
+use semver_base::string::{StackString, StringAppendable, StringType, append_displayed};
 use semver_req::common::values::Flavour;
 use std::alloc::{AllocError, Global};
 use std::cmp::Ordering;
@@ -224,8 +224,7 @@ impl StringAppendable for JsrDepPackageReq {
     ghost text = { dependency_text };
 
     fn append_to<T: StringType>(&self, alloc: Global, target: &mut T) -> Result<(), AllocError> {
-        let text = format!(in alloc; "{self}")?;
-        target.push_str(text.as_str())
+        append_displayed(self, alloc, target)
     }
 }
 

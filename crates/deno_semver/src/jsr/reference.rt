@@ -20,8 +20,9 @@ use super::normalized_export_name;
 use crate::package::{
     PackageKind, PackageNv, PackageNvReference, PackageNvReferenceParseError, PackageReq,
     PackageReqReference, PackageReqReferenceParseError, SpecifierError, specifier_of,
+    sub_path_text,
 };
-use semver_base::string::{StringAppendable, StringType};
+use semver_base::string::{StringAppendable, StringType, append_displayed};
 use std::alloc::{AllocError, Global};
 use std::borrow::CowStr;
 use std::cmp::Ordering;
@@ -72,7 +73,7 @@ impl JsrPackageReqReference {
             → IsReferenceAnswer Jsr specifier.now outcome result }
     {
         match PackageReqReference::from_str(alloc, specifier, PackageKind::Jsr) {
-            Ok(inner) => Ok(JsrPackageReqReference(inner)),
+            Ok(reference) => Ok(JsrPackageReqReference(reference)),
             Err(error) => Err(error),
         }
     }
@@ -103,10 +104,7 @@ impl JsrPackageReqReference {
     pub fn sub_path(&self) -> Option<&str>
         ensures { option_copied result ≡ self.now.sub_path }
     {
-        match &self.0.sub_path {
-            Some(path) => Some(path.as_str()),
-            None => None,
-        }
+        sub_path_text(&self.0.sub_path)
     }
 
     /// The name of the export that the path is ([`normalized_export_name`]). It is an error only where no memory is left.
@@ -120,8 +118,8 @@ impl JsrPackageReqReference {
     pub fn into_inner(self) -> PackageReqReference
         ensures { result ≡ self }
     {
-        let JsrPackageReqReference(inner) = self;
-        inner
+        let JsrPackageReqReference(reference) = self;
+        reference
     }
 
     /// The same reference again. It is an error only where no memory is left.
@@ -137,8 +135,8 @@ impl fmt::Display for JsrPackageReqReference {
     ghost output = { λ reference. Some (with_scheme Jsr (reference_text reference)) };
 
     fn fmt<W: fmt::Write>(&self, f: &mut fmt::Formatter<W>) -> fmt::Result {
-        let reference = &self.0;
-        write!(f, "jsr:{reference}")
+        let (scheme, reference) = (PackageKind::Jsr.scheme_with_colon(), &self.0);
+        write!(f, "{scheme}{reference}")
     }
 }
 
@@ -146,8 +144,7 @@ impl StringAppendable for JsrPackageReqReference {
     ghost text = { λ reference. with_scheme Jsr (reference_text reference) };
 
     fn append_to<T: StringType>(&self, alloc: Global, target: &mut T) -> Result<(), AllocError> {
-        let text = format!(in alloc; "{self}")?;
-        target.push_str(text.as_str())
+        append_displayed(self, alloc, target)
     }
 }
 
@@ -190,7 +187,7 @@ impl JsrPackageNvReference {
             → IsNvReferenceAnswer nv.now outcome result }
     {
         match PackageNvReference::from_str(alloc, nv, PackageKind::Jsr) {
-            Ok(inner) => Ok(JsrPackageNvReference(inner)),
+            Ok(reference) => Ok(JsrPackageNvReference(reference)),
             Err(error) => Err(error),
         }
     }
@@ -229,10 +226,7 @@ impl JsrPackageNvReference {
     pub fn sub_path(&self) -> Option<&str>
         ensures { option_copied result ≡ self.now.sub_path }
     {
-        match &self.0.sub_path {
-            Some(path) => Some(path.as_str()),
-            None => None,
-        }
+        sub_path_text(&self.0.sub_path)
     }
 
     /// The name of the export that the path is ([`normalized_export_name`]). It is an error only where no memory is left.
@@ -246,8 +240,8 @@ impl JsrPackageNvReference {
     pub fn into_inner(self) -> PackageNvReference
         ensures { result ≡ self }
     {
-        let JsrPackageNvReference(inner) = self;
-        inner
+        let JsrPackageNvReference(reference) = self;
+        reference
     }
 
     /// The same reference again. It is an error only where no memory is left.
@@ -263,8 +257,8 @@ impl fmt::Display for JsrPackageNvReference {
     ghost output = { λ reference. Some (with_scheme Jsr (nv_reference_text reference)) };
 
     fn fmt<W: fmt::Write>(&self, f: &mut fmt::Formatter<W>) -> fmt::Result {
-        let reference = &self.0;
-        write!(f, "jsr:{reference}")
+        let (scheme, reference) = (PackageKind::Jsr.scheme_with_colon(), &self.0);
+        write!(f, "{scheme}{reference}")
     }
 }
 
@@ -272,8 +266,7 @@ impl StringAppendable for JsrPackageNvReference {
     ghost text = { λ reference. with_scheme Jsr (nv_reference_text reference) };
 
     fn append_to<T: StringType>(&self, alloc: Global, target: &mut T) -> Result<(), AllocError> {
-        let text = format!(in alloc; "{self}")?;
-        target.push_str(text.as_str())
+        append_displayed(self, alloc, target)
     }
 }
 

@@ -17,8 +17,9 @@ ghost use Rattle.deno_semver.specs.declared.package.reference.PackageReqReferenc
 use crate::package::{
     PackageKind, PackageNv, PackageNvReference, PackageNvReferenceParseError, PackageReq,
     PackageReqReference, PackageReqReferenceParseError, SpecifierError, specifier_of,
+    sub_path_text,
 };
-use semver_base::string::{StringAppendable, StringType};
+use semver_base::string::{StringAppendable, StringType, append_displayed};
 use std::alloc::{AllocError, Global};
 use std::cmp::Ordering;
 use std::fmt;
@@ -68,7 +69,7 @@ impl NpmPackageReqReference {
             → IsReferenceAnswer Npm specifier.now outcome result }
     {
         match PackageReqReference::from_str(alloc, specifier, PackageKind::Npm) {
-            Ok(inner) => Ok(NpmPackageReqReference(inner)),
+            Ok(reference) => Ok(NpmPackageReqReference(reference)),
             Err(error) => Err(error),
         }
     }
@@ -99,18 +100,15 @@ impl NpmPackageReqReference {
     pub fn sub_path(&self) -> Option<&str>
         ensures { option_copied result ≡ self.now.sub_path }
     {
-        match &self.0.sub_path {
-            Some(path) => Some(path.as_str()),
-            None => None,
-        }
+        sub_path_text(&self.0.sub_path)
     }
 
     /// The reference without its registry.
     pub fn into_inner(self) -> PackageReqReference
         ensures { result ≡ self }
     {
-        let NpmPackageReqReference(inner) = self;
-        inner
+        let NpmPackageReqReference(reference) = self;
+        reference
     }
 
     /// The same reference again. It is an error only where no memory is left.
@@ -126,8 +124,8 @@ impl fmt::Display for NpmPackageReqReference {
     ghost output = { λ reference. Some (with_scheme Npm (reference_text reference)) };
 
     fn fmt<W: fmt::Write>(&self, f: &mut fmt::Formatter<W>) -> fmt::Result {
-        let reference = &self.0;
-        write!(f, "npm:{reference}")
+        let (scheme, reference) = (PackageKind::Npm.scheme_with_colon(), &self.0);
+        write!(f, "{scheme}{reference}")
     }
 }
 
@@ -135,8 +133,7 @@ impl StringAppendable for NpmPackageReqReference {
     ghost text = { λ reference. with_scheme Npm (reference_text reference) };
 
     fn append_to<T: StringType>(&self, alloc: Global, target: &mut T) -> Result<(), AllocError> {
-        let text = format!(in alloc; "{self}")?;
-        target.push_str(text.as_str())
+        append_displayed(self, alloc, target)
     }
 }
 
@@ -179,7 +176,7 @@ impl NpmPackageNvReference {
             → IsNvReferenceAnswer nv.now outcome result }
     {
         match PackageNvReference::from_str(alloc, nv, PackageKind::Npm) {
-            Ok(inner) => Ok(NpmPackageNvReference(inner)),
+            Ok(reference) => Ok(NpmPackageNvReference(reference)),
             Err(error) => Err(error),
         }
     }
@@ -218,18 +215,15 @@ impl NpmPackageNvReference {
     pub fn sub_path(&self) -> Option<&str>
         ensures { option_copied result ≡ self.now.sub_path }
     {
-        match &self.0.sub_path {
-            Some(path) => Some(path.as_str()),
-            None => None,
-        }
+        sub_path_text(&self.0.sub_path)
     }
 
     /// The reference without its registry.
     pub fn into_inner(self) -> PackageNvReference
         ensures { result ≡ self }
     {
-        let NpmPackageNvReference(inner) = self;
-        inner
+        let NpmPackageNvReference(reference) = self;
+        reference
     }
 
     /// The same reference again. It is an error only where no memory is left.
@@ -245,8 +239,8 @@ impl fmt::Display for NpmPackageNvReference {
     ghost output = { λ reference. Some (with_scheme Npm (nv_reference_text reference)) };
 
     fn fmt<W: fmt::Write>(&self, f: &mut fmt::Formatter<W>) -> fmt::Result {
-        let reference = &self.0;
-        write!(f, "npm:{reference}")
+        let (scheme, reference) = (PackageKind::Npm.scheme_with_colon(), &self.0);
+        write!(f, "{scheme}{reference}")
     }
 }
 
@@ -254,8 +248,7 @@ impl StringAppendable for NpmPackageNvReference {
     ghost text = { λ reference. with_scheme Npm (nv_reference_text reference) };
 
     fn append_to<T: StringType>(&self, alloc: Global, target: &mut T) -> Result<(), AllocError> {
-        let text = format!(in alloc; "{self}")?;
-        target.push_str(text.as_str())
+        append_displayed(self, alloc, target)
     }
 }
 

@@ -19,7 +19,9 @@ use super::{PackageName, PackageReq};
 use semver_base::failure::Refusal;
 use semver_base::lexical::after;
 use semver_base::npm::NpmVersionParseError;
-use semver_base::string::{SmallStackString, StackString, StringAppendable, StringType};
+use semver_base::string::{
+    SmallStackString, StackString, StringAppendable, StringType, append_displayed,
+};
 use semver_base::version::Version;
 use semver_req::req::IntoVersionReq;
 use std::alloc::{AllocError, Global};
@@ -286,8 +288,7 @@ impl StringAppendable for PackageNv {
     ghost text = { nv_text };
 
     fn append_to<T: StringType>(&self, alloc: Global, target: &mut T) -> Result<(), AllocError> {
-        let text = format!(in alloc; "{self}")?;
-        target.push_str(text.as_str())
+        append_displayed(self, alloc, target)
     }
 }
 

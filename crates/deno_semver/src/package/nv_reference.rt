@@ -10,9 +10,12 @@ ghost use Rattle.deno_semver.specs.declared.package.nv_reference.PackageNvRefere
 
 use super::cut::without_slash;
 use super::name_version::{memory, nv_at_front, unexpected};
+use super::sub_path::copied_sub_path;
 use super::{PackageKind, PackageNv, PackageNvParseError, PackageSubPath};
 use semver_base::lexical::after;
-use semver_base::string::{SmallStackString, StackString, StringAppendable, StringType};
+use semver_base::string::{
+    SmallStackString, StackString, StringAppendable, StringType, append_displayed,
+};
 use std::alloc::{AllocError, Global};
 use std::cmp::Ordering;
 use std::fmt;
@@ -119,13 +122,9 @@ impl PackageNvReference {
     pub fn copy(&self) -> Result<Self, AllocError>
         ensures { IfOk result (λ reference. reference ≡ self.now) }
     {
-        let sub_path = match &self.sub_path {
-            Some(path) => Some(path.copy()?),
-            None => None,
-        };
         Ok(PackageNvReference {
             nv: self.nv.copy()?,
-            sub_path,
+            sub_path: copied_sub_path(&self.sub_path)?,
         })
     }
 }
@@ -147,8 +146,7 @@ impl StringAppendable for PackageNvReference {
     ghost text = { nv_reference_text };
 
     fn append_to<T: StringType>(&self, alloc: Global, target: &mut T) -> Result<(), AllocError> {
-        let text = format!(in alloc; "{self}")?;
-        target.push_str(text.as_str())
+        append_displayed(self, alloc, target)
     }
 }
 

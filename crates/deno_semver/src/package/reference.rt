@@ -8,11 +8,12 @@ ghost use Rattle.deno_semver.specs.declared.package.reference.PackageReqReferenc
 
 use super::cut::split_name;
 use super::read::read_with_path;
+use super::sub_path::copied_sub_path;
 use super::{
     PackageKind, PackageReq, PackageReqPartsParseError, PackageReqReferenceInvalidParseError,
     PackageReqReferenceInvalidWithVersionParseError, PackageReqReferenceParseError, PackageSubPath,
 };
-use semver_base::string::{StackString, StringAppendable, StringType};
+use semver_base::string::{StackString, StringAppendable, StringType, append_displayed};
 use semver_req::common::values::Flavour;
 use std::alloc::{AllocError, Global};
 use std::fmt;
@@ -182,13 +183,9 @@ impl PackageReqReference {
     pub fn copy(&self) -> Result<Self, AllocError>
         ensures { IfOk result (λ reference. reference ≡ self.now) }
     {
-        let sub_path = match &self.sub_path {
-            Some(path) => Some(path.copy()?),
-            None => None,
-        };
         Ok(PackageReqReference {
             req: self.req.copy()?,
-            sub_path,
+            sub_path: copied_sub_path(&self.sub_path)?,
         })
     }
 }
@@ -210,7 +207,6 @@ impl StringAppendable for PackageReqReference {
     ghost text = { reference_text };
 
     fn append_to<T: StringType>(&self, alloc: Global, target: &mut T) -> Result<(), AllocError> {
-        let text = format!(in alloc; "{self}")?;
-        target.push_str(text.as_str())
+        append_displayed(self, alloc, target)
     }
 }

@@ -8,7 +8,7 @@ ghost use Rattle.deno_semver.specs.declared.package.requirement.PackageReq.{Pack
 
 use super::read::package_req;
 use super::{PackageName, PackageReqParseError};
-use semver_base::string::{StringAppendable, StringType};
+use semver_base::string::{StringAppendable, StringType, append_displayed};
 use semver_req::common::values::Flavour;
 use semver_req::req::VersionReq;
 use std::alloc::{AllocError, Global};
@@ -112,7 +112,6 @@ impl StringAppendable for PackageReq {
     ghost text = { req_text };
 
     fn append_to<T: StringType>(&self, alloc: Global, target: &mut T) -> Result<(), AllocError> {
-        let text = format!(in alloc; "{self}")?;
-        target.push_str(text.as_str())
+        append_displayed(self, alloc, target)
     }
 }
