@@ -4,6 +4,7 @@ use Rattle.std.specs.Prelude.{◌↔◌, IsTrue}
 use Rattle.callers.specs.Stored.{IsReadAgain, IsReread, OfRanges}
 use Rattle.semver_base.specs.NormalText.{set_text}
 use Rattle.semver_base.specs.Shortest.{shortest_tree}
+use Rattle.semver_base.specs.declared.range.PreRelease.TheVariants.{Restricted}
 use Rattle.semver_base.specs.declared.range.VersionRange.{VersionRange}
 use Rattle.semver_req.specs.KeptSet.{kept}
 use Rattle.semver_req.specs.Outcome.{Ranges}
@@ -29,7 +30,7 @@ module _ {E : Type 0} (source : E → Failure) (f : Flavour) (cut : IsCutting f)
         again = kept f (shortest_tree ranges);
         is_ranges = read;
         read_set = subst IsReadOrTag read h.read_set;
-        means = λ k v. same k f cut (shortest_tree ranges) p v;
+        means = λ k v. same k f cut (shortest_tree ranges) p Restricted v;
         equal = λ o k. equal o k f cut (shortest_tree ranges) p;
         settled = settled f cut (shortest_tree ranges) p;
         stays = λ s. s f cut (shortest_tree ranges) (subst (λ t. IsTree f t (shortest_tree ranges)) is p);

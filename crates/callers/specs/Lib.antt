@@ -1,4 +1,5 @@
 pub mod Allowance
+pub mod CommonVersion
 pub mod ImportMap
 pub mod Lockfile
 pub mod Stored

@@ -1,6 +1,7 @@
 pub mod Dependencies
 pub mod Equality
 pub mod ExportNames
+pub mod Greatest
 pub mod JsonReading
 pub mod NameAndVersion
 pub mod NvReferences

@@ -12,6 +12,7 @@ use Rattle.serde_json.specs.Data.{string}
 use Rattle.semver_base.specs.Meaning.{everything}
 use Rattle.semver_base.specs.NormalText.{set_text}
 use Rattle.semver_base.specs.Shortest.{shortest_tree}
+use Rattle.semver_base.specs.declared.range.PreRelease.TheVariants.{Restricted}
 use Rattle.semver_base.specs.declared.range.VersionRange.{VersionRange}
 use Rattle.semver_base.proofs.Solid.{all_ascii, is_solid_byte, solid_ascii}
 use Rattle.semver_req.specs.KeptSet.{IsReadSet, kept}
@@ -84,7 +85,7 @@ kept_again : (answer : RangeSetOrTag) → CanBeStored answer → IsReadFor answe
 kept_again (inner.RangeSet set) h =
     let r = rereadings set.0 h in
     let tree = (r.forms Normal normal).0 in
-    record { means = λ k v. r.kept_means k Normal normal (shortest_tree set.0) tree v; equal = λ o k. r.equal o k Normal normal (shortest_tree set.0) tree }
+    record { means = λ k v. r.kept_means k Normal normal (shortest_tree set.0) tree Restricted v; equal = λ o k. r.equal o k Normal normal (shortest_tree set.0) tree }
 kept_again (inner.Tag t) h = refl
 
 -- what is read again is read again as it is

@@ -3,6 +3,8 @@ pub mod DependencyOrder
 pub mod DependencyOutcome
 pub mod Equal
 pub mod ExportName
+pub mod Greatest
+pub mod GreatestSteps
 pub mod Json
 pub mod JsonAnswers
 pub mod Kind

@@ -9,11 +9,12 @@ pub mod jsr;
 pub mod laws;
 pub mod npm;
 pub mod package;
+pub mod resolve;
 
 pub use semver_base::failure::ParseFailure;
 pub use semver_base::partial::{Partial, XRange};
 pub use semver_base::range::{
-    RangeBound, VersionBound, VersionBoundKind, VersionRange, VersionRangeSet,
+    PreRelease, RangeBound, VersionBound, VersionBoundKind, VersionRange, VersionRangeSet,
 };
 pub use semver_base::string::{
     CowItem, CowVec, SmallStackString, StackString, StringAppendable, StringType,

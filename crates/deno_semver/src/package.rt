@@ -25,6 +25,7 @@ pub use reference_errors::{
     PackageReqReferenceParseError,
 };
 pub use requirement::PackageReq;
+pub(crate) use requirement::normal_req_text;
 use semver_base::string::{SmallStackString, StackString};
 pub use specifier::SpecifierError;
 pub(crate) use specifier::specifier_of;

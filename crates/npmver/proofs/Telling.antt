@@ -3,22 +3,24 @@ use Rattle.std.proofs.Common.{◌≡◌, ◌==◌, ℕ, false, length, get_or, L
 use Rattle.std.specs.Prelude.{◌⊎◌, codes, slice_index}
 use Rattle.std.proofs.lemmas.Bool.{eq-eqb}
 use Rattle.std.specs.Str.{trim}
-use Rattle.npmver.specs.Question.{ByReader, IsAnswer, IsAsked, IsFit, IsForm, IsMeeting, IsNormal, IsReader, IsStatus, NoReader, a_tag, allowance_of, asks_fits, asks_meet, asks_normal, asks_nothing, by, by_none, form_fits, form_meet, form_normal, no_normal_text, no_one, no_other, no_requirement, no_version, normal_text, npm, normal, of_told, of_unwritten, of_wanting, overlap, ranges, strict, yes_or_no}
+use Rattle.npmver.specs.Question.{ByReader, IsAnswer, IsAsked, IsFit, IsForm, IsMeeting, IsNormal, IsReader, IsStatus, NoReader, a_tag, allowance_of, asks_fits, asks_fits_pre, asks_meet, asks_normal, asks_nothing, by, by_none, form_fits, form_fits_pre, form_meet, form_normal, no_normal_text, no_one, no_other, no_requirement, no_version, normal_text, npm, normal, of_told, of_unwritten, of_wanting, overlap, ranges, strict, yes_or_no}
 use Rattle.npmver.specs.Told.{ATag, IsProper, OutOfMemory, Refused, Text, Told, Usage, failure_of, problem_of, status_of, told_answer, told_by, told_problem}
 use Rattle.npmver.specs.declared.Answer.{Answer}
 use Rattle.npmver.specs.declared.Answer.TheVariants as answer
 use Rattle.npmver.specs.declared.Problem.{Problem}
 use Rattle.npmver.specs.declared.Problem.TheVariants as problem
 use Rattle.semver_base.specs.Comparators.{Comparator}
-use Rattle.semver_base.specs.Meaning.{tree_means}
+use Rattle.semver_base.specs.Meaning.{tree_means_with}
 use Rattle.semver_base.specs.VersionGrammar.{IsVersionOutcome, IsVersionRefusal}
 use Rattle.semver_base.specs.declared.failure.Refusal.{Refusal}
+use Rattle.semver_base.specs.declared.range.PreRelease.{PreRelease}
+use Rattle.semver_base.specs.declared.range.PreRelease.TheVariants.{Restricted, Admitted}
 use Rattle.semver_base.specs.declared.version.Version.{Version}
 use Rattle.semver_req.specs.KeptSet.{kept}
 use Rattle.semver_req.specs.Outcome as outcome
 use Rattle.semver_req.specs.Outcome.{IsOutcome, Outcome, Ranges, Tag, tree_ranges}
 use Rattle.semver_req.specs.Readers.{Failure, IsAnswer as IsAnswerTo, IsRead, IsReaderAnswer, IsReading}
-use Rattle.semver_req.specs.Requirement.{Requirement, inner_means, inner_overlap, inner_text}
+use Rattle.semver_req.specs.Requirement.{Requirement, inner_means_with, inner_overlap, inner_text}
 use Rattle.semver_req.specs.declared.common.values.Flavour.{Flavour}
 use Rattle.semver_req.specs.declared.common.values.Flavour.TheVariants.{Npm}
 use Rattle.semver_req.specs.declared.range_set_or_tag.RangeSetOrTag.{RangeSetOrTag}
@@ -97,8 +99,8 @@ answer_usage answer.No e = cc e
 answer_usage (answer.Tag tag) e = cc e
 answer_usage (answer.Text text) e = cc e
 
-fit_usage : {f : Flavour} {requirement version : List ℕ} (told : Told) → told ≡ Usage → IsFit f requirement version told → ⊥
-fit_usage told e (ranges tree v o q) = answer_usage (yes_or_no (tree_means (tree_ranges tree) v)) e
+fit_usage : {flag : PreRelease} {f : Flavour} {requirement version : List ℕ} (told : Told) → told ≡ Usage → IsFit flag f requirement version told → ⊥
+fit_usage {flag} told e (ranges tree v o q) = answer_usage (yes_or_no (tree_means_with flag (tree_ranges tree) v)) e
 fit_usage told e (a_tag o q) = cc e
 fit_usage told e (no_requirement o) = cc e
 fit_usage told e (no_version q) = cc e
@@ -118,14 +120,14 @@ wanting Asked never = record { tells = inl refl; every = λ told a. inl refl; us
 
 -- ---- fits
 
-module _ (f : Flavour) (requirement version : List ℕ) where
-  pub fits_wanting : IsAnswer (IsFit f requirement version) (Err problem.OutOfMemory)
-  fits_wanting = wanting (IsFit f requirement version) (fit_usage Usage refl)
+module _ (flag : PreRelease) (f : Flavour) (requirement version : List ℕ) where
+  pub fits_wanting : IsAnswer (IsFit flag f requirement version) (Err problem.OutOfMemory)
+  fits_wanting = wanting (IsFit flag f requirement version) (fit_usage Usage refl)
 
-  pub fits_unread : (p : Problem) → IsReaderAnswer failure_of f requirement (Err p) → IsProper p → IsAnswer (IsFit f requirement version) (Err p)
-  fits_unread p h proper = unread (IsFit f requirement version) f requirement p h proper no_requirement others (fit_usage Usage refl)
+  pub fits_unread : (p : Problem) → IsReaderAnswer failure_of f requirement (Err p) → IsProper p → IsAnswer (IsFit flag f requirement version) (Err p)
+  fits_unread p h proper = unread (IsFit flag f requirement version) f requirement p h proper no_requirement others (fit_usage Usage refl)
     where
-      others : (told : Told) → IsFit f requirement version told → (failure_of p ≡ None) ⊎ (told ≡ Refused)
+      others : (told : Told) → IsFit flag f requirement version told → (failure_of p ≡ None) ⊎ (told ≡ Refused)
       others told (ranges tree v o q) = inl (h.answer (Ranges tree) o)
       others told (a_tag {name = name} o q) = inl (h.answer (Tag name) o)
       others told (no_requirement o) = inr refl
@@ -133,7 +135,7 @@ module _ (f : Flavour) (requirement version : List ℕ) where
 
   -- the version was refused
   pub fits_no_version : (failure : Failure) → IsVersionRefusal (trim version) failure → ((v : Version) → IsVersionOutcome (trim version) (Ok v) → failure ≡ None)
-      → IsAnswer (IsFit f requirement version) (Err (problem_of failure))
+      → IsAnswer (IsFit flag f requirement version) (Err (problem_of failure))
   fits_no_version failure refused none_of = record {
     tells = go (told_proper (problem_of failure) (of_failure failure)) refused;
     every = λ told a. every told (told_proper (problem_of failure) (of_failure failure)) a;
@@ -144,12 +146,12 @@ module _ (f : Flavour) (requirement version : List ℕ) where
       wanting e = rw e refl
 
       go : (told_problem (problem_of failure) ≡ OutOfMemory) ⊎ (told_problem (problem_of failure) ≡ Refused) → IsVersionRefusal (trim version) failure
-          → (told_problem (problem_of failure) ≡ OutOfMemory) ⊎ IsFit f requirement version (told_problem (problem_of failure))
+          → (told_problem (problem_of failure) ≡ OutOfMemory) ⊎ IsFit flag f requirement version (told_problem (problem_of failure))
       go (inl e) r = inl e
       go (inr e) (inl none) = inl (wanting none)
-      go (inr e) (inr r) = inr (subst (IsFit f requirement version) (sym e) (no_version r.1))
+      go (inr e) (inr r) = inr (subst (IsFit flag f requirement version) (sym e) (no_version r.1))
 
-      every : (told : Told) → (told_problem (problem_of failure) ≡ OutOfMemory) ⊎ (told_problem (problem_of failure) ≡ Refused) → IsFit f requirement version told
+      every : (told : Told) → (told_problem (problem_of failure) ≡ OutOfMemory) ⊎ (told_problem (problem_of failure) ≡ Refused) → IsFit flag f requirement version told
           → (told_problem (problem_of failure) ≡ OutOfMemory) ⊎ (told_problem (problem_of failure) ≡ told)
       every told (inl e) a = inl e
       every told (inr e) (ranges tree v o q) = inl (wanting (none_of v q))
@@ -159,34 +161,34 @@ module _ (f : Flavour) (requirement version : List ℕ) where
 
   -- what a requirement that was read answers
   allowance_is : (req : Requirement) → IsReaderAnswer failure_of f requirement (Ok req) → (tree : List (List Comparator)) → IsOutcome f requirement (Ranges tree)
-      → (v : Version) → allowance_of req.inner v ≡ yes_or_no (tree_means (tree_ranges tree) v)
-  allowance_is req h tree p v = go req.inner (h.answer (Ranges tree) p) (h.means tree p v)
+      → (v : Version) → allowance_of flag req.inner v ≡ yes_or_no (tree_means_with flag (tree_ranges tree) v)
+  allowance_is req h tree p v = go req.inner (h.answer (Ranges tree) p) (h.means tree p flag v)
     where
-      go : (read : RangeSetOrTag) → read ≡ inner.RangeSet (record { 0 = kept f tree }) → inner_means read v ≡ tree_means (tree_ranges tree) v
-          → allowance_of read v ≡ yes_or_no (tree_means (tree_ranges tree) v)
+      go : (read : RangeSetOrTag) → read ≡ inner.RangeSet (record { 0 = kept f tree }) → inner_means_with flag read v ≡ tree_means_with flag (tree_ranges tree) v
+          → allowance_of flag read v ≡ yes_or_no (tree_means_with flag (tree_ranges tree) v)
       go (inner.RangeSet set) e m = ap yes_or_no m
       go (inner.Tag tag) e m = absurd (cc e)
 
-  tag_is : (read : RangeSetOrTag) (name : List ℕ) (v : Version) → read ≡ inner.Tag name → told_answer (allowance_of read v) ≡ ATag name
+  tag_is : (read : RangeSetOrTag) (name : List ℕ) (v : Version) → read ≡ inner.Tag name → told_answer (allowance_of flag read v) ≡ ATag name
   tag_is read name v e = rw e refl
 
   -- both were read
   pub fits_read : (req : Requirement) (v : Version) → IsReaderAnswer failure_of f requirement (Ok req) → IsVersionOutcome (trim version) (Ok v)
       → ((w : Version) → IsVersionOutcome (trim version) (Ok w) → v ≡ w) → ((fault : Refusal) → IsVersionOutcome (trim version) (Err fault) → ⊥)
-      → (result : Answer) → result ≡ allowance_of req.inner v → IsAnswer (IsFit f requirement version) (Ok result)
-  fits_read req v h q only never result is = subst (λ a. IsAnswer (IsFit f requirement version) (Ok a)) (sym is) (record {
+      → (result : Answer) → result ≡ allowance_of flag req.inner v → IsAnswer (IsFit flag f requirement version) (Ok result)
+  fits_read req v h q only never result is = subst (λ a. IsAnswer (IsFit flag f requirement version) (Ok a)) (sym is) (record {
     tells = inr (tells h.outcome.outcome h.outcome.is_outcome h.outcome.is_read);
     every = λ told a. inr (every told a);
     usage = λ a. absurd (fit_usage Usage refl a);
   })
     where
-      tells : (o : Outcome) → IsOutcome f requirement o → IsRead f o req.inner → IsFit f requirement version (told_answer (allowance_of req.inner v))
-      tells (Ranges tree) p k = subst (IsFit f requirement version) (sym (ap told_answer (allowance_is req h tree p v))) (ranges tree v p q)
-      tells (Tag name) p k = subst (IsFit f requirement version) (sym (tag_is req.inner name v k)) (a_tag p q)
+      tells : (o : Outcome) → IsOutcome f requirement o → IsRead f o req.inner → IsFit flag f requirement version (told_answer (allowance_of flag req.inner v))
+      tells (Ranges tree) p k = subst (IsFit flag f requirement version) (sym (ap told_answer (allowance_is req h tree p v))) (ranges tree v p q)
+      tells (Tag name) p k = subst (IsFit flag f requirement version) (sym (tag_is req.inner name v k)) (a_tag p q)
       tells outcome.Refused p k = absurd k
 
-      every : (told : Told) → IsFit f requirement version told → told_answer (allowance_of req.inner v) ≡ told
-      every told (ranges tree w o r) = ap told_answer (allowance_is req h tree o v ∙ ap (λ (x : Version). yes_or_no (tree_means (tree_ranges tree) x)) (only w r))
+      every : (told : Told) → IsFit flag f requirement version told → told_answer (allowance_of flag req.inner v) ≡ told
+      every told (ranges tree w o r) = ap told_answer (allowance_is req h tree o v ∙ ap (λ (x : Version). yes_or_no (tree_means_with flag (tree_ranges tree) x)) (only w r))
       every told (a_tag {name = name} o r) = tag_is req.inner name v (h.answer (Tag name) o)
       every told (no_requirement o) = absurd (not_refused f requirement req h o)
       every told (no_version {fault = fault} r) = absurd (never fault r)
@@ -323,20 +325,38 @@ abbrev of_three : List ℕ → List ℕ → List ℕ → List (List ℕ)
 of_three command one two = command ∷ one ∷ two ∷ []
 
 pub four_fits : (command reader requirement version : List ℕ) → command ≡ codes "fits" → (result : Result Answer Problem)
-    → IsAnswer (ByReader reader (λ f. IsFit f requirement version)) result → IsAnswer (IsAsked (command ∷ reader ∷ requirement ∷ version ∷ [])) result
+    → IsAnswer (ByReader reader (λ f. IsFit Restricted f requirement version)) result → IsAnswer (IsAsked (command ∷ reader ∷ requirement ∷ version ∷ [])) result
 four_fits command reader requirement version is result h = same_answer _ (IsAsked (of_four command reader requirement version)) (λ told a. asks_fits same a) from result h
   where
     same : of_four command reader requirement version ≡ codes "fits" ∷ reader ∷ requirement ∷ version ∷ []
     same = ap (λ (x : List ℕ). x ∷ reader ∷ requirement ∷ version ∷ []) is
 
-    from : (told : Told) → IsAsked (of_four command reader requirement version) told → ByReader reader (λ f. IsFit f requirement version) told
+    from : (told : Told) → IsAsked (of_four command reader requirement version) told → ByReader reader (λ f. IsFit Restricted f requirement version) told
     from told (asks_fits {reader = r} {requirement = q} {version = v} e a) =
-        subst (λ (x : List ℕ). ByReader x (λ f. IsFit f requirement version) told) (sym (same_word (of_four command reader requirement version) _ 1 e))
-        (subst (λ (x : List ℕ). ByReader r (λ f. IsFit f x version) told) (sym (same_word (of_four command reader requirement version) _ 2 e))
-        (subst (λ (x : List ℕ). ByReader r (λ f. IsFit f q x) told) (sym (same_word (of_four command reader requirement version) _ 3 e)) a))
+        subst (λ (x : List ℕ). ByReader x (λ f. IsFit Restricted f requirement version) told) (sym (same_word (of_four command reader requirement version) _ 1 e))
+        (subst (λ (x : List ℕ). ByReader r (λ f. IsFit Restricted f x version) told) (sym (same_word (of_four command reader requirement version) _ 2 e))
+        (subst (λ (x : List ℕ). ByReader r (λ f. IsFit Restricted f q x) told) (sym (same_word (of_four command reader requirement version) _ 3 e)) a))
+    from told (asks_fits_pre e a) = absurd (apart command 4 (codes "fits") (codes "fits-pre") is (same_word (of_four command reader requirement version) _ 0 e) refl)
     from told (asks_normal e a) = absurd (cc e)
     from told (asks_meet e a) = absurd (cc e)
     from told (asks_nothing n) = absurd (n (form_fits same))
+
+pub four_fits_pre : (command reader requirement version : List ℕ) → command ≡ codes "fits-pre" → (result : Result Answer Problem)
+    → IsAnswer (ByReader reader (λ f. IsFit Admitted f requirement version)) result → IsAnswer (IsAsked (command ∷ reader ∷ requirement ∷ version ∷ [])) result
+four_fits_pre command reader requirement version is result h = same_answer _ (IsAsked (of_four command reader requirement version)) (λ told a. asks_fits_pre same a) from result h
+  where
+    same : of_four command reader requirement version ≡ codes "fits-pre" ∷ reader ∷ requirement ∷ version ∷ []
+    same = ap (λ (x : List ℕ). x ∷ reader ∷ requirement ∷ version ∷ []) is
+
+    from : (told : Told) → IsAsked (of_four command reader requirement version) told → ByReader reader (λ f. IsFit Admitted f requirement version) told
+    from told (asks_fits_pre {reader = r} {requirement = q} {version = v} e a) =
+        subst (λ (x : List ℕ). ByReader x (λ f. IsFit Admitted f requirement version) told) (sym (same_word (of_four command reader requirement version) _ 1 e))
+        (subst (λ (x : List ℕ). ByReader r (λ f. IsFit Admitted f x version) told) (sym (same_word (of_four command reader requirement version) _ 2 e))
+        (subst (λ (x : List ℕ). ByReader r (λ f. IsFit Admitted f q x) told) (sym (same_word (of_four command reader requirement version) _ 3 e)) a))
+    from told (asks_fits e a) = absurd (apart command 4 (codes "fits-pre") (codes "fits") is (same_word (of_four command reader requirement version) _ 0 e) refl)
+    from told (asks_normal e a) = absurd (cc e)
+    from told (asks_meet e a) = absurd (cc e)
+    from told (asks_nothing n) = absurd (n (form_fits_pre same))
 
 pub three_normal : (command reader requirement : List ℕ) → command ≡ codes "normal" → (result : Result Answer Problem)
     → IsAnswer (ByReader reader (λ f. IsNormal f requirement)) result → IsAnswer (IsAsked (command ∷ reader ∷ requirement ∷ [])) result
@@ -347,6 +367,7 @@ three_normal command reader requirement is result h = same_answer _ (IsAsked (of
 
     from : (told : Told) → IsAsked (of_three command reader requirement) told → ByReader reader (λ f. IsNormal f requirement) told
     from told (asks_fits e a) = absurd (cc e)
+    from told (asks_fits_pre e a) = absurd (cc e)
     from told (asks_normal {reader = r} {requirement = q} e a) =
         subst (λ (x : List ℕ). ByReader x (λ f. IsNormal f requirement) told) (sym (same_word (of_three command reader requirement) _ 1 e))
         (subst (λ (x : List ℕ). ByReader r (λ f. IsNormal f x) told) (sym (same_word (of_three command reader requirement) _ 2 e)) a)
@@ -362,6 +383,7 @@ three_meet command one other is result h = same_answer _ (IsAsked (of_three comm
 
     from : (told : Told) → IsAsked (of_three command one other) told → IsMeeting one other told
     from told (asks_fits e a) = absurd (cc e)
+    from told (asks_fits_pre e a) = absurd (cc e)
     from told (asks_normal e a) = absurd (apart command 0 (codes "meet") (codes "normal") is (same_word (of_three command one other) _ 0 e) refl)
     from told (asks_meet {one = a} {other = b} e m) =
         subst (λ (x : List ℕ). IsMeeting x other told) (sym (same_word (of_three command one other) _ 1 e)) (subst (λ (x : List ℕ). IsMeeting a x told) (sym (same_word (of_three command one other) _ 2 e)) m)
@@ -373,23 +395,28 @@ no_form words n = record { tells = inr (asks_nothing n); every = every; usage = 
   where
     every : (told : Told) → IsAsked words told → (Usage ≡ OutOfMemory) ⊎ (Usage ≡ told)
     every told (asks_fits e a) = absurd (n (form_fits e))
+    every told (asks_fits_pre e a) = absurd (n (form_fits_pre e))
     every told (asks_normal e a) = absurd (n (form_normal e))
     every told (asks_meet e a) = absurd (n (form_meet e))
     every told (asks_nothing m) = inr refl
 
-pub four_others : (command reader requirement version : List ℕ) → (command ≡ codes "fits" → ⊥) → IsForm (command ∷ reader ∷ requirement ∷ version ∷ []) → ⊥
-four_others command reader requirement version never (form_fits e) = never (same_word _ _ 0 e)
-four_others command reader requirement version never (form_normal e) = cc e
-four_others command reader requirement version never (form_meet e) = cc e
+pub four_others : (command reader requirement version : List ℕ) → (command ≡ codes "fits" → ⊥) → (command ≡ codes "fits-pre" → ⊥)
+    → IsForm (command ∷ reader ∷ requirement ∷ version ∷ []) → ⊥
+four_others command reader requirement version never neither (form_fits e) = never (same_word _ _ 0 e)
+four_others command reader requirement version never neither (form_fits_pre e) = neither (same_word _ _ 0 e)
+four_others command reader requirement version never neither (form_normal e) = cc e
+four_others command reader requirement version never neither (form_meet e) = cc e
 
 pub three_others : (command one other : List ℕ) → (command ≡ codes "normal" → ⊥) → (command ≡ codes "meet" → ⊥) → IsForm (command ∷ one ∷ other ∷ []) → ⊥
 three_others command one other never neither (form_fits e) = cc e
+three_others command one other never neither (form_fits_pre e) = cc e
 three_others command one other never neither (form_normal e) = never (same_word _ _ 0 e)
 three_others command one other never neither (form_meet e) = neither (same_word _ _ 0 e)
 
 -- words of which there are neither three nor four
 pub other_count : (words : List (List ℕ)) → (length words ≡ 3 → ⊥) → (length words ≡ 4 → ⊥) → IsForm words → ⊥
 other_count words three four (form_fits e) = four (same_length words _ e)
+other_count words three four (form_fits_pre e) = four (same_length words _ e)
 other_count words three four (form_normal e) = three (same_length words _ e)
 other_count words three four (form_meet e) = three (same_length words _ e)
 

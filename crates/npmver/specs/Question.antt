@@ -8,14 +8,16 @@ use Rattle.npmver.specs.declared.Problem.{Problem}
 use Rattle.npmver.specs.declared.Reader.{Reader}
 use Rattle.npmver.specs.declared.Reader.TheVariants as reader
 use Rattle.semver_base.specs.Comparators.{Comparator}
-use Rattle.semver_base.specs.Meaning.{tree_means}
+use Rattle.semver_base.specs.Meaning.{tree_means_with}
 use Rattle.semver_base.specs.VersionGrammar.{IsVersionOutcome}
 use Rattle.semver_base.specs.declared.failure.Refusal.{Refusal}
+use Rattle.semver_base.specs.declared.range.PreRelease.{PreRelease}
+use Rattle.semver_base.specs.declared.range.PreRelease.TheVariants.{Restricted, Admitted}
 use Rattle.semver_base.specs.declared.version.Version.{Version}
 use Rattle.semver_req.specs.Outcome as outcome
 use Rattle.semver_req.specs.Outcome.{IsOutcome, Ranges, Tag, tree_ranges}
 use Rattle.semver_req.specs.Readers.{IsReading}
-use Rattle.semver_req.specs.Requirement.{inner_means, inner_overlap, inner_text}
+use Rattle.semver_req.specs.Requirement.{inner_means_with, inner_overlap, inner_text}
 use Rattle.semver_req.specs.declared.common.values.Flavour.{Flavour}
 use Rattle.semver_req.specs.declared.common.values.Flavour.TheVariants.{Npm, Normal, Specifier}
 use Rattle.semver_req.specs.declared.range_set_or_tag.RangeSetOrTag.{RangeSetOrTag}
@@ -26,9 +28,9 @@ yes_or_no true = answer.Yes
 yes_or_no false = answer.No
 
 -- a requirement of ranges allows what it means; a tag is answered as it is
-abbrev pub allowance_of : RangeSetOrTag → Version → Answer
-allowance_of (inner.RangeSet set) v = yes_or_no (inner_means (inner.RangeSet set) v)
-allowance_of (inner.Tag tag) v = answer.Tag tag
+abbrev pub allowance_of : PreRelease → RangeSetOrTag → Version → Answer
+allowance_of flag (inner.RangeSet set) v = yes_or_no (inner_means_with flag (inner.RangeSet set) v)
+allowance_of flag (inner.Tag tag) v = answer.Tag tag
 
 -- ---- readers
 
@@ -48,13 +50,14 @@ NoReader name = (f : Flavour) → IsReader name f → ⊥
 
 -- ---- what each question is told
 
--- does the version fit the requirement: yes exactly where its comparators mean the version, or that it is a tag
-pub data IsFit (f : Flavour) (requirement version : List ℕ) : Told → Type 0 where
+-- does the version fit the requirement, with pre-releases restricted or admitted: yes exactly where its comparators mean the
+-- version, or that it is a tag
+pub data IsFit (flag : PreRelease) (f : Flavour) (requirement version : List ℕ) : Told → Type 0 where
   ranges : (tree : List (List Comparator)) (v : Version) → IsOutcome f requirement (Ranges tree) → IsVersionOutcome (trim version) (Ok v)
-      → IsFit f requirement version (told_answer (yes_or_no (tree_means (tree_ranges tree) v)))
-  a_tag : {name : List ℕ} {v : Version} → IsOutcome f requirement (Tag name) → IsVersionOutcome (trim version) (Ok v) → IsFit f requirement version (ATag name)
-  no_requirement : IsOutcome f requirement outcome.Refused → IsFit f requirement version Refused
-  no_version : {fault : Refusal} → IsVersionOutcome (trim version) (Err fault) → IsFit f requirement version Refused
+      → IsFit flag f requirement version (told_answer (yes_or_no (tree_means_with flag (tree_ranges tree) v)))
+  a_tag : {name : List ℕ} {v : Version} → IsOutcome f requirement (Tag name) → IsVersionOutcome (trim version) (Ok v) → IsFit flag f requirement version (ATag name)
+  no_requirement : IsOutcome f requirement outcome.Refused → IsFit flag f requirement version Refused
+  no_version : {fault : Refusal} → IsVersionOutcome (trim version) (Err fault) → IsFit flag f requirement version Refused
 
 -- what is the normal text of the requirement
 pub data IsNormal (f : Flavour) (requirement : List ℕ) : Told → Type 0 where
@@ -74,16 +77,19 @@ pub data ByReader (name : List ℕ) (Asked : Flavour → Told → Type 0) : Told
 
 -- ---- the words
 
--- the three forms of questions
+-- the forms of questions
 pub data IsForm (words : List (List ℕ)) : Type 0 where
   form_fits : {reader requirement version : List ℕ} → words ≡ codes "fits" ∷ reader ∷ requirement ∷ version ∷ [] → IsForm words
+  form_fits_pre : {reader requirement version : List ℕ} → words ≡ codes "fits-pre" ∷ reader ∷ requirement ∷ version ∷ [] → IsForm words
   form_normal : {reader requirement : List ℕ} → words ≡ codes "normal" ∷ reader ∷ requirement ∷ [] → IsForm words
   form_meet : {one other : List ℕ} → words ≡ codes "meet" ∷ one ∷ other ∷ [] → IsForm words
 
 -- what the words are told
 pub data IsAsked (words : List (List ℕ)) : Told → Type 0 where
   asks_fits : {reader requirement version : List ℕ} {told : Told} → words ≡ codes "fits" ∷ reader ∷ requirement ∷ version ∷ []
-      → ByReader reader (λ f. IsFit f requirement version) told → IsAsked words told
+      → ByReader reader (λ f. IsFit Restricted f requirement version) told → IsAsked words told
+  asks_fits_pre : {reader requirement version : List ℕ} {told : Told} → words ≡ codes "fits-pre" ∷ reader ∷ requirement ∷ version ∷ []
+      → ByReader reader (λ f. IsFit Admitted f requirement version) told → IsAsked words told
   asks_normal : {reader requirement : List ℕ} {told : Told} → words ≡ codes "normal" ∷ reader ∷ requirement ∷ []
       → ByReader reader (λ f. IsNormal f requirement) told → IsAsked words told
   asks_meet : {one other : List ℕ} {told : Told} → words ≡ codes "meet" ∷ one ∷ other ∷ [] → IsMeeting one other told → IsAsked words told

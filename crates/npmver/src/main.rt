@@ -2,6 +2,7 @@
 //!
 //! `npmver fits READER REQ VERSION` prints `yes` (status 0) where the version matches the requirement, which is read by
 //! READER, `npm`, `normal` or `strict`, `no` (1) where it doesn't, and `tag NAME` (2) where the requirement is a tag.
+//! `npmver fits-pre READER REQ VERSION` does so with every pre-release that stands between the bounds.
 //! `npmver normal READER REQ` prints the normal text of the requirement, or the tag (0). `npmver meet A B` prints `yes` (0)
 //! where two requirements overlap, both as npm reads them, and `no` (1) where they don't.
 //!
@@ -16,7 +17,7 @@ ghost use Rattle.npmver.specs.Told.{IsProper, failure_of, problem_of, status_of,
 
 use deno_semver::npm::NpmVersionReqParseError;
 use deno_semver::{
-    PackageTag, ParseFailure, Version, VersionParseError, VersionReq,
+    PackageTag, ParseFailure, PreRelease, Version, VersionParseError, VersionReq,
     VersionReqNormalizedParseError, VersionReqSpecifierParseError,
 };
 use std::alloc::{AllocError, Global};
@@ -147,7 +148,8 @@ fn four(
     ensures { IsAnswer (IsAsked (command.now ∷ reader.now ∷ requirement.now ∷ version.now ∷ [])) result }
 {
     match command {
-        "fits" => fits(alloc, reader, requirement, version),
+        "fits" => fits(alloc, reader, requirement, version, PreRelease::Restricted),
+        "fits-pre" => fits(alloc, reader, requirement, version, PreRelease::Admitted),
         _ => Err(Problem::Usage),
     }
 }
@@ -197,12 +199,18 @@ impl Reader {
     }
 
     // Whether the version, which is read also where the requirement is a tag, matches the requirement.
-    fn fits(self, alloc: Global, requirement: &str, version: &str) -> Result<Answer, Problem>
-        ensures { IsAnswer (IsFit (flavour_of self) requirement.now version.now) result }
+    fn fits(
+        self,
+        alloc: Global,
+        requirement: &str,
+        version: &str,
+        pre_release: PreRelease,
+    ) -> Result<Answer, Problem>
+        ensures { IsAnswer (IsFit pre_release (flavour_of self) requirement.now version.now) result }
     {
         let requirement = self.read(alloc, requirement)?;
         let version = Version::parse_standard(alloc, version)?;
-        Ok(allowance(alloc, &requirement, &version)?)
+        Ok(allowance(alloc, &requirement, &version, pre_release)?)
     }
 
     // The normal text of the requirement, or the tag.
@@ -219,21 +227,28 @@ fn allowance(
     alloc: Global,
     requirement: &VersionReq,
     version: &Version,
+    pre_release: PreRelease,
 ) -> Result<Answer, AllocError>
-    ensures { IfOk result (λ answer. answer ≡ allowance_of requirement.now.inner version.now) }
+    ensures { IfOk result (λ answer. answer ≡ allowance_of pre_release requirement.now.inner version.now) }
 {
     match requirement.tag() {
         Some(tag) => Ok(Answer::Tag(PackageTag::from_str(alloc, tag)?)),
-        None => Ok(Answer::of(requirement.matches(version))),
+        None => Ok(Answer::of(requirement.matches_with(version, pre_release))),
     }
 }
 
 // Whether the version matches the requirement that the reader of this name reads.
-fn fits(alloc: Global, reader: &str, requirement: &str, version: &str) -> Result<Answer, Problem>
-    ensures { IsAnswer (ByReader reader.now (λ f. IsFit f requirement.now version.now)) result }
+fn fits(
+    alloc: Global,
+    reader: &str,
+    requirement: &str,
+    version: &str,
+    pre_release: PreRelease,
+) -> Result<Answer, Problem>
+    ensures { IsAnswer (ByReader reader.now (λ f. IsFit pre_release f requirement.now version.now)) result }
 {
     match Reader::named(reader) {
-        Some(reader) => reader.fits(alloc, requirement, version),
+        Some(reader) => reader.fits(alloc, requirement, version, pre_release),
         None => Err(Problem::Usage),
     }
 }

@@ -38,6 +38,14 @@ fits;npm; 1 - 2 ;2.9.0 => 0 => yes
 fits;npm;< ^1.2.3;1.3.0 => 0 => yes
 fits;npm;<^1.2.3;1.3.0 => 3 => refused: Unexpected character.
 fits;npm; latest ;1.0.0 => 2 => tag latest
+fits-pre;npm;*;1.2.3-foo => 0 => yes
+fits;npm;*;1.2.3-foo => 1 => no
+fits-pre;npm;^1.0.0;2.0.0-rc1 => 0 => yes
+fits-pre;npm;^1.0.0;1.0.0-a => 1 => no
+fits-pre;npm;<1;0.0.0-a => 1 => no
+fits-pre;npm;1 - 2;2.5.0-x => 0 => yes
+fits-pre;npm;^1.2.3-alpha;1.2.3-beta => 0 => yes
+fits-pre;strict;latest;1.0.0 => 2 => tag latest
 fits;normal;latest;1.0 => 3 => refused: Missing patch version. Versions must be in the form MAJOR.MINOR.PATCH (ex. 1.0.0).
  => 4 => usage: npmver fits|normal|meet ..
 fits => 4 => usage: npmver fits|normal|meet ..

@@ -27,7 +27,7 @@ above_ge kind.Exclusive Less h = h
 above_ge kind.Exclusive Equal h = refl
 above_ge kind.Exclusive Greater h = refl
 
-above_from : (k : VersionBoundKind) (r : Ordering) → r ≡ Greater → is_above k r ≡ true
+pub above_from : (k : VersionBoundKind) (r : Ordering) → r ≡ Greater → is_above k r ≡ true
 above_from kind.Inclusive r e = rw e refl
 above_from kind.Exclusive r e = rw e refl
 

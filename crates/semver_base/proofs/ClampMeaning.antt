@@ -5,11 +5,13 @@ use Rattle.std.specs.Cmp.{both_ways}
 use Rattle.std.specs.Ordering.{is_le}
 use Rattle.std.specs.declared.cmp.Ordering.{Ordering}
 use Rattle.std.specs.declared.cmp.Ordering.TheVariants.{Less, Equal, Greater}
-use Rattle.semver_base.specs.Clamp.{clamped, clamped_end, clamped_start, greater_of, lesser_of, of_tied, stopped_at, stopped_by, MatchesBoth, MeansBoth}
-use Rattle.semver_base.specs.Meaning.{admits_pre, alternative_means, bounds_hold, end_holds, has_pre_of, is_release, start_holds}
+use Rattle.semver_base.specs.Clamp.{clamped, clamped_end, clamped_start, greater_of, lesser_of, of_tied, stopped_at, stopped_by, AdmitsBoth, MatchesBoth, MeansBoth}
+use Rattle.semver_base.specs.Meaning.{admits_pre, alternative_means, alternative_means_with, bounds_hold, end_holds, has_pre_of, is_release, is_unrestricted, start_holds}
 use Rattle.semver_base.specs.Precedence.{precedence_cmp}
 use Rattle.semver_base.specs.PrecedenceLaws.{precedence_total}
 use Rattle.semver_base.specs.declared.version.Version.{Version}
+use Rattle.semver_base.specs.declared.range.PreRelease.{PreRelease}
+use Rattle.semver_base.specs.declared.range.PreRelease.TheVariants.{Restricted, Admitted}
 use Rattle.semver_base.specs.declared.range.RangeBound.{RangeBound}
 use Rattle.semver_base.specs.declared.range.RangeBound.TheVariants as bound
 use Rattle.semver_base.specs.declared.range.VersionBound.{VersionBound}
@@ -175,20 +177,28 @@ admits_kept a b v pre ha hb h = elim (or_cases _ _ h) [
 
 -- a clamped range means what the two mean as comparators of one alternative
 pub clamped_means : (a b : VersionRange) → MeansBoth a b (clamped a b)
-clamped_means a b v = same_where _ _ _ _ held admitted
+clamped_means a b flag v = same_where _ _ _ _ held (admitted flag)
   where
     held : (bounds_hold (clamped a b) v && true) ≡ (bounds_hold a v && (bounds_hold b v && true))
     held = and_true (bounds_hold (clamped a b) v) ∙ clamped_bounds a b v ∙ ap (λ (w : Bool). bounds_hold a v && w) (sym (and_true (bounds_hold b v)))
 
-    admitted : (bounds_hold a v && (bounds_hold b v && true)) ≡ true
-        → (is_release v || (admits_pre (clamped a b) v || false)) ≡ (is_release v || (admits_pre a v || (admits_pre b v || false)))
-    admitted both = elim (cases_Bool (is_release v)) [
+    admitted : (flag : PreRelease) → (bounds_hold a v && (bounds_hold b v && true)) ≡ true
+        → (is_unrestricted flag v || (admits_pre (clamped a b) v || false)) ≡ (is_unrestricted flag v || (admits_pre a v || (admits_pre b v || false)))
+    admitted Admitted both = refl
+    admitted Restricted both = elim (cases_Bool (is_release v)) [
       | inl release ↦ rw release refl
       | inr pre ↦ rw pre (or_false (admits_pre (clamped a b) v) ∙ both_ways _ _ (admits_from a b v) (admits_kept a b v pre (and_first _ _ both) (and_first _ _ (and_second _ _ both))))
     ]
 
 alone : (range : VersionRange) (v : Version) → is_release v ≡ true → alternative_means (range ∷ []) v ≡ bounds_hold range v
 alone range v release = rw release (and_true (bounds_hold range v && true) ∙ and_true (bounds_hold range v))
+
+held_alone : (range : VersionRange) (v : Version) → alternative_means_with Admitted (range ∷ []) v ≡ bounds_hold range v
+held_alone range v = and_true (bounds_hold range v && true) ∙ and_true (bounds_hold range v)
+
+-- where pre-releases are admitted, a version matches a clamped range where it matches both
+pub clamped_admits : (a b : VersionRange) → AdmitsBoth a b (clamped a b)
+clamped_admits a b v = held_alone (clamped a b) v ∙ clamped_bounds a b v ∙ sym (rw (held_alone a v, held_alone b v) refl)
 
 -- a release matches a clamped range where it matches both
 pub clamped_matches : (a b : VersionRange) → MatchesBoth a b (clamped a b)

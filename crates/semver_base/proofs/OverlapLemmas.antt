@@ -8,11 +8,12 @@ use Rattle.std.specs.List.{list_any}
 use Rattle.std.specs.Ordering.{is_gt, is_le, is_lt, nat_cmp, ordering_then, MatchOrdering}
 use Rattle.std.specs.declared.cmp.Ordering.{Ordering}
 use Rattle.std.specs.declared.cmp.Ordering.TheVariants.{Less, Equal, Greater}
-use Rattle.semver_base.specs.Meaning.{alternative_means, alternatives, bounds_hold, end_holds, is_above, is_below, is_release, start_holds, tree_means}
+use Rattle.semver_base.specs.Meaning.{alternative_means_with, alternatives, bounds_hold, end_holds, is_above, is_below, is_release, start_holds, tree_means_with}
 use Rattle.semver_base.specs.Overlap.{ends_at_zero, is_exclusive, lies_within, overlap, some_overlap, starts_before, HoldNothingTogether, HoldsNoRelease, MatchNothingTogether}
 use Rattle.semver_base.specs.Precedence.{precedence_cmp, pre_cmp}
 use Rattle.semver_base.specs.PrecedenceLaws.{precedence_total}
 use Rattle.semver_base.specs.declared.version.Version.{Version}
+use Rattle.semver_base.specs.declared.range.PreRelease.{PreRelease}
 use Rattle.semver_base.specs.declared.range.RangeBound.{RangeBound}
 use Rattle.semver_base.specs.declared.range.RangeBound.TheVariants as bound
 use Rattle.semver_base.specs.declared.range.VersionBoundKind.{VersionBoundKind}
@@ -100,22 +101,23 @@ any_from p q passes (x ∷ xs) h = elim (or_cases (p x) (list_any p xs) h) [
   | inr later ↦ or_second (q x) _ (any_from p q passes xs later)
 ]
 
-matches_held : (range : VersionRange) (v : Version) → alternative_means (range ∷ []) v ≡ true → bounds_hold range v ≡ true
-matches_held range v h = and_first _ true (and_first (bounds_hold range v && true) _ h)
+matches_held : (flag : PreRelease) (range : VersionRange) (v : Version) → alternative_means_with flag (range ∷ []) v ≡ true → bounds_hold range v ≡ true
+matches_held flag range v h = and_first _ true (and_first (bounds_hold range v && true) _ h)
 
 -- two sets that match one version have ranges that overlap
-matched_overlap : (some others : List VersionRange) (v : Version) → tree_means (alternatives some) v ≡ true → tree_means (alternatives others) v ≡ true → some_overlap some others ≡ true
-matched_overlap some others v h k =
-    any_from (λ a. alternative_means (a ∷ []) v) (λ a. list_any (λ b. overlap a b) others)
-    (λ a first. any_from (λ b. alternative_means (b ∷ []) v) (λ b. overlap a b)
-    (λ b second. held_overlap a b v (matches_held a v first) (matches_held b v second)) others (any_alternatives others v ∙ k))
-    some (any_alternatives some v ∙ h)
+matched_overlap : (flag : PreRelease) (some others : List VersionRange) (v : Version)
+    → tree_means_with flag (alternatives some) v ≡ true → tree_means_with flag (alternatives others) v ≡ true → some_overlap some others ≡ true
+matched_overlap flag some others v h k =
+    any_from (λ a. alternative_means_with flag (a ∷ []) v) (λ a. list_any (λ b. overlap a b) others)
+    (λ a first. any_from (λ b. alternative_means_with flag (b ∷ []) v) (λ b. overlap a b)
+    (λ b second. held_overlap a b v (matches_held flag a v first) (matches_held flag b v second)) others (any_alternatives flag others v ∙ k))
+    some (any_alternatives flag some v ∙ h)
 
 -- sets that do not overlap match nothing together
 pub set_no_common : (result : Bool) (some others : List VersionRange) → result ≡ some_overlap some others → OnFalse result (MatchNothingTogether some others)
 set_no_common true some others e = tt
-set_no_common false some others e = λ v. elim (cases_Bool (tree_means (alternatives some) v && tree_means (alternatives others) v)) [
-  | inl both ↦ let over : some_overlap some others ≡ true = matched_overlap some others v (and_first (tree_means (alternatives some) v) _ both) (and_second _ (tree_means (alternatives others) v) both) in cc
+set_no_common false some others e = λ flag v. elim (cases_Bool (tree_means_with flag (alternatives some) v && tree_means_with flag (alternatives others) v)) [
+  | inl both ↦ let over : some_overlap some others ≡ true = matched_overlap flag some others v (and_first (tree_means_with flag (alternatives some) v) _ both) (and_second _ (tree_means_with flag (alternatives others) v) both) in cc
   | inr none ↦ none
 ]
 

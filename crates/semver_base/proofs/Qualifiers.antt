@@ -10,7 +10,7 @@ use Rattle.semver_base.specs.Lexical.{IsBuild, IsLoosePre, IsParts, IsPre, IsQua
 use Rattle.semver_base.specs.declared.lexical.values.Qualifier.{Qualifier}
 use Rattle.semver_base.specs.declared.lexical.values.Strictness.{Strictness}
 use Rattle.semver_base.specs.declared.lexical.values.Strictness.TheVariants.{Loose, Strict}
-use Rattle.semver_base.proofs.Fronts.{Apart, NonEmpty, followed, mapped, marked_none, marked_some, optional_some}
+use Rattle.semver_base.proofs.Fronts.{Apart, NonEmpty, followed, mapped, marked_none, marked_some, optional_none, optional_some}
 use Rattle.semver_base.proofs.Bytes.{BeginsBy, Disjoint, MadeOf, apart_by, begins_from_made, begins_wider, joined_begins_either, mapped_begins, goes_from_made, marked_begins, marked_made, optional_begins, optional_goes}
 use Rattle.semver_base.proofs.Parts.{is_parts_byte, parts_made, parts_some}
 
@@ -110,6 +110,25 @@ pub qualifier_read : (s : Strictness) {text middle rest : List ℕ} {pre build :
 qualifier_read s p q =
     let both = mapped {f = qualifier_of} (followed (pre_build_apart s) p.longest q.longest) in
     rw (p.seen, q.seen) both
+
+-- no qualifier in no text
+no_pre : (s : Strictness) → HasNone (IsPre s) []
+no_pre s = record { none = go s }
+  where
+    go : (s : Strictness) (a b : List ℕ) (w : List (List ℕ)) → [] ≡ a ++ b → IsPre s a w → ⊥
+    go Loose [] b w e h = h
+    go Strict [] b w e h = h
+    go s (x ∷ a) b w e h = cc e
+
+no_build : HasNone IsBuild []
+no_build = record { none = go }
+  where
+    go : (a b : List ℕ) (w : List (List ℕ)) → [] ≡ a ++ b → IsBuild a w → ⊥
+    go [] b w e h = h
+    go (x ∷ a) b w e h = cc e
+
+pub no_qualifier : (s : Strictness) → IsLongest (IsQualifier s) [] (record { pre = []; build = [] }) []
+no_qualifier s = qualifier_read s (record { value = None; longest = optional_none (no_pre s); seen = refl }) (record { value = None; longest = optional_none no_build; seen = refl })
 
 -- ---- a number and a qualifier
 

@@ -12,7 +12,7 @@ use Rattle.semver_base.specs.declared.range.VersionBoundKind.TheVariants as kind
 use Rattle.semver_base.proofs.Orders.{and_first, and_second, le_from, le_then_first, le_then_second}
 
 -- the same three numbers
-record SameNumbers (x y : Version) : Type 0 where
+pub record SameNumbers (x y : Version) : Type 0 where
   pub major : x.major ≡ y.major
   pub minor : x.minor ≡ y.minor
   pub patch : x.patch ≡ y.patch
@@ -48,17 +48,17 @@ between low x high same pre lower upper =
 abbrev pub is_pre_of : Version → Version → Bool
 is_pre_of x v = has_pre_of (bound_at kind.Inclusive x) v
 
-same_number : (a b : ℕ) → (a == b) ≡ true → a ≡ b
+pub same_number : (a b : ℕ) → (a == b) ≡ true → a ≡ b
 same_number a b e = grind (arith, nat_tests)
 
 number_same : (a b : ℕ) → a ≡ b → (a == b) ≡ true
 number_same a b e = grind (arith, nat_tests)
 
-not_true : (a : Bool) → not a ≡ true → a ≡ false
+pub not_true : (a : Bool) → not a ≡ true → a ≡ false
 not_true false e = refl
 not_true true e = cc e
 
-pre_numbers : (x v : Version) → is_pre_of x v ≡ true → SameNumbers x v
+pub pre_numbers : (x v : Version) → is_pre_of x v ≡ true → SameNumbers x v
 pre_numbers x v h =
     let rest = and_second _ _ h in
     let rest1 = and_second _ _ rest in
@@ -68,16 +68,16 @@ pre_numbers x v h =
       patch = same_number _ _ (and_second _ _ rest1);
     }
 
-pre_some : (x v : Version) → is_pre_of x v ≡ true → (length x.pre == 0) ≡ false
+pub pre_some : (x v : Version) → is_pre_of x v ≡ true → (length x.pre == 0) ≡ false
 pre_some x v h = not_true (length x.pre == 0) (and_first _ _ h)
 
-pre_from : (x v : Version) → SameNumbers x v → (length x.pre == 0) ≡ false → is_pre_of x v ≡ true
+pub pre_from : (x v : Version) → SameNumbers x v → (length x.pre == 0) ≡ false → is_pre_of x v ≡ true
 pre_from x v same pre = rw (pre, number_same x.major v.major same.major, number_same x.minor v.minor same.minor, number_same x.patch v.patch same.patch) refl
 
-same_back : (x y : Version) → SameNumbers x y → SameNumbers y x
+pub same_back : (x y : Version) → SameNumbers x y → SameNumbers y x
 same_back x y h = record { major = sym h.major; minor = sym h.minor; patch = sym h.patch }
 
-same_on : (x y z : Version) → SameNumbers x y → SameNumbers y z → SameNumbers x z
+pub same_on : (x y z : Version) → SameNumbers x y → SameNumbers y z → SameNumbers x z
 same_on x y z h k = record { major = h.major ∙ k.major; minor = h.minor ∙ k.minor; patch = h.patch ∙ k.patch }
 
 -- a version between a start that admits the pre-release v and v itself admits v

@@ -1,5 +1,5 @@
 -- How the version reader's steps give the outcome of a text, and why it is the only one.
-use Rattle.std.proofs.Common.{◌≡◌, ◌<◌, ◌^◌, ℕ, Bool, true, List, [], ◌∷◌, ◌++◌, length, Option, None, Result, Ok, Err, refl, sym, ap, ◌∙◌, arith, inl, inr, ◌==◌, append_assoc, append-nil, length-append}
+use Rattle.std.proofs.Common.{◌≡◌, ◌≤◌, ◌<◌, ◌^◌, ℕ, Bool, true, List, [], ◌∷◌, ◌++◌, length, Option, None, Result, Ok, Err, refl, sym, ap, ◌∙◌, arith, inl, inr, ◌==◌, append_assoc, append-nil, length-append}
 use Rattle.std.specs.Prelude.{◌||◌, ◌⊎◌, slice_index}
 use Rattle.std.specs.Char.{is_ascii_digit}
 use Rattle.std.specs.Str.Parse.{digits_value}
@@ -20,6 +20,7 @@ use Rattle.semver_base.proofs.Bytes.{BeginsBy, Disjoint, GoesBy, MadeOf, apart_b
 use Rattle.semver_base.proofs.Lists.{run_longest}
 use Rattle.semver_base.proofs.Numbers.{loose_begins, loose_end, loose_goes, loose_some}
 use Rattle.semver_base.proofs.Parts.{byte_begins, byte_goes}
+use Rattle.semver_base.proofs.Qualifiers.{no_qualifier}
 use Rattle.semver_base.proofs.Blanks.{blanks_made, is_blank_byte}
 
 -- ---- the lead
@@ -104,6 +105,44 @@ triple_read {rest = rest} a dot b point c = record {
   patch_fits = c.fits;
   no_digit = number_stop rest c.number;
 }
+
+-- ---- no lead
+
+lead_of_nothing : IsLead [] tt
+lead_of_nothing = record {
+  value = None;
+  stands = record {
+    value = (None, None);
+    stands = record {
+      first = [];
+      second = [];
+      text_is = refl;
+      in_first = refl;
+      in_second = record {
+        value = (tt, None);
+        stands = record { first = []; second = []; text_is = refl; in_first = ([], refl, tt); in_second = refl; seam = tt };
+        is = refl;
+      };
+      seam = tt;
+    };
+    is = refl;
+  };
+  is = refl;
+}
+
+-- three numbers have no lead before them
+pub no_lead : {text rest : List ℕ} {numbers : ℕ × (ℕ × ℕ)} → IsLongest IsTriple text numbers rest → IsLongest IsLead text tt text
+no_lead {text} {rest} {numbers} p = record { front = []; text_is = refl; stands = lead_of_nothing; longest = go }
+  where
+    digit : (front : List ℕ) (x : ℕ) (more : List ℕ) → x ∷ more ≡ front ++ rest → IsTriple front numbers → is_ascii_digit x ≡ true
+    digit [] x more e h = absurd (triple_some.some numbers h)
+    digit (y ∷ front) x more e h = let same_byte : x ≡ y = cc e in rw same_byte (triple_begins.begins y (record { more = front; value = numbers; stands = h }))
+
+    go : (a b : List ℕ) (w : Unit {0}) → text ≡ a ++ b → IsLead a w → (length a ≤ 0) × (length a ≡ 0 → w ≡ tt)
+    go [] b w e h = (omega arith, λ _. refl)
+    go (x ∷ a) b w e h =
+        let lead_byte = (begins_from_made lead_made).begins x (record { more = a; value = w; stands = h }) in
+        absurd (lead_no_digit x lead_byte (digit p.front x (a ++ b) (sym e ∙ p.text_is) p.stands))
 
 -- ---- faults
 
@@ -327,3 +366,7 @@ all_read {rest = rest} lead triple q empty = record {
   longest = let nil = nil_from_length rest empty in rw nil at (version_read lead triple q);
   fits = record { major = triple.major_fits; minor = triple.minor_fits; patch = triple.patch_fits };
 }
+
+-- a text that is three numbers
+pub plain_read : {text : List ℕ} {numbers : ℕ × (ℕ × ℕ)} → IsFittingTriple text numbers [] → IsReadVersion text (version_of (numbers, record { pre = []; build = [] }))
+plain_read triple = all_read (no_lead triple.triple) triple (no_qualifier Loose) refl

@@ -2,9 +2,11 @@
 use Rattle.std.specs.Prelude.{◌≡◌, [], ◌∷◌, true, false, ◌&&◌}
 use Rattle.std.specs.declared.cmp.Ordering.{Ordering}
 use Rattle.std.specs.declared.cmp.Ordering.TheVariants.{Less, Equal, Greater}
-use Rattle.semver_base.specs.Meaning.{alternative_means, bounds_hold, is_release, to_below}
+use Rattle.semver_base.specs.Meaning.{alternative_means, alternative_means_with, bounds_hold, is_release, to_below}
 use Rattle.semver_base.specs.Precedence.{precedence_cmp}
 use Rattle.semver_base.specs.declared.version.Version.{Version}
+use Rattle.semver_base.specs.declared.range.PreRelease.{PreRelease}
+use Rattle.semver_base.specs.declared.range.PreRelease.TheVariants.{Admitted}
 use Rattle.semver_base.specs.declared.range.RangeBound.{RangeBound}
 use Rattle.semver_base.specs.declared.range.RangeBound.TheVariants as bound
 use Rattle.semver_base.specs.declared.range.VersionBound.{VersionBound}
@@ -72,9 +74,15 @@ clamped a b = record {
 abbrev pub HoldsBoth : VersionRange → VersionRange → VersionRange → Type 0
 HoldsBoth a b range = (v : Version) → bounds_hold range v ≡ (bounds_hold a v && bounds_hold b v)
 
--- it means what the two mean as comparators of one alternative
+-- it means what the two mean as comparators of one alternative, with npm's rule about pre-releases and without
 abbrev pub MeansBoth : VersionRange → VersionRange → VersionRange → Type 0
-MeansBoth a b range = (v : Version) → alternative_means (range ∷ []) v ≡ alternative_means (a ∷ b ∷ []) v
+MeansBoth a b range = (flag : PreRelease) (v : Version)
+    → alternative_means_with flag (range ∷ []) v ≡ alternative_means_with flag (a ∷ b ∷ []) v
+
+-- where pre-releases are admitted, a version matches it where it matches both
+abbrev pub AdmitsBoth : VersionRange → VersionRange → VersionRange → Type 0
+AdmitsBoth a b range = (v : Version)
+    → alternative_means_with Admitted (range ∷ []) v ≡ (alternative_means_with Admitted (a ∷ []) v && alternative_means_with Admitted (b ∷ []) v)
 
 -- a release matches it where it matches both
 abbrev pub MatchesBoth : VersionRange → VersionRange → VersionRange → Type 0

@@ -3,12 +3,14 @@ pub mod Comparators
 pub mod Failure
 pub mod Forms
 pub mod Grammar
+pub mod LeastVersion
 pub mod Lexical
 pub mod Meaning
 pub mod NormalTable
 pub mod NormalText
 pub mod Overlap
 pub mod PartialTable
+pub mod PlainTexts
 pub mod Precedence
 pub mod PrecedenceLaws
 pub mod Sameness

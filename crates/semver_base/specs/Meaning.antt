@@ -6,6 +6,8 @@ use Rattle.std.specs.Ordering.{is_ge, is_gt, is_le, is_lt}
 use Rattle.std.specs.declared.cmp.Ordering.{Ordering}
 use Rattle.semver_base.specs.Precedence.{precedence_cmp}
 use Rattle.semver_base.specs.declared.version.Version.{Version}
+use Rattle.semver_base.specs.declared.range.PreRelease.{PreRelease}
+use Rattle.semver_base.specs.declared.range.PreRelease.TheVariants.{Restricted, Admitted}
 use Rattle.semver_base.specs.declared.range.RangeBound.{RangeBound}
 use Rattle.semver_base.specs.declared.range.RangeBound.TheVariants as bound
 use Rattle.semver_base.specs.declared.range.VersionBoundKind.{VersionBoundKind}
@@ -49,15 +51,27 @@ admits_pre range v = has_pre_of range.start v || has_pre_of range.end v
 abbrev pub is_release : Version → Bool
 is_release v = length v.pre == 0
 
--- an alternative means the versions that the bounds of every comparator hold; a pre-release only where some bound of
+-- a version that no bound has to admit: a release, and any where pre-releases are admitted throughout
+abbrev pub is_unrestricted : PreRelease → Version → Bool
+is_unrestricted Restricted v = is_release v
+is_unrestricted Admitted v = true
+
+-- an alternative means the versions that the bounds of every comparator hold; a restricted one only where some bound of
 -- some comparator is a pre-release of its three numbers
-abbrev pub alternative_means : List VersionRange → Version → Bool
-alternative_means comparators v = list_all (λ range. bounds_hold range v) comparators
-    && (is_release v || list_any (λ range. admits_pre range v) comparators)
+abbrev pub alternative_means_with : PreRelease → List VersionRange → Version → Bool
+alternative_means_with flag comparators v = list_all (λ range. bounds_hold range v) comparators
+    && (is_unrestricted flag v || list_any (λ range. admits_pre range v) comparators)
 
 -- a tree means what some alternative does
+abbrev pub tree_means_with : PreRelease → List (List VersionRange) → Version → Bool
+tree_means_with flag tree v = list_any (λ comparators. alternative_means_with flag comparators v) tree
+
+-- the two by npm's rule, which restricts every pre-release
+abbrev pub alternative_means : List VersionRange → Version → Bool
+alternative_means comparators v = alternative_means_with Restricted comparators v
+
 abbrev pub tree_means : List (List VersionRange) → Version → Bool
-tree_means tree v = list_any (λ comparators. alternative_means comparators v) tree
+tree_means tree v = tree_means_with Restricted tree v
 
 -- ranges, each as the alternative whose only comparator it is
 abbrev pub alternatives : List VersionRange → List (List VersionRange)

@@ -3,9 +3,10 @@ use Rattle.std.specs.Prelude.{◌≡◌, List, Bool, true, false, ◌==◌, ◌&
 use Rattle.std.specs.List.{list_any}
 use Rattle.std.specs.Ordering.{is_lt}
 use Rattle.std.specs.declared.cmp.Ordering.{Ordering}
-use Rattle.semver_base.specs.Meaning.{alternatives, bounds_hold, is_below, is_release, tree_means}
+use Rattle.semver_base.specs.Meaning.{alternatives, bounds_hold, is_below, is_release, tree_means_with}
 use Rattle.semver_base.specs.Precedence.{precedence_cmp}
 use Rattle.semver_base.specs.declared.version.Version.{Version}
+use Rattle.semver_base.specs.declared.range.PreRelease.{PreRelease}
 use Rattle.semver_base.specs.declared.range.RangeBound.{RangeBound}
 use Rattle.semver_base.specs.declared.range.RangeBound.TheVariants as bound
 use Rattle.semver_base.specs.declared.range.VersionBoundKind.{VersionBoundKind}
@@ -47,7 +48,7 @@ HoldsNoRelease range = (v : Version) → is_release v ≡ true → bounds_hold r
 abbrev pub HoldNothingTogether : VersionRange → VersionRange → Type 0
 HoldNothingTogether a b = (v : Version) → (bounds_hold a v && bounds_hold b v) ≡ false
 
--- no version matches both
+-- no version matches both, with npm's rule about pre-releases and without
 abbrev pub MatchNothingTogether : List VersionRange → List VersionRange → Type 0
-MatchNothingTogether some others = (v : Version)
-    → (tree_means (alternatives some) v && tree_means (alternatives others) v) ≡ false
+MatchNothingTogether some others = (flag : PreRelease) (v : Version)
+    → (tree_means_with flag (alternatives some) v && tree_means_with flag (alternatives others) v) ≡ false

@@ -1,11 +1,12 @@
 -- What a comparator is: the two bounds that a partial version stands for under `~`, `^`, a sign or alone, and the
 -- sums that they need. Numbers are of any size. Source: node-semver's "Advanced Range Syntax" and its range grammar,
 -- with the cases of wildcards before numbers that `deno_semver` has.
-use Rattle.std.specs.Prelude.{◌≡◌, ℕ, List, [], ◌∷◌, ◌+◌, ◌^◌, Bool, false, Option, Some, None, ◌⊎◌, nat_lt, if◌then◌else◌}
+use Rattle.std.specs.Prelude.{◌≡◌, ℕ, List, [], ◌∷◌, ◌+◌, ◌^◌, Bool, false, true, Option, Some, None, ◌⊎◌, nat_lt, if◌then◌else◌}
 use Rattle.std.specs.List.{list_all}
 use Rattle.semver_base.specs.Failure.{refusal_message}
 use Rattle.semver_base.specs.declared.failure.Refusal.TheVariants.{BoundTooLarge}
 use Rattle.semver_base.specs.Meaning.{everything, from, nothing, release, to_below}
+use Rattle.semver_base.specs.declared.plain.Numbers.{Numbers}
 use Rattle.semver_base.specs.declared.version.Version.{Version}
 use Rattle.semver_base.specs.declared.range.RangeBound.{RangeBound}
 use Rattle.semver_base.specs.declared.range.RangeBound.TheVariants as bound
@@ -68,6 +69,15 @@ between start end = record { start = start; end = end }
 
 abbrev pub any : Line
 any = record { range = everything; sums = [] }
+
+-- the range of a line whose sums fit
+pub record IsLineRange (line : Line) (range : VersionRange) : Type 0 where
+  pub is : range ≡ line.range
+  pub fits : all_fit line.sums ≡ true
+
+-- three numbers, as a partial version
+abbrev pub of_numbers : Numbers → Partial
+of_numbers n = record { major = Val n.major; minor = Val n.minor; patch = Val n.patch; pre = []; build = [] }
 
 -- ---- from the lower bound to below a release, with the sums in it
 abbrev pub lower_to_below : Partial → Version → List ℕ → Line

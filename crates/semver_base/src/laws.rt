@@ -6,10 +6,11 @@
 //!
 //! Equal values hash alike: they write the same to every `Hasher`. `equal_hash_alike` says it of each type that has `Hash`.
 //!
-//! The last two laws speak of versions, ranges and their texts alone, so their calls do nothing: what they promise is what
+//! The last three laws speak of versions, ranges and their texts alone, so their calls do nothing: what they promise is what
 //! a caller cites.
 
 ghost use Rattle.std.specs.Prelude.{◌≡◌, ◌↔◌, IsTrue};
+ghost use Rattle.semver_base.specs.LeastVersion.{ReadVersionsAreReadable};
 ghost use Rattle.semver_base.specs.NormalTable.{IsNormalTable};
 ghost use Rattle.semver_base.specs.Sameness.{TellsSame};
 ghost use Rattle.semver_base.specs.VersionText.{VersionTextsReadBack};
@@ -18,7 +19,9 @@ use crate::failure::{ParseFailure, Refusal};
 use crate::lexical::values::{Measured, Strictness};
 use crate::npm::NpmVersionParseError;
 use crate::partial::{PrimitiveKind, XRange};
-use crate::range::{RangeBound, VersionBound, VersionBoundKind, VersionRange, VersionRangeSet};
+use crate::range::{
+    PreRelease, RangeBound, VersionBound, VersionBoundKind, VersionRange, VersionRangeSet,
+};
 use crate::string::{CowVec, SmallStackString};
 use crate::version::{Version, VersionParseError};
 use std::hash::Hash;
@@ -93,6 +96,13 @@ pub fn same_bound_kinds(one: &VersionBoundKind, other: &VersionBoundKind) -> boo
     one == other
 }
 
+/// Whether two rules about pre-releases are the same.
+pub fn same_pre_releases(one: &PreRelease, other: &PreRelease) -> bool
+    ensures { IsTrue result ↔ (one.now ≡ other.now) }
+{
+    one == other
+}
+
 /// Whether two bounds at versions are the same, kinds included.
 pub fn same_version_bounds(one: &VersionBound, other: &VersionBound) -> bool
     ensures { IsTrue result ↔ (one.now ≡ other.now) }
@@ -151,4 +161,10 @@ pub fn version_texts_read_back()
 /// The normal text of a range is the text that the table of short forms gives it, row by row.
 pub fn normal_texts_follow_the_table()
     ensures { IsNormalTable }
+{}
+
+/// Each version that a text stands for is one of those among which `common_version` and `min_version` answer the least:
+/// its numbers fit, and the identifiers of its pre-release are parts (SemVer 2.0.0, sections 2 and 9).
+pub fn read_versions_are_readable()
+    ensures { ReadVersionsAreReadable }
 {}

@@ -16,6 +16,7 @@ use std::alloc::{AllocError, Global};
 use values::{Measured, Qualifier, Strictness};
 
 /// What follows the ASCII character `mark`, where the text begins with it.
+#[inline(always)]
 pub fn after(text: &str, mark: char) -> Option<&str>
     requires { mark < 128 }
     ensures { IsAfter mark text.now result }
@@ -24,6 +25,7 @@ pub fn after(text: &str, mark: char) -> Option<&str>
 }
 
 /// What follows the blanks at the front; a blank is a character for which `char::is_whitespace` is true.
+#[inline(always)]
 pub fn after_blanks(text: &str) -> &str
     ensures { IsLongest IsBlanks text.now tt result.now }
 {
@@ -38,6 +40,7 @@ pub fn is_blank(text: &str) -> bool
 }
 
 // How many digits stand at the front.
+#[inline(always)]
 fn digits_len(bytes: &[u8]) -> usize
     ensures { result ≡ length (take_while is_ascii_digit bytes.now) }
 {
@@ -45,12 +48,14 @@ fn digits_len(bytes: &[u8]) -> usize
 }
 
 // The digits at the front, which may be none, and what follows them.
+#[inline(always)]
 fn split_digits(text: &str) -> (&str, &str)
     ensures { CutsRun is_ascii_digit text.now result.0.now result.1.now }
 {
     text.split_at(digits_len(text.as_bytes()))
 }
 
+#[inline(always)]
 fn is_part_byte(byte: u8) -> bool
     ensures { result ≡ is_part_byte byte }
 {
@@ -58,6 +63,7 @@ fn is_part_byte(byte: u8) -> bool
 }
 
 // How many bytes at the front belong to a part.
+#[inline(always)]
 fn part_len(bytes: &[u8]) -> usize
     ensures { result ≡ length (take_while is_part_byte bytes.now) }
 {
@@ -65,6 +71,7 @@ fn part_len(bytes: &[u8]) -> usize
 }
 
 // The part at the front, which may be empty, and what follows it.
+#[inline(always)]
 fn split_part(text: &str) -> (&str, &str)
     ensures { CutsRun is_part_byte text.now result.0.now result.1.now }
 {
@@ -72,6 +79,7 @@ fn split_part(text: &str) -> (&str, &str)
 }
 
 // What `parse` made of digits, as a number that fits or not.
+#[inline(always)]
 fn measured(number: Option<u64>) -> Measured<u64>
     ensures { result ≡ measured_of number }
 {
@@ -82,6 +90,7 @@ fn measured(number: Option<u64>) -> Measured<u64>
 }
 
 /// One or more ASCII digits, leading zeros allowed.
+#[inline(always)]
 pub fn loose_number(text: &str) -> Option<(Measured<u64>, &str)>
     ensures { ReadsAs sized IsLooseNumber text.now (answer_of result) }
 {
@@ -93,6 +102,7 @@ pub fn loose_number(text: &str) -> Option<(Measured<u64>, &str)>
 }
 
 // `0`, or ASCII digits that don't begin with `0`.
+#[inline(always)]
 fn strict_number(text: &str) -> Option<(Measured<u64>, &str)>
     ensures { ReadsAs sized IsStrictNumber text.now (answer_of result) }
 {
@@ -103,6 +113,7 @@ fn strict_number(text: &str) -> Option<(Measured<u64>, &str)>
 }
 
 /// A number by either grammar.
+#[inline(always)]
 pub fn number(text: &str, strictness: Strictness) -> Option<(Measured<u64>, &str)>
     ensures { ReadsAs sized (IsNumber strictness) text.now (answer_of result) }
 {
@@ -113,6 +124,7 @@ pub fn number(text: &str, strictness: Strictness) -> Option<(Measured<u64>, &str
 }
 
 // Adds an identifier at the end.
+#[inline(always)]
 fn push_part(
     alloc: Global,
     parts: &mut CowVec<SmallStackString>,
@@ -125,6 +137,7 @@ fn push_part(
 
 // One or more parts, each one or more of `0-9`, `A-Z`, `a-z` and `-`, with a `.` between neighbours and at most one
 // `.` at the end, which adds no part.
+#[inline(never)]
 fn parts(alloc: Global, text: &str) -> Result<Option<(CowVec<SmallStackString>, &str)>, AllocError>
     ensures { IfOk result (λ r. Reads IsParts text.now (answer_of r)) }
 {
@@ -146,6 +159,7 @@ fn parts(alloc: Global, text: &str) -> Result<Option<(CowVec<SmallStackString>, 
 }
 
 // A pre-release: parts after a `-`, which the loose grammar lets be missing.
+#[inline(always)]
 fn pre(
     alloc: Global,
     text: &str,
@@ -163,6 +177,7 @@ fn pre(
 }
 
 // A build: parts after a `+`.
+#[inline(always)]
 fn build(alloc: Global, text: &str) -> Result<Option<(CowVec<SmallStackString>, &str)>, AllocError>
     ensures { IfOk result (λ r. Reads IsBuild text.now (answer_of r)) }
 {
@@ -172,6 +187,7 @@ fn build(alloc: Global, text: &str) -> Result<Option<(CowVec<SmallStackString>, 
     }
 }
 
+#[inline(always)]
 fn optional_pre(
     alloc: Global,
     text: &str,
@@ -185,6 +201,7 @@ fn optional_pre(
     }
 }
 
+#[inline(always)]
 fn optional_build(alloc: Global, text: &str) -> Result<(CowVec<SmallStackString>, &str), AllocError>
     ensures { IfOk result (λ r. IsSeen or_none (Optional IsBuild) text.now r.0 r.1.now) }
 {
@@ -195,6 +212,7 @@ fn optional_build(alloc: Global, text: &str) -> Result<(CowVec<SmallStackString>
 }
 
 /// An optional pre-release, and then an optional build. The front may be empty, so there always is one.
+#[inline(always)]
 pub fn qualifier(
     alloc: Global,
     text: &str,

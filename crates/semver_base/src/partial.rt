@@ -1,14 +1,15 @@
 //! Partial versions, whose components may be wildcards, and the ranges that they stand for, alone or after a sign.
 
-ghost use Rattle.std.specs.Prelude.{◌≡◌, ◌+◌, ◌∷◌, [], IfOk, IfErr, None, OnOk, true};
+ghost use Rattle.std.specs.Prelude.{◌≡◌, ◌+◌, ◌∷◌, [], IfOk, IfErr, IfSome, None, OnOk, true};
 ghost use Rattle.semver_base.specs.Comparators.{signed_line};
 ghost use Rattle.semver_base.specs.Meaning.{from, release, to_below};
-ghost use Rattle.semver_base.specs.PartialTable.{IsBoundRefusal, all_fit, between, caret, equal, greater_range, greater_than, less_than, lower_to_below, lowest, or_zero, version_with_pre, tilde, upper, without_build};
+ghost use Rattle.semver_base.specs.PartialTable.{IsBoundRefusal, IsLineRange, all_fit, between, caret, equal, greater_range, greater_than, less_than, lower_to_below, lowest, of_numbers, or_zero, version_with_pre, tilde, upper, without_build};
 
 use crate::failure::{ParseFailure, Refusal};
+use crate::plain::Numbers;
 use crate::range::{RangeBound, VersionBoundKind, VersionRange};
 use crate::string::CowVec;
-use crate::version::{Version, VersionPreOrBuild};
+use crate::version::{Version, VersionPreOrBuild, release};
 use std::alloc::{AllocError, Global};
 
 /// A component of a partial version.
@@ -31,6 +32,7 @@ pub struct Partial {
 }
 
 // A wildcard counts as 0.
+#[inline(always)]
 fn or_zero(component: XRange) -> u64
     ensures { result ≡ or_zero component }
 {
@@ -41,6 +43,7 @@ fn or_zero(component: XRange) -> u64
 }
 
 // The number after this one.
+#[inline(always)]
 fn raised(alloc: Global, number: u64) -> Result<u64, ParseFailure>
     ensures raised { IfOk result (λ n. n ≡ number + 1) }
     ensures fits { OnOk result (all_fit ((number + 1) ∷ []) ≡ true) }
@@ -49,18 +52,6 @@ fn raised(alloc: Global, number: u64) -> Result<u64, ParseFailure>
     match number.checked_add(1) {
         Some(number) => Ok(number),
         None => Err(ParseFailure::of_refusal(alloc, Refusal::BoundTooLarge)),
-    }
-}
-
-fn release(alloc: Global, major: u64, minor: u64, patch: u64) -> Version
-    ensures { result ≡ release major minor patch }
-{
-    Version {
-        major,
-        minor,
-        patch,
-        pre: CowVec::new(alloc),
-        build: CowVec::new(alloc),
     }
 }
 
@@ -79,6 +70,7 @@ impl Partial {
     }
 
     // `M.m.p-pre+build`, with wildcards as 0.
+    #[inline(always)]
     fn lowest(&self) -> Result<Version, AllocError>
         ensures { IfOk result (λ version. version ≡ lowest self.now) }
     {
@@ -94,6 +86,7 @@ impl Partial {
     /// The start from the lowest version that the partial names, wildcards as 0.
     ///
     /// A failure is want of memory.
+    #[inline(always)]
     pub fn as_lower_bound(&self, _alloc: Global) -> Result<RangeBound, ParseFailure>
         ensures bound { IfOk result (λ bound. bound ≡ from (lowest self.now)) }
         ensures refused { IfErr result (λ failure. failure ≡ None) }
@@ -102,6 +95,7 @@ impl Partial {
     }
 
     // From the lower bound to below a release.
+    #[inline(always)]
     fn lower_to_below(
         &self,
         alloc: Global,
@@ -123,6 +117,7 @@ impl Partial {
     ///
     /// The refusal "Version bound is too large." comes exactly where the raised number is past 18446744073709551615;
     /// any other failure is want of memory.
+    #[inline(always)]
     pub fn as_tilde_version_range(&self, alloc: Global) -> Result<VersionRange, ParseFailure>
         ensures range { IfOk result (λ range. range ≡ (tilde self.now).range) }
         ensures fits { OnOk result (all_fit (tilde self.now).sums ≡ true) }
@@ -146,6 +141,7 @@ impl Partial {
     ///
     /// The refusal "Version bound is too large." comes exactly where the raised number is past 18446744073709551615;
     /// any other failure is want of memory.
+    #[inline(always)]
     pub fn as_caret_version_range(&self, alloc: Global) -> Result<VersionRange, ParseFailure>
         ensures range { IfOk result (λ range. range ≡ (caret self.now).range) }
         ensures fits { OnOk result (all_fit (caret self.now).sums ≡ true) }
@@ -217,6 +213,7 @@ impl Partial {
     ///
     /// The refusal "Version bound is too large." comes exactly where the raised number is past 18446744073709551615;
     /// any other failure is want of memory.
+    #[inline(always)]
     pub fn as_equal_range(&self, alloc: Global) -> Result<VersionRange, ParseFailure>
         ensures range { IfOk result (λ range. range ≡ (equal self.now).range) }
         ensures fits { OnOk result (all_fit (equal self.now).sums ≡ true) }
@@ -258,6 +255,7 @@ impl Partial {
     }
 
     // `M.m.p-pre`, with wildcards as 0.
+    #[inline(always)]
     fn without_build(&self, alloc: Global) -> Result<Version, AllocError>
         ensures { IfOk result (λ version. version ≡ without_build self.now) }
     {
@@ -270,6 +268,7 @@ impl Partial {
     }
 
     // The version of these three numbers with the partial's pre-release.
+    #[inline(always)]
     fn version_with_pre(
         &self,
         alloc: Global,
@@ -460,6 +459,56 @@ impl PrimitiveKind {
             PrimitiveKind::LessThanOrEqual => {
                 partial.as_less_than(alloc, VersionBoundKind::Inclusive)
             }
+        }
+    }
+}
+
+impl Numbers {
+    // From these numbers to below others.
+    #[inline(always)]
+    fn to_below(self, alloc: Global, major: u64, minor: u64, patch: u64) -> VersionRange
+        ensures { result ≡ (lower_to_below (of_numbers self) (release major minor patch) []).range }
+    {
+        VersionRange {
+            start: RangeBound::inclusive(release(alloc, self.major, self.minor, self.patch)),
+            end: RangeBound::exclusive(release(alloc, major, minor, patch)),
+        }
+    }
+
+    /// The range of `~` and these numbers, as [`Partial::as_tilde_version_range`] has it; none where a bound is too large.
+    #[inline(always)]
+    pub fn tilde_range(self, alloc: Global) -> Option<VersionRange>
+        ensures { IfSome result (IsLineRange (tilde (of_numbers self))) }
+    {
+        let next = self.minor.checked_add(1)?;
+        Some(self.to_below(alloc, self.major, next, 0))
+    }
+
+    /// The range of `^` and these numbers, as [`Partial::as_caret_version_range`] has it; none where a bound is too large.
+    #[inline(always)]
+    pub fn caret_range(self, alloc: Global) -> Option<VersionRange>
+        ensures { IfSome result (IsLineRange (caret (of_numbers self))) }
+    {
+        if self.major > 0 {
+            let next = self.major.checked_add(1)?;
+            return Some(self.to_below(alloc, next, 0, 0));
+        }
+        if self.minor > 0 {
+            let next = self.minor.checked_add(1)?;
+            return Some(self.to_below(alloc, 0, next, 0));
+        }
+        let next = self.patch.checked_add(1)?;
+        Some(self.to_below(alloc, 0, 0, next))
+    }
+
+    /// The range of these numbers alone, as [`Partial::as_equal_range`] has it.
+    #[inline(always)]
+    pub fn equal_range(self, alloc: Global) -> VersionRange
+        ensures { IsLineRange (equal (of_numbers self)) result }
+    {
+        VersionRange {
+            start: RangeBound::inclusive(release(alloc, self.major, self.minor, self.patch)),
+            end: RangeBound::inclusive(release(alloc, self.major, self.minor, self.patch)),
         }
     }
 }

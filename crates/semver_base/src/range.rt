@@ -3,11 +3,14 @@
 ghost use Rattle.std.specs.Prelude.{◌≡◌, ◌∷◌, ◌⊎◌, [], IfOk};
 ghost use Rattle.std.specs.Bool.{OnFalse, OnTrue};
 ghost use Rattle.std.specs.List.{list_any};
-ghost use Rattle.semver_base.specs.Clamp.{clamped, clamped_end, clamped_start, of_tied, stopped_at, HaveCrossed, HoldsBoth, HoldsNothing, MatchesBoth, MeansBoth};
-ghost use Rattle.semver_base.specs.Meaning.{alternative_means, alternatives, bounds_hold, end_holds, everything, has_pre_of, nothing, start_holds, tree_means};
+ghost use Rattle.semver_base.specs.Clamp.{clamped, clamped_end, clamped_start, of_tied, stopped_at, AdmitsBoth, HaveCrossed, HoldsBoth, HoldsNothing, MatchesBoth, MeansBoth};
+ghost use Rattle.semver_base.specs.Meaning.{alternative_means, alternative_means_with, alternatives, bounds_hold, end_holds, everything, has_pre_of, is_unrestricted, nothing, start_holds, tree_means, tree_means_with};
 ghost use Rattle.semver_base.specs.Overlap.{ends_at_zero, overlap, some_overlap, starts_before, HoldNothingTogether, HoldsNoRelease, MatchNothingTogether};
 
+mod all;
 mod display;
+mod least;
+mod outside;
 
 use crate::string::{CowItem, CowVec};
 use crate::version::Version;
@@ -21,6 +24,28 @@ pub enum VersionBoundKind {
     Inclusive,
     /// The bound doesn't hold its version.
     Exclusive,
+}
+
+/// Which pre-releases match, of those between the bounds.
+#[derive(Clone, Copy, Debug, PartialEq, Eq, Hash)]
+pub enum PreRelease {
+    /// Those of whose three numbers some bound is a pre-release (node-semver's rule).
+    Restricted,
+    /// All of them (node-semver's `includePrerelease`, but with the bounds as they are).
+    Admitted,
+}
+
+impl PreRelease {
+    // Whether the version matches wherever the bounds hold it: a release does, and any version where all are admitted.
+    #[inline(always)]
+    fn is_unrestricted(self, version: &Version) -> bool
+        ensures { result ≡ is_unrestricted self version.now }
+    {
+        match self {
+            PreRelease::Restricted => version.pre.is_empty(),
+            PreRelease::Admitted => true,
+        }
+    }
 }
 
 /// A version at which a range starts or ends.
@@ -88,6 +113,7 @@ impl RangeBound {
     }
 
     // Whether the version stands above this start.
+    #[inline(always)]
     fn holds_as_start(&self, version: &Version) -> bool
         ensures { result ≡ start_holds self.now version.now }
     {
@@ -104,6 +130,7 @@ impl RangeBound {
     }
 
     // Whether the version stands below this end.
+    #[inline(always)]
     fn holds_as_end(&self, version: &Version) -> bool
         ensures { result ≡ end_holds self.now version.now }
     {
@@ -120,6 +147,7 @@ impl RangeBound {
     }
 
     /// Whether this bound is a pre-release of the version's three numbers, so that it admits pre-releases of them.
+    #[inline(always)]
     pub fn has_pre_with_exact_major_minor_patch(&self, version: &Version) -> bool
         ensures { result ≡ has_pre_of self.now version.now }
     {
@@ -211,7 +239,98 @@ impl RangeBound {
         }
     }
 
+    // Whether the greater of two starts is this one, or one that ties with it, and not the other.
+    #[inline(always)]
+    fn is_clamped_start(&self, other: &RangeBound) -> bool
+        ensures own { OnTrue result (clamped_start self.now other.now ≡ self.now) }
+        ensures others { OnFalse result (clamped_start self.now other.now ≡ other.now) }
+    {
+        match (self, other) {
+            (RangeBound::Unbounded, _) => false,
+            (RangeBound::Version(_), RangeBound::Unbounded) => true,
+            (RangeBound::Version(own), RangeBound::Version(others)) => {
+                match own.version.cmp_precedence(&others.version) {
+                    Ordering::Less => false,
+                    Ordering::Equal => match own.kind {
+                        VersionBoundKind::Exclusive => true,
+                        VersionBoundKind::Inclusive => false,
+                    },
+                    Ordering::Greater => true,
+                }
+            }
+        }
+    }
+
+    // Whether the lesser of two ends is this one, or one that ties with it, and not the other.
+    #[inline(always)]
+    fn is_clamped_end(&self, other: &RangeBound) -> bool
+        ensures own { OnTrue result (clamped_end self.now other.now ≡ self.now) }
+        ensures others { OnFalse result (clamped_end self.now other.now ≡ other.now) }
+    {
+        match (self, other) {
+            (RangeBound::Unbounded, _) => false,
+            (RangeBound::Version(_), RangeBound::Unbounded) => true,
+            (RangeBound::Version(own), RangeBound::Version(others)) => {
+                match own.version.cmp_precedence(&others.version) {
+                    Ordering::Less => true,
+                    Ordering::Equal => match own.kind {
+                        VersionBoundKind::Exclusive => true,
+                        VersionBoundKind::Inclusive => false,
+                    },
+                    Ordering::Greater => false,
+                }
+            }
+        }
+    }
+
+    // Whether this start isn't stopped at the end, since it lies below it.
+    #[inline(always)]
+    fn is_unstopped(&self, end: &RangeBound) -> bool
+        ensures { OnTrue result (stopped_at self.now end.now ≡ self.now) }
+    {
+        match (self, end) {
+            (RangeBound::Version(start), RangeBound::Version(stop)) => {
+                start.version.cmp_precedence(&stop.version) == Ordering::Less
+            }
+            (_, _) => true,
+        }
+    }
+
+    // The start of what two ranges with these starts both hold.
+    #[inline(always)]
+    fn clamped_start(self, other: RangeBound) -> RangeBound
+        ensures { result ≡ clamped_start self other }
+    {
+        if self.is_clamped_start(&other) {
+            return self;
+        }
+        other
+    }
+
+    // The end of what two ranges with these ends both hold.
+    #[inline(always)]
+    fn clamped_end(self, other: RangeBound) -> RangeBound
+        ensures { result ≡ clamped_end self other }
+    {
+        if self.is_clamped_end(&other) {
+            return self;
+        }
+        other
+    }
+
+    // This start, stopped at the end.
+    #[inline(always)]
+    fn into_stopped_at(self, end: &RangeBound) -> Result<RangeBound, AllocError>
+        ensures { IfOk result (λ bound. bound ≡ stopped_at self end.now) }
+    {
+        if self.is_unstopped(end) {
+            return Ok(self);
+        }
+        self.stopped_at(end)
+    }
+
     // Whether this start lies below the end, or at it where both are inclusive.
+    #[inline(always)]
     fn starts_before(&self, end: &RangeBound) -> bool
         ensures { result ≡ starts_before self.now end.now }
     {
@@ -249,16 +368,25 @@ impl VersionRange {
         }
     }
 
+    /// Whether the version matches: it stands between both bounds, and, unless pre-releases are admitted, it is a release
+    /// or one of the two bounds is a pre-release of its three numbers (node-semver's rule about pre-releases).
+    #[inline(always)]
+    pub fn satisfies_with(&self, version: &Version, pre_release: PreRelease) -> bool
+        ensures { result ≡ alternative_means_with pre_release (self.now ∷ []) version.now }
+    {
+        (self.start.holds_as_start(version) & self.end.holds_as_end(version))
+            && (pre_release.is_unrestricted(version)
+                || self.start.has_pre_with_exact_major_minor_patch(version)
+                || self.end.has_pre_with_exact_major_minor_patch(version))
+    }
+
     /// Whether the version matches: it stands between both bounds, and it is a release or one of the two bounds is a
     /// pre-release of its three numbers (node-semver's rule about pre-releases).
+    #[inline(always)]
     pub fn satisfies(&self, version: &Version) -> bool
         ensures { result ≡ alternative_means (self.now ∷ []) version.now }
     {
-        self.start.holds_as_start(version)
-            && self.end.holds_as_end(version)
-            && (version.pre.is_empty()
-                || self.start.has_pre_with_exact_major_minor_patch(version)
-                || self.end.has_pre_with_exact_major_minor_patch(version))
+        self.satisfies_with(version, PreRelease::Restricted)
     }
 
     /// The same range again. It is an error only where no memory is left.
@@ -276,13 +404,15 @@ impl VersionRange {
     /// A start that has passed the end becomes an exclusive start at the end's version: such a range holds nothing,
     /// nor does any range that it is clamped to. An inclusive start at the end becomes a copy of the end. A
     /// pre-release matches where the bounds of both ranges hold it and one of the four bounds is a pre-release of its
-    /// three numbers, as where both stand side by side (node-semver, "Prerelease Tags").
+    /// three numbers, as where both stand side by side (node-semver, "Prerelease Tags"). Where pre-releases are
+    /// admitted, a version matches where it matches both ranges.
     ///
     /// It is an error only where no memory is left.
     pub fn clamp(&self, alloc: Global, other: &VersionRange) -> Result<VersionRange, AllocError>
         ensures value { IfOk result (λ range. range ≡ clamped self.now other.now) }
         ensures bounds { IfOk result (HoldsBoth self.now other.now) }
         ensures means { IfOk result (MeansBoth self.now other.now) }
+        ensures admits { IfOk result (AdmitsBoth self.now other.now) }
         ensures releases { IfOk result (MatchesBoth self.now other.now) }
         ensures crossed { IfOk result (λ range. HaveCrossed self.now other.now → HoldsNothing range) }
         ensures stays_empty { IfOk result (λ range. HoldsNothing self.now ⊎ HoldsNothing other.now
@@ -291,6 +421,23 @@ impl VersionRange {
         let start = self.start.clamp_start(alloc, &other.start)?;
         let end = self.end.clamp_end(alloc, &other.end)?;
         let start = start.stopped_at(&end)?;
+        Ok(VersionRange { start, end })
+    }
+
+    /// The same ([`VersionRange::clamp`]) of ranges that are let go, whose bounds it takes over. Only a start that has
+    /// passed the end wants memory.
+    #[inline(always)]
+    pub fn clamp_into(self, other: VersionRange) -> Result<VersionRange, AllocError>
+        ensures value { IfOk result (λ range. range ≡ clamped self other) }
+    {
+        let VersionRange { start, end } = self;
+        let VersionRange {
+            start: others_start,
+            end: others_end,
+        } = other;
+        let start = start.clamped_start(others_start);
+        let end = end.clamped_end(others_end);
+        let start = start.into_stopped_at(&end)?;
         Ok(VersionRange { start, end })
     }
 
@@ -325,6 +472,7 @@ impl VersionRange {
     /// Only those pairs of bounds are compared, so a range whose start is above its own end can overlap another. Where
     /// the ranges don't overlap, no version stands between the bounds of both.
     #[tactic(auto, using(crate::proofs::OverlapLemmas::range_no_common))]
+    #[inline(always)]
     pub fn intersects_range(&self, other: &VersionRange) -> bool
         ensures value { result ≡ overlap self.now other.now }
         ensures symmetric { result ≡ overlap other.now self.now }
@@ -342,17 +490,29 @@ impl CowItem for VersionRange {
 
 impl VersionRangeSet {
     // Whether some range alone matches the version.
-    fn has_match(&self, version: &Version) -> bool
-        ensures { result ≡ list_any (λ range. alternative_means (range ∷ []) version.now) self.now.0 }
+    #[inline(always)]
+    fn has_match(&self, version: &Version, pre_release: PreRelease) -> bool
+        ensures { result ≡ list_any (λ range. alternative_means_with pre_release (range ∷ []) version.now) self.now.0 }
     {
-        self.0.iter().any(|range| range.satisfies(version))
+        self.0
+            .iter()
+            .any(|range| range.satisfies_with(version, pre_release))
+    }
+
+    /// Whether the version matches some range, as [`VersionRange::satisfies_with`] says.
+    #[inline(always)]
+    pub fn satisfies_with(&self, version: &Version, pre_release: PreRelease) -> bool
+        ensures { result ≡ tree_means_with pre_release (alternatives self.now.0) version.now }
+    {
+        self.has_match(version, pre_release)
     }
 
     /// Whether the version matches some range.
+    #[inline(always)]
     pub fn satisfies(&self, version: &Version) -> bool
         ensures { result ≡ tree_means (alternatives self.now.0) version.now }
     {
-        self.has_match(version)
+        self.satisfies_with(version, PreRelease::Restricted)
     }
 
     /// The same ranges again. It is an error only where no memory is left.

@@ -64,6 +64,7 @@ impl<const LIMIT: usize> Model for ShortText<LIMIT> {
 }
 
 // How many zeros stand at the front.
+#[inline(always)]
 fn leading_zeros(bytes: &[u8]) -> usize
     ensures { result ≡ zeros_in_front bytes.now }
 {
@@ -113,6 +114,7 @@ impl<const LIMIT: usize> Kept<LIMIT> {
 
 impl<const LIMIT: usize> ShortText<LIMIT> {
     /// The empty text.
+    #[inline(always)]
     pub fn new(alloc: Global) -> Self
         ensures { result ≡ [] }
     {
@@ -124,6 +126,7 @@ impl<const LIMIT: usize> ShortText<LIMIT> {
     }
 
     /// The empty text. The room that is asked for is a hint, and no memory is taken before a text needs it.
+    #[inline(always)]
     pub fn with_capacity(alloc: Global, _capacity: usize) -> Result<Self, AllocError>
         ensures value { IfOk result (λ s. s ≡ []) }
         ensures succeeds { IsOk result }
@@ -132,6 +135,7 @@ impl<const LIMIT: usize> ShortText<LIMIT> {
     }
 
     /// The text `text`. It is an error only where no memory is left, and never for a text of at most `LIMIT` bytes.
+    #[inline(always)]
     pub fn from_str(alloc: Global, text: &str) -> Result<Self, AllocError>
         ensures value { IfOk result (λ s. s ≡ text.now) }
         ensures succeeds { length text.now ≤ LIMIT → IsOk result }
@@ -184,6 +188,7 @@ impl<const LIMIT: usize> ShortText<LIMIT> {
     }
 
     // How many zeros the text begins with, which takes no reading.
+    #[inline(always)]
     pub(crate) fn leading_zeros(&self) -> usize
         ensures { result ≡ zeros_in_front self.now }
     {
@@ -332,6 +337,7 @@ pub trait StringType: Drop {
     ghost text: { Self → List ℕ };
 
     /// The empty text, with room for `capacity` bytes. It is an error only where no memory is left.
+    #[inline(always)]
     fn with_capacity(alloc: Global, capacity: usize) -> Result<Self, AllocError>
         ensures { IfOk result (λ s. text s ≡ []) };
 
@@ -377,6 +383,7 @@ pub fn append_displayed<D: fmt::Display, T: StringType>(
 impl StringType for String {
     ghost text = { string_bytes };
 
+    #[inline(always)]
     fn with_capacity(alloc: Global, capacity: usize) -> Result<Self, AllocError> {
         String::with_capacity(alloc, capacity)
     }
@@ -397,6 +404,7 @@ impl StringType for String {
 impl<const LIMIT: usize> StringType for ShortText<LIMIT> {
     ghost text = { λ s. s };
 
+    #[inline(always)]
     fn with_capacity(alloc: Global, capacity: usize) -> Result<Self, AllocError> {
         ShortText::with_capacity(alloc, capacity)
     }
@@ -455,6 +463,7 @@ impl<T> Model for CowVec<T> {
 
 impl<T> CowVec<T> {
     /// The empty list.
+    #[inline(always)]
     pub fn new(alloc: Global) -> Self
         ensures { result ≡ [] }
     {
@@ -462,6 +471,7 @@ impl<T> CowVec<T> {
     }
 
     /// The items.
+    #[inline(always)]
     pub(crate) fn as_slice(&self) -> &[T]
         ensures { result.now ≡ self.now }
     {
@@ -479,6 +489,7 @@ impl<T> CowVec<T> {
     }
 
     /// Whether there is no item.
+    #[inline(always)]
     pub fn is_empty(&self) -> bool
         ensures { IsTrue result ↔ (self.now ≡ []) }
     {
@@ -540,6 +551,19 @@ impl<T: CowItem + Drop> CowVec<T> {
             }
         }
         Ok(())
+    }
+
+    /// The list of one item, with room for no more. It is an error only where no memory is left.
+    #[inline(always)]
+    pub fn of_one(alloc: Global, item: T) -> Result<Self, AllocError>
+        ensures { IfOk result (λ v. v ≡ item ∷ []) }
+    {
+        let mut items = Vec::with_capacity(alloc, 1)?;
+        items.push(item)?;
+        Ok(CowVec {
+            alloc,
+            items: Some(Rc::new(alloc, items)?),
+        })
     }
 
     /// The same list again, which shares the items. It is an error only where no memory is left.

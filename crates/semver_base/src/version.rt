@@ -11,13 +11,15 @@ ghost use Rattle.semver_base.specs.Grammar.{IsLongest, IsSeen, Optional, Marked}
 ghost use Rattle.semver_base.specs.Lexical.{IsBlanks, IsByte};
 ghost use Rattle.semver_base.specs.VersionGrammar.{IsLead, IsVersionAnswer, IsVersionOutcome, IsVersionRefusal, ignored, version_failure};
 ghost use Rattle.semver_base.specs.VersionReaderSteps.{IsFittingNumber, IsFittingTriple, IsNumberRefusal, IsReadVersion, IsTripleRefusal};
-ghost use Rattle.semver_base.specs.Precedence.{identifier_cmp, number_of, pre_cmp, precedence_cmp, version_cmp};
+ghost use Rattle.semver_base.specs.Meaning.{release};
+ghost use Rattle.semver_base.specs.Precedence.{identifier_cmp, number_of, numbers_cmp, pre_cmp, precedence_cmp, qualifiers_cmp, version_cmp};
 ghost use Rattle.semver_base.specs.PrecedenceLaws.{version_po, version_ties, version_total, SamePrecedence};
 ghost use Rattle.semver_base.specs.VersionText.{ReadsBack, marked, version_text};
 
 use crate::failure::{ParseFailure, Refusal};
 use crate::lexical;
 use crate::lexical::values::{Measured, Strictness};
+use crate::plain::{Numbers, plain_numbers};
 use crate::string::{CowVec, SmallStackString, StringAppendable, StringType, append_displayed};
 use std::alloc::{AllocError, Global};
 use std::cmp::Ordering;
@@ -105,6 +107,9 @@ impl Version {
         ensures answer { (outcome : Result Version Refusal) → IsVersionOutcome (trim text.now) outcome
             → IsVersionAnswer (λ (error : VersionParseError). error.source) (trim text.now) outcome result }
     {
+        if let Some(numbers) = plain_numbers(text) {
+            return Ok(release(alloc, numbers.major, numbers.minor, numbers.patch));
+        }
         match read(alloc, text.trim()) {
             Ok(version) => Ok(version),
             Err(source) => Err(VersionParseError { source }),
@@ -126,6 +131,7 @@ impl Version {
 
     /// The order of precedence, in which the build has no part (SemVer 2.0.0, section 11). Numeric identifiers of the
     /// same value are ordered by their text, and digits past 18446744073709551615 are a text.
+    #[inline(always)]
     pub fn cmp_precedence(&self, other: &Version) -> Ordering
         ensures value { result ≡ precedence_cmp self.now other.now }
         ensures equal { (result ≡ Ordering.Equal) ↔ SamePrecedence self.now other.now }
@@ -135,7 +141,22 @@ impl Version {
     }
 }
 
+/// The version of these numbers, with no pre-release and no build.
+#[inline(always)]
+pub(crate) fn release(alloc: Global, major: u64, minor: u64, patch: u64) -> Version
+    ensures { result ≡ release major minor patch }
+{
+    Version {
+        major,
+        minor,
+        patch,
+        pre: CowVec::new(alloc),
+        build: CowVec::new(alloc),
+    }
+}
+
 // What follows an `=` at the front, or the whole text.
+#[inline(always)]
 fn after_equals(text: &str) -> &str
     ensures { IsSeen ignored (Optional (IsByte 61)) text.now tt result.now }
 {
@@ -146,6 +167,7 @@ fn after_equals(text: &str) -> &str
 }
 
 // What follows a `v` and blanks at the front, or the whole text.
+#[inline(always)]
 fn after_v(text: &str) -> &str
     ensures { IsSeen ignored (Optional (Marked 118 IsBlanks)) text.now tt result.now }
 {
@@ -156,6 +178,7 @@ fn after_v(text: &str) -> &str
 }
 
 // What follows the lead.
+#[inline(always)]
 fn after_lead(text: &str) -> &str
     ensures { IsLongest IsLead text.now tt result.now }
 {
@@ -163,6 +186,7 @@ fn after_lead(text: &str) -> &str
 }
 
 // The number at the front, where it fits.
+#[inline(always)]
 fn fitting_number(text: &str) -> Result<(u64, &str), Refusal>
     ensures read { IfOk result (λ r. IsFittingNumber text.now r.0 r.1.now) }
     ensures refused { IfErr result (IsNumberRefusal text.now) }
@@ -174,15 +198,8 @@ fn fitting_number(text: &str) -> Result<(u64, &str), Refusal>
     }
 }
 
-// The three numbers of a version.
-#[derive(Clone, Copy)]
-struct Numbers {
-    major: u64,
-    minor: u64,
-    patch: u64,
-}
-
 // The three numbers at the front, where they fit.
+#[inline(always)]
 fn triple(text: &str) -> Result<(Numbers, &str), Refusal>
     ensures read { IfOk result (λ r. IsFittingTriple text.now (r.0.major, (r.0.minor, r.0.patch)) r.1.now) }
     ensures refused { IfErr result (IsTripleRefusal text.now) }
@@ -277,6 +294,7 @@ fn cmp_identifiers(a: &[VersionPreOrBuild], b: &[VersionPreOrBuild]) -> Ordering
     a.len().cmp(&b.len())
 }
 
+#[inline(never)]
 fn cmp_pre(a: &[VersionPreOrBuild], b: &[VersionPreOrBuild]) -> Ordering
     ensures { result ≡ pre_cmp a.now b.now }
 {
@@ -289,6 +307,7 @@ fn cmp_pre(a: &[VersionPreOrBuild], b: &[VersionPreOrBuild]) -> Ordering
 }
 
 // Precedence, by the first number that differs; pre-releases are compared only where all three tie.
+#[inline(always)]
 fn precedence(a: &Version, b: &Version) -> Ordering
     ensures { result ≡ precedence_cmp a.now b.now }
 {
@@ -302,6 +321,28 @@ fn precedence(a: &Version, b: &Version) -> Ordering
         return a.patch.cmp(&b.patch);
     }
     cmp_pre(a.pre.as_slice(), b.pre.as_slice())
+}
+
+// The order of the three numbers. It takes no branch, since what sorts versions can't foresee which way it goes.
+#[inline(always)]
+fn cmp_numbers(a: &Version, b: &Version) -> Ordering
+    ensures { result ≡ numbers_cmp a.now b.now }
+{
+    a.major
+        .cmp(&b.major)
+        .then(a.minor.cmp(&b.minor))
+        .then(a.patch.cmp(&b.patch))
+}
+
+// The order of the pre-releases, and where they tie of the builds.
+#[inline(never)]
+fn cmp_qualifiers(a: &Version, b: &Version) -> Ordering
+    ensures { result ≡ qualifiers_cmp a.now b.now }
+{
+    cmp_pre(a.pre.as_slice(), b.pre.as_slice()).then_with(|| a
+        .build
+        .as_slice()
+        .cmp(b.build.as_slice()))
 }
 
 // Writes a separator and the identifier after it.
@@ -371,7 +412,10 @@ impl Ord for Version {
     ghost matches_eq = { version_ties };
 
     fn cmp(&self, other: &Version) -> Ordering {
-        self.cmp_precedence(other)
-            .then_with(|| self.build.as_slice().cmp(other.build.as_slice()))
+        let numbers = cmp_numbers(self, other);
+        if numbers != Ordering::Equal {
+            return numbers;
+        }
+        cmp_qualifiers(self, other)
     }
 }

@@ -8,7 +8,7 @@ use Rattle.std.specs.declared.cmp.Ordering.{Ordering}
 use Rattle.std.specs.declared.cmp.Ordering.TheVariants.{Less, Equal, Greater}
 use Rattle.semver_base.specs.Clamp.{clamped, clamped_end, lesser_of, of_tied, HoldsNothing}
 use Rattle.semver_base.specs.Comparators.{Caret, Comparator, Hyphen, Plain, Signed, Tilde, comparator_range, signed_line}
-use Rattle.semver_base.specs.Meaning.{alternative_means, alternatives, bounds_hold, everything, from, is_below, release, to_below, tree_means}
+use Rattle.semver_base.specs.Meaning.{alternative_means_with, alternatives, bounds_hold, everything, from, is_below, release, to_below, tree_means_with}
 use Rattle.semver_base.specs.Overlap.{ends_at_zero, is_exclusive}
 use Rattle.semver_base.specs.PartialTable.{above_by, at_least_by, up_to, at_most_by, below_by, between, caret_by, caret_patch, equal_by, greater_range_by, lower_to_below, version_with_pre, tilde_by, upper_by, without_build}
 use Rattle.semver_base.specs.Precedence.{precedence_cmp}
@@ -18,6 +18,7 @@ use Rattle.semver_base.specs.declared.partial.PrimitiveKind.{PrimitiveKind}
 use Rattle.semver_base.specs.declared.partial.PrimitiveKind.TheVariants as sign
 use Rattle.semver_base.specs.declared.partial.XRange.{XRange}
 use Rattle.semver_base.specs.declared.partial.XRange.TheVariants.{Wildcard, Val}
+use Rattle.semver_base.specs.declared.range.PreRelease.{PreRelease}
 use Rattle.semver_base.specs.declared.range.RangeBound.{RangeBound}
 use Rattle.semver_base.specs.declared.range.RangeBound.TheVariants as bound
 use Rattle.semver_base.specs.declared.range.VersionBoundKind.{VersionBoundKind}
@@ -65,16 +66,18 @@ joined false true true l r c a b o held means = cc held
 joined false true false l r c a b o held means = refl
 joined false false hb l r c a b o held means = refl
 
-clamped_joined : (a b : VersionRange) (ranges : List VersionRange) (v : Version) → alternative_means (clamped a b ∷ ranges) v ≡ alternative_means (a ∷ b ∷ ranges) v
-clamped_joined a b ranges v = joined _ _ _ _ _ _ _ _ _ (clamped_bounds a b v) (clamped_means a b v)
+clamped_joined : (flag : PreRelease) (a b : VersionRange) (ranges : List VersionRange) (v : Version)
+    → alternative_means_with flag (clamped a b ∷ ranges) v ≡ alternative_means_with flag (a ∷ b ∷ ranges) v
+clamped_joined flag a b ranges v = joined _ _ _ _ _ _ _ _ _ (clamped_bounds a b v) (clamped_means a b flag v)
 
-folded_from : (start : VersionRange) (ranges : List VersionRange) (v : Version) → alternative_means (fold clamped start ranges ∷ []) v ≡ alternative_means (start ∷ ranges) v
-folded_from start [] v = refl
-folded_from start (range ∷ ranges) v = folded_from (clamped start range) ranges v ∙ clamped_joined start range ranges v
+folded_from : (flag : PreRelease) (start : VersionRange) (ranges : List VersionRange) (v : Version)
+    → alternative_means_with flag (fold clamped start ranges ∷ []) v ≡ alternative_means_with flag (start ∷ ranges) v
+folded_from flag start [] v = refl
+folded_from flag start (range ∷ ranges) v = folded_from flag (clamped start range) ranges v ∙ clamped_joined flag start range ranges v
 
 -- the fold means what the ranges mean as comparators of one alternative
-pub folded_means : (ranges : List VersionRange) (v : Version) → alternative_means (folded ranges ∷ []) v ≡ alternative_means ranges v
-folded_means ranges v = folded_from everything ranges v
+pub folded_means : (flag : PreRelease) (ranges : List VersionRange) (v : Version) → alternative_means_with flag (folded ranges ∷ []) v ≡ alternative_means_with flag ranges v
+folded_means flag ranges v = folded_from flag everything ranges v
 
 -- ---- an end at 0.0.0
 
@@ -234,29 +237,32 @@ kept_empty (Hyphen p q ∷ []) = comparator_empty (Hyphen p q)
 kept_empty comparators = folded_empty comparators
 
 -- the range of an alternative means what the alternative means
-pub kept_range_means : (comparators : List Comparator) (v : Version) → alternative_means (kept_range comparators ∷ []) v ≡ alternative_means (map comparator_range comparators) v
-kept_range_means (Hyphen p q ∷ []) v = refl
-kept_range_means comparators v = folded_means (map comparator_range comparators) v
+pub kept_range_means : (flag : PreRelease) (comparators : List Comparator) (v : Version)
+    → alternative_means_with flag (kept_range comparators ∷ []) v ≡ alternative_means_with flag (map comparator_range comparators) v
+kept_range_means flag (Hyphen p q ∷ []) v = refl
+kept_range_means flag comparators v = folded_means flag (map comparator_range comparators) v
 
-pub nothing_means : (range : VersionRange) (v : Version) → HoldsNothing range → alternative_means (range ∷ []) v ≡ false
-nothing_means range v none = rw (none v) refl
+pub nothing_means : (flag : PreRelease) (range : VersionRange) (v : Version) → HoldsNothing range → alternative_means_with flag (range ∷ []) v ≡ false
+nothing_means flag range v none = rw (none v) refl
 
-all_mean : (tree : List (List Comparator)) (v : Version) → tree_means (alternatives (map kept_range tree)) v ≡ tree_means (tree_ranges tree) v
-all_mean [] v = refl
-all_mean (comparators ∷ tree) v = ap₂ (λ (a b : Bool). a || b) (kept_range_means comparators v) (all_mean tree v)
+all_mean : (flag : PreRelease) (tree : List (List Comparator)) (v : Version)
+    → tree_means_with flag (alternatives (map kept_range tree)) v ≡ tree_means_with flag (tree_ranges tree) v
+all_mean flag [] v = refl
+all_mean flag (comparators ∷ tree) v = ap₂ (λ (a b : Bool). a || b) (kept_range_means flag comparators v) (all_mean flag tree v)
 
 -- those that are dropped mean nothing
-rest_means : (tree : List (List Comparator)) (v : Version) → tree_means (alternatives (kept Normal tree)) v ≡ tree_means (tree_ranges tree) v
-rest_means [] v = refl
-rest_means (comparators ∷ tree) v = go (ends_at_zero (kept_range comparators).end) refl (rest_means tree v)
+rest_means : (flag : PreRelease) (tree : List (List Comparator)) (v : Version)
+    → tree_means_with flag (alternatives (kept Normal tree)) v ≡ tree_means_with flag (tree_ranges tree) v
+rest_means flag [] v = refl
+rest_means flag (comparators ∷ tree) v = go (ends_at_zero (kept_range comparators).end) refl (rest_means flag tree v)
   where
-    go : (b : Bool) → ends_at_zero (kept_range comparators).end ≡ b → tree_means (alternatives (kept Normal tree)) v ≡ tree_means (tree_ranges tree) v
-        → tree_means (alternatives (if not b then kept_range comparators ∷ kept Normal tree else kept Normal tree)) v ≡ tree_means (tree_ranges (comparators ∷ tree)) v
-    go true e same = rw (← kept_range_means comparators v, nothing_means (kept_range comparators) v (kept_empty comparators e)) same
-    go false e same = rw (kept_range_means comparators v, same) refl
+    go : (b : Bool) → ends_at_zero (kept_range comparators).end ≡ b → tree_means_with flag (alternatives (kept Normal tree)) v ≡ tree_means_with flag (tree_ranges tree) v
+        → tree_means_with flag (alternatives (if not b then kept_range comparators ∷ kept Normal tree else kept Normal tree)) v ≡ tree_means_with flag (tree_ranges (comparators ∷ tree)) v
+    go true e same = rw (← kept_range_means flag comparators v, nothing_means flag (kept_range comparators) v (kept_empty comparators e)) same
+    go false e same = rw (kept_range_means flag comparators v, same) refl
 
 -- what is kept of a tree means what the tree means
 pub kept_means : KeptSetsMeanTheirTrees
-kept_means Npm tree v = rest_means tree v
-kept_means Normal tree v = rest_means tree v
-kept_means Specifier tree v = all_mean tree v
+kept_means Npm tree flag v = rest_means flag tree v
+kept_means Normal tree flag v = rest_means flag tree v
+kept_means Specifier tree flag v = all_mean flag tree v

@@ -8,6 +8,7 @@ pub mod Folding
 pub mod Hyphens
 pub mod Joining
 pub mod KeptRanges
+pub mod LeastRead
 pub mod LedReadings
 pub mod Marks
 pub mod NpmComparators
@@ -21,6 +22,7 @@ pub mod PieceReadings
 pub mod PiecesRead
 pub mod Pinned
 pub mod Places
+pub mod PlainComparators
 pub mod ReadSets
 pub mod ReaderAnswers
 pub mod Rereading

@@ -6,7 +6,7 @@ use Rattle.std.specs.Cmp.Lexicographic.{nat_list_eq_equiv, slice_cmp, texts_ties
 use Rattle.std.specs.FinMap.{nat_cmp-IsAntisymmetric, slice_cmp-IsAntisymmetric}
 use Rattle.std.specs.Ordering.{nat_cmp}
 use Rattle.std.specs.Prelude.{◌↔◌, IsTrue}
-use Rattle.semver_base.specs.Meaning.{alternatives, tree_means}
+use Rattle.semver_base.specs.Meaning.{alternatives, tree_means_with}
 use Rattle.semver_base.proofs.Orders.{and_false}
 use Rattle.semver_base.proofs.OverlapLemmas.{set_no_common, some_overlap_swap}
 use Rattle.semver_req.specs.Requirement.{MatchNoVersion, OverlapAsTags, inner_overlap}
@@ -20,9 +20,9 @@ inner_swap (inner.RangeSet set) (inner.Tag text) = refl
 inner_swap (inner.Tag text) (inner.RangeSet set) = refl
 
 no_common : (one other : RangeSetOrTag) → inner_overlap one other ≡ false → MatchNoVersion one other
-no_common (inner.RangeSet set) (inner.RangeSet others) e v = set_no_common false set.0 others.0 (sym e) v
-no_common (inner.RangeSet set) (inner.Tag text) e v = and_false (tree_means (alternatives set.0) v)
-no_common (inner.Tag text) other e v = refl
+no_common (inner.RangeSet set) (inner.RangeSet others) e flag v = set_no_common false set.0 others.0 (sym e) flag v
+no_common (inner.RangeSet set) (inner.Tag text) e flag v = and_false (tree_means_with flag (alternatives set.0) v)
+no_common (inner.Tag text) other e flag v = refl
 
 -- where they don't overlap, no version matches both
 pub inner_no_common : (result : Bool) (one other : RangeSetOrTag) → result ≡ inner_overlap one other → OnFalse result (MatchNoVersion one other)

@@ -1,9 +1,10 @@
 -- What holds of every set that was read.
 use Rattle.std.proofs.Common.{◌≡◌, List, [], ◌∷◌, true, refl, sym, subst, ap, ◌∙◌}
 use Rattle.std.specs.List.{list_all}
-use Rattle.semver_base.specs.Meaning.{alternatives, tree_means}
+use Rattle.semver_base.specs.Meaning.{alternatives, tree_means_with}
 use Rattle.semver_base.specs.NormalText.{AreWritableRanges}
 use Rattle.semver_base.specs.Shortest.{shortest_tree}
+use Rattle.semver_base.specs.declared.range.PreRelease.{PreRelease}
 use Rattle.semver_base.specs.declared.range.VersionRange.{VersionRange}
 use Rattle.semver_base.specs.declared.version.Version.{Version}
 use Rattle.semver_base.proofs.Orders.{and_both, and_first, and_second}
@@ -29,13 +30,13 @@ starts_of (range ∷ ranges) h = and_both _ _ (and_first (has_start range) _ (an
 
 -- under the premise its shortest form means what it means
 pub read_form_means : (ranges : List VersionRange) → IsReadSet ranges → list_all keeps_meaning ranges ≡ true
-    → (v : Version) → tree_means (tree_ranges (shortest_tree ranges)) v ≡ tree_means (alternatives ranges) v
-read_form_means ranges r k v = tree_form_means ranges (starts_of ranges (read_is_kept ranges r)) k v
+    → (flag : PreRelease) (v : Version) → tree_means_with flag (tree_ranges (shortest_tree ranges)) v ≡ tree_means_with flag (alternatives ranges) v
+read_form_means ranges r k flag v = tree_form_means ranges (starts_of ranges (read_is_kept ranges r)) k flag v
 
 -- so does what is kept of its shortest form
 pub read_again_means : (ranges : List VersionRange) → IsReadSet ranges → list_all keeps_meaning ranges ≡ true
-    → (v : Version) → tree_means (alternatives (reread_set ranges)) v ≡ tree_means (alternatives ranges) v
-read_again_means ranges r k v = reread_set_means ranges (starts_of ranges (read_is_kept ranges r)) k v
+    → (flag : PreRelease) (v : Version) → tree_means_with flag (alternatives (reread_set ranges)) v ≡ tree_means_with flag (alternatives ranges) v
+read_again_means ranges r k flag v = reread_set_means ranges (starts_of ranges (read_is_kept ranges r)) k flag v
 
 -- what it is read back as is read back as itself
 pub read_settles : (ranges : List VersionRange) → IsReadSet ranges → reread_set (reread_set ranges) ≡ reread_set ranges

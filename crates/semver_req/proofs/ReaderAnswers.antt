@@ -2,10 +2,10 @@
 use Rattle.std.proofs.Common.{◌≡◌, ℕ, List, Result, Ok, Err, None, refl, sym, subst, inl, inr}
 use Rattle.std.specs.Prelude.{◌⊎◌, IfErr, IsUtf8}
 use Rattle.std.specs.Result.{IsErrAnd}
-use Rattle.semver_base.specs.Meaning.{tree_means}
+use Rattle.semver_base.specs.Meaning.{tree_means_with}
 use Rattle.semver_req.specs.Outcome.{IsOutcome, Outcome, Ranges, Tag, Refused, tree_ranges, worked_on}
 use Rattle.semver_req.specs.Readers.{Failure, HasTree, IsAnswer, IsRead, IsReading, IsReadOrTag, IsReaderAnswer, MeansTrees, TagReadsBack}
-use Rattle.semver_req.specs.Requirement.{Requirement, inner_means}
+use Rattle.semver_req.specs.Requirement.{Requirement, inner_means_with}
 use Rattle.semver_req.specs.declared.common.values.Flavour.{Flavour}
 use Rattle.semver_req.specs.declared.range_set_or_tag.RangeSetOrTag.{RangeSetOrTag}
 use Rattle.semver_req.proofs.Folding.{kept_means}
@@ -30,10 +30,10 @@ module _ (f : Flavour) (text : List ℕ) where
     answer_refused e (inr r) (Tag t) p = absurd (cc (one_outcome f text Refused (Tag t) r p))
 
   reading_means : (answer : RangeSetOrTag) → IsReading f text answer → MeansTrees f text answer
-  reading_means answer h tree p v = go (rw (one_outcome f text h.outcome (Ranges tree) h.is_outcome p) at h.is_read)
+  reading_means answer h tree p flag v = go (rw (one_outcome f text h.outcome (Ranges tree) h.is_outcome p) at h.is_read)
     where
-      go : IsRead f (Ranges tree) answer → inner_means answer v ≡ tree_means (tree_ranges tree) v
-      go k = rw k (kept_means f tree v)
+      go : IsRead f (Ranges tree) answer → inner_means_with flag answer v ≡ tree_means_with flag (tree_ranges tree) v
+      go k = rw k (kept_means f tree flag v)
 
   reading_tree : (answer : RangeSetOrTag) → IsReading f text answer → HasTree f text answer
   reading_tree answer h = go h.outcome h.is_outcome h.is_read

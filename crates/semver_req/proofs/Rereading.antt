@@ -1,7 +1,7 @@
 -- The normal text of a set that was read, read again.
 use Rattle.std.proofs.Common.{◌≡◌, ℕ, List, refl, sym, subst, ap, ◌∙◌}
 use Rattle.semver_base.specs.Comparators.{Comparator}
-use Rattle.semver_base.specs.Meaning.{alternatives, tree_means}
+use Rattle.semver_base.specs.Meaning.{alternatives, tree_means_with}
 use Rattle.semver_base.specs.NormalText.{set_text}
 use Rattle.semver_base.specs.Shortest.{shortest_tree}
 use Rattle.semver_base.specs.declared.range.VersionRange.{VersionRange}
@@ -52,8 +52,8 @@ pub rereadings : NormalTextsKeepTheirMeaning
 rereadings ranges r = record {
   forms = λ f cut. (text_read f cut ranges r, λ o h. one_outcome f (set_text ranges) o (Ranges (shortest_tree ranges)) h (text_read f cut ranges r));
   is_trimmed = set_trimmed ranges (read_writable ranges r);
-  means = λ k f cut tree h v. ap (λ tree. tree_means (tree_ranges tree) v) (tree_read f cut ranges r tree h) ∙ read_form_means ranges r k v;
-  kept_means = λ k f cut tree h v. ap (λ set. tree_means (alternatives set) v) (kept_read f cut ranges r tree h) ∙ read_again_means ranges r k v;
+  means = λ k f cut tree h flag v. ap (λ tree. tree_means_with flag (tree_ranges tree) v) (tree_read f cut ranges r tree h) ∙ read_form_means ranges r k flag v;
+  kept_means = λ k f cut tree h flag v. ap (λ set. tree_means_with flag (alternatives set) v) (kept_read f cut ranges r tree h) ∙ read_again_means ranges r k flag v;
   equal = λ orderly k f cut tree h. kept_read f cut ranges r tree h ∙ read_orderly ranges r orderly k;
 }
 

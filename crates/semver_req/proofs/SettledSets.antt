@@ -6,12 +6,13 @@ use Rattle.std.specs.Prelude.{if◌then◌else◌}
 use Rattle.std.specs.declared.cmp.Ordering.{Ordering}
 use Rattle.std.specs.declared.cmp.Ordering.TheVariants.{Less, Equal, Greater}
 use Rattle.semver_base.specs.Comparators.{Comparator, comparator_range}
-use Rattle.semver_base.specs.Meaning.{alternatives, from, release, to_below, tree_means}
+use Rattle.semver_base.specs.Meaning.{alternatives, from, release, to_below, tree_means_with}
 use Rattle.semver_base.specs.Overlap.{ends_at_zero, lies_within, starts_before}
 use Rattle.semver_base.specs.PartialTable.{up_to, between, bound_at}
 use Rattle.semver_base.specs.Precedence.{precedence_cmp}
 use Rattle.semver_base.specs.PrecedenceLaws.{version_eq, version_told}
 use Rattle.semver_base.specs.Shortest.{ending, is_plain, shortest, shortest_between, shortest_of, shortest_tree, starting}
+use Rattle.semver_base.specs.declared.range.PreRelease.{PreRelease}
 use Rattle.semver_base.specs.declared.range.RangeBound.{RangeBound}
 use Rattle.semver_base.specs.declared.range.RangeBound.TheVariants as bound
 use Rattle.semver_base.specs.declared.range.VersionBoundKind.{VersionBoundKind}
@@ -34,24 +35,24 @@ use Rattle.semver_req.proofs.Starts.{has_start, kept_range_starts, starts_or_is_
 -- ---- what the form of a set means
 
 forms_mean : (ranges : List VersionRange) → list_all has_start ranges ≡ true → list_all keeps_meaning ranges ≡ true
-    → (v : Version) → tree_means (tree_ranges (map shortest ranges)) v ≡ tree_means (alternatives ranges) v
-forms_mean [] h k v = refl
-forms_mean (range ∷ ranges) h k v = ap₂ (λ (a b : Bool). a || b)
-    (shortest_means range (and_first _ _ h) (and_first _ _ k) v)
-    (forms_mean ranges (and_second (has_start range) _ h) (and_second (keeps_meaning range) _ k) v)
+    → (flag : PreRelease) (v : Version) → tree_means_with flag (tree_ranges (map shortest ranges)) v ≡ tree_means_with flag (alternatives ranges) v
+forms_mean [] h k flag v = refl
+forms_mean (range ∷ ranges) h k flag v = ap₂ (λ (a b : Bool). a || b)
+    (shortest_means range (and_first _ _ h) (and_first _ _ k) flag v)
+    (forms_mean ranges (and_second (has_start range) _ h) (and_second (keeps_meaning range) _ k) flag v)
 
 -- the shortest form of a set means what the set means
 pub tree_form_means : (ranges : List VersionRange) → list_all has_start ranges ≡ true → list_all keeps_meaning ranges ≡ true
-    → (v : Version) → tree_means (tree_ranges (shortest_tree ranges)) v ≡ tree_means (alternatives ranges) v
-tree_form_means [] h k v =
-    let none = nothing_means (comparator_range (ending kind.Exclusive (release 0 0 0))) v (comparator_empty (ending kind.Exclusive (release 0 0 0)) refl) in
+    → (flag : PreRelease) (v : Version) → tree_means_with flag (tree_ranges (shortest_tree ranges)) v ≡ tree_means_with flag (alternatives ranges) v
+tree_form_means [] h k flag v =
+    let none = nothing_means flag (comparator_range (ending kind.Exclusive (release 0 0 0))) v (comparator_empty (ending kind.Exclusive (release 0 0 0)) refl) in
     ap (λ (b : Bool). b || false) none
-tree_form_means (range ∷ ranges) h k v = forms_mean (range ∷ ranges) h k v
+tree_form_means (range ∷ ranges) h k flag v = forms_mean (range ∷ ranges) h k flag v
 
 -- what is kept of it means what the set means
 pub reread_set_means : (ranges : List VersionRange) → list_all has_start ranges ≡ true → list_all keeps_meaning ranges ≡ true
-    → (v : Version) → tree_means (alternatives (reread_set ranges)) v ≡ tree_means (alternatives ranges) v
-reread_set_means ranges h k v = kept_means Normal (shortest_tree ranges) v ∙ tree_form_means ranges h k v
+    → (flag : PreRelease) (v : Version) → tree_means_with flag (alternatives (reread_set ranges)) v ≡ tree_means_with flag (alternatives ranges) v
+reread_set_means ranges h k flag v = kept_means Normal (shortest_tree ranges) flag v ∙ tree_form_means ranges h k flag v
 
 -- ---- no range is dropped
 

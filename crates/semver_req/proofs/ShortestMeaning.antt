@@ -8,12 +8,13 @@ use Rattle.std.specs.Prelude.{if◌then◌else◌, nat_lt}
 use Rattle.std.specs.declared.cmp.Ordering.{Ordering}
 use Rattle.std.specs.declared.cmp.Ordering.TheVariants.{Less, Equal, Greater}
 use Rattle.semver_base.specs.Comparators.{Caret, Comparator, Plain, Tilde, comparator_range}
-use Rattle.semver_base.specs.Meaning.{alternative_means, from, is_above, release, to_below}
+use Rattle.semver_base.specs.Meaning.{alternative_means_with, from, is_above, release, to_below}
 use Rattle.semver_base.specs.PartialTable.{up_to, between, bound_at, caret}
 use Rattle.semver_base.specs.Precedence.{precedence_cmp, pre_cmp}
 use Rattle.semver_base.specs.PrecedenceLaws.{precedence_total, version_eq, version_told}
 use Rattle.semver_base.specs.Shortest.{ending, has_short_form, is_caret_major, is_caret_patch, is_major, is_minor, is_plain, is_tilde, numbered, shortest, shortest_between, shortest_of, starting, whole}
 use Rattle.semver_base.specs.declared.partial.XRange.TheVariants.{Wildcard, Val}
+use Rattle.semver_base.specs.declared.range.PreRelease.{PreRelease}
 use Rattle.semver_base.specs.declared.range.RangeBound.{RangeBound}
 use Rattle.semver_base.specs.declared.range.RangeBound.TheVariants as bound
 use Rattle.semver_base.specs.declared.range.VersionBoundKind.{VersionBoundKind}
@@ -28,7 +29,7 @@ use Rattle.semver_req.proofs.Starts.{has_start, starts_or_is_open}
 
 -- the comparators mean what the range means
 abbrev Means : List Comparator → VersionRange → Type 0
-Means comparators range = (v : Version) → alternative_means (map comparator_range comparators) v ≡ alternative_means (range ∷ []) v
+Means comparators range = (flag : PreRelease) (v : Version) → alternative_means_with flag (map comparator_range comparators) v ≡ alternative_means_with flag (range ∷ []) v
 
 -- the comparators of one line or another, by its test
 pub by_test : (P : List Comparator → Type 0) (test : Bool) {xs ys : List Comparator} → (test ≡ true → P xs) → (test ≡ false → P ys) → P (if test then xs else ys)
@@ -93,24 +94,24 @@ both_tests true zero below r false second h = rw (h refl) refl
 both_tests false zero below r first second h = refl
 
 both_mean : (k l : VersionBoundKind) (s e : Version) → is_pre_of_zero s ≡ false → Means (starting k s ∷ ending l e ∷ []) (between (bound_at k s) (bound_at l e))
-both_mean kind.Inclusive kind.Inclusive s e low v = both_tests _ _ _ _ _ _ (held_from_zero kind.Inclusive s v low)
-both_mean kind.Inclusive kind.Exclusive s e low v = both_tests _ _ _ _ _ _ (held_from_zero kind.Inclusive s v low)
-both_mean kind.Exclusive kind.Inclusive s e low v = both_tests _ _ _ _ _ _ (held_from_zero kind.Exclusive s v low)
-both_mean kind.Exclusive kind.Exclusive s e low v = both_tests _ _ _ _ _ _ (held_from_zero kind.Exclusive s v low)
+both_mean kind.Inclusive kind.Inclusive s e low flag v = both_tests _ _ _ _ _ _ (held_from_zero kind.Inclusive s v low)
+both_mean kind.Inclusive kind.Exclusive s e low flag v = both_tests _ _ _ _ _ _ (held_from_zero kind.Inclusive s v low)
+both_mean kind.Exclusive kind.Inclusive s e low flag v = both_tests _ _ _ _ _ _ (held_from_zero kind.Exclusive s v low)
+both_mean kind.Exclusive kind.Exclusive s e low flag v = both_tests _ _ _ _ _ _ (held_from_zero kind.Exclusive s v low)
 
 -- ---- lines with one comparator
 
 start_means : (k : VersionBoundKind) (s : Version) → Means (starting k s ∷ []) (between (bound_at k s) bound.Unbounded)
-start_means kind.Inclusive s v = refl
-start_means kind.Exclusive s v = refl
+start_means kind.Inclusive s flag v = refl
+start_means kind.Exclusive s flag v = refl
 
 end_means : (k : VersionBoundKind) (s e : Version) → is_plain s 0 0 0 ≡ true → Means (ending k e ∷ []) (between (from s) (bound_at k e))
-end_means kind.Inclusive s e h v = ap (λ (start : Version). alternative_means (between (from start) (up_to e) ∷ []) v) (sym (plain_is s 0 0 0 h))
-end_means kind.Exclusive s e h v = ap (λ (start : Version). alternative_means (between (from start) (to_below e) ∷ []) v) (sym (plain_is s 0 0 0 h))
+end_means kind.Inclusive s e h flag v = ap (λ (start : Version). alternative_means_with flag (between (from start) (up_to e) ∷ []) v) (sym (plain_is s 0 0 0 h))
+end_means kind.Exclusive s e h flag v = ap (λ (start : Version). alternative_means_with flag (between (from start) (to_below e) ∷ []) v) (sym (plain_is s 0 0 0 h))
 
 -- a comparator that stands for the range itself
 alone_means : (c : Comparator) (range : VersionRange) → comparator_range c ≡ range → Means (c ∷ []) range
-alone_means c range same v = ap (λ (r : VersionRange). alternative_means (r ∷ []) v) same
+alone_means c range same flag v = ap (λ (r : VersionRange). alternative_means_with flag (r ∷ []) v) same
 
 pub version_range : (s e : Version) → version_eq s e ≡ true → comparator_range (Plain (whole s)) ≡ between (from s) (up_to e)
 version_range s e h = ap (λ (end : Version). between (from s) (up_to end)) ((version_told s e).0 h)
@@ -217,12 +218,12 @@ between_means kind.Inclusive kind.Exclusive s e h =
 between_means kind.Exclusive l s e h = both_mean kind.Exclusive l s e (not_below _ false h refl)
 
 bounds_mean : (start end : RangeBound) → starts_or_is_open start end ≡ true → keeps_start start end ≡ true → Means (shortest_of start end) (between start end)
-bounds_mean bound.Unbounded bound.Unbounded h k v = refl
-bounds_mean bound.Unbounded (bound.Version e) h k v = cc h
-bounds_mean (bound.Version s) bound.Unbounded h k v = start_means s.kind s.version v
-bounds_mean (bound.Version s) (bound.Version e) h k v = between_means s.kind e.kind s.version e.version k v
+bounds_mean bound.Unbounded bound.Unbounded h k flag v = refl
+bounds_mean bound.Unbounded (bound.Version e) h k flag v = cc h
+bounds_mean (bound.Version s) bound.Unbounded h k flag v = start_means s.kind s.version flag v
+bounds_mean (bound.Version s) (bound.Version e) h k flag v = between_means s.kind e.kind s.version e.version k flag v
 
 -- the shortest form of a range means what the range means
 pub shortest_means : (range : VersionRange) → has_start range ≡ true → keeps_meaning range ≡ true
-    → (v : Version) → alternative_means (map comparator_range (shortest range)) v ≡ alternative_means (range ∷ []) v
-shortest_means range h k v = bounds_mean range.start range.end h k v
+    → (flag : PreRelease) (v : Version) → alternative_means_with flag (map comparator_range (shortest range)) v ≡ alternative_means_with flag (range ∷ []) v
+shortest_means range h k flag v = bounds_mean range.start range.end h k flag v

@@ -4,8 +4,9 @@ use Rattle.std.specs.Prelude.{◌≡◌, ℕ, List, [], ◌∷◌, map, not}
 use Rattle.std.specs.List.{filter, fold}
 use Rattle.semver_base.specs.Clamp.{clamped}
 use Rattle.semver_base.specs.Comparators.{Comparator, Hyphen, comparator_range}
-use Rattle.semver_base.specs.Meaning.{alternatives, everything, tree_means}
+use Rattle.semver_base.specs.Meaning.{alternatives, everything, tree_means_with}
 use Rattle.semver_base.specs.Overlap.{ends_at_zero}
+use Rattle.semver_base.specs.declared.range.PreRelease.{PreRelease}
 use Rattle.semver_base.specs.declared.range.VersionRange.{VersionRange}
 use Rattle.semver_base.specs.declared.version.Version.{Version}
 use Rattle.semver_req.specs.Outcome.{IsOutcome, Ranges, tree_ranges}
@@ -39,7 +40,7 @@ pub record IsReadSet (ranges : List VersionRange) : Type 0 where
   pub is_outcome : IsOutcome flavour text (Ranges tree)
   pub is_kept : ranges ≡ kept flavour tree
 
--- what is kept of a tree means what the tree means
+-- what is kept of a tree means what the tree means, with npm's rule about pre-releases and without
 abbrev pub KeptSetsMeanTheirTrees : Type 0
-KeptSetsMeanTheirTrees = (f : Flavour) (tree : List (List Comparator)) (v : Version)
-    → tree_means (alternatives (kept f tree)) v ≡ tree_means (tree_ranges tree) v
+KeptSetsMeanTheirTrees = (f : Flavour) (tree : List (List Comparator)) (flag : PreRelease) (v : Version)
+    → tree_means_with flag (alternatives (kept f tree)) v ≡ tree_means_with flag (tree_ranges tree) v

@@ -5,6 +5,7 @@ pub mod Partials
 pub mod PieceReading
 pub mod PieceSteps
 pub mod Pieces
+pub mod PlainComparators
 pub mod Readers
 pub mod Requirement
 pub mod Rereading

@@ -2,11 +2,12 @@
 use Rattle.std.specs.Prelude.{◌≡◌, ◌⊎◌, ℕ, List, Option, None, Result, IfErr, IfOk, IsErr, MatchResult}
 use Rattle.std.specs.Str.{trim_start}
 use Rattle.semver_base.specs.Comparators.{Comparator}
-use Rattle.semver_base.specs.Meaning.{tree_means}
+use Rattle.semver_base.specs.Meaning.{tree_means_with}
+use Rattle.semver_base.specs.declared.range.PreRelease.{PreRelease}
 use Rattle.semver_base.specs.declared.version.Version.{Version}
 use Rattle.semver_req.specs.KeptSet.{IsReadSet, kept}
 use Rattle.semver_req.specs.Outcome.{IsOutcome, Outcome, Ranges, Refused, Tag, tree_ranges, worked_on}
-use Rattle.semver_req.specs.Requirement.{Requirement, inner_means}
+use Rattle.semver_req.specs.Requirement.{Requirement, inner_means_with}
 use Rattle.semver_req.specs.declared.common.values.Flavour.{Flavour}
 use Rattle.semver_req.specs.declared.common.values.Flavour.TheVariants.{Npm, Normal, Specifier}
 use Rattle.semver_req.specs.declared.range_set_or_tag.RangeSetOrTag.{RangeSetOrTag}
@@ -34,10 +35,11 @@ IsAnswer source f (Ranges tree) result = MatchResult result (λ req. IsRead f (R
 IsAnswer source f (Tag text) result = MatchResult result (λ req. IsRead f (Tag text) req.inner) (λ e. source e ≡ None)
 IsAnswer source f Refused result = IsErr result
 
--- for every tree that the grammar gives the text, the answer means the versions that the tree means
+-- for every tree that the grammar gives the text, the answer means the versions that the tree means, with npm's rule about
+-- pre-releases and without
 abbrev pub MeansTrees : Flavour → List ℕ → RangeSetOrTag → Type 0
 MeansTrees f text answer = (tree : List (List Comparator)) → IsOutcome f text (Ranges tree)
-    → (v : Version) → inner_means answer v ≡ tree_means (tree_ranges tree) v
+    → (flag : PreRelease) (v : Version) → inner_means_with flag answer v ≡ tree_means_with flag (tree_ranges tree) v
 
 -- an answer that is no tag is what is kept of a tree that the grammar gives the text
 abbrev pub HasTree : Flavour → List ℕ → RangeSetOrTag → Type 0
@@ -68,7 +70,7 @@ pub record IsReaderAnswer {E : Type 0} (source : E → Failure) (f : Flavour) (t
   pub refused : IfErr result (λ e. (source e ≡ None) ⊎ IsOutcome f text Refused)
   -- every outcome of the text is answered, want of memory aside
   pub answer : (o : Outcome) → IsOutcome f text o → IsAnswer source f o result
-  -- a version matches exactly where the comparators of the text mean it
+  -- a version matches exactly where the comparators of the text mean it, be pre-releases restricted or admitted
   pub means : IfOk result (λ req. MeansTrees f text req.inner)
   -- ranges are kept of a tree of the text
   pub tree : IfOk result (λ req. HasTree f text req.inner)

@@ -1,13 +1,16 @@
 -- What a requirement is, and which versions it matches. Source: node-semver's description of ranges; a requirement may
 -- also be a tag, as in npm's package specifiers.
-use Rattle.std.specs.Prelude.{◌≡◌, ◌&&◌, ◌↔◌, IsTrue, ℕ, List, [], ◌∷◌, Bool, false, Option, Some, None, nat_eq, codes}
+use Rattle.std.specs.Prelude.{◌≡◌, ◌&&◌, ◌↔◌, IsTrue, ℕ, List, [], ◌∷◌, Bool, false, not, Option, Some, None, nat_eq, codes}
 use Rattle.std.specs.Cmp.Lexicographic.{pointwise}
-use Rattle.semver_base.specs.Meaning.{alternatives, everything, from, tree_means}
+use Rattle.std.specs.List.{list_all}
+use Rattle.semver_base.specs.Meaning.{alternatives, everything, from, tree_means_with}
 use Rattle.semver_base.specs.NormalText.{set_text}
 use Rattle.semver_base.specs.Overlap.{some_overlap}
 use Rattle.semver_base.specs.PartialTable.{between, up_to}
 use Rattle.semver_base.specs.PrecedenceLaws.{SamePrecedence}
 use Rattle.semver_base.specs.VersionText.{version_text}
+use Rattle.semver_base.specs.declared.range.PreRelease.{PreRelease}
+use Rattle.semver_base.specs.declared.range.PreRelease.TheVariants.{Restricted}
 use Rattle.semver_base.specs.declared.range.VersionRangeSet.{VersionRangeSet}
 use Rattle.semver_base.specs.declared.version.Version.{Version}
 use Rattle.semver_req.specs.declared.range_set_or_tag.RangeSetOrTag.{RangeSetOrTag}
@@ -27,9 +30,13 @@ set_of (inner.RangeSet set) = Some set
 set_of (inner.Tag text) = None
 
 -- which versions match; a tag matches none
+abbrev pub inner_means_with : PreRelease → RangeSetOrTag → Version → Bool
+inner_means_with flag (inner.RangeSet set) v = tree_means_with flag (alternatives set.0) v
+inner_means_with flag (inner.Tag text) v = false
+
+-- by npm's rule about pre-releases
 abbrev pub inner_means : RangeSetOrTag → Version → Bool
-inner_means (inner.RangeSet set) v = tree_means (alternatives set.0) v
-inner_means (inner.Tag text) v = false
+inner_means answer v = inner_means_with Restricted answer v
 
 -- two range sets overlap by the bound rule, two tags where they are the same, a tag and ranges never
 abbrev pub inner_overlap : RangeSetOrTag → RangeSetOrTag → Bool
@@ -38,9 +45,26 @@ inner_overlap (inner.Tag text) (inner.Tag other) = pointwise nat_eq text other
 inner_overlap (inner.RangeSet set) (inner.Tag text) = false
 inner_overlap (inner.Tag text) (inner.RangeSet set) = false
 
--- no version matches both
+-- no version matches both, with npm's rule about pre-releases and without
 abbrev pub MatchNoVersion : RangeSetOrTag → RangeSetOrTag → Type 0
-MatchNoVersion one other = (v : Version) → (inner_means one v && inner_means other v) ≡ false
+MatchNoVersion one other = (flag : PreRelease) (v : Version) → (inner_means_with flag one v && inner_means_with flag other v) ≡ false
+
+-- both requirements match the version
+abbrev pub inners_mean : RangeSetOrTag → RangeSetOrTag → Version → Bool
+inners_mean one other v = inner_means one v && inner_means other v
+
+-- the first requirement matches the version, and the other doesn't
+abbrev pub inner_means_alone : RangeSetOrTag → RangeSetOrTag → Version → Bool
+inner_means_alone one other v = inner_means one v && not (inner_means other v)
+
+-- the ranges of a requirement, and none of a tag
+abbrev pub ranges_of : RangeSetOrTag → VersionRangeSet
+ranges_of (inner.RangeSet set) = set
+ranges_of (inner.Tag text) = record { 0 = [] }
+
+-- the first requirement and all others match the version
+abbrev pub all_inners_mean : RangeSetOrTag → List Requirement → Version → Bool
+all_inners_mean own others v = inner_means own v && list_all (λ (other : Requirement). inner_means other.inner v) others
 
 -- two tags overlap where they are the same
 abbrev pub OverlapAsTags : RangeSetOrTag → RangeSetOrTag → Bool → Type 0

@@ -4,11 +4,12 @@ use Rattle.std.specs.Prelude.{◌≡◌, ◌↔◌, ℕ, List, length, Bool, tru
 use Rattle.std.specs.List.{list_all}
 use Rattle.std.specs.Str.{trim}
 use Rattle.semver_base.specs.Comparators.{Comparator}
-use Rattle.semver_base.specs.Meaning.{alternatives, tree_means}
+use Rattle.semver_base.specs.Meaning.{alternatives, tree_means_with}
 use Rattle.semver_base.specs.NormalText.{set_text}
 use Rattle.semver_base.specs.Overlap.{starts_before}
 use Rattle.semver_base.specs.PrecedenceLaws.{version_eq}
 use Rattle.semver_base.specs.Shortest.{is_plain, shortest_tree}
+use Rattle.semver_base.specs.declared.range.PreRelease.{PreRelease}
 use Rattle.semver_base.specs.declared.range.RangeBound.{RangeBound}
 use Rattle.semver_base.specs.declared.range.RangeBound.TheVariants as bound
 use Rattle.semver_base.specs.declared.range.VersionBoundKind.{VersionBoundKind}
@@ -65,15 +66,18 @@ abbrev pub IsReadAsForms : List ℕ → List VersionRange → Type 0
 IsReadAsForms text ranges = (f : Flavour) → IsCutting f
     → IsTree f text (shortest_tree ranges) × ((o : Outcome) → IsOutcome f text o → o ≡ Ranges (shortest_tree ranges))
 
--- where every range keeps its meaning, each tree of the text means what the ranges mean
+-- where every range keeps its meaning, each tree of the text means what the ranges mean, with npm's rule about pre-releases
+-- and without
 abbrev pub MeansTheSame : List ℕ → List VersionRange → Type 0
 MeansTheSame text ranges = list_all keeps_meaning ranges ≡ true → (f : Flavour) → IsCutting f
-    → (tree : List (List Comparator)) → IsTree f text tree → (v : Version) → tree_means (tree_ranges tree) v ≡ tree_means (alternatives ranges) v
+    → (tree : List (List Comparator)) → IsTree f text tree
+    → (flag : PreRelease) (v : Version) → tree_means_with flag (tree_ranges tree) v ≡ tree_means_with flag (alternatives ranges) v
 
 -- so do the ranges that either reader keeps of it
 abbrev pub KeepsTheSame : List ℕ → List VersionRange → Type 0
 KeepsTheSame text ranges = list_all keeps_meaning ranges ≡ true → (f : Flavour) → IsCutting f
-    → (tree : List (List Comparator)) → IsTree f text tree → (v : Version) → tree_means (alternatives (kept f tree)) v ≡ tree_means (alternatives ranges) v
+    → (tree : List (List Comparator)) → IsTree f text tree
+    → (flag : PreRelease) (v : Version) → tree_means_with flag (alternatives (kept f tree)) v ≡ tree_means_with flag (alternatives ranges) v
 
 -- they are the ranges themselves where these are orderly too
 abbrev pub KeepsEqual : List ℕ → List VersionRange → Type 0

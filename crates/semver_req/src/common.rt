@@ -14,6 +14,7 @@ ghost use Rattle.semver_req.specs.Pieces.{IsOperator, place_answer};
 
 pub mod comparator;
 pub mod hyphen;
+pub mod plain;
 pub mod separators;
 pub mod values;
 
@@ -26,6 +27,7 @@ use std::alloc::{AllocError, Global};
 use values::{Flavour, Primitive, PrimitiveKind};
 
 // What follows a wildcard, where the text begins with one.
+#[inline(always)]
 fn wildcard(text: &str, flavour: Flavour) -> Option<&str>
     ensures { IsAfterOne (is_wildcard flavour) text.now result }
 {
@@ -42,6 +44,7 @@ fn wildcard(text: &str, flavour: Flavour) -> Option<&str>
 }
 
 // A number as a component.
+#[inline(always)]
 fn component_of(number: Measured<u64>) -> Measured<XRange>
     ensures { result ≡ component_of number }
 {
@@ -52,6 +55,7 @@ fn component_of(number: Measured<u64>) -> Measured<XRange>
 }
 
 // A wildcard or a number.
+#[inline(always)]
 fn component(text: &str, flavour: Flavour) -> Option<(Measured<XRange>, &str)>
     ensures { ReadsAs sized_component (IsComponent flavour) text.now (answer_of result) }
 {
@@ -69,6 +73,7 @@ struct FromPatch {
 }
 
 // `.`, a component and a qualifier.
+#[inline(always)]
 fn third(
     alloc: Global,
     text: &str,
@@ -87,6 +92,7 @@ fn third(
 }
 
 // The third part, or a wildcard.
+#[inline(always)]
 fn optional_third(
     alloc: Global,
     text: &str,
@@ -114,6 +120,7 @@ struct FromMinor {
 }
 
 // `.`, a component, and then the third part or nothing.
+#[inline(always)]
 fn second(
     alloc: Global,
     text: &str,
@@ -138,6 +145,7 @@ fn second(
 }
 
 // What follows the first component, or wildcards.
+#[inline(always)]
 fn optional_second(
     alloc: Global,
     text: &str,
@@ -159,6 +167,7 @@ fn optional_second(
 }
 
 // The partial version of these components, where none is too large.
+#[inline(always)]
 fn assemble(major: Measured<XRange>, second: FromMinor) -> Measured<Partial>
     ensures { result ≡ assembled major second }
 {
@@ -182,6 +191,7 @@ fn assemble(major: Measured<XRange>, second: FromMinor) -> Measured<Partial>
 }
 
 // A partial version with no `v` before it.
+#[inline(always)]
 fn plain_partial(
     alloc: Global,
     text: &str,
@@ -197,6 +207,7 @@ fn plain_partial(
 }
 
 // A partial version, which may have a `v` before it.
+#[inline(always)]
 fn npm_partial(alloc: Global, text: &str) -> Result<Option<(Measured<Partial>, &str)>, AllocError>
     ensures { IfOk result (λ r. ReadsAs sized_partial (IsPartial Flavour.Npm) text.now (answer_of r)) }
 {

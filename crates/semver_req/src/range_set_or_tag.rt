@@ -1,6 +1,6 @@
 //! What a requirement stands for, ranges of versions or a tag, and how npm's and the normalized grammar read it.
 
-ghost use Rattle.std.specs.Prelude.{◌≡◌, ◌↔◌, ◌++◌, ◌∷◌, ◌⊎◌, [], IfErr, IfOk, IsTrue, List, MatchOption, None, OnOk, Some, true, false};
+ghost use Rattle.std.specs.Prelude.{◌≡◌, ◌↔◌, ◌++◌, ◌∷◌, ◌⊎◌, [], IfErr, IfOk, IfSome, IsTrue, List, MatchOption, None, OnOk, Some, true, false};
 ghost use Rattle.std.specs.Bool.{OnFalse};
 ghost use Rattle.std.specs.Str.{trim};
 ghost use Rattle.semver_base.specs.Comparators.{Comparator};
@@ -12,6 +12,7 @@ ghost use Rattle.semver_req.specs.Partials.{sized_partial};
 ghost use Rattle.semver_req.specs.PieceReading.{IsCutRefusal, IsPieceRead, joined, kept_of, refusal_failure};
 ghost use Rattle.semver_req.specs.PieceSteps.{AreAllRead, IsEverything, IsFirstPiece, IsHyphenRead, IsNextPiece, IsOneMore, IsWholeRead, both_now};
 ghost use Rattle.semver_req.specs.Pieces.{HasNoBar, IsComparators, IsCutAt, IsCutting, IsFilled, IsHyphen};
+ghost use Rattle.semver_req.specs.PlainComparators.{IsPlainReading};
 ghost use Rattle.semver_req.specs.Readers.{IsReading};
 ghost use Rattle.semver_req.specs.Requirement.{MatchNoVersion, OverlapAsTags, inner_overlap, inner_text};
 ghost use Rattle.semver_req.specs.Tag.{is_valid_tag};
@@ -20,6 +21,7 @@ ghost use Rattle.semver_req.specs.declared.common.values.Flavour.TheVariants.{No
 
 use crate::common::comparator::{Written, comparator_front};
 use crate::common::hyphen::{HyphenRange, hyphen_front};
+use crate::common::plain::plain_range;
 use crate::common::separators::after_separator;
 use crate::common::values::Flavour;
 use crate::tag::is_valid_npm_tag;
@@ -66,6 +68,7 @@ fn is_everything(piece: &str, is_followed: bool) -> bool
 
 impl RangeOrInvalid {
     // The range of these comparators and one more.
+    #[inline(always)]
     fn and(self, alloc: Global, written: Written) -> Result<RangeOrInvalid, ParseFailure>
         ensures value { (cs : List Comparator) (p : Partial) → self ≡ joined cs → written.partial ≡ sized_partial p
             → IfOk result (λ read. read ≡ joined (cs ++ comparator_of written.mark p ∷ [])) }
@@ -80,13 +83,14 @@ impl RangeOrInvalid {
             RangeOrInvalid::Invalid(refusal) => return Ok(RangeOrInvalid::Invalid(refusal)),
         };
         match mark.range(alloc, &partial) {
-            Ok(next) => Ok(RangeOrInvalid::Range(range.clamp(alloc, &next)?)),
+            Ok(next) => Ok(RangeOrInvalid::Range(range.clamp_into(next)?)),
             Err(failure) if failure.is_memory() => Err(failure),
             Err(_) => Ok(RangeOrInvalid::Invalid(Refusal::BoundTooLarge)),
         }
     }
 
     // The comparators at the front, with separators between, and what follows them.
+    #[inline(always)]
     fn comparators(
         alloc: Global,
         text: &str,
@@ -110,6 +114,7 @@ impl RangeOrInvalid {
     }
 
     // The whole piece as comparators.
+    #[inline(always)]
     fn list(
         alloc: Global,
         piece: &str,
@@ -148,6 +153,7 @@ impl RangeOrInvalid {
     }
 
     // The whole piece as a hyphen range.
+    #[inline(always)]
     fn hyphen(alloc: Global, piece: &str) -> Result<Option<RangeOrInvalid>, ParseFailure>
         ensures value { IfOk result (IsWholeRead IsHyphen piece.now) }
         ensures memory { IfErr result (λ failure. failure ≡ None) }
@@ -162,6 +168,7 @@ impl RangeOrInvalid {
     }
 
     // The whole piece, which is not empty.
+    #[inline(always)]
     fn filled(
         alloc: Global,
         piece: &str,
@@ -203,6 +210,7 @@ impl RangeOrInvalid {
     }
 
     /// The range that a set keeps of the piece: none of a bad one, and none that ends below 0.0.0.
+    #[inline(always)]
     pub fn into_range(self) -> Option<VersionRange>
         ensures { result ≡ kept_of self }
     {
@@ -271,14 +279,19 @@ struct Alternatives {
 
 impl Alternatives {
     // One piece more.
-    fn add(&mut self, read: RangeOrInvalid) -> Result<(), AllocError>
+    #[inline(always)]
+    fn add(&mut self, alloc: Global, read: RangeOrInvalid) -> Result<(), AllocError>
         ensures { OnOk result (IsOneMore read self.old self.new) }
     {
         if let RangeOrInvalid::Invalid(refusal) = &read {
             self.refused = self.refused.or(Some(*refusal));
         }
         if let Some(range) = read.into_range() {
-            self.ranges.push(range)?;
+            if self.ranges.is_empty() {
+                self.ranges = CowVec::of_one(alloc, range)?;
+            } else {
+                self.ranges.push(range)?;
+            }
         }
         Ok(())
     }
@@ -300,11 +313,11 @@ fn read_pieces(
         is_only: true,
     };
     let read = RangeOrInvalid::parse(alloc, first.piece, first.is_followed, flavour)?;
-    all.add(read)?;
+    all.add(alloc, read)?;
     let mut rest = first.rest;
     while let Some((piece, more)) = next_piece(rest) {
         all.is_only = false;
-        all.add(RangeOrInvalid::parse(alloc, piece, false, flavour)?)?;
+        all.add(alloc, RangeOrInvalid::parse(alloc, piece, false, flavour)?)?;
         rest = more;
     }
     Ok(all)
@@ -322,6 +335,18 @@ fn tag_or(alloc: Global, text: &str, refusal: Refusal) -> Result<RangeSetOrTag, 
     Err(ParseFailure::of_refusal(alloc, refusal))
 }
 
+// The ranges of a plain text, where each reader answers the same. Where it answers `None` nothing is known of the text.
+#[inline(always)]
+fn plain_set(alloc: Global, text: &str) -> Result<Option<RangeSetOrTag>, AllocError>
+    ensures { IfOk result (λ r. IfSome r (IsPlainReading text.now)) }
+{
+    let Some(range) = plain_range(alloc, text) else {
+        return Ok(None);
+    };
+    let ranges = CowVec::of_one(alloc, range)?;
+    Ok(Some(RangeSetOrTag::RangeSet(VersionRangeSet(ranges))))
+}
+
 impl RangeSetOrTag {
     /// What the normalized grammar makes of a text, which it cuts at each `||`: the ranges of its pieces, without those
     /// that end below 0.0.0, or a tag.
@@ -331,6 +356,18 @@ impl RangeSetOrTag {
     /// is: with "Unexpected character." outside the grammar, with "Number is too large." or "Version bound is too large."
     /// where that is all that is wrong. Any other failure is want of memory.
     pub fn parse(alloc: Global, text: &str) -> Result<RangeSetOrTag, ParseFailure>
+        ensures reading { IfOk result (IsReading Normal text.now) }
+        ensures refused { IfErr result (λ failure. (failure ≡ None) ⊎ IsOutcome Normal text.now Refused) }
+        ensures refusal { IfErr result (IsCutRefusal Normal text.now) }
+    {
+        match plain_set(alloc, text)? {
+            Some(inner) => Ok(inner),
+            None => RangeSetOrTag::parse_pieces(alloc, text),
+        }
+    }
+
+    // What the normalized grammar makes of a text, piece by piece.
+    fn parse_pieces(alloc: Global, text: &str) -> Result<RangeSetOrTag, ParseFailure>
         ensures reading { IfOk result (IsReading Normal text.now) }
         ensures refused { IfErr result (λ failure. (failure ≡ None) ⊎ IsOutcome Normal text.now Refused) }
         ensures refusal { IfErr result (IsCutRefusal Normal text.now) }
@@ -352,6 +389,18 @@ impl RangeSetOrTag {
     /// grammar, with "Number is too large." or "Version bound is too large." where that is all that is wrong. Of a text
     /// of two or more pieces the bad ones are left out. Any other failure is want of memory.
     pub fn parse_npm(alloc: Global, text: &str) -> Result<RangeSetOrTag, ParseFailure>
+        ensures reading { IfOk result (IsReading Npm text.now) }
+        ensures refused { IfErr result (λ failure. (failure ≡ None) ⊎ IsOutcome Npm text.now Refused) }
+        ensures refusal { IfErr result (IsCutRefusal Npm (trim text.now)) }
+    {
+        match plain_set(alloc, text)? {
+            Some(inner) => Ok(inner),
+            None => RangeSetOrTag::parse_npm_pieces(alloc, text),
+        }
+    }
+
+    // What npm's grammar makes of a text, piece by piece.
+    fn parse_npm_pieces(alloc: Global, text: &str) -> Result<RangeSetOrTag, ParseFailure>
         ensures reading { IfOk result (IsReading Npm text.now) }
         ensures refused { IfErr result (λ failure. (failure ≡ None) ⊎ IsOutcome Npm text.now Refused) }
         ensures refusal { IfErr result (IsCutRefusal Npm (trim text.now)) }

@@ -7,6 +7,7 @@ ghost use Rattle.semver_req.specs.Strict.{IsNoTag, IsStrictRefusal, empty_constr
 ghost use Rattle.semver_req.specs.Tag.{is_valid_tag};
 
 use crate::common::comparator::{Written, unsigned_front};
+use crate::common::plain::plain_range;
 use crate::common::values::Flavour;
 use crate::range_set_or_tag::RangeSetOrTag;
 use crate::req::VersionReq;
@@ -86,16 +87,15 @@ fn tag_or(alloc: Global, text: &str, refusal: Refusal) -> Result<RangeSetOrTag, 
 }
 
 // The set of one range.
+#[inline(always)]
 fn only(alloc: Global, range: VersionRange) -> Result<VersionRangeSet, AllocError>
     ensures { IfOk result (λ set. set ≡ record { 0 = range ∷ [] }) }
 {
-    let mut ranges = CowVec::new(alloc);
-    ranges.push(range)?;
-    Ok(VersionRangeSet(ranges))
+    Ok(VersionRangeSet(CowVec::of_one(alloc, range)?))
 }
 
-// What the text stands for.
-fn read(alloc: Global, text: &str) -> Result<RangeSetOrTag, ParseFailure>
+// What the text stands for, by the grammar from its front on.
+fn read_long(alloc: Global, text: &str) -> Result<RangeSetOrTag, ParseFailure>
     ensures reading { IfOk result (IsReading Flavour.Specifier text.now) }
     ensures refusal { IfErr result (IsStrictRefusal text.now) }
 {
@@ -111,6 +111,18 @@ fn read(alloc: Global, text: &str) -> Result<RangeSetOrTag, ParseFailure>
         Ok(_) => Err(ParseFailure::of_refusal(alloc, Refusal::UnexpectedCharacter)),
         Err(failure) if failure.is_memory() => Err(failure),
         Err(_) => tag_or(alloc, text, Refusal::BoundTooLarge),
+    }
+}
+
+// What the text stands for, in the short way where it is plain.
+#[inline(always)]
+fn read(alloc: Global, text: &str) -> Result<RangeSetOrTag, ParseFailure>
+    ensures reading { IfOk result (IsReading Flavour.Specifier text.now) }
+    ensures refusal { IfErr result (IsStrictRefusal text.now) }
+{
+    match plain_range(alloc, text) {
+        Some(range) => Ok(RangeSetOrTag::RangeSet(only(alloc, range)?)),
+        None => read_long(alloc, text),
     }
 }
 

@@ -22,7 +22,7 @@ ghost use Rattle.deno_semver.specs.declared.package.kind.PackageKind.TheVariants
 use super::{JsonError, JsonForm};
 use crate::jsr::{JsrDepPackageReq, JsrPackageNvReference};
 use crate::npm::NpmPackageNvReference;
-use crate::package::{PackageNv, PackageReq};
+use crate::package::{PackageNv, PackageReq, normal_req_text};
 use semver_base::range::VersionBoundKind;
 use semver_base::string::{SmallStackString, StackString};
 use semver_base::version::Version;
@@ -249,6 +249,14 @@ impl JsonForm for PackageNv {
     }
 }
 
+// The string of the normal text.
+fn stored(alloc: Global, req: &PackageReq) -> Result<Value, AllocError>
+    ensures { IfOk result (λ json. view json ≡ string (normal_req_text req.now)) }
+{
+    let text = normal_req_text(alloc, req)?;
+    Ok(Value::String(text))
+}
+
 /// The string of the normal text ([`PackageReq::to_string_normalized`]); it is read as [`PackageReq::from_str_normalized`]
 /// reads it.
 ///
@@ -266,8 +274,7 @@ impl JsonForm for PackageReq {
         ensures read_again { IfOk result (λ json. (text : List ℕ) → IsUtf8 text
             → IsPackageOutcome Npm text (Ok self.now) → IsStoredReq self.now (view json)) }
     {
-        let text = self.to_string_normalized(alloc)?;
-        displayed(alloc, &text)
+        stored(alloc, self)
     }
 
     fn from_json(alloc: Global, value: &Value) -> Result<Self, JsonError> {

@@ -1,6 +1,6 @@
 //! Requirements of packages.
 
-ghost use Rattle.std.specs.Prelude.{◌≡◌, IfErr, IfOk, Ok, Result, Some};
+ghost use Rattle.std.specs.Prelude.{◌≡◌, IfErr, IfOk, Ok, Result, Some, string_bytes};
 ghost use Rattle.semver_req.specs.declared.common.values.Flavour.TheVariants.{Normal, Npm, Specifier};
 ghost use Rattle.deno_semver.specs.PackageOutcome.{Fault, IsPackageAnswer, IsPackageOutcome, IsPackageRefusal};
 ghost use Rattle.deno_semver.specs.RequirementText.{normal_req_text, req_text};
@@ -22,6 +22,14 @@ use std::fmt;
 pub struct PackageReq {
     pub name: PackageName,
     pub version_req: VersionReq,
+}
+
+/// The name, `@`, and the normal text of the requirement. It is an error only where no memory is left.
+pub(crate) fn normal_req_text(alloc: Global, req: &PackageReq) -> Result<String, AllocError>
+    ensures { IfOk result (λ text. string_bytes text ≡ normal_req_text req.now) }
+{
+    let (name, inner) = (&req.name, req.version_req.inner());
+    format!(in alloc; "{name}@{inner}")
 }
 
 impl PackageReq {
@@ -77,11 +85,7 @@ impl PackageReq {
     pub fn to_string_normalized(&self, alloc: Global) -> Result<PackageName, AllocError>
         ensures { IfOk result (λ text. text ≡ normal_req_text self.now) }
     {
-        let normal = self.version_req.to_string_normalized(alloc)?;
-        let mut text = self.name.copy()?;
-        text.push_str("@")?;
-        text.push_str(normal.as_str())?;
-        Ok(text)
+        PackageName::from_string(alloc, normal_req_text(alloc, self)?)
     }
 
     /// The same requirement again. It is an error only where no memory is left.

@@ -37,6 +37,7 @@ impl Mark {
     ///
     /// The refusal "Version bound is too large." comes exactly where a number that the range raises is past
     /// 18446744073709551615; any other failure is want of memory.
+    #[inline(always)]
     pub fn range(self, alloc: Global, partial: &Partial) -> Result<VersionRange, ParseFailure>
         ensures range { IfOk result (λ range. range ≡ comparator_range (comparator_of self partial.now)) }
         ensures fits { OnOk result (all_fit (comparator_line (comparator_of self partial.now)).sums ≡ true) }
@@ -59,8 +60,9 @@ pub struct Written {
     pub partial: Measured<Partial>,
 }
 
-// The mark at the front, and what follows it.
-fn split_mark(text: &str) -> (Mark, &str)
+/// The mark at the front, and what follows it.
+#[inline(always)]
+pub(crate) fn split_mark(text: &str) -> (Mark, &str)
     ensures { IsMarkCut text.now result.0 result.1.now }
 {
     if let Some(rest) = after(text, '~') {
@@ -74,6 +76,7 @@ fn split_mark(text: &str) -> (Mark, &str)
 
 /// The comparator without a sign at the front, and what follows it: `~`, `^` or nothing, and a partial version
 /// (node-semver's range grammar, `simple` without `primitive`). It is an error only where no memory is left.
+#[inline(always)]
 pub fn unsigned_front(
     alloc: Global,
     text: &str,
@@ -128,6 +131,7 @@ fn led_partial(alloc: Global, text: &str) -> Result<Option<(Measured<Partial>, &
 }
 
 // npm's mark at the front, where `~>` is a `~`, and what follows it.
+#[inline(always)]
 fn split_npm_mark(text: &str) -> (Mark, &str)
     ensures { IsNpmMarkCut text.now result.0 result.1.now }
 {
@@ -139,6 +143,7 @@ fn split_npm_mark(text: &str) -> (Mark, &str)
 }
 
 // The partial version that was read, with this mark.
+#[inline(always)]
 fn with_mark<'a>(
     mark: Mark,
     read: Option<(Measured<Partial>, &'a str)>,
@@ -150,6 +155,7 @@ fn with_mark<'a>(
 }
 
 // The npm comparator at the front, which has the mark `other` where it begins with neither `~` nor `^`.
+#[inline(always)]
 fn npm_by_mark(
     alloc: Global,
     text: &str,
@@ -169,6 +175,7 @@ fn npm_by_mark(
 /// The npm comparator at the front, and what follows it (node-semver's range grammar, `simple`, with `~>`, with what npm
 /// ignores before a partial version, and with a sign that is ignored before a `~` or a `^`). It is an error only where no
 /// memory is left.
+#[inline(always)]
 pub fn npm_front(alloc: Global, text: &str) -> Result<Option<(Written, &str)>, AllocError>
     ensures { IfOk result (λ r. ReadsComparator (IsComparator Npm) text.now (answer_of r)) }
 {

@@ -1,9 +1,9 @@
 use Rattle.std.proofs.Common.{◌≡◌, rules, subst, sym}
 use Rattle.std.specs.Prelude.{◌⊎◌}
-use Rattle.semver_base.specs.Clamp.{clamped, HaveCrossed, HoldsBoth, HoldsNothing, MatchesBoth, MeansBoth}
+use Rattle.semver_base.specs.Clamp.{clamped, AdmitsBoth, HaveCrossed, HoldsBoth, HoldsNothing, MatchesBoth, MeansBoth}
 use Rattle.semver_base.specs.declared.range.VersionRange.{VersionRange}
 use Rattle.semver_base.proofs.ClampLemmas.{clamped_bounds, clamped_crossed, clamped_empty}
-use Rattle.semver_base.proofs.ClampMeaning.{clamped_matches, clamped_means}
+use Rattle.semver_base.proofs.ClampMeaning.{clamped_admits, clamped_matches, clamped_means}
 use Rattle.semver_base.proofs.range.VersionRange.clamp.Goals as goal
 
 pub returns-clause-bounds : goal.returns-clause-bounds
@@ -17,6 +17,12 @@ returns-clause-means c =
     let range : VersionRange = record { start = c.in_ok-start-2.start; end = c.in_ok-end.end } in
     let is : range ≡ clamped c.args.self.now c.args.other.now = search rules in
     subst (MeansBoth c.args.self.now c.args.other.now) (sym is) (clamped_means c.args.self.now c.args.other.now)
+
+pub returns-clause-admits : goal.returns-clause-admits
+returns-clause-admits c =
+    let range : VersionRange = record { start = c.in_ok-start-2.start; end = c.in_ok-end.end } in
+    let is : range ≡ clamped c.args.self.now c.args.other.now = search rules in
+    subst (AdmitsBoth c.args.self.now c.args.other.now) (sym is) (clamped_admits c.args.self.now c.args.other.now)
 
 pub returns-clause-releases : goal.returns-clause-releases
 returns-clause-releases c =

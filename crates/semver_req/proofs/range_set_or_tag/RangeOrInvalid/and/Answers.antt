@@ -3,7 +3,7 @@ use Rattle.semver_req.proofs.range_set_or_tag.RangeOrInvalid.and.Goals as goal
 
 pub returns-in-Ok-clause-value : goal.returns-in-Ok-clause-value
 returns-in-Ok-clause-value c = λ cs p is seen.
-    and_range c.args.written.mark cs p (rw c.in-Range.is at is) (rw c.in-Fits.is at seen) c.in-Ok.ensures.range c.in-Ok.ensures.fits c.in_ok-clamp-in-Ok.ensures.value
+    and_range c.args.written.mark cs p (rw c.in-Range.is at is) (rw c.in-Fits.is at seen) c.in-Ok.ensures.range c.in-Ok.ensures.fits c.in_ok-clamp_into-in-Ok.ensures.value
 
 pub returns-clause-value : goal.returns-clause-value
 returns-clause-value c = λ cs p is seen.

@@ -1,0 +1,211 @@
+-- The least pre-release of three numbers above a start.
+use Rattle.std.proofs.Common.{◌≡◌, ◌&&◌, ◌==◌, ◌++◌, ℕ, Bool, true, false, not, List, [], ◌∷◌, length, Some, None, refl, sym, ap, ◌∙◌, inl, inr}
+use Rattle.std.proofs.lemmas.Bool.{cases_Bool}
+use Rattle.std.proofs.lemmas.Cmp.{nat_cmp_total, on_total, then_total, tied_itself}
+use Rattle.std.specs.FinMap.{nat_cmp-IsAntisymmetric}
+use Rattle.std.specs.Cmp.{IsTotalOrder}
+use Rattle.std.specs.Cmp.Lexicographic.{slice_cmp}
+use Rattle.std.specs.Ordering.{is_ge, is_le, nat_cmp, ordering_then}
+use Rattle.std.specs.declared.cmp.Ordering.{Ordering}
+use Rattle.std.specs.declared.cmp.Ordering.TheVariants.{Less, Equal, Greater}
+use Rattle.semver_base.specs.LeastVersion.{least_pre, numbers_cmp, pre_above, pre_by, pre_from, with_pre, zero_part, IsLeast}
+use Rattle.semver_base.specs.Meaning.{has_pre_of, is_release, start_holds}
+use Rattle.semver_base.specs.PartialTable.{bound_at}
+use Rattle.semver_base.specs.Precedence.{identifier_cmp, precedence_cmp, pre_cmp}
+use Rattle.semver_base.specs.PrecedenceLaws.{precedence_total}
+use Rattle.semver_base.specs.VersionText.{AreParts}
+use Rattle.semver_base.specs.declared.version.Version.{Version}
+use Rattle.semver_base.specs.declared.range.RangeBound.{RangeBound}
+use Rattle.semver_base.specs.declared.range.RangeBound.TheVariants as bound
+use Rattle.semver_base.specs.declared.range.VersionBoundKind.{VersionBoundKind}
+use Rattle.semver_base.specs.declared.range.VersionBoundKind.TheVariants as kind
+use Rattle.semver_base.proofs.ClampLemmas.{above_from, above_ge}
+use Rattle.semver_base.proofs.LeastParts.{appended_above, appended_next, zeros_least}
+use Rattle.semver_base.proofs.LeastReleases.{not_none}
+use Rattle.semver_base.proofs.NumbersOrder.{by_numbers, greater_from, numbers_tied}
+use Rattle.semver_base.proofs.Orders.{and_both, and_false, and_first, and_second, le_turned, turned}
+use Rattle.semver_base.proofs.Triples as triples
+use Rattle.semver_base.proofs.Triples.{SameNumbers}
+
+-- a pre-release of the bound's numbers that the start holds
+abbrev pub is_pre_above : RangeBound → RangeBound → Version → Bool
+is_pre_above start b v = start_holds start v && (not (is_release v) && has_pre_of b v)
+
+-- ---- numbers and pre-releases
+
+numbers_total : IsTotalOrder numbers_cmp
+numbers_total = then_total (on_total (λ (v : Version). v.major) nat_cmp_total) (then_total (on_total (λ (v : Version). v.minor) nat_cmp_total) (on_total (λ (v : Version). v.patch) nat_cmp_total))
+
+pub same_right : (x t v : Version) → SameNumbers t v → numbers_cmp x t ≡ numbers_cmp x v
+same_right x t v same = rw (same.major, same.minor, same.patch) refl
+
+pub same_left : (x t v : Version) → SameNumbers t v → numbers_cmp t x ≡ numbers_cmp v x
+same_left x t v same = rw (same.major, same.minor, same.patch) refl
+
+then_first : (r s : Ordering) → ordering_then r s ≡ Equal → r ≡ Equal
+then_first Less s e = cc e
+then_first Equal s e = refl
+then_first Greater s e = cc e
+
+then_second : (r s : Ordering) → ordering_then r s ≡ Equal → s ≡ Equal
+then_second Less s e = cc e
+then_second Equal s e = e
+then_second Greater s e = cc e
+
+tied_numbers : (x y : Version) → numbers_cmp x y ≡ Equal → SameNumbers x y
+tied_numbers x y e =
+    let rest = then_second (nat_cmp x.major y.major) _ e in
+    record {
+      major = nat_cmp-IsAntisymmetric _ _ (then_first (nat_cmp x.major y.major) _ e);
+      minor = nat_cmp-IsAntisymmetric _ _ (then_first (nat_cmp x.minor y.minor) _ rest);
+      patch = nat_cmp-IsAntisymmetric _ _ (then_second (nat_cmp x.minor y.minor) _ rest);
+    }
+
+-- pre-releases are compared by their identifiers
+pre_slice : (xs ys : List (List ℕ)) → (length xs == 0) ≡ false → (length ys == 0) ≡ false → pre_cmp xs ys ≡ slice_cmp identifier_cmp xs ys
+pre_slice xs ys h k = rw (h, k) refl
+
+some_appended : (ids : List (List ℕ)) → (length (ids ++ zero_part ∷ []) == 0) ≡ false
+some_appended [] = refl
+some_appended (x ∷ xs) = not_none x _
+
+-- what is known of a pre-release above a start
+record IsPreAbove (start : RangeBound) (t v : Version) : Type 0 where
+  pub held : start_holds start v ≡ true
+  pub some : is_release v ≡ false
+  pub same : SameNumbers t v
+
+pre_above_is : (start : RangeBound) (k : VersionBoundKind) (t v : Version) → is_pre_above start (bound_at k t) v ≡ true → IsPreAbove start t v
+pre_above_is start k t v h =
+    let rest = and_second (start_holds start v) _ h in
+    record {
+      held = and_first _ (not (is_release v) && has_pre_of (bound_at k t) v) h;
+      some = triples.not_true (is_release v) (and_first _ (has_pre_of (bound_at k t) v) rest);
+      same = triples.pre_numbers t v (and_second (not (is_release v)) _ rest);
+    }
+
+is_pre_above-from : (start : RangeBound) (k : VersionBoundKind) (t v : Version) → is_release t ≡ false → IsPreAbove start t v → is_pre_above start (bound_at k t) v ≡ true
+is_pre_above-from start k t v pre h =
+    let admitted : has_pre_of (bound_at k t) v ≡ true = triples.pre_from t v h.same pre in
+    and_both _ _ h.held (rw (h.some, admitted) refl)
+
+itself : (t : Version) (ids : List (List ℕ)) → SameNumbers t (with_pre t ids)
+itself t ids = record { major = refl; minor = refl; patch = refl }
+
+tied_same : (t s : Version) → numbers_cmp s t ≡ Equal → (ids : List (List ℕ)) → SameNumbers t (with_pre s ids)
+tied_same t s tied ids = let same = tied_numbers s t tied in record { major = sym same.major; minor = sym same.minor; patch = sym same.patch }
+
+-- ---- from below the numbers
+
+-- `0` is the least pre-release of its numbers
+zero_le : (t v : Version) → SameNumbers t v → is_release v ≡ false → AreParts v.pre → is_le (precedence_cmp (with_pre t (zero_part ∷ [])) v) ≡ true
+zero_le t v same some parts = rw (by_numbers (with_pre t (zero_part ∷ [])) v, sym (same_right t t v same), numbers_tied t, pre_slice (zero_part ∷ []) v.pre refl some) (go v.pre some parts)
+  where
+    go : (ids : List (List ℕ)) → (length ids == 0) ≡ false → AreParts ids → is_le (slice_cmp identifier_cmp (zero_part ∷ []) ids) ≡ true
+    go [] some parts = cc some
+    go (x ∷ xs) some parts = zeros_least x xs parts
+
+zero_least : (start : RangeBound) (k : VersionBoundKind) (t : Version) → is_release t ≡ false → start_holds start (with_pre t (zero_part ∷ [])) ≡ true
+    → IsLeast (is_pre_above start (bound_at k t)) (Some (with_pre t (zero_part ∷ [])))
+zero_least start k t pre holds = (
+  is_pre_above-from start k t (with_pre t (zero_part ∷ [])) pre (record { held = holds; some = refl; same = itself t (zero_part ∷ []) }),
+  λ v readable h. let is = pre_above_is start k t v h in zero_le t v is.same is.some readable.pre,
+)
+
+-- a version whose numbers are above those of a start is held by it
+held_above : (k : VersionBoundKind) (s v : Version) → numbers_cmp v s ≡ Greater → start_holds (bound_at k s) v ≡ true
+held_above k s v h = above_from k (precedence_cmp v s) (rw (by_numbers v s, h) refl)
+
+zero_above : (k : VersionBoundKind) (s t : Version) → numbers_cmp s t ≡ Less → start_holds (bound_at k s) (with_pre t (zero_part ∷ [])) ≡ true
+zero_above k s t less = held_above k s (with_pre t (zero_part ∷ [])) (turned numbers_total s t Less less)
+
+-- ---- from among the numbers
+
+-- what the start holds is not below it
+start_le : (k : VersionBoundKind) (s v : Version) → start_holds (bound_at k s) v ≡ true → is_le (precedence_cmp s v) ≡ true
+start_le k s v h = le_turned precedence_total v s (above_ge k (precedence_cmp v s) h)
+
+numbers_same : (s t v : Version) → numbers_cmp s t ≡ Equal → SameNumbers t v → numbers_cmp s v ≡ Equal
+numbers_same s t v tied same = sym (same_right s t v same) ∙ tied
+
+-- no pre-release of the numbers of a release is above it
+none_above_release : (k : VersionBoundKind) (s t v : Version) → numbers_cmp s t ≡ Equal → is_release s ≡ true → IsPreAbove (bound_at k s) t v → ⊥
+none_above_release k s t v tied plain h =
+    let le : is_le (ordering_then (numbers_cmp s v) (pre_cmp s.pre v.pre)) ≡ true = rw (by_numbers s v) at (start_le k s v h.held) in
+    let ids : is_le (pre_cmp s.pre v.pre) ≡ true = rw (numbers_same s t v tied h.same) at le in
+    let low : is_le Greater ≡ true = rw (plain, h.some) at ids in
+    cc low
+
+-- nor is one above a version of greater numbers
+none_above_greater : (k : VersionBoundKind) (s t v : Version) → numbers_cmp s t ≡ Greater → IsPreAbove (bound_at k s) t v → ⊥
+none_above_greater k s t v above h =
+    let le : is_le (ordering_then (numbers_cmp s v) (pre_cmp s.pre v.pre)) ≡ true = rw (by_numbers s v) at (start_le k s v h.held) in
+    let low : is_le Greater ≡ true = rw (sym (same_right s t v h.same) ∙ above) at le in
+    cc low
+
+-- a start's own pre-release
+own_pre_least : (l : VersionBoundKind) (s t : Version) → numbers_cmp s t ≡ Equal → is_release t ≡ false → is_release s ≡ false
+    → IsLeast (is_pre_above (bound_at kind.Inclusive s) (bound_at l t)) (Some (with_pre s s.pre))
+own_pre_least l s t tied pre some = (
+  is_pre_above-from (bound_at kind.Inclusive s) l t (with_pre s s.pre) pre (record { held = ap is_ge (tied_itself precedence_total s); some = some; same = tied_same t s tied s.pre }),
+  λ v readable h. start_le kind.Inclusive s v (pre_above_is (bound_at kind.Inclusive s) l t v h).held,
+)
+
+next_holds : (s : Version) → is_release s ≡ false → start_holds (bound_at kind.Exclusive s) (with_pre s (s.pre ++ zero_part ∷ [])) ≡ true
+next_holds s some = rw (by_numbers (with_pre s (s.pre ++ zero_part ∷ [])) s, numbers_tied s, pre_slice (s.pre ++ zero_part ∷ []) s.pre (some_appended s.pre) some, appended_above s.pre) refl
+
+next_le : (s t v : Version) → numbers_cmp s t ≡ Equal → is_release s ≡ false → AreParts v.pre → IsPreAbove (bound_at kind.Exclusive s) t v
+    → is_le (precedence_cmp (with_pre s (s.pre ++ zero_part ∷ [])) v) ≡ true
+next_le s t v tied some parts h =
+    let same = numbers_same s t v tied h.same in
+    let below : precedence_cmp s v ≡ Less = turned precedence_total v s Greater (greater_from _ h.held) in
+    let ids : pre_cmp s.pre v.pre ≡ Less = rw (by_numbers s v, same) at below in
+    let least : is_le (slice_cmp identifier_cmp (s.pre ++ zero_part ∷ []) v.pre) ≡ true = appended_next s.pre v.pre parts (rw (pre_slice s.pre v.pre some h.some) at ids) in
+    rw (by_numbers (with_pre s (s.pre ++ zero_part ∷ [])) v, same, pre_slice (s.pre ++ zero_part ∷ []) v.pre (some_appended s.pre) h.some) least
+
+next_pre_least : (l : VersionBoundKind) (s t : Version) → numbers_cmp s t ≡ Equal → is_release t ≡ false → is_release s ≡ false
+    → IsLeast (is_pre_above (bound_at kind.Exclusive s) (bound_at l t)) (Some (with_pre s (s.pre ++ zero_part ∷ [])))
+next_pre_least l s t tied pre some = (
+  is_pre_above-from (bound_at kind.Exclusive s) l t (with_pre s (s.pre ++ zero_part ∷ [])) pre (record { held = next_holds s some; some = some_appended s.pre; same = tied_same t s tied (s.pre ++ zero_part ∷ []) }),
+  λ v readable h. next_le s t v tied some readable.pre (pre_above_is (bound_at kind.Exclusive s) l t v h),
+)
+
+-- ---- a start and a bound
+
+-- a test that no version passes
+least_none : (test : Version → Bool) → ((v : Version) → test v ≡ true → ⊥) → IsLeast test None
+least_none test none v readable = elim (cases_Bool (test v)) [
+  | inl passes ↦ absurd (none v passes)
+  | inr fails ↦ fails
+]
+
+from_start : (k l : VersionBoundKind) (s t : Version) → is_release t ≡ false → (r : Ordering) → numbers_cmp s t ≡ r
+    → IsLeast (is_pre_above (bound_at k s) (bound_at l t)) (pre_by r (record { kind = k; version = s }) t)
+from_start k l s t pre Less e = zero_least (bound_at k s) l t pre (zero_above k s t e)
+from_start k l s t pre Greater e = least_none _ (λ v h. none_above_greater k s t v e (pre_above_is (bound_at k s) l t v h))
+from_start k l s t pre Equal e = elim (cases_Bool (is_release s)) [
+  | inl plain ↦ rw plain (least_none (is_pre_above (bound_at k s) (bound_at l t)) (λ v h. none_above_release k s t v e plain (pre_above_is (bound_at k s) l t v h)))
+  | inr some ↦ rw some (by_kind k some)
+]
+  where
+    by_kind : (k : VersionBoundKind) → is_release s ≡ false → IsLeast (is_pre_above (bound_at k s) (bound_at l t)) (Some (pre_from k s))
+    by_kind kind.Inclusive some = own_pre_least l s t e pre some
+    by_kind kind.Exclusive some = next_pre_least l s t e pre some
+
+from_bound : (start : RangeBound) (l : VersionBoundKind) (t : Version) → is_release t ≡ false → IsLeast (is_pre_above start (bound_at l t)) (pre_above start t)
+from_bound bound.Unbounded l t pre = zero_least bound.Unbounded l t pre refl
+from_bound (bound.Version s) l t pre = from_start s.kind l s.version t pre (numbers_cmp s.version t) refl
+
+-- a release is no pre-release of any numbers
+not_of_release : (start : RangeBound) (k : VersionBoundKind) (t v : Version) → is_release t ≡ true → is_pre_above start (bound_at k t) v ≡ true → ⊥
+not_of_release start k t v plain h =
+    let some : is_release t ≡ false = triples.pre_some t v (and_second (not (is_release v)) _ (and_second (start_holds start v) _ h)) in
+    let never : true ≡ false = sym plain ∙ some in
+    cc never
+
+pub pre_least : (start b : RangeBound) → IsLeast (is_pre_above start b) (least_pre start b)
+pre_least start bound.Unbounded = λ v readable. rw (and_false (not (is_release v))) (and_false (start_holds start v))
+pre_least start (bound.Version b) = elim (cases_Bool (is_release b.version)) [
+  | inl plain ↦ rw plain (least_none (is_pre_above start (bound.Version b)) (λ v h. not_of_release start b.kind b.version v plain h))
+  | inr pre ↦ rw pre (from_bound start b.kind b.version pre)
+]

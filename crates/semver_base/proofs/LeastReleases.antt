@@ -1,0 +1,134 @@
+-- The least release above a start.
+use Rattle.std.proofs.Common.{◌≡◌, ◌&&◌, ◌<◌, ◌≤◌, ◌==◌, ◌+◌, ◌^◌, ℕ, Bool, true, false, List, [], ◌∷◌, length, Some, refl, inl, inr, arith}
+use Rattle.std.proofs.lemmas.Bool.{cases_Bool, ltb-true, ltb-false}
+use Rattle.std.proofs.lemmas.Bool.Decides.{nat_tests}
+use Rattle.std.proofs.lemmas.List.{nil_from_length}
+use Rattle.std.specs.Ordering.{is_ge, is_gt, is_le, ordering_then}
+use Rattle.std.specs.declared.cmp.Ordering.{Ordering}
+use Rattle.std.specs.declared.cmp.Ordering.TheVariants.{Less, Equal, Greater}
+use Rattle.semver_base.specs.LeastVersion.{least_release, next_release, numbers_cmp, release_from, IsLeast}
+use Rattle.semver_base.specs.Meaning.{is_release, release, start_holds}
+use Rattle.semver_base.specs.PartialTable.{bound_at, number_fits}
+use Rattle.semver_base.specs.Precedence.{precedence_cmp, pre_cmp}
+use Rattle.semver_base.specs.PrecedenceLaws.{precedence_total}
+use Rattle.semver_base.specs.VersionGrammar.{AllNumbersFit}
+use Rattle.semver_base.specs.declared.version.Version.{Version}
+use Rattle.semver_base.specs.declared.range.RangeBound.{RangeBound}
+use Rattle.semver_base.specs.declared.range.RangeBound.TheVariants as bound
+use Rattle.semver_base.specs.declared.range.VersionBoundKind.{VersionBoundKind}
+use Rattle.semver_base.specs.declared.range.VersionBoundKind.TheVariants as kind
+use Rattle.semver_base.proofs.ClampLemmas.{above_ge}
+use Rattle.semver_base.proofs.LeastParts.{le_then}
+use Rattle.semver_base.proofs.NumbersOrder.{by_numbers, greater_from, numbers_above, numbers_le, numbers_tied, numbers_under, Under}
+use Rattle.semver_base.proofs.Orders.{and_both, and_first, and_second, le_then_first, le_turned}
+
+-- a release that the start holds
+abbrev pub is_release_from : RangeBound → Version → Bool
+is_release_from start v = start_holds start v && is_release v
+
+no_pre : (v : Version) → is_release v ≡ true → v.pre ≡ []
+no_pre v h = nil_from_length v.pre (grind (arith, nat_tests))
+
+pub not_none : (x : List ℕ) (xs : List (List ℕ)) → (length (x ∷ xs) == 0) ≡ false
+not_none x xs = grind (arith, nat_tests)
+
+-- the precedence of a release is below or at that of each release whose numbers are not below its own
+release_le : (w v : Version) → w.pre ≡ [] → v.pre ≡ [] → is_le (numbers_cmp w v) ≡ true → is_le (precedence_cmp w v) ≡ true
+release_le w v e f h = rw (by_numbers w v) (le_then (numbers_cmp w v) _ h (λ _. rw (e, f) refl))
+
+-- no release is below a pre-release of its numbers
+release_high : (ids : List (List ℕ)) → is_ge (pre_cmp [] ids) ≡ true
+release_high [] = refl
+release_high (x ∷ xs) = rw (not_none x xs) refl
+
+start_le : (k : VersionBoundKind) (s v : Version) → start_holds (bound_at k s) v ≡ true → is_le (numbers_cmp s v) ≡ true
+start_le k s v h =
+    let le : is_le (precedence_cmp s v) ≡ true = le_turned precedence_total v s (above_ge k (precedence_cmp v s) h) in
+    le_then_first _ (pre_cmp s.pre v.pre) (rw (by_numbers s v) at le)
+
+-- the release of the start's own numbers, where the start holds it
+own_least : (k : VersionBoundKind) (s : Version) → start_holds (bound_at k s) (release s.major s.minor s.patch) ≡ true
+    → IsLeast (is_release_from (bound_at k s)) (Some (release s.major s.minor s.patch))
+own_least k s holds = (
+  and_both _ _ holds refl,
+  λ v readable h. release_le (release s.major s.minor s.patch) v refl (no_pre v (and_second _ _ h)) (start_le k s v (and_first _ _ h)),
+)
+
+own_ge : (s : Version) → is_ge (precedence_cmp (release s.major s.minor s.patch) s) ≡ true
+own_ge s = rw (by_numbers (release s.major s.minor s.patch) s, numbers_tied s) (release_high s.pre)
+
+own_gt : (s : Version) → is_release s ≡ false → is_gt (precedence_cmp (release s.major s.minor s.patch) s) ≡ true
+own_gt s pre = rw (by_numbers (release s.major s.minor s.patch) s, numbers_tied s, pre) refl
+
+-- ---- what is next after a release
+
+then_greater : (r s : Ordering) → s ≡ Equal → ordering_then r s ≡ Greater → r ≡ Greater
+then_greater Less s e h = h
+then_greater Equal s e h = cc (e, h)
+then_greater Greater s e h = refl
+
+above_under : (s v : Version) → is_release s ≡ true → is_release v ≡ true → is_gt (precedence_cmp v s) ≡ true → Under s v
+above_under s v first second h =
+    let above : precedence_cmp v s ≡ Greater = greater_from _ h in
+    let tied : pre_cmp v.pre s.pre ≡ Equal = rw (no_pre s first, no_pre v second) refl in
+    numbers_under s v (then_greater _ _ tied (rw (by_numbers v s) at above))
+
+under_above : (s w : Version) → Under s w → is_gt (precedence_cmp w s) ≡ true
+under_above s w h = rw (by_numbers w s, numbers_above s w h) refl
+
+-- a release above s whose numbers are the least above those of s
+raised_least : (s w : Version) → is_release s ≡ true → is_release w ≡ true → Under s w → ((v : Version) → AllNumbersFit v → Under s v → is_le (numbers_cmp w v) ≡ true)
+    → IsLeast (is_release_from (bound_at kind.Exclusive s)) (Some w)
+raised_least s w first second above least = (
+  and_both _ _ (under_above s w above) second,
+  λ v readable h.
+      let held = and_first _ (is_release v) h in
+      let plain = and_second (start_holds (bound_at kind.Exclusive s) v) _ h in
+      release_le w v (no_pre w second) (no_pre v plain) (least v readable.numbers (above_under s v first plain held)),
+)
+
+fits : (n : ℕ) → number_fits n ≡ true → n < 2 ^ 64
+fits n h = ltb-true n (2 ^ 64) h
+
+too_large : (n : ℕ) → number_fits n ≡ false → 2 ^ 64 ≤ n
+too_large n h = ltb-false n (2 ^ 64) h
+
+-- nothing is above a release none of whose numbers can be raised
+none_above : (s v : Version) → is_release s ≡ true → AllNumbersFit v → 2 ^ 64 ≤ s.patch + 1 → 2 ^ 64 ≤ s.minor + 1 → 2 ^ 64 ≤ s.major + 1 → is_release_from (bound_at kind.Exclusive s) v ≡ false
+none_above s v plain numbers third second first = elim (cases_Bool (is_release_from (bound_at kind.Exclusive s) v)) [
+  | inl held ↦
+      let above : Under s v = above_under s v plain (and_second (start_holds (bound_at kind.Exclusive s) v) _ held) (and_first _ (is_release v) held) in
+      let patch = numbers.patch in
+      let minor = numbers.minor in
+      let major = numbers.major in
+      absurd (omega arith)
+  | inr none ↦ none
+]
+
+next_least : (s : Version) → is_release s ≡ true → IsLeast (is_release_from (bound_at kind.Exclusive s)) (next_release s)
+next_least s plain = elim (cases_Bool (number_fits (s.patch + 1))) [
+  | inl third ↦ rw third (raised_least s (release s.major s.minor (s.patch + 1)) plain refl (inr (refl, inr (refl, omega arith)))
+      (λ v numbers h. numbers_le (release s.major s.minor (s.patch + 1)) v (omega arith) (λ e. omega arith) (λ e f. omega arith)))
+  | inr no_third ↦ rw no_third (elim (cases_Bool (number_fits (s.minor + 1))) [
+    | inl second ↦ rw second (raised_least s (release s.major (s.minor + 1) 0) plain refl (inr (refl, inl (omega arith)))
+        (λ v numbers h. let high = too_large (s.patch + 1) no_third in let low = numbers.patch in
+        numbers_le (release s.major (s.minor + 1) 0) v (omega arith) (λ e. omega arith) (λ e f. omega arith)))
+    | inr no_second ↦ rw no_second (elim (cases_Bool (number_fits (s.major + 1))) [
+      | inl first ↦ rw first (raised_least s (release (s.major + 1) 0 0) plain refl (inl (omega arith))
+          (λ v numbers h. let high = too_large (s.patch + 1) no_third in let higher = too_large (s.minor + 1) no_second in let low = numbers.patch in let lower = numbers.minor in
+          numbers_le (release (s.major + 1) 0 0) v (omega arith) (λ e. omega arith) (λ e f. omega arith)))
+      | inr no_first ↦ rw no_first (λ v readable. none_above s v plain readable.numbers (too_large (s.patch + 1) no_third) (too_large (s.minor + 1) no_second) (too_large (s.major + 1) no_first))
+    ])
+  ])
+]
+
+pub release_least : (start : RangeBound) → IsLeast (is_release_from start) (least_release start)
+release_least bound.Unbounded = (refl, λ v readable h. release_le (release 0 0 0) v refl (no_pre v (and_second (start_holds bound.Unbounded v) _ h)) (numbers_le (release 0 0 0) v (omega arith) (λ _. omega arith) (λ _ _. omega arith)))
+release_least (bound.Version s) = go s.kind
+  where
+    go : (k : VersionBoundKind) → IsLeast (is_release_from (bound_at k s.version)) (release_from k s.version)
+    go kind.Inclusive = own_least kind.Inclusive s.version (own_ge s.version)
+    go kind.Exclusive = elim (cases_Bool (is_release s.version)) [
+      | inl plain ↦ rw plain (next_least s.version plain)
+      | inr pre ↦ rw pre (own_least kind.Exclusive s.version (own_gt s.version pre))
+    ]

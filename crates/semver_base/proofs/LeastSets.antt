@@ -1,0 +1,129 @@
+-- The least version that sets of ranges mean, range by range.
+use Rattle.std.proofs.Common.{◌≡◌, ◌&&◌, ◌||◌, ◌<◌, ◌+◌, ℕ, Bool, true, false, not, List, [], ◌∷◌, ◌++◌, length, take, get_or, ◌≤◌, Option, Some, None, refl, sym, subst, inl, inr, ap, ap₂, ◌∙◌, add-one}
+use Rattle.std.proofs.Math.Seq.{take-suc}
+use Rattle.std.proofs.lemmas.List.{take_all}
+use Rattle.std.specs.List.{list_any}
+use Rattle.std.specs.Str.{trim}
+use Rattle.std.proofs.lemmas.Bool.{cases_Bool}
+use Rattle.std.specs.Prelude.{◌↔◌, IfSome, IsTrue, Ok, is_some}
+use Rattle.semver_base.specs.LeastVersion.{both_mean, lesser, set_means_alone, sets_mean, IsLeast, IsReadable, IsWithin, TellsWithin}
+use Rattle.semver_base.specs.Meaning.{alternative_means, alternatives, tree_means}
+use Rattle.semver_base.specs.VersionGrammar.{IsVersionOutcome, is_version}
+use Rattle.semver_base.specs.VersionText.{version_text, ReadsBack}
+use Rattle.semver_base.specs.declared.version.Version.{Version}
+use Rattle.semver_base.specs.declared.range.PreRelease.TheVariants.{Restricted}
+use Rattle.semver_base.specs.declared.range.VersionRange.{VersionRange}
+use Rattle.semver_base.proofs.LeastFrom.{least_alike, least_by, least_passes, least_reaches, lesser_keeps, lesser_reaches_first, lesser_reaches_second}
+use Rattle.semver_base.proofs.MeaningLemmas.{any_alternatives}
+use Rattle.semver_base.proofs.Orders.{and_both, and_first, and_second, and_swap, or_cases, or_first, or_second}
+use Rattle.semver_base.proofs.ReadVersions.{read_writable}
+use Rattle.semver_base.proofs.Triples.{not_true}
+
+some_weaker : (A B : Version → Type 0) (x : Option Version) → ((w : Version) → A w → B w) → IfSome x A → IfSome x B
+some_weaker A B None f h = tt
+some_weaker A B (Some w) f h = f w h
+
+-- the lower of the least versions of two tests is the least that passes either
+pub lesser_least : (P Q : Version → Bool) (x y : Option Version) → IsLeast P x → IsLeast Q y → IsLeast (λ v. P v || Q v) (lesser x y)
+lesser_least P Q x y h k = least_by (λ v. P v || Q v) (lesser x y)
+    (lesser_keeps (λ w. (P w || Q w) ≡ true) x y (some_weaker (λ w. P w ≡ true) (λ w. (P w || Q w) ≡ true) x (λ w p. or_first (P w) (Q w) p) (least_passes P x h)) (some_weaker (λ w. Q w ≡ true) (λ w. (P w || Q w) ≡ true) y (λ w q. or_second (P w) (Q w) q) (least_passes Q y k)))
+    (λ v readable passes. elim (or_cases (P v) (Q v) passes) [
+      | inl own ↦ lesser_reaches_first x y v (least_reaches P x v h readable own)
+      | inr other ↦ lesser_reaches_second x y v (least_reaches Q y v k readable other)
+    ])
+
+-- what a range means with itself is what it means
+pub itself_least : (a : VersionRange) (x : Option Version) → IsLeast (both_mean a a) x → IsLeast (λ v. alternative_means (a ∷ []) v) x
+itself_least a x h = least_alike (both_mean a a) (λ v. alternative_means (a ∷ []) v) x
+    (λ v both. and_first (alternative_means (a ∷ []) v) _ both)
+    (λ v readable means. and_both _ _ means means) h
+
+-- the same test, said otherwise
+pub least_as : (P Q : Version → Bool) (x : Option Version) → ((v : Version) → P v ≡ Q v) → IsLeast P x → IsLeast Q x
+least_as P Q x same h = least_alike P Q x (λ v passes. sym (same v) ∙ passes) (λ v readable passes. same v ∙ passes) h
+
+-- no version is the least of none
+pub none_least : (P : Version → Bool) → ((v : Version) → P v ≡ false) → IsLeast P None
+none_least P none = λ v readable. none v
+
+any_more : {X : Type 0} (p : X → Bool) (xs : List X) (x : X) → list_any p (xs ++ x ∷ []) ≡ (list_any p xs || p x)
+any_more p [] x = or_none (p x)
+  where
+    or_none : (a : Bool) → (a || false) ≡ a
+    or_none true = refl
+    or_none false = refl
+any_more p (y ∷ ys) x = ap (λ (b : Bool). p y || b) (any_more p ys x) ∙ or_grouped (p y) (list_any p ys) (p x)
+  where
+    or_grouped : (a b c : Bool) → (a || (b || c)) ≡ ((a || b) || c)
+    or_grouped true b c = refl
+    or_grouped false b c = refl
+
+and_or : (a b c : Bool) → ((a && b) || (a && c)) ≡ (a && (b || c))
+and_or true b c = refl
+and_or false b c = refl
+
+taken : (ranges : List VersionRange) (i : ℕ) (x : VersionRange) → i < length ranges → x ≡ get_or ranges i x → take (i + 1) ranges ≡ take i ranges ++ x ∷ []
+taken ranges i x within is = ap (λ (k : ℕ). take k ranges) (add-one i) ∙ take-suc ranges i x within ∙ ap (λ (y : VersionRange). take i ranges ++ y ∷ []) (sym is)
+
+-- one range more, of which each version has to pass another test too
+pub one_more : (test : Version → Bool) (each : VersionRange → Version → Bool) (ranges : List VersionRange) (i : ℕ) (x : VersionRange) (least next : Option Version) → i < length ranges → x ≡ get_or ranges i x
+    → IsLeast (λ v. test v && list_any (λ r. each r v) (take i ranges)) least → IsLeast (λ v. test v && each x v) next
+    → IsLeast (λ v. test v && list_any (λ r. each r v) (take (i + 1) ranges)) (lesser least next)
+one_more test each ranges i x least next within is h k =
+    least_as (λ v. (test v && list_any (λ r. each r v) (take i ranges)) || (test v && each x v)) (λ v. test v && list_any (λ r. each r v) (take (i + 1) ranges)) (lesser least next)
+    (λ v. and_or (test v) (list_any (λ r. each r v) (take i ranges)) (each x v)
+    ∙ ap (λ (b : Bool). test v && b) (sym (any_more (λ r. each r v) (take i ranges) x) ∙ ap (list_any (λ r. each r v)) (sym (taken ranges i x within is))))
+    (lesser_least (λ v. test v && list_any (λ r. each r v) (take i ranges)) (λ v. test v && each x v) least next h k)
+
+-- all ranges
+pub whole_least : (test : List VersionRange → Version → Bool) (ranges own : List VersionRange) (i : ℕ) (x : Option Version) → own ≡ ranges → length own ≤ i → IsLeast (test (take i own)) x → IsLeast (test ranges) x
+whole_least test ranges own i x is all h = subst (λ (rs : List VersionRange). IsLeast (test rs) x) (take_all i own all ∙ is) h
+
+pub swapped_least : (P Q : Version → Bool) (x : Option Version) → IsLeast (λ v. P v && Q v) x → IsLeast (λ v. Q v && P v) x
+swapped_least P Q x h = least_as (λ v. P v && Q v) (λ v. Q v && P v) x (λ v. and_swap (P v) (Q v)) h
+
+-- some range of the set means the version
+abbrev pub some_means : List VersionRange → Version → Bool
+some_means ranges v = list_any (λ range. alternative_means (range ∷ []) v) ranges
+
+-- the ranges of two sets as the sets that they are
+pub sets_least : (some others : List VersionRange) (x : Option Version) → IsLeast (λ v. some_means others v && some_means some v) x → IsLeast (sets_mean some others) x
+sets_least some others x h = least_as (λ v. some_means others v && some_means some v) (sets_mean some others) x
+    (λ v. and_swap (some_means others v) (some_means some v) ∙ ap₂ (λ (a b : Bool). a && b) (any_alternatives Restricted some v) (any_alternatives Restricted others v)) h
+
+pub set_least : (ranges : List VersionRange) (x : Option Version) → IsLeast (some_means ranges) x → IsLeast (λ v. tree_means (alternatives ranges) v) x
+set_least ranges x h = least_as (some_means ranges) (λ v. tree_means (alternatives ranges) v) x (any_alternatives Restricted ranges) h
+
+-- what the ranges of the first set mean that the other doesn't
+pub alone_least : (some others : List VersionRange) (x : Option Version) → IsLeast (λ v. not (tree_means (alternatives others) v) && some_means some v) x → IsLeast (set_means_alone some others) x
+alone_least some others x h = least_as (λ v. not (tree_means (alternatives others) v) && some_means some v) (set_means_alone some others) x
+    (λ v. and_swap (not (tree_means (alternatives others) v)) (some_means some v) ∙ ap (λ (b : Bool). b && not (tree_means (alternatives others) v)) (any_alternatives Restricted some v)) h
+
+-- whether something is found tells whether the second test passes what the first one passes
+pub within_told : (test other : Version → Bool) (x : Option Version) (told : Bool) → is_some x ≡ not told → IsLeast (λ v. test v && not (other v)) x → TellsWithin test other told
+within_told test other None false e h = cc e
+within_told test other (Some v) true e h = cc e
+within_told test other None true e h = λ v readable own. elim (cases_Bool (other v)) [
+  | inl passes ↦ passes
+  | inr fails ↦ let alone : (test v && not (other v)) ≡ true = rw (own, fails) refl in let never : true ≡ false = sym alone ∙ h v readable in cc never
+]
+within_told test other (Some v) false e h = (v, and_first (test v) _ h.0, not_true (other v) (and_second (test v) _ h.0))
+
+back_readable : (v : Version) → ReadsBack v → IsReadable v
+back_readable v back = go (trim (version_text v)) back
+  where
+    go : (text : List ℕ) → IsVersionOutcome text (Ok v) → IsReadable v
+    go text (is_version h fits) = record { numbers = fits; pre = (read_writable text v h fits).pre }
+
+-- and it tells so exactly, where what is found has a text that is read back
+pub within_exact : (test other : Version → Bool) (x : Option Version) (told : Bool) → is_some x ≡ not told → IsLeast (λ v. test v && not (other v)) x → IfSome x ReadsBack → IsTrue told ↔ IsWithin test other
+within_exact test other None false e h back = cc e
+within_exact test other (Some v) true e h back = cc e
+within_exact test other None true e h back = (λ _. within_told test other None true e h, λ _. refl)
+within_exact test other (Some v) false e h back = (
+  λ yes. cc yes,
+  λ within.
+      let passes = within v (back_readable v back) (and_first (test v) _ h.0) in
+      let never : true ≡ false = sym passes ∙ not_true (other v) (and_second (test v) _ h.0) in
+      cc never,
+)

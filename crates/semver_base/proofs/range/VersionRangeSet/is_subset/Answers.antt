@@ -1,0 +1,11 @@
+use Rattle.semver_base.specs.LeastVersion.{set_means}
+use Rattle.semver_base.proofs.LeastSets.{within_exact, within_told}
+use Rattle.semver_base.proofs.range.VersionRangeSet.is_subset.Goals as goal
+
+pub returns-clause-value : goal.returns-clause-value
+returns-clause-value c = within_told (set_means c.args.self.now.0) (set_means c.args.other.now.0) c.in_ok-outside.outside c.is_none.result c.is_none.ensures c.in_ok-outside.ensures.least
+
+pub returns-clause-exact : goal.returns-clause-exact
+returns-clause-exact c = λ own others.
+    within_exact (set_means c.args.self.now.0) (set_means c.args.other.now.0) c.in_ok-outside.outside c.is_none.result c.is_none.ensures c.in_ok-outside.ensures.least
+    (c.in_ok-outside.ensures.reads_back own others)

@@ -1,0 +1,18 @@
+-- Plain texts: three numbers with dots between and nothing else, which each grammar reads alike.
+use Rattle.std.specs.Prelude.{◌<◌, ◌^◌, ℕ, List, [], ◌∷◌}
+use Rattle.semver_base.specs.Grammar.{IsLongest}
+use Rattle.semver_base.specs.Lexical.{IsLooseNumber, IsStrictNumber}
+
+-- the longest number at the front by either grammar, which fits
+pub record IsPlainNumber (text : List ℕ) (n : ℕ) (rest : List ℕ) : Type 0 where
+  pub loose : IsLongest IsLooseNumber text n rest
+  pub strict : IsLongest IsStrictNumber text n rest
+  pub fits : n < 2 ^ 64
+
+-- the whole text is these numbers with dots between
+pub record IsPlainTriple (text : List ℕ) (m n p : ℕ) : Type 0 where
+  pub from_minor : List ℕ
+  pub from_patch : List ℕ
+  pub major : IsPlainNumber text m (46 ∷ from_minor)
+  pub minor : IsPlainNumber from_minor n (46 ∷ from_patch)
+  pub patch : IsPlainNumber from_patch p []

@@ -1,0 +1,67 @@
+//! Plain texts: numbers with dots between and nothing else, read in one pass over their bytes.
+//!
+//! Most versions and most requirements are such texts. Each reader tries this short way first; what it answers is what the
+//! grammar says, and where it answers `None` nothing is known.
+
+ghost use Rattle.std.specs.Prelude.{◌≡◌, ◌∷◌, IfSome};
+ghost use Rattle.semver_base.specs.PlainTexts.{IsPlainNumber, IsPlainTriple};
+
+// Ten times a number below this, and a digit, is a `u64`.
+const LIMIT: u64 = 1_000_000_000_000_000_000;
+
+/// Three numbers.
+#[derive(Clone, Copy, Debug)]
+pub struct Numbers {
+    pub major: u64,
+    pub minor: u64,
+    pub patch: u64,
+}
+
+// The number at the front, which has few digits and no leading zeros, and what follows it.
+#[inline(always)]
+fn number(bytes: &[u8]) -> Option<(u64, &[u8])>
+    ensures { IfSome result (λ r. IsPlainNumber bytes.now r.0 r.1.now) }
+{
+    let mut number: u64 = 0;
+    let mut len: usize = 0;
+    while len < bytes.len() && bytes[len].is_ascii_digit() {
+        if number >= LIMIT {
+            return None;
+        }
+        number = number * 10 + u64::from(bytes[len] - b'0');
+        len += 1;
+    }
+    if len == 0 || (bytes[0] == b'0' && len != 1) {
+        return None;
+    }
+    Some((number, &bytes[len..]))
+}
+
+// What follows a `.`.
+#[inline(always)]
+fn after_dot(bytes: &[u8]) -> Option<&[u8]>
+    ensures { IfSome result (λ rest. bytes.now ≡ 46 ∷ rest.now) }
+{
+    match bytes {
+        [b'.', rest @ ..] => Some(rest),
+        _ => None,
+    }
+}
+
+/// The three numbers that the whole text is.
+#[inline(always)]
+pub fn plain_numbers(text: &str) -> Option<Numbers>
+    ensures { IfSome result (λ n. IsPlainTriple text.now n.major n.minor n.patch) }
+{
+    let (major, rest) = number(text.as_bytes())?;
+    let (minor, rest) = number(after_dot(rest)?)?;
+    let (patch, rest) = number(after_dot(rest)?)?;
+    if !rest.is_empty() {
+        return None;
+    }
+    Some(Numbers {
+        major,
+        minor,
+        patch,
+    })
+}

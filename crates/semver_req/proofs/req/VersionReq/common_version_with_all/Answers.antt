@@ -1,0 +1,13 @@
+use Rattle.std.proofs.Common.{◌∙◌}
+use Rattle.semver_req.proofs.LeastRead.{all_back, all_least}
+use Rattle.semver_req.proofs.req.VersionReq.common_version_with_all.Goals as goal
+
+pub returns-clause-least : goal.returns-clause-least
+returns-clause-least c =
+    all_least c.args.self.now.inner c.args.others.now c.in_ok-own.own c.as_slice.result.now c.common_version_with_all.result c.in_ok-own.ensures (c.as_slice.ensures.value ∙ c.in_ok-sets.ensures)
+    c.common_version_with_all.ensures.least
+
+pub returns-clause-reads_back : goal.returns-clause-reads_back
+returns-clause-reads_back c =
+    all_back c.args.self.now.inner c.args.others.now c.in_ok-own.own c.as_slice.result.now c.common_version_with_all.result c.in_ok-own.ensures (c.as_slice.ensures.value ∙ c.in_ok-sets.ensures)
+    c.common_version_with_all.ensures.reads_back
