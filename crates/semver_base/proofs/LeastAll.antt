@@ -4,8 +4,9 @@ use Rattle.std.proofs.Common.{◌≡◌, ◌&&◌, Bool, true, List, [], ◌∷�
 use Rattle.std.specs.Prelude.{◌⊎◌, IfSome}
 use Rattle.std.specs.List.{fold, list_all, AllByRecursion}
 use Rattle.std.specs.Ordering.{is_le}
-use Rattle.semver_base.specs.LeastVersion.{all_mean, least_by_sets, least_by_starts, least_for, least_from, least_over, lesser, set_means, HasNoBuild, IsLeast, IsReadable}
-use Rattle.semver_base.specs.Meaning.{start_holds}
+use Rattle.semver_base.specs.LeastVersion.{all_mean, HasNoBuild, IsLeast, IsReadable}
+use Rattle.semver_base.specs.LeastSteps.{least_by_sets, least_by_starts, least_for, least_from, least_over, lesser}
+use Rattle.semver_base.specs.Meaning.{set_means, start_holds}
 use Rattle.semver_base.specs.NormalText.{AreWritableRanges, IsWritableBound, IsWritableRange}
 use Rattle.semver_base.specs.Precedence.{precedence_cmp}
 use Rattle.semver_base.specs.VersionText.{IsWritable, ReadsBack}

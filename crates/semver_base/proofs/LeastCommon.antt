@@ -1,7 +1,8 @@
 -- The least version that two ranges mean is found from the greater of their starts.
 use Rattle.std.proofs.Common.{◌≡◌, ◌&&◌, true, sym, ◌∙◌}
 use Rattle.semver_base.specs.Clamp.{clamped_start}
-use Rattle.semver_base.specs.LeastVersion.{both_mean, least_common, IsLeast}
+use Rattle.semver_base.specs.LeastVersion.{both_mean, IsLeast}
+use Rattle.semver_base.specs.LeastSteps.{least_common}
 use Rattle.semver_base.specs.Meaning.{start_holds}
 use Rattle.semver_base.specs.declared.version.Version.{Version}
 use Rattle.semver_base.specs.declared.range.VersionRange.{VersionRange}

@@ -7,7 +7,8 @@ use Rattle.std.proofs.lemmas.Cmp.{tied_itself}
 use Rattle.std.specs.Ordering.{is_le, is_lt}
 use Rattle.std.specs.declared.cmp.Ordering.{Ordering}
 use Rattle.std.specs.declared.cmp.Ordering.TheVariants.{Less, Equal, Greater}
-use Rattle.semver_base.specs.LeastVersion.{kept_if, least_from, least_pre, least_release, lesser, lower_by, IsLeast, IsReadable}
+use Rattle.semver_base.specs.LeastVersion.{IsLeast, IsReadable}
+use Rattle.semver_base.specs.LeastSteps.{kept_if, least_from, least_pre, least_release, lesser, lower_by}
 use Rattle.semver_base.specs.Meaning.{admits_pre, alternative_means, bounds_hold, end_holds, has_pre_of, is_below, is_release, start_holds}
 use Rattle.semver_base.specs.Precedence.{precedence_cmp}
 use Rattle.semver_base.specs.PrecedenceLaws.{precedence_total}

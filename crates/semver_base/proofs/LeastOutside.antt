@@ -8,7 +8,8 @@ use Rattle.std.specs.Ordering.{is_ge, is_gt, is_le}
 use Rattle.std.specs.declared.cmp.Ordering.{Ordering}
 use Rattle.std.specs.declared.cmp.Ordering.TheVariants.{Less, Equal, Greater}
 use Rattle.semver_base.specs.Clamp.{clamped_start, greater_of, of_tied}
-use Rattle.semver_base.specs.LeastVersion.{after, found_after, least_from, least_outside, lesser, means_alone, other_kind, IsLeast, IsReadable}
+use Rattle.semver_base.specs.LeastVersion.{means_alone, IsLeast, IsReadable}
+use Rattle.semver_base.specs.LeastSteps.{after, found_after, least_from, least_outside, lesser, other_kind}
 use Rattle.semver_base.specs.Meaning.{alternatives, end_holds, is_above, is_below, start_holds, tree_means}
 use Rattle.semver_base.specs.Precedence.{precedence_cmp}
 use Rattle.semver_base.specs.PrecedenceLaws.{precedence_total}

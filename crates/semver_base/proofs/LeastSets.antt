@@ -6,7 +6,9 @@ use Rattle.std.specs.List.{list_any}
 use Rattle.std.specs.Str.{trim}
 use Rattle.std.proofs.lemmas.Bool.{cases_Bool}
 use Rattle.std.specs.Prelude.{◌↔◌, IfSome, IsTrue, Ok, is_some}
-use Rattle.semver_base.specs.LeastVersion.{both_mean, lesser, set_means_alone, sets_mean, IsLeast, IsReadable, IsWithin, TellsWithin}
+use Rattle.semver_base.specs.LeastVersion.{both_mean, set_means_alone, sets_mean, IsLeast, IsReadable}
+use Rattle.semver_base.specs.LeastSteps.{lesser}
+use Rattle.semver_base.specs.Containment.{IsWithin, TellsWithin}
 use Rattle.semver_base.specs.Meaning.{alternative_means, alternatives, tree_means}
 use Rattle.semver_base.specs.VersionGrammar.{IsVersionOutcome, is_version}
 use Rattle.semver_base.specs.VersionText.{version_text, ReadsBack}
@@ -98,32 +100,3 @@ set_least ranges x h = least_as (some_means ranges) (λ v. tree_means (alternati
 pub alone_least : (some others : List VersionRange) (x : Option Version) → IsLeast (λ v. not (tree_means (alternatives others) v) && some_means some v) x → IsLeast (set_means_alone some others) x
 alone_least some others x h = least_as (λ v. not (tree_means (alternatives others) v) && some_means some v) (set_means_alone some others) x
     (λ v. and_swap (not (tree_means (alternatives others) v)) (some_means some v) ∙ ap (λ (b : Bool). b && not (tree_means (alternatives others) v)) (any_alternatives Restricted some v)) h
-
--- whether something is found tells whether the second test passes what the first one passes
-pub within_told : (test other : Version → Bool) (x : Option Version) (told : Bool) → is_some x ≡ not told → IsLeast (λ v. test v && not (other v)) x → TellsWithin test other told
-within_told test other None false e h = cc e
-within_told test other (Some v) true e h = cc e
-within_told test other None true e h = λ v readable own. elim (cases_Bool (other v)) [
-  | inl passes ↦ passes
-  | inr fails ↦ let alone : (test v && not (other v)) ≡ true = rw (own, fails) refl in let never : true ≡ false = sym alone ∙ h v readable in cc never
-]
-within_told test other (Some v) false e h = (v, and_first (test v) _ h.0, not_true (other v) (and_second (test v) _ h.0))
-
-back_readable : (v : Version) → ReadsBack v → IsReadable v
-back_readable v back = go (trim (version_text v)) back
-  where
-    go : (text : List ℕ) → IsVersionOutcome text (Ok v) → IsReadable v
-    go text (is_version h fits) = record { numbers = fits; pre = (read_writable text v h fits).pre }
-
--- and it tells so exactly, where what is found has a text that is read back
-pub within_exact : (test other : Version → Bool) (x : Option Version) (told : Bool) → is_some x ≡ not told → IsLeast (λ v. test v && not (other v)) x → IfSome x ReadsBack → IsTrue told ↔ IsWithin test other
-within_exact test other None false e h back = cc e
-within_exact test other (Some v) true e h back = cc e
-within_exact test other None true e h back = (λ _. within_told test other None true e h, λ _. refl)
-within_exact test other (Some v) false e h back = (
-  λ yes. cc yes,
-  λ within.
-      let passes = within v (back_readable v back) (and_first (test v) _ h.0) in
-      let never : true ≡ false = sym passes ∙ not_true (other v) (and_second (test v) _ h.0) in
-      cc never,
-)

@@ -6,7 +6,8 @@ use Rattle.std.specs.declared.cmp.Ordering.{Ordering}
 use Rattle.std.specs.declared.cmp.Ordering.TheVariants.{Less, Equal, Greater}
 use Rattle.std.proofs.lemmas.Bool.{ltb-true}
 use Rattle.semver_base.specs.Clamp.{clamped_start, greater_of, of_tied}
-use Rattle.semver_base.specs.LeastVersion.{HasNoBuild, IsLeast, after, both_mean, found_after, least_common, least_from, least_outside, least_pre, least_release, means_alone, next_release, numbers_cmp, pre_above, pre_by, pre_from, release_from, with_pre, zero_part}
+use Rattle.semver_base.specs.LeastVersion.{HasNoBuild, IsLeast, both_mean, means_alone}
+use Rattle.semver_base.specs.LeastSteps.{after, found_after, least_common, least_from, least_outside, least_pre, least_release, next_release, numbers_cmp, pre_above, pre_by, pre_from, release_from, with_pre, zero_part}
 use Rattle.semver_base.specs.Lexical.{IsPart}
 use Rattle.semver_base.specs.Meaning.{is_release, release}
 use Rattle.semver_base.specs.NormalText.{AreWritableRanges, IsWritableBound, IsWritableRange}

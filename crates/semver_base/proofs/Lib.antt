@@ -2,6 +2,7 @@ pub mod Blanks
 pub mod Bytes
 pub mod ClampLemmas
 pub mod ClampMeaning
+pub mod Containment
 pub mod Equality
 pub mod Fronts
 pub mod LeastAll
@@ -18,6 +19,7 @@ pub mod MeaningLemmas
 pub mod NormalTable
 pub mod Numbers
 pub mod NumbersOrder
+pub mod OnlyLeast
 pub mod Orders
 pub mod OverlapLemmas
 pub mod Parts

@@ -1,26 +1,15 @@
--- The least version of those that pass a test, and the versions among which the least one that two ranges mean is
--- found. Source: node-semver's `minVersion`, here of two ranges at once, with its rule of pre-releases.
-use Rattle.std.specs.Prelude.{◌≡◌, ℕ, List, [], ◌∷◌, ◌++◌, ◌+◌, Bool, not, true, false, ◌&&◌, Option, Some, None, Ok, if◌then◌else◌}
-use Rattle.std.specs.List.{fold, list_all}
-use Rattle.std.specs.Ordering.{is_le, nat_cmp, on, then_cmp}
-use Rattle.std.specs.declared.cmp.Ordering.{Ordering}
-use Rattle.std.specs.declared.cmp.Ordering.TheVariants.{Less, Equal, Greater}
-use Rattle.semver_base.specs.Clamp.{clamped_start}
-use Rattle.semver_base.specs.Meaning.{alternative_means, alternatives, is_release, release, tree_means}
-use Rattle.semver_base.specs.PartialTable.{number_fits}
+-- The least version of those that pass a test. Source: node-semver's `minVersion`, here of any test, and of two ranges or
+-- sets of ranges at once.
+use Rattle.std.specs.Prelude.{◌≡◌, ℕ, List, [], Bool, not, ◌&&◌, IfSome, Option, Some, None, Ok, true, false}
+use Rattle.std.specs.List.{list_all}
+use Rattle.std.specs.Ordering.{is_le}
+use Rattle.semver_base.specs.Meaning.{range_means, set_means}
 use Rattle.semver_base.specs.Precedence.{precedence_cmp}
 use Rattle.semver_base.specs.VersionGrammar.{AllNumbersFit, IsVersionOutcome}
-use Rattle.semver_base.specs.VersionText.{AreParts}
+use Rattle.semver_base.specs.VersionText.{AreParts, ReadsBack}
 use Rattle.semver_base.specs.declared.version.Version.{Version}
-use Rattle.semver_base.specs.declared.range.RangeBound.{RangeBound}
-use Rattle.semver_base.specs.declared.range.RangeBound.TheVariants as bound
-use Rattle.semver_base.specs.declared.range.VersionBound.{VersionBound}
-use Rattle.semver_base.specs.declared.range.VersionBoundKind.{VersionBoundKind}
-use Rattle.semver_base.specs.declared.range.VersionBoundKind.TheVariants as kind
 use Rattle.semver_base.specs.declared.range.VersionRange.{VersionRange}
 use Rattle.semver_base.specs.declared.range.VersionRangeSet.{VersionRangeSet}
-
--- ---- least versions
 
 -- every number fits, and every identifier of the pre-release is a part
 pub record IsReadable (v : Version) : Type 0 where
@@ -40,155 +29,28 @@ IsLeast test None = (v : Version) → IsReadable v → test v ≡ false
 abbrev pub HasNoBuild : Version → Type 0
 HasNoBuild v = v.build ≡ []
 
+-- no other version without a build whose text is read back, or none, is the least of the test
+abbrev pub IsOnlyLeast : (Version → Bool) → Option Version → Type 0
+IsOnlyLeast test least = (other : Option Version) → IsLeast test other → IfSome other HasNoBuild → IfSome other ReadsBack → other ≡ least
+
+-- ---- what two or more mean
+
 -- both ranges mean the version
 abbrev pub both_mean : VersionRange → VersionRange → Version → Bool
-both_mean a b v = alternative_means (a ∷ []) v && alternative_means (b ∷ []) v
+both_mean a b v = range_means a v && range_means b v
 
 -- both sets do
 abbrev pub sets_mean : List VersionRange → List VersionRange → Version → Bool
-sets_mean some others v = tree_means (alternatives some) v && tree_means (alternatives others) v
-
--- the lower of two versions, where there are two
-abbrev pub lower_by : Ordering → Version → Version → Version
-lower_by Greater x y = y
-lower_by Less x y = x
-lower_by Equal x y = x
-
-abbrev pub lesser : Option Version → Option Version → Option Version
-lesser None second = second
-lesser (Some x) None = Some x
-lesser (Some x) (Some y) = Some (lower_by (precedence_cmp x y) x y)
-
--- the range means the version, and no range of the set does
-abbrev pub means_alone : VersionRange → List VersionRange → Version → Bool
-means_alone range others v = alternative_means (range ∷ []) v && not (tree_means (alternatives others) v)
-
--- the first set means the version, and the other doesn't
-abbrev pub set_means_alone : List VersionRange → List VersionRange → Version → Bool
-set_means_alone some others v = tree_means (alternatives some) v && not (tree_means (alternatives others) v)
-
--- the second test passes each readable version that the first one passes
-abbrev pub IsWithin : (Version → Bool) → (Version → Bool) → Type 0
-IsWithin test other = (v : Version) → IsReadable v → test v ≡ true → other v ≡ true
-
--- yes says so, and no that some version passes the first test and not the second
-abbrev pub TellsWithin : (Version → Bool) → (Version → Bool) → Bool → Type 0
-TellsWithin test other true = IsWithin test other
-TellsWithin test other false = (v : Version) × (test v ≡ true) × (other v ≡ false)
-
--- what the ranges of a set mean
-abbrev pub set_means : List VersionRange → Version → Bool
-set_means ranges v = tree_means (alternatives ranges) v
-
--- ---- the least release above a start
-
--- the three numbers, with the last one that can be raised raised, and 0 after it
-abbrev pub next_release : Version → Option Version
-next_release v =
-    if number_fits (v.patch + 1) then Some (release v.major v.minor (v.patch + 1))
-    else if number_fits (v.minor + 1) then Some (release v.major (v.minor + 1) 0)
-    else if number_fits (v.major + 1) then Some (release (v.major + 1) 0 0)
-    else None
-
-abbrev pub release_from : VersionBoundKind → Version → Option Version
-release_from kind.Inclusive v = Some (release v.major v.minor v.patch)
-release_from kind.Exclusive v = if is_release v then next_release v else Some (release v.major v.minor v.patch)
-
-abbrev pub least_release : RangeBound → Option Version
-least_release bound.Unbounded = Some (release 0 0 0)
-least_release (bound.Version start) = release_from start.kind start.version
-
--- ---- the least pre-release of three numbers above a start
-
--- the identifier `0`, which none that is a part is below
-abbrev pub zero_part : List ℕ
-zero_part = 48 ∷ []
-
--- the version of the same three numbers with this pre-release, without a build
-abbrev pub with_pre : Version → List (List ℕ) → Version
-with_pre v pre = record { major = v.major; minor = v.minor; patch = v.patch; pre = pre; build = [] }
-
--- the least pre-release of the same numbers from a pre-release on: itself, or after it the one with `0` appended
-abbrev pub pre_from : VersionBoundKind → Version → Version
-pre_from kind.Inclusive v = with_pre v v.pre
-pre_from kind.Exclusive v = with_pre v (v.pre ++ zero_part ∷ [])
-
--- versions by their three numbers alone
-abbrev pub numbers_cmp : Version → Version → Ordering
-numbers_cmp = then_cmp (on (λ (v : Version). v.major) nat_cmp) (then_cmp (on (λ (v : Version). v.minor) nat_cmp)
-    (on (λ (v : Version). v.patch) nat_cmp))
-
--- of the numbers of v, where those of the start compare so to them
-abbrev pub pre_by : Ordering → VersionBound → Version → Option Version
-pre_by Less start v = Some (with_pre v (zero_part ∷ []))
-pre_by Equal start v = if is_release start.version then None else Some (pre_from start.kind start.version)
-pre_by Greater start v = None
-
-abbrev pub pre_above : RangeBound → Version → Option Version
-pre_above bound.Unbounded v = Some (with_pre v (zero_part ∷ []))
-pre_above (bound.Version start) v = pre_by (numbers_cmp start.version v) start v
-
--- of the numbers of a bound that is a pre-release
-abbrev pub least_pre : RangeBound → RangeBound → Option Version
-least_pre start bound.Unbounded = None
-least_pre start (bound.Version b) = if is_release b.version then None else pre_above start b.version
-
--- ---- the least version from a start
-
--- the version, where it passes the test
-abbrev pub kept_if : (Version → Bool) → Option Version → Option Version
-kept_if test None = None
-kept_if test (Some v) = if test v then Some v else None
-
--- of those that pass the test, the least of three: the least release above the start, and the least pre-release above it
--- of the numbers of either bound of the range
-abbrev pub least_from : (Version → Bool) → VersionRange → RangeBound → Option Version
-least_from test range start = lesser (kept_if test (least_release start))
-    (lesser (kept_if test (least_pre start range.start)) (kept_if test (least_pre start range.end)))
-
--- what both ranges mean is found from the greater start
-abbrev pub least_common : VersionRange → VersionRange → Option Version
-least_common a b = least_from (both_mean a b) a (clamped_start a.start b.start)
-
--- ---- the least version that a range means and no range of a set does
-
-abbrev pub other_kind : VersionBoundKind → VersionBoundKind
-other_kind kind.Inclusive = kind.Exclusive
-other_kind kind.Exclusive = kind.Inclusive
-
--- the start of what an end lets go; an absent one lets nothing go, and is left as it is
-abbrev pub after : RangeBound → RangeBound
-after bound.Unbounded = bound.Unbounded
-after (bound.Version end) = bound.Version (record { kind = other_kind end.kind; version = end.version })
-
--- what the range means alone, from its start and from where the end of another range has let go
-abbrev pub found_after : VersionRange → List VersionRange → VersionRange → Option Version
-found_after range others other = least_from (means_alone range others) range (clamped_start range.start (after other.end))
-
--- the least that is found from its start or from the end of one of these
-abbrev pub least_after : VersionRange → List VersionRange → List VersionRange → Option Version
-least_after range others ends = fold (λ least other. lesser least (found_after range others other))
-    (least_from (means_alone range others) range range.start) ends
-
-abbrev pub least_outside : VersionRange → List VersionRange → Option Version
-least_outside range others = least_after range others others
-
--- ---- the least version that a set and all of others mean
+sets_mean some others v = set_means some v && set_means others v
 
 -- the set means the version, and so do all of the others
 abbrev pub all_mean : List VersionRange → List VersionRangeSet → Version → Bool
 all_mean own others v = set_means own v && list_all (λ (other : VersionRangeSet). set_means other.0 v) others
 
--- what is found from the starts of these ranges, and of the ranges of these sets
-abbrev pub least_by_starts : (Version → Bool) → VersionRange → Option Version → List VersionRange → Option Version
-least_by_starts test range least ranges = fold (λ least other. lesser least (least_from test range other.start)) least ranges
+-- the range means the version, and no range of the set does
+abbrev pub means_alone : VersionRange → List VersionRange → Version → Bool
+means_alone range others v = range_means range v && not (set_means others v)
 
-abbrev pub least_by_sets : (Version → Bool) → VersionRange → Option Version → List VersionRangeSet → Option Version
-least_by_sets test range least sets = fold (λ least (set : VersionRangeSet). least_by_starts test range least set.0) least sets
-
--- for one range of the set, and over some of them
-abbrev pub least_for : List VersionRange → List VersionRangeSet → Option Version → VersionRange → Option Version
-least_for own others least range = least_by_sets (all_mean own others) range (least_by_starts (all_mean own others) range least own) others
-
-abbrev pub least_over : List VersionRange → List VersionRangeSet → List VersionRange → Option Version
-least_over own others ranges = fold (λ least range. least_for own others least range) None ranges
+-- the first set means the version, and the other doesn't
+abbrev pub set_means_alone : List VersionRange → List VersionRange → Version → Bool
+set_means_alone some others v = set_means some v && not (set_means others v)

@@ -1,8 +1,10 @@
 pub mod Clamp
 pub mod Comparators
+pub mod Containment
 pub mod Failure
 pub mod Forms
 pub mod Grammar
+pub mod LeastSteps
 pub mod LeastVersion
 pub mod Lexical
 pub mod Meaning

@@ -77,6 +77,13 @@ tree_means tree v = tree_means_with Restricted tree v
 abbrev pub alternatives : List VersionRange → List (List VersionRange)
 alternatives ranges = map (λ range. range ∷ []) ranges
 
+-- a range means what it does alone, and a set of ranges what some range of it means
+abbrev pub range_means : VersionRange → Version → Bool
+range_means range v = alternative_means (range ∷ []) v
+
+abbrev pub set_means : List VersionRange → Version → Bool
+set_means ranges v = tree_means (alternatives ranges) v
+
 -- ---- two ranges by name
 
 abbrev pub everything : VersionRange

@@ -2,7 +2,8 @@
 use Rattle.std.proofs.Common.{◌≡◌, ◌&&◌, Bool, List, [], ◌∷◌, map, Option, Result, Ok, Err, refl, sym, ap₂, subst, ◌∙◌}
 use Rattle.std.specs.List.{list_all, AllByRecursion}
 use Rattle.std.specs.Prelude.{IfOk, IfSome}
-use Rattle.semver_base.specs.LeastVersion.{all_mean, set_means, IsLeast}
+use Rattle.semver_base.specs.LeastVersion.{all_mean, IsLeast}
+use Rattle.semver_base.specs.Meaning.{set_means}
 use Rattle.semver_base.specs.NormalText.{AreWritableRanges}
 use Rattle.semver_base.specs.VersionText.{ReadsBack}
 use Rattle.semver_base.specs.declared.range.VersionRangeSet.{VersionRangeSet}

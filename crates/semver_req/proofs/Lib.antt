@@ -1,3 +1,4 @@
+pub mod AnyOrder
 pub mod BlanksBehind
 pub mod ComparatorReadings
 pub mod Components

@@ -1,15 +1,18 @@
 -- The normal text of a set that was read, read again.
 use Rattle.std.proofs.Common.{◌≡◌, ℕ, List, refl, sym, subst, ap, ◌∙◌}
 use Rattle.semver_base.specs.Comparators.{Comparator}
-use Rattle.semver_base.specs.Meaning.{alternatives, tree_means_with}
+use Rattle.semver_base.specs.Containment.{AreEquivalent}
+use Rattle.semver_base.specs.Meaning.{alternatives, set_means, tree_means_with}
 use Rattle.semver_base.specs.NormalText.{set_text}
 use Rattle.semver_base.specs.Shortest.{shortest_tree}
+use Rattle.semver_base.specs.declared.range.PreRelease.TheVariants.{Restricted}
 use Rattle.semver_base.specs.declared.range.VersionRange.{VersionRange}
 use Rattle.semver_req.specs.KeptSet.{IsReadSet, kept}
-use Rattle.semver_req.specs.Outcome.{IsOutcome, Ranges, tree_ranges}
+use Rattle.semver_req.specs.Outcome.{IsOutcome, Outcome, Ranges, Refused, Tag, tree_ranges}
 use Rattle.semver_req.specs.Pieces.{IsCutting, npm, normal}
-use Rattle.semver_req.specs.Rereading.{IsTree, NormalTextsKeepTheirMeaning, OneRereadingSettles, OfReadRanges, SettledSetsAreTheirTexts}
-use Rattle.semver_req.specs.Requirement.{inner_text}
+use Rattle.semver_req.specs.Rereading.{IsTree, NormalTextsAreEquivalent, NormalTextsKeepTheirMeaning, OneRereadingSettles, OfReadRanges, SettledSetsAreTheirTexts}
+use Rattle.semver_req.specs.Readers.{IsRead}
+use Rattle.semver_req.specs.Requirement.{inner_means, inner_text}
 use Rattle.semver_req.specs.Settled.{reread_set}
 use Rattle.semver_req.specs.declared.common.values.Flavour.{Flavour}
 use Rattle.semver_req.specs.declared.common.values.Flavour.TheVariants.{Normal}
@@ -56,6 +59,14 @@ rereadings ranges r = record {
   kept_means = λ k f cut tree h flag v. ap (λ set. tree_means_with flag (alternatives set) v) (kept_read f cut ranges r tree h) ∙ read_again_means ranges r k flag v;
   equal = λ orderly k f cut tree h. kept_read f cut ranges r tree h ∙ read_orderly ranges r orderly k;
 }
+
+pub equivalent_again : NormalTextsAreEquivalent
+equivalent_again ranges r k f cut again reading = go reading.outcome reading.is_outcome reading.is_read
+  where
+    go : (o : Outcome) → IsOutcome f (set_text ranges) o → IsRead f o again → AreEquivalent (set_means ranges) (inner_means again)
+    go (Ranges tree) h is = λ v _. sym ((rereadings ranges r).kept_means k f cut tree h Restricted v) ∙ sym (ap (λ answer. inner_means answer v) is)
+    go (Tag text) h is = absurd (cc (one_outcome f (set_text ranges) (Tag text) (Ranges (shortest_tree ranges)) h (text_read f cut ranges r)))
+    go Refused h is = absurd is
 
 pub settled_by_text : SettledSetsAreTheirTexts
 settled_by_text some others r s settled_some settled_others = (ap set_text, from_text)

@@ -1,3 +1,4 @@
+pub mod AnyOrder
 pub mod Comparators
 pub mod KeptSet
 pub mod Outcome

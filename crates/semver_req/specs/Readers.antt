@@ -1,5 +1,6 @@
 -- What a reader answers to a text, by the outcome that its grammar gives the text.
 use Rattle.std.specs.Prelude.{◌≡◌, ◌⊎◌, ℕ, List, Option, None, Result, IfErr, IfOk, IsErr, MatchResult}
+use Rattle.std.specs.List.{AllByRecursion}
 use Rattle.std.specs.Str.{trim_start}
 use Rattle.semver_base.specs.Comparators.{Comparator}
 use Rattle.semver_base.specs.Meaning.{tree_means_with}
@@ -50,6 +51,9 @@ HasTree f text (inner.Tag tag) = Unit {0}
 abbrev pub IsReadOrTag : RangeSetOrTag → Type 0
 IsReadOrTag (inner.RangeSet set) = IsReadSet set.0
 IsReadOrTag (inner.Tag tag) = Unit {0}
+
+abbrev pub AreReadOrTags : List Requirement → Type 0
+AreReadOrTags requirements = AllByRecursion (λ (req : Requirement). IsReadOrTag req.inner) requirements
 
 -- only the normalized reader makes a tag of a text that begins with a blank, and leaves the blank out
 abbrev pub StartsFit : Flavour → List ℕ → Type 0

@@ -1,6 +1,6 @@
 -- What a requirement is, and which versions it matches. Source: node-semver's description of ranges; a requirement may
 -- also be a tag, as in npm's package specifiers.
-use Rattle.std.specs.Prelude.{◌≡◌, ◌&&◌, ◌↔◌, IsTrue, ℕ, List, [], ◌∷◌, Bool, false, not, Option, Some, None, nat_eq, codes}
+use Rattle.std.specs.Prelude.{◌≡◌, ◌&&◌, ◌↔◌, IsTrue, ℕ, List, [], ◌∷◌, Bool, true, false, not, Option, Some, None, nat_eq, codes}
 use Rattle.std.specs.Cmp.Lexicographic.{pointwise}
 use Rattle.std.specs.List.{list_all}
 use Rattle.semver_base.specs.Meaning.{alternatives, everything, from, tree_means_with}
@@ -61,6 +61,14 @@ inner_means_alone one other v = inner_means one v && not (inner_means other v)
 abbrev pub ranges_of : RangeSetOrTag → VersionRangeSet
 ranges_of (inner.RangeSet set) = set
 ranges_of (inner.Tag text) = record { 0 = [] }
+
+-- none of the requirements is a tag
+abbrev pub is_no_tag : RangeSetOrTag → Bool
+is_no_tag (inner.RangeSet set) = true
+is_no_tag (inner.Tag text) = false
+
+abbrev pub have_no_tag : List Requirement → Bool
+have_no_tag requirements = list_all (λ (req : Requirement). is_no_tag req.inner) requirements
 
 -- the first requirement and all others match the version
 abbrev pub all_inners_mean : RangeSetOrTag → List Requirement → Version → Bool

@@ -4,7 +4,8 @@ use Rattle.std.specs.Prelude.{◌≡◌, ◌↔◌, ℕ, List, length, Bool, tru
 use Rattle.std.specs.List.{list_all}
 use Rattle.std.specs.Str.{trim}
 use Rattle.semver_base.specs.Comparators.{Comparator}
-use Rattle.semver_base.specs.Meaning.{alternatives, tree_means_with}
+use Rattle.semver_base.specs.Containment.{AreEquivalent}
+use Rattle.semver_base.specs.Meaning.{alternatives, set_means, tree_means_with}
 use Rattle.semver_base.specs.NormalText.{set_text}
 use Rattle.semver_base.specs.Overlap.{starts_before}
 use Rattle.semver_base.specs.PrecedenceLaws.{version_eq}
@@ -19,7 +20,8 @@ use Rattle.semver_base.specs.declared.version.Version.{Version}
 use Rattle.semver_req.specs.KeptSet.{IsReadSet, kept}
 use Rattle.semver_req.specs.Outcome.{IsOutcome, Outcome, Ranges, Tag, tree_ranges}
 use Rattle.semver_req.specs.Pieces.{IsCutting}
-use Rattle.semver_req.specs.Readers.{StartsFit}
+use Rattle.semver_req.specs.Readers.{IsReading, StartsFit}
+use Rattle.semver_req.specs.Requirement.{inner_means}
 use Rattle.semver_req.specs.declared.common.values.Flavour.{Flavour}
 use Rattle.semver_req.specs.declared.common.values.Flavour.TheVariants.{Normal}
 use Rattle.semver_req.specs.declared.range_set_or_tag.RangeSetOrTag.{RangeSetOrTag}
@@ -106,6 +108,12 @@ pub record IsRereading (text : List ℕ) (ranges : List VersionRange) : Type 0 w
 
 abbrev pub NormalTextsKeepTheirMeaning : Type 0
 NormalTextsKeepTheirMeaning = (ranges : List VersionRange) → IsReadSet ranges → IsRereading (set_text ranges) ranges
+
+-- a read set whose ranges keep their meaning is equivalent to whatever either reader makes of its normal text
+abbrev pub NormalTextsAreEquivalent : Type 0
+NormalTextsAreEquivalent = (ranges : List VersionRange) → IsReadSet ranges → list_all keeps_meaning ranges ≡ true
+    → (f : Flavour) → IsCutting f → (again : RangeSetOrTag) → IsReading f (set_text ranges) again
+    → AreEquivalent (set_means ranges) (inner_means again)
 
 -- what either reader keeps of the normal text of a read set is settled
 abbrev pub OneRereadingSettles : Type 0

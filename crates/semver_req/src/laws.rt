@@ -11,7 +11,7 @@ ghost use Rattle.std.specs.Prelude.{◌≡◌, ◌↔◌, IsTrue};
 ghost use Rattle.semver_req.specs.KeptSet.{KeptSetsMeanTheirTrees};
 ghost use Rattle.semver_req.specs.Outcome.{TextsHaveOneOutcome};
 ghost use Rattle.semver_req.specs.Pieces.{NormalPiecesAreNpms};
-ghost use Rattle.semver_req.specs.Rereading.{NormalTextsKeepTheirMeaning, OneRereadingSettles, SettledSetsAreTheirTexts, TagsReadBack};
+ghost use Rattle.semver_req.specs.Rereading.{NormalTextsAreEquivalent, NormalTextsKeepTheirMeaning, OneRereadingSettles, SettledSetsAreTheirTexts, TagsReadBack};
 
 use crate::common::values::Flavour;
 use crate::npm::NpmVersionReqParseError;
@@ -89,6 +89,13 @@ pub fn kept_sets_mean_their_trees()
 /// pre-release of 0.0.0 and is neither one version nor `^0.0.0-pre` or `~0.0.0-pre` of it.
 pub fn normal_texts_keep_their_meaning()
     ensures { NormalTextsKeepTheirMeaning }
+{}
+
+/// Ranges that some reader answered are equivalent to whatever npm's or the normalized reader makes of their normal text:
+/// both match the same versions, unless a range with an end starts at a pre-release of 0.0.0 and is neither one version nor
+/// `^0.0.0-pre` or `~0.0.0-pre` of it.
+pub fn normal_texts_are_equivalent()
+    ensures { NormalTextsAreEquivalent }
 {}
 
 /// What either reader keeps of the normal text of ranges that some reader answered is settled: either reader keeps the

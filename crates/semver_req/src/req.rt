@@ -1,17 +1,16 @@
 //! Requirements of versions.
 
-ghost use Rattle.std.specs.Prelude.{◌≡◌, ◌↔◌, IfErr, IfOk, IfSome, IsTrue, None, Some, map, string_bytes};
+ghost use Rattle.std.specs.Prelude.{◌≡◌, ◌↔◌, IfErr, IfOk, IsTrue, None, Some, string_bytes};
 ghost use Rattle.std.specs.Bool.{OnFalse};
-ghost use Rattle.std.specs.List.{AllByRecursion};
 ghost use Rattle.std.specs.Option.{option_copied};
-ghost use Rattle.semver_base.specs.LeastVersion.{HasNoBuild, IsLeast, IsWithin, TellsWithin};
-ghost use Rattle.semver_base.specs.VersionText.{ReadsBack};
 ghost use Rattle.semver_base.specs.declared.version.Version.{Version};
 ghost use Rattle.semver_req.specs.PieceReading.{IsCutRefusal};
-ghost use Rattle.semver_req.specs.Readers.{IsReadOrTag, IsReaderAnswer};
+ghost use Rattle.semver_req.specs.Readers.{IsReaderAnswer};
 ghost use Rattle.semver_req.specs.Rereading.{IsReadAsForms, KeepsEqual, KeepsSettled, KeepsTheSame, MeansTheSame, OfReadRanges};
-ghost use Rattle.semver_req.specs.Requirement.{MatchNoVersion, OverlapAsTags, PinsTo, Requirement, all_inners_mean, inner_means, inner_means_alone, inner_means_with, inner_overlap, inner_text, inners_mean, pinned, ranges_of, set_of, tag_of, wildcard};
+ghost use Rattle.semver_req.specs.Requirement.{MatchNoVersion, OverlapAsTags, PinsTo, Requirement, inner_means, inner_means_with, inner_overlap, inner_text, pinned, set_of, tag_of, wildcard};
 ghost use Rattle.semver_req.specs.declared.common.values.Flavour.TheVariants.{Normal};
+
+mod least;
 
 use crate::range_set_or_tag::RangeSetOrTag;
 use semver_base::failure::ParseFailure;
@@ -105,31 +104,7 @@ fn normal_text(alloc: Global, requirement: &VersionReq) -> Result<String, AllocE
     format!(in alloc; "{inner}")
 }
 
-// The ranges of each requirement; a tag has none.
-fn all_ranges(
-    alloc: Global,
-    requirements: &[VersionReq],
-) -> Result<Vec<VersionRangeSet>, AllocError>
-    ensures { IfOk result (λ sets. sets.items ≡ map (λ (req : Requirement). ranges_of req.inner) requirements.now) }
-{
-    let mut sets = Vec::new(alloc);
-    for requirement in requirements {
-        sets.push(requirement.ranges(alloc)?)?;
-    }
-    Ok(sets)
-}
-
 impl VersionReq {
-    // The ranges; a tag has none.
-    fn ranges(&self, alloc: Global) -> Result<VersionRangeSet, AllocError>
-        ensures { IfOk result (λ set. set ≡ ranges_of self.now.inner) }
-    {
-        match &self.inner {
-            RangeSetOrTag::RangeSet(set) => set.copy(),
-            RangeSetOrTag::Tag(_) => Ok(VersionRangeSet(CowVec::new(alloc))),
-        }
-    }
-
     /// The requirement that was read from this text, and stands for this.
     #[inline(always)]
     pub fn from_raw_text_and_inner(raw_text: SmallStackString, inner: RangeSetOrTag) -> Self
@@ -215,123 +190,6 @@ impl VersionReq {
         ensures no_common { OnFalse result (MatchNoVersion self.now.inner other.now.inner) }
     {
         self.inner.intersects(&other.inner)
-    }
-
-    /// The least version that both requirements, which are no tags, match, or none where no version matches both.
-    ///
-    /// The answer matches both, and no version that a text stands for is lower by precedence and does too; where there is
-    /// none, no version that a text stands for matches both. So `>1.0.0` and `<1.0.1`, which overlap, have none. It has no
-    /// build, and of requirements that some reader answered its text is read back.
-    ///
-    /// It is an error only where no memory is left.
-    pub fn common_version(
-        &self,
-        alloc: Global,
-        other: &VersionReq,
-    ) -> Result<Option<Version>, AllocError>
-        requires own_ranges { tag_of self.now.inner ≡ None }
-        requires other_ranges { tag_of other.now.inner ≡ None }
-        ensures least { IfOk result (IsLeast (inners_mean self.now.inner other.now.inner)) }
-        ensures no_build { IfOk result (λ least. IfSome least HasNoBuild) }
-        ensures reads_back { IfOk result (λ least. IsReadOrTag self.now.inner → IsReadOrTag other.now.inner
-            → IfSome least ReadsBack) }
-    {
-        match (&self.inner, &other.inner) {
-            (RangeSetOrTag::RangeSet(set), RangeSetOrTag::RangeSet(others)) => {
-                set.common_version(alloc, others)
-            }
-            (_, _) => Ok(None),
-        }
-    }
-
-    /// The least version that the requirement, which is no tag, matches, or none where it matches none (node-semver's
-    /// `minVersion`).
-    ///
-    /// The answer matches, and no version that a text stands for is lower by precedence and does too; where there is none,
-    /// no version that a text stands for matches. It has no build, and of a requirement that some reader answered its text
-    /// is read back.
-    ///
-    /// It is an error only where no memory is left.
-    pub fn min_version(&self, alloc: Global) -> Result<Option<Version>, AllocError>
-        requires { tag_of self.now.inner ≡ None }
-        ensures least { IfOk result (IsLeast (inner_means self.now.inner)) }
-        ensures no_build { IfOk result (λ least. IfSome least HasNoBuild) }
-        ensures reads_back { IfOk result (λ least. IsReadOrTag self.now.inner → IfSome least ReadsBack) }
-    {
-        match &self.inner {
-            RangeSetOrTag::RangeSet(set) => set.min_version(alloc),
-            RangeSetOrTag::Tag(_) => Ok(None),
-        }
-    }
-
-    /// The least version that this requirement and all others match, or none where no version matches all. A tag matches
-    /// no version.
-    ///
-    /// The answer matches all, and no version that a text stands for is lower by precedence and does too; where there is
-    /// none, no version that a text stands for matches all. It has no build, and of requirements that some reader answered
-    /// its text is read back.
-    ///
-    /// It is an error only where no memory is left.
-    pub fn common_version_with_all(
-        &self,
-        alloc: Global,
-        others: &[VersionReq],
-    ) -> Result<Option<Version>, AllocError>
-        ensures least { IfOk result (IsLeast (all_inners_mean self.now.inner others.now)) }
-        ensures no_build { IfOk result (λ least. IfSome least HasNoBuild) }
-        ensures reads_back { IfOk result (λ least. IsReadOrTag self.now.inner
-            → AllByRecursion (λ (req : Requirement). IsReadOrTag req.inner) others.now → IfSome least ReadsBack) }
-    {
-        let own = self.ranges(alloc)?;
-        let sets = all_ranges(alloc, others)?;
-        own.common_version_with_all(alloc, sets.as_slice())
-    }
-
-    /// The least version that this requirement matches and the other, which is no tag either, doesn't, or none where the
-    /// other matches each version that this one matches.
-    ///
-    /// No version that a text stands for is lower by precedence and is matched so; where there is none, the other matches
-    /// each version that a text stands for and this one matches. It has no build, and of requirements that some reader
-    /// answered its text is read back.
-    ///
-    /// It is an error only where no memory is left.
-    pub fn version_outside(
-        &self,
-        alloc: Global,
-        other: &VersionReq,
-    ) -> Result<Option<Version>, AllocError>
-        requires own_ranges { tag_of self.now.inner ≡ None }
-        requires other_ranges { tag_of other.now.inner ≡ None }
-        ensures least { IfOk result (IsLeast (inner_means_alone self.now.inner other.now.inner)) }
-        ensures no_build { IfOk result (λ least. IfSome least HasNoBuild) }
-        ensures reads_back { IfOk result (λ least. IsReadOrTag self.now.inner → IsReadOrTag other.now.inner
-            → IfSome least ReadsBack) }
-    {
-        match (&self.inner, &other.inner) {
-            (RangeSetOrTag::RangeSet(set), RangeSetOrTag::RangeSet(others)) => {
-                set.version_outside(alloc, others)
-            }
-            (_, _) => Ok(None),
-        }
-    }
-
-    /// Whether the other requirement matches each version that this one matches; neither is a tag (node-semver's `subset`,
-    /// here exactly by what requirements match, pre-releases included).
-    ///
-    /// Yes says so of each version that a text stands for, and no that some version matches this requirement alone; of
-    /// requirements that some reader answered, yes is said exactly where so it is of each version that a text stands for.
-    /// The least that matches this one alone is what [`VersionReq::version_outside`] answers.
-    ///
-    /// It is an error only where no memory is left.
-    pub fn is_subset(&self, alloc: Global, other: &VersionReq) -> Result<bool, AllocError>
-        requires own_ranges { tag_of self.now.inner ≡ None }
-        requires other_ranges { tag_of other.now.inner ≡ None }
-        ensures value { IfOk result (TellsWithin (inner_means self.now.inner) (inner_means other.now.inner)) }
-        ensures exact { IfOk result (λ told. IsReadOrTag self.now.inner → IsReadOrTag other.now.inner
-            → (IsTrue told ↔ IsWithin (inner_means self.now.inner) (inner_means other.now.inner))) }
-    {
-        let outside = self.version_outside(alloc, other)?;
-        Ok(outside.is_none())
     }
 
     /// The normal text of what the requirement stands for: of ranges the shortest usual form of each, with ` || `

@@ -5,7 +5,9 @@
 
 ghost use Rattle.std.specs.Prelude.{◌≡◌, IfOk, IfSome};
 ghost use Rattle.std.specs.List.{list_all, AllByRecursion};
-ghost use Rattle.semver_base.specs.LeastVersion.{HasNoBuild, IsLeast, all_mean, kept_if, least_by_sets, least_by_starts, least_for, least_from, least_over, set_means};
+ghost use Rattle.semver_base.specs.LeastVersion.{HasNoBuild, IsLeast, all_mean};
+ghost use Rattle.semver_base.specs.LeastSteps.{kept_if, least_by_sets, least_by_starts, least_for, least_from, least_over};
+ghost use Rattle.semver_base.specs.Meaning.{set_means};
 ghost use Rattle.semver_base.specs.NormalText.{AreWritableRanges};
 ghost use Rattle.semver_base.specs.VersionText.{ReadsBack};
 

@@ -6,8 +6,9 @@
 
 ghost use Rattle.std.specs.Prelude.{◌≡◌, ◌∷◌, ◌++◌, ◌&&◌, [], IfOk, IfSome};
 ghost use Rattle.std.specs.List.{list_any};
-ghost use Rattle.semver_base.specs.LeastVersion.{HasNoBuild, IsLeast, both_mean, kept_if, least_pre, least_release, lesser, next_release, numbers_cmp, pre_above, pre_from, sets_mean, with_pre, zero_part};
-ghost use Rattle.semver_base.specs.Meaning.{alternative_means, alternatives, release, tree_means};
+ghost use Rattle.semver_base.specs.LeastVersion.{HasNoBuild, IsLeast, both_mean, sets_mean};
+ghost use Rattle.semver_base.specs.LeastSteps.{kept_if, least_pre, least_release, lesser, next_release, numbers_cmp, pre_above, pre_from, with_pre, zero_part};
+ghost use Rattle.semver_base.specs.Meaning.{range_means, release, set_means};
 ghost use Rattle.semver_base.specs.NormalText.{AreWritableRanges, IsWritableRange};
 ghost use Rattle.semver_base.specs.VersionText.{ReadsBack};
 
@@ -198,7 +199,7 @@ impl VersionRange {
     ///
     /// No version that a text stands for is lower by precedence and matches. It is an error only where no memory is left.
     pub fn min_version(&self, alloc: Global) -> Result<Option<Version>, AllocError>
-        ensures least { IfOk result (IsLeast (λ v. alternative_means (self.now ∷ []) v)) }
+        ensures least { IfOk result (IsLeast (range_means self.now)) }
         ensures no_build { IfOk result (λ least. IfSome least HasNoBuild) }
         ensures reads_back { IfOk result (λ least. IsWritableRange self.now → IfSome least ReadsBack) }
     {
@@ -213,8 +214,7 @@ impl VersionRangeSet {
         alloc: Global,
         range: &VersionRange,
     ) -> Result<Option<Version>, AllocError>
-        ensures least { IfOk result (IsLeast (λ v. alternative_means (range.now ∷ []) v
-            && list_any (λ own. alternative_means (own ∷ []) v) self.now.0)) }
+        ensures least { IfOk result (IsLeast (λ v. range_means range.now v && list_any (λ own. range_means own v) self.now.0)) }
         ensures no_build { IfOk result (λ least. IfSome least HasNoBuild) }
         ensures reads_back { IfOk result (λ least. IsWritableRange range.now → AreWritableRanges self.now.0
             → IfSome least ReadsBack) }
@@ -253,7 +253,7 @@ impl VersionRangeSet {
     ///
     /// No version that a text stands for is lower by precedence and matches. It is an error only where no memory is left.
     pub fn min_version(&self, alloc: Global) -> Result<Option<Version>, AllocError>
-        ensures least { IfOk result (IsLeast (λ v. tree_means (alternatives self.now.0) v)) }
+        ensures least { IfOk result (IsLeast (set_means self.now.0)) }
         ensures no_build { IfOk result (λ least. IfSome least HasNoBuild) }
         ensures reads_back { IfOk result (λ least. AreWritableRanges self.now.0 → IfSome least ReadsBack) }
     {

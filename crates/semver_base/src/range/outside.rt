@@ -4,7 +4,10 @@
 //! greatest of them that it is above.
 
 ghost use Rattle.std.specs.Prelude.{◌≡◌, ◌↔◌, IfOk, IfSome, IsTrue};
-ghost use Rattle.semver_base.specs.LeastVersion.{HasNoBuild, IsLeast, IsWithin, TellsWithin, after, found_after, kept_if, least_from, least_outside, means_alone, set_means, set_means_alone};
+ghost use Rattle.semver_base.specs.LeastVersion.{HasNoBuild, IsLeast, means_alone, set_means_alone};
+ghost use Rattle.semver_base.specs.LeastSteps.{after, found_after, kept_if, least_from, least_outside};
+ghost use Rattle.semver_base.specs.Containment.{AreEquivalent, IsWithin, TellsEquivalent, TellsWithin};
+ghost use Rattle.semver_base.specs.Meaning.{set_means};
 ghost use Rattle.semver_base.specs.NormalText.{AreWritableRanges, IsWritableRange};
 ghost use Rattle.semver_base.specs.VersionText.{ReadsBack};
 
@@ -147,5 +150,22 @@ impl VersionRangeSet {
     {
         let outside = self.version_outside(alloc, other)?;
         Ok(outside.is_none())
+    }
+
+    /// Whether both sets match the same versions.
+    ///
+    /// Yes says so of each version that a text stands for, and no that some version matches one of them alone; where the
+    /// texts of the bounds are read back, the answer is exact. It is what [`VersionRangeSet::is_subset`] says both ways.
+    ///
+    /// It is an error only where no memory is left.
+    pub fn is_equivalent(&self, alloc: Global, other: &VersionRangeSet) -> Result<bool, AllocError>
+        ensures value { IfOk result (TellsEquivalent (set_means self.now.0) (set_means other.now.0)) }
+        ensures exact { IfOk result (λ told. AreWritableRanges self.now.0 → AreWritableRanges other.now.0
+            → (IsTrue told ↔ AreEquivalent (set_means self.now.0) (set_means other.now.0))) }
+    {
+        if !self.is_subset(alloc, other)? {
+            return Ok(false);
+        }
+        other.is_subset(alloc, self)
     }
 }

@@ -1,6 +1,7 @@
 use Rattle.std.proofs.Common.{◌≡◌, rules, subst, sym}
 use Rattle.std.specs.Prelude.{IfSome}
-use Rattle.semver_base.specs.LeastVersion.{both_mean, least_common, HasNoBuild, IsLeast}
+use Rattle.semver_base.specs.LeastVersion.{both_mean, HasNoBuild, IsLeast}
+use Rattle.semver_base.specs.LeastSteps.{least_common}
 use Rattle.semver_base.specs.VersionText.{ReadsBack}
 use Rattle.semver_base.proofs.LeastCommon.{common_least}
 use Rattle.semver_base.proofs.LeastWritten.{common_no_build, common_reads_back}

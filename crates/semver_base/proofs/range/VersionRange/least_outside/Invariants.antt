@@ -1,5 +1,5 @@
 use Rattle.std.proofs.Common.{◌≡◌, take}
-use Rattle.semver_base.specs.LeastVersion.{least_after}
+use Rattle.semver_base.specs.LeastSteps.{least_after}
 use Rattle.semver_base.proofs.range.VersionRange.least_outside.Given as goal
 
 -- what is found from the ends so far

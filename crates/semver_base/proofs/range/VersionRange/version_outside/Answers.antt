@@ -1,6 +1,7 @@
 use Rattle.std.proofs.Common.{◌≡◌, Option, Result, Ok, Err, subst, sym}
 use Rattle.std.specs.Prelude.{IfOk, IfSome}
-use Rattle.semver_base.specs.LeastVersion.{least_outside, means_alone, HasNoBuild, IsLeast}
+use Rattle.semver_base.specs.LeastVersion.{means_alone, HasNoBuild, IsLeast}
+use Rattle.semver_base.specs.LeastSteps.{least_outside}
 use Rattle.semver_base.specs.NormalText.{AreWritableRanges, IsWritableRange}
 use Rattle.semver_base.specs.VersionText.{ReadsBack}
 use Rattle.semver_base.specs.declared.version.Version.{Version}

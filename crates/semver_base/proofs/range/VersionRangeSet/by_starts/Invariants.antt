@@ -1,5 +1,6 @@
 use Rattle.std.proofs.Common.{◌≡◌, take}
-use Rattle.semver_base.specs.LeastVersion.{all_mean, least_by_starts}
+use Rattle.semver_base.specs.LeastVersion.{all_mean}
+use Rattle.semver_base.specs.LeastSteps.{least_by_starts}
 use Rattle.semver_base.proofs.range.VersionRangeSet.by_starts.Given as goal
 
 -- what is found from the starts so far

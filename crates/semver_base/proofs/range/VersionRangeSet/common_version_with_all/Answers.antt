@@ -1,6 +1,7 @@
 use Rattle.std.proofs.Common.{◌≡◌, Option, Result, Ok, Err, subst, sym}
 use Rattle.std.specs.Prelude.{IfOk, IfSome}
-use Rattle.semver_base.specs.LeastVersion.{all_mean, least_over, HasNoBuild, IsLeast}
+use Rattle.semver_base.specs.LeastVersion.{all_mean, HasNoBuild, IsLeast}
+use Rattle.semver_base.specs.LeastSteps.{least_over}
 use Rattle.semver_base.specs.NormalText.{AreWritableRanges}
 use Rattle.semver_base.specs.VersionText.{ReadsBack}
 use Rattle.semver_base.specs.declared.version.Version.{Version}

@@ -1,5 +1,5 @@
-use Rattle.semver_base.specs.LeastVersion.{set_means}
-use Rattle.semver_base.proofs.LeastSets.{within_exact, within_told}
+use Rattle.semver_base.specs.Meaning.{set_means}
+use Rattle.semver_base.proofs.Containment.{within_exact, within_told}
 use Rattle.semver_base.proofs.range.VersionRangeSet.is_subset.Goals as goal
 
 pub returns-clause-value : goal.returns-clause-value

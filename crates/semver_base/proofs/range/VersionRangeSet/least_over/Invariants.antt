@@ -1,5 +1,5 @@
 use Rattle.std.proofs.Common.{◌≡◌, take}
-use Rattle.semver_base.specs.LeastVersion.{least_over}
+use Rattle.semver_base.specs.LeastSteps.{least_over}
 use Rattle.semver_base.proofs.range.VersionRangeSet.least_over.Given as goal
 
 -- what is found for the ranges so far

@@ -1,4 +1,4 @@
-use Rattle.semver_base.proofs.LeastSets.{within_exact, within_told}
+use Rattle.semver_base.proofs.Containment.{within_exact, within_told}
 use Rattle.semver_req.specs.Requirement.{inner_means}
 use Rattle.semver_req.proofs.req.VersionReq.is_subset.Goals as goal
 

@@ -1,0 +1,41 @@
+-- The least version without a build of those that pass a test is one alone.
+use Rattle.std.proofs.Common.{◌≡◌, Bool, true, false, List, ℕ, Option, Some, None, refl, sym, ap, ◌∙◌}
+use Rattle.std.specs.Ordering.{is_le}
+use Rattle.std.specs.Prelude.{IfSome}
+use Rattle.std.specs.declared.cmp.Ordering.{Ordering}
+use Rattle.std.specs.declared.cmp.Ordering.TheVariants.{Less, Equal, Greater}
+use Rattle.semver_base.specs.LeastVersion.{HasNoBuild, IsLeast, IsOnlyLeast}
+use Rattle.semver_base.specs.Precedence.{precedence_cmp}
+use Rattle.semver_base.specs.PrecedenceLaws.{precedence-anti, precedence_total}
+use Rattle.semver_base.specs.VersionText.{ReadsBack}
+use Rattle.semver_base.specs.declared.version.Version.{Version}
+use Rattle.semver_base.proofs.Containment.{back_readable}
+use Rattle.semver_base.proofs.LeastSets.{least_as}
+use Rattle.semver_base.proofs.Orders.{turned}
+
+abbrev version_of : ℕ → ℕ → ℕ → List (List ℕ) → List (List ℕ) → Version
+version_of major minor patch pre build = record { major = major; minor = minor; patch = patch; pre = pre; build = build }
+
+-- two versions without builds of which neither is above the other are the same
+same_version : (v w : Version) → HasNoBuild v → HasNoBuild w → is_le (precedence_cmp v w) ≡ true → is_le (precedence_cmp w v) ≡ true → w ≡ v
+same_version v w plain others h k = go (precedence_cmp v w) refl h
+  where
+    go : (r : Ordering) → precedence_cmp v w ≡ r → is_le r ≡ true → w ≡ v
+    go Less e le = absurd (cc (sym k ∙ ap is_le (turned precedence_total v w Less e)))
+    go Greater e le = cc le
+    go Equal e le =
+        let same = precedence-anti v w e in
+        let is : version_of w.major w.minor w.patch w.pre w.build ≡ version_of v.major v.minor v.patch v.pre v.build =
+            rw (same.major, same.minor, same.patch, same.pre, plain, others) refl in
+        is
+
+pub only_least : (test : Version → Bool) (least : Option Version) → IsLeast test least → IfSome least HasNoBuild → IfSome least ReadsBack → IsOnlyLeast test least
+only_least test None h plain back None k others read = refl
+only_least test None h plain back (Some w) k others read = absurd (cc (sym k.0 ∙ h w (back_readable w read)))
+only_least test (Some v) h plain back None k others read = absurd (cc (sym h.0 ∙ k v (back_readable v back)))
+only_least test (Some v) h plain back (Some w) k others read =
+    ap Some (same_version v w plain others (h.1 w (back_readable w read) k.0) (k.1 v (back_readable v back) h.0))
+
+-- the same of a test that says the same
+pub only_alike : (test same : Version → Bool) (least : Option Version) → ((v : Version) → same v ≡ test v) → IsOnlyLeast test least → IsOnlyLeast same least
+only_alike test same least alike h = λ other k. h other (least_as same test other alike k)

@@ -1,0 +1,38 @@
+-- Requirements with the same ranges in any order, and that they have one least version.
+use Rattle.std.specs.Prelude.{◌≡◌, ℕ, List, [], ◌∷◌, Bool, Option, IsPermutation, map}
+use Rattle.semver_base.specs.LeastVersion.{IsOnlyLeast}
+use Rattle.semver_base.specs.declared.version.Version.{Version}
+use Rattle.semver_req.specs.Requirement.{Requirement, all_inners_mean}
+use Rattle.semver_req.specs.declared.range_set_or_tag.RangeSetOrTag.{RangeSetOrTag}
+use Rattle.semver_req.specs.declared.range_set_or_tag.RangeSetOrTag.TheVariants as inner
+
+-- the same ranges in any order, or the same tag
+abbrev pub IsReordered : RangeSetOrTag → RangeSetOrTag → Type 0
+IsReordered (inner.RangeSet set) (inner.RangeSet other) = IsPermutation set.0 other.0
+IsReordered (inner.Tag text) (inner.Tag other) = text ≡ other
+IsReordered one other = ⊥
+
+abbrev pub AreEachReordered : List RangeSetOrTag → List RangeSetOrTag → Type 0
+AreEachReordered [] [] = Unit {0}
+AreEachReordered (one ∷ some) (other ∷ others) = IsReordered one other × AreEachReordered some others
+AreEachReordered some others = ⊥
+
+-- the same in any order, the ranges of each in any order
+pub record AreReordered (some others : List RangeSetOrTag) : Type 0 where
+  pub moved : List RangeSetOrTag
+  pub in_order : IsPermutation some moved
+  pub each : AreEachReordered moved others
+
+-- in whatever order the ranges stand, no other answer is the least
+abbrev pub InAnyOrder : (RangeSetOrTag → Version → Bool) → RangeSetOrTag → Option Version → Type 0
+InAnyOrder test one least = (same : RangeSetOrTag) → IsReordered one same → IsOnlyLeast (test same) least
+
+-- of two requirements
+abbrev pub BothInAnyOrder : (RangeSetOrTag → RangeSetOrTag → Version → Bool) → RangeSetOrTag → RangeSetOrTag → Option Version → Type 0
+BothInAnyOrder test one other least = (same others : RangeSetOrTag) → IsReordered one same → IsReordered other others → IsOnlyLeast (test same others) least
+
+-- of a requirement and others, which stand in any order too
+abbrev pub AllInAnyOrder : RangeSetOrTag → List Requirement → Option Version → Type 0
+AllInAnyOrder own others least = (same : RangeSetOrTag) (rest : List Requirement)
+    → AreReordered (own ∷ map (λ (req : Requirement). req.inner) others) (same ∷ map (λ (req : Requirement). req.inner) rest)
+    → IsOnlyLeast (all_inners_mean same rest) least
