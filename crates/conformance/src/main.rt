@@ -11,29 +11,12 @@
 
 ghost use Rattle.std.specs.Prelude.{◌≡◌, ◌↔◌, true};
 
-mod call;
-mod dependencies;
-mod json_forms;
-mod packages;
-mod partials;
-mod places;
-mod ranges;
-mod references;
-mod requirements;
-mod row;
-mod shown;
-mod table;
-mod tally;
-mod texts;
-mod values;
-mod versions;
-mod words;
-
+use cases::table;
+use cases::table::Problem;
 use std::alloc::Global;
 use std::io;
 use std::io::{BufWriter, ErrorKind, Read, Write};
 use std::process::ExitCode;
-use table::Problem;
 
 // All bytes of the reader.
 fn read_all<R: Read>(alloc: Global, mut reader: R) -> Result<Vec<u8>, Problem>

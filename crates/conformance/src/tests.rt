@@ -1,6 +1,6 @@
 //! How a table is gone through, and texts that are too long for one.
 
-use crate::table::{Problem, compare};
+use cases::table::{Problem, compare};
 use std::alloc::{AllocError, Global};
 use std::io;
 use std::io::Write;

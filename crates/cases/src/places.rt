@@ -1,7 +1,7 @@
 //! What the readers over a text and a place read, and what follows it.
 
 ghost use Rattle.std.specs.Prelude.{◌≡◌};
-ghost use Rattle.conformance.specs.Call.{place_call_name};
+ghost use Rattle.cases.specs.Call.{place_call_name};
 ghost use Rattle.std.specs.Prelude.{IfOk};
 ghost use Rattle.std.specs.Str.{IsCharBoundary};
 

@@ -1,7 +1,7 @@
 //! Dependencies of either kind.
 
 ghost use Rattle.std.specs.Prelude.{◌≡◌};
-ghost use Rattle.conformance.specs.Call.{dependency_call_name};
+ghost use Rattle.cases.specs.Call.{dependency_call_name};
 
 use crate::packages::kind;
 use crate::words::{Answer, Fault, Word, answer};

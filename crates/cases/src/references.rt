@@ -1,7 +1,7 @@
 //! References to packages, and the names of exports.
 
 ghost use Rattle.std.specs.Prelude.{◌≡◌};
-ghost use Rattle.conformance.specs.Call.{reference_call_name};
+ghost use Rattle.cases.specs.Call.{reference_call_name};
 
 use crate::packages::kind;
 use crate::words::{Answer, Fault, Word, answer};

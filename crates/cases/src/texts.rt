@@ -1,7 +1,7 @@
 //! Texts that are made and grow, and what is appended to them.
 
 ghost use Rattle.std.specs.Prelude.{◌≡◌};
-ghost use Rattle.conformance.specs.Call.{text_call_name};
+ghost use Rattle.cases.specs.Call.{text_call_name};
 
 use crate::shown;
 use crate::words::{Answer, Fault, Word, answer};

@@ -1,7 +1,7 @@
 //! Packages: requirements of them, and names with versions.
 
 ghost use Rattle.std.specs.Prelude.{◌≡◌};
-ghost use Rattle.conformance.specs.Call.{package_call_name};
+ghost use Rattle.cases.specs.Call.{package_call_name};
 
 use crate::words::{Answer, Fault, Word, answer};
 use deno_semver::package::{

@@ -1,7 +1,7 @@
 //! The JSON forms of values.
 
 ghost use Rattle.std.specs.Prelude.{◌≡◌};
-ghost use Rattle.conformance.specs.Call.{json_call_name};
+ghost use Rattle.cases.specs.Call.{json_call_name};
 
 use crate::words::{Answer, Fault, Word, answer, yes_or_no};
 use deno_semver::json::{JsonError, JsonForm};

@@ -1,7 +1,7 @@
 //! What ranges match, and how they are clamped and overlap.
 
 ghost use Rattle.std.specs.Prelude.{◌≡◌};
-ghost use Rattle.conformance.specs.Call.{range_call_name};
+ghost use Rattle.cases.specs.Call.{range_call_name};
 
 use crate::shown;
 use crate::words::{Answer, Fault, Word, answer, yes_or_no};

@@ -1,7 +1,7 @@
 //! How requirements are read, and what they match.
 
 ghost use Rattle.std.specs.Prelude.{◌≡◌};
-ghost use Rattle.conformance.specs.Call.{requirement_call_name};
+ghost use Rattle.cases.specs.Call.{requirement_call_name};
 
 use crate::shown;
 use crate::words::{Answer, Fault, Word, answer, yes_or_no};

@@ -1,7 +1,7 @@
 //! Texts, lists, failures, ranges and requirements that are made by hand.
 
 ghost use Rattle.std.specs.Prelude.{◌≡◌};
-ghost use Rattle.conformance.specs.Call.{value_call_name};
+ghost use Rattle.cases.specs.Call.{value_call_name};
 
 use crate::shown;
 use crate::words::{Answer, Fault, Word, answer, yes_or_no};

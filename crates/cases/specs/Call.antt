@@ -1,29 +1,29 @@
 -- The first word of a question that asks a call.
 use Rattle.std.specs.Prelude.{List, ℕ, codes}
-use Rattle.conformance.specs.declared.call.Call.{Call}
-use Rattle.conformance.specs.declared.call.Call.TheVariants.{Values, Versions, Requirements, Ranges, Partials, Places, Texts, Packages, References, Dependencies, JsonForms}
-use Rattle.conformance.specs.declared.values.ValueCall.{ValueCall}
-use Rattle.conformance.specs.declared.values.ValueCall.TheVariants as values
-use Rattle.conformance.specs.declared.versions.VersionCall.{VersionCall}
-use Rattle.conformance.specs.declared.versions.VersionCall.TheVariants as versions
-use Rattle.conformance.specs.declared.requirements.RequirementCall.{RequirementCall}
-use Rattle.conformance.specs.declared.requirements.RequirementCall.TheVariants as requirements
-use Rattle.conformance.specs.declared.ranges.RangeCall.{RangeCall}
-use Rattle.conformance.specs.declared.ranges.RangeCall.TheVariants as ranges
-use Rattle.conformance.specs.declared.partials.PartialCall.{PartialCall}
-use Rattle.conformance.specs.declared.partials.PartialCall.TheVariants as partials
-use Rattle.conformance.specs.declared.places.PlaceCall.{PlaceCall}
-use Rattle.conformance.specs.declared.places.PlaceCall.TheVariants as places
-use Rattle.conformance.specs.declared.texts.TextCall.{TextCall}
-use Rattle.conformance.specs.declared.texts.TextCall.TheVariants as texts
-use Rattle.conformance.specs.declared.packages.PackageCall.{PackageCall}
-use Rattle.conformance.specs.declared.packages.PackageCall.TheVariants as packages
-use Rattle.conformance.specs.declared.references.ReferenceCall.{ReferenceCall}
-use Rattle.conformance.specs.declared.references.ReferenceCall.TheVariants as references
-use Rattle.conformance.specs.declared.dependencies.DependencyCall.{DependencyCall}
-use Rattle.conformance.specs.declared.dependencies.DependencyCall.TheVariants as dependencies
-use Rattle.conformance.specs.declared.json_forms.JsonCall.{JsonCall}
-use Rattle.conformance.specs.declared.json_forms.JsonCall.TheVariants as json_forms
+use Rattle.cases.specs.declared.call.Call.{Call}
+use Rattle.cases.specs.declared.call.Call.TheVariants.{Values, Versions, Requirements, Ranges, Partials, Places, Texts, Packages, References, Dependencies, JsonForms}
+use Rattle.cases.specs.declared.values.ValueCall.{ValueCall}
+use Rattle.cases.specs.declared.values.ValueCall.TheVariants as values
+use Rattle.cases.specs.declared.versions.VersionCall.{VersionCall}
+use Rattle.cases.specs.declared.versions.VersionCall.TheVariants as versions
+use Rattle.cases.specs.declared.requirements.RequirementCall.{RequirementCall}
+use Rattle.cases.specs.declared.requirements.RequirementCall.TheVariants as requirements
+use Rattle.cases.specs.declared.ranges.RangeCall.{RangeCall}
+use Rattle.cases.specs.declared.ranges.RangeCall.TheVariants as ranges
+use Rattle.cases.specs.declared.partials.PartialCall.{PartialCall}
+use Rattle.cases.specs.declared.partials.PartialCall.TheVariants as partials
+use Rattle.cases.specs.declared.places.PlaceCall.{PlaceCall}
+use Rattle.cases.specs.declared.places.PlaceCall.TheVariants as places
+use Rattle.cases.specs.declared.texts.TextCall.{TextCall}
+use Rattle.cases.specs.declared.texts.TextCall.TheVariants as texts
+use Rattle.cases.specs.declared.packages.PackageCall.{PackageCall}
+use Rattle.cases.specs.declared.packages.PackageCall.TheVariants as packages
+use Rattle.cases.specs.declared.references.ReferenceCall.{ReferenceCall}
+use Rattle.cases.specs.declared.references.ReferenceCall.TheVariants as references
+use Rattle.cases.specs.declared.dependencies.DependencyCall.{DependencyCall}
+use Rattle.cases.specs.declared.dependencies.DependencyCall.TheVariants as dependencies
+use Rattle.cases.specs.declared.json_forms.JsonCall.{JsonCall}
+use Rattle.cases.specs.declared.json_forms.JsonCall.TheVariants as json_forms
 
 abbrev pub value_call_name : ValueCall → List ℕ
 value_call_name values.Text = codes "text"

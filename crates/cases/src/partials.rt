@@ -1,7 +1,7 @@
 //! The ranges and bounds that partial versions stand for.
 
 ghost use Rattle.std.specs.Prelude.{◌≡◌};
-ghost use Rattle.conformance.specs.Call.{partial_call_name};
+ghost use Rattle.cases.specs.Call.{partial_call_name};
 
 use crate::shown;
 use crate::words::{Answer, Fault, Word, answer};

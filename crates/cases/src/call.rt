@@ -1,7 +1,7 @@
 //! The calls that a row can ask, and their names.
 
 ghost use Rattle.std.specs.Prelude.{◌≡◌, IfSome};
-ghost use Rattle.conformance.specs.Call.{name_of};
+ghost use Rattle.cases.specs.Call.{name_of};
 
 use crate::dependencies::DependencyCall;
 use crate::json_forms::JsonCall;

@@ -1,7 +1,7 @@
 //! How versions are read and compared.
 
 ghost use Rattle.std.specs.Prelude.{◌≡◌};
-ghost use Rattle.conformance.specs.Call.{version_call_name};
+ghost use Rattle.cases.specs.Call.{version_call_name};
 
 use crate::shown;
 use crate::words::{Answer, Fault, Word, answer, yes_or_no};
