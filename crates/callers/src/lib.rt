@@ -9,4 +9,6 @@ pub mod overlap;
 pub mod requirements;
 pub mod stored;
 pub mod texts;
+pub mod together;
+pub mod update;
 pub mod versions;

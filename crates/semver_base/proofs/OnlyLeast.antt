@@ -26,7 +26,7 @@ same_version v w plain others h k = go (precedence_cmp v w) refl h
     go Equal e le =
         let same = precedence-anti v w e in
         let is : version_of w.major w.minor w.patch w.pre w.build ≡ version_of v.major v.minor v.patch v.pre v.build =
-            rw (same.major, same.minor, same.patch, same.pre, plain, others) refl in
+        rw (same.major, same.minor, same.patch, same.pre, plain, others) refl in
         is
 
 pub only_least : (test : Version → Bool) (least : Option Version) → IsLeast test least → IfSome least HasNoBuild → IfSome least ReadsBack → IsOnlyLeast test least

@@ -48,7 +48,9 @@ impl VersionReq {
     pub fn have_no_tag(requirements: &[VersionReq]) -> bool
         ensures { result ≡ have_no_tag requirements.now }
     {
-        requirements.iter().all(|requirement| requirement.tag().is_none())
+        requirements
+            .iter()
+            .all(|requirement| requirement.tag().is_none())
     }
 
     /// The least version that both requirements, which are no tags, match, or none where no version matches both.
