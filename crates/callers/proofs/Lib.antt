@@ -1,2 +1,5 @@
 pub mod Locking
 pub mod ReadAgain
+pub mod TextsAsked
+pub mod LeastTogether
+pub mod Updates
