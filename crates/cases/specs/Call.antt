@@ -1,7 +1,7 @@
 -- The first word of a question that asks a call.
 use Rattle.std.specs.Prelude.{List, ℕ, codes}
 use Rattle.cases.specs.declared.call.Call.{Call}
-use Rattle.cases.specs.declared.call.Call.TheVariants.{Values, Versions, Requirements, Ranges, Partials, Places, Texts, Packages, References, Dependencies, JsonForms}
+use Rattle.cases.specs.declared.call.Call.TheVariants.{Values, Versions, Requirements, Ranges, Partials, Places, Texts, Packages, References, Dependencies, JsonForms, Least}
 use Rattle.cases.specs.declared.values.ValueCall.{ValueCall}
 use Rattle.cases.specs.declared.values.ValueCall.TheVariants as values
 use Rattle.cases.specs.declared.versions.VersionCall.{VersionCall}
@@ -24,6 +24,8 @@ use Rattle.cases.specs.declared.dependencies.DependencyCall.{DependencyCall}
 use Rattle.cases.specs.declared.dependencies.DependencyCall.TheVariants as dependencies
 use Rattle.cases.specs.declared.json_forms.JsonCall.{JsonCall}
 use Rattle.cases.specs.declared.json_forms.JsonCall.TheVariants as json_forms
+use Rattle.cases.specs.declared.least.LeastCall.{LeastCall}
+use Rattle.cases.specs.declared.least.LeastCall.TheVariants as least
 
 abbrev pub value_call_name : ValueCall → List ℕ
 value_call_name values.Text = codes "text"
@@ -110,6 +112,16 @@ json_call_name json_forms.Json = codes "json"
 json_call_name json_forms.JsonOf = codes "json-of"
 json_call_name json_forms.Stored = codes "stored"
 
+abbrev pub least_call_name : LeastCall → List ℕ
+least_call_name least.MinVersion = codes "min-version"
+least_call_name least.CommonVersion = codes "common-version"
+least_call_name least.CommonWithAll = codes "common-with-all"
+least_call_name least.VersionOutside = codes "version-outside"
+least_call_name least.IsSubset = codes "is-subset"
+least_call_name least.IsEquivalent = codes "is-equivalent"
+least_call_name least.SetIsSubset = codes "set-is-subset"
+least_call_name least.SetIsEquivalent = codes "set-is-equivalent"
+
 abbrev pub name_of : Call → List ℕ
 name_of (Values call) = value_call_name call
 name_of (Versions call) = version_call_name call
@@ -122,3 +134,4 @@ name_of (Packages call) = package_call_name call
 name_of (References call) = reference_call_name call
 name_of (Dependencies call) = dependency_call_name call
 name_of (JsonForms call) = json_call_name call
+name_of (Least call) = least_call_name call

@@ -5,6 +5,7 @@ ghost use Rattle.cases.specs.Call.{name_of};
 
 use crate::dependencies::DependencyCall;
 use crate::json_forms::JsonCall;
+use crate::least::LeastCall;
 use crate::packages::PackageCall;
 use crate::partials::PartialCall;
 use crate::places::PlaceCall;
@@ -31,11 +32,12 @@ pub enum Call {
     References(ReferenceCall),
     Dependencies(DependencyCall),
     JsonForms(JsonCall),
+    Least(LeastCall),
 }
 
 impl Call {
     /// All calls, in the order in which they are counted.
-    pub const ALL: [Call; 63] = [
+    pub const ALL: [Call; 71] = [
         Call::Values(ValueCall::Text),
         Call::Values(ValueCall::Items),
         Call::Values(ValueCall::Failure),
@@ -99,6 +101,14 @@ impl Call {
         Call::JsonForms(JsonCall::Json),
         Call::JsonForms(JsonCall::JsonOf),
         Call::JsonForms(JsonCall::Stored),
+        Call::Least(LeastCall::MinVersion),
+        Call::Least(LeastCall::CommonVersion),
+        Call::Least(LeastCall::CommonWithAll),
+        Call::Least(LeastCall::VersionOutside),
+        Call::Least(LeastCall::IsSubset),
+        Call::Least(LeastCall::IsEquivalent),
+        Call::Least(LeastCall::SetIsSubset),
+        Call::Least(LeastCall::SetIsEquivalent),
     ];
 
     /// The first word of a question that asks the call.
@@ -117,6 +127,7 @@ impl Call {
             Call::References(call) => call.name(),
             Call::Dependencies(call) => call.name(),
             Call::JsonForms(call) => call.name(),
+            Call::Least(call) => call.name(),
         }
     }
 
@@ -141,6 +152,7 @@ impl Call {
             Call::References(call) => call.ask(alloc, words),
             Call::Dependencies(call) => call.ask(alloc, words),
             Call::JsonForms(call) => call.ask(alloc, words),
+            Call::Least(call) => call.ask(alloc, words),
         }
     }
 }

@@ -60,8 +60,8 @@ impl RequirementCall {
     }
 }
 
-// The requirement that the reader of this name makes of a text.
-fn read(alloc: Global, reader: &str, text: &str) -> Result<VersionReq, Fault> {
+/// The requirement that the reader of this name makes of a text.
+pub fn read(alloc: Global, reader: &str, text: &str) -> Result<VersionReq, Fault> {
     match reader {
         "npm" => Ok(VersionReq::parse_from_npm(alloc, text)?),
         "normal" => Ok(VersionReq::parse_from_normalized(alloc, text)?),

@@ -1,0 +1,170 @@
+//! The least version that requirements match, and whether each version that one matches another does too.
+
+ghost use Rattle.std.specs.Prelude.{◌≡◌};
+ghost use Rattle.cases.specs.Call.{least_call_name};
+
+use crate::requirements::read;
+use crate::shown;
+use crate::words::{Answer, Fault, Word, answer, yes_or_no};
+use deno_semver::{Version, VersionReq};
+use std::alloc::{AllocError, Global};
+
+/// The calls on least versions and containment.
+#[derive(Clone, Copy, Debug, PartialEq, Eq)]
+pub enum LeastCall {
+    MinVersion,
+    CommonVersion,
+    CommonWithAll,
+    VersionOutside,
+    IsSubset,
+    IsEquivalent,
+    SetIsSubset,
+    SetIsEquivalent,
+}
+
+impl LeastCall {
+    /// The first word of a question that asks the call.
+    pub fn name(self) -> &'static str
+        ensures { result.now ≡ least_call_name self }
+    {
+        match self {
+            LeastCall::MinVersion => "min-version",
+            LeastCall::CommonVersion => "common-version",
+            LeastCall::CommonWithAll => "common-with-all",
+            LeastCall::VersionOutside => "version-outside",
+            LeastCall::IsSubset => "is-subset",
+            LeastCall::IsEquivalent => "is-equivalent",
+            LeastCall::SetIsSubset => "set-is-subset",
+            LeastCall::SetIsEquivalent => "set-is-equivalent",
+        }
+    }
+
+    /// What the call answers to a question's words after its name.
+    pub fn ask(self, alloc: Global, words: &[Word<'_>]) -> Answer {
+        match self {
+            LeastCall::MinVersion => min_version(alloc, words),
+            LeastCall::CommonVersion => common_version(alloc, words),
+            LeastCall::CommonWithAll => common_with_all(alloc, words),
+            LeastCall::VersionOutside => version_outside(alloc, words),
+            LeastCall::IsSubset => is_subset(alloc, words),
+            LeastCall::IsEquivalent => is_equivalent(alloc, words),
+            LeastCall::SetIsSubset => set_is_subset(alloc, words),
+            LeastCall::SetIsEquivalent => set_is_equivalent(alloc, words),
+        }
+    }
+}
+
+// How the version is displayed, or `none`.
+fn version_or_none(alloc: Global, version: Option<Version>) -> Answer {
+    let Some(version) = version else {
+        return answer(alloc, &[Some("none")]);
+    };
+    let text = format!(in alloc; "{version}")?;
+    answer(alloc, &[Some(text.as_str())])
+}
+
+// The two requirements that the words are, by the reader that the first word names.
+fn pair(alloc: Global, words: &[Word<'_>]) -> Result<(VersionReq, VersionReq), Fault> {
+    let [Some(reader), Some(left), Some(right)] = words else {
+        return Err(Fault::Unreadable);
+    };
+    let left = read(alloc, reader, left)?;
+    Ok((left, read(alloc, reader, right)?))
+}
+
+// `min-version`, a reader and a text: the least version that the requirement matches, or `none`; or `tag`.
+fn min_version(alloc: Global, words: &[Word<'_>]) -> Answer {
+    let [Some(reader), Some(text)] = words else {
+        return Err(Fault::Unreadable);
+    };
+    let requirement = read(alloc, reader, text)?;
+    match requirement.tag() {
+        None => version_or_none(alloc, requirement.min_version(alloc)?),
+        Some(_) => answer(alloc, &[Some("tag")]),
+    }
+}
+
+// `common-version`, a reader and two texts: the least version that both match, or `none`; or `tag`.
+fn common_version(alloc: Global, words: &[Word<'_>]) -> Answer {
+    let (left, right) = pair(alloc, words)?;
+    match (left.tag(), right.tag()) {
+        (None, None) => version_or_none(alloc, left.common_version(alloc, &right)?),
+        (_, _) => answer(alloc, &[Some("tag")]),
+    }
+}
+
+// The requirements that the words are, by the reader of this name.
+fn read_all(alloc: Global, reader: &str, texts: &[Word<'_>]) -> Result<Vec<VersionReq>, Fault> {
+    let mut requirements = Vec::new(alloc);
+    for text in texts {
+        let text = text.ok_or(Fault::Unreadable)?;
+        let requirement = read(alloc, reader, text)?;
+        requirements.push(requirement).map_err(AllocError::from)?;
+    }
+    Ok(requirements)
+}
+
+// `common-with-all`, a reader, a text and any number of others: the least version that all match, or `none`; or `tag`.
+fn common_with_all(alloc: Global, words: &[Word<'_>]) -> Answer {
+    let [Some(reader), Some(text), others @ ..] = words else {
+        return Err(Fault::Unreadable);
+    };
+    let own = read(alloc, reader, text)?;
+    let others = read_all(alloc, reader, others)?;
+    if own.tag().is_some() || !VersionReq::have_no_tag(others.as_slice()) {
+        return answer(alloc, &[Some("tag")]);
+    }
+    version_or_none(
+        alloc,
+        own.common_version_with_all(alloc, others.as_slice())?,
+    )
+}
+
+// `version-outside`, a reader and two texts: the least version that the first matches and the second doesn't, or `none`;
+// or `tag`.
+fn version_outside(alloc: Global, words: &[Word<'_>]) -> Answer {
+    let (left, right) = pair(alloc, words)?;
+    match (left.tag(), right.tag()) {
+        (None, None) => version_or_none(alloc, left.version_outside(alloc, &right)?),
+        (_, _) => answer(alloc, &[Some("tag")]),
+    }
+}
+
+// `is-subset`, a reader and two texts: whether the second matches each version that the first matches; or `tag`.
+fn is_subset(alloc: Global, words: &[Word<'_>]) -> Answer {
+    let (left, right) = pair(alloc, words)?;
+    match (left.tag(), right.tag()) {
+        (None, None) => yes_or_no(alloc, left.is_subset(alloc, &right)?),
+        (_, _) => answer(alloc, &[Some("tag")]),
+    }
+}
+
+// `is-equivalent`, a reader and two texts: whether both match the same versions; or `tag`.
+fn is_equivalent(alloc: Global, words: &[Word<'_>]) -> Answer {
+    let (left, right) = pair(alloc, words)?;
+    match (left.tag(), right.tag()) {
+        (None, None) => yes_or_no(alloc, left.is_equivalent(alloc, &right)?),
+        (_, _) => answer(alloc, &[Some("tag")]),
+    }
+}
+
+// `set-is-subset`, two sets of ranges: whether the second matches each version that the first matches.
+fn set_is_subset(alloc: Global, words: &[Word<'_>]) -> Answer {
+    let [Some(set), Some(other)] = words else {
+        return Err(Fault::Unreadable);
+    };
+    let other = shown::set_of(alloc, other)?;
+    yes_or_no(alloc, shown::set_of(alloc, set)?.is_subset(alloc, &other)?)
+}
+
+// `set-is-equivalent`, two sets of ranges: whether both match the same versions.
+fn set_is_equivalent(alloc: Global, words: &[Word<'_>]) -> Answer {
+    let [Some(set), Some(other)] = words else {
+        return Err(Fault::Unreadable);
+    };
+    let other = shown::set_of(alloc, other)?;
+    yes_or_no(
+        alloc,
+        shown::set_of(alloc, set)?.is_equivalent(alloc, &other)?,
+    )
+}
