@@ -40,9 +40,6 @@ numbers_total = then_total (on_total (λ (v : Version). v.major) nat_cmp_total) 
 pub same_right : (x t v : Version) → SameNumbers t v → numbers_cmp x t ≡ numbers_cmp x v
 same_right x t v same = rw (same.major, same.minor, same.patch) refl
 
-pub same_left : (x t v : Version) → SameNumbers t v → numbers_cmp t x ≡ numbers_cmp v x
-same_left x t v same = rw (same.major, same.minor, same.patch) refl
-
 then_first : (r s : Ordering) → ordering_then r s ≡ Equal → r ≡ Equal
 then_first Less s e = cc e
 then_first Equal s e = refl

@@ -44,10 +44,6 @@ itself_least a x h = least_alike (both_mean a a) (λ v. alternative_means (a ∷
 pub least_as : (P Q : Version → Bool) (x : Option Version) → ((v : Version) → P v ≡ Q v) → IsLeast P x → IsLeast Q x
 least_as P Q x same h = least_alike P Q x (λ v passes. sym (same v) ∙ passes) (λ v readable passes. same v ∙ passes) h
 
--- no version is the least of none
-pub none_least : (P : Version → Bool) → ((v : Version) → P v ≡ false) → IsLeast P None
-none_least P none = λ v readable. none v
-
 any_more : {X : Type 0} (p : X → Bool) (xs : List X) (x : X) → list_any p (xs ++ x ∷ []) ≡ (list_any p xs || p x)
 any_more p [] x = or_none (p x)
   where
