@@ -1,2 +1,3 @@
+pub mod Installing
 pub mod Locking
 pub mod ReadAgain
