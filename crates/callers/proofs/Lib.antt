@@ -1,3 +1,4 @@
+pub mod Installing
 pub mod Locking
 pub mod ReadAgain
 pub mod TextsAsked

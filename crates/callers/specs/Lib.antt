@@ -1,5 +1,6 @@
 pub mod Allowance
 pub mod ImportMap
+pub mod Install
 pub mod Lockfile
 pub mod Stored
 pub mod TextsAsked

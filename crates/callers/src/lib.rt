@@ -4,6 +4,7 @@
 #![tactic(auto)]
 
 pub mod import_map;
+pub mod install;
 pub mod lockfile;
 pub mod overlap;
 pub mod requirements;

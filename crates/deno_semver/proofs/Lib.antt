@@ -1,7 +1,7 @@
+pub mod BestMatches
 pub mod Dependencies
 pub mod Equality
 pub mod ExportNames
-pub mod Greatest
 pub mod JsonReading
 pub mod NameAndVersion
 pub mod NvReferences

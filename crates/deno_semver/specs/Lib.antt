@@ -3,8 +3,6 @@ pub mod DependencyOrder
 pub mod DependencyOutcome
 pub mod Equal
 pub mod ExportName
-pub mod Greatest
-pub mod GreatestSteps
 pub mod Json
 pub mod JsonAnswers
 pub mod Kind
@@ -24,6 +22,8 @@ pub mod ReferenceText
 pub mod ReqOrder
 pub mod ReqOrderLaws
 pub mod RequirementText
+pub mod Resolve
+pub mod ResolveSteps
 pub mod Specifier
 pub mod Stored
 pub mod Ties

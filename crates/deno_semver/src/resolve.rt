@@ -1,41 +1,127 @@
-//! Which of several versions a requirement takes.
+//! Which of several versions a requirement takes, as `maxSatisfying` and `minSatisfying` of node-semver answer it.
 
 ghost use Rattle.std.specs.Prelude.{◌≡◌, ◌&&◌, None};
-ghost use Rattle.semver_req.specs.Requirement.{inner_means, tag_of};
-ghost use Rattle.deno_semver.specs.Greatest.{IsGreatestMatch, IsOnlyMatch};
-ghost use Rattle.deno_semver.specs.GreatestSteps.{exceeds};
+ghost use Rattle.semver_req.specs.Requirement.{inner_means, inner_means_with, tag_of};
+ghost use Rattle.deno_semver.specs.Resolve.{IsBestMatch, IsOnlyMatch, greater, lower};
+ghost use Rattle.deno_semver.specs.ResolveSteps.{exceeds, nearer};
 
+use semver_base::range::PreRelease;
 use semver_base::version::Version;
 use semver_req::req::VersionReq;
 
-// Whether the version matches, and is above the one that is known.
-fn is_better(requirement: &VersionReq, version: &Version, known: Option<(usize, &Version)>) -> bool
+// Which end of precedence is asked for.
+#[derive(Clone, Copy)]
+enum End {
+    Greatest,
+    Least,
+}
+
+impl End {
+    // Whether the one version is nearer to this end than the other one.
+    fn is_nearer(self, one: &Version, other: &Version) -> bool
+        ensures { result ≡ nearer self one.now other.now }
+    {
+        match self {
+            End::Greatest => other.cmp_precedence(one).is_lt(),
+            End::Least => one.cmp_precedence(other).is_lt(),
+        }
+    }
+}
+
+// Whether the version matches, and is nearer to the end than the match that is known, if any.
+fn is_better(
+    version: &Version,
+    known: Option<(usize, &Version)>,
+    requirement: &VersionReq,
+    pre_release: PreRelease,
+    end: End,
+) -> bool
     requires { tag_of requirement.now.inner ≡ None }
-    ensures { result ≡ (inner_means requirement.now.inner version.now && exceeds version.now known.entry) }
+    ensures { result ≡ (inner_means_with pre_release requirement.now.inner version.now
+        && exceeds end version.now known.entry) }
 {
-    requirement.matches(version)
+    requirement.matches_with(version, pre_release)
         && match known {
             None => true,
-            Some((_, known)) => known.cmp_precedence(version).is_lt(),
+            Some((_, known)) => end.is_nearer(version, known),
         }
+}
+
+// The place of the first of the matches that are nearest to the end.
+fn first_best(
+    versions: &[Version],
+    requirement: &VersionReq,
+    pre_release: PreRelease,
+    end: End,
+) -> Option<usize>
+    requires { tag_of requirement.now.inner ≡ None }
+    ensures best { IsBestMatch (nearer end)
+        (λ v. inner_means_with pre_release requirement.now.inner v) versions.now result }
+    ensures only { IsOnlyMatch (nearer end)
+        (λ v. inner_means_with pre_release requirement.now.inner v) versions.now result }
+{
+    let mut best = None;
+    for (place, version) in versions.iter().enumerate() {
+        if is_better(version, best, requirement, pre_release, end) {
+            best = Some((place, version));
+        }
+    }
+    match best {
+        None => None,
+        Some((place, _)) => Some(place),
+    }
 }
 
 /// The place of the greatest version by precedence that matches the requirement, which is no tag: of those that are equal,
 /// builds aside, the first. None exactly where no version matches.
 pub fn max_satisfying(versions: &[Version], requirement: &VersionReq) -> Option<usize>
     requires { tag_of requirement.now.inner ≡ None }
-    ensures greatest { IsGreatestMatch (λ v. inner_means requirement.now.inner v) versions.now result }
-    ensures only { IsOnlyMatch (λ v. inner_means requirement.now.inner v) versions.now result }
+    ensures greatest { IsBestMatch greater (λ v. inner_means requirement.now.inner v)
+        versions.now result }
+    ensures only { IsOnlyMatch greater (λ v. inner_means requirement.now.inner v)
+        versions.now result }
 {
-    let mut known: Option<(usize, &Version)> = None;
-    for place in 0..versions.len() {
-        let version = &versions[place];
-        if is_better(requirement, version, known) {
-            known = Some((place, version));
-        }
-    }
-    match known {
-        None => None,
-        Some((place, _)) => Some(place),
-    }
+    max_satisfying_with(versions, requirement, PreRelease::Restricted)
+}
+
+/// The place of the least version by precedence that matches the requirement, which is no tag: of those that are equal,
+/// builds aside, the first. None exactly where no version matches.
+pub fn min_satisfying(versions: &[Version], requirement: &VersionReq) -> Option<usize>
+    requires { tag_of requirement.now.inner ≡ None }
+    ensures least { IsBestMatch lower (λ v. inner_means requirement.now.inner v)
+        versions.now result }
+    ensures only { IsOnlyMatch lower (λ v. inner_means requirement.now.inner v)
+        versions.now result }
+{
+    min_satisfying_with(versions, requirement, PreRelease::Restricted)
+}
+
+/// As [`max_satisfying`], with pre-releases restricted or admitted throughout.
+pub fn max_satisfying_with(
+    versions: &[Version],
+    requirement: &VersionReq,
+    pre_release: PreRelease,
+) -> Option<usize>
+    requires { tag_of requirement.now.inner ≡ None }
+    ensures greatest { IsBestMatch greater
+        (λ v. inner_means_with pre_release requirement.now.inner v) versions.now result }
+    ensures only { IsOnlyMatch greater
+        (λ v. inner_means_with pre_release requirement.now.inner v) versions.now result }
+{
+    first_best(versions, requirement, pre_release, End::Greatest)
+}
+
+/// As [`min_satisfying`], with pre-releases restricted or admitted throughout.
+pub fn min_satisfying_with(
+    versions: &[Version],
+    requirement: &VersionReq,
+    pre_release: PreRelease,
+) -> Option<usize>
+    requires { tag_of requirement.now.inner ≡ None }
+    ensures least { IsBestMatch lower
+        (λ v. inner_means_with pre_release requirement.now.inner v) versions.now result }
+    ensures only { IsOnlyMatch lower
+        (λ v. inner_means_with pre_release requirement.now.inner v) versions.now result }
+{
+    first_best(versions, requirement, pre_release, End::Least)
 }

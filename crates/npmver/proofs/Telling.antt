@@ -1,9 +1,9 @@
 -- What is told to a question, from what the readers answer.
-use Rattle.std.proofs.Common.{◌≡◌, ◌==◌, ℕ, false, length, get_or, List, [], ◌∷◌, Result, Ok, Err, Some, None, refl, sym, ap, subst, ◌∙◌, inl, inr}
+use Rattle.std.proofs.Common.{◌≡◌, ◌==◌, ◌<◌, ℕ, false, suc, length, drop, get_or, map, arith, List, [], ◌∷◌, Result, Ok, Err, Some, None, refl, sym, ap, subst, ◌∙◌, inl, inr}
 use Rattle.std.specs.Prelude.{◌⊎◌, codes, slice_index}
 use Rattle.std.proofs.lemmas.Bool.{eq-eqb}
 use Rattle.std.specs.Str.{trim}
-use Rattle.npmver.specs.Question.{ByReader, IsAnswer, IsAsked, IsFit, IsForm, IsMeeting, IsNormal, IsReader, IsStatus, NoReader, a_tag, allowance_of, asks_fits, asks_fits_pre, asks_meet, asks_normal, asks_nothing, by, by_none, form_fits, form_fits_pre, form_meet, form_normal, no_normal_text, no_one, no_other, no_requirement, no_version, normal_text, npm, normal, of_told, of_unwritten, of_wanting, overlap, ranges, strict, yes_or_no}
+use Rattle.npmver.specs.Question.{ByReader, IsAnswer, IsAsked, IsBest, IsFit, IsForm, IsMeeting, IsNormal, IsReader, IsStatus, NoReader, a_tag, allowance_of, asks_best, asks_fits, asks_fits_pre, asks_meet, asks_normal, asks_nothing, by, by_none, form_best, form_fits, form_fits_pre, form_meet, form_normal, no_normal_text, no_one, no_other, no_requirement, no_version, normal_text, npm, normal, of_told, of_unwritten, of_wanting, overlap, ranges, strict, yes_or_no}
 use Rattle.npmver.specs.Told.{ATag, IsProper, OutOfMemory, Refused, Text, Told, Usage, failure_of, problem_of, status_of, told_answer, told_by, told_problem}
 use Rattle.npmver.specs.declared.Answer.{Answer}
 use Rattle.npmver.specs.declared.Answer.TheVariants as answer
@@ -29,19 +29,19 @@ use Rattle.semver_req.specs.declared.range_set_or_tag.RangeSetOrTag.TheVariants 
 -- ---- problems
 
 -- a proper problem is told as want of memory or as a refusal
-told_proper : (p : Problem) → IsProper p → (told_problem p ≡ OutOfMemory) ⊎ (told_problem p ≡ Refused)
+pub told_proper : (p : Problem) → IsProper p → (told_problem p ≡ OutOfMemory) ⊎ (told_problem p ≡ Refused)
 told_proper problem.Usage proper = absurd (cc proper)
 told_proper problem.OutOfMemory proper = inl refl
 told_proper (problem.Refused failure) proper = inr refl
 
 -- it is want of memory where its failure is
-told_wanting : (p : Problem) → IsProper p → failure_of p ≡ None → told_problem p ≡ OutOfMemory
+pub told_wanting : (p : Problem) → IsProper p → failure_of p ≡ None → told_problem p ≡ OutOfMemory
 told_wanting problem.Usage proper e = absurd (cc proper)
 told_wanting problem.OutOfMemory proper e = refl
 told_wanting (problem.Refused None) proper e = absurd (cc proper)
 told_wanting (problem.Refused (Some texts)) proper e = absurd (cc e)
 
-of_failure : (failure : Failure) → IsProper (problem_of failure)
+pub of_failure : (failure : Failure) → IsProper (problem_of failure)
 of_failure None = refl
 of_failure (Some texts) = refl
 
@@ -67,11 +67,11 @@ module _ (f : Flavour) (text : List ℕ) where
       go outcome.Refused is was = absurd was
 
 -- a text that was read isn't refused
-not_refused : (f : Flavour) (text : List ℕ) (req : Requirement) → IsReaderAnswer failure_of f text (Ok req) → IsOutcome f text outcome.Refused → ⊥
+pub not_refused : (f : Flavour) (text : List ℕ) (req : Requirement) → IsReaderAnswer failure_of f text (Ok req) → IsOutcome f text outcome.Refused → ⊥
 not_refused f text req h p = cc (h.answer outcome.Refused p)
 
 -- the answer to a refused requirement, where a refusal is what is asked
-unread : (Asked : Told → Type 0) (f : Flavour) (text : List ℕ) (p : Problem) → IsReaderAnswer failure_of f text (Err p) → IsProper p
+pub unread : (Asked : Told → Type 0) (f : Flavour) (text : List ℕ) (p : Problem) → IsReaderAnswer failure_of f text (Err p) → IsProper p
     → (IsOutcome f text outcome.Refused → Asked Refused) → ((told : Told) → Asked told → (failure_of p ≡ None) ⊎ (told ≡ Refused)) → (Asked Usage → ⊥) → IsAnswer Asked (Err p)
 unread Asked f text p h proper refused others never = record {
   tells = go (told_proper p proper) h.refused;
@@ -98,6 +98,7 @@ answer_usage answer.Yes e = cc e
 answer_usage answer.No e = cc e
 answer_usage (answer.Tag tag) e = cc e
 answer_usage (answer.Text text) e = cc e
+answer_usage answer.NoMatch e = cc e
 
 fit_usage : {flag : PreRelease} {f : Flavour} {requirement version : List ℕ} (told : Told) → told ≡ Usage → IsFit flag f requirement version told → ⊥
 fit_usage {flag} told e (ranges tree v o q) = answer_usage (yes_or_no (tree_means_with flag (tree_ranges tree) v)) e
@@ -115,7 +116,7 @@ meeting_usage told e (no_one o) = cc e
 meeting_usage told e (no_other o) = cc e
 
 -- want of memory while a question is answered
-wanting : (Asked : Told → Type 0) → (Asked Usage → ⊥) → IsAnswer Asked (Err problem.OutOfMemory)
+pub wanting : (Asked : Told → Type 0) → (Asked Usage → ⊥) → IsAnswer Asked (Err problem.OutOfMemory)
 wanting Asked never = record { tells = inl refl; every = λ told a. inl refl; usage = λ a. absurd (never a) }
 
 -- ---- fits
@@ -321,10 +322,30 @@ same_length words others e = ap (λ (x : List (List ℕ)). length x) e
 abbrev of_four : List ℕ → List ℕ → List ℕ → List ℕ → List (List ℕ)
 of_four command one two three = command ∷ one ∷ two ∷ three ∷ []
 
+abbrev of_versions : List ℕ → List ℕ → List ℕ → List (List ℕ) → List (List ℕ)
+of_versions command reader requirement versions = command ∷ reader ∷ requirement ∷ versions
+
+-- what stands behind three words
+same_rest : (words others : List (List ℕ)) → words ≡ others → drop 3 words ≡ drop 3 others
+same_rest words others e = ap (λ (x : List (List ℕ)). drop 3 x) e
+
+-- the only one of texts
+pub alone : {S : Type 0} (bytes : S → List ℕ) (all : List S) (one : S) (text : List ℕ) → one ≡ get_or all 0 one → map bytes all ≡ text ∷ [] → bytes one ≡ text
+alone bytes [] one text is e = absurd (cc e)
+alone bytes (x ∷ xs) one text is e = ap bytes is ∙ ap (λ (l : List (List ℕ)). get_or l 0 text) e
+
+none_left : (command reader requirement : List ℕ) (versions : List (List ℕ)) → 0 < length versions → {a b c : List ℕ}
+    → of_versions command reader requirement versions ≡ a ∷ b ∷ c ∷ [] → ⊥
+none_left command reader requirement versions some e = let none : length versions ≡ 0 = same_length _ _ (same_rest _ _ e) in absurd (omega (arith, some, none))
+
+one_left : (command reader requirement : List ℕ) (versions : List (List ℕ)) → 1 < length versions → {a b c d : List ℕ}
+    → of_versions command reader requirement versions ≡ a ∷ b ∷ c ∷ d ∷ [] → ⊥
+one_left command reader requirement versions more e = let one : length versions ≡ 1 = same_length _ _ (same_rest _ _ e) in absurd (omega (arith, more, one))
+
 abbrev of_three : List ℕ → List ℕ → List ℕ → List (List ℕ)
 of_three command one two = command ∷ one ∷ two ∷ []
 
-pub four_fits : (command reader requirement version : List ℕ) → command ≡ codes "fits" → (result : Result Answer Problem)
+four_fits : (command reader requirement version : List ℕ) → command ≡ codes "fits" → (result : Result Answer Problem)
     → IsAnswer (ByReader reader (λ f. IsFit Restricted f requirement version)) result → IsAnswer (IsAsked (command ∷ reader ∷ requirement ∷ version ∷ [])) result
 four_fits command reader requirement version is result h = same_answer _ (IsAsked (of_four command reader requirement version)) (λ told a. asks_fits same a) from result h
   where
@@ -337,11 +358,12 @@ four_fits command reader requirement version is result h = same_answer _ (IsAske
         (subst (λ (x : List ℕ). ByReader r (λ f. IsFit Restricted f x version) told) (sym (same_word (of_four command reader requirement version) _ 2 e))
         (subst (λ (x : List ℕ). ByReader r (λ f. IsFit Restricted f q x) told) (sym (same_word (of_four command reader requirement version) _ 3 e)) a))
     from told (asks_fits_pre e a) = absurd (apart command 4 (codes "fits") (codes "fits-pre") is (same_word (of_four command reader requirement version) _ 0 e) refl)
+    from told (asks_best e a) = absurd (apart command 0 (codes "fits") (codes "best") is (same_word (of_four command reader requirement version) _ 0 e) refl)
     from told (asks_normal e a) = absurd (cc e)
     from told (asks_meet e a) = absurd (cc e)
     from told (asks_nothing n) = absurd (n (form_fits same))
 
-pub four_fits_pre : (command reader requirement version : List ℕ) → command ≡ codes "fits-pre" → (result : Result Answer Problem)
+four_fits_pre : (command reader requirement version : List ℕ) → command ≡ codes "fits-pre" → (result : Result Answer Problem)
     → IsAnswer (ByReader reader (λ f. IsFit Admitted f requirement version)) result → IsAnswer (IsAsked (command ∷ reader ∷ requirement ∷ version ∷ [])) result
 four_fits_pre command reader requirement version is result h = same_answer _ (IsAsked (of_four command reader requirement version)) (λ told a. asks_fits_pre same a) from result h
   where
@@ -354,9 +376,32 @@ four_fits_pre command reader requirement version is result h = same_answer _ (Is
         (subst (λ (x : List ℕ). ByReader r (λ f. IsFit Admitted f x version) told) (sym (same_word (of_four command reader requirement version) _ 2 e))
         (subst (λ (x : List ℕ). ByReader r (λ f. IsFit Admitted f q x) told) (sym (same_word (of_four command reader requirement version) _ 3 e)) a))
     from told (asks_fits e a) = absurd (apart command 4 (codes "fits-pre") (codes "fits") is (same_word (of_four command reader requirement version) _ 0 e) refl)
+    from told (asks_best e a) = absurd (apart command 0 (codes "fits-pre") (codes "best") is (same_word (of_four command reader requirement version) _ 0 e) refl)
     from told (asks_normal e a) = absurd (cc e)
     from told (asks_meet e a) = absurd (cc e)
     from told (asks_nothing n) = absurd (n (form_fits_pre same))
+
+pub versions_best : (command reader requirement : List ℕ) (versions : List (List ℕ)) → 0 < length versions → command ≡ codes "best" → (result : Result Answer Problem)
+    → IsAnswer (ByReader reader (λ f. IsBest f requirement versions)) result → IsAnswer (IsAsked (of_versions command reader requirement versions)) result
+versions_best command reader requirement [] some is result h = absurd (omega (arith, some))
+versions_best command reader requirement (version ∷ others) some is result h = same_answer _ (IsAsked words) (λ told a. asks_best same a) from result h
+  where
+    words : List (List ℕ)
+    words = of_versions command reader requirement (version ∷ others)
+
+    same : words ≡ codes "best" ∷ reader ∷ requirement ∷ version ∷ others
+    same = ap (λ (x : List ℕ). of_versions x reader requirement (version ∷ others)) is
+
+    from : (told : Told) → IsAsked words told → ByReader reader (λ f. IsBest f requirement (version ∷ others)) told
+    from told (asks_best {reader = r} {requirement = q} {version = v} {versions = vs} e a) =
+        subst (λ (x : List ℕ). ByReader x (λ f. IsBest f requirement (version ∷ others)) told) (sym (same_word words _ 1 e))
+        (subst (λ (x : List ℕ). ByReader r (λ f. IsBest f x (version ∷ others)) told) (sym (same_word words _ 2 e))
+        (subst (λ (x : List (List ℕ)). ByReader r (λ f. IsBest f q x) told) (sym (same_rest words _ e)) a))
+    from told (asks_fits e a) = absurd (apart command 0 (codes "best") (codes "fits") is (same_word words _ 0 e) refl)
+    from told (asks_fits_pre e a) = absurd (apart command 0 (codes "best") (codes "fits-pre") is (same_word words _ 0 e) refl)
+    from told (asks_normal e a) = absurd (apart command 0 (codes "best") (codes "normal") is (same_word words _ 0 e) refl)
+    from told (asks_meet e a) = absurd (apart command 0 (codes "best") (codes "meet") is (same_word words _ 0 e) refl)
+    from told (asks_nothing n) = absurd (n (form_best same))
 
 pub three_normal : (command reader requirement : List ℕ) → command ≡ codes "normal" → (result : Result Answer Problem)
     → IsAnswer (ByReader reader (λ f. IsNormal f requirement)) result → IsAnswer (IsAsked (command ∷ reader ∷ requirement ∷ [])) result
@@ -368,6 +413,7 @@ three_normal command reader requirement is result h = same_answer _ (IsAsked (of
     from : (told : Told) → IsAsked (of_three command reader requirement) told → ByReader reader (λ f. IsNormal f requirement) told
     from told (asks_fits e a) = absurd (cc e)
     from told (asks_fits_pre e a) = absurd (cc e)
+    from told (asks_best e a) = absurd (cc e)
     from told (asks_normal {reader = r} {requirement = q} e a) =
         subst (λ (x : List ℕ). ByReader x (λ f. IsNormal f requirement) told) (sym (same_word (of_three command reader requirement) _ 1 e))
         (subst (λ (x : List ℕ). ByReader r (λ f. IsNormal f x) told) (sym (same_word (of_three command reader requirement) _ 2 e)) a)
@@ -384,6 +430,7 @@ three_meet command one other is result h = same_answer _ (IsAsked (of_three comm
     from : (told : Told) → IsAsked (of_three command one other) told → IsMeeting one other told
     from told (asks_fits e a) = absurd (cc e)
     from told (asks_fits_pre e a) = absurd (cc e)
+    from told (asks_best e a) = absurd (cc e)
     from told (asks_normal e a) = absurd (apart command 0 (codes "meet") (codes "normal") is (same_word (of_three command one other) _ 0 e) refl)
     from told (asks_meet {one = a} {other = b} e m) =
         subst (λ (x : List ℕ). IsMeeting x other told) (sym (same_word (of_three command one other) _ 1 e)) (subst (λ (x : List ℕ). IsMeeting a x told) (sym (same_word (of_three command one other) _ 2 e)) m)
@@ -396,29 +443,76 @@ no_form words n = record { tells = inr (asks_nothing n); every = every; usage = 
     every : (told : Told) → IsAsked words told → (Usage ≡ OutOfMemory) ⊎ (Usage ≡ told)
     every told (asks_fits e a) = absurd (n (form_fits e))
     every told (asks_fits_pre e a) = absurd (n (form_fits_pre e))
+    every told (asks_best e a) = absurd (n (form_best e))
     every told (asks_normal e a) = absurd (n (form_normal e))
     every told (asks_meet e a) = absurd (n (form_meet e))
     every told (asks_nothing m) = inr refl
 
-pub four_others : (command reader requirement version : List ℕ) → (command ≡ codes "fits" → ⊥) → (command ≡ codes "fits-pre" → ⊥)
-    → IsForm (command ∷ reader ∷ requirement ∷ version ∷ []) → ⊥
-four_others command reader requirement version never neither (form_fits e) = never (same_word _ _ 0 e)
-four_others command reader requirement version never neither (form_fits_pre e) = neither (same_word _ _ 0 e)
-four_others command reader requirement version never neither (form_normal e) = cc e
-four_others command reader requirement version never neither (form_meet e) = cc e
+-- a command with versions that takes none
+pub versions_others : (command reader requirement : List ℕ) (versions : List (List ℕ)) → 0 < length versions → (command ≡ codes "fits" → ⊥)
+    → (command ≡ codes "fits-pre" → ⊥) → (command ≡ codes "best" → ⊥) → IsForm (of_versions command reader requirement versions) → ⊥
+versions_others command reader requirement versions some never neither nor (form_fits e) = never (same_word _ _ 0 e)
+versions_others command reader requirement versions some never neither nor (form_fits_pre e) = neither (same_word _ _ 0 e)
+versions_others command reader requirement versions some never neither nor (form_best e) = nor (same_word _ _ 0 e)
+versions_others command reader requirement versions some never neither nor (form_normal e) = none_left command reader requirement versions some e
+versions_others command reader requirement versions some never neither nor (form_meet e) = none_left command reader requirement versions some e
+
+-- a command with several versions that isn't `best`
+several_others : (command reader requirement : List ℕ) (versions : List (List ℕ)) → 1 < length versions → (command ≡ codes "best" → ⊥)
+    → IsForm (of_versions command reader requirement versions) → ⊥
+several_others command reader requirement versions more nor (form_fits e) = one_left command reader requirement versions more e
+several_others command reader requirement versions more nor (form_fits_pre e) = one_left command reader requirement versions more e
+several_others command reader requirement versions more nor (form_best e) = nor (same_word _ _ 0 e)
+several_others command reader requirement versions more nor (form_normal e) = none_left command reader requirement versions (omega (arith, more)) e
+several_others command reader requirement versions more nor (form_meet e) = none_left command reader requirement versions (omega (arith, more)) e
+
+module _ (command reader requirement : List ℕ) (versions : List (List ℕ)) (some : 0 < length versions) (result : Result Answer Problem) where
+  -- the usage is told to several versions where one is asked
+  told_several : (command ≡ codes "best" → ⊥) → 1 < length versions → result ≡ Err problem.Usage → IsAnswer (IsAsked (of_versions command reader requirement versions)) result
+  told_several nor more is = subst (IsAnswer (IsAsked (of_versions command reader requirement versions))) (sym is) (no_form _ (several_others command reader requirement versions more nor))
+
+  of_one : (Asked : List ℕ → Type 0) → ((version : List ℕ) → versions ≡ version ∷ [] → Asked version) → (1 < length versions → result ≡ Err problem.Usage)
+      → ((version : List ℕ) → versions ≡ version ∷ [] → Asked version → IsAnswer (IsAsked (of_versions command reader requirement versions)) result)
+      → (command ≡ codes "best" → ⊥) → IsAnswer (IsAsked (of_versions command reader requirement versions)) result
+  of_one Asked one several told nor = go versions refl
+    where
+      go : (vs : List (List ℕ)) → versions ≡ vs → IsAnswer (IsAsked (of_versions command reader requirement versions)) result
+      go [] e = absurd (omega (arith, some, ap (λ (x : List (List ℕ)). length x) e))
+      go (v ∷ []) e = told v e (one v e)
+      go (v ∷ w ∷ ws) e = told_several nor more (several more)
+        where
+          more : 1 < length versions
+          more = rw e (omega arith)
+
+  pub versions_fits : command ≡ codes "fits" → ((version : List ℕ) → versions ≡ version ∷ [] → IsAnswer (ByReader reader (λ f. IsFit Restricted f requirement version)) result)
+      → (1 < length versions → result ≡ Err problem.Usage) → IsAnswer (IsAsked (of_versions command reader requirement versions)) result
+  versions_fits is one several = of_one (λ version. IsAnswer (ByReader reader (λ f. IsFit Restricted f requirement version)) result) one several
+      (λ version e a. rw e (four_fits command reader requirement version is result a)) (λ best. apart command 0 (codes "fits") (codes "best") is best refl)
+
+  pub versions_fits_pre : command ≡ codes "fits-pre" → ((version : List ℕ) → versions ≡ version ∷ [] → IsAnswer (ByReader reader (λ f. IsFit Admitted f requirement version)) result)
+      → (1 < length versions → result ≡ Err problem.Usage) → IsAnswer (IsAsked (of_versions command reader requirement versions)) result
+  versions_fits_pre is one several = of_one (λ version. IsAnswer (ByReader reader (λ f. IsFit Admitted f requirement version)) result) one several
+      (λ version e a. rw e (four_fits_pre command reader requirement version is result a)) (λ best. apart command 0 (codes "fits-pre") (codes "best") is best refl)
 
 pub three_others : (command one other : List ℕ) → (command ≡ codes "normal" → ⊥) → (command ≡ codes "meet" → ⊥) → IsForm (command ∷ one ∷ other ∷ []) → ⊥
 three_others command one other never neither (form_fits e) = cc e
 three_others command one other never neither (form_fits_pre e) = cc e
+three_others command one other never neither (form_best e) = cc e
 three_others command one other never neither (form_normal e) = never (same_word _ _ 0 e)
 three_others command one other never neither (form_meet e) = neither (same_word _ _ 0 e)
 
--- words of which there are neither three nor four
-pub other_count : (words : List (List ℕ)) → (length words ≡ 3 → ⊥) → (length words ≡ 4 → ⊥) → IsForm words → ⊥
-other_count words three four (form_fits e) = four (same_length words _ e)
-other_count words three four (form_fits_pre e) = four (same_length words _ e)
-other_count words three four (form_normal e) = three (same_length words _ e)
-other_count words three four (form_meet e) = three (same_length words _ e)
+few_left : (words : List (List ℕ)) → length words < 3 → {a b c : List ℕ} {rest : List (List ℕ)} → words ≡ a ∷ b ∷ c ∷ rest → ⊥
+few_left words few {rest = rest} e =
+    let n : length words ≡ suc (suc (suc (length rest))) = same_length words _ e in
+    absurd (omega (arith, few, n))
+
+-- words of which there are fewer than three
+pub too_few : (words : List (List ℕ)) → length words < 3 → IsForm words → ⊥
+too_few words few (form_fits e) = few_left words few e
+too_few words few (form_fits_pre e) = few_left words few e
+too_few words few (form_best e) = few_left words few e
+too_few words few (form_normal e) = few_left words few e
+too_few words few (form_meet e) = few_left words few e
 
 -- ---- statuses
 
@@ -427,6 +521,7 @@ no_wanting answer.Yes e = cc e
 no_wanting answer.No e = cc e
 no_wanting (answer.Tag tag) e = cc e
 no_wanting (answer.Text text) e = cc e
+no_wanting answer.NoMatch e = cc e
 
 pub answer_status : (words : List (List ℕ)) (a : Answer) (s : ℕ) → IsAnswer (IsAsked words) (Ok a) → (s ≡ 6) ⊎ (s ≡ status_of (told_answer a)) → IsStatus words s
 answer_status words a s h is = go h.tells is

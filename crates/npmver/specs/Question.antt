@@ -1,15 +1,17 @@
 -- What the words of a question ask, and what is told to them.
-use Rattle.std.specs.Prelude.{◌≡◌, ◌⊎◌, ℕ, List, [], ◌∷◌, Bool, true, false, Result, Ok, Err, codes}
+use Rattle.std.specs.Prelude.{◌≡◌, ◌⊎◌, ℕ, List, [], ◌∷◌, Bool, true, false, None, Result, Ok, Err, codes}
+use Rattle.std.specs.List.{Contains, list_any}
 use Rattle.std.specs.Str.{trim}
-use Rattle.npmver.specs.Told.{Told, Refused, ATag, Text, Usage, OutOfMemory, status_of, told_answer, told_by}
+use Rattle.npmver.specs.Told.{Told, Refused, ATag, Text, NoMatch, Usage, OutOfMemory, IsProper, failure_of, status_of, told_answer, told_by}
 use Rattle.npmver.specs.declared.Answer.{Answer}
 use Rattle.npmver.specs.declared.Answer.TheVariants as answer
 use Rattle.npmver.specs.declared.Problem.{Problem}
 use Rattle.npmver.specs.declared.Reader.{Reader}
 use Rattle.npmver.specs.declared.Reader.TheVariants as reader
 use Rattle.semver_base.specs.Comparators.{Comparator}
-use Rattle.semver_base.specs.Meaning.{tree_means_with}
+use Rattle.semver_base.specs.Meaning.{tree_means, tree_means_with}
 use Rattle.semver_base.specs.VersionGrammar.{IsVersionOutcome}
+use Rattle.semver_base.specs.VersionText.{version_text}
 use Rattle.semver_base.specs.declared.failure.Refusal.{Refusal}
 use Rattle.semver_base.specs.declared.range.PreRelease.{PreRelease}
 use Rattle.semver_base.specs.declared.range.PreRelease.TheVariants.{Restricted, Admitted}
@@ -17,11 +19,12 @@ use Rattle.semver_base.specs.declared.version.Version.{Version}
 use Rattle.semver_req.specs.Outcome as outcome
 use Rattle.semver_req.specs.Outcome.{IsOutcome, Ranges, Tag, tree_ranges}
 use Rattle.semver_req.specs.Readers.{IsReading}
-use Rattle.semver_req.specs.Requirement.{inner_means_with, inner_overlap, inner_text}
+use Rattle.semver_req.specs.Requirement.{inner_means, inner_means_with, inner_overlap, inner_text}
 use Rattle.semver_req.specs.declared.common.values.Flavour.{Flavour}
 use Rattle.semver_req.specs.declared.common.values.Flavour.TheVariants.{Npm, Normal, Specifier}
 use Rattle.semver_req.specs.declared.range_set_or_tag.RangeSetOrTag.{RangeSetOrTag}
 use Rattle.semver_req.specs.declared.range_set_or_tag.RangeSetOrTag.TheVariants as inner
+use Rattle.deno_semver.specs.Resolve.{IsBestAt, greater}
 
 abbrev pub yes_or_no : Bool → Answer
 yes_or_no true = answer.Yes
@@ -48,6 +51,55 @@ pub data IsReader (name : List ℕ) : Flavour → Type 0 where
 abbrev pub NoReader : List ℕ → Type 0
 NoReader name = (f : Flavour) → IsReader name f → ⊥
 
+-- ---- versions
+
+-- each text stands for the version in its place, in this sense
+abbrev pub EachIs : (List ℕ → Version → Type 0) → List (List ℕ) → List Version → Type 0
+EachIs Is [] [] = Unit {0}
+EachIs Is [] (v ∷ vs) = ⊥
+EachIs Is (text ∷ texts) [] = ⊥
+EachIs Is (text ∷ texts) (v ∷ vs) = Is text v × EachIs Is texts vs
+
+-- the texts are these versions
+abbrev pub AreVersions : List (List ℕ) → List Version → Type 0
+AreVersions texts versions = EachIs (λ text v. IsVersionOutcome (trim text) (Ok v)) texts versions
+
+-- they have no other outcome
+pub record IsOnlyVersion (text : List ℕ) (v : Version) : Type 0 where
+  pub stands : IsVersionOutcome (trim text) (Ok v)
+  pub only : (outcome : Result Version Refusal) → IsVersionOutcome (trim text) outcome → outcome ≡ Ok v
+
+abbrev pub AreOnlyVersions : List (List ℕ) → List Version → Type 0
+AreOnlyVersions texts versions = EachIs IsOnlyVersion texts versions
+
+-- one of the texts is refused
+pub record HasRefused (texts : List (List ℕ)) : Type 0 where
+  pub text : List ℕ
+  pub fault : Refusal
+  pub is_one : Contains texts text
+  pub refused : IsVersionOutcome (trim text) (Err fault)
+
+-- why texts are refused: one of them is, and then they are no versions; or want of memory
+pub record IsVersionsRefusal (texts : List (List ℕ)) (problem : Problem) : Type 0 where
+  pub proper : IsProper problem
+  pub refused : (failure_of problem ≡ None) ⊎ HasRefused texts
+  pub wanting : (versions : List Version) → AreVersions texts versions → failure_of problem ≡ None
+
+-- the text of the greatest version that matches, of those that are equal the first; or that there is none
+pub data IsChoice (means : Version → Bool) (versions : List Version) : Told → Type 0 where
+  chosen : {place : ℕ} {v : Version} → IsBestAt greater means versions place v → IsChoice means versions (Text (version_text v))
+  none_chosen : list_any means versions ≡ false → IsChoice means versions NoMatch
+
+-- it is told, and nothing else is the choice
+pub record IsOnlyChoice (means : Version → Bool) (versions : List Version) (told : Told) : Type 0 where
+  pub is : IsChoice means versions told
+  pub only : (other : Told) → IsChoice means versions other → told ≡ other
+
+-- of ranges the choice is answered; a tag as it is
+abbrev pub IsChosen : RangeSetOrTag → List Version → Answer → Type 0
+IsChosen (inner.RangeSet set) versions given = IsOnlyChoice (λ v. inner_means (inner.RangeSet set) v) versions (told_answer given)
+IsChosen (inner.Tag tag) versions given = given ≡ answer.Tag tag
+
 -- ---- what each question is told
 
 -- does the version fit the requirement, with pre-releases restricted or admitted: yes exactly where its comparators mean the
@@ -58,6 +110,14 @@ pub data IsFit (flag : PreRelease) (f : Flavour) (requirement version : List ℕ
   a_tag : {name : List ℕ} {v : Version} → IsOutcome f requirement (Tag name) → IsVersionOutcome (trim version) (Ok v) → IsFit flag f requirement version (ATag name)
   no_requirement : IsOutcome f requirement outcome.Refused → IsFit flag f requirement version Refused
   no_version : {fault : Refusal} → IsVersionOutcome (trim version) (Err fault) → IsFit flag f requirement version Refused
+
+-- which is the greatest of the versions that the requirement's comparators mean, or that it is a tag
+pub data IsBest (f : Flavour) (requirement : List ℕ) (versions : List (List ℕ)) : Told → Type 0 where
+  best_of : {told : Told} (tree : List (List Comparator)) (vs : List Version) → IsOutcome f requirement (Ranges tree) → AreVersions versions vs
+      → IsChoice (λ v. tree_means (tree_ranges tree) v) vs told → IsBest f requirement versions told
+  best_tag : {name : List ℕ} (vs : List Version) → IsOutcome f requirement (Tag name) → AreVersions versions vs → IsBest f requirement versions (ATag name)
+  best_no_requirement : IsOutcome f requirement outcome.Refused → IsBest f requirement versions Refused
+  best_no_version : HasRefused versions → IsBest f requirement versions Refused
 
 -- what is the normal text of the requirement
 pub data IsNormal (f : Flavour) (requirement : List ℕ) : Told → Type 0 where
@@ -81,6 +141,7 @@ pub data ByReader (name : List ℕ) (Asked : Flavour → Told → Type 0) : Told
 pub data IsForm (words : List (List ℕ)) : Type 0 where
   form_fits : {reader requirement version : List ℕ} → words ≡ codes "fits" ∷ reader ∷ requirement ∷ version ∷ [] → IsForm words
   form_fits_pre : {reader requirement version : List ℕ} → words ≡ codes "fits-pre" ∷ reader ∷ requirement ∷ version ∷ [] → IsForm words
+  form_best : {reader requirement version : List ℕ} {versions : List (List ℕ)} → words ≡ codes "best" ∷ reader ∷ requirement ∷ version ∷ versions → IsForm words
   form_normal : {reader requirement : List ℕ} → words ≡ codes "normal" ∷ reader ∷ requirement ∷ [] → IsForm words
   form_meet : {one other : List ℕ} → words ≡ codes "meet" ∷ one ∷ other ∷ [] → IsForm words
 
@@ -90,6 +151,8 @@ pub data IsAsked (words : List (List ℕ)) : Told → Type 0 where
       → ByReader reader (λ f. IsFit Restricted f requirement version) told → IsAsked words told
   asks_fits_pre : {reader requirement version : List ℕ} {told : Told} → words ≡ codes "fits-pre" ∷ reader ∷ requirement ∷ version ∷ []
       → ByReader reader (λ f. IsFit Admitted f requirement version) told → IsAsked words told
+  asks_best : {reader requirement version : List ℕ} {versions : List (List ℕ)} {told : Told} → words ≡ codes "best" ∷ reader ∷ requirement ∷ version ∷ versions
+      → ByReader reader (λ f. IsBest f requirement (version ∷ versions)) told → IsAsked words told
   asks_normal : {reader requirement : List ℕ} {told : Told} → words ≡ codes "normal" ∷ reader ∷ requirement ∷ []
       → ByReader reader (λ f. IsNormal f requirement) told → IsAsked words told
   asks_meet : {one other : List ℕ} {told : Told} → words ≡ codes "meet" ∷ one ∷ other ∷ [] → IsMeeting one other told → IsAsked words told

@@ -12,6 +12,7 @@ pub data Told : Type 0 where
   No : Told
   ATag : List ℕ → Told
   Text : List ℕ → Told
+  NoMatch : Told
   Refused : Told
   Usage : Told
   OutOfMemory : Told
@@ -21,6 +22,7 @@ told_answer answer.Yes = Yes
 told_answer answer.No = No
 told_answer (answer.Tag tag) = ATag tag
 told_answer (answer.Text text) = Text (string_bytes text)
+told_answer answer.NoMatch = NoMatch
 
 abbrev pub told_problem : Problem → Told
 told_problem problem.Usage = Usage
@@ -53,6 +55,7 @@ status_of Yes = 0
 status_of No = 1
 status_of (ATag tag) = 2
 status_of (Text text) = 0
+status_of NoMatch = 1
 status_of Refused = 3
 status_of Usage = 4
 status_of OutOfMemory = 5

@@ -3,6 +3,8 @@
 //! `npmver fits READER REQ VERSION` prints `yes` (status 0) where the version matches the requirement, which is read by
 //! READER, `npm`, `normal` or `strict`, `no` (1) where it doesn't, and `tag NAME` (2) where the requirement is a tag.
 //! `npmver fits-pre READER REQ VERSION` does so with every pre-release that stands between the bounds.
+//! `npmver best READER REQ VERSION..` prints the greatest of the versions that match (0), as it would be installed, or
+//! `none` (1), or the tag (2); each version is read, also for a tag.
 //! `npmver normal READER REQ` prints the normal text of the requirement, or the tag (0). `npmver meet A B` prints `yes` (0)
 //! where two requirements overlap, both as npm reads them, and `no` (1) where they don't.
 //!
@@ -10,12 +12,15 @@
 //! `out of memory` (5). The status is 6 where standard output can't be written.
 #![tactic(auto)]
 
-ghost use Rattle.std.specs.Prelude.{◌≡◌, ◌⊎◌, ◌∷◌, [], IfErr, IfOk, MatchOption, None, map, string_bytes};
+ghost use Rattle.std.specs.Prelude.{◌≡◌, ◌⊎◌, ◌∷◌, ◌<◌, ℕ, List, [], length, Err, IfErr, IfOk, MatchOption, None, map, string_bytes};
+ghost use Rattle.semver_base.specs.VersionText.{version_text};
 ghost use Rattle.semver_req.specs.Readers.{IsReaderAnswer};
-ghost use Rattle.npmver.specs.Question.{ByReader, IsAnswer, IsAsked, IsFit, IsMeeting, IsNormal, IsReader, IsStatus, NoReader, allowance_of, flavour_of, yes_or_no};
+ghost use Rattle.npmver.specs.Question.{AreOnlyVersions, ByReader, IsAnswer, IsAsked, IsBest, IsChosen, IsFit, IsMeeting, IsNormal, IsReader, IsStatus, IsVersionsRefusal, NoReader, allowance_of, flavour_of, yes_or_no};
+ghost use Rattle.npmver.specs.declared.Problem.TheVariants as problem;
 ghost use Rattle.npmver.specs.Told.{IsProper, failure_of, problem_of, status_of, told_answer, told_problem};
 
 use deno_semver::npm::NpmVersionReqParseError;
+use deno_semver::resolve::max_satisfying;
 use deno_semver::{
     PackageTag, ParseFailure, PreRelease, Version, VersionParseError, VersionReq,
     VersionReqNormalizedParseError, VersionReqSpecifierParseError,
@@ -26,7 +31,7 @@ use std::io::{ErrorKind, Write};
 use std::process::ExitCode;
 use std::{env, io};
 
-const USAGE: &str = "usage: npmver fits|normal|meet ..";
+const USAGE: &str = "usage: npmver fits|fits-pre|normal|meet|best ..";
 
 /// The answer to a question.
 #[derive(Drop)]
@@ -35,8 +40,10 @@ enum Answer {
     No,
     /// The requirement is this tag.
     Tag(PackageTag),
-    /// The normal text of the requirement.
+    /// The normal text of the requirement, or that of a version.
     Text(String),
+    /// No version matches.
+    NoMatch,
 }
 
 impl Answer {
@@ -125,31 +132,34 @@ fn ask(alloc: Global, words: &[String]) -> Result<Answer, Problem>
     ensures { IsAnswer (IsAsked (map string_bytes words.now)) result }
 {
     match words {
-        [command, reader, requirement, version] => four(
+        [command, one, other] => three(alloc, command.as_str(), one.as_str(), other.as_str()),
+        [command, reader, requirement, versions @ ..] => of_versions(
             alloc,
             command.as_str(),
             reader.as_str(),
             requirement.as_str(),
-            version.as_str(),
+            versions,
         ),
-        [command, one, other] => three(alloc, command.as_str(), one.as_str(), other.as_str()),
         _ => Err(Problem::Usage),
     }
 }
 
-// Answers the question that four words ask.
-fn four(
+// Answers the question that is asked of a requirement and of versions, of which there are some.
+fn of_versions(
     alloc: Global,
     command: &str,
     reader: &str,
     requirement: &str,
-    version: &str,
+    versions: &[String],
 ) -> Result<Answer, Problem>
-    ensures { IsAnswer (IsAsked (command.now ∷ reader.now ∷ requirement.now ∷ version.now ∷ [])) result }
+    requires { 0 < length versions.now }
+    ensures { IsAnswer (IsAsked (command.now ∷ reader.now ∷ requirement.now
+        ∷ map string_bytes versions.now)) result }
 {
     match command {
-        "fits" => fits(alloc, reader, requirement, version, PreRelease::Restricted),
-        "fits-pre" => fits(alloc, reader, requirement, version, PreRelease::Admitted),
+        "fits" => fits_one(alloc, reader, requirement, versions, PreRelease::Restricted),
+        "fits-pre" => fits_one(alloc, reader, requirement, versions, PreRelease::Admitted),
+        "best" => best(alloc, reader, requirement, versions),
         _ => Err(Problem::Usage),
     }
 }
@@ -213,6 +223,16 @@ impl Reader {
         Ok(allowance(alloc, &requirement, &version, pre_release)?)
     }
 
+    // The greatest of the versions, each of which is read also where the requirement is a tag, that matches.
+    fn best(self, alloc: Global, requirement: &str, versions: &[String]) -> Result<Answer, Problem>
+        ensures { IsAnswer (IsBest (flavour_of self) requirement.now
+            (map string_bytes versions.now)) result }
+    {
+        let requirement = self.read(alloc, requirement)?;
+        let versions = versions_of(alloc, versions)?;
+        Ok(choice(alloc, &requirement, versions.as_slice())?)
+    }
+
     // The normal text of the requirement, or the tag.
     fn normal(self, alloc: Global, requirement: &str) -> Result<Answer, Problem>
         ensures { IsAnswer (IsNormal (flavour_of self) requirement.now) result }
@@ -237,6 +257,64 @@ fn allowance(
     }
 }
 
+// The versions that the texts are, read in their order.
+fn versions_of(alloc: Global, texts: &[String]) -> Result<Vec<Version>, Problem>
+    ensures read { IfOk result
+        (λ versions. AreOnlyVersions (map string_bytes texts.now) versions.items) }
+    ensures refused { IfErr result (IsVersionsRefusal (map string_bytes texts.now)) }
+{
+    let mut versions = Vec::new(alloc);
+    for text in texts {
+        let version = Version::parse_standard(alloc, text.as_str())?;
+        if versions.push(version).is_err() {
+            return Err(Problem::OutOfMemory);
+        }
+    }
+    Ok(versions)
+}
+
+// The text of the greatest version that matches, or that there is none, or which tag the requirement is.
+fn choice(
+    alloc: Global,
+    requirement: &VersionReq,
+    versions: &[Version],
+) -> Result<Answer, AllocError>
+    ensures { IfOk result (IsChosen requirement.now.inner versions.now) }
+{
+    if let Some(tag) = requirement.tag() {
+        return Ok(Answer::Tag(PackageTag::from_str(alloc, tag)?));
+    }
+    match max_satisfying(versions, requirement) {
+        Some(place) => Ok(Answer::Text(text_of(alloc, &versions[place])?)),
+        None => Ok(Answer::NoMatch),
+    }
+}
+
+// How the version is displayed.
+fn text_of(alloc: Global, version: &Version) -> Result<String, AllocError>
+    ensures { IfOk result (λ text. string_bytes text ≡ version_text version.now) }
+{
+    format!(in alloc; "{version}")
+}
+
+// Whether the one version matches the requirement that the reader of this name reads; of several the usage is told.
+fn fits_one(
+    alloc: Global,
+    reader: &str,
+    requirement: &str,
+    versions: &[String],
+    pre_release: PreRelease,
+) -> Result<Answer, Problem>
+    ensures one { (version : List ℕ) → map string_bytes versions.now ≡ version ∷ []
+        → IsAnswer (ByReader reader.now (λ f. IsFit pre_release f requirement.now version)) result }
+    ensures several { 1 < length versions.now → result ≡ Err problem.Usage }
+{
+    match versions {
+        [version] => fits(alloc, reader, requirement, version.as_str(), pre_release),
+        _ => Err(Problem::Usage),
+    }
+}
+
 // Whether the version matches the requirement that the reader of this name reads.
 fn fits(
     alloc: Global,
@@ -249,6 +327,22 @@ fn fits(
 {
     match Reader::named(reader) {
         Some(reader) => reader.fits(alloc, requirement, version, pre_release),
+        None => Err(Problem::Usage),
+    }
+}
+
+// The greatest of the versions that matches the requirement that the reader of this name reads.
+fn best(
+    alloc: Global,
+    reader: &str,
+    requirement: &str,
+    versions: &[String],
+) -> Result<Answer, Problem>
+    ensures { IsAnswer (ByReader reader.now
+        (λ f. IsBest f requirement.now (map string_bytes versions.now))) result }
+{
+    match Reader::named(reader) {
+        Some(reader) => reader.best(alloc, requirement, versions),
         None => Err(Problem::Usage),
     }
 }
@@ -281,6 +375,7 @@ fn print<O: Write>(out: &mut O, answer: &Answer) -> u8
         Answer::No => (writeln!(out, "no"), 1),
         Answer::Tag(tag) => (writeln!(out, "tag {tag}"), 2),
         Answer::Text(text) => (writeln!(out, "{text}"), 0),
+        Answer::NoMatch => (writeln!(out, "none"), 1),
     };
     match written {
         Ok(()) => status,

@@ -47,11 +47,11 @@ fits-pre;npm;1 - 2;2.5.0-x => 0 => yes
 fits-pre;npm;^1.2.3-alpha;1.2.3-beta => 0 => yes
 fits-pre;strict;latest;1.0.0 => 2 => tag latest
 fits;normal;latest;1.0 => 3 => refused: Missing patch version. Versions must be in the form MAJOR.MINOR.PATCH (ex. 1.0.0).
- => 4 => usage: npmver fits|normal|meet ..
-fits => 4 => usage: npmver fits|normal|meet ..
-fits;strict;1 => 4 => usage: npmver fits|normal|meet ..
-fits;strict;1;1.0.0;2.0.0 => 4 => usage: npmver fits|normal|meet ..
-fits;loose;1;1.0.0 => 4 => usage: npmver fits|normal|meet ..
+ => 4 => usage: npmver fits|fits-pre|normal|meet|best ..
+fits => 4 => usage: npmver fits|fits-pre|normal|meet|best ..
+fits;strict;1 => 4 => usage: npmver fits|fits-pre|normal|meet|best ..
+fits;strict;1;1.0.0;2.0.0 => 4 => usage: npmver fits|fits-pre|normal|meet|best ..
+fits;loose;1;1.0.0 => 4 => usage: npmver fits|fits-pre|normal|meet|best ..
 normal;npm;^1.0.0 >=1.2.3-alpha => 0 => ^1.2.3-alpha
 normal;npm;foo || bar => 0 => <0.0.0
 normal;npm;|| => 0 => *
@@ -68,13 +68,32 @@ meet;latest;latest => 0 => yes
 meet;latest;* => 1 => no
 meet;foo bar;>=1 1.0 => 3 => refused: Unexpected character.
 meet;1;foo bar => 3 => refused: Unexpected character.
-meet;1 => 4 => usage: npmver fits|normal|meet ..
-meet;strict;1;1.0.0 => 4 => usage: npmver fits|normal|meet ..
-normal;loose;1 => 4 => usage: npmver fits|normal|meet ..
-normal;npm => 4 => usage: npmver fits|normal|meet ..
-normal;npm;1;1 => 4 => usage: npmver fits|normal|meet ..
-best;npm;1 => 4 => usage: npmver fits|normal|meet ..
- fits;strict;1;1.0.0 => 4 => usage: npmver fits|normal|meet ..
+meet;1 => 4 => usage: npmver fits|fits-pre|normal|meet|best ..
+meet;strict;1;1.0.0 => 4 => usage: npmver fits|fits-pre|normal|meet|best ..
+normal;loose;1 => 4 => usage: npmver fits|fits-pre|normal|meet|best ..
+normal;npm => 4 => usage: npmver fits|fits-pre|normal|meet|best ..
+normal;npm;1;1 => 4 => usage: npmver fits|fits-pre|normal|meet|best ..
+best;npm;^1.0.0;1.2.0;1.10.0;2.0.0-rc1 => 0 => 1.10.0
+best;npm;^1.0.0-a;1.0.0-b;0.9.0 => 0 => 1.0.0-b
+best;npm;1;1.0.0+a;1.0.0+b => 0 => 1.0.0+a
+best;npm;1;1.0.0; = v1.0.0+b => 0 => 1.0.0
+best;npm;>2;1.0.0 => 1 => none
+best;npm;foo || bar;1.0.0 => 1 => none
+best;npm;*;1.2.3-foo => 1 => none
+best;normal;1 || 3;1.2.0;4.0.0;3.0.0;2.0.0 => 0 => 3.0.0
+best;strict;^1.2;1.2.0;1.2.1;1.3.0-a => 0 => 1.2.1
+best;strict;latest;1.0.0 => 2 => tag latest
+best;strict;latest;1.0.0;1.0 => 3 => refused: Missing patch version. Versions must be in the form MAJOR.MINOR.PATCH (ex. 1.0.0).
+best;npm;1;1.0.0;foo => 3 => refused: Unexpected character.
+best;npm;1;foo;1.0 => 3 => refused: Unexpected character.
+best;npm;1;1.0.0;1.0;foo => 3 => refused: Missing patch version. Versions must be in the form MAJOR.MINOR.PATCH (ex. 1.0.0).
+best;strict;;foo => 3 => refused: Empty version constraint.
+best;loose;1;1.0.0 => 4 => usage: npmver fits|fits-pre|normal|meet|best ..
+best;npm => 4 => usage: npmver fits|fits-pre|normal|meet|best ..
+best => 4 => usage: npmver fits|fits-pre|normal|meet|best ..
+fits-pre;npm;1;1.0.0;2.0.0 => 4 => usage: npmver fits|fits-pre|normal|meet|best ..
+best;npm;1 => 4 => usage: npmver fits|fits-pre|normal|meet|best ..
+ fits;strict;1;1.0.0 => 4 => usage: npmver fits|fits-pre|normal|meet|best ..
 ";
 
 // The words of a question; the empty text has none.

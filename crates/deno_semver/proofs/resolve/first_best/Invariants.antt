@@ -1,0 +1,7 @@
+use Rattle.std.proofs.Common.{take}
+use Rattle.semver_req.specs.Requirement.{inner_means_with}
+use Rattle.deno_semver.proofs.BestMatches.{IsKnown}
+use Rattle.deno_semver.proofs.resolve.first_best.Given as goal
+
+abbrev pub invariant-loop-place : goal.invariant-loop-place
+invariant-loop-place l = IsKnown l.end (λ v. inner_means_with l.pre_release l.requirement.inner v) (take l.place l.versions) l.best

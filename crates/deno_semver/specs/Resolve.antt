@@ -1,0 +1,34 @@
+-- Which of several versions is taken: of those that match, the first of the greatest or of the least by precedence. Sources:
+-- node-semver's `maxSatisfying` and `minSatisfying`.
+use Rattle.std.specs.Prelude.{◌≡◌, ◌++◌, ◌∷◌, ◌&&◌, ℕ, List, Bool, true, false, not, length, Option, Some, None}
+use Rattle.std.specs.List.{list_any}
+use Rattle.std.specs.Ordering.{is_lt}
+use Rattle.semver_base.specs.Precedence.{precedence_cmp}
+use Rattle.semver_base.specs.declared.version.Version.{Version}
+
+-- the one version is below the other by precedence
+abbrev pub lower : Version → Version → Bool
+lower one other = is_lt (precedence_cmp one other)
+
+-- it is above the other
+abbrev pub greater : Version → Version → Bool
+greater one other = lower other one
+
+-- the version stands at the place and matches; no match is better, and none before it is as good
+pub record IsBestAt (better : Version → Version → Bool) (means : Version → Bool) (versions : List Version) (place : ℕ) (version : Version) : Type 0 where
+  pub before : List Version
+  pub after : List Version
+  pub stands : versions ≡ before ++ version ∷ after
+  pub at_place : length before ≡ place
+  pub matches : means version ≡ true
+  pub best : list_any (λ other. means other && better other version) versions ≡ false
+  pub first : list_any (λ other. means other && not (better version other)) before ≡ false
+
+-- the place of the first of the best matches; none where no version matches
+abbrev pub IsBestMatch : (Version → Version → Bool) → (Version → Bool) → List Version → Option ℕ → Type 0
+IsBestMatch better means versions None = list_any means versions ≡ false
+IsBestMatch better means versions (Some place) = (version : Version) × IsBestAt better means versions place version
+
+-- no other answer is such a place
+abbrev pub IsOnlyMatch : (Version → Version → Bool) → (Version → Bool) → List Version → Option ℕ → Type 0
+IsOnlyMatch better means versions answer = (other : Option ℕ) → IsBestMatch better means versions other → other ≡ answer
