@@ -6,6 +6,7 @@ ghost use Rattle.std.specs.List.{list_any};
 ghost use Rattle.semver_base.specs.Clamp.{clamped, clamped_end, clamped_start, of_tied, stopped_at, AdmitsBoth, HaveCrossed, HoldsBoth, HoldsNothing, MatchesBoth, MeansBoth};
 ghost use Rattle.semver_base.specs.Meaning.{alternative_means, alternative_means_with, alternatives, bounds_hold, end_holds, everything, has_pre_of, is_unrestricted, nothing, start_holds, tree_means, tree_means_with};
 ghost use Rattle.semver_base.specs.Overlap.{ends_at_zero, overlap, some_overlap, starts_before, HoldNothingTogether, HoldsNoRelease, MatchNothingTogether};
+ghost use Rattle.semver_base.specs.declared.range.PreRelease.TheVariants.{Restricted};
 
 mod all;
 mod display;
@@ -381,10 +382,12 @@ impl VersionRange {
     }
 
     /// Whether the version matches: it stands between both bounds, and it is a release or one of the two bounds is a
-    /// pre-release of its three numbers (node-semver's rule about pre-releases).
+    /// pre-release of its three numbers (node-semver's rule about pre-releases). It is [`VersionRange::satisfies_with`] at
+    /// [`PreRelease::Restricted`].
     #[inline(always)]
     pub fn satisfies(&self, version: &Version) -> bool
-        ensures { result ≡ alternative_means (self.now ∷ []) version.now }
+        ensures value { result ≡ alternative_means (self.now ∷ []) version.now }
+        ensures restricted { result ≡ alternative_means_with Restricted (self.now ∷ []) version.now }
     {
         self.satisfies_with(version, PreRelease::Restricted)
     }
@@ -507,10 +510,11 @@ impl VersionRangeSet {
         self.has_match(version, pre_release)
     }
 
-    /// Whether the version matches some range.
+    /// Whether the version matches some range. It is [`VersionRangeSet::satisfies_with`] at [`PreRelease::Restricted`].
     #[inline(always)]
     pub fn satisfies(&self, version: &Version) -> bool
-        ensures { result ≡ tree_means (alternatives self.now.0) version.now }
+        ensures value { result ≡ tree_means (alternatives self.now.0) version.now }
+        ensures restricted { result ≡ tree_means_with Restricted (alternatives self.now.0) version.now }
     {
         self.satisfies_with(version, PreRelease::Restricted)
     }

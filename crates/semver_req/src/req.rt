@@ -3,6 +3,7 @@
 ghost use Rattle.std.specs.Prelude.{◌≡◌, ◌↔◌, IfErr, IfOk, IsTrue, None, Some, string_bytes};
 ghost use Rattle.std.specs.Bool.{OnFalse};
 ghost use Rattle.std.specs.Option.{option_copied};
+ghost use Rattle.semver_base.specs.declared.range.PreRelease.TheVariants.{Restricted};
 ghost use Rattle.semver_base.specs.declared.version.Version.{Version};
 ghost use Rattle.semver_req.specs.PieceReading.{IsCutRefusal};
 ghost use Rattle.semver_req.specs.Readers.{IsReaderAnswer};
@@ -172,10 +173,12 @@ impl VersionReq {
         }
     }
 
-    /// Whether the version matches some range of the requirement, which is no tag.
+    /// Whether the version matches some range of the requirement, which is no tag. It is [`VersionReq::matches_with`] at
+    /// [`PreRelease::Restricted`].
     pub fn matches(&self, version: &Version) -> bool
         requires { tag_of self.now.inner ≡ None }
-        ensures { result ≡ inner_means self.now.inner version.now }
+        ensures value { result ≡ inner_means self.now.inner version.now }
+        ensures restricted { result ≡ inner_means_with Restricted self.now.inner version.now }
     {
         self.matches_with(version, PreRelease::Restricted)
     }
