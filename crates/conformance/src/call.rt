@@ -35,7 +35,7 @@ pub enum Call {
 
 impl Call {
     /// All calls, in the order in which they are counted.
-    pub const ALL: [Call; 63] = [
+    pub const ALL: [Call; 68] = [
         Call::Values(ValueCall::Text),
         Call::Values(ValueCall::Items),
         Call::Values(ValueCall::Failure),
@@ -99,6 +99,11 @@ impl Call {
         Call::JsonForms(JsonCall::Json),
         Call::JsonForms(JsonCall::JsonOf),
         Call::JsonForms(JsonCall::Stored),
+        Call::Ranges(RangeCall::SatisfiesWith),
+        Call::Ranges(RangeCall::SetSatisfiesWith),
+        Call::Requirements(RequirementCall::MatchesWith),
+        Call::Requirements(RequirementCall::MaxSatisfying),
+        Call::Requirements(RequirementCall::MinSatisfying),
     ];
 
     /// The first word of a question that asks the call.
