@@ -56,6 +56,9 @@ requirement_call_name requirements.Error = codes "error"
 requirement_call_name requirements.Normal = codes "normal"
 requirement_call_name requirements.Reread = codes "reread"
 requirement_call_name requirements.Pinned = codes "pinned"
+requirement_call_name requirements.MatchesWith = codes "matches-with"
+requirement_call_name requirements.MaxSatisfying = codes "max-satisfying"
+requirement_call_name requirements.MinSatisfying = codes "min-satisfying"
 
 abbrev pub range_call_name : RangeCall → List ℕ
 range_call_name ranges.Satisfies = codes "satisfies"
@@ -68,6 +71,8 @@ range_call_name ranges.IsNone = codes "is-none"
 range_call_name ranges.IntersectsVersion = codes "intersects-version"
 range_call_name ranges.IntersectsRange = codes "intersects-range"
 range_call_name ranges.IntersectsSet = codes "intersects-set"
+range_call_name ranges.SatisfiesWith = codes "satisfies-with"
+range_call_name ranges.SetSatisfiesWith = codes "set-satisfies-with"
 
 abbrev pub partial_call_name : PartialCall → List ℕ
 partial_call_name partials.Partial = codes "partial"

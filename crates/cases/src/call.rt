@@ -37,7 +37,7 @@ pub enum Call {
 
 impl Call {
     /// All calls, in the order in which they are counted.
-    pub const ALL: [Call; 71] = [
+    pub const ALL: [Call; 76] = [
         Call::Values(ValueCall::Text),
         Call::Values(ValueCall::Items),
         Call::Values(ValueCall::Failure),
@@ -109,6 +109,11 @@ impl Call {
         Call::Least(LeastCall::IsEquivalent),
         Call::Least(LeastCall::SetIsSubset),
         Call::Least(LeastCall::SetIsEquivalent),
+        Call::Ranges(RangeCall::SatisfiesWith),
+        Call::Ranges(RangeCall::SetSatisfiesWith),
+        Call::Requirements(RequirementCall::MatchesWith),
+        Call::Requirements(RequirementCall::MaxSatisfying),
+        Call::Requirements(RequirementCall::MinSatisfying),
     ];
 
     /// The first word of a question that asks the call.

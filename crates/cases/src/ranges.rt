@@ -21,6 +21,8 @@ pub enum RangeCall {
     IntersectsVersion,
     IntersectsRange,
     IntersectsSet,
+    SatisfiesWith,
+    SetSatisfiesWith,
 }
 
 impl RangeCall {
@@ -39,6 +41,8 @@ impl RangeCall {
             RangeCall::IntersectsVersion => "intersects-version",
             RangeCall::IntersectsRange => "intersects-range",
             RangeCall::IntersectsSet => "intersects-set",
+            RangeCall::SatisfiesWith => "satisfies-with",
+            RangeCall::SetSatisfiesWith => "set-satisfies-with",
         }
     }
 
@@ -55,6 +59,8 @@ impl RangeCall {
             RangeCall::IntersectsVersion => intersects_version(alloc, words),
             RangeCall::IntersectsRange => intersects_range(alloc, words),
             RangeCall::IntersectsSet => intersects_set(alloc, words),
+            RangeCall::SatisfiesWith => satisfies_with(alloc, words),
+            RangeCall::SetSatisfiesWith => set_satisfies_with(alloc, words),
         }
     }
 }
@@ -146,4 +152,26 @@ fn intersects_set(alloc: Global, words: &[Word<'_>]) -> Answer {
     let (set, other) = pair(words)?;
     let other = shown::set_of(alloc, other)?;
     yes_or_no(alloc, shown::set_of(alloc, set)?.intersects_set(&other))
+}
+
+// `satisfies-with`, a range, a version and `restricted` or `admitted`: whether the version matches.
+fn satisfies_with(alloc: Global, words: &[Word<'_>]) -> Answer {
+    let [Some(range), Some(version), Some(word)] = words else {
+        return Err(Fault::Unreadable);
+    };
+    let pre_release = shown::pre_release_of(word)?;
+    let version = Version::parse_standard(alloc, version)?;
+    let range = shown::range_of(alloc, range)?;
+    yes_or_no(alloc, range.satisfies_with(&version, pre_release))
+}
+
+// `set-satisfies-with`, a set of ranges, a version and `restricted` or `admitted`: whether the version matches some range.
+fn set_satisfies_with(alloc: Global, words: &[Word<'_>]) -> Answer {
+    let [Some(set), Some(version), Some(word)] = words else {
+        return Err(Fault::Unreadable);
+    };
+    let pre_release = shown::pre_release_of(word)?;
+    let version = Version::parse_standard(alloc, version)?;
+    let set = shown::set_of(alloc, set)?;
+    yes_or_no(alloc, set.satisfies_with(&version, pre_release))
 }

@@ -6,7 +6,9 @@ ghost use Rattle.cases.specs.Call.{requirement_call_name};
 use crate::shown;
 use crate::words::{Answer, Fault, Word, answer, yes_or_no};
 use deno_semver::npm::{is_valid_npm_tag, parse_npm_version, parse_npm_version_req};
-use deno_semver::{IntoVersionReq, ParseFailure, RangeSetOrTag, Version, VersionReq};
+use deno_semver::{
+    IntoVersionReq, ParseFailure, PreRelease, RangeSetOrTag, Version, VersionReq, resolve,
+};
 use std::alloc::Global;
 
 /// The calls on requirements.
@@ -22,6 +24,9 @@ pub enum RequirementCall {
     Normal,
     Reread,
     Pinned,
+    MatchesWith,
+    MaxSatisfying,
+    MinSatisfying,
 }
 
 impl RequirementCall {
@@ -40,6 +45,9 @@ impl RequirementCall {
             RequirementCall::Normal => "normal",
             RequirementCall::Reread => "reread",
             RequirementCall::Pinned => "pinned",
+            RequirementCall::MatchesWith => "matches-with",
+            RequirementCall::MaxSatisfying => "max-satisfying",
+            RequirementCall::MinSatisfying => "min-satisfying",
         }
     }
 
@@ -56,6 +64,9 @@ impl RequirementCall {
             RequirementCall::Normal => normal(alloc, words),
             RequirementCall::Reread => reread(alloc, words),
             RequirementCall::Pinned => pinned(alloc, words),
+            RequirementCall::MatchesWith => matches_with(alloc, words),
+            RequirementCall::MaxSatisfying => max_satisfying(alloc, words),
+            RequirementCall::MinSatisfying => min_satisfying(alloc, words),
         }
     }
 }
@@ -189,6 +200,82 @@ fn pinned(alloc: Global, words: &[Word<'_>]) -> Answer {
             Some(matches),
         ],
     )
+}
+
+// `matches-with`, a reader, a requirement, a version and `restricted` or `admitted`: whether the version matches, or `tag`
+// and the tag.
+fn matches_with(alloc: Global, words: &[Word<'_>]) -> Answer {
+    let [Some(reader), Some(requirement), Some(version), Some(word)] = words else {
+        return Err(Fault::Unreadable);
+    };
+    let requirement = read(alloc, reader, requirement)?;
+    let version = Version::parse_standard(alloc, version)?;
+    let pre_release = shown::pre_release_of(word)?;
+    match requirement.tag() {
+        None => yes_or_no(alloc, requirement.matches_with(&version, pre_release)),
+        Some(tag) => answer(alloc, &[Some("tag"), Some(tag)]),
+    }
+}
+
+// The versions that the words are.
+fn versions_of(alloc: Global, words: &[Word<'_>]) -> Result<Vec<Version>, Fault> {
+    let mut versions = Vec::new(alloc);
+    for word in words {
+        let text = (*word).ok_or(Fault::Unreadable)?;
+        let version = Version::parse_standard(alloc, text)?;
+        if versions.push(version).is_err() {
+            return Err(Fault::OutOfMemory);
+        }
+    }
+    Ok(versions)
+}
+
+// A reader, a requirement, `restricted` or `admitted` and versions: the requirement and the others.
+fn choice_of(
+    alloc: Global,
+    words: &[Word<'_>],
+) -> Result<(VersionReq, PreRelease, Vec<Version>), Fault> {
+    let [Some(reader), Some(requirement), Some(word), versions @ ..] = words else {
+        return Err(Fault::Unreadable);
+    };
+    let requirement = read(alloc, reader, requirement)?;
+    let pre_release = shown::pre_release_of(word)?;
+    let versions = versions_of(alloc, versions)?;
+    Ok((requirement, pre_release, versions))
+}
+
+// The place, or `none`.
+fn place(alloc: Global, place: Option<usize>) -> Answer {
+    match place {
+        None => answer(alloc, &[Some("none")]),
+        Some(place) => answer(alloc, &[Some(format!(in alloc; "{place}")?.as_str())]),
+    }
+}
+
+// `max-satisfying`, a reader, a requirement, `restricted` or `admitted` and versions: the place of the greatest one that
+// matches, from 0, or `none`; or `tag` and the tag.
+fn max_satisfying(alloc: Global, words: &[Word<'_>]) -> Answer {
+    let (requirement, pre_release, versions) = choice_of(alloc, words)?;
+    match requirement.tag() {
+        None => place(
+            alloc,
+            resolve::max_satisfying_with(versions.as_slice(), &requirement, pre_release),
+        ),
+        Some(tag) => answer(alloc, &[Some("tag"), Some(tag)]),
+    }
+}
+
+// `min-satisfying`, a reader, a requirement, `restricted` or `admitted` and versions: the place of the least one that
+// matches, from 0, or `none`; or `tag` and the tag.
+fn min_satisfying(alloc: Global, words: &[Word<'_>]) -> Answer {
+    let (requirement, pre_release, versions) = choice_of(alloc, words)?;
+    match requirement.tag() {
+        None => place(
+            alloc,
+            resolve::min_satisfying_with(versions.as_slice(), &requirement, pre_release),
+        ),
+        Some(tag) => answer(alloc, &[Some("tag"), Some(tag)]),
+    }
 }
 
 // The first line of the error, and that of its source.

@@ -7,8 +7,8 @@
 
 use crate::words::Fault;
 use deno_semver::{
-    CowVec, Partial, RangeBound, SmallStackString, Version, VersionBoundKind, VersionRange,
-    VersionRangeSet, XRange,
+    CowVec, Partial, PreRelease, RangeBound, SmallStackString, Version, VersionBoundKind,
+    VersionRange, VersionRangeSet, XRange,
 };
 use std::alloc::{AllocError, Global};
 
@@ -191,4 +191,13 @@ pub fn set_of(alloc: Global, text: &str) -> Result<VersionRangeSet, Fault> {
         ranges.push(range_of(alloc, range)?)?;
     }
     Ok(VersionRangeSet(ranges))
+}
+
+/// Which pre-releases the word `restricted` or `admitted` stands for.
+pub fn pre_release_of(word: &str) -> Result<PreRelease, Fault> {
+    match word {
+        "restricted" => Ok(PreRelease::Restricted),
+        "admitted" => Ok(PreRelease::Admitted),
+        _ => Err(Fault::Unreadable),
+    }
 }
