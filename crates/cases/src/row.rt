@@ -5,6 +5,28 @@ use crate::words::{Fault, Word, Words, refused};
 use serde_json::Category;
 use std::alloc::{AllocError, Global};
 
+/// Why a line is no row that can be asked.
+#[derive(Clone, Copy, Debug, PartialEq, Eq)]
+pub enum Unreadable {
+    /// It is no JSON array of two arrays of texts or nulls.
+    NoRow,
+    /// Its first word is the name of no call.
+    NoCall,
+    /// Its words are none that the call takes.
+    OtherWords,
+}
+
+impl Unreadable {
+    /// The reason in words.
+    pub fn told(self) -> &'static str {
+        match self {
+            Unreadable::NoRow => "no JSON array of two arrays of texts or nulls",
+            Unreadable::NoCall => "no call has this name",
+            Unreadable::OtherWords => "the call takes other words",
+        }
+    }
+}
+
 /// A question and the answer that the table gives it.
 #[derive(Drop)]
 pub struct Row {
@@ -14,21 +36,21 @@ pub struct Row {
 }
 
 impl Row {
-    /// The row that a line is: a JSON array of the question's words and the answer's. A line that is no such array, or
-    /// whose first word is the name of no call, is none.
-    pub fn read(alloc: Global, line: &[u8]) -> Result<Option<Row>, AllocError> {
+    /// The row that a line is, a JSON array of the question's words and the answer's; or why it is none. It is an error only
+    /// where no memory is left.
+    pub fn read(alloc: Global, line: &[u8]) -> Result<Result<Row, Unreadable>, AllocError> {
         let (question, expected): (Words, Words) = match serde_json::from_slice(alloc, line) {
             Ok(words) => words,
             Err(e) if e.classify() == Category::Memory => return Err(AllocError),
-            Err(_) => return Ok(None),
+            Err(_) => return Ok(Err(Unreadable::NoRow)),
         };
         let Some(Some(name)) = question.first() else {
-            return Ok(None);
+            return Ok(Err(Unreadable::NoCall));
         };
         let Some(call) = Call::named(name.as_str()) else {
-            return Ok(None);
+            return Ok(Err(Unreadable::NoCall));
         };
-        Ok(Some(Row {
+        Ok(Ok(Row {
             call,
             question,
             expected,
@@ -54,12 +76,13 @@ impl Row {
             .collect(alloc)
     }
 
-    /// What the call answers, where its words are such as it takes. A refusal is an answer too.
-    pub fn ask(&self, alloc: Global) -> Result<Option<Words>, AllocError> {
+    /// What the call answers, or why it can't be asked. A refusal is an answer too. It is an error only where no memory is
+    /// left.
+    pub fn ask(&self, alloc: Global) -> Result<Result<Words, Unreadable>, AllocError> {
         match self.call.ask(alloc, self.words(alloc)?.as_slice()) {
-            Ok(answer) => Ok(Some(answer)),
-            Err(Fault::Refused(failure)) => Ok(Some(refused(alloc, &failure)?)),
-            Err(Fault::Unreadable) => Ok(None),
+            Ok(answer) => Ok(Ok(answer)),
+            Err(Fault::Refused(failure)) => Ok(Ok(refused(alloc, &failure)?)),
+            Err(Fault::Unreadable) => Ok(Err(Unreadable::OtherWords)),
             Err(Fault::OutOfMemory) => Err(AllocError),
         }
     }

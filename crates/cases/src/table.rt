@@ -1,7 +1,7 @@
 //! How a table is gone through.
 
-use crate::row::Row;
-use crate::tally::Tally;
+use crate::row::{Row, Unreadable};
+use crate::tally::{Count, Tally};
 use crate::words::{Words, is_met};
 use std::alloc::{AllocError, Global};
 use std::io;
@@ -34,11 +34,39 @@ impl From<io::Error> for Problem {
     }
 }
 
-/// Asks each row of the table, and prints on `out` the rows that differ and the counts. Answers whether none differs.
+// A line of the table.
+#[derive(Clone, Copy)]
+struct Line<'a> {
+    // Counted from 1.
+    number: usize,
+    text: &'a [u8],
+}
+
+impl Line<'_> {
+    // Headings and blank lines are no rows.
+    fn is_row(&self) -> bool {
+        !self.text.starts_with(b"#") && !self.text.trim_ascii().is_empty()
+    }
+
+    fn print<W: Write>(&self, out: &mut W) -> Result<(), Problem> {
+        let number = self.number;
+        write!(out, "line {number}: ")?;
+        out.write_all(self.text)?;
+        writeln!(out)?;
+        Ok(())
+    }
+}
+
+/// Asks each row of the table, and prints on `out` the rows that differ, the lines that can't be read, and the counts of the
+/// calls that were asked. Answers whether none differs.
 pub fn compare<W: Write>(alloc: Global, table: &[u8], out: &mut W) -> Result<bool, Problem> {
     let mut tally = Tally::new(alloc)?;
-    for line in table.split(|byte| *byte == b'\n') {
-        if is_row(line) {
+    for (place, text) in table.split(|byte| *byte == b'\n').enumerate() {
+        let line = Line {
+            number: place.saturating_add(1),
+            text,
+        };
+        if line.is_row() {
             compare_row(alloc, line, &mut tally, out)?;
         }
     }
@@ -46,61 +74,81 @@ pub fn compare<W: Write>(alloc: Global, table: &[u8], out: &mut W) -> Result<boo
     Ok(tally.agrees())
 }
 
-// Headings and blank lines are no rows.
-fn is_row(line: &[u8]) -> bool {
-    !line.starts_with(b"#") && !line.trim_ascii().is_empty()
-}
-
 fn compare_row<W: Write>(
     alloc: Global,
-    line: &[u8],
+    line: Line<'_>,
     tally: &mut Tally,
     out: &mut W,
 ) -> Result<(), Problem> {
-    let Some(row) = Row::read(alloc, line)? else {
-        tally.add_unreadable();
-        return print_unreadable(line, out);
+    let row = match Row::read(alloc, line.text)? {
+        Ok(row) => row,
+        Err(why) => {
+            tally.add_unreadable();
+            return print_unreadable(line, why, out);
+        }
     };
-    let Some(answer) = row.ask(alloc)? else {
-        tally.add(row.call(), true);
-        return print_unreadable(line, out);
-    };
+    match row.ask(alloc)? {
+        Ok(answer) => compare_answer(alloc, line, &row, &answer, tally, out),
+        Err(why) => {
+            tally.add(row.call(), true);
+            print_unreadable(line, why, out)
+        }
+    }
+}
+
+fn compare_answer<W: Write>(
+    alloc: Global,
+    line: Line<'_>,
+    row: &Row,
+    answer: &Words,
+    tally: &mut Tally,
+    out: &mut W,
+) -> Result<(), Problem> {
     let differs = !is_met(row.expected(), answer.as_slice());
     tally.add(row.call(), differs);
     if differs {
-        print_answer(alloc, line, &answer, out)?;
+        print_answer(alloc, line, answer, out)?;
     }
     Ok(())
 }
 
 fn print_answer<W: Write>(
     alloc: Global,
-    line: &[u8],
+    line: Line<'_>,
     answer: &Words,
     out: &mut W,
 ) -> Result<(), Problem> {
     let Ok(answer) = serde_json::to_string(alloc, answer) else {
         return Err(Problem::OutOfMemory);
     };
-    out.write_all(line)?;
-    writeln!(out, "\n    answered {answer}")?;
+    line.print(out)?;
+    writeln!(out, "    answered {answer}")?;
     Ok(())
 }
 
-fn print_unreadable<W: Write>(line: &[u8], out: &mut W) -> Result<(), Problem> {
-    out.write_all(line)?;
-    writeln!(out, "\n    can't be read")?;
+fn print_unreadable<W: Write>(line: Line<'_>, why: Unreadable, out: &mut W) -> Result<(), Problem> {
+    let why = why.told();
+    line.print(out)?;
+    writeln!(out, "    can't be read: {why}")?;
     Ok(())
 }
 
 fn print_counts<W: Write>(tally: &Tally, out: &mut W) -> Result<(), Problem> {
     for count in tally.counts() {
-        let name = count.call.name();
-        let asked = count.asked;
-        let differ = count.differ;
-        writeln!(out, "{name}: {asked} asked, {differ} differ")?;
+        print_count(count, out)?;
     }
     let unreadable = tally.unreadable();
     writeln!(out, "lines that are no row: {unreadable}")?;
+    Ok(())
+}
+
+// Nothing of a call that no row asked.
+fn print_count<W: Write>(count: &Count, out: &mut W) -> Result<(), Problem> {
+    let name = count.call.name();
+    let asked = count.asked;
+    let differ = count.differ;
+    if asked > 0 {
+        writeln!(out, "{name}: {asked} asked, {differ} differ")?;
+    }
     Ok(())
 }

@@ -2,8 +2,9 @@
 //!
 //! It reads the table from standard input. A line that begins with `#` is a heading, and a blank line is nothing; every
 //! other line is a row: a JSON array of two arrays of texts or nulls, the question and its answer. The first word of a
-//! question names the call. The program prints each row that has another answer, with that answer, and then for each
-//! call how many rows were asked and how many differ. A row that it can't read differs.
+//! question names the call. The program prints each row that has another answer, with that answer, each line that
+//! it can't read, with the reason, and then for each call that was asked how many rows were asked and how many differ. A row
+//! that it can't read differs.
 //!
 //! The status is 0 where nothing differs, else 1; it is 4 where standard input can't be read, 5 for want of memory and
 //! 6 where standard output can't be written.
