@@ -16,7 +16,7 @@ ghost use Rattle.deno_semver.specs.declared.package.kind.PackageKind.TheVariants
 ghost use Rattle.deno_semver.specs.declared.package.nv_reference.PackageNvReference.{PackageNvReference};
 ghost use Rattle.deno_semver.specs.declared.package.reference.PackageReqReference.{PackageReqReference};
 
-use super::normalized_export_name;
+use super::export::normalized_export_name;
 use crate::package::{
     PackageKind, PackageNv, PackageNvReference, PackageNvReferenceParseError, PackageReq,
     PackageReqReference, PackageReqReferenceParseError, SpecifierError, specifier_of,

@@ -9,9 +9,10 @@ ghost use Rattle.deno_semver.specs.NvReferenceReading.{IsWithRest};
 ghost use Rattle.deno_semver.specs.declared.package.nv_reference.PackageNvReference.{PackageNvReference};
 
 use super::cut::without_slash;
-use super::name_version::{memory, nv_at_front, unexpected};
+use super::kind::PackageKind;
+use super::name_version::{PackageNvParseError, memory, nv_at_front, unexpected};
 use super::sub_path::copied_sub_path;
-use super::{PackageKind, PackageNv, PackageNvParseError, PackageSubPath};
+use super::values::{PackageNv, PackageSubPath};
 use semver_base::lexical::after;
 use semver_base::string::{
     SmallStackString, StackString, StringAppendable, StringType, append_displayed,
