@@ -137,7 +137,8 @@ fn split_version(text: &str) -> (&str, &str)
 
 // The name and the version at the front.
 fn cut(text: &str) -> Option<Parts<'_>>
-    ensures { MatchOption result (IsNoNvText text.now) (λ p. IsNvText text.now p.name.now p.version.now p.rest.now) }
+    ensures { MatchOption result (IsNoNvText text.now)
+        (λ p. IsNvText text.now p.name.now p.version.now p.rest.now) }
 {
     let (name, rest) = split_name(text);
     let Some(rest) = after(rest, '@') else {

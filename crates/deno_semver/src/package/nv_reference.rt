@@ -103,7 +103,8 @@ impl PackageNvReference {
         ensures read { IfOk result (λ r. IsNvReferenceOutcome kind text.now (Ok r)) }
         ensures reads_back { IfOk result (NvReferenceReadsBack kind) }
         ensures refused { IfErr result (IsNvReferenceRefusal kind text.now) }
-        ensures answer { (outcome : Result PackageNvReference Refusal) → IsNvReferenceOutcome kind text.now outcome
+        ensures answer { (outcome : Result PackageNvReference Refusal)
+            → IsNvReferenceOutcome kind text.now outcome
             → IsNvReferenceAnswer text.now outcome result }
     {
         let Some(body) = kind.after_scheme(text) else {

@@ -37,7 +37,8 @@ impl PackageReq {
     pub fn from_str(alloc: Global, text: &str) -> Result<PackageReq, PackageReqParseError>
         ensures read { IfOk result (λ req. IsPackageOutcome Specifier text.now (Ok req)) }
         ensures refused { IfErr result (IsPackageRefusal Specifier text.now) }
-        ensures answer { (outcome : Result PackageReq Fault) → IsPackageOutcome Specifier text.now outcome
+        ensures answer { (outcome : Result PackageReq Fault)
+            → IsPackageOutcome Specifier text.now outcome
             → IsPackageAnswer Specifier text.now outcome result }
     {
         package_req(alloc, text, Flavour::Specifier)
@@ -48,7 +49,8 @@ impl PackageReq {
     pub fn from_str_loose(alloc: Global, text: &str) -> Result<PackageReq, PackageReqParseError>
         ensures read { IfOk result (λ req. IsPackageOutcome Npm text.now (Ok req)) }
         ensures refused { IfErr result (IsPackageRefusal Npm text.now) }
-        ensures answer { (outcome : Result PackageReq Fault) → IsPackageOutcome Npm text.now outcome
+        ensures answer { (outcome : Result PackageReq Fault)
+            → IsPackageOutcome Npm text.now outcome
             → IsPackageAnswer Npm text.now outcome result }
     {
         package_req(alloc, text, Flavour::Npm)
@@ -62,7 +64,8 @@ impl PackageReq {
     ) -> Result<PackageReq, PackageReqParseError>
         ensures read { IfOk result (λ req. IsPackageOutcome Normal text.now (Ok req)) }
         ensures refused { IfErr result (IsPackageRefusal Normal text.now) }
-        ensures answer { (outcome : Result PackageReq Fault) → IsPackageOutcome Normal text.now outcome
+        ensures answer { (outcome : Result PackageReq Fault)
+            → IsPackageOutcome Normal text.now outcome
             → IsPackageAnswer Normal text.now outcome result }
     {
         package_req(alloc, text, Flavour::Normal)
