@@ -9,7 +9,7 @@ use Rattle.deno_semver.specs.PackageOutcome.{IsPackageOutcome}
 use Rattle.deno_semver.specs.Stored.{IsReadFor, IsSettledReq}
 use Rattle.deno_semver.specs.declared.json.error.JsonError.{JsonError}
 use Rattle.deno_semver.specs.declared.json.error.JsonError.TheVariants as error
-use Rattle.deno_semver.specs.declared.package.requirement.PackageReq.{PackageReq}
+use Rattle.deno_semver.specs.declared.package.values.PackageReq.{PackageReq}
 
 -- the value is so, want of memory aside
 abbrev pub Locks : {T : Type 0} → (T → Type 0) → Result T JsonError → Type 0

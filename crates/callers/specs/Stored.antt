@@ -1,5 +1,5 @@
 -- What is read again of a requirement that was stored as its normal text.
-use Rattle.std.specs.Prelude.{◌≡◌, ℕ, List, true, None, Result, MatchResult}
+use Rattle.std.specs.Prelude.{◌≡◌, ℕ, Bool, List, true, None, Result, MatchResult}
 use Rattle.std.specs.List.{list_all}
 use Rattle.callers.specs.Allowance.{yes_or_no}
 use Rattle.callers.specs.declared.requirements.Allowance.{Allowance}
@@ -34,6 +34,10 @@ TagOfText f text Says = (name : List ℕ) → IsOutcome f text (Tag name) → Sa
 -- the value is so, want of memory aside
 abbrev pub Answers : {T E : Type 0} → (E → Failure) → (T → Type 0) → Result T E → Type 0
 Answers source Says result = MatchResult result Says (λ e. source e ≡ None)
+
+-- the answer is yes, want of memory aside
+abbrev pub AnswersYes : {E : Type 0} → (E → Failure) → Result Bool E → Type 0
+AnswersYes source = Answers source (λ yes. yes ≡ true)
 
 -- what is read again of the text of ranges
 pub record IsReadAgain (ranges : List VersionRange) (read : RangeSetOrTag) : Type 0 where

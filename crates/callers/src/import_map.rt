@@ -35,7 +35,8 @@ fn named(
 ) -> Result<Import, AllocError>
     ensures name { IfOk result (λ i. i.name ≡ req.now.name) }
     ensures export { IfOk result (λ i. i.export ≡ cow_str_bytes export.entry) }
-    ensures allowance { IfOk result (λ i. i.allowance ≡ allowance_of req.now.version_req.inner version.now) }
+    ensures allowance { IfOk result
+        (λ i. i.allowance ≡ allowance_of req.now.version_req.inner version.now) }
 {
     Ok(Import {
         name: req.name.copy()?,
@@ -75,7 +76,8 @@ pub fn imported_from_jsr(
     version: &Version,
 ) -> Result<Import, PackageReqReferenceParseError>
     ensures told { IfOk result (IsImportOf Jsr specifier.now version.now) }
-    ensures answer { (reference : PackageReqReference) → IsReferenceOutcome Jsr specifier.now (Ok reference)
+    ensures answer { (reference : PackageReqReference)
+        → IsReferenceOutcome Jsr specifier.now (Ok reference)
         → MatchResult result (IsImport reference version.now) (λ e. unboxed e ≡ Memory) }
     ensures refusal { IfErr result (IsReferenceRefusal Jsr specifier.now) }
 {
@@ -96,7 +98,8 @@ pub fn imported_from_npm(
     version: &Version,
 ) -> Result<Import, PackageReqReferenceParseError>
     ensures told { IfOk result (IsImportOf Npm specifier.now version.now) }
-    ensures answer { (reference : PackageReqReference) → IsReferenceOutcome Npm specifier.now (Ok reference)
+    ensures answer { (reference : PackageReqReference)
+        → IsReferenceOutcome Npm specifier.now (Ok reference)
         → MatchResult result (IsImport reference version.now) (λ e. unboxed e ≡ Memory) }
     ensures refusal { IfErr result (IsReferenceRefusal Npm specifier.now) }
 {

@@ -17,7 +17,8 @@ pub fn have_no_common_version(one: &VersionReq, other: &VersionReq) -> bool
 pub fn is_allowed_by_both(one: &VersionReq, other: &VersionReq, version: &Version) -> bool
     requires one_is_no_tag { tag_of one.now.inner ≡ None }
     requires other_is_no_tag { tag_of other.now.inner ≡ None }
-    ensures { result ≡ (inner_means one.now.inner version.now && inner_means other.now.inner version.now) }
+    ensures { result
+        ≡ (inner_means one.now.inner version.now && inner_means other.now.inner version.now) }
 {
     if have_no_common_version(one, other) {
         return false;

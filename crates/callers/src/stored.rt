@@ -8,7 +8,7 @@ ghost use Rattle.std.specs.Prelude.{◌≡◌, true};
 ghost use Rattle.std.specs.List.{list_all};
 ghost use Rattle.semver_req.specs.Rereading.{is_orderly, keeps_meaning};
 ghost use Rattle.semver_req.specs.declared.common.values.Flavour.TheVariants.{Npm, Specifier};
-ghost use Rattle.callers.specs.Stored.{AllowsAsBefore, AllowsAsItsText, Answers, IsReread, OfRanges, OfTag, TagOfText};
+ghost use Rattle.callers.specs.Stored.{AllowsAsBefore, AllowsAsItsText, AnswersYes, IsReread, OfRanges, OfTag, TagOfText};
 
 use crate::requirements::{Allowance, allowance_by};
 use deno_semver::npm::NpmVersionReqParseError;
@@ -97,8 +97,9 @@ pub fn is_read_back_equal(
     alloc: Global,
     requirement: &VersionReq,
 ) -> Result<bool, NpmVersionReqParseError>
-    ensures { OfRanges (λ ranges. list_all is_orderly ranges ≡ true → list_all keeps_meaning ranges ≡ true
-        → Answers (λ e. e.source) (λ is_equal. is_equal ≡ true) result) requirement.now.inner }
+    ensures { OfRanges (λ ranges. list_all is_orderly ranges ≡ true
+        → list_all keeps_meaning ranges ≡ true
+        → AnswersYes (λ e. e.source) result) requirement.now.inner }
 {
     let again = read_again_by_npm(alloc, requirement)?;
     Ok(equal_requirements(&again, requirement))
@@ -109,7 +110,7 @@ pub fn is_settled_once_read_back(
     alloc: Global,
     requirement: &VersionReq,
 ) -> Result<bool, NpmVersionReqParseError>
-    ensures { OfRanges (λ ranges. Answers (λ e. e.source) (λ is_equal. is_equal ≡ true) result) requirement.now.inner }
+    ensures { OfRanges (λ ranges. AnswersYes (λ e. e.source) result) requirement.now.inner }
 {
     let once = read_again_by_npm(alloc, requirement)?;
     let twice = read_again_by_npm(alloc, &once)?;
@@ -122,7 +123,7 @@ pub fn is_tag_read_back(
     alloc: Global,
     requirement: &VersionReq,
 ) -> Result<bool, VersionReqNormalizedParseError>
-    ensures { OfTag (Answers (λ e. e.source) (λ is_equal. is_equal ≡ true) result) requirement.now.inner }
+    ensures { OfTag (AnswersYes (λ e. e.source) result) requirement.now.inner }
 {
     let stored = requirement.to_string_normalized(alloc)?;
     let again = VersionReq::parse_from_normalized(alloc, stored.as_str())?;
@@ -132,7 +133,7 @@ pub fn is_tag_read_back(
 /// Is the tag that npm's reader makes of a text equal to what is read again of it by the normalized reader? Yes, whatever
 /// tag it is.
 pub fn is_npm_tag_read_back(alloc: Global, text: &str) -> Result<bool, ParseFailure>
-    ensures { TagOfText Npm text.now (Answers (λ failure. failure) (λ is_equal. is_equal ≡ true) result) }
+    ensures { TagOfText Npm text.now (AnswersYes (λ failure. failure) result) }
 {
     let requirement = VersionReq::parse_from_npm(alloc, text)?;
     Ok(is_tag_read_back(alloc, &requirement)?)
@@ -141,7 +142,7 @@ pub fn is_npm_tag_read_back(alloc: Global, text: &str) -> Result<bool, ParseFail
 /// Is the tag that the strict reader makes of a text equal to what is read again of it by the normalized reader? Yes,
 /// whatever tag it is.
 pub fn is_specifier_tag_read_back(alloc: Global, text: &str) -> Result<bool, ParseFailure>
-    ensures { TagOfText Specifier text.now (Answers (λ failure. failure) (λ is_equal. is_equal ≡ true) result) }
+    ensures { TagOfText Specifier text.now (AnswersYes (λ failure. failure) result) }
 {
     let requirement = VersionReq::parse_from_specifier(alloc, text)?;
     Ok(is_tag_read_back(alloc, &requirement)?)

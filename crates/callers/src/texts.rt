@@ -27,7 +27,8 @@ pub fn named<T: StringType, A: StringAppendable>(
 ///
 /// It is an error only where no memory is left.
 pub fn named_version(alloc: Global, name: &str, version: &Version) -> Result<String, AllocError>
-    ensures { IfOk result (λ text. string_bytes text ≡ name.now ++ (64 ∷ version_text version.now)) }
+    ensures { IfOk result
+        (λ text. string_bytes text ≡ name.now ++ (64 ∷ version_text version.now)) }
 {
     named::<String, Version>(alloc, name, version)
 }

@@ -61,7 +61,8 @@ pub fn least_for_all_by_npm(
     own: &str,
     others: &[String],
 ) -> Result<Suitable, ParseFailure>
-    ensures { IsAnswerOfTexts answer.Tag IsLeastOfTrees Npm (own.now ∷ map string_bytes others.now) result }
+    ensures { IsAnswerOfTexts answer.Tag IsLeastOfTrees Npm
+        (own.now ∷ map string_bytes others.now) result }
 {
     texts_have_one_outcome();
     let own = VersionReq::parse_from_npm(alloc, own)?;

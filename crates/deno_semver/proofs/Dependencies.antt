@@ -12,7 +12,7 @@ use Rattle.deno_semver.specs.declared.jsr.dependency.JsrDepPackageReqParseError.
 use Rattle.deno_semver.specs.declared.package.errors.PackageReqParseError.{PackageReqParseError}
 use Rattle.deno_semver.specs.declared.package.kind.PackageKind.{PackageKind}
 use Rattle.deno_semver.specs.declared.package.kind.PackageKind.TheVariants.{Jsr, Npm}
-use Rattle.deno_semver.specs.declared.package.requirement.PackageReq.{PackageReq}
+use Rattle.deno_semver.specs.declared.package.values.PackageReq.{PackageReq}
 use Rattle.deno_semver.proofs.References.{cancel}
 
 -- ---- one scheme

@@ -15,10 +15,10 @@ use Rattle.deno_semver.specs.ReqOrderLaws.{req_eq}
 use Rattle.deno_semver.specs.declared.jsr.dependency.JsrDepPackageReq.{JsrDepPackageReq}
 use Rattle.deno_semver.specs.declared.package.kind.PackageKind.{PackageKind}
 use Rattle.deno_semver.specs.declared.package.kind.PackageKind.TheVariants.{Jsr, Npm}
-use Rattle.deno_semver.specs.declared.package.name_version.PackageNv.{PackageNv}
+use Rattle.deno_semver.specs.declared.package.values.PackageNv.{PackageNv}
 use Rattle.deno_semver.specs.declared.package.nv_reference.PackageNvReference.{PackageNvReference}
 use Rattle.deno_semver.specs.declared.package.reference.PackageReqReference.{PackageReqReference}
-use Rattle.deno_semver.specs.declared.package.requirement.PackageReq.{PackageReq}
+use Rattle.deno_semver.specs.declared.package.values.PackageReq.{PackageReq}
 
 pub path_told : (x y : Option (List ℕ)) → Decides (option_eq text_eq x y) (x ≡ y)
 path_told None None = (λ e. refl, λ e. refl)

@@ -2,6 +2,7 @@ pub mod BestMatches
 pub mod Dependencies
 pub mod Equality
 pub mod ExportNames
+pub mod InnerReading
 pub mod JsonReading
 pub mod NameAndVersion
 pub mod NvReferences

@@ -16,7 +16,7 @@ use Rattle.semver_base.proofs.Numbers.{cuts_run}
 use Rattle.deno_semver.specs.Cuts.{is_not}
 use Rattle.deno_semver.specs.NameAndVersion.{IsNoNvText, IsNvAnswer, IsNvFront, IsNvMemory, IsNvName, IsNvOutcome, IsNvRefusal, IsNvText, TellsNvFault, is_bad, is_bad_version, is_followed, is_front, is_nv, is_uncut, is_version_byte}
 use Rattle.deno_semver.specs.NameAndVersionSteps.{IsFrontAnswer, IsFrontRefusal, IsNameCut, TellsFailure, name_len}
-use Rattle.deno_semver.specs.declared.package.name_version.PackageNv.{PackageNv}
+use Rattle.deno_semver.specs.declared.package.values.PackageNv.{PackageNv}
 use Rattle.deno_semver.specs.declared.package.name_version.PackageNvParseError.{PackageNvParseError}
 use Rattle.deno_semver.proofs.Runs.{cut_before, run_one, run_stop}
 

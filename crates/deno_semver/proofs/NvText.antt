@@ -16,7 +16,7 @@ use Rattle.semver_base.proofs.Qualifiers.{pre_made}
 use Rattle.semver_base.proofs.ReadVersions.{read_writable}
 use Rattle.semver_base.proofs.WrittenVersions.{version_joined}
 use Rattle.deno_semver.specs.NameAndVersion.{IsNvFront, IsNvName, IsNvText, NvReadsBack, is_front, is_nv, is_version_byte}
-use Rattle.deno_semver.specs.declared.package.name_version.PackageNv.{PackageNv}
+use Rattle.deno_semver.specs.declared.package.values.PackageNv.{PackageNv}
 
 digit_passes : (b : ℕ) → is_ascii_digit b ≡ true → is_version_byte b ≡ true
 digit_passes b h = grind (arith, nat_tests)

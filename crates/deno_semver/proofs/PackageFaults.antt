@@ -14,7 +14,7 @@ use Rattle.deno_semver.specs.PackageText.{IsPackageText, IsPathPart, PackagePart
 use Rattle.deno_semver.specs.declared.package.errors.PackageReqParseError.{PackageReqParseError}
 use Rattle.deno_semver.specs.declared.package.errors.PackageReqPartsParseError.{PackageReqPartsParseError}
 use Rattle.deno_semver.specs.declared.package.errors.PackageReqPartsParseError.TheVariants as parts
-use Rattle.deno_semver.specs.declared.package.requirement.PackageReq.{PackageReq}
+use Rattle.deno_semver.specs.declared.package.values.PackageReq.{PackageReq}
 use Rattle.deno_semver.proofs.PackageText.{no_alone, no_part, package_one, part_or_alone}
 
 -- ---- the fault that an error tells

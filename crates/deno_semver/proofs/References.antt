@@ -11,7 +11,7 @@ use Rattle.deno_semver.specs.declared.package.errors.PackageReqPartsParseError.{
 use Rattle.deno_semver.specs.declared.package.kind.PackageKind.{PackageKind}
 use Rattle.deno_semver.specs.declared.package.reference.PackageReqReference.{PackageReqReference}
 use Rattle.deno_semver.specs.declared.package.reference_errors.PackageReqReferenceParseError.{PackageReqReferenceParseError}
-use Rattle.deno_semver.specs.declared.package.requirement.PackageReq.{PackageReq}
+use Rattle.deno_semver.specs.declared.package.values.PackageReq.{PackageReq}
 use Rattle.deno_semver.proofs.PackageFaults.{fault_one, read_or_refused, same_pair, version_at, version_one}
 use Rattle.deno_semver.proofs.PackageText.{last_one, no_alone, no_part, package_one}
 

@@ -12,7 +12,7 @@ use Rattle.deno_semver.specs.Stored.{IsSettledDependency, IsSettledReq, IsStored
 use Rattle.deno_semver.specs.declared.jsr.dependency.JsrDepPackageReq.{JsrDepPackageReq}
 use Rattle.deno_semver.specs.declared.package.kind.PackageKind.{PackageKind}
 use Rattle.deno_semver.specs.declared.package.kind.PackageKind.TheVariants as registry
-use Rattle.deno_semver.specs.declared.package.requirement.PackageReq.{PackageReq}
+use Rattle.deno_semver.specs.declared.package.values.PackageReq.{PackageReq}
 use Rattle.deno_semver.proofs.StoredReqs.{after_ascii, stored_loose}
 
 abbrev of_kind : PackageKind → PackageReq → JsrDepPackageReq

@@ -36,7 +36,7 @@ use Rattle.deno_semver.specs.PackageOutcome.{IsPackageOutcome, IsReadReq, IsVers
 use Rattle.deno_semver.specs.PackageText.{IsAfterScope, IsNamePart, IsPackageText, IsPathPart, PackageParts, without_slash}
 use Rattle.deno_semver.specs.RequirementText.{normal_req_text}
 use Rattle.deno_semver.specs.Stored.{IsReadFor, IsSettledReq, IsStoredReq}
-use Rattle.deno_semver.specs.declared.package.requirement.PackageReq.{PackageReq}
+use Rattle.deno_semver.specs.declared.package.values.PackageReq.{PackageReq}
 use Rattle.deno_semver.proofs.StoredNames.{IsReadName, cut_again}
 
 -- ---- the bytes of a normal text

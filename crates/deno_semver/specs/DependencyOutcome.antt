@@ -13,7 +13,7 @@ use Rattle.deno_semver.specs.declared.jsr.dependency.JsrDepPackageReqParseError.
 use Rattle.deno_semver.specs.declared.package.errors.PackageReqParseError.{PackageReqParseError}
 use Rattle.deno_semver.specs.declared.package.errors.PackageReqPartsParseError.TheVariants as parts
 use Rattle.deno_semver.specs.declared.package.kind.PackageKind.{PackageKind}
-use Rattle.deno_semver.specs.declared.package.requirement.PackageReq.{PackageReq}
+use Rattle.deno_semver.specs.declared.package.values.PackageReq.{PackageReq}
 
 -- why a text is refused
 pub data DependencyFault : Type 0 where

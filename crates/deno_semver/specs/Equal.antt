@@ -3,7 +3,7 @@
 use Rattle.std.specs.Prelude.{◌≡◌}
 use Rattle.deno_semver.specs.declared.jsr.dependency.JsrDepPackageReq.{JsrDepPackageReq}
 use Rattle.deno_semver.specs.declared.package.reference.PackageReqReference.{PackageReqReference}
-use Rattle.deno_semver.specs.declared.package.requirement.PackageReq.{PackageReq}
+use Rattle.deno_semver.specs.declared.package.values.PackageReq.{PackageReq}
 
 -- the names are the same, and the requirements of versions stand for the same
 abbrev pub AreEqualReqs : PackageReq → PackageReq → Type 0

@@ -7,7 +7,7 @@ use Rattle.semver_base.specs.Grammar.{Stops}
 use Rattle.deno_semver.specs.Cuts.{is_not}
 use Rattle.deno_semver.specs.NameAndVersion.{IsNvFront, IsNvMemory, IsNvName, TellsNvFault}
 use Rattle.semver_base.specs.declared.failure.Refusal.{Refusal}
-use Rattle.deno_semver.specs.declared.package.name_version.PackageNv.{PackageNv}
+use Rattle.deno_semver.specs.declared.package.values.PackageNv.{PackageNv}
 use Rattle.deno_semver.specs.declared.package.name_version.PackageNvParseError.{PackageNvParseError}
 
 -- how many bytes the name at the front has

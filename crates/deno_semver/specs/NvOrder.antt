@@ -7,7 +7,7 @@ use Rattle.std.specs.declared.cmp.Ordering.{Ordering}
 use Rattle.semver_base.specs.Precedence.{version_cmp}
 use Rattle.semver_base.specs.PrecedenceLaws.{version_eq, version_ties, version_total}
 use Rattle.deno_semver.specs.Ties.{then_ties}
-use Rattle.deno_semver.specs.declared.package.name_version.PackageNv.{PackageNv}
+use Rattle.deno_semver.specs.declared.package.values.PackageNv.{PackageNv}
 
 -- names by bytes, and then versions
 abbrev pub nv_cmp : PackageNv → PackageNv → Ordering

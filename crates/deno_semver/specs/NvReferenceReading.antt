@@ -4,7 +4,7 @@ use Rattle.semver_base.specs.declared.failure.Refusal.TheVariants.{UnexpectedCha
 use Rattle.deno_semver.specs.NameAndVersion.{IsNvMemory, TellsNvFault}
 use Rattle.deno_semver.specs.NvReference.{IsNoPath}
 use Rattle.deno_semver.specs.ReferenceText.{path_text}
-use Rattle.deno_semver.specs.declared.package.name_version.PackageNv.{PackageNv}
+use Rattle.deno_semver.specs.declared.package.values.PackageNv.{PackageNv}
 use Rattle.deno_semver.specs.declared.package.name_version.PackageNvParseError.{PackageNvParseError}
 use Rattle.deno_semver.specs.declared.package.nv_reference.PackageNvReference.{PackageNvReference}
 

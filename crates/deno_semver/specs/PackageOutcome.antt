@@ -13,7 +13,7 @@ use Rattle.deno_semver.specs.PackageText.{IsPackageText, IsScopeAlone, LacksPart
 use Rattle.deno_semver.specs.declared.package.errors.PackageReqPartsParseError.{PackageReqPartsParseError}
 use Rattle.deno_semver.specs.declared.package.errors.PackageReqPartsParseError.TheVariants as parts
 use Rattle.deno_semver.specs.declared.package.errors.PackageReqParseError.{PackageReqParseError}
-use Rattle.deno_semver.specs.declared.package.requirement.PackageReq.{PackageReq}
+use Rattle.deno_semver.specs.declared.package.values.PackageReq.{PackageReq}
 
 -- the requirement of the version's text is what its reader answers; without such a text it is that of any version
 abbrev pub IsVersionReq : Flavour → Option (List ℕ) → Requirement → Type 0

@@ -7,7 +7,7 @@ use Rattle.deno_semver.specs.PackageText.{lacks_at}
 use Rattle.deno_semver.specs.declared.package.errors.PackageReqParseError.{PackageReqParseError}
 use Rattle.deno_semver.specs.declared.package.errors.PackageReqPartsParseError.{PackageReqPartsParseError}
 use Rattle.deno_semver.specs.declared.package.errors.PackageReqPartsParseError.TheVariants as parts
-use Rattle.deno_semver.specs.declared.package.requirement.PackageReq.{PackageReq}
+use Rattle.deno_semver.specs.declared.package.values.PackageReq.{PackageReq}
 
 -- the text of the version is refused, and the error tells why
 pub record IsBadVersion (f : Flavour) (version : List ℕ) (e : PackageReqPartsParseError) : Type 0 where

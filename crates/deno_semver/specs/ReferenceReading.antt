@@ -13,7 +13,7 @@ use Rattle.deno_semver.specs.declared.package.errors.PackageReqPartsParseError.T
 use Rattle.deno_semver.specs.declared.package.kind.PackageKind.{PackageKind}
 use Rattle.deno_semver.specs.declared.package.reference.PackageReqReference.{PackageReqReference}
 use Rattle.deno_semver.specs.declared.package.reference_errors.PackageReqReferenceParseError.{PackageReqReferenceParseError}
-use Rattle.deno_semver.specs.declared.package.requirement.PackageReq.{PackageReq}
+use Rattle.deno_semver.specs.declared.package.values.PackageReq.{PackageReq}
 
 -- the answer is what follows the scheme, or none where the text doesn't begin with it
 abbrev pub IsAfterScheme : PackageKind → List ℕ → Option (Bor (List ℕ)) → Type 0

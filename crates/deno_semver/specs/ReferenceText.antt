@@ -5,7 +5,7 @@ use Rattle.deno_semver.specs.Kind.{scheme_of}
 use Rattle.deno_semver.specs.RequirementText.{req_text}
 use Rattle.deno_semver.specs.declared.package.kind.PackageKind.{PackageKind}
 use Rattle.deno_semver.specs.declared.package.reference.PackageReqReference.{PackageReqReference}
-use Rattle.deno_semver.specs.declared.package.requirement.PackageReq.{PackageReq}
+use Rattle.deno_semver.specs.declared.package.values.PackageReq.{PackageReq}
 
 -- no text begins with the scheme so that the rest is this one
 abbrev pub LacksScheme : PackageKind → List ℕ → Type 0

@@ -21,7 +21,7 @@ use Rattle.semver_req.specs.declared.range_set_or_tag.RangeSetOrTag.TheVariants 
 use Rattle.semver_req.proofs.Equality.{inner_eq, inner_told}
 use Rattle.deno_semver.specs.ReqOrder.{bound_cmp, bound_place, build_of, builds_cmp, end_cmp, inner_cmp, kind_place, range_cmp, ranges_of, req_cmp, start_cmp, text_cmp, version_bound_of}
 use Rattle.deno_semver.specs.Ties.{then_ties}
-use Rattle.deno_semver.specs.declared.package.requirement.PackageReq.{PackageReq}
+use Rattle.deno_semver.specs.declared.package.values.PackageReq.{PackageReq}
 
 -- ---- it is total
 

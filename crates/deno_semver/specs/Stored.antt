@@ -14,7 +14,7 @@ use Rattle.deno_semver.specs.Equal.{AreEqualDependencies, AreEqualReqs}
 use Rattle.deno_semver.specs.Json.{IsStringOf, IsTextOfDependency, IsTextOfReq}
 use Rattle.deno_semver.specs.RequirementText.{normal_req_text}
 use Rattle.deno_semver.specs.declared.jsr.dependency.JsrDepPackageReq.{JsrDepPackageReq}
-use Rattle.deno_semver.specs.declared.package.requirement.PackageReq.{PackageReq}
+use Rattle.deno_semver.specs.declared.package.values.PackageReq.{PackageReq}
 
 -- ranges that are read in place of these
 pub record AreReadFor (ranges again : List VersionRange) : Type 0 where

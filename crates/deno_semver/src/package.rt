@@ -12,11 +12,12 @@ mod reference_errors;
 mod requirement;
 mod specifier;
 mod sub_path;
+mod values;
 
 pub(crate) use cut::without_slash;
 pub use errors::{PackageReqParseError, PackageReqPartsParseError};
 pub use kind::PackageKind;
-pub use name_version::{PackageNv, PackageNvParseError};
+pub use name_version::PackageNvParseError;
 pub use nv_reference::{PackageNvReference, PackageNvReferenceParseError};
 pub(crate) use read::package_req;
 pub use reference::PackageReqReference;
@@ -24,15 +25,8 @@ pub use reference_errors::{
     PackageReqReferenceInvalidParseError, PackageReqReferenceInvalidWithVersionParseError,
     PackageReqReferenceParseError,
 };
-pub use requirement::PackageReq;
 pub(crate) use requirement::normal_req_text;
-use semver_base::string::{SmallStackString, StackString};
 pub use specifier::SpecifierError;
 pub(crate) use specifier::specifier_of;
 pub(crate) use sub_path::sub_path_text;
-
-/// The name of a package, with its scope where it has one.
-pub type PackageName = StackString;
-
-/// The path of a module in a package.
-pub type PackageSubPath = SmallStackString;
+pub use values::{PackageName, PackageNv, PackageReq, PackageSubPath};

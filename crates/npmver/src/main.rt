@@ -186,7 +186,8 @@ enum Reader {
 impl Reader {
     // The reader of this name.
     fn named(name: &str) -> Option<Reader>
-        ensures { MatchOption result (NoReader name.now) (λ reader. IsReader name.now (flavour_of reader)) }
+        ensures { MatchOption result (NoReader name.now)
+            (λ reader. IsReader name.now (flavour_of reader)) }
     {
         match name {
             "npm" => Some(Reader::Npm),
@@ -216,7 +217,8 @@ impl Reader {
         version: &str,
         pre_release: PreRelease,
     ) -> Result<Answer, Problem>
-        ensures { IsAnswer (IsFit pre_release (flavour_of self) requirement.now version.now) result }
+        ensures { IsAnswer (IsFit pre_release (flavour_of self) requirement.now version.now)
+            result }
     {
         let requirement = self.read(alloc, requirement)?;
         let version = Version::parse_standard(alloc, version)?;
@@ -249,7 +251,8 @@ fn allowance(
     version: &Version,
     pre_release: PreRelease,
 ) -> Result<Answer, AllocError>
-    ensures { IfOk result (λ answer. answer ≡ allowance_of pre_release requirement.now.inner version.now) }
+    ensures { IfOk result
+        (λ answer. answer ≡ allowance_of pre_release requirement.now.inner version.now) }
 {
     match requirement.tag() {
         Some(tag) => Ok(Answer::Tag(PackageTag::from_str(alloc, tag)?)),
@@ -323,7 +326,8 @@ fn fits(
     version: &str,
     pre_release: PreRelease,
 ) -> Result<Answer, Problem>
-    ensures { IsAnswer (ByReader reader.now (λ f. IsFit pre_release f requirement.now version.now)) result }
+    ensures { IsAnswer
+        (ByReader reader.now (λ f. IsFit pre_release f requirement.now version.now)) result }
 {
     match Reader::named(reader) {
         Some(reader) => reader.fits(alloc, requirement, version, pre_release),

@@ -7,7 +7,8 @@ ghost use Rattle.semver_base.specs.declared.range.VersionRange.{VersionRange};
 ghost use Rattle.deno_semver.specs.Json.{AreItemsOf, IsJsonOfBound, IsJsonOfRange, IsJsonOfRangeBound, IsJsonOfSet, IsJsonOfVersionReq, IsMemberOf, bound_json, range_bound_json, range_json, set_json, version_req_json};
 ghost use Rattle.deno_semver.specs.JsonAnswers.{IsJsonAnswer};
 
-use super::{JsonError, JsonForm};
+use super::JsonForm;
+use super::error::JsonError;
 use semver_base::range::{
     RangeBound, VersionBound, VersionBoundKind, VersionRange, VersionRangeSet,
 };
@@ -21,7 +22,8 @@ use std::alloc::{AllocError, Global};
 // The value that is read of the member of an object with this key.
 fn of_member<T: JsonForm>(alloc: Global, value: &Value, key: &str) -> Result<T, JsonError>
     ensures read { IfOk result (IsMemberOf T.stands_for key.now (view value.now)) }
-    ensures answer { (x : T) → IsMemberOf T.stands_for key.now (view value.now) x → IsJsonAnswer x result }
+    ensures answer { (x : T) → IsMemberOf T.stands_for key.now (view value.now) x
+        → IsJsonAnswer x result }
 {
     match value.get(key) {
         Some(member) => T::from_json(alloc, member),
@@ -159,7 +161,8 @@ fn items_json(alloc: Global, ranges: &[VersionRange]) -> Result<Vec<Value>, Allo
 // The ranges that the items stand for, in order.
 fn of_items(alloc: Global, items: &[Value]) -> Result<CowVec<VersionRange>, JsonError>
     ensures read { IfOk result (AreItemsOf IsJsonOfRange (items_view items.now)) }
-    ensures answer { (ranges : List VersionRange) → AreItemsOf IsJsonOfRange (items_view items.now) ranges
+    ensures answer { (ranges : List VersionRange)
+        → AreItemsOf IsJsonOfRange (items_view items.now) ranges
         → IsJsonAnswer ranges result }
 {
     let mut ranges = CowVec::new(alloc);

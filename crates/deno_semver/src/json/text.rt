@@ -19,7 +19,8 @@ ghost use Rattle.deno_semver.specs.RequirementText.{normal_req_text};
 ghost use Rattle.deno_semver.specs.Stored.{IsStoredDependency, IsStoredReq};
 ghost use Rattle.deno_semver.specs.declared.package.kind.PackageKind.TheVariants as kind;
 
-use super::{JsonError, JsonForm};
+use super::JsonForm;
+use super::error::JsonError;
 use crate::jsr::{JsrDepPackageReq, JsrPackageNvReference};
 use crate::npm::NpmPackageNvReference;
 use crate::package::{PackageNv, PackageReq, normal_req_text};
@@ -27,7 +28,6 @@ use semver_base::range::VersionBoundKind;
 use semver_base::string::{SmallStackString, StackString};
 use semver_base::version::Version;
 use semver_req::range_set_or_tag::RangeSetOrTag;
-use semver_req::req::VersionReq;
 use serde_json::Value;
 use std::alloc::{AllocError, Global};
 use std::fmt;
@@ -155,13 +155,9 @@ impl TextForm for RangeSetOrTag {
     ghost reads = { IsTextOfInner };
 
     fn of_text(alloc: Global, text: &str) -> Result<Self, JsonError> {
-        let req = match VersionReq::parse_from_normalized(alloc, text) {
-            Ok(req) => req,
-            Err(error) => return Err(JsonError::of_reader(error.is_memory())),
-        };
-        match req.inner().copy() {
+        match RangeSetOrTag::parse(alloc, text) {
             Ok(inner) => Ok(inner),
-            Err(_) => Err(JsonError::Memory),
+            Err(failure) => Err(JsonError::of_reader(failure.is_memory())),
         }
     }
 }
@@ -336,7 +332,7 @@ impl JsonForm for JsrDepPackageReq {
     }
 }
 
-/// The string of the normal text; it is read as [`VersionReq::parse_from_normalized`] reads it.
+/// The string of the normal text; it is read as [`RangeSetOrTag::parse`] reads it.
 impl JsonForm for RangeSetOrTag {
     ghost json = { λ inner. string (inner_text inner) };
 

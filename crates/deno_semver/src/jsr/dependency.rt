@@ -115,7 +115,8 @@ fn read(
 ) -> Result<JsrDepPackageReq, JsrDepPackageReqParseError>
     ensures read { IfOk result (λ d. IsDependencyOutcome flavour text.now (Ok d)) }
     ensures refused { IfErr result (IsDependencyRefusal flavour text.now) }
-    ensures answer { (outcome : Result JsrDepPackageReq DependencyFault) → IsDependencyOutcome flavour text.now outcome
+    ensures answer { (outcome : Result JsrDepPackageReq DependencyFault)
+        → IsDependencyOutcome flavour text.now outcome
         → IsDependencyAnswer flavour text.now outcome result }
 {
     let Some((kind, body)) = after_either(text) else {
@@ -168,7 +169,8 @@ impl JsrDepPackageReq {
     pub fn from_str_loose(alloc: Global, text: &str) -> Result<Self, JsrDepPackageReqParseError>
         ensures read { IfOk result (λ d. IsDependencyOutcome Npm text.now (Ok d)) }
         ensures refused { IfErr result (IsDependencyRefusal Npm text.now) }
-        ensures answer { (outcome : Result JsrDepPackageReq DependencyFault) → IsDependencyOutcome Npm text.now outcome
+        ensures answer { (outcome : Result JsrDepPackageReq DependencyFault)
+            → IsDependencyOutcome Npm text.now outcome
             → IsDependencyAnswer Npm text.now outcome result }
     {
         read(alloc, text, Flavour::Npm)

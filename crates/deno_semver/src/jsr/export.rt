@@ -45,7 +45,8 @@ pub fn normalized_export_name(
     alloc: Global,
     sub_path: Option<&str>,
 ) -> Result<CowStr<'_, Global>, AllocError>
-    ensures value { IfOk result (λ name. cow_str_bytes name ≡ export_name (option_copied sub_path.entry)) }
+    ensures value { IfOk result
+        (λ name. cow_str_bytes name ≡ export_name (option_copied sub_path.entry)) }
     ensures form { IfOk result (λ name. IsExportName (cow_str_bytes name)) }
 {
     let Some(path) = sub_path else {

@@ -16,7 +16,7 @@ ghost use Rattle.deno_semver.specs.declared.package.kind.PackageKind.TheVariants
 ghost use Rattle.deno_semver.specs.declared.package.nv_reference.PackageNvReference.{PackageNvReference};
 ghost use Rattle.deno_semver.specs.declared.package.reference.PackageReqReference.{PackageReqReference};
 
-use super::normalized_export_name;
+use super::export::normalized_export_name;
 use crate::package::{
     PackageKind, PackageNv, PackageNvReference, PackageNvReferenceParseError, PackageReq,
     PackageReqReference, PackageReqReferenceParseError, SpecifierError, specifier_of,
@@ -183,7 +183,8 @@ impl JsrPackageNvReference {
         ensures read { IfOk result (λ r. IsNvReferenceOutcome Jsr nv.now (Ok r)) }
         ensures reads_back { IfOk result (NvReferenceReadsBack Jsr) }
         ensures refused { IfErr result (IsNvReferenceRefusal Jsr nv.now) }
-        ensures answer { (outcome : Result PackageNvReference Refusal) → IsNvReferenceOutcome Jsr nv.now outcome
+        ensures answer { (outcome : Result PackageNvReference Refusal)
+            → IsNvReferenceOutcome Jsr nv.now outcome
             → IsNvReferenceAnswer nv.now outcome result }
     {
         match PackageNvReference::from_str(alloc, nv, PackageKind::Jsr) {
@@ -197,7 +198,8 @@ impl JsrPackageNvReference {
         alloc: Global,
         specifier: &Url,
     ) -> Result<Self, PackageNvReferenceParseError>
-        ensures read { IfOk result (λ r. IsNvReferenceOutcome Jsr (serialize specifier.now) (Ok r)) }
+        ensures read { IfOk result
+            (λ r. IsNvReferenceOutcome Jsr (serialize specifier.now) (Ok r)) }
         ensures reads_back { IfOk result (NvReferenceReadsBack Jsr) }
         ensures refused { IfErr result (IsNvReferenceRefusal Jsr (serialize specifier.now)) }
         ensures answer { (outcome : Result PackageNvReference Refusal)

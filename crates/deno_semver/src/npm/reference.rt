@@ -172,7 +172,8 @@ impl NpmPackageNvReference {
         ensures read { IfOk result (λ r. IsNvReferenceOutcome Npm nv.now (Ok r)) }
         ensures reads_back { IfOk result (NvReferenceReadsBack Npm) }
         ensures refused { IfErr result (IsNvReferenceRefusal Npm nv.now) }
-        ensures answer { (outcome : Result PackageNvReference Refusal) → IsNvReferenceOutcome Npm nv.now outcome
+        ensures answer { (outcome : Result PackageNvReference Refusal)
+            → IsNvReferenceOutcome Npm nv.now outcome
             → IsNvReferenceAnswer nv.now outcome result }
     {
         match PackageNvReference::from_str(alloc, nv, PackageKind::Npm) {
@@ -186,7 +187,8 @@ impl NpmPackageNvReference {
         alloc: Global,
         specifier: &Url,
     ) -> Result<Self, PackageNvReferenceParseError>
-        ensures read { IfOk result (λ r. IsNvReferenceOutcome Npm (serialize specifier.now) (Ok r)) }
+        ensures read { IfOk result
+            (λ r. IsNvReferenceOutcome Npm (serialize specifier.now) (Ok r)) }
         ensures reads_back { IfOk result (NvReferenceReadsBack Npm) }
         ensures refused { IfErr result (IsNvReferenceRefusal Npm (serialize specifier.now)) }
         ensures answer { (outcome : Result PackageNvReference Refusal)

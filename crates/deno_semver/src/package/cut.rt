@@ -78,8 +78,8 @@ fn starts_with_at(text: &str) -> bool
 
 /// The parts of the text of a package, or the part that is missing.
 pub(crate) fn parts_of(text: &str) -> Result<Cut<'_>, PackageReqPartsParseError>
-    ensures cut { IfOk result (λ c. IsCut text.now (option_copied c.scope) c.name.now (option_copied c.version)
-        c.tail.now c.path.now) }
+    ensures cut { IfOk result (λ c. IsCut text.now (option_copied c.scope) c.name.now
+        (option_copied c.version) c.tail.now c.path.now) }
     ensures uncut { IfErr result (IsUncut text.now) }
 {
     let (first, tail) = split_part(without_slash(text));

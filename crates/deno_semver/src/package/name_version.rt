@@ -1,32 +1,25 @@
-//! Names with versions.
+//! How names with versions are read.
 
-ghost use Rattle.std.specs.Prelude.{◌≡◌, ◌↔◌, ◌++◌, ◌⊎◌, [], IfErr, IfOk, IsTrue, List, MatchOption, Ok, Result, Some, length, refl, ℕ};
+ghost use Rattle.std.specs.Prelude.{◌≡◌, ◌↔◌, ◌⊎◌, [], IfErr, IfOk, IsTrue, List, MatchOption, Ok, Result, length, ℕ};
 ghost use Rattle.std.specs.List.{take_while};
-ghost use Rattle.std.specs.Option.{option_copied};
-ghost use Rattle.std.specs.Ordering.{as_partial_cmp};
 ghost use Rattle.semver_base.specs.Grammar.{CutsRun};
 ghost use Rattle.semver_base.specs.VersionText.{ReadsBack};
 ghost use Rattle.semver_base.specs.declared.failure.Refusal.{Refusal};
 ghost use Rattle.semver_base.specs.declared.failure.Refusal.TheVariants.{UnexpectedCharacter};
 ghost use Rattle.semver_req.specs.Requirement.{PinsTo, pinned};
 ghost use Rattle.deno_semver.specs.Cuts.{is_not};
-ghost use Rattle.deno_semver.specs.NameAndVersion.{IsNoNvText, IsNvAnswer, IsNvFront, IsNvMemory, IsNvOutcome, IsNvRefusal, IsNvText, NvReadsBack, TellsNvFault, is_version_byte, nv_text, scope_of};
+ghost use Rattle.deno_semver.specs.NameAndVersion.{IsNoNvText, IsNvAnswer, IsNvFront, IsNvMemory, IsNvOutcome, IsNvRefusal, IsNvText, NvReadsBack, TellsNvFault, is_version_byte};
 ghost use Rattle.deno_semver.specs.NameAndVersionSteps.{IsFrontAnswer, IsFrontRefusal, IsNameCut, TellsFailure, name_len};
-ghost use Rattle.deno_semver.specs.declared.package.name_version.PackageNv.{PackageNv};
-ghost use Rattle.deno_semver.specs.NvOrder.{nv_cmp, nv_po, nv_ties, nv_total};
+ghost use Rattle.deno_semver.specs.declared.package.values.PackageNv.{PackageNv};
 
-use super::{PackageName, PackageReq};
+use super::values::{PackageName, PackageNv, PackageReq};
 use semver_base::failure::Refusal;
 use semver_base::lexical::after;
 use semver_base::npm::NpmVersionParseError;
-use semver_base::string::{
-    SmallStackString, StackString, StringAppendable, StringType, append_displayed,
-};
+use semver_base::string::{SmallStackString, StackString};
 use semver_base::version::Version;
 use semver_req::req::IntoVersionReq;
 use std::alloc::{AllocError, Global};
-use std::cmp::Ordering;
-use std::fmt;
 use thiserror::Error;
 
 /// Why a text is no name and version, or that memory was wanting.
@@ -89,15 +82,6 @@ fn told(alloc: Global, message: &str, text: &str) -> PackageNvParseError
     }
 }
 
-/// A package's name and one version of it.
-///
-/// Two are ordered by their names as texts, and then by their versions.
-#[derive(PartialEq, Eq, Hash, Debug, Drop)]
-pub struct PackageNv {
-    pub name: PackageName,
-    pub version: Version,
-}
-
 // What a text is cut into.
 #[derive(Clone, Copy)]
 struct Parts<'a> {
@@ -153,7 +137,8 @@ fn split_version(text: &str) -> (&str, &str)
 
 // The name and the version at the front.
 fn cut(text: &str) -> Option<Parts<'_>>
-    ensures { MatchOption result (IsNoNvText text.now) (λ p. IsNvText text.now p.name.now p.version.now p.rest.now) }
+    ensures { MatchOption result (IsNoNvText text.now)
+        (λ p. IsNvText text.now p.name.now p.version.now p.rest.now) }
 {
     let (name, rest) = split_name(text);
     let Some(rest) = after(rest, '@') else {
@@ -237,30 +222,6 @@ impl PackageNv {
         Ok(nv)
     }
 
-    /// The same name and version again. It is an error only where no memory is left.
-    pub fn copy(&self) -> Result<Self, AllocError>
-        ensures { IfOk result (λ nv. nv ≡ self.now) }
-    {
-        Ok(PackageNv {
-            name: self.name.copy()?,
-            version: self.version.copy()?,
-        })
-    }
-
-    /// The scope of a name that begins with `@`: what stands before its first `/`, or the whole name where it has none.
-    pub fn scope(&self) -> Option<&str>
-        ensures { option_copied result ≡ scope_of self.now.name }
-    {
-        let name = self.name.as_str();
-        if !name.starts_with('@') {
-            return None;
-        }
-        match name.split_once('/') {
-            Some((scope, _)) => Some(scope),
-            None => Some(name),
-        }
-    }
-
     /// The requirement of the package with this name, and of the versions of the same precedence
     /// ([`IntoVersionReq::into_req`]). It is an error only where no memory is left.
     pub fn into_req(self, alloc: Global) -> Result<PackageReq, AllocError>
@@ -271,49 +232,5 @@ impl PackageNv {
         let PackageNv { name, version } = self;
         let version_req = version.into_req(alloc)?;
         Ok(PackageReq { name, version_req })
-    }
-}
-
-/// `name@version`.
-impl fmt::Display for PackageNv {
-    ghost output = { λ nv. Some (nv_text nv) };
-
-    fn fmt<W: fmt::Write>(&self, f: &mut fmt::Formatter<W>) -> fmt::Result {
-        let (name, version) = (self.name.as_str(), &self.version);
-        write!(f, "{name}@{version}")
-    }
-}
-
-impl StringAppendable for PackageNv {
-    ghost text = { nv_text };
-
-    fn append_to<T: StringType>(&self, alloc: Global, target: &mut T) -> Result<(), AllocError> {
-        append_displayed(self, alloc, target)
-    }
-}
-
-impl PartialOrd for PackageNv {
-    ghost partial_cmp = { as_partial_cmp nv_cmp };
-
-    ghost laws = { nv_po };
-
-    fn partial_cmp(&self, other: &PackageNv) -> Option<Ordering> {
-        Some(self.cmp(other))
-    }
-}
-
-impl Ord for PackageNv {
-    ghost cmp = { nv_cmp };
-
-    ghost total = { nv_total };
-
-    ghost matches_partial_cmp = { λ a b. refl };
-
-    ghost matches_eq = { nv_ties };
-
-    fn cmp(&self, other: &PackageNv) -> Ordering {
-        self.name
-            .cmp(&other.name)
-            .then_with(|| self.version.cmp(&other.version))
     }
 }

@@ -9,9 +9,10 @@ ghost use Rattle.deno_semver.specs.NvReferenceReading.{IsWithRest};
 ghost use Rattle.deno_semver.specs.declared.package.nv_reference.PackageNvReference.{PackageNvReference};
 
 use super::cut::without_slash;
-use super::name_version::{memory, nv_at_front, unexpected};
+use super::kind::PackageKind;
+use super::name_version::{PackageNvParseError, memory, nv_at_front, unexpected};
 use super::sub_path::copied_sub_path;
-use super::{PackageKind, PackageNv, PackageNvParseError, PackageSubPath};
+use super::values::{PackageNv, PackageSubPath};
 use semver_base::lexical::after;
 use semver_base::string::{
     SmallStackString, StackString, StringAppendable, StringType, append_displayed,
@@ -102,7 +103,8 @@ impl PackageNvReference {
         ensures read { IfOk result (λ r. IsNvReferenceOutcome kind text.now (Ok r)) }
         ensures reads_back { IfOk result (NvReferenceReadsBack kind) }
         ensures refused { IfErr result (IsNvReferenceRefusal kind text.now) }
-        ensures answer { (outcome : Result PackageNvReference Refusal) → IsNvReferenceOutcome kind text.now outcome
+        ensures answer { (outcome : Result PackageNvReference Refusal)
+            → IsNvReferenceOutcome kind text.now outcome
             → IsNvReferenceAnswer text.now outcome result }
     {
         let Some(body) = kind.after_scheme(text) else {

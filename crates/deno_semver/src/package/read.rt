@@ -7,10 +7,11 @@ ghost use Rattle.deno_semver.specs.PackageOutcome.{Fault, IsPackageAnswer, IsPac
 ghost use Rattle.deno_semver.specs.PackageReading.{IsPartsRefusal, IsPathError, IsReadPackage, IsVersionRefusal, TellsSource};
 ghost use Rattle.deno_semver.specs.PackageText.{scoped_name};
 ghost use Rattle.deno_semver.specs.ReferenceReading.{IsFrontError, IsReadWithPath};
-ghost use Rattle.deno_semver.specs.declared.package.requirement.PackageReq.{PackageReq};
+ghost use Rattle.deno_semver.specs.declared.package.values.PackageReq.{PackageReq};
 
 use super::cut::{lacks_at, parts_of};
-use super::{PackageName, PackageReq, PackageReqParseError, PackageReqPartsParseError};
+use super::errors::{PackageReqParseError, PackageReqPartsParseError};
+use super::values::{PackageName, PackageReq};
 use semver_base::failure::ParseFailure;
 use semver_base::string::StackString;
 use semver_req::common::values::Flavour;

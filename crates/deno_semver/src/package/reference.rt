@@ -7,12 +7,15 @@ ghost use Rattle.deno_semver.specs.ReferenceText.{reference_text, sub_path_of, t
 ghost use Rattle.deno_semver.specs.declared.package.reference.PackageReqReference.{PackageReqReference};
 
 use super::cut::split_name;
+use super::errors::PackageReqPartsParseError;
+use super::kind::PackageKind;
 use super::read::read_with_path;
-use super::sub_path::copied_sub_path;
-use super::{
-    PackageKind, PackageReq, PackageReqPartsParseError, PackageReqReferenceInvalidParseError,
-    PackageReqReferenceInvalidWithVersionParseError, PackageReqReferenceParseError, PackageSubPath,
+use super::reference_errors::{
+    PackageReqReferenceInvalidParseError, PackageReqReferenceInvalidWithVersionParseError,
+    PackageReqReferenceParseError,
 };
+use super::sub_path::copied_sub_path;
+use super::values::{PackageReq, PackageSubPath};
 use semver_base::string::{StackString, StringAppendable, StringType, append_displayed};
 use semver_req::common::values::Flavour;
 use std::alloc::{AllocError, Global};

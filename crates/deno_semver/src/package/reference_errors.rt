@@ -3,7 +3,8 @@
 ghost use Rattle.std.specs.Prelude.{◌≡◌, ◌↔◌, IfOk, IsTrue, false};
 ghost use Rattle.deno_semver.specs.ReferenceOutcome.{unboxed};
 
-use super::{PackageKind, PackageReqPartsParseError};
+use super::errors::PackageReqPartsParseError;
+use super::kind::PackageKind;
 use semver_base::string::StackString;
 use std::alloc::AllocError;
 use thiserror::Error;

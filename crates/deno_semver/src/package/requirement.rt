@@ -1,28 +1,16 @@
-//! Requirements of packages.
+//! How requirements of packages are read, and their normal texts.
 
-ghost use Rattle.std.specs.Prelude.{◌≡◌, IfErr, IfOk, Ok, Result, Some, string_bytes};
+ghost use Rattle.std.specs.Prelude.{◌≡◌, IfErr, IfOk, Ok, Result, string_bytes};
 ghost use Rattle.semver_req.specs.declared.common.values.Flavour.TheVariants.{Normal, Npm, Specifier};
 ghost use Rattle.deno_semver.specs.PackageOutcome.{Fault, IsPackageAnswer, IsPackageOutcome, IsPackageRefusal};
-ghost use Rattle.deno_semver.specs.RequirementText.{normal_req_text, req_text};
-ghost use Rattle.deno_semver.specs.declared.package.requirement.PackageReq.{PackageReq};
+ghost use Rattle.deno_semver.specs.RequirementText.{normal_req_text};
+ghost use Rattle.deno_semver.specs.declared.package.values.PackageReq.{PackageReq};
 
+use super::errors::PackageReqParseError;
 use super::read::package_req;
-use super::{PackageName, PackageReqParseError};
-use semver_base::string::{StringAppendable, StringType, append_displayed};
+use super::values::{PackageName, PackageReq};
 use semver_req::common::values::Flavour;
-use semver_req::req::VersionReq;
 use std::alloc::{AllocError, Global};
-use std::fmt;
-
-/// A requirement of a package: its name, and which of its versions are meant.
-///
-/// Two are equal where the names are and the requirements of versions stand for the same. It is displayed as its name,
-/// with `@` and the text of the requirement after it unless that is `*`.
-#[derive(PartialEq, Eq, Hash, Debug, Drop)]
-pub struct PackageReq {
-    pub name: PackageName,
-    pub version_req: VersionReq,
-}
 
 /// The name, `@`, and the normal text of the requirement. It is an error only where no memory is left.
 pub(crate) fn normal_req_text(alloc: Global, req: &PackageReq) -> Result<String, AllocError>
@@ -49,7 +37,8 @@ impl PackageReq {
     pub fn from_str(alloc: Global, text: &str) -> Result<PackageReq, PackageReqParseError>
         ensures read { IfOk result (λ req. IsPackageOutcome Specifier text.now (Ok req)) }
         ensures refused { IfErr result (IsPackageRefusal Specifier text.now) }
-        ensures answer { (outcome : Result PackageReq Fault) → IsPackageOutcome Specifier text.now outcome
+        ensures answer { (outcome : Result PackageReq Fault)
+            → IsPackageOutcome Specifier text.now outcome
             → IsPackageAnswer Specifier text.now outcome result }
     {
         package_req(alloc, text, Flavour::Specifier)
@@ -60,7 +49,8 @@ impl PackageReq {
     pub fn from_str_loose(alloc: Global, text: &str) -> Result<PackageReq, PackageReqParseError>
         ensures read { IfOk result (λ req. IsPackageOutcome Npm text.now (Ok req)) }
         ensures refused { IfErr result (IsPackageRefusal Npm text.now) }
-        ensures answer { (outcome : Result PackageReq Fault) → IsPackageOutcome Npm text.now outcome
+        ensures answer { (outcome : Result PackageReq Fault)
+            → IsPackageOutcome Npm text.now outcome
             → IsPackageAnswer Npm text.now outcome result }
     {
         package_req(alloc, text, Flavour::Npm)
@@ -74,7 +64,8 @@ impl PackageReq {
     ) -> Result<PackageReq, PackageReqParseError>
         ensures read { IfOk result (λ req. IsPackageOutcome Normal text.now (Ok req)) }
         ensures refused { IfErr result (IsPackageRefusal Normal text.now) }
-        ensures answer { (outcome : Result PackageReq Fault) → IsPackageOutcome Normal text.now outcome
+        ensures answer { (outcome : Result PackageReq Fault)
+            → IsPackageOutcome Normal text.now outcome
             → IsPackageAnswer Normal text.now outcome result }
     {
         package_req(alloc, text, Flavour::Normal)
@@ -86,36 +77,5 @@ impl PackageReq {
         ensures { IfOk result (λ text. text ≡ normal_req_text self.now) }
     {
         PackageName::from_string(alloc, normal_req_text(alloc, self)?)
-    }
-
-    /// The same requirement again. It is an error only where no memory is left.
-    pub fn copy(&self) -> Result<Self, AllocError>
-        ensures { IfOk result (λ req. req ≡ self.now) }
-    {
-        Ok(PackageReq {
-            name: self.name.copy()?,
-            version_req: self.version_req.copy()?,
-        })
-    }
-}
-
-/// `name@text`, or the name alone where the text of the requirement is `*`.
-impl fmt::Display for PackageReq {
-    ghost output = { λ req. Some (req_text req) };
-
-    fn fmt<W: fmt::Write>(&self, f: &mut fmt::Formatter<W>) -> fmt::Result {
-        let (name, text) = (self.name.as_str(), self.version_req.version_text());
-        if text == "*" {
-            return f.write_str(name);
-        }
-        write!(f, "{name}@{text}")
-    }
-}
-
-impl StringAppendable for PackageReq {
-    ghost text = { req_text };
-
-    fn append_to<T: StringType>(&self, alloc: Global, target: &mut T) -> Result<(), AllocError> {
-        append_displayed(self, alloc, target)
     }
 }

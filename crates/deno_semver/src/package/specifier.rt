@@ -3,7 +3,8 @@
 ghost use Rattle.std.specs.Prelude.{◌≡◌, ◌↔◌, IfOk, IsTrue, string_bytes};
 ghost use Rattle.deno_semver.specs.Specifier.{IsSpecifier, specifier_text, told_refusal};
 
-use super::{PackageKind, PackageNvReference};
+use super::kind::PackageKind;
+use super::nv_reference::PackageNvReference;
 use std::alloc::{AllocError, Global};
 use thiserror::Error;
 use url::{ParseError, Url};

@@ -3,7 +3,7 @@
 ghost use Rattle.std.specs.Prelude.{◌≡◌, IfOk};
 ghost use Rattle.std.specs.Option.{option_copied};
 
-use super::PackageSubPath;
+use super::values::PackageSubPath;
 use std::alloc::AllocError;
 
 /// The text of the path, if one is named.

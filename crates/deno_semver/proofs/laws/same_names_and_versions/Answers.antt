@@ -2,7 +2,7 @@ use Rattle.std.proofs.Common.{◌≡◌, List, ℕ, ap, refl}
 use Rattle.semver_base.specs.PrecedenceLaws.{version_eq, version_told}
 use Rattle.semver_base.specs.declared.version.Version.{Version}
 use Rattle.semver_base.proofs.Equality.{both_told, text_eq, text_told, told_as, told_by}
-use Rattle.deno_semver.specs.declared.package.name_version.PackageNv.{PackageNv}
+use Rattle.deno_semver.specs.declared.package.values.PackageNv.{PackageNv}
 use Rattle.deno_semver.proofs.laws.same_names_and_versions.Goals as goal
 
 abbrev nv_of : List ℕ → Version → PackageNv

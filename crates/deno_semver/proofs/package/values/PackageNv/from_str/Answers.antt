@@ -2,7 +2,7 @@ use Rattle.std.proofs.Common.{◌≡◌, ◌<◌, ◌==◌, List, ℕ, Bool, len
 use Rattle.std.proofs.lemmas.Bool.Decides.{nat_tests}
 use Rattle.deno_semver.proofs.NameAndVersion.{bad_answer, bad_refusal, followed_answer, followed_refusal, whole_answer, whole_read}
 use Rattle.deno_semver.proofs.NvText.{reads_back}
-use Rattle.deno_semver.proofs.package.name_version.PackageNv.from_str.Goals as goal
+use Rattle.deno_semver.proofs.package.values.PackageNv.from_str.Goals as goal
 
 some_left : (xs : List ℕ) (b : Bool) → b ≡ (length xs == 0) → b ≡ false → 0 < length xs
 some_left xs b e f = grind (arith, nat_tests)

@@ -1,0 +1,145 @@
+//! Requirements of packages and names with versions, as values: their fields, texts and copies.
+
+ghost use Rattle.std.specs.Prelude.{◌≡◌, IfOk, Some, refl};
+ghost use Rattle.std.specs.Option.{option_copied};
+ghost use Rattle.std.specs.Ordering.{as_partial_cmp};
+ghost use Rattle.deno_semver.specs.NameAndVersion.{nv_text, scope_of};
+ghost use Rattle.deno_semver.specs.NvOrder.{nv_cmp, nv_po, nv_ties, nv_total};
+ghost use Rattle.deno_semver.specs.RequirementText.{req_text};
+
+use semver_base::string::{
+    SmallStackString, StackString, StringAppendable, StringType, append_displayed,
+};
+use semver_base::version::Version;
+use semver_req::req::VersionReq;
+use std::alloc::{AllocError, Global};
+use std::cmp::Ordering;
+use std::fmt;
+
+/// The name of a package, with its scope where it has one.
+pub type PackageName = StackString;
+
+/// The path of a module in a package.
+pub type PackageSubPath = SmallStackString;
+
+/// A requirement of a package: its name, and which of its versions are meant.
+///
+/// Two are equal where the names are and the requirements of versions stand for the same. It is displayed as its name,
+/// with `@` and the text of the requirement after it unless that is `*`.
+#[derive(PartialEq, Eq, Hash, Debug, Drop)]
+pub struct PackageReq {
+    pub name: PackageName,
+    pub version_req: VersionReq,
+}
+
+impl PackageReq {
+    /// The same requirement again. It is an error only where no memory is left.
+    pub fn copy(&self) -> Result<Self, AllocError>
+        ensures { IfOk result (λ req. req ≡ self.now) }
+    {
+        Ok(PackageReq {
+            name: self.name.copy()?,
+            version_req: self.version_req.copy()?,
+        })
+    }
+}
+
+/// `name@text`, or the name alone where the text of the requirement is `*`.
+impl fmt::Display for PackageReq {
+    ghost output = { λ req. Some (req_text req) };
+
+    fn fmt<W: fmt::Write>(&self, f: &mut fmt::Formatter<W>) -> fmt::Result {
+        let (name, text) = (self.name.as_str(), self.version_req.version_text());
+        if text == "*" {
+            return f.write_str(name);
+        }
+        write!(f, "{name}@{text}")
+    }
+}
+
+impl StringAppendable for PackageReq {
+    ghost text = { req_text };
+
+    fn append_to<T: StringType>(&self, alloc: Global, target: &mut T) -> Result<(), AllocError> {
+        append_displayed(self, alloc, target)
+    }
+}
+
+/// A package's name and one version of it.
+///
+/// Two are ordered by their names as texts, and then by their versions.
+#[derive(PartialEq, Eq, Hash, Debug, Drop)]
+pub struct PackageNv {
+    pub name: PackageName,
+    pub version: Version,
+}
+
+impl PackageNv {
+    /// The same name and version again. It is an error only where no memory is left.
+    pub fn copy(&self) -> Result<Self, AllocError>
+        ensures { IfOk result (λ nv. nv ≡ self.now) }
+    {
+        Ok(PackageNv {
+            name: self.name.copy()?,
+            version: self.version.copy()?,
+        })
+    }
+
+    /// The scope of a name that begins with `@`: what stands before its first `/`, or the whole name where it has none.
+    pub fn scope(&self) -> Option<&str>
+        ensures { option_copied result ≡ scope_of self.now.name }
+    {
+        let name = self.name.as_str();
+        if !name.starts_with('@') {
+            return None;
+        }
+        match name.split_once('/') {
+            Some((scope, _)) => Some(scope),
+            None => Some(name),
+        }
+    }
+}
+
+/// `name@version`.
+impl fmt::Display for PackageNv {
+    ghost output = { λ nv. Some (nv_text nv) };
+
+    fn fmt<W: fmt::Write>(&self, f: &mut fmt::Formatter<W>) -> fmt::Result {
+        let (name, version) = (self.name.as_str(), &self.version);
+        write!(f, "{name}@{version}")
+    }
+}
+
+impl StringAppendable for PackageNv {
+    ghost text = { nv_text };
+
+    fn append_to<T: StringType>(&self, alloc: Global, target: &mut T) -> Result<(), AllocError> {
+        append_displayed(self, alloc, target)
+    }
+}
+
+impl PartialOrd for PackageNv {
+    ghost partial_cmp = { as_partial_cmp nv_cmp };
+
+    ghost laws = { nv_po };
+
+    fn partial_cmp(&self, other: &PackageNv) -> Option<Ordering> {
+        Some(self.cmp(other))
+    }
+}
+
+impl Ord for PackageNv {
+    ghost cmp = { nv_cmp };
+
+    ghost total = { nv_total };
+
+    ghost matches_partial_cmp = { λ a b. refl };
+
+    ghost matches_eq = { nv_ties };
+
+    fn cmp(&self, other: &PackageNv) -> Ordering {
+        self.name
+            .cmp(&other.name)
+            .then_with(|| self.version.cmp(&other.version))
+    }
+}
