@@ -24,7 +24,7 @@ use crate::jsr::{JsrDepPackageReq, JsrPackageNvReference};
 use crate::npm::NpmPackageNvReference;
 use crate::package::{PackageNv, PackageReq, normal_req_text};
 use semver_base::range::VersionBoundKind;
-use semver_base::string::{SmallStackString, StackString};
+use semver_base::string::{SmallStackString, StackString, displayed};
 use semver_base::version::Version;
 use semver_req::range_set_or_tag::RangeSetOrTag;
 use semver_req::req::VersionReq;
@@ -44,11 +44,10 @@ trait TextForm: Drop {
 }
 
 // The string of how the value is displayed.
-fn displayed<D: fmt::Display>(alloc: Global, value: &D) -> Result<Value, AllocError>
+fn string_of<D: fmt::Display>(alloc: Global, value: &D) -> Result<Value, AllocError>
     ensures { IfOk result (λ json. IfSome (D.output value.now) (λ text. view json ≡ string text)) }
 {
-    let text = format!(in alloc; "{value}")?;
-    Ok(Value::String(text))
+    Ok(Value::String(displayed(alloc, value)?))
 }
 
 // The value that is read of the text of a string.
@@ -196,7 +195,7 @@ impl JsonForm for SmallStackString {
     ghost stands_for = { IsStringOf IsTextItself };
 
     fn to_json(&self, alloc: Global) -> Result<Value, AllocError> {
-        displayed(alloc, self)
+        string_of(alloc, self)
     }
 
     fn from_json(alloc: Global, value: &Value) -> Result<Self, JsonError> {
@@ -211,7 +210,7 @@ impl JsonForm for StackString {
     ghost stands_for = { IsStringOf IsTextItself };
 
     fn to_json(&self, alloc: Global) -> Result<Value, AllocError> {
-        displayed(alloc, self)
+        string_of(alloc, self)
     }
 
     fn from_json(alloc: Global, value: &Value) -> Result<Self, JsonError> {
@@ -226,7 +225,7 @@ impl JsonForm for Version {
     ghost stands_for = { IsStringOf IsTextOfVersion };
 
     fn to_json(&self, alloc: Global) -> Result<Value, AllocError> {
-        displayed(alloc, self)
+        string_of(alloc, self)
     }
 
     fn from_json(alloc: Global, value: &Value) -> Result<Self, JsonError> {
@@ -241,7 +240,7 @@ impl JsonForm for PackageNv {
     ghost stands_for = { IsStringOf IsTextOfNv };
 
     fn to_json(&self, alloc: Global) -> Result<Value, AllocError> {
-        displayed(alloc, self)
+        string_of(alloc, self)
     }
 
     fn from_json(alloc: Global, value: &Value) -> Result<Self, JsonError> {
@@ -289,7 +288,7 @@ impl JsonForm for JsrPackageNvReference {
     ghost stands_for = { IsStringOf (IsTextOfReference kind.Jsr) };
 
     fn to_json(&self, alloc: Global) -> Result<Value, AllocError> {
-        displayed(alloc, self)
+        string_of(alloc, self)
     }
 
     fn from_json(alloc: Global, value: &Value) -> Result<Self, JsonError> {
@@ -304,7 +303,7 @@ impl JsonForm for NpmPackageNvReference {
     ghost stands_for = { IsStringOf (IsTextOfReference kind.Npm) };
 
     fn to_json(&self, alloc: Global) -> Result<Value, AllocError> {
-        displayed(alloc, self)
+        string_of(alloc, self)
     }
 
     fn from_json(alloc: Global, value: &Value) -> Result<Self, JsonError> {
@@ -328,7 +327,7 @@ impl JsonForm for JsrDepPackageReq {
             → IsDependencyOutcome Npm text (Ok self.now) → IsStoredDependency self.now (view json)) }
     {
         let normal = self.to_string_normalized(alloc)?;
-        displayed(alloc, &normal)
+        string_of(alloc, &normal)
     }
 
     fn from_json(alloc: Global, value: &Value) -> Result<Self, JsonError> {
@@ -343,7 +342,7 @@ impl JsonForm for RangeSetOrTag {
     ghost stands_for = { IsStringOf IsTextOfInner };
 
     fn to_json(&self, alloc: Global) -> Result<Value, AllocError> {
-        displayed(alloc, self)
+        string_of(alloc, self)
     }
 
     fn from_json(alloc: Global, value: &Value) -> Result<Self, JsonError> {

@@ -8,7 +8,7 @@ ghost use Rattle.deno_semver.specs.declared.package.requirement.PackageReq.{Pack
 
 use super::read::package_req;
 use super::{PackageName, PackageReqParseError};
-use semver_base::string::{StringAppendable, StringType, append_displayed};
+use semver_base::string::{StringAppendable, StringType, append_displayed, displayed};
 use semver_req::common::values::Flavour;
 use semver_req::req::VersionReq;
 use std::alloc::{AllocError, Global};
@@ -29,7 +29,7 @@ pub(crate) fn normal_req_text(alloc: Global, req: &PackageReq) -> Result<String,
     ensures { IfOk result (λ text. string_bytes text ≡ normal_req_text req.now) }
 {
     let (name, inner) = (&req.name, req.version_req.inner());
-    format!(in alloc; "{name}@{inner}")
+    displayed(alloc, &format_args!("{name}@{inner}"))
 }
 
 impl PackageReq {
