@@ -5,6 +5,7 @@
 //! `version`; `npm`, versions as npm reads them; `range`; `partial`; and `laws`, what `==`, hashes and texts of all of these say. Each stands on those before it alone.
 #![tactic(auto)]
 
+mod dotted;
 pub mod failure;
 pub mod laws;
 pub mod lexical;

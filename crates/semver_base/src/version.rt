@@ -16,6 +16,7 @@ ghost use Rattle.semver_base.specs.Precedence.{identifier_cmp, number_of, number
 ghost use Rattle.semver_base.specs.PrecedenceLaws.{version_po, version_ties, version_total, SamePrecedence};
 ghost use Rattle.semver_base.specs.VersionText.{ReadsBack, marked, version_text};
 
+use crate::dotted::{DOTTED_ROOM, dotted};
 use crate::failure::{ParseFailure, Refusal};
 use crate::lexical;
 use crate::lexical::values::{Measured, Strictness};
@@ -377,8 +378,11 @@ impl fmt::Display for Version {
     ghost output = { λ version. Some (version_text version) };
 
     fn fmt<W: fmt::Write>(&self, f: &mut fmt::Formatter<W>) -> fmt::Result {
-        let (major, minor, patch) = (self.major, self.minor, self.patch);
-        write!(f, "{major}.{minor}.{patch}")?;
+        let mut room = [0; DOTTED_ROOM];
+        f.write_str(dotted(self.major, self.minor, self.patch, &mut room))?;
+        if self.pre.is_empty() && self.build.is_empty() {
+            return Ok(());
+        }
         write_marked(f, '-', self.pre.as_slice())?;
         write_marked(f, '+', self.build.as_slice())
     }
