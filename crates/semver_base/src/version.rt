@@ -1,6 +1,6 @@
 //! Versions: how they are read and written, and their precedence.
 
-ghost use Rattle.std.specs.Prelude.{◌≡◌, ◌<◌, ◌∷◌, ◌↔◌, ◌⊎◌, refl, Result, Ok, Err, IfOk, IfErr, IsTrue, [], None, Some};
+ghost use Rattle.std.specs.Prelude.{◌≡◌, ◌<◌, ◌==◌, ◌&&◌, ◌∷◌, ◌↔◌, ◌⊎◌, length, refl, Result, Ok, Err, IfOk, IfErr, IsTrue, [], None, Some};
 ghost use Rattle.std.specs.Fmt.{DisplaysOnOk};
 ghost use Rattle.std.specs.Str.{trim};
 ghost use Rattle.std.specs.Cmp.{IsTotalOrder};
@@ -335,11 +335,22 @@ fn cmp_numbers(a: &Version, b: &Version) -> Ordering
         .then(a.patch.cmp(&b.patch))
 }
 
-// The order of the pre-releases, and where they tie of the builds.
+// Whether the version has neither a pre-release nor a build.
+#[inline(always)]
+pub(crate) fn is_unqualified(version: &Version) -> bool
+    ensures { result ≡ ((length version.now.pre == 0) && (length version.now.build == 0)) }
+{
+    version.pre.is_empty() && version.build.is_empty()
+}
+
+// The order of the pre-releases, and where they tie of the builds. Mostly there are none.
 #[inline(never)]
 fn cmp_qualifiers(a: &Version, b: &Version) -> Ordering
     ensures { result ≡ qualifiers_cmp a.now b.now }
 {
+    if is_unqualified(a) && is_unqualified(b) {
+        return Ordering::Equal;
+    }
     cmp_pre(a.pre.as_slice(), b.pre.as_slice()).then_with(|| a
         .build
         .as_slice()
@@ -380,7 +391,7 @@ impl fmt::Display for Version {
     fn fmt<W: fmt::Write>(&self, f: &mut fmt::Formatter<W>) -> fmt::Result {
         let mut room = [0; DOTTED_ROOM];
         f.write_str(dotted(self.major, self.minor, self.patch, &mut room))?;
-        if self.pre.is_empty() && self.build.is_empty() {
+        if is_unqualified(self) {
             return Ok(());
         }
         write_marked(f, '-', self.pre.as_slice())?;

@@ -1,6 +1,6 @@
 //! How ranges and sets of ranges are written.
 
-ghost use Rattle.std.specs.Prelude.{◌≡◌, ◌+◌, ◌++◌, ◌==◌, ◌&&◌, ◌∷◌, [], Some, codes, length};
+ghost use Rattle.std.specs.Prelude.{◌≡◌, ◌+◌, ◌++◌, ◌==◌, ◌∷◌, [], Some, codes};
 ghost use Rattle.std.specs.Fmt.{DisplaysOnOk};
 ghost use Rattle.std.specs.List.{flat_map};
 ghost use Rattle.semver_base.specs.Forms.{form_comparators};
@@ -11,7 +11,7 @@ ghost use Rattle.semver_base.specs.VersionText.{version_text};
 
 use crate::range::{RangeBound, VersionBound, VersionBoundKind, VersionRange, VersionRangeSet};
 use crate::string::{StringAppendable, StringType, append_displayed};
-use crate::version::Version;
+use crate::version::{Version, is_unqualified};
 use std::alloc::{AllocError, Global};
 use std::fmt;
 
@@ -32,13 +32,6 @@ enum Form {
     End,
     // Both bounds with their signs.
     Both,
-}
-
-// Whether the version has neither a pre-release nor a build.
-fn is_unqualified(version: &Version) -> bool
-    ensures { result ≡ ((length version.now.pre == 0) && (length version.now.build == 0)) }
-{
-    version.pre.is_empty() && version.build.is_empty()
 }
 
 // Whether the version has these numbers, and neither a pre-release nor a build.
