@@ -494,7 +494,7 @@ impl VersionRange {
         ensures symmetric { result ≡ overlap other.now self.now }
         ensures no_common { OnFalse result (HoldNothingTogether self.now other.now) }
     {
-        self.start.starts_before(&other.end) && other.start.starts_before(&self.end)
+        self.start.starts_before(&other.end) & other.start.starts_before(&self.end)
     }
 }
 
