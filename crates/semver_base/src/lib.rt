@@ -2,9 +2,11 @@
 //!
 //! The lowest crate of the port of `deno_semver`. Its modules, bottom up: `string`, texts and lists; `failure`, why
 //! something was refused; `lexical`, the words at the front of a text; `plain`, texts of three numbers, read in one pass;
+//! `dotted`, the same, written at once;
 //! `version`; `npm`, versions as npm reads them; `range`; `partial`; and `laws`, what `==`, hashes and texts of all of these say. Each stands on those before it alone.
 #![tactic(auto)]
 
+mod dotted;
 pub mod failure;
 pub mod laws;
 pub mod lexical;

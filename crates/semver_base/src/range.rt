@@ -444,6 +444,19 @@ impl VersionRange {
         Ok(VersionRange { start, end })
     }
 
+    /// What [`VersionRange::clamp_into`] makes of the range without bounds and this one: its start is stopped at its end.
+    #[inline(always)]
+    pub fn into_stopped(self) -> Result<VersionRange, AllocError>
+        ensures { IfOk result (λ range. range ≡ clamped everything self) }
+    {
+        if self.start.is_unstopped(&self.end) {
+            return Ok(self);
+        }
+        let VersionRange { start, end } = self;
+        let start = start.stopped_at(&end)?;
+        Ok(VersionRange { start, end })
+    }
+
     /// Whether the end is exclusive and at the numbers 0.0.0, whatever its pre-release, so that no release matches. The
     /// end of [`VersionRange::none`] is such a one.
     #[tactic(auto, using(crate::proofs::OverlapLemmas::ends_no_release))]
@@ -481,7 +494,7 @@ impl VersionRange {
         ensures symmetric { result ≡ overlap other.now self.now }
         ensures no_common { OnFalse result (HoldNothingTogether self.now other.now) }
     {
-        self.start.starts_before(&other.end) && other.start.starts_before(&self.end)
+        self.start.starts_before(&other.end) & other.start.starts_before(&self.end)
     }
 }
 

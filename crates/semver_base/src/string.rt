@@ -367,6 +367,19 @@ pub trait StringAppendable {
         ensures err { OnErr result (T.text target.new ≡ T.text target.old) };
 }
 
+// The room that a text is begun with, into which most texts of requirements and packages fit.
+const ROOM: usize = 32;
+
+/// How the value is displayed, in a text that asks for its room at once and grows only where that is too little. It is an
+/// error only where no memory is left.
+pub fn displayed<D: fmt::Display>(alloc: Global, value: &D) -> Result<String, AllocError>
+    ensures { IfOk result (λ s. IfSome (D.output value.now) (λ text. string_bytes s ≡ text)) }
+{
+    let mut text = String::with_capacity(alloc, ROOM)?;
+    text.write(value)?;
+    Ok(text)
+}
+
 /// Appends how the value is displayed. Where no memory is left the target is unchanged.
 pub fn append_displayed<D: fmt::Display, T: StringType>(
     value: &D,
@@ -376,7 +389,7 @@ pub fn append_displayed<D: fmt::Display, T: StringType>(
     ensures ok { OnOk result (IfSome (D.output value.now) (λ text. T.text target.new ≡ T.text target.old ++ text)) }
     ensures err { OnErr result (T.text target.new ≡ T.text target.old) }
 {
-    let text = format!(in alloc; "{value}")?;
+    let text = displayed(alloc, value)?;
     target.push_str(text.as_str())
 }
 

@@ -1,6 +1,6 @@
 //! Versions: how they are read and written, and their precedence.
 
-ghost use Rattle.std.specs.Prelude.{◌≡◌, ◌<◌, ◌∷◌, ◌↔◌, ◌⊎◌, refl, Result, Ok, Err, IfOk, IfErr, IsTrue, [], None, Some};
+ghost use Rattle.std.specs.Prelude.{◌≡◌, ◌<◌, ◌==◌, ◌&&◌, ◌∷◌, ◌↔◌, ◌⊎◌, length, refl, Result, Ok, Err, IfOk, IfErr, IsTrue, [], None, Some};
 ghost use Rattle.std.specs.Fmt.{DisplaysOnOk};
 ghost use Rattle.std.specs.Str.{trim};
 ghost use Rattle.std.specs.Cmp.{IsTotalOrder};
@@ -16,6 +16,7 @@ ghost use Rattle.semver_base.specs.Precedence.{identifier_cmp, number_of, number
 ghost use Rattle.semver_base.specs.PrecedenceLaws.{version_po, version_ties, version_total, SamePrecedence};
 ghost use Rattle.semver_base.specs.VersionText.{ReadsBack, marked, version_text};
 
+use crate::dotted::{DOTTED_ROOM, dotted};
 use crate::failure::{ParseFailure, Refusal};
 use crate::lexical;
 use crate::lexical::values::{Measured, Strictness};
@@ -334,11 +335,22 @@ fn cmp_numbers(a: &Version, b: &Version) -> Ordering
         .then(a.patch.cmp(&b.patch))
 }
 
-// The order of the pre-releases, and where they tie of the builds.
+// Whether the version has neither a pre-release nor a build.
+#[inline(always)]
+pub(crate) fn is_unqualified(version: &Version) -> bool
+    ensures { result ≡ ((length version.now.pre == 0) && (length version.now.build == 0)) }
+{
+    version.pre.is_empty() && version.build.is_empty()
+}
+
+// The order of the pre-releases, and where they tie of the builds. Mostly there are none.
 #[inline(never)]
 fn cmp_qualifiers(a: &Version, b: &Version) -> Ordering
     ensures { result ≡ qualifiers_cmp a.now b.now }
 {
+    if is_unqualified(a) && is_unqualified(b) {
+        return Ordering::Equal;
+    }
     cmp_pre(a.pre.as_slice(), b.pre.as_slice()).then_with(|| a
         .build
         .as_slice()
@@ -377,8 +389,11 @@ impl fmt::Display for Version {
     ghost output = { λ version. Some (version_text version) };
 
     fn fmt<W: fmt::Write>(&self, f: &mut fmt::Formatter<W>) -> fmt::Result {
-        let (major, minor, patch) = (self.major, self.minor, self.patch);
-        write!(f, "{major}.{minor}.{patch}")?;
+        let mut room = [0; DOTTED_ROOM];
+        f.write_str(dotted(self.major, self.minor, self.patch, &mut room))?;
+        if is_unqualified(self) {
+            return Ok(());
+        }
         write_marked(f, '-', self.pre.as_slice())?;
         write_marked(f, '+', self.build.as_slice())
     }

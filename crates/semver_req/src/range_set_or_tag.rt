@@ -67,8 +67,25 @@ fn is_everything(piece: &str, is_followed: bool) -> bool
 }
 
 impl RangeOrInvalid {
-    // The range of these comparators and one more.
+    // The range of one comparator. It is taken over as it is, and only its start is looked at.
     #[inline(always)]
+    fn of_one(alloc: Global, written: Written) -> Result<RangeOrInvalid, ParseFailure>
+        ensures value { (p : Partial) → written.partial ≡ sized_partial p
+            → IfOk result (λ read. read ≡ joined (comparator_of written.mark p ∷ [])) }
+        ensures memory { IfErr result (λ failure. failure ≡ None) }
+    {
+        let Written { mark, partial } = written;
+        let Measured::Fits(partial) = partial else {
+            return Ok(RangeOrInvalid::Invalid(Refusal::NumberTooLarge));
+        };
+        match mark.range(alloc, &partial) {
+            Ok(range) => Ok(RangeOrInvalid::Range(range.into_stopped()?)),
+            Err(failure) if failure.is_memory() => Err(failure),
+            Err(_) => Ok(RangeOrInvalid::Invalid(Refusal::BoundTooLarge)),
+        }
+    }
+
+    // The range of these comparators and one more.
     fn and(self, alloc: Global, written: Written) -> Result<RangeOrInvalid, ParseFailure>
         ensures value { (cs : List Comparator) (p : Partial) → self ≡ joined cs → written.partial ≡ sized_partial p
             → IfOk result (λ read. read ≡ joined (cs ++ comparator_of written.mark p ∷ [])) }
@@ -102,7 +119,7 @@ impl RangeOrInvalid {
         let Some((first, mut rest)) = comparator_front(alloc, text, flavour)? else {
             return Ok(None);
         };
-        let mut read = RangeOrInvalid::Range(VersionRange::all()).and(alloc, first)?;
+        let mut read = RangeOrInvalid::of_one(alloc, first)?;
         while let Some(next) = after_separator(rest, flavour) {
             let Some((written, more)) = comparator_front(alloc, next, flavour)? else {
                 return Ok(Some((read, next)));

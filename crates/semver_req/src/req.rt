@@ -16,7 +16,7 @@ mod least;
 use crate::range_set_or_tag::RangeSetOrTag;
 use semver_base::failure::ParseFailure;
 use semver_base::range::{PreRelease, RangeBound, VersionRange, VersionRangeSet};
-use semver_base::string::{CowVec, SmallStackString};
+use semver_base::string::{CowVec, SmallStackString, displayed};
 use semver_base::version::Version;
 use std::alloc::{AllocError, Global};
 use std::fmt;
@@ -101,8 +101,7 @@ impl From<VersionReqNormalizedParseError> for ParseFailure {
 fn normal_text(alloc: Global, requirement: &VersionReq) -> Result<String, AllocError>
     ensures { IfOk result (λ text. string_bytes text ≡ inner_text requirement.now.inner) }
 {
-    let inner = &requirement.inner;
-    format!(in alloc; "{inner}")
+    displayed(alloc, &requirement.inner)
 }
 
 impl VersionReq {
@@ -267,7 +266,7 @@ pub trait IntoVersionReq {
 fn pinned(alloc: Global, version: Version) -> Result<VersionReq, AllocError>
     ensures { IfOk result (λ req. req ≡ pinned version) }
 {
-    let text = format!(in alloc; "{version}")?;
+    let text = displayed(alloc, &version)?;
     let raw_text = SmallStackString::from_string(alloc, text)?;
     let start = RangeBound::inclusive(version.copy()?);
     let end = RangeBound::inclusive(version);

@@ -25,7 +25,7 @@ use crate::jsr::{JsrDepPackageReq, JsrPackageNvReference};
 use crate::npm::NpmPackageNvReference;
 use crate::package::{PackageNv, PackageReq, normal_req_text};
 use semver_base::range::VersionBoundKind;
-use semver_base::string::{SmallStackString, StackString};
+use semver_base::string::{SmallStackString, StackString, displayed};
 use semver_base::version::Version;
 use semver_req::range_set_or_tag::RangeSetOrTag;
 use serde_json::Value;
@@ -44,11 +44,10 @@ trait TextForm: Drop {
 }
 
 // The string of how the value is displayed.
-fn displayed<D: fmt::Display>(alloc: Global, value: &D) -> Result<Value, AllocError>
+fn string_of<D: fmt::Display>(alloc: Global, value: &D) -> Result<Value, AllocError>
     ensures { IfOk result (λ json. IfSome (D.output value.now) (λ text. view json ≡ string text)) }
 {
-    let text = format!(in alloc; "{value}")?;
-    Ok(Value::String(text))
+    Ok(Value::String(displayed(alloc, value)?))
 }
 
 // The value that is read of the text of a string.
@@ -192,7 +191,7 @@ impl JsonForm for SmallStackString {
     ghost stands_for = { IsStringOf IsTextItself };
 
     fn to_json(&self, alloc: Global) -> Result<Value, AllocError> {
-        displayed(alloc, self)
+        string_of(alloc, self)
     }
 
     fn from_json(alloc: Global, value: &Value) -> Result<Self, JsonError> {
@@ -207,7 +206,7 @@ impl JsonForm for StackString {
     ghost stands_for = { IsStringOf IsTextItself };
 
     fn to_json(&self, alloc: Global) -> Result<Value, AllocError> {
-        displayed(alloc, self)
+        string_of(alloc, self)
     }
 
     fn from_json(alloc: Global, value: &Value) -> Result<Self, JsonError> {
@@ -222,7 +221,7 @@ impl JsonForm for Version {
     ghost stands_for = { IsStringOf IsTextOfVersion };
 
     fn to_json(&self, alloc: Global) -> Result<Value, AllocError> {
-        displayed(alloc, self)
+        string_of(alloc, self)
     }
 
     fn from_json(alloc: Global, value: &Value) -> Result<Self, JsonError> {
@@ -237,7 +236,7 @@ impl JsonForm for PackageNv {
     ghost stands_for = { IsStringOf IsTextOfNv };
 
     fn to_json(&self, alloc: Global) -> Result<Value, AllocError> {
-        displayed(alloc, self)
+        string_of(alloc, self)
     }
 
     fn from_json(alloc: Global, value: &Value) -> Result<Self, JsonError> {
@@ -285,7 +284,7 @@ impl JsonForm for JsrPackageNvReference {
     ghost stands_for = { IsStringOf (IsTextOfReference kind.Jsr) };
 
     fn to_json(&self, alloc: Global) -> Result<Value, AllocError> {
-        displayed(alloc, self)
+        string_of(alloc, self)
     }
 
     fn from_json(alloc: Global, value: &Value) -> Result<Self, JsonError> {
@@ -300,7 +299,7 @@ impl JsonForm for NpmPackageNvReference {
     ghost stands_for = { IsStringOf (IsTextOfReference kind.Npm) };
 
     fn to_json(&self, alloc: Global) -> Result<Value, AllocError> {
-        displayed(alloc, self)
+        string_of(alloc, self)
     }
 
     fn from_json(alloc: Global, value: &Value) -> Result<Self, JsonError> {
@@ -324,7 +323,7 @@ impl JsonForm for JsrDepPackageReq {
             → IsDependencyOutcome Npm text (Ok self.now) → IsStoredDependency self.now (view json)) }
     {
         let normal = self.to_string_normalized(alloc)?;
-        displayed(alloc, &normal)
+        string_of(alloc, &normal)
     }
 
     fn from_json(alloc: Global, value: &Value) -> Result<Self, JsonError> {
@@ -339,7 +338,7 @@ impl JsonForm for RangeSetOrTag {
     ghost stands_for = { IsStringOf IsTextOfInner };
 
     fn to_json(&self, alloc: Global) -> Result<Value, AllocError> {
-        displayed(alloc, self)
+        string_of(alloc, self)
     }
 
     fn from_json(alloc: Global, value: &Value) -> Result<Self, JsonError> {

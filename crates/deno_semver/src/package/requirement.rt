@@ -9,6 +9,7 @@ ghost use Rattle.deno_semver.specs.declared.package.values.PackageReq.{PackageRe
 use super::errors::PackageReqParseError;
 use super::read::package_req;
 use super::values::{PackageName, PackageReq};
+use semver_base::string::displayed;
 use semver_req::common::values::Flavour;
 use std::alloc::{AllocError, Global};
 
@@ -17,7 +18,7 @@ pub(crate) fn normal_req_text(alloc: Global, req: &PackageReq) -> Result<String,
     ensures { IfOk result (λ text. string_bytes text ≡ normal_req_text req.now) }
 {
     let (name, inner) = (&req.name, req.version_req.inner());
-    format!(in alloc; "{name}@{inner}")
+    displayed(alloc, &format_args!("{name}@{inner}"))
 }
 
 impl PackageReq {

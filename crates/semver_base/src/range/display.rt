@@ -1,16 +1,17 @@
 //! How ranges and sets of ranges are written.
 
-ghost use Rattle.std.specs.Prelude.{◌≡◌, ◌+◌, ◌++◌, ◌==◌, ◌&&◌, ◌∷◌, [], Some, codes, length};
+ghost use Rattle.std.specs.Prelude.{◌≡◌, ◌+◌, ◌++◌, ◌==◌, ◌∷◌, [], Some, codes};
 ghost use Rattle.std.specs.Fmt.{DisplaysOnOk};
 ghost use Rattle.std.specs.List.{flat_map};
 ghost use Rattle.semver_base.specs.Forms.{form_comparators};
 ghost use Rattle.semver_base.specs.NormalText.{comparator_text, comparators_text, range_text, set_text};
 ghost use Rattle.semver_base.specs.PartialTable.{between};
 ghost use Rattle.semver_base.specs.Shortest.{ending, is_plain, shortest_between, starting};
+ghost use Rattle.semver_base.specs.VersionText.{version_text};
 
 use crate::range::{RangeBound, VersionBound, VersionBoundKind, VersionRange, VersionRangeSet};
 use crate::string::{StringAppendable, StringType, append_displayed};
-use crate::version::Version;
+use crate::version::{Version, is_unqualified};
 use std::alloc::{AllocError, Global};
 use std::fmt;
 
@@ -31,13 +32,6 @@ enum Form {
     End,
     // Both bounds with their signs.
     Both,
-}
-
-// Whether the version has neither a pre-release nor a build.
-fn is_unqualified(version: &Version) -> bool
-    ensures { result ≡ ((length version.now.pre == 0) && (length version.now.build == 0)) }
-{
-    version.pre.is_empty() && version.build.is_empty()
 }
 
 // Whether the version has these numbers, and neither a pre-release nor a build.
@@ -137,6 +131,15 @@ fn form_between(start: &VersionBound, end: &VersionBound) -> Form
     }
 }
 
+// Writes what leads the version, and the version.
+#[inline(always)]
+fn write_led<W: fmt::Write>(f: &mut fmt::Formatter<W>, lead: &str, version: &Version) -> fmt::Result
+    ensures { DisplaysOnOk W.write_str_gives f.old result (Some (lead.now ++ version_text version.now)) f.new }
+{
+    f.write_str(lead)?;
+    fmt::Display::fmt(version, f)
+}
+
 // Writes `>=` or `>` and the version.
 fn write_start<W: fmt::Write>(f: &mut fmt::Formatter<W>, start: &VersionBound) -> fmt::Result
     ensures { DisplaysOnOk W.write_str_gives f.old result
@@ -144,8 +147,8 @@ fn write_start<W: fmt::Write>(f: &mut fmt::Formatter<W>, start: &VersionBound) -
 {
     let version = &start.version;
     match start.kind {
-        VersionBoundKind::Inclusive => write!(f, ">={version}"),
-        VersionBoundKind::Exclusive => write!(f, ">{version}"),
+        VersionBoundKind::Inclusive => write_led(f, ">=", version),
+        VersionBoundKind::Exclusive => write_led(f, ">", version),
     }
 }
 
@@ -156,8 +159,8 @@ fn write_end<W: fmt::Write>(f: &mut fmt::Formatter<W>, end: &VersionBound) -> fm
 {
     let version = &end.version;
     match end.kind {
-        VersionBoundKind::Inclusive => write!(f, "<={version}"),
-        VersionBoundKind::Exclusive => write!(f, "<{version}"),
+        VersionBoundKind::Inclusive => write_led(f, "<=", version),
+        VersionBoundKind::Exclusive => write_led(f, "<", version),
     }
 }
 
@@ -188,11 +191,11 @@ fn write_between<W: fmt::Write>(
     let version = &start.version;
     let (major, minor) = (version.major, version.minor);
     match form_between(start, end) {
-        Form::Whole => write!(f, "{version}"),
+        Form::Whole => fmt::Display::fmt(version, f),
         Form::Major => write!(f, "{major}"),
         Form::Minor => write!(f, "{major}.{minor}"),
-        Form::Tilde => write!(f, "~{version}"),
-        Form::Caret => write!(f, "^{version}"),
+        Form::Tilde => write_led(f, "~", version),
+        Form::Caret => write_led(f, "^", version),
         Form::End => write_end(f, end),
         Form::Both => write_both(f, start, end),
     }
@@ -257,7 +260,7 @@ impl fmt::Display for VersionRangeSet {
         let Some((first, others)) = self.0.as_slice().split_first() else {
             return f.write_str("<0.0.0");
         };
-        write!(f, "{first}")?;
+        fmt::Display::fmt(first, f)?;
         write_others(f, others)
     }
 }

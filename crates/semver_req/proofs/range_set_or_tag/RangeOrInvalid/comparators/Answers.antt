@@ -1,4 +1,4 @@
-use Rattle.std.proofs.Common.{[], ◌∷◌, ◌++◌, refl, rules}
+use Rattle.std.proofs.Common.{[], ◌∷◌, ◌++◌, rules}
 use Rattle.semver_base.proofs.Lists.{so_far_more, so_far_one}
 use Rattle.semver_req.specs.Written.{comparator_of}
 use Rattle.semver_req.proofs.PieceReadings.{list_shorter, listing}
@@ -11,7 +11,7 @@ loop-next-init c =
       is_text = search rules;
       items = comparator_of c.in-Some.first.mark front.partial ∷ [];
       so_far = so_far_one (listing c.args.flavour) front.longest;
-      read = c.in_ok-read.ensures.value [] front.partial (rw c.all.ensures refl) front.seen;
+      read = c.in_ok-read.ensures.value front.partial front.seen;
     }
 
 pub loop-next-preserved : goal.loop-next-preserved
