@@ -6,4 +6,4 @@ mod reference;
 
 pub use dependency::{JsrDepPackageReq, JsrDepPackageReqParseError};
 pub use export::normalized_export_name;
-pub use reference::{JsrPackageNvReference, JsrPackageReqReference};
+pub use reference::{JsrPackageNvReference, JsrPackageReqReference, JsrRegistry};

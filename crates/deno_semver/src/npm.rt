@@ -3,7 +3,7 @@
 
 mod reference;
 
-pub use reference::{NpmPackageNvReference, NpmPackageReqReference};
+pub use reference::{NpmPackageNvReference, NpmPackageReqReference, NpmRegistry};
 pub use semver_req::npm::{
     NpmVersionParseError, NpmVersionReqParseError, is_valid_npm_tag, parse_npm_version,
     parse_npm_version_req,

@@ -9,6 +9,7 @@ mod order;
 mod read;
 mod reference;
 mod reference_errors;
+mod registry;
 mod requirement;
 mod specifier;
 mod sub_path;
@@ -25,8 +26,7 @@ pub use reference_errors::{
     PackageReqReferenceInvalidParseError, PackageReqReferenceInvalidWithVersionParseError,
     PackageReqReferenceParseError,
 };
+pub use registry::{Registry, RegistryNvReference, RegistryReqReference};
 pub(crate) use requirement::normal_req_text;
 pub use specifier::SpecifierError;
-pub(crate) use specifier::specifier_of;
-pub(crate) use sub_path::sub_path_text;
 pub use values::{PackageName, PackageNv, PackageReq, PackageSubPath};
