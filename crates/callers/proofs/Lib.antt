@@ -1,6 +1,7 @@
 pub mod Installing
 pub mod Locking
 pub mod ReadAgain
+pub mod TextsAllowed
 pub mod TextsAsked
 pub mod LeastTogether
 pub mod Updates

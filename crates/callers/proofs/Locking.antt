@@ -1,10 +1,37 @@
 -- What is read again of a requirement that a lockfile kept, from the contracts of its JSON.
-use Rattle.std.proofs.Common.{Result, Ok, Err, sym, subst}
-use Rattle.callers.specs.Lockfile.{Locks}
+use Rattle.std.proofs.Common.{◌≡◌, List, [], ◌∷◌, All, Result, Ok, Err, sym, subst, ◌∙◌}
+use Rattle.std.proofs.lemmas.List.Elements.{All-cons, All-nil}
+use Rattle.std.proofs.lemmas.List.Sorted.{All-permutation}
+use Rattle.std.specs.Result.{IsErrAnd}
+use Rattle.callers.specs.Lockfile.{IsLockedList, Locks}
 use Rattle.deno_semver.specs.JsonAnswers.{IsJsonAnswer}
+use Rattle.deno_semver.specs.Stored.{IsKeptReq, IsSettledReq}
+use Rattle.deno_semver.specs.StoredList.{IsSortedFrom, OneByOne}
 use Rattle.deno_semver.specs.declared.json.error.JsonError.{JsonError}
+use Rattle.deno_semver.specs.declared.json.error.JsonError.TheVariants as error
+use Rattle.deno_semver.specs.declared.package.values.PackageReq.{PackageReq}
 
 -- what is true of the value that is answered
 pub answered : {T : Type 0} (Says : T → Type 0) (x : T) (r : Result T JsonError) → IsJsonAnswer x r → Says x → Locks Says r
 answered Says x (Ok y) is h = subst Says (sym is) h
 answered Says x (Err e) is h = is
+
+-- what follows of the value that is answered
+pub locks_more : {T : Type 0} (P Q : T → Type 0) → ((x : T) → P x → Q x) → (r : Result T JsonError) → Locks P r → Locks Q r
+locks_more P Q more (Ok x) h = more x h
+locks_more P Q more (Err e) h = h
+
+-- the exit of a `?` for want of memory
+pub exit_locks : {T : Type 0} (Says : T → Type 0) (r : Result T JsonError) (e : JsonError) → IsErrAnd r (λ f. f ≡ e) → e ≡ error.Memory → Locks Says r
+exit_locks Says (Ok x) e is m = absurd is
+exit_locks Says (Err f) e is m = is ∙ m
+
+all_settled : (reqs kept : List PackageReq) → OneByOne IsKeptReq reqs kept → All IsSettledReq kept
+all_settled [] [] h = All-nil IsSettledReq
+all_settled [] (k ∷ ks) h = absurd h
+all_settled (req ∷ reqs) [] h = absurd h
+all_settled (req ∷ reqs) (k ∷ ks) h = All-cons IsSettledReq k ks h.0.settled (all_settled reqs ks h.1)
+
+-- what is kept of each requirement, sorted
+pub locked_of : (reqs kept again : List PackageReq) → OneByOne IsKeptReq reqs kept → IsSortedFrom kept again → IsLockedList reqs again
+locked_of reqs kept again h s = record { kept = kept; are_kept = h; is_sorted = s; settled = All-permutation IsSettledReq kept again s.same (all_settled reqs kept h) }

@@ -1,12 +1,13 @@
 -- What a lockfile keeps of a requirement of a package.
-use Rattle.std.specs.Prelude.{◌≡◌, ℕ, List, true, Result, Ok, MatchResult, IsUtf8}
+use Rattle.std.specs.Prelude.{◌≡◌, ℕ, List, true, All, Result, Ok, MatchResult, IsUtf8}
 use Rattle.std.specs.List.{list_all}
 use Rattle.semver_req.specs.Rereading.{keeps_meaning}
 use Rattle.semver_req.specs.declared.common.values.Flavour.TheVariants.{Npm}
 use Rattle.semver_req.specs.declared.range_set_or_tag.RangeSetOrTag.{RangeSetOrTag}
 use Rattle.semver_req.specs.declared.range_set_or_tag.RangeSetOrTag.TheVariants as inner
 use Rattle.deno_semver.specs.PackageOutcome.{IsPackageOutcome}
-use Rattle.deno_semver.specs.Stored.{IsReadFor, IsSettledReq}
+use Rattle.deno_semver.specs.Stored.{IsKeptReq, IsSettledReq}
+use Rattle.deno_semver.specs.StoredList.{IsSortedFrom, OneByOne}
 use Rattle.deno_semver.specs.declared.json.error.JsonError.{JsonError}
 use Rattle.deno_semver.specs.declared.json.error.JsonError.TheVariants as error
 use Rattle.deno_semver.specs.declared.package.values.PackageReq.{PackageReq}
@@ -19,12 +20,13 @@ Locks Says result = MatchResult result Says (λ e. e ≡ error.Memory)
 abbrev pub OfLoose : PackageReq → Type 0 → Type 0
 OfLoose req Says = (text : List ℕ) → IsUtf8 text → IsPackageOutcome Npm text (Ok req) → Says
 
--- what is read again of a requirement
-pub record IsLocked (req again : PackageReq) : Type 0 where
-  pub name : again.name ≡ req.name
-  -- the same tag, or ranges that match the same versions where each keeps its meaning
-  pub kept : IsReadFor req.version_req.inner again.version_req.inner
-  pub settled : IsSettledReq again
+-- what is read again of a list: of each requirement one with the same name, which keeps what that one means, and is settled;
+-- all in ascending order
+pub record IsLockedList (reqs again : List PackageReq) : Type 0 where
+  pub kept : List PackageReq
+  pub are_kept : OneByOne IsKeptReq reqs kept
+  pub is_sorted : IsSortedFrom kept again
+  pub settled : All IsSettledReq again
 
 -- the ranges keep their meaning; a tag does
 abbrev pub KeepsMeaning : RangeSetOrTag → Type 0

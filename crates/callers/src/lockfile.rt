@@ -1,14 +1,16 @@
-//! Does a requirement of a package survive a lockfile, which keeps it as JSON?
+//! Does a requirement of a package, or a list of them, survive a lockfile, which keeps it as JSON?
 
-ghost use Rattle.std.specs.Prelude.{◌≡◌, true};
+ghost use Rattle.std.specs.Prelude.{◌≡◌, All, IsSorted, true};
 ghost use Rattle.deno_semver.specs.Equal.{AreEqualReqs};
-ghost use Rattle.deno_semver.specs.Stored.{IsSettledReq};
+ghost use Rattle.deno_semver.specs.ReqOrder.{req_cmp};
+ghost use Rattle.deno_semver.specs.Stored.{IsKeptReq, IsSettledReq};
+ghost use Rattle.deno_semver.specs.StoredList.{AreEqualLists, IsLooseReq};
 ghost use Rattle.callers.specs.Allowance.{allowance_of};
-ghost use Rattle.callers.specs.Lockfile.{IsLocked, KeepsMeaning, Locks, OfLoose};
+ghost use Rattle.callers.specs.Lockfile.{IsLockedList, KeepsMeaning, Locks, OfLoose};
 
 use crate::requirements::{Allowance, allowance_by};
 use deno_semver::Version;
-use deno_semver::json::{JsonError, JsonForm};
+use deno_semver::json::{JsonError, JsonForm, reqs_from_json, reqs_to_json};
 use deno_semver::laws::equal_package_requirements;
 use deno_semver::package::PackageReq;
 use std::alloc::Global;
@@ -17,7 +19,7 @@ use std::alloc::Global;
 /// the same name, and the same tag or ranges that mean the same where each keeps its meaning, which is settled. Of one
 /// that is settled an equal one.
 pub fn locked(alloc: Global, req: &PackageReq) -> Result<PackageReq, JsonError>
-    ensures loose { OfLoose req.now (Locks (IsLocked req.now) result) }
+    ensures loose { OfLoose req.now (Locks (IsKeptReq req.now) result) }
     ensures settled { IsSettledReq req.now → Locks (λ again. AreEqualReqs again req.now) result }
 {
     let entry = req.to_json(alloc)?;
@@ -45,4 +47,32 @@ pub fn allows_when_locked(
 {
     let again = locked(alloc, req)?;
     Ok(allowance_by(&again.version_req, version))
+}
+
+/// What is read of the entry that a lockfile keeps of a list of requirements? Of requirements that npm's reader read, those
+/// that [`locked`] tells of each, in ascending order. Of an ascending list of settled ones an equal list.
+pub fn locked_list(alloc: Global, reqs: &[PackageReq]) -> Result<Vec<PackageReq>, JsonError>
+    ensures loose { All IsLooseReq reqs.now
+        → Locks (λ again. IsLockedList reqs.now again.items) result }
+    ensures settled { All IsSettledReq reqs.now → IsSorted req_cmp reqs.now
+        → Locks (λ again. AreEqualLists again.items reqs.now) result }
+{
+    let entry = reqs_to_json(alloc, reqs)?;
+    reqs_from_json(alloc, &entry)
+}
+
+/// What is read of a lockfile's list, and what is read of that once it is kept again? Of requirements that npm's reader read
+/// an ascending list, and then an equal one.
+pub fn locked_list_twice(
+    alloc: Global,
+    reqs: &[PackageReq],
+) -> Result<(Vec<PackageReq>, Vec<PackageReq>), JsonError>
+    ensures once { All IsLooseReq reqs.now
+        → Locks (λ lists. IsLockedList reqs.now lists.0.items) result }
+    ensures twice { All IsLooseReq reqs.now
+        → Locks (λ lists. AreEqualLists lists.1.items lists.0.items) result }
+{
+    let once = locked_list(alloc, reqs)?;
+    let twice = locked_list(alloc, once.as_slice())?;
+    Ok((once, twice))
 }

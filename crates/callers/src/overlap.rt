@@ -1,14 +1,16 @@
 //! Do two requirements allow a version in common?
 
-ghost use Rattle.std.specs.Prelude.{◌≡◌, ◌&&◌, None};
+ghost use Rattle.std.specs.Prelude.{◌≡◌, ◌&&◌, None, not};
 ghost use Rattle.std.specs.Bool.{OnTrue};
-ghost use Rattle.semver_req.specs.Requirement.{MatchNoVersion, inner_means, tag_of};
+ghost use Rattle.semver_req.specs.Requirement.{MatchNoVersion, inner_means, inner_overlap, tag_of};
 
 use deno_semver::{Version, VersionReq};
 
-/// Can no version at all be allowed by both requirements? A yes is sure; a no says nothing.
-pub fn have_no_common_version(one: &VersionReq, other: &VersionReq) -> bool
-    ensures { OnTrue result (MatchNoVersion one.now.inner other.now.inner) }
+/// Are the requirements so far apart that no version at all is allowed by both? They are exactly where their bounds don't
+/// overlap. A yes is sure; a no says nothing of versions.
+pub fn are_surely_apart(one: &VersionReq, other: &VersionReq) -> bool
+    ensures bounds { result ≡ not (inner_overlap one.now.inner other.now.inner) }
+    ensures no_common { OnTrue result (MatchNoVersion one.now.inner other.now.inner) }
 {
     !one.intersects(other)
 }
@@ -20,7 +22,7 @@ pub fn is_allowed_by_both(one: &VersionReq, other: &VersionReq, version: &Versio
     ensures { result
         ≡ (inner_means one.now.inner version.now && inner_means other.now.inner version.now) }
 {
-    if have_no_common_version(one, other) {
+    if are_surely_apart(one, other) {
         return false;
     }
     one.matches(version) && other.matches(version)

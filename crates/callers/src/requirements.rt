@@ -87,8 +87,8 @@ pub fn allowed_by_specifier(
 
 /// Is the version that one text is allowed by the requirement that the other is, both as npm reads them?
 ///
-/// For every tree of comparators and the version of the texts it is exactly where the tree means the version. Otherwise
-/// the answer is the refusal of either text, or want of memory.
+/// For every tree of comparators and the version of the texts it is exactly where the tree means the version, and a text
+/// that is a tag is told as one. Otherwise the answer is the refusal of either text, or want of memory.
 pub fn text_allowed_by_npm(
     alloc: Global,
     requirement: &str,

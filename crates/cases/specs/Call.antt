@@ -36,6 +36,7 @@ value_call_name values.Refusal = codes "refusal"
 value_call_name values.Range = codes "range"
 value_call_name values.SameRange = codes "same-range"
 value_call_name values.TagRequirement = codes "tag-requirement"
+value_call_name values.MemoryError = codes "memory-error"
 
 abbrev pub version_call_name : VersionCall → List ℕ
 version_call_name versions.Version = codes "version"
@@ -59,6 +60,9 @@ requirement_call_name requirements.Pinned = codes "pinned"
 requirement_call_name requirements.MatchesWith = codes "matches-with"
 requirement_call_name requirements.MaxSatisfying = codes "max-satisfying"
 requirement_call_name requirements.MinSatisfying = codes "min-satisfying"
+requirement_call_name requirements.MaxSatisfyingWith = codes "max-satisfying-with"
+requirement_call_name requirements.MinSatisfyingWith = codes "min-satisfying-with"
+requirement_call_name requirements.Ample = codes "ample"
 
 abbrev pub range_call_name : RangeCall → List ℕ
 range_call_name ranges.Satisfies = codes "satisfies"
@@ -90,9 +94,11 @@ text_call_name texts.Pushed = codes "pushed"
 text_call_name texts.Replaced = codes "replaced"
 text_call_name texts.Grown = codes "grown"
 text_call_name texts.Written = codes "written"
+text_call_name texts.InValue = codes "in-value"
 
 abbrev pub package_call_name : PackageCall → List ℕ
 package_call_name packages.NameVersion = codes "name-version"
+package_call_name packages.NameVersionError = codes "name-version-error"
 package_call_name packages.Package = codes "package"
 package_call_name packages.PackageError = codes "package-error"
 package_call_name packages.Order = codes "order"
@@ -114,8 +120,12 @@ dependency_call_name dependencies.DependencyMade = codes "dependency-made"
 
 abbrev pub json_call_name : JsonCall → List ℕ
 json_call_name json_forms.Json = codes "json"
+json_call_name json_forms.JsonError = codes "json-error"
 json_call_name json_forms.JsonOf = codes "json-of"
 json_call_name json_forms.Stored = codes "stored"
+json_call_name json_forms.ReqsJson = codes "reqs-json"
+json_call_name json_forms.ReqsOfJson = codes "reqs-of-json"
+json_call_name json_forms.ReqsStored = codes "reqs-stored"
 
 abbrev pub least_call_name : LeastCall → List ℕ
 least_call_name least.MinVersion = codes "min-version"

@@ -37,7 +37,7 @@ pub enum Call {
 
 impl Call {
     /// All calls, in the order in which they are counted.
-    pub const ALL: [Call; 76] = [
+    pub const ALL: [Call; 86] = [
         Call::Values(ValueCall::Text),
         Call::Values(ValueCall::Items),
         Call::Values(ValueCall::Failure),
@@ -101,6 +101,9 @@ impl Call {
         Call::JsonForms(JsonCall::Json),
         Call::JsonForms(JsonCall::JsonOf),
         Call::JsonForms(JsonCall::Stored),
+        Call::JsonForms(JsonCall::ReqsJson),
+        Call::JsonForms(JsonCall::ReqsOfJson),
+        Call::JsonForms(JsonCall::ReqsStored),
         Call::Least(LeastCall::MinVersion),
         Call::Least(LeastCall::CommonVersion),
         Call::Least(LeastCall::CommonWithAll),
@@ -114,6 +117,13 @@ impl Call {
         Call::Requirements(RequirementCall::MatchesWith),
         Call::Requirements(RequirementCall::MaxSatisfying),
         Call::Requirements(RequirementCall::MinSatisfying),
+        Call::Requirements(RequirementCall::MaxSatisfyingWith),
+        Call::Requirements(RequirementCall::MinSatisfyingWith),
+        Call::Requirements(RequirementCall::Ample),
+        Call::Texts(TextCall::InValue),
+        Call::Packages(PackageCall::NameVersionError),
+        Call::JsonForms(JsonCall::JsonError),
+        Call::Values(ValueCall::MemoryError),
     ];
 
     /// The first word of a question that asks the call.

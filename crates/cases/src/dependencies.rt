@@ -115,17 +115,16 @@ fn dependency_error(alloc: Global, words: &[Word<'_>]) -> Answer {
         return Err(Fault::Unreadable);
     };
     let error = read(alloc, reader, text)?.err().ok_or(Fault::Unreadable)?;
+    if error.is_memory() {
+        return Err(Fault::OutOfMemory);
+    }
     let line = format!(in alloc; "{error}")?;
     answer(alloc, &[Some(line.as_str())])
 }
 
 // The dependency that npm's reader reads.
 fn loose(alloc: Global, text: &str) -> Result<JsrDepPackageReq, Fault> {
-    match JsrDepPackageReq::from_str_loose(alloc, text) {
-        Ok(dependency) => Ok(dependency),
-        Err(error) if error.is_memory() => Err(Fault::OutOfMemory),
-        Err(_) => Err(Fault::Unreadable),
-    }
+    Ok(JsrDepPackageReq::from_str_loose(alloc, text)?)
 }
 
 // `dependency-order`, two texts of dependencies, by npm's reader: how the first compares to the second.
@@ -146,9 +145,7 @@ fn dependency_made(alloc: Global, words: &[Word<'_>]) -> Answer {
     let [Some(registry), Some(text)] = words else {
         return Err(Fault::Unreadable);
     };
-    let Ok(req) = PackageReq::from_str(alloc, text) else {
-        return Err(Fault::Unreadable);
-    };
+    let req = PackageReq::from_str(alloc, text)?;
     let dependency = match *registry {
         "jsr" => JsrDepPackageReq::jsr(req),
         "npm" => JsrDepPackageReq::npm(req),

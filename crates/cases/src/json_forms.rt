@@ -4,7 +4,7 @@ ghost use Rattle.std.specs.Prelude.{◌≡◌};
 ghost use Rattle.cases.specs.Call.{json_call_name};
 
 use crate::words::{Answer, Fault, Word, answer, yes_or_no};
-use deno_semver::json::{JsonError, JsonForm};
+use deno_semver::json::{JsonError, JsonForm, reqs_from_json, reqs_to_json};
 use deno_semver::jsr::{JsrDepPackageReq, JsrPackageNvReference};
 use deno_semver::npm::NpmPackageNvReference;
 use deno_semver::package::{PackageNv, PackageReq};
@@ -19,8 +19,12 @@ use std::alloc::Global;
 #[derive(Clone, Copy, Debug, PartialEq, Eq)]
 pub enum JsonCall {
     Json,
+    JsonError,
     JsonOf,
     Stored,
+    ReqsJson,
+    ReqsOfJson,
+    ReqsStored,
 }
 
 impl JsonCall {
@@ -30,8 +34,12 @@ impl JsonCall {
     {
         match self {
             JsonCall::Json => "json",
+            JsonCall::JsonError => "json-error",
             JsonCall::JsonOf => "json-of",
             JsonCall::Stored => "stored",
+            JsonCall::ReqsJson => "reqs-json",
+            JsonCall::ReqsOfJson => "reqs-of-json",
+            JsonCall::ReqsStored => "reqs-stored",
         }
     }
 
@@ -39,8 +47,12 @@ impl JsonCall {
     pub fn ask(self, alloc: Global, words: &[Word<'_>]) -> Answer {
         match self {
             JsonCall::Json => json(alloc, words),
+            JsonCall::JsonError => json_error(alloc, words),
             JsonCall::JsonOf => json_of(alloc, words),
             JsonCall::Stored => stored(alloc, words),
+            JsonCall::ReqsJson => reqs_json(alloc, words),
+            JsonCall::ReqsOfJson => reqs_of_json(alloc, words),
+            JsonCall::ReqsStored => reqs_stored(alloc, words),
         }
     }
 }
@@ -92,6 +104,21 @@ fn json(alloc: Global, words: &[Word<'_>]) -> Answer {
     }
 }
 
+// `json-error`, a JSON text that stands for no version: the line of a copy of the error.
+fn json_error(alloc: Global, words: &[Word<'_>]) -> Answer {
+    let [Some(text)] = words else {
+        return Err(Fault::Unreadable);
+    };
+    match Version::from_json(alloc, &value_of(alloc, text)?) {
+        Ok(_) => Err(Fault::Unreadable),
+        Err(JsonError::Memory) => Err(Fault::OutOfMemory),
+        Err(error) => {
+            let copy = error.copy()?;
+            answer(alloc, &[Some(format!(in alloc; "{copy}")?.as_str())])
+        }
+    }
+}
+
 // The requirement of a package that the reader of this name makes of a text.
 fn package(alloc: Global, reader: &str, text: &str) -> Result<PackageReq, Fault> {
     let read = match reader {
@@ -99,7 +126,7 @@ fn package(alloc: Global, reader: &str, text: &str) -> Result<PackageReq, Fault>
         "loose" => PackageReq::from_str_loose(alloc, text),
         _ => return Err(Fault::Unreadable),
     };
-    read.map_err(|_| Fault::Unreadable)
+    Ok(read?)
 }
 
 // The dependency that the reader of this name makes of a text.
@@ -109,7 +136,7 @@ fn dependency(alloc: Global, reader: &str, text: &str) -> Result<JsrDepPackageRe
         "loose" => JsrDepPackageReq::from_str_loose(alloc, text),
         _ => return Err(Fault::Unreadable),
     };
-    read.map_err(|_| Fault::Unreadable)
+    Ok(read?)
 }
 
 // The JSON value of the ranges of a requirement.
@@ -157,4 +184,66 @@ fn stored(alloc: Global, words: &[Word<'_>]) -> Answer {
         "JsrDepPackageReq" => is_read_back(alloc, &dependency(alloc, reader, text)?),
         _ => Err(Fault::Unreadable),
     }
+}
+
+// The requirements of packages that npm's reader makes of texts.
+fn all_loose(alloc: Global, words: &[Word<'_>]) -> Result<Vec<PackageReq>, Fault> {
+    let mut reqs = Vec::new(alloc);
+    for word in words {
+        let Some(text) = word else {
+            return Err(Fault::Unreadable);
+        };
+        if reqs.push(package(alloc, "loose", text)?).is_err() {
+            return Err(Fault::OutOfMemory);
+        }
+    }
+    Ok(reqs)
+}
+
+// `reqs-json` and any number of texts of packages, by npm's reader: the JSON value of their list.
+fn reqs_json(alloc: Global, words: &[Word<'_>]) -> Answer {
+    let reqs = all_loose(alloc, words)?;
+    let text = reqs_to_json(alloc, reqs.as_slice())?.to_string(alloc)?;
+    answer(alloc, &[Some(text.as_str())])
+}
+
+// `read`, and how each requirement is displayed.
+fn read_list(alloc: Global, reqs: &[PackageReq]) -> Answer {
+    let mut words = answer(alloc, &[Some("read")])?;
+    for req in reqs {
+        if words.push(Some(format!(in alloc; "{req}")?)).is_err() {
+            return Err(Fault::OutOfMemory);
+        }
+    }
+    Ok(words)
+}
+
+// `reqs-of-json` and a JSON text: `read`, and how each requirement of the list that is read of it is displayed; or `refused`
+// and the line of the error.
+fn reqs_of_json(alloc: Global, words: &[Word<'_>]) -> Answer {
+    let [Some(text)] = words else {
+        return Err(Fault::Unreadable);
+    };
+    match reqs_from_json(alloc, &value_of(alloc, text)?) {
+        Ok(reqs) => read_list(alloc, reqs.as_slice()),
+        Err(JsonError::Json) => answer(alloc, &[Some("refused"), Some("Invalid JSON value")]),
+        Err(JsonError::Memory) => Err(Fault::OutOfMemory),
+    }
+}
+
+// What is read of the JSON value of a list.
+fn read_again(alloc: Global, reqs: &[PackageReq]) -> Result<Vec<PackageReq>, Fault> {
+    match reqs_from_json(alloc, &reqs_to_json(alloc, reqs)?) {
+        Ok(again) => Ok(again),
+        Err(JsonError::Json) => Err(Fault::Unreadable),
+        Err(JsonError::Memory) => Err(Fault::OutOfMemory),
+    }
+}
+
+// `reqs-stored` and any number of texts of packages, by npm's reader: whether what is read of the JSON value of their list is
+// equal to what is read of the JSON value of that.
+fn reqs_stored(alloc: Global, words: &[Word<'_>]) -> Answer {
+    let once = read_again(alloc, all_loose(alloc, words)?.as_slice())?;
+    let twice = read_again(alloc, once.as_slice())?;
+    yes_or_no(alloc, once == twice)
 }

@@ -14,6 +14,7 @@ use std::cmp::Ordering;
 #[derive(Clone, Copy, Debug, PartialEq, Eq)]
 pub enum PackageCall {
     NameVersion,
+    NameVersionError,
     Package,
     PackageError,
     Order,
@@ -26,6 +27,7 @@ impl PackageCall {
     {
         match self {
             PackageCall::NameVersion => "name-version",
+            PackageCall::NameVersionError => "name-version-error",
             PackageCall::Package => "package",
             PackageCall::PackageError => "package-error",
             PackageCall::Order => "order",
@@ -36,6 +38,7 @@ impl PackageCall {
     pub fn ask(self, alloc: Global, words: &[Word<'_>]) -> Answer {
         match self {
             PackageCall::NameVersion => name_version(alloc, words),
+            PackageCall::NameVersionError => name_version_error(alloc, words),
             PackageCall::Package => package(alloc, words),
             PackageCall::PackageError => package_error(alloc, words),
             PackageCall::Order => order(alloc, words),
@@ -107,6 +110,9 @@ fn package_error(alloc: Global, words: &[Word<'_>]) -> Answer {
         return Err(Fault::Unreadable);
     };
     let error = read(alloc, reader, text)?.err().ok_or(Fault::Unreadable)?;
+    if error.is_memory() {
+        return Err(Fault::OutOfMemory);
+    }
     let line = format!(in alloc; "{error}")?;
     let source = &error.source;
     let inner = format!(in alloc; "{source}")?;
@@ -115,11 +121,7 @@ fn package_error(alloc: Global, words: &[Word<'_>]) -> Answer {
 
 // The requirement of a package that npm's reader reads.
 fn loose(alloc: Global, text: &str) -> Result<PackageReq, Fault> {
-    match PackageReq::from_str_loose(alloc, text) {
-        Ok(req) => Ok(req),
-        Err(error) if error.is_memory() => Err(Fault::OutOfMemory),
-        Err(_) => Err(Fault::Unreadable),
-    }
+    Ok(PackageReq::from_str_loose(alloc, text)?)
 }
 
 // `order`, two texts of packages, by npm's reader: how the first requirement compares to the second.
@@ -146,6 +148,20 @@ fn name_version(alloc: Global, words: &[Word<'_>]) -> Answer {
         Err(error) if error.is_memory() => Err(Fault::OutOfMemory),
         Err(error) => answer(alloc, &[Some("refused"), Some(error.message.as_str())]),
     }
+}
+
+// `name-version-error`, a text that is no name and version: the line of a copy of the error.
+fn name_version_error(alloc: Global, words: &[Word<'_>]) -> Answer {
+    let [Some(text)] = words else {
+        return Err(Fault::Unreadable);
+    };
+    let refused = PackageNv::from_str(alloc, text).err();
+    let error = refused.ok_or(Fault::Unreadable)?.copy()?;
+    if error.is_memory() {
+        return Err(Fault::OutOfMemory);
+    }
+    let line = format!(in alloc; "{error}")?;
+    answer(alloc, &[Some(line.as_str())])
 }
 
 // What is told of a name and version that was read.

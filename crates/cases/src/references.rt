@@ -12,7 +12,7 @@ use deno_semver::package::{
     SpecifierError,
 };
 use std::alloc::Global;
-use url::Url;
+use url::{ParseError, Url};
 
 /// The calls on references to packages.
 #[derive(Clone, Copy, Debug, PartialEq, Eq)]
@@ -159,7 +159,11 @@ fn reference_refusal(
         "npm" => NpmPackageReqReference::from_str(alloc, text).err(),
         _ => None,
     };
-    error.ok_or(Fault::Unreadable)
+    match error {
+        Some(error) if error.is_memory() => Err(Fault::OutOfMemory),
+        Some(error) => Ok(error),
+        None => Err(Fault::Unreadable),
+    }
 }
 
 // `reference-error`, a registry, and a text that is no reference: the line of the error.
@@ -250,13 +254,17 @@ fn version_reference_refusal(
         "npm" => NpmPackageNvReference::from_str(alloc, text).err(),
         _ => None,
     };
-    error.ok_or(Fault::Unreadable)
+    match error {
+        Some(error) if error.is_memory() => Err(Fault::OutOfMemory),
+        Some(error) => Ok(error),
+        None => Err(Fault::Unreadable),
+    }
 }
 
-// `version-reference-error`, a registry, and a text that is no version reference: the line of the error.
+// `version-reference-error`, a registry, and a text that is no version reference: the line of a copy of the error.
 fn version_reference_error(alloc: Global, words: &[Word<'_>]) -> Answer {
     let (registry, text) = pair(words)?;
-    let error = version_reference_refusal(alloc, registry, text)?;
+    let error = version_reference_refusal(alloc, registry, text)?.copy()?;
     let line = format!(in alloc; "{error}")?;
     answer(alloc, &[Some(line.as_str())])
 }
@@ -291,7 +299,7 @@ fn told_specifier(alloc: Global, specifier: Result<Url, SpecifierError>) -> Answ
 
 // The URL that a text is.
 fn url_of(alloc: Global, text: &str) -> Result<Url, Fault> {
-    Url::parse(alloc, text).map_err(|_| Fault::Unreadable)
+    Url::parse(alloc, text).map_err(|error| Fault::unless_memory(error == ParseError::OutOfMemory))
 }
 
 // `of-specifier`, a registry, and the text of a URL: what `reference` tells of it where it is a reference, and what

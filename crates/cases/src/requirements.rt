@@ -6,6 +6,7 @@ ghost use Rattle.cases.specs.Call.{requirement_call_name};
 use crate::shown;
 use crate::words::{Answer, Fault, Word, answer, yes_or_no};
 use deno_semver::npm::{is_valid_npm_tag, parse_npm_version, parse_npm_version_req};
+use deno_semver::package::PackageReq;
 use deno_semver::{
     IntoVersionReq, ParseFailure, PreRelease, RangeSetOrTag, Version, VersionReq, resolve,
 };
@@ -27,6 +28,9 @@ pub enum RequirementCall {
     MatchesWith,
     MaxSatisfying,
     MinSatisfying,
+    MaxSatisfyingWith,
+    MinSatisfyingWith,
+    Ample,
 }
 
 impl RequirementCall {
@@ -48,6 +52,9 @@ impl RequirementCall {
             RequirementCall::MatchesWith => "matches-with",
             RequirementCall::MaxSatisfying => "max-satisfying",
             RequirementCall::MinSatisfying => "min-satisfying",
+            RequirementCall::MaxSatisfyingWith => "max-satisfying-with",
+            RequirementCall::MinSatisfyingWith => "min-satisfying-with",
+            RequirementCall::Ample => "ample",
         }
     }
 
@@ -67,6 +74,9 @@ impl RequirementCall {
             RequirementCall::MatchesWith => matches_with(alloc, words),
             RequirementCall::MaxSatisfying => max_satisfying(alloc, words),
             RequirementCall::MinSatisfying => min_satisfying(alloc, words),
+            RequirementCall::MaxSatisfyingWith => max_satisfying_with(alloc, words),
+            RequirementCall::MinSatisfyingWith => min_satisfying_with(alloc, words),
+            RequirementCall::Ample => ample(alloc, words),
         }
     }
 }
@@ -230,6 +240,19 @@ fn versions_of(alloc: Global, words: &[Word<'_>]) -> Result<Vec<Version>, Fault>
     Ok(versions)
 }
 
+// A reader, a requirement and versions: the requirement and the versions.
+fn requirement_and_versions(
+    alloc: Global,
+    words: &[Word<'_>],
+) -> Result<(VersionReq, Vec<Version>), Fault> {
+    let [Some(reader), Some(requirement), versions @ ..] = words else {
+        return Err(Fault::Unreadable);
+    };
+    let requirement = read(alloc, reader, requirement)?;
+    let versions = versions_of(alloc, versions)?;
+    Ok((requirement, versions))
+}
+
 // A reader, a requirement, `restricted` or `admitted` and versions: the requirement and the others.
 fn choice_of(
     alloc: Global,
@@ -252,9 +275,35 @@ fn place(alloc: Global, place: Option<usize>) -> Answer {
     }
 }
 
-// `max-satisfying`, a reader, a requirement, `restricted` or `admitted` and versions: the place of the greatest one that
-// matches, from 0, or `none`; or `tag` and the tag.
+// `max-satisfying`, a reader, a requirement and versions: the place of the greatest one that matches, from 0, or `none`; or
+// `tag` and the tag.
 fn max_satisfying(alloc: Global, words: &[Word<'_>]) -> Answer {
+    let (requirement, versions) = requirement_and_versions(alloc, words)?;
+    match requirement.tag() {
+        None => place(
+            alloc,
+            resolve::max_satisfying(versions.as_slice(), &requirement),
+        ),
+        Some(tag) => answer(alloc, &[Some("tag"), Some(tag)]),
+    }
+}
+
+// `min-satisfying`, a reader, a requirement and versions: the place of the least one that matches, from 0, or `none`; or
+// `tag` and the tag.
+fn min_satisfying(alloc: Global, words: &[Word<'_>]) -> Answer {
+    let (requirement, versions) = requirement_and_versions(alloc, words)?;
+    match requirement.tag() {
+        None => place(
+            alloc,
+            resolve::min_satisfying(versions.as_slice(), &requirement),
+        ),
+        Some(tag) => answer(alloc, &[Some("tag"), Some(tag)]),
+    }
+}
+
+// `max-satisfying-with`, a reader, a requirement, `restricted` or `admitted` and versions: the place of the greatest one
+// that matches, from 0, or `none`; or `tag` and the tag.
+fn max_satisfying_with(alloc: Global, words: &[Word<'_>]) -> Answer {
     let (requirement, pre_release, versions) = choice_of(alloc, words)?;
     match requirement.tag() {
         None => place(
@@ -265,9 +314,9 @@ fn max_satisfying(alloc: Global, words: &[Word<'_>]) -> Answer {
     }
 }
 
-// `min-satisfying`, a reader, a requirement, `restricted` or `admitted` and versions: the place of the least one that
+// `min-satisfying-with`, a reader, a requirement, `restricted` or `admitted` and versions: the place of the least one that
 // matches, from 0, or `none`; or `tag` and the tag.
-fn min_satisfying(alloc: Global, words: &[Word<'_>]) -> Answer {
+fn min_satisfying_with(alloc: Global, words: &[Word<'_>]) -> Answer {
     let (requirement, pre_release, versions) = choice_of(alloc, words)?;
     match requirement.tag() {
         None => place(
@@ -276,6 +325,35 @@ fn min_satisfying(alloc: Global, words: &[Word<'_>]) -> Answer {
         ),
         Some(tag) => answer(alloc, &[Some("tag"), Some(tag)]),
     }
+}
+
+// Whether the three readers, that of versions and that of packages answer the text, each otherwise than for want of memory.
+fn is_answered(alloc: Global, text: &str) -> bool {
+    !VersionReq::parse_from_npm(alloc, text).is_err_and(|error| error.source.is_memory())
+        && !VersionReq::parse_from_normalized(alloc, text).is_err_and(|error| error
+            .source
+            .is_memory())
+        && !VersionReq::parse_from_specifier(alloc, text).is_err_and(|error| error
+            .source
+            .is_memory())
+        && !Version::parse_standard(alloc, text).is_err_and(|error| error.source.is_memory())
+        && !PackageReq::from_str(alloc, text).is_err_and(|error| error.is_memory())
+}
+
+// `ample`, a text and a number: whether the readers answer the text, alone and with up to so many `1` behind it, none of them
+// that it wants memory.
+fn ample(alloc: Global, words: &[Word<'_>]) -> Answer {
+    let [Some(text), Some(count)] = words else {
+        return Err(Fault::Unreadable);
+    };
+    let count = count.parse::<usize>().map_err(|_| Fault::Unreadable)?;
+    let mut longer = String::from_str(alloc, text)?;
+    let mut answered = is_answered(alloc, longer.as_str());
+    for _ in 0..count {
+        longer.push('1')?;
+        answered = answered && is_answered(alloc, longer.as_str());
+    }
+    yes_or_no(alloc, answered)
 }
 
 // The first line of the error, and that of its source.

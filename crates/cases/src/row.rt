@@ -1,7 +1,7 @@
 //! Rows of a table.
 
 use crate::call::Call;
-use crate::words::{Fault, Word, Words, refused};
+use crate::words::{Fault, Word, Words, out_of_memory, refused};
 use serde_json::Category;
 use std::alloc::{AllocError, Global};
 
@@ -76,14 +76,15 @@ impl Row {
             .collect(alloc)
     }
 
-    /// What the call answers, or why it can't be asked. A refusal is an answer too. It is an error only where no memory is
-    /// left.
+    /// What the call answers, or why it can't be asked. A refusal is an answer too, and so is that the call wanted memory.
+    /// It is an error only where no memory is left to ask with, or to tell the answer.
     pub fn ask(&self, alloc: Global) -> Result<Result<Words, Unreadable>, AllocError> {
         match self.call.ask(alloc, self.words(alloc)?.as_slice()) {
             Ok(answer) => Ok(Ok(answer)),
             Err(Fault::Refused(failure)) => Ok(Ok(refused(alloc, &failure)?)),
             Err(Fault::Unreadable) => Ok(Err(Unreadable::OtherWords)),
-            Err(Fault::OutOfMemory) => Err(AllocError),
+            Err(Fault::OutOfMemory) => Ok(Ok(out_of_memory(alloc)?)),
+            Err(Fault::Untold) => Err(AllocError),
         }
     }
 }

@@ -4,11 +4,15 @@ ghost use Rattle.std.specs.Prelude.{◌≡◌};
 ghost use Rattle.cases.specs.Call.{text_call_name};
 
 use crate::shown;
-use crate::words::{Answer, Fault, Word, answer};
+use crate::words::{Answer, Fault, Word, answer, yes_or_no};
+use deno_semver::jsr::{JsrDepPackageReq, JsrPackageNvReference, JsrPackageReqReference};
+use deno_semver::npm::{NpmPackageNvReference, NpmPackageReqReference};
+use deno_semver::package::{PackageNv, PackageReq};
 use deno_semver::{
-    CowVec, SmallStackString, StackString, StringAppendable, StringType, Version, VersionReq,
+    CowItem, CowVec, SmallStackString, StackString, StringAppendable, StringType, Version,
+    VersionReq,
 };
-use std::alloc::Global;
+use std::alloc::{AllocError, Global};
 use std::borrow::CowStr;
 use std::fmt;
 
@@ -20,6 +24,7 @@ pub enum TextCall {
     Replaced,
     Grown,
     Written,
+    InValue,
 }
 
 impl TextCall {
@@ -33,6 +38,7 @@ impl TextCall {
             TextCall::Replaced => "replaced",
             TextCall::Grown => "grown",
             TextCall::Written => "written",
+            TextCall::InValue => "in-value",
         }
     }
 
@@ -44,6 +50,7 @@ impl TextCall {
             TextCall::Replaced => replaced(alloc, words),
             TextCall::Grown => grown(alloc, words),
             TextCall::Written => written_as(alloc, words),
+            TextCall::InValue => in_value(alloc, words),
         }
     }
 }
@@ -156,6 +163,37 @@ fn replaced(alloc: Global, words: &[Word<'_>]) -> Answer {
     answer(alloc, &[Some(replaced.as_str())])
 }
 
+// The text with the other pushed to it at once and by character, copied and compared to what it was.
+fn keeps<T: StringType + CowItem + PartialEq>(
+    alloc: Global,
+    start: &str,
+    text: &str,
+) -> Result<bool, AllocError> {
+    let mut at_once = T::with_capacity(alloc, start.len())?;
+    at_once.push_str(start)?;
+    at_once.push_str(text)?;
+    let mut by_character = T::with_capacity(alloc, start.len())?;
+    by_character.push_str(start)?;
+    for character in text.chars() {
+        by_character.push(character)?;
+    }
+    Ok(at_once == by_character && at_once.copy()? == by_character)
+}
+
+// `in-value`, `small` or `stack`, a start and a text: whether the start with the text pushed to it, at once and character by
+// character, is the same text, copied too. It is an answer for want of memory where one of these wants memory.
+fn in_value(alloc: Global, words: &[Word<'_>]) -> Answer {
+    match words {
+        [Some("small"), Some(start), Some(text)] => {
+            yes_or_no(alloc, keeps::<SmallStackString>(alloc, start, text)?)
+        }
+        [Some("stack"), Some(start), Some(text)] => {
+            yes_or_no(alloc, keeps::<StackString>(alloc, start, text)?)
+        }
+        _ => Err(Fault::Unreadable),
+    }
+}
+
 // `grown`, identifiers and one more: a copy of their list with that pushed to it, and the list that was copied.
 fn grown(alloc: Global, words: &[Word<'_>]) -> Answer {
     let [Some(identifiers), Some(more)] = words else {
@@ -199,7 +237,9 @@ fn written<A: StringAppendable + fmt::Display>(alloc: Global, start: &str, value
 }
 
 // `written`, the kind of a value, the value and a start: how the value is displayed, and the start with the value's text
-// appended to it as a `String`, a `SmallStackString` and a `StackString`. An `inner` is what npm's reader makes of a text.
+// appended to it as a `String`, a `SmallStackString` and a `StackString`. An `inner` is what npm's reader makes of a text; a `package` and a
+// `dependency` are npm's too; `jsr`, `npm`, `jsr-version` and `npm-version` are references of these registries, `reference` and
+// `version-reference` what stands in npm's.
 fn written_as(alloc: Global, words: &[Word<'_>]) -> Answer {
     let [Some(kind), Some(value), Some(start)] = words else {
         return Err(Fault::Unreadable);
@@ -214,6 +254,55 @@ fn written_as(alloc: Global, words: &[Word<'_>]) -> Answer {
             start,
             VersionReq::parse_from_npm(alloc, value)?.inner(),
         ),
+        _ => written_of_package(alloc, kind, value, start),
+    }
+}
+
+// The same of packages, dependencies and references, as npm's reader makes them of a text.
+fn written_of_package(alloc: Global, kind: &str, value: &str, start: &str) -> Answer {
+    match kind {
+        "package" => written(alloc, start, &PackageReq::from_str_loose(alloc, value)?),
+        "name-version" => written(alloc, start, &PackageNv::from_str(alloc, value)?),
+        "dependency" => written(
+            alloc,
+            start,
+            &JsrDepPackageReq::from_str_loose(alloc, value)?,
+        ),
+        _ => written_of_reference(alloc, kind, value, start),
+    }
+}
+
+// The same of references of a registry, and of what stands in them.
+fn written_of_reference(alloc: Global, kind: &str, value: &str, start: &str) -> Answer {
+    match kind {
+        "jsr" => written(
+            alloc,
+            start,
+            &JsrPackageReqReference::from_str(alloc, value)?,
+        ),
+        "npm" => written(
+            alloc,
+            start,
+            &NpmPackageReqReference::from_str(alloc, value)?,
+        ),
+        "jsr-version" => written(
+            alloc,
+            start,
+            &JsrPackageNvReference::from_str(alloc, value)?,
+        ),
+        "npm-version" => written(
+            alloc,
+            start,
+            &NpmPackageNvReference::from_str(alloc, value)?,
+        ),
+        "reference" => {
+            let reference = NpmPackageReqReference::from_str(alloc, value)?;
+            written(alloc, start, &reference.into_inner())
+        }
+        "version-reference" => {
+            let reference = NpmPackageNvReference::from_str(alloc, value)?;
+            written(alloc, start, &reference.into_inner())
+        }
         _ => Err(Fault::Unreadable),
     }
 }

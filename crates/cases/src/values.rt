@@ -5,6 +5,11 @@ ghost use Rattle.cases.specs.Call.{value_call_name};
 
 use crate::shown;
 use crate::words::{Answer, Fault, Word, answer, yes_or_no};
+use deno_semver::json::JsonError;
+use deno_semver::jsr::JsrDepPackageReqParseError;
+use deno_semver::package::{
+    PackageReqPartsParseError, PackageReqReferenceParseError, SpecifierError,
+};
 use deno_semver::{
     CowItem, PackageTag, ParseFailure, RangeSetOrTag, SmallStackString, VersionRange, VersionReq,
 };
@@ -22,6 +27,7 @@ pub enum ValueCall {
     Range,
     SameRange,
     TagRequirement,
+    MemoryError,
 }
 
 impl ValueCall {
@@ -38,6 +44,7 @@ impl ValueCall {
             ValueCall::Range => "range",
             ValueCall::SameRange => "same-range",
             ValueCall::TagRequirement => "tag-requirement",
+            ValueCall::MemoryError => "memory-error",
         }
     }
 
@@ -52,6 +59,7 @@ impl ValueCall {
             ValueCall::Range => range(alloc, words),
             ValueCall::SameRange => same_range(alloc, words),
             ValueCall::TagRequirement => tag_requirement(alloc, words),
+            ValueCall::MemoryError => memory_error(alloc, words),
         }
     }
 }
@@ -159,6 +167,28 @@ fn refusal(alloc: Global, words: &[Word<'_>]) -> Answer {
         _ => return Err(Fault::Unreadable),
     };
     Err(Fault::from(ParseFailure::of_refusal(alloc, refusal)))
+}
+
+// `memory-error`, the name of a type of errors: the line of the error that tells of want of memory.
+fn memory_error(alloc: Global, words: &[Word<'_>]) -> Answer {
+    let [Some(of_type)] = words else {
+        return Err(Fault::Unreadable);
+    };
+    let line = match *of_type {
+        "ParseFailure" => format!(in alloc; "{}", ParseFailure::memory())?,
+        "PackageReqPartsParseError" => format!(in alloc; "{}", PackageReqPartsParseError::Memory)?,
+        "PackageReqReferenceParseError" => {
+            format!(in alloc; "{}", PackageReqReferenceParseError::Memory)?
+        }
+        "JsrDepPackageReqParseError" => format!(in alloc;
+            "{}",
+            JsrDepPackageReqParseError::Memory
+        )?,
+        "SpecifierError" => format!(in alloc; "{}", SpecifierError::Memory)?,
+        "JsonError" => format!(in alloc; "{}", JsonError::Memory)?,
+        _ => return Err(Fault::Unreadable),
+    };
+    answer(alloc, &[Some(line.as_str())])
 }
 
 // `range`, `all`, `none` or a range: that range, copied.

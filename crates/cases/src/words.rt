@@ -1,6 +1,11 @@
 //! The words of questions and answers.
 
+use deno_semver::jsr::JsrDepPackageReqParseError;
 use deno_semver::npm::{NpmVersionParseError, NpmVersionReqParseError};
+use deno_semver::package::{
+    PackageNvParseError, PackageNvReferenceParseError, PackageReqParseError,
+    PackageReqReferenceParseError,
+};
 use deno_semver::{
     ParseFailure, VersionParseError, VersionReqNormalizedParseError, VersionReqSpecifierParseError,
 };
@@ -22,7 +27,21 @@ pub enum Fault {
     Refused(ParseFailure),
     /// The words are none that the call takes.
     Unreadable,
+    /// The call wanted memory.
     OutOfMemory,
+    /// The words of the answer wanted memory.
+    Untold,
+}
+
+impl Fault {
+    /// The fault of words that the call doesn't take, or that it wanted memory.
+    pub fn unless_memory(is_memory: bool) -> Fault {
+        if is_memory {
+            Fault::OutOfMemory
+        } else {
+            Fault::Unreadable
+        }
+    }
 }
 
 impl From<ParseFailure> for Fault {
@@ -65,6 +84,36 @@ impl From<VersionReqNormalizedParseError> for Fault {
     }
 }
 
+impl From<PackageReqParseError> for Fault {
+    fn from(error: PackageReqParseError) -> Fault {
+        Fault::unless_memory(error.is_memory())
+    }
+}
+
+impl From<PackageNvParseError> for Fault {
+    fn from(error: PackageNvParseError) -> Fault {
+        Fault::unless_memory(error.is_memory())
+    }
+}
+
+impl From<PackageReqReferenceParseError> for Fault {
+    fn from(error: PackageReqReferenceParseError) -> Fault {
+        Fault::unless_memory(error.is_memory())
+    }
+}
+
+impl From<PackageNvReferenceParseError> for Fault {
+    fn from(error: PackageNvReferenceParseError) -> Fault {
+        Fault::unless_memory(error.is_memory())
+    }
+}
+
+impl From<JsrDepPackageReqParseError> for Fault {
+    fn from(error: JsrDepPackageReqParseError) -> Fault {
+        Fault::unless_memory(error.is_memory())
+    }
+}
+
 impl From<AllocError> for Fault {
     fn from(_error: AllocError) -> Fault {
         Fault::OutOfMemory
@@ -90,7 +139,7 @@ fn all_owned(alloc: Global, words: &[Word<'_>]) -> Result<Words, AllocError> {
 
 /// The answer of these words.
 pub fn answer(alloc: Global, words: &[Word<'_>]) -> Answer {
-    Ok(all_owned(alloc, words)?)
+    all_owned(alloc, words).map_err(|_| Fault::Untold)
 }
 
 /// The answer `yes` or `no`.
@@ -106,6 +155,11 @@ pub fn refused(alloc: Global, failure: &ParseFailure) -> Result<Words, AllocErro
         failure.code_snippet(),
     ];
     all_owned(alloc, &words)
+}
+
+/// The word that tells that a call wanted memory.
+pub fn out_of_memory(alloc: Global) -> Result<Words, AllocError> {
+    all_owned(alloc, &[Some("out of memory")])
 }
 
 // Whether the first word is `refused`.

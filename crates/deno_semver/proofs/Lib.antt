@@ -4,6 +4,7 @@ pub mod Equality
 pub mod ExportNames
 pub mod InnerReading
 pub mod JsonReading
+pub mod ListOrder
 pub mod NameAndVersion
 pub mod NvReferences
 pub mod NvText
@@ -13,5 +14,6 @@ pub mod References
 pub mod ReferencesBack
 pub mod Runs
 pub mod StoredDependencies
+pub mod StoredLists
 pub mod StoredNames
 pub mod StoredReqs

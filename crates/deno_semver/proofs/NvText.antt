@@ -7,10 +7,10 @@ use Rattle.std.proofs.lemmas.Bool.Decides.{nat_tests}
 use Rattle.semver_base.specs.Grammar.{Stops}
 use Rattle.semver_base.specs.Lexical.{IsLooseNumber, IsQualifier}
 use Rattle.semver_base.specs.VersionGrammar.{IsTriple, IsVersionOutcome, is_version}
-use Rattle.semver_base.specs.VersionText.{IsWritable, ReadsBack, marked, version_text}
+use Rattle.semver_base.specs.VersionText.{IsWritable, ReadsBack, prefixed, version_text}
 use Rattle.semver_base.specs.declared.lexical.values.Strictness.TheVariants.{Loose}
 use Rattle.semver_base.specs.declared.version.Version.{Version}
-use Rattle.semver_base.proofs.Bytes.{MadeOf, joined_made, made_wider, mapped_made, marked_made, optional_made, run_made}
+use Rattle.semver_base.proofs.Bytes.{MadeOf, joined_made, made_wider, mapped_made, prefixed_made, optional_made, run_made}
 use Rattle.semver_base.proofs.Parts.{is_parts_byte, parts_made}
 use Rattle.semver_base.proofs.Qualifiers.{pre_made}
 use Rattle.semver_base.proofs.ReadVersions.{read_writable}
@@ -29,16 +29,16 @@ number_made = mapped_made (made_wider is_ascii_digit is_version_byte digit_passe
 
 qualifier_made : MadeOf (IsQualifier Loose) is_version_byte
 qualifier_made = mapped_made (joined_made (optional_made (made_wider is_parts_byte is_version_byte parts_pass (pre_made Loose)))
-    (optional_made (marked_made (made_wider is_parts_byte is_version_byte parts_pass parts_made) 43 refl)))
+    (optional_made (prefixed_made (made_wider is_parts_byte is_version_byte parts_pass parts_made) 43 refl)))
 
 triple_made : MadeOf IsTriple is_version_byte
-triple_made = joined_made number_made (marked_made (joined_made number_made (marked_made number_made 46 refl)) 46 refl)
+triple_made = joined_made number_made (prefixed_made (joined_made number_made (prefixed_made number_made 46 refl)) 46 refl)
 
 version_passes : (v : Version) → IsWritable v → list_all is_version_byte (version_text v) ≡ true
 version_passes v h = (joined_made triple_made qualifier_made).made (version_text v) _ (version_joined v h)
 
 version_some : (v : Version) → 0 < length (version_text v)
-version_some v = omega (arith, length-append (decimal v.major) (46 ∷ (decimal v.minor ++ (46 ∷ (decimal v.patch ++ (marked 45 v.pre ++ marked 43 v.build))))))
+version_some v = omega (arith, length-append (decimal v.major) (46 ∷ (decimal v.minor ++ (46 ∷ (decimal v.patch ++ (prefixed 45 v.pre ++ prefixed 43 v.build))))))
 
 writable : {text : List ℕ} {v : Version} → IsVersionOutcome text (Ok v) → IsWritable v
 writable {text} {v} (is_version h fits) = read_writable text v h fits

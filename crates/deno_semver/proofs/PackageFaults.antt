@@ -132,6 +132,12 @@ module _ {f : Flavour} {text : List ℕ} where
       let reqs : x.version_req ≡ y.version_req = version_one f k.cut.version x.version_req y.version_req (version_at f x.version_req same h.version_req) k.version_req in
       same_pair names reqs
 
+  pub outcome_one : (o p : Result PackageReq Fault) → IsPackageOutcome f text o → IsPackageOutcome f text p → o ≡ p
+  outcome_one _ _ (is_package {req} h) (is_package {req = other} k) = ap Ok (read_one req other h k)
+  outcome_one _ _ (is_package h) (is_fault {fault} k) = absurd (no_fault fault h k)
+  outcome_one _ _ (is_fault {fault} k) (is_package h) = absurd (no_fault fault h k)
+  outcome_one _ _ (is_fault {fault = a} h) (is_fault {fault = b} k) = ap (λ x. Err (if lacks_at text then NoAt else x)) (fault_one a b h k)
+
   -- ---- answers
 
   pub read_answer : (req : PackageReq) → IsReadReq f text req → (o : Result PackageReq Fault) → IsPackageOutcome f text o → IsPackageAnswer f text o (Ok req)

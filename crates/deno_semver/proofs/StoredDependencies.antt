@@ -41,9 +41,9 @@ stored kind req h = record {
   again = of_kind kind h.again;
   stands_for = string_of kind (normal_req_text req) h.again h.stands_for;
   kind = refl;
-  name = h.name;
-  kept = h.kept;
-  settled = settled kind h.again h.settled;
+  name = h.is_kept.name;
+  kept = h.is_kept.kept;
+  settled = settled kind h.again h.is_kept.settled;
 }
 
 scheme_utf8 : (kind : PackageKind) (body : List ℕ) → IsUtf8 (scheme_of kind ++ body) → IsUtf8 body

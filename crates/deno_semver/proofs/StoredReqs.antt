@@ -127,9 +127,7 @@ stored : (req : PackageReq) → IsReadName req.name → CanBeStored req.version_
 stored req n h = record {
   again = package_of req.name req.version_req.inner;
   stands_for = record { text = normal_req_text req; is_string = refl; reads = reads_again req.name req.version_req.inner n h };
-  name = refl;
-  kept = kept_again req.version_req.inner h;
-  settled = settled_req req.name req.version_req.inner n h;
+  is_kept = record { name = refl; kept = kept_again req.version_req.inner h; settled = settled_req req.name req.version_req.inner n h };
 }
 
 -- ---- what npm's reader reads can be stored

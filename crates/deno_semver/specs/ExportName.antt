@@ -2,6 +2,7 @@
 -- `deno_semver`.
 use Rattle.std.specs.Prelude.{◌≡◌, ◌++◌, ◌∷◌, ◌==◌, ◌||◌, ◌⊎◌, [], ℕ, List, Bool, Option, Some, None, bytes_eq, codes, nat_eq, if◌then◌else◌}
 use Rattle.std.specs.List.{starts_with}
+use Rattle.semver_base.specs.Characters.{slash}
 use Rattle.deno_semver.specs.PackageText.{without_slash}
 
 -- the path of the package's own export: nothing, `/` or `.`
@@ -11,7 +12,7 @@ is_whole_package path = bytes_eq path [] || bytes_eq path (codes "/") || bytes_e
 -- without the `/` at the end, where there is one
 abbrev pub without_last_slash : List ℕ → List ℕ
 without_last_slash [] = []
-without_last_slash (last ∷ []) = if last == 47 then [] else last ∷ []
+without_last_slash (last ∷ []) = if last == slash then [] else last ∷ []
 without_last_slash (first ∷ next ∷ rest) = first ∷ without_last_slash (next ∷ rest)
 
 -- with `./` in front, in place of one `/`; a path that begins so is left as it is

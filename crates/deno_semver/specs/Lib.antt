@@ -12,6 +12,7 @@ pub mod NvOrder
 pub mod NvReference
 pub mod NvReferenceOrder
 pub mod NvReferenceReading
+pub mod OneOutcome
 pub mod PackageOutcome
 pub mod PackageReading
 pub mod PackageSteps
@@ -26,4 +27,5 @@ pub mod Resolve
 pub mod ResolveSteps
 pub mod Specifier
 pub mod Stored
+pub mod StoredList
 pub mod Ties

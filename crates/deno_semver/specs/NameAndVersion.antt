@@ -2,6 +2,7 @@
 use Rattle.std.specs.Prelude.{◌≡◌, ◌<◌, ◌++◌, ◌∷◌, ◌&&◌, ◌==◌, ◌⊎◌, [], ℕ, List, Bool, true, length, Option, Some, None, Result, Ok, Err, MatchResult, IsErrAnd, if◌then◌else◌}
 use Rattle.std.specs.List.{list_all, take_while}
 use Rattle.std.specs.Str.{trim}
+use Rattle.semver_base.specs.Characters.{at_sign, slash}
 use Rattle.semver_base.specs.Failure.{refusal_message}
 use Rattle.semver_base.specs.Grammar.{Stops}
 use Rattle.semver_base.specs.VersionGrammar.{IsVersionOutcome}
@@ -18,15 +19,15 @@ use Rattle.deno_semver.specs.declared.package.name_version.PackageNvParseError.{
 -- one byte or more; past the first, which may be that of a scope, there is no `@`
 abbrev pub IsNvName : List ℕ → Type 0
 IsNvName [] = ⊥
-IsNvName (first ∷ more) = list_all (is_not 64) more ≡ true
+IsNvName (first ∷ more) = list_all (is_not at_sign) more ≡ true
 
 -- neither `_` nor `/`
 abbrev pub is_version_byte : ℕ → Bool
-is_version_byte b = is_not 95 b && is_not 47 b
+is_version_byte b = is_not 95 b && is_not slash b
 
 -- a name, `@`, a version that isn't empty and runs to the first `_` or `/`, and what follows it
 pub record IsNvText (text name version rest : List ℕ) : Type 0 where
-  pub text_is : text ≡ name ++ (64 ∷ (version ++ rest))
+  pub text_is : text ≡ name ++ (at_sign ∷ (version ++ rest))
   pub name_is : IsNvName name
   pub version_some : 0 < length version
   pub version_is : list_all is_version_byte version ≡ true
@@ -34,12 +35,12 @@ pub record IsNvText (text name version rest : List ℕ) : Type 0 where
 
 -- `name@version`
 abbrev pub nv_text : PackageNv → List ℕ
-nv_text nv = nv.name ++ (64 ∷ version_text nv.version)
+nv_text nv = nv.name ++ (at_sign ∷ version_text nv.version)
 
 -- of a name that begins with `@` what stands before its first `/`, or all of it where it has none
 abbrev pub scope_of : List ℕ → Option (List ℕ)
 scope_of [] = None
-scope_of (first ∷ more) = if first == 64 then Some (take_while (is_not 47) (first ∷ more)) else None
+scope_of (first ∷ more) = if first == at_sign then Some (take_while (is_not slash) (first ∷ more)) else None
 
 -- ---- outcomes
 

@@ -2,6 +2,7 @@
 use Rattle.std.specs.Prelude.{◌≡◌, ◌<◌, ◌+◌, ◌++◌, ◌∷◌, ◌⊎◌, [], ℕ, List, length, Option, None, Result, Ok, Err, MatchResult, IsErrAnd}
 use Rattle.std.specs.Borrow.{Bor}
 use Rattle.std.specs.List.{take_while}
+use Rattle.semver_base.specs.Characters.{at_sign}
 use Rattle.semver_base.specs.Failure.{message_of}
 use Rattle.semver_base.specs.Grammar.{Stops}
 use Rattle.deno_semver.specs.Cuts.{is_not}
@@ -13,13 +14,13 @@ use Rattle.deno_semver.specs.declared.package.name_version.PackageNvParseError.{
 -- how many bytes the name at the front has
 abbrev pub name_len : List ℕ → ℕ
 name_len [] = 0
-name_len (first ∷ more) = length (take_while (is_not 64) more) + 1
+name_len (first ∷ more) = length (take_while (is_not at_sign) more) + 1
 
 -- the text is cut before the first `@` past its first byte
 pub record IsNameCut (text name rest : List ℕ) : Type 0 where
   pub text_is : text ≡ name ++ rest
   pub name_is : 0 < length text → IsNvName name
-  pub ends : Stops (is_not 64) rest
+  pub ends : Stops (is_not at_sign) rest
 
 -- the message of a failure that isn't want of memory, and the whole text
 pub record TellsFailure (failure : Option (List ℕ × Option (List ℕ))) (text : List ℕ) (e : PackageNvParseError) : Type 0 where

@@ -1,6 +1,7 @@
 -- How references to one version of a package are read and written, and what they stand for. Sources: npm's and JSR's
 -- specifiers; the crate `deno_semver`.
 use Rattle.std.specs.Prelude.{◌≡◌, ◌≢◌, ◌++◌, ◌∷◌, ◌⊎◌, [], ℕ, List, Option, Result, Ok, Err, MatchResult, IsErrAnd}
+use Rattle.semver_base.specs.Characters.{slash}
 use Rattle.semver_base.specs.declared.failure.Refusal.{Refusal}
 use Rattle.semver_base.specs.declared.failure.Refusal.TheVariants.{UnexpectedCharacter}
 use Rattle.deno_semver.specs.Kind.{scheme_of}
@@ -20,7 +21,7 @@ nv_reference_text reference = nv_text reference.nv ++ path_text reference.sub_pa
 -- what begins with neither a path nor the end
 abbrev pub IsNoPath : List ℕ → Type 0
 IsNoPath [] = ⊥
-IsNoPath (first ∷ rest) = first ≢ 47
+IsNoPath (first ∷ rest) = first ≢ slash
 
 -- what a text stands for: a name and version after the scheme and one `/` or none, with a path, which may be empty, or
 -- nothing after it; or the refusal of its first fault
@@ -49,5 +50,5 @@ IsNvReferenceAnswer text (Err fault) result = IsErrAnd result (λ e. IsNvMemory 
 
 -- with the scheme in front the text of a reference stands for it again, where its name doesn't begin with `/`
 abbrev pub NvReferenceReadsBack : PackageKind → PackageNvReference → Type 0
-NvReferenceReadsBack kind reference = ((rest : List ℕ) → reference.nv.name ≡ 47 ∷ rest → ⊥)
+NvReferenceReadsBack kind reference = ((rest : List ℕ) → reference.nv.name ≡ slash ∷ rest → ⊥)
     → IsNvReferenceOutcome kind (scheme_of kind ++ nv_reference_text reference) (Ok reference)

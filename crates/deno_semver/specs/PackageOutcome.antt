@@ -2,6 +2,7 @@
 -- the crate `deno_semver`'s choice.
 use Rattle.std.specs.Prelude.{◌≡◌, ◌<◌, ◌∷◌, ◌⊎◌, [], ℕ, List, length, Option, Some, None, Result, Ok, Err, MatchResult, IsErrAnd, codes, if◌then◌else◌}
 use Rattle.std.specs.Str.{trim}
+use Rattle.semver_base.specs.Characters.{slash}
 use Rattle.semver_req.specs.Outcome.{IsOutcome, Refused}
 use Rattle.semver_req.specs.PieceReading.{IsCutRefusal}
 use Rattle.semver_req.specs.Readers.{Failure, IsReaderAnswer}
@@ -68,7 +69,7 @@ refused_by Normal failure = parts.NormalizedVersionReq (record { source = failur
 
 -- what the error shows of a path: the text from its `/` on
 abbrev pub path_failure : List ℕ → Failure
-path_failure path = Some (codes "Unexpected character '/'", Some (47 ∷ path))
+path_failure path = Some (codes "Unexpected character '/'", Some (slash ∷ path))
 
 -- the error tells of the fault
 abbrev pub Tells : Flavour → Fault → PackageReqPartsParseError → Type 0

@@ -2,6 +2,7 @@
 -- fault is told is the crate `deno_semver`'s choice.
 use Rattle.std.specs.Prelude.{◌≡◌, ◌++◌, ◌∷◌, ◌⊎◌, [], ℕ, List, drop, true, Some, Result, Ok, Err, MatchResult, IsErrAnd, codes}
 use Rattle.std.specs.List.{list_all}
+use Rattle.semver_base.specs.Characters.{at_sign, slash}
 use Rattle.semver_req.specs.declared.common.values.Flavour.TheVariants.{Specifier}
 use Rattle.deno_semver.specs.Cuts.{is_not}
 use Rattle.deno_semver.specs.Kind.{scheme_of}
@@ -27,8 +28,8 @@ pub record IsReadReference (body : List ℕ) (reference : PackageReqReference) :
 -- any version is meant, as `*` says, and a version stands after the last `@` of the path
 pub record HasVersionInPath (reference : PackageReqReference) (before version : List ℕ) : Type 0 where
   pub any : reference.req.version_req.raw_text ≡ codes "*"
-  pub path : reference.sub_path ≡ Some (before ++ (64 ∷ version))
-  pub last_at : list_all (is_not 64) version ≡ true
+  pub path : reference.sub_path ≡ Some (before ++ (at_sign ∷ version))
+  pub last_at : list_all (is_not at_sign) version ≡ true
 
 abbrev pub HasNoVersionInPath : PackageReqReference → Type 0
 HasNoVersionInPath reference = (before version : List ℕ) → HasVersionInPath reference before version → ⊥
@@ -90,8 +91,8 @@ IsReferenceAnswer kind text (Err fault) result = IsErrAnd result (λ e. (unboxed
 
 -- no `@` past the first byte, which may be that of a scope, and no `/` at the end
 pub record IsPlainName (name : List ℕ) : Type 0 where
-  pub no_at : list_all (is_not 64) (drop 1 name) ≡ true
-  pub no_slash : (front : List ℕ) → name ≡ front ++ (47 ∷ []) → ⊥
+  pub no_at : list_all (is_not at_sign) (drop 1 name) ≡ true
+  pub no_slash : (front : List ℕ) → name ≡ front ++ (slash ∷ []) → ⊥
 
 -- with the scheme in front the text of a reference stands for it again, where the text of its version isn't `*` or its name
 -- is plain

@@ -1,6 +1,7 @@
 -- How references to packages are written: the text of a requirement, or of a name and version, and the path of a module
 -- after a `/`; before them may stand a registry's scheme. Sources: npm's and JSR's specifiers; the crate `deno_semver`.
 use Rattle.std.specs.Prelude.{◌≡◌, ◌++◌, ◌∷◌, ◌||◌, [], ℕ, List, Option, Some, None, bytes_eq, codes, if◌then◌else◌}
+use Rattle.semver_base.specs.Characters.{at_sign, slash}
 use Rattle.deno_semver.specs.Kind.{scheme_of}
 use Rattle.deno_semver.specs.RequirementText.{req_text}
 use Rattle.deno_semver.specs.declared.package.kind.PackageKind.{PackageKind}
@@ -22,7 +23,7 @@ sub_path_of path = if bytes_eq path [] || bytes_eq path (codes "/") then None el
 -- nothing, or `/` and the path
 abbrev pub path_text : Option (List ℕ) → List ℕ
 path_text None = []
-path_text (Some path) = 47 ∷ path
+path_text (Some path) = slash ∷ path
 
 -- the requirement, and the path after a `/`
 abbrev pub reference_text : PackageReqReference → List ℕ
@@ -30,4 +31,4 @@ reference_text reference = req_text reference.req ++ path_text reference.sub_pat
 
 -- the same with a version behind the requirement
 abbrev pub text_with_version : PackageReq → List ℕ → List ℕ → List ℕ
-text_with_version req version path = req_text req ++ (64 ∷ (version ++ (47 ∷ path)))
+text_with_version req version path = req_text req ++ (at_sign ∷ (version ++ (slash ∷ path)))

@@ -1,5 +1,5 @@
--- The order of requirements of packages. Source: the crate `deno_semver`, which puts requirements that meet fewer versions
--- first; the builds, which it leaves out, come last here, so that only equal requirements tie.
+-- The order of requirements of packages. Source: the crate `deno_semver`, whose version after 0.10.1 puts requirements that
+-- meet fewer versions first; the builds, which it leaves out, come last here, so that only equal requirements tie.
 use Rattle.std.specs.Prelude.{ℕ, List, [], Option, Some, None}
 use Rattle.std.specs.Cmp.Lexicographic.{slice_cmp}
 use Rattle.std.specs.Option.{option_cmp}
@@ -22,14 +22,18 @@ text_cmp = slice_cmp nat_cmp
 
 -- ---- bounds
 
--- an inclusive one first
+-- an exclusive one first
 abbrev pub kind_place : VersionBoundKind → ℕ
-kind_place kind.Inclusive = 0
-kind_place kind.Exclusive = 1
+kind_place kind.Exclusive = 0
+kind_place kind.Inclusive = 1
 
--- by precedence, and then an inclusive one first
-abbrev pub bound_cmp : VersionBound → VersionBound → Ordering
-bound_cmp = then_cmp (on (λ (b : VersionBound). b.version) precedence_cmp) (on (λ (b : VersionBound). kind_place b.kind) nat_cmp)
+-- the higher version first, and then an exclusive bound
+abbrev pub start_bound_cmp : VersionBound → VersionBound → Ordering
+start_bound_cmp = then_cmp (on (λ (b : VersionBound). b.version) (flip_args precedence_cmp)) (on (λ (b : VersionBound). kind_place b.kind) nat_cmp)
+
+-- the lower version first, and then an exclusive bound
+abbrev pub end_bound_cmp : VersionBound → VersionBound → Ordering
+end_bound_cmp = then_cmp (on (λ (b : VersionBound). b.version) precedence_cmp) (on (λ (b : VersionBound). kind_place b.kind) nat_cmp)
 
 -- an absent one last
 abbrev pub bound_place : RangeBound → ℕ
@@ -40,13 +44,13 @@ abbrev pub version_bound_of : RangeBound → Option VersionBound
 version_bound_of (bound.Version b) = Some b
 version_bound_of bound.Unbounded = None
 
--- ends: an absent one last, the lower version first
-abbrev pub end_cmp : RangeBound → RangeBound → Ordering
-end_cmp = then_cmp (on bound_place nat_cmp) (on version_bound_of (option_cmp bound_cmp))
-
--- starts: an absent one last, the higher version first
+-- starts: an absent one last
 abbrev pub start_cmp : RangeBound → RangeBound → Ordering
-start_cmp = then_cmp (on bound_place nat_cmp) (on version_bound_of (flip_args (option_cmp bound_cmp)))
+start_cmp = then_cmp (on bound_place nat_cmp) (on version_bound_of (option_cmp start_bound_cmp))
+
+-- ends: an absent one last
+abbrev pub end_cmp : RangeBound → RangeBound → Ordering
+end_cmp = then_cmp (on bound_place nat_cmp) (on version_bound_of (option_cmp end_bound_cmp))
 
 -- the starts, and then the ends
 abbrev pub range_cmp : VersionRange → VersionRange → Ordering

@@ -5,6 +5,7 @@ use Rattle.url.specs.Parser.{Gives, parse_url}
 use Rattle.url.specs.Parts.{Parts}
 use Rattle.url.specs.declared.error.ParseError.{ParseError}
 use Rattle.url.specs.declared.error.ParseError.TheVariants.{OutOfMemory}
+use Rattle.semver_base.specs.Characters.{slash}
 use Rattle.deno_semver.specs.NvReference.{nv_reference_text}
 use Rattle.deno_semver.specs.ReferenceText.{with_scheme}
 use Rattle.deno_semver.specs.declared.package.kind.PackageKind.{PackageKind}
@@ -14,7 +15,7 @@ use Rattle.deno_semver.specs.declared.package.specifier.SpecifierError.TheVarian
 
 -- the scheme, `/` and the reference
 abbrev pub specifier_text : PackageKind → PackageNvReference → List ℕ
-specifier_text kind reference = with_scheme kind (47 ∷ nv_reference_text reference)
+specifier_text kind reference = with_scheme kind (slash ∷ nv_reference_text reference)
 
 -- `url` may refuse the text for another cause than want of memory
 pub record IsUrlRefusal (text : List ℕ) : Type 0 where

@@ -40,13 +40,17 @@ pub record StandsForEqual (json : Data) (req : PackageReq) : Type 0 where
 abbrev pub IsSettledReq : PackageReq → Type 0
 IsSettledReq req = StandsForEqual (string (normal_req_text req)) req
 
--- the JSON stands for a requirement with the same name, which keeps what this one means, and is settled
-pub record IsStoredReq (req : PackageReq) (json : Data) : Type 0 where
-  pub again : PackageReq
-  pub stands_for : IsStringOf IsTextOfReq json again
+-- a requirement with the same name, which keeps what this one means, and is settled
+pub record IsKeptReq (req again : PackageReq) : Type 0 where
   pub name : again.name ≡ req.name
   pub kept : IsReadFor req.version_req.inner again.version_req.inner
   pub settled : IsSettledReq again
+
+-- the JSON stands for such a requirement
+pub record IsStoredReq (req : PackageReq) (json : Data) : Type 0 where
+  pub again : PackageReq
+  pub stands_for : IsStringOf IsTextOfReq json again
+  pub is_kept : IsKeptReq req again
 
 -- ---- dependencies
 

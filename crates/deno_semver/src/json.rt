@@ -1,5 +1,5 @@
 //! Values as JSON: texts, versions, packages and what requirements stand for as strings of their texts; bounds, ranges
-//! and requirements of versions as objects and arrays.
+//! and requirements of versions as objects and arrays; lists of requirements of packages as arrays.
 
 ghost use Rattle.std.specs.Prelude.{IfErr, IfOk, ◌≡◌};
 ghost use Rattle.serde_json.specs.Data.{Data};
@@ -7,10 +7,12 @@ ghost use Rattle.serde_json.specs.View.{view};
 ghost use Rattle.deno_semver.specs.JsonAnswers.{IsJsonAnswer, IsJsonRefusal};
 
 mod error;
+mod list;
 mod object;
 mod text;
 
 pub use error::JsonError;
+pub use list::{reqs_from_json, reqs_to_json};
 use serde_json::Value;
 use std::alloc::{AllocError, Global};
 

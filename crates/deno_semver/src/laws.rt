@@ -1,4 +1,4 @@
-//! Laws of equality, each as the contract of a call.
+//! Laws of equality, and of what texts stand for, each as the contract of a call.
 //!
 //! `==` of each type of this crate says yes exactly where the two values are the same, as contracts see them; that of
 //! requirements of packages where the names are and the requirements of versions stand for the same. A caller whose proof
@@ -7,6 +7,7 @@
 
 ghost use Rattle.std.specs.Prelude.{◌≡◌, ◌↔◌, IsTrue};
 ghost use Rattle.deno_semver.specs.Equal.{AreEqualDependencies, AreEqualReferences};
+ghost use Rattle.deno_semver.specs.OneOutcome.{PackageTextsHaveOneCut, PackageTextsHaveOneOutcome, ReferencesHaveOneOutcome};
 ghost use Rattle.deno_semver.specs.ReferenceOutcome.{unboxed};
 
 use crate::json::JsonError;
@@ -139,3 +140,19 @@ pub fn same_path_errors(
 {
     one == other
 }
+
+/// A text is cut as the text of a package in at most one way.
+pub fn package_texts_have_one_cut()
+    ensures { PackageTextsHaveOneCut }
+{}
+
+/// A text has at most one outcome as the text of a package, with each of the three readers of versions: never two
+/// requirements, nor a requirement and a fault, nor two faults.
+pub fn package_texts_have_one_outcome()
+    ensures { PackageTextsHaveOneOutcome }
+{}
+
+/// A text has at most one outcome as a reference to a package of either registry.
+pub fn references_have_one_outcome()
+    ensures { ReferencesHaveOneOutcome }
+{}

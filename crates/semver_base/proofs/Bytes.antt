@@ -3,7 +3,7 @@ use Rattle.std.proofs.Common.{◌≡◌, ℕ, Bool, true, List, [], ◌∷◌, �
 use Rattle.std.specs.List.{list_all}
 use Rattle.std.proofs.lemmas.Bool.{and_from, and_parts}
 use Rattle.std.proofs.lemmas.Bool.{eq-eqb}
-use Rattle.semver_base.specs.Grammar.{Either, this, that, HasNone, Joined, Listed, last_item, closed_item, more_items, Mapped, Marked, Optional, Run}
+use Rattle.semver_base.specs.Grammar.{Either, this, that, HasNone, Joined, Listed, last_item, closed_item, more_items, Mapped, Prefixed, Optional, Run}
 use Rattle.semver_base.proofs.Fronts.{Apart, Begins, GoesOn, NoClash, NonEmpty, fronts, same, shorter, longer}
 
 -- p holds of each byte with which a text of A begins, q of each with which a text of A goes on to a longer one
@@ -29,18 +29,18 @@ goes_wider p q w b = record { goes = λ x m. w x (b.goes x m) }
 -- ---- a mark
 
 module _ {V : Type 0} {A : List ℕ → V → Type 0} where
-  pub marked_begins : (m : ℕ) → BeginsBy (Marked m A) (λ x. x == m)
-  marked_begins m = record { begins = λ x b. eq-eqb x m b.stands.0 }
+  pub prefixed_begins : (m : ℕ) → BeginsBy (Prefixed m A) (λ x. x == m)
+  prefixed_begins m = record { begins = λ x b. eq-eqb x m b.stands.0 }
 
-  pub marked_goes : (m : ℕ) {p : ℕ → Bool} → GoesBy A p → GoesBy (Marked m A) p
-  marked_goes m {p} g = record { goes = λ x b. go x b.front b.more b.short_value b.long_value b.short b.long }
+  pub prefixed_goes : (m : ℕ) {p : ℕ → Bool} → GoesBy A p → GoesBy (Prefixed m A) p
+  prefixed_goes m {p} g = record { goes = λ x b. go x b.front b.more b.short_value b.long_value b.short b.long }
     where
-      go : (x : ℕ) (a more : List ℕ) (v u : V) → Marked m A a v → Marked m A (a ++ (x ∷ more)) u → p x ≡ true
+      go : (x : ℕ) (a more : List ℕ) (v u : V) → Prefixed m A a v → Prefixed m A (a ++ (x ∷ more)) u → p x ≡ true
       go x [] more v u h k = absurd h
       go x (y ∷ a) more v u h k = g.goes x (record { front = a; more = more; short_value = v; long_value = u; short = h.1; long = k.1 })
 
-  pub marked_some_text : (m : ℕ) → NonEmpty (Marked m A)
-  marked_some_text m = record { some = λ v h. h }
+  pub prefixed_some_text : (m : ℕ) → NonEmpty (Prefixed m A)
+  prefixed_some_text m = record { some = λ v h. h }
 
   -- ---- an option
 
@@ -190,10 +190,10 @@ module _ {V : Type 0} {A : List ℕ → V → Type 0} {p : ℕ → Bool} (m : Ma
   pub begins_from_made : BeginsBy A p
   begins_from_made = record { begins = λ x o. (and_parts (p x) (list_all p o.more) (m.made (x ∷ o.more) o.value o.stands)).0 }
 
-  pub marked_made : (b : ℕ) → p b ≡ true → MadeOf (Marked b A) p
-  marked_made b h = record { made = go }
+  pub prefixed_made : (b : ℕ) → p b ≡ true → MadeOf (Prefixed b A) p
+  prefixed_made b h = record { made = go }
     where
-      go : (text : List ℕ) (v : V) → Marked b A text v → list_all p text ≡ true
+      go : (text : List ℕ) (v : V) → Prefixed b A text v → list_all p text ≡ true
       go [] v k = refl
       go (x ∷ rest) v k = and_from (p x) (list_all p rest) (rw k.0 h) (m.made rest v k.1)
 

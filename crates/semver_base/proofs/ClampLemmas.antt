@@ -6,8 +6,7 @@ use Rattle.std.specs.Prelude.{◌⊎◌}
 use Rattle.std.specs.declared.cmp.Ordering.{Ordering}
 use Rattle.std.specs.declared.cmp.Ordering.TheVariants.{Less, Equal, Greater}
 use Rattle.semver_base.specs.Clamp.{clamped, clamped_end, clamped_start, greater_of, lesser_of, of_tied, stopped_at, stopped_by, HasPassed, HaveCrossed, HoldsBoth, HoldsNothing}
-use Rattle.semver_base.specs.Meaning.{bounds_hold, end_holds, is_above, is_below, start_holds}
-use Rattle.semver_base.specs.PartialTable.{bound_at}
+use Rattle.semver_base.specs.Meaning.{bound_at, bounds_hold, end_holds, is_above, is_below, start_holds}
 use Rattle.semver_base.specs.Precedence.{precedence_cmp}
 use Rattle.semver_base.specs.PrecedenceLaws.{precedence_total}
 use Rattle.semver_base.specs.declared.version.Version.{Version}

@@ -1,7 +1,7 @@
 -- How the longest front of a grammar comes from those of its parts.
 use Rattle.std.proofs.Common.{◌≡◌, ◌≤◌, ◌<◌, ◌+◌, ℕ, List, [], ◌∷◌, ◌++◌, length, Option, Some, None, refl, sym, ap, ◌∙◌, arith, append_assoc, length-append}
 use Rattle.std.proofs.lemmas.List.{nil_from_length}
-use Rattle.semver_base.specs.Grammar.{Either, this, that, IsLongest, HasNone, Followed, Joined, Mapped, Marked, Optional}
+use Rattle.semver_base.specs.Grammar.{Either, this, that, IsLongest, HasNone, Followed, Joined, Mapped, Prefixed, Optional}
 
 -- two fronts of one text: they are the same, or one goes on
 pub data Fronts (a b c d : List ℕ) : Type 0 where
@@ -136,27 +136,27 @@ module _ {V : Type 0} {A : List ℕ → V → Type 0} where
       go a b None e h = (let la : length a ≡ 0 = ap length h in omega arith, λ same. refl)
       go a b (Some w) e h = absurd (p.none a b w e h)
 
-  pub marked_some : {m : ℕ} {text after rest : List ℕ} {v : V} → text ≡ m ∷ after → IsLongest A after v rest → IsLongest (Marked m A) text v rest
-  marked_some {m} {text} {after} {rest} {v} is p = record { front = m ∷ p.front; text_is = is ∙ ap (λ t. m ∷ t) p.text_is; stands = (refl, p.stands); longest = go }
+  pub prefixed_some : {m : ℕ} {text after rest : List ℕ} {v : V} → text ≡ m ∷ after → IsLongest A after v rest → IsLongest (Prefixed m A) text v rest
+  prefixed_some {m} {text} {after} {rest} {v} is p = record { front = m ∷ p.front; text_is = is ∙ ap (λ t. m ∷ t) p.text_is; stands = (refl, p.stands); longest = go }
     where
-      go : (a b : List ℕ) (w : V) → text ≡ a ++ b → Marked m A a w → (length a ≤ length (m ∷ p.front)) × (length a ≡ length (m ∷ p.front) → w ≡ v)
+      go : (a b : List ℕ) (w : V) → text ≡ a ++ b → Prefixed m A a w → (length a ≤ length (m ∷ p.front)) × (length a ≡ length (m ∷ p.front) → w ≡ v)
       go [] b w e h = absurd h
       go (x ∷ a) b w e h =
           let tail : after ≡ a ++ b = cc in
           let best = p.longest a b w tail h.1 in
           (omega (arith, best.0), λ same. best.1 (omega arith))
 
-  pub marked_none : {m : ℕ} {text after : List ℕ} → text ≡ m ∷ after → HasNone A after → HasNone (Marked m A) text
-  marked_none {m} {text} {after} is p = record { none = go }
+  pub prefixed_none : {m : ℕ} {text after : List ℕ} → text ≡ m ∷ after → HasNone A after → HasNone (Prefixed m A) text
+  prefixed_none {m} {text} {after} is p = record { none = go }
     where
-      go : (a b : List ℕ) (w : V) → text ≡ a ++ b → Marked m A a w → ⊥
+      go : (a b : List ℕ) (w : V) → text ≡ a ++ b → Prefixed m A a w → ⊥
       go [] b w e h = h
       go (x ∷ a) b w e h = let tail : after ≡ a ++ b = cc in p.none a b w tail h.1
 
-  pub marked_other : {m : ℕ} {text : List ℕ} → ((rest : List ℕ) → text ≡ m ∷ rest → ⊥) → HasNone (Marked m A) text
-  marked_other {m} {text} other = record { none = go }
+  pub prefixed_other : {m : ℕ} {text : List ℕ} → ((rest : List ℕ) → text ≡ m ∷ rest → ⊥) → HasNone (Prefixed m A) text
+  prefixed_other {m} {text} other = record { none = go }
     where
-      go : (a b : List ℕ) (w : V) → text ≡ a ++ b → Marked m A a w → ⊥
+      go : (a b : List ℕ) (w : V) → text ≡ a ++ b → Prefixed m A a w → ⊥
       go [] b w e h = h
       go (x ∷ a) b w e h = other (a ++ b) (e ∙ ap (λ y. y ∷ (a ++ b)) h.0)
 

@@ -10,8 +10,7 @@ use Rattle.std.specs.declared.cmp.Ordering.{Ordering}
 use Rattle.std.specs.declared.cmp.Ordering.TheVariants.{Less, Equal, Greater}
 use Rattle.semver_base.specs.LeastVersion.{IsLeast}
 use Rattle.semver_base.specs.LeastSteps.{least_pre, numbers_cmp, pre_above, pre_by, pre_from, with_pre, zero_part}
-use Rattle.semver_base.specs.Meaning.{has_pre_of, is_release, start_holds}
-use Rattle.semver_base.specs.PartialTable.{bound_at}
+use Rattle.semver_base.specs.Meaning.{bound_at, has_pre_of, is_release, start_holds}
 use Rattle.semver_base.specs.Precedence.{identifier_cmp, precedence_cmp, pre_cmp}
 use Rattle.semver_base.specs.PrecedenceLaws.{precedence_total}
 use Rattle.semver_base.specs.VersionText.{AreParts}

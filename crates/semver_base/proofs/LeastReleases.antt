@@ -8,8 +8,8 @@ use Rattle.std.specs.declared.cmp.Ordering.{Ordering}
 use Rattle.std.specs.declared.cmp.Ordering.TheVariants.{Less, Equal, Greater}
 use Rattle.semver_base.specs.LeastVersion.{IsLeast}
 use Rattle.semver_base.specs.LeastSteps.{least_release, next_release, numbers_cmp, release_from}
-use Rattle.semver_base.specs.Meaning.{is_release, release, start_holds}
-use Rattle.semver_base.specs.PartialTable.{bound_at, number_fits}
+use Rattle.semver_base.specs.Meaning.{bound_at, is_release, release, start_holds}
+use Rattle.semver_base.specs.PartialTable.{number_fits}
 use Rattle.semver_base.specs.Precedence.{precedence_cmp, pre_cmp}
 use Rattle.semver_base.specs.PrecedenceLaws.{precedence_total}
 use Rattle.semver_base.specs.VersionGrammar.{AllNumbersFit}

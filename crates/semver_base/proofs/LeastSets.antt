@@ -3,23 +3,16 @@ use Rattle.std.proofs.Common.{◌≡◌, ◌&&◌, ◌||◌, ◌<◌, ◌+◌, �
 use Rattle.std.proofs.Math.Seq.{take-suc}
 use Rattle.std.proofs.lemmas.List.{take_all}
 use Rattle.std.specs.List.{list_any}
-use Rattle.std.specs.Str.{trim}
-use Rattle.std.proofs.lemmas.Bool.{cases_Bool}
-use Rattle.std.specs.Prelude.{◌↔◌, IfSome, IsTrue, Ok, is_some}
-use Rattle.semver_base.specs.LeastVersion.{both_mean, set_means_alone, sets_mean, IsLeast, IsReadable}
+use Rattle.std.specs.Prelude.{IfSome}
+use Rattle.semver_base.specs.LeastVersion.{both_mean, set_means_alone, sets_mean, IsLeast}
 use Rattle.semver_base.specs.LeastSteps.{lesser}
-use Rattle.semver_base.specs.Containment.{IsWithin, TellsWithin}
 use Rattle.semver_base.specs.Meaning.{alternative_means, alternatives, tree_means}
-use Rattle.semver_base.specs.VersionGrammar.{IsVersionOutcome, is_version}
-use Rattle.semver_base.specs.VersionText.{version_text, ReadsBack}
 use Rattle.semver_base.specs.declared.version.Version.{Version}
 use Rattle.semver_base.specs.declared.range.PreRelease.TheVariants.{Restricted}
 use Rattle.semver_base.specs.declared.range.VersionRange.{VersionRange}
 use Rattle.semver_base.proofs.LeastFrom.{least_alike, least_by, least_passes, least_reaches, lesser_keeps, lesser_reaches_first, lesser_reaches_second}
 use Rattle.semver_base.proofs.MeaningLemmas.{any_alternatives}
-use Rattle.semver_base.proofs.Orders.{and_both, and_first, and_second, and_swap, or_cases, or_first, or_second}
-use Rattle.semver_base.proofs.ReadVersions.{read_writable}
-use Rattle.semver_base.proofs.Triples.{not_true}
+use Rattle.semver_base.proofs.Orders.{and_both, and_first, and_swap, or_cases, or_first, or_second}
 
 some_weaker : (A B : Version → Type 0) (x : Option Version) → ((w : Version) → A w → B w) → IfSome x A → IfSome x B
 some_weaker A B None f h = tt

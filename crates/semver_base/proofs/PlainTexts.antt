@@ -17,7 +17,7 @@ use Rattle.semver_base.specs.VersionGrammar.{IsTriple}
 use Rattle.semver_base.specs.Meaning.{release}
 use Rattle.semver_base.specs.PlainTexts.{IsPlainNumber, IsPlainTriple}
 use Rattle.semver_base.specs.VersionReaderSteps.{IsFittingNumber, IsFittingTriple, IsReadVersion}
-use Rattle.semver_base.proofs.Bytes.{MadeOf, joined_made, joined_some_text, list_all-append, marked_made}
+use Rattle.semver_base.proofs.Bytes.{MadeOf, joined_made, joined_some_text, list_all-append, prefixed_made}
 use Rattle.semver_base.proofs.Fronts.{mapped, narrowed}
 use Rattle.semver_base.proofs.Lists.{run_longest}
 use Rattle.semver_base.proofs.Numbers.{loose_some}
@@ -65,7 +65,7 @@ number_read bytes n number some no_zero inside pass stops is fits = record { loo
 -- ---- three numbers
 
 numbers_solid : MadeOf IsTriple is_solid_byte
-numbers_solid = joined_made number_made (marked_made (joined_made number_made (marked_made number_made 46 refl)) 46 refl)
+numbers_solid = joined_made number_made (prefixed_made (joined_made number_made (prefixed_made number_made 46 refl)) 46 refl)
 
 fits : {text rest : List ℕ} {n : ℕ} → IsPlainNumber text n rest → IsFittingNumber text n rest
 fits p = record { number = p.loose; fits = p.fits }

@@ -10,15 +10,15 @@ use Rattle.semver_base.specs.Lexical.{IsBuild, IsLoosePre, IsParts, IsPre, IsQua
 use Rattle.semver_base.specs.declared.lexical.values.Qualifier.{Qualifier}
 use Rattle.semver_base.specs.declared.lexical.values.Strictness.{Strictness}
 use Rattle.semver_base.specs.declared.lexical.values.Strictness.TheVariants.{Loose, Strict}
-use Rattle.semver_base.proofs.Fronts.{Apart, NonEmpty, followed, mapped, marked_none, marked_some, optional_none, optional_some}
-use Rattle.semver_base.proofs.Bytes.{BeginsBy, Disjoint, MadeOf, apart_by, begins_from_made, begins_wider, joined_begins_either, mapped_begins, goes_from_made, marked_begins, marked_made, optional_begins, optional_goes}
+use Rattle.semver_base.proofs.Fronts.{Apart, NonEmpty, followed, mapped, prefixed_none, prefixed_some, optional_none, optional_some}
+use Rattle.semver_base.proofs.Bytes.{BeginsBy, Disjoint, MadeOf, apart_by, begins_from_made, begins_wider, joined_begins_either, mapped_begins, goes_from_made, prefixed_begins, prefixed_made, optional_begins, optional_goes}
 use Rattle.semver_base.proofs.Parts.{is_parts_byte, parts_made, parts_some}
 
 -- ---- loose pre-releases
 
 module _ {text rest : List ℕ} (e : text ≡ 45 ∷ rest) where
-  loose_some_marked : (v : List (List ℕ)) (end : List ℕ) → IsLongest IsParts rest v end → IsLongest IsLoosePre text v end
-  loose_some_marked v end p = record { front = 45 ∷ p.front; text_is = e ∙ ap (λ t. 45 ∷ t) p.text_is; stands = inl (refl, p.stands); longest = go }
+  loose_some_prefixed : (v : List (List ℕ)) (end : List ℕ) → IsLongest IsParts rest v end → IsLongest IsLoosePre text v end
+  loose_some_prefixed v end p = record { front = 45 ∷ p.front; text_is = e ∙ ap (λ t. 45 ∷ t) p.text_is; stands = inl (refl, p.stands); longest = go }
     where
       go : (a b : List ℕ) (w : List (List ℕ)) → text ≡ a ++ b → IsLoosePre a w → (length a ≤ length (45 ∷ p.front)) × (length a ≡ length (45 ∷ p.front) → w ≡ v)
       go [] b w f h = absurd h
@@ -27,8 +27,8 @@ module _ {text rest : List ℕ} (e : text ≡ 45 ∷ rest) where
         | inr k ↦ absurd (k.0 (cc))
       ]
 
-  loose_none_marked : HasNone IsParts rest → HasNone IsLoosePre text
-  loose_none_marked p = record { none = go }
+  loose_none_prefixed : HasNone IsParts rest → HasNone IsLoosePre text
+  loose_none_prefixed p = record { none = go }
     where
       go : (a b : List ℕ) (w : List (List ℕ)) → text ≡ a ++ b → IsLoosePre a w → ⊥
       go [] b w f h = h
@@ -37,9 +37,9 @@ module _ {text rest : List ℕ} (e : text ≡ 45 ∷ rest) where
         | inr k ↦ k.0 (cc)
       ]
 
-  loose_marked : (r : Option (List (List ℕ) × List ℕ)) → Reads IsParts rest r → Reads IsLoosePre text r
-  loose_marked None h = loose_none_marked h
-  loose_marked (Some p) h = loose_some_marked p.0 p.1 h
+  loose_prefixed : (r : Option (List (List ℕ) × List ℕ)) → Reads IsParts rest r → Reads IsLoosePre text r
+  loose_prefixed None h = loose_none_prefixed h
+  loose_prefixed (Some p) h = loose_some_prefixed p.0 p.1 h
 
 module _ {text : List ℕ} (other : (rest : List ℕ) → text ≡ 45 ∷ rest → ⊥) where
   loose_from_parts : (a b : List ℕ) (v : List (List ℕ)) → text ≡ a ++ b → IsParts a v → IsLoosePre a v
@@ -64,18 +64,18 @@ module _ {text : List ℕ} (other : (rest : List ℕ) → text ≡ 45 ∷ rest �
 
 -- ---- what the readers answer
 
-pub pre_marked : (s : Strictness) (text rest : List ℕ) (r : Option (List (List ℕ) × List ℕ)) → text ≡ 45 ∷ rest → Reads IsParts rest r → Reads (IsPre s) text r
-pre_marked Loose text rest r e h = loose_marked e r h
-pre_marked Strict text rest None e h = marked_none e h
-pre_marked Strict text rest (Some p) e h = marked_some e h
+pub pre_prefixed : (s : Strictness) (text rest : List ℕ) (r : Option (List (List ℕ) × List ℕ)) → text ≡ 45 ∷ rest → Reads IsParts rest r → Reads (IsPre s) text r
+pre_prefixed Loose text rest r e h = loose_prefixed e r h
+pre_prefixed Strict text rest None e h = prefixed_none e h
+pre_prefixed Strict text rest (Some p) e h = prefixed_some e h
 
 pub pre_plain : (s : Strictness) (text : List ℕ) (r : Option (List (List ℕ) × List ℕ)) → ((rest : List ℕ) → text ≡ 45 ∷ rest → ⊥) → (s ≡ Strict → ⊥) → Reads IsParts text r → Reads (IsPre s) text r
 pre_plain Loose text r other not h = loose_plain other r h
 pre_plain Strict text r other not h = absurd (not refl)
 
-pub build_marked : (text rest : List ℕ) (r : Option (List (List ℕ) × List ℕ)) → text ≡ 43 ∷ rest → Reads IsParts rest r → Reads IsBuild text r
-build_marked text rest None e h = marked_none e h
-build_marked text rest (Some p) e h = marked_some e h
+pub build_prefixed : (text rest : List ℕ) (r : Option (List (List ℕ) × List ℕ)) → text ≡ 43 ∷ rest → Reads IsParts rest r → Reads IsBuild text r
+build_prefixed text rest None e h = prefixed_none e h
+build_prefixed text rest (Some p) e h = prefixed_some e h
 
 -- ---- with which bytes they begin and go on
 
@@ -91,7 +91,7 @@ loose_made = record { made = go }
 
 pub pre_made : (s : Strictness) → MadeOf (IsPre s) is_parts_byte
 pre_made Loose = loose_made
-pre_made Strict = marked_made parts_made 45 refl
+pre_made Strict = prefixed_made parts_made 45 refl
 
 pub pre_some : (s : Strictness) → NonEmpty (IsPre s)
 pre_some Loose = record { some = λ v h. h }
@@ -101,7 +101,7 @@ plus_apart : Disjoint is_parts_byte (λ x. x == 43)
 plus_apart x h k = grind (arith, nat_tests)
 
 pub pre_build_apart : (s : Strictness) → Apart (Optional (IsPre s)) (Optional IsBuild)
-pre_build_apart s = apart_by is_parts_byte (λ x. x == 43) plus_apart (optional_goes (begins_from_made (pre_made s)) (goes_from_made (pre_made s))) (optional_begins (marked_begins 43))
+pre_build_apart s = apart_by is_parts_byte (λ x. x == 43) plus_apart (optional_goes (begins_from_made (pre_made s)) (goes_from_made (pre_made s))) (optional_begins (prefixed_begins 43))
 
 pub optional_read : {A : List ℕ → List (List ℕ) → Type 0} {text rest : List ℕ} {v : List (List ℕ)} → NonEmpty A → IsLongest A text v rest → IsSeen or_none (Optional A) text v rest
 optional_read {v = v} some p = record { value = Some v; longest = optional_some some p; seen = refl }
@@ -135,8 +135,8 @@ no_qualifier s = qualifier_read s (record { value = None; longest = optional_non
 -- a strict qualifier begins with no digit
 strict_begins : BeginsBy (IsQualifier Strict) (λ x. (x == 45) || (x == 43))
 strict_begins = mapped_begins (joined_begins_either
-    (optional_begins (begins_wider (λ x. x == 45) (λ x. (x == 45) || (x == 43)) (λ x h. or_left (x == 45) (x == 43) h) (marked_begins 45)))
-    (optional_begins (begins_wider (λ x. x == 43) (λ x. (x == 45) || (x == 43)) (λ x h. or_right (x == 45) (x == 43) h) (marked_begins 43))))
+    (optional_begins (begins_wider (λ x. x == 45) (λ x. (x == 45) || (x == 43)) (λ x h. or_left (x == 45) (x == 43) h) (prefixed_begins 45)))
+    (optional_begins (begins_wider (λ x. x == 43) (λ x. (x == 45) || (x == 43)) (λ x h. or_right (x == 45) (x == 43) h) (prefixed_begins 43))))
 
 no_strict_digit : Disjoint (λ x. (x == 45) || (x == 43)) is_ascii_digit
 no_strict_digit x h k = grind (arith, nat_tests)

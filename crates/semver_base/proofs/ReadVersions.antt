@@ -1,6 +1,6 @@
 -- The identifiers that were read are parts, so a version that was read has a text that reads back.
 use Rattle.std.proofs.Common.{ℕ, List, [], ◌∷◌, Option, Some, None, Ok, refl, sym, subst, inl, inr}
-use Rattle.semver_base.specs.Grammar.{After, last_item, closed_item, more_items, Mapped, Marked, Optional}
+use Rattle.semver_base.specs.Grammar.{After, last_item, closed_item, more_items, Mapped, Prefixed, Optional}
 use Rattle.semver_base.specs.Lexical.{IsBuild, IsPart, IsParts, IsPre, IsQualifier, or_none}
 use Rattle.semver_base.specs.VersionGrammar.{AllNumbersFit, IsVersion, IsVersionOutcome, is_version}
 use Rattle.semver_base.specs.VersionText.{AreParts, IsWritable, ReadsBack}
@@ -18,9 +18,9 @@ by_mapped P inner m = subst P (sym m.is) (inner _ m.value m.stands)
 pub by_after : {V W : Type 0} {A : List ℕ → V → Type 0} {B : List ℕ → W → Type 0} (P : W → Type 0) → ((t : List ℕ) (w : W) → B t w → P w) → {text : List ℕ} {w : W} → After A B text w → P w
 by_after P inner m = subst P (sym m.is) (inner m.stands.second m.value.1 m.stands.in_second)
 
-pub by_marked : {V : Type 0} (m : ℕ) (A : List ℕ → V → Type 0) (P : V → Type 0) → ((t : List ℕ) (v : V) → A t v → P v) → (text : List ℕ) (v : V) → Marked m A text v → P v
-by_marked m A P inner [] v h = absurd h
-by_marked m A P inner (b ∷ rest) v h = inner rest v h.1
+pub by_prefixed : {V : Type 0} (m : ℕ) (A : List ℕ → V → Type 0) (P : V → Type 0) → ((t : List ℕ) (v : V) → A t v → P v) → (text : List ℕ) (v : V) → Prefixed m A text v → P v
+by_prefixed m A P inner [] v h = absurd h
+by_prefixed m A P inner (b ∷ rest) v h = inner rest v h.1
 
 -- ---- qualifiers
 
@@ -36,7 +36,7 @@ pre_are : (s : Strictness) (text : List ℕ) (ids : List (List ℕ)) → IsPre s
 pre_are Loose [] ids h = absurd h
 pre_are Loose (b ∷ rest) ids (inl h) = parts_are h.1
 pre_are Loose (b ∷ rest) ids (inr h) = parts_are h.1
-pre_are Strict text ids h = by_marked 45 IsParts AreParts (λ t v k. parts_are k) text ids h
+pre_are Strict text ids h = by_prefixed 45 IsParts AreParts (λ t v k. parts_are k) text ids h
 
 maybe_pre : (s : Strictness) (text : List ℕ) (o : Option (List (List ℕ))) → Optional (IsPre s) text o → AreParts (or_none o)
 maybe_pre s text None h = tt
@@ -44,7 +44,7 @@ maybe_pre s text (Some ids) h = pre_are s text ids h
 
 maybe_build : (text : List ℕ) (o : Option (List (List ℕ))) → Optional IsBuild text o → AreParts (or_none o)
 maybe_build text None h = tt
-maybe_build text (Some ids) h = by_marked 43 IsParts AreParts (λ t v k. parts_are k) text ids h
+maybe_build text (Some ids) h = by_prefixed 43 IsParts AreParts (λ t v k. parts_are k) text ids h
 
 abbrev pub QualifierHas : Qualifier → Type 0
 QualifierHas q = AreParts q.pre × AreParts q.build

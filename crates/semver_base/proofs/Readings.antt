@@ -2,7 +2,7 @@
 use Rattle.std.proofs.Common.{◌≡◌, ◌≤◌, ℕ, Bool, true, false, List, [], ◌∷◌, ◌++◌, length, Option, Some, None, refl, sym, ap, ◌∙◌, arith, append-nil, length-append}
 use Rattle.std.specs.List.{list_all}
 use Rattle.std.proofs.lemmas.Bool.{and_from, and_parts, both_ways}
-use Rattle.semver_base.specs.Grammar.{After, Before, Either, this, that, IsLongest, Followed, Joined, Listed, last_item, closed_item, more_items, Mapped, Marked, Optional, Run, Stops}
+use Rattle.semver_base.specs.Grammar.{After, Before, Either, this, that, IsLongest, Followed, Joined, Listed, last_item, closed_item, more_items, Mapped, Prefixed, Optional, Run, Stops}
 use Rattle.semver_base.proofs.Fronts.{Apart, GoesOn, NoClash, NonEmpty, fronts, same, shorter, longer, no_clash}
 use Rattle.semver_base.proofs.Bytes.{BeginsBy, Disjoint, GoesBy, MadeOf, list_all-wider}
 use Rattle.semver_base.proofs.Lists.{IsListing, item_apart, listed_some, separator_apart, stops_here}
@@ -65,10 +65,10 @@ pub unit_one : (A : List ℕ → Unit {0} → Type 0) → Unambiguous A
 unit_one A = record { one = λ text v w h k. refl }
 
 module _ {V : Type 0} {A : List ℕ → V → Type 0} where
-  pub marked_one : (m : ℕ) → Unambiguous A → Unambiguous (Marked m A)
-  marked_one m u = record { one = go }
+  pub prefixed_one : (m : ℕ) → Unambiguous A → Unambiguous (Prefixed m A)
+  prefixed_one m u = record { one = go }
     where
-      go : (text : List ℕ) (v w : V) → Marked m A text v → Marked m A text w → v ≡ w
+      go : (text : List ℕ) (v w : V) → Prefixed m A text v → Prefixed m A text w → v ≡ w
       go [] v w h k = absurd h
       go (x ∷ rest) v w h k = u.one rest v w h.1 k.1
 
@@ -215,10 +215,10 @@ module _ {V : Type 0} {A : List ℕ → V → Type 0} where
   pub mapped_other : {W : Type 0} {f : V → W} {p : ℕ → Bool} → HasOther A p → HasOther (Mapped f A) p
   mapped_other a = record { other = λ text w h k. a.other text h.value h.stands k }
 
-  pub marked_other_byte : (m : ℕ) (p : ℕ → Bool) → p m ≡ false → HasOther (Marked m A) p
-  marked_other_byte m p fails = record { other = go }
+  pub prefixed_other_byte : (m : ℕ) (p : ℕ → Bool) → p m ≡ false → HasOther (Prefixed m A) p
+  prefixed_other_byte m p fails = record { other = go }
     where
-      go : (text : List ℕ) (v : V) → Marked m A text v → list_all p text ≡ true → ⊥
+      go : (text : List ℕ) (v : V) → Prefixed m A text v → list_all p text ≡ true → ⊥
       go [] v h k = absurd h
       go (x ∷ rest) v h k = both_ways (p m) fails (rw h.0 at (and_parts (p x) (list_all p rest) k).0)
 

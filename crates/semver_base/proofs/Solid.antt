@@ -12,7 +12,7 @@ use Rattle.std.proofs.lemmas.Str.Ascii.{IsAscii-from_all}
 use Rattle.semver_base.specs.Lexical.{IsLooseNumber, IsParts, IsQualifier}
 use Rattle.semver_base.specs.declared.lexical.values.Strictness.TheVariants.{Loose}
 use Rattle.semver_base.proofs.Blanks.{is_blank_byte}
-use Rattle.semver_base.proofs.Bytes.{MadeOf, joined_made, list_all-wider, made_wider, mapped_made, marked_made, optional_made, run_made}
+use Rattle.semver_base.proofs.Bytes.{MadeOf, joined_made, list_all-wider, made_wider, mapped_made, prefixed_made, optional_made, run_made}
 use Rattle.semver_base.proofs.Fronts.{NonEmpty}
 use Rattle.semver_base.proofs.Parts.{is_parts_byte, parts_made}
 use Rattle.semver_base.proofs.Qualifiers.{pre_made}
@@ -45,7 +45,7 @@ solid_parts : MadeOf IsParts is_solid_byte
 solid_parts = made_wider is_parts_byte is_solid_byte parts_solid parts_made
 
 pub qualifier_made : MadeOf (IsQualifier Loose) is_solid_byte
-qualifier_made = mapped_made (joined_made (optional_made (made_wider is_parts_byte is_solid_byte parts_solid (pre_made Loose))) (optional_made (marked_made solid_parts 43 refl)))
+qualifier_made = mapped_made (joined_made (optional_made (made_wider is_parts_byte is_solid_byte parts_solid (pre_made Loose))) (optional_made (prefixed_made solid_parts 43 refl)))
 
 pub some_text : {V : Type 0} {A : List ℕ → V → Type 0} {v : V} → NonEmpty A → (text : List ℕ) → A text v → 0 < length text
 some_text {v = v} never [] h = absurd (never.some v h)

@@ -4,8 +4,7 @@ use Rattle.std.proofs.lemmas.Bool.Decides.{nat_tests}
 use Rattle.std.proofs.lemmas.Cmp.{nat_cmp_total, tied_itself}
 use Rattle.std.specs.Ordering.{is_le, nat_cmp}
 use Rattle.std.specs.declared.cmp.Ordering.TheVariants.{Equal}
-use Rattle.semver_base.specs.Meaning.{has_pre_of, is_release}
-use Rattle.semver_base.specs.PartialTable.{bound_at}
+use Rattle.semver_base.specs.Meaning.{bound_at, has_pre_of, is_release}
 use Rattle.semver_base.specs.Precedence.{precedence_cmp, release_rank}
 use Rattle.semver_base.specs.declared.version.Version.{Version}
 use Rattle.semver_base.specs.declared.range.VersionBoundKind.TheVariants as kind

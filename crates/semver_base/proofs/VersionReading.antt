@@ -6,17 +6,17 @@ use Rattle.std.specs.Str.Parse.{digits_value}
 use Rattle.std.proofs.lemmas.Bool.{false_from_ne_true, or_left, or_right}
 use Rattle.std.proofs.lemmas.Bool.Decides.{nat_tests}
 use Rattle.std.proofs.lemmas.List.{nil_from_length}
-use Rattle.semver_base.specs.Grammar.{After, Followed, HasNone, IsLongest, IsSeen, Joined, Mapped, Marked, Optional, Run, Stops}
-use Rattle.semver_base.specs.Lexical.{IsBlanks, IsByte, IsLooseNumber, IsQualifier}
-use Rattle.semver_base.specs.VersionGrammar.{AllNumbersFit, IsFirstFault, IsLead, IsNumberFault, too_large, no_dot, later, IsTriple, IsVersion, IsVersionAnswer, IsVersionOutcome, is_version, is_fault, is_outside, IsVersionRefusal, LacksDot, NoDigitFollows, ignored, version_failure, version_of}
+use Rattle.semver_base.specs.Grammar.{After, Followed, HasNone, IsLongest, IsSeen, Joined, Mapped, Prefixed, Optional, Run, Stops}
+use Rattle.semver_base.specs.Lexical.{IsBlanks, IsByte, IsLooseNumber, IsQualifier, NoDigitFollows}
+use Rattle.semver_base.specs.VersionGrammar.{AllNumbersFit, IsFirstFault, IsLead, IsNumberFault, too_large, no_dot, later, IsTriple, IsVersion, IsVersionAnswer, IsVersionOutcome, is_version, is_fault, is_outside, IsVersionRefusal, LacksDot, ignored, version_failure, version_of}
 use Rattle.semver_base.specs.VersionReaderSteps.{IsFaultOfNumbers, IsFittingNumber, IsFittingTriple, IsNumberRefusal, IsOutsideTriple, IsReadVersion, IsTripleRefusal}
 use Rattle.semver_base.specs.declared.failure.Refusal.{Refusal}
 use Rattle.semver_base.specs.declared.failure.Refusal.TheVariants.{UnexpectedCharacter, MissingMinor, MissingPatch}
 use Rattle.semver_base.specs.declared.lexical.values.Qualifier.{Qualifier}
 use Rattle.semver_base.specs.declared.lexical.values.Strictness.TheVariants.{Loose}
 use Rattle.semver_base.specs.declared.version.Version.{Version}
-use Rattle.semver_base.proofs.Fronts.{Apart, NoClash, NonEmpty, followed, followed_none_second, joined, joined_none_first, mapped, mapped_none, marked_none, marked_some, no_clash, one_front, rest_is}
-use Rattle.semver_base.proofs.Bytes.{BeginsBy, Disjoint, GoesBy, MadeOf, apart_by, begins_from_made, begins_wider, goes_from_made, goes_wider, joined_begins, joined_begins_either, joined_goes_second, joined_made, joined_some_text, made_wider, mapped_begins, mapped_made, marked_begins, marked_goes, marked_made, marked_some_text, optional_begins, optional_goes, optional_made}
+use Rattle.semver_base.proofs.Fronts.{Apart, NoClash, NonEmpty, followed, followed_none_second, joined, joined_none_first, mapped, mapped_none, prefixed_none, prefixed_some, no_clash, one_front, rest_is}
+use Rattle.semver_base.proofs.Bytes.{BeginsBy, Disjoint, GoesBy, MadeOf, apart_by, begins_from_made, begins_wider, goes_from_made, goes_wider, joined_begins, joined_begins_either, joined_goes_second, joined_made, joined_some_text, made_wider, mapped_begins, mapped_made, prefixed_begins, prefixed_goes, prefixed_made, prefixed_some_text, optional_begins, optional_goes, optional_made}
 use Rattle.semver_base.proofs.Lists.{run_longest}
 use Rattle.semver_base.proofs.Numbers.{loose_begins, loose_end, loose_goes, loose_some}
 use Rattle.semver_base.proofs.Parts.{byte_begins, byte_goes}
@@ -31,8 +31,8 @@ is_v x = x == 118
 blank_no_v : Disjoint is_blank_byte is_v
 blank_no_v x h k = grind (arith, nat_tests)
 
-blanks_apart : Apart IsBlanks (Optional (Marked 118 IsBlanks))
-blanks_apart = apart_by is_blank_byte is_v blank_no_v (goes_from_made blanks_made) (optional_begins (marked_begins 118))
+blanks_apart : Apart IsBlanks (Optional (Prefixed 118 IsBlanks))
+blanks_apart = apart_by is_blank_byte is_v blank_no_v (goes_from_made blanks_made) (optional_begins (prefixed_begins 118))
 
 abbrev is_after_equals : ℕ → Bool
 is_after_equals x = is_blank_byte x || is_v x
@@ -43,15 +43,15 @@ equals_no_blank x h k = grind (arith, nat_tests)
 equals_goes : GoesBy (Optional (IsByte 61)) (λ x. x == 61)
 equals_goes = optional_goes (byte_begins 61) (goes_wider _ (λ x. x == 61) (λ x h. cc h) (byte_goes 61))
 
-after_equals_begins : BeginsBy (After IsBlanks (Optional (Marked 118 IsBlanks))) is_after_equals
+after_equals_begins : BeginsBy (After IsBlanks (Optional (Prefixed 118 IsBlanks))) is_after_equals
 after_equals_begins = mapped_begins (joined_begins_either
     (begins_wider is_blank_byte is_after_equals (λ x h. or_left (is_blank_byte x) (is_v x) h) (begins_from_made blanks_made))
-    (optional_begins (begins_wider is_v is_after_equals (λ x h. or_right (is_blank_byte x) (is_v x) h) (marked_begins 118))))
+    (optional_begins (begins_wider is_v is_after_equals (λ x h. or_right (is_blank_byte x) (is_v x) h) (prefixed_begins 118))))
 
-equals_apart : Apart (Optional (IsByte 61)) (After IsBlanks (Optional (Marked 118 IsBlanks)))
+equals_apart : Apart (Optional (IsByte 61)) (After IsBlanks (Optional (Prefixed 118 IsBlanks)))
 equals_apart = apart_by (λ x. x == 61) is_after_equals equals_no_blank equals_goes after_equals_begins
 
-pub lead_read : {text first second rest : List ℕ} → IsSeen ignored (Optional (IsByte 61)) text tt first → IsLongest IsBlanks first tt second → IsSeen ignored (Optional (Marked 118 IsBlanks)) second tt rest → IsLongest IsLead text tt rest
+pub lead_read : {text first second rest : List ℕ} → IsSeen ignored (Optional (IsByte 61)) text tt first → IsLongest IsBlanks first tt second → IsSeen ignored (Optional (Prefixed 118 IsBlanks)) second tt rest → IsLongest IsLead text tt rest
 lead_read p q r = mapped (mapped (followed equals_apart p.longest (mapped (followed blanks_apart q r.longest))))
 
 abbrev is_lead_byte : ℕ → Bool
@@ -64,18 +64,18 @@ lead_made : MadeOf IsLead is_lead_byte
 lead_made =
     let blanks : MadeOf IsBlanks is_lead_byte = made_wider is_blank_byte is_lead_byte (λ x h. or_right (x == 61) (is_after_equals x) (or_left (is_blank_byte x) (is_v x) h)) blanks_made in
     let equals : MadeOf (IsByte 61) is_lead_byte = record { made = λ text v h. rw h refl } in
-    mapped_made (mapped_made (joined_made (optional_made equals) (mapped_made (joined_made blanks (optional_made (marked_made blanks 118 refl))))))
+    mapped_made (mapped_made (joined_made (optional_made equals) (mapped_made (joined_made blanks (optional_made (prefixed_made blanks 118 refl))))))
 
 -- ---- three numbers
 
 digit_no_dot : Disjoint is_ascii_digit (λ x. x == 46)
 digit_no_dot x h k = grind (arith, nat_tests)
 
-number_apart : {V : Type 0} {B : List ℕ → V → Type 0} → Apart IsLooseNumber (Marked 46 B)
-number_apart = apart_by is_ascii_digit (λ x. x == 46) digit_no_dot loose_goes (marked_begins 46)
+number_apart : {V : Type 0} {B : List ℕ → V → Type 0} → Apart IsLooseNumber (Prefixed 46 B)
+number_apart = apart_by is_ascii_digit (λ x. x == 46) digit_no_dot loose_goes (prefixed_begins 46)
 
 triple_goes : GoesBy IsTriple is_ascii_digit
-triple_goes = joined_goes_second (no_clash number_apart) (marked_some_text 46) (marked_goes 46 (joined_goes_second (no_clash number_apart) (marked_some_text 46) (marked_goes 46 loose_goes)))
+triple_goes = joined_goes_second (no_clash number_apart) (prefixed_some_text 46) (prefixed_goes 46 (joined_goes_second (no_clash number_apart) (prefixed_some_text 46) (prefixed_goes 46 loose_goes)))
 
 triple_begins : BeginsBy IsTriple is_ascii_digit
 triple_begins = joined_begins loose_some loose_begins
@@ -99,7 +99,7 @@ number_stop (y ∷ rest) p d = loose_end p y rest refl d
 
 pub triple_read : {text first second third fourth rest : List ℕ} {m n p : ℕ} → IsFittingNumber text m first → first ≡ 46 ∷ second → IsFittingNumber second n third → third ≡ 46 ∷ fourth → IsFittingNumber fourth p rest → IsFittingTriple text (m, (n, p)) rest
 triple_read {rest = rest} a dot b point c = record {
-  triple = followed number_apart a.number (marked_some dot (followed number_apart b.number (marked_some point c.number)));
+  triple = followed number_apart a.number (prefixed_some dot (followed number_apart b.number (prefixed_some point c.number)));
   major_fits = a.fits;
   minor_fits = b.fits;
   patch_fits = c.fits;
@@ -183,9 +183,9 @@ module _ {text second : List ℕ} {m : ℕ} (a : IsLongest IsLooseNumber text m 
   minor_later : {refusal : Refusal} → IsNumberFault (MissingPatch ∷ []) second refusal → IsTripleRefusal text refusal
   minor_later f = inl (later a fits f)
 
-  second_outside : HasNone (Followed IsLooseNumber (Marked 46 IsLooseNumber)) second → ((fault : Refusal) → IsNumberFault (MissingPatch ∷ []) second fault → ⊥) → IsOutsideTriple text
+  second_outside : HasNone (Followed IsLooseNumber (Prefixed 46 IsLooseNumber)) second → ((fault : Refusal) → IsNumberFault (MissingPatch ∷ []) second fault → ⊥) → IsOutsideTriple text
   second_outside none no_fault = record {
-    no_triple = followed_none_second number_apart a (marked_none refl none);
+    no_triple = followed_none_second number_apart a (prefixed_none refl none);
     no_fault = λ fault k. no_fault fault (next_fault a fits k);
   }
 
@@ -199,7 +199,7 @@ module _ {text second : List ℕ} {m : ℕ} (a : IsLongest IsLooseNumber text m 
     patch_refused_at : {refusal : Refusal} → IsNumberRefusal fourth refusal → IsTripleRefusal text refusal
     patch_refused_at h = elim (number_fault {missing = []} h) [
       | inl fault ↦ minor_later (later b small fault)
-      | inr outside ↦ inr (outside.0, second_outside (followed_none_second number_apart b (marked_none refl outside.1)) (λ f k. none_no_fault outside.1 (next_fault b small k)))
+      | inr outside ↦ inr (outside.0, second_outside (followed_none_second number_apart b (prefixed_none refl outside.1)) (λ f k. none_no_fault outside.1 (next_fault b small k)))
     ]
 
 pub minor_refused : {text first second : List ℕ} {m : ℕ} {refusal : Refusal} → IsFittingNumber text m first → first ≡ 46 ∷ second → IsNumberRefusal second refusal → IsTripleRefusal text refusal
@@ -228,7 +228,7 @@ stops_at (y ∷ rest) no_digit = false_from_ne_true (is_ascii_digit y) no_digit
 triple_no_fault : (front rest : List ℕ) (v : ℕ × (ℕ × ℕ)) {text : List ℕ} {fault : Refusal} → IsTriple front v → text ≡ front ++ rest → v.0 < 2 ^ 64 → v.1.0 < 2 ^ 64 → v.1.1 < 2 ^ 64 → (is_ascii_digit (slice_index rest 0) ≡ true → ⊥) → IsFaultOfNumbers text fault → ⊥
 triple_no_fault front rest v {text} {fault} h e major minor patch no_digit f = at_second h.second h.in_second (e ∙ ap (λ t. t ++ rest) h.text_is ∙ append_assoc h.first h.second rest)
   where
-    at_fourth : (fourth : List ℕ) (second : List ℕ) (j : Followed IsLooseNumber (Marked 46 IsLooseNumber) second v.1) → Marked 46 IsLooseNumber fourth v.1.1 → text ≡ h.first ++ (46 ∷ (j.first ++ (fourth ++ rest))) → ⊥
+    at_fourth : (fourth : List ℕ) (second : List ℕ) (j : Followed IsLooseNumber (Prefixed 46 IsLooseNumber) second v.1) → Prefixed 46 IsLooseNumber fourth v.1.1 → text ≡ h.first ++ (46 ∷ (j.first ++ (fourth ++ rest))) → ⊥
     at_fourth [] second j k split = k
     at_fourth (x ∷ fourth) second j k split =
         let dot : text ≡ h.first ++ (46 ∷ (j.first ++ (46 ∷ (fourth ++ rest)))) = rw k.0 at split in
@@ -237,7 +237,7 @@ triple_no_fault front rest v {text} {fault} h e major minor patch no_digit f = a
         let three = digits_longest {text = fourth ++ rest} k.1 refl (stops_at rest no_digit) in
         last_no_fault three patch (next_fault two minor (next_fault one major f))
 
-    at_second : (second : List ℕ) → Marked 46 (Followed IsLooseNumber (Marked 46 IsLooseNumber)) second v.1 → text ≡ h.first ++ (second ++ rest) → ⊥
+    at_second : (second : List ℕ) → Prefixed 46 (Followed IsLooseNumber (Prefixed 46 IsLooseNumber)) second v.1 → text ≡ h.first ++ (second ++ rest) → ⊥
     at_second [] k split = k
     at_second (x ∷ second) k split =
         let j = k.1 in

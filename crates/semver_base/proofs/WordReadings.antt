@@ -6,11 +6,11 @@ use Rattle.std.proofs.lemmas.Bool.{or_left}
 use Rattle.semver_base.specs.Lexical.{IsBuild, IsLooseNumber, IsLoosePre, IsNumber, IsParts, IsPre, IsQualifier, is_part_byte}
 use Rattle.semver_base.specs.declared.lexical.values.Strictness.{Strictness}
 use Rattle.semver_base.specs.declared.lexical.values.Strictness.TheVariants.{Loose, Strict}
-use Rattle.semver_base.proofs.Bytes.{MadeOf, joined_made, made_wider, mapped_made, marked_made, marked_some_text, optional_made, run_made}
+use Rattle.semver_base.proofs.Bytes.{MadeOf, joined_made, made_wider, mapped_made, prefixed_made, prefixed_some_text, optional_made, run_made}
 use Rattle.semver_base.proofs.Numbers.{number_is_loose}
 use Rattle.semver_base.proofs.Parts.{is_parts_byte, parts_listing, parts_made}
 use Rattle.semver_base.proofs.Qualifiers.{pre_build_apart, pre_made, pre_some}
-use Rattle.semver_base.proofs.Readings.{Unambiguous, followed_one, listed_one, mapped_one, marked_one, narrowed_one, optional_one, run_one}
+use Rattle.semver_base.proofs.Readings.{Unambiguous, followed_one, listed_one, mapped_one, prefixed_one, narrowed_one, optional_one, run_one}
 
 -- ---- numbers
 
@@ -39,13 +39,13 @@ pre_one Loose = record { one = go }
     go (b ∷ rest) v w (inl h) (inr k) = absurd (k.0 h.0)
     go (b ∷ rest) v w (inr h) (inl k) = absurd (h.0 k.0)
     go (b ∷ rest) v w (inr h) (inr k) = parts_one.one (b ∷ rest) v w h.1 k.1
-pre_one Strict = marked_one 45 parts_one
+pre_one Strict = prefixed_one 45 parts_one
 
 pub build_one : Unambiguous IsBuild
-build_one = marked_one 43 parts_one
+build_one = prefixed_one 43 parts_one
 
 pub qualifier_one : (s : Strictness) → Unambiguous (IsQualifier s)
-qualifier_one s = mapped_one (followed_one (pre_build_apart s) (optional_one (pre_some s) (pre_one s)) (optional_one (marked_some_text 43) build_one))
+qualifier_one s = mapped_one (followed_one (pre_build_apart s) (optional_one (pre_some s) (pre_one s)) (optional_one (prefixed_some_text 43) build_one))
 
 abbrev pub is_qualifier_byte : ℕ → Bool
 is_qualifier_byte x = is_parts_byte x || (x == 43)
@@ -53,4 +53,4 @@ is_qualifier_byte x = is_parts_byte x || (x == 43)
 pub qualifier_made : (s : Strictness) → MadeOf (IsQualifier s) is_qualifier_byte
 qualifier_made s = mapped_made (joined_made
     (made_wider is_parts_byte is_qualifier_byte (λ x h. or_left (is_parts_byte x) (x == 43) h) (optional_made (pre_made s)))
-    (optional_made (marked_made (made_wider is_parts_byte is_qualifier_byte (λ x h. or_left (is_parts_byte x) (x == 43) h) parts_made) 43 refl)))
+    (optional_made (prefixed_made (made_wider is_parts_byte is_qualifier_byte (λ x h. or_left (is_parts_byte x) (x == 43) h) parts_made) 43 refl)))

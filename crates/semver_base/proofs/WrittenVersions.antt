@@ -9,13 +9,13 @@ use Rattle.std.proofs.lemmas.Fmt.{decimal_digit, decimal_is_IsNumeral, first_dec
 use Rattle.std.proofs.lemmas.Str.{NoCharPasses-nil}
 use Rattle.std.specs.Char.{is_not_whitespace}
 use Rattle.semver_base.specs.Grammar.{After, Followed, Joined, Optional, last_item, more_items}
-use Rattle.semver_base.specs.Lexical.{IsBlanks, IsBuild, IsLooseNumber, IsNumber, IsParts, IsPre, IsQualifier, or_none}
-use Rattle.semver_base.specs.VersionGrammar.{IsLead, IsTriple, IsVersion, IsVersionOutcome, NoDigitFollows, is_version}
-use Rattle.semver_base.specs.VersionText.{AreParts, IsWritable, marked, version_text}
+use Rattle.semver_base.specs.Lexical.{IsBlanks, IsBuild, IsLooseNumber, IsNumber, IsParts, IsPre, IsQualifier, NoDigitFollows, or_none}
+use Rattle.semver_base.specs.VersionGrammar.{IsLead, IsTriple, IsVersion, IsVersionOutcome, is_version}
+use Rattle.semver_base.specs.VersionText.{AreParts, IsWritable, prefixed, version_text}
 use Rattle.semver_base.specs.declared.lexical.values.Strictness.{Strictness}
 use Rattle.semver_base.specs.declared.lexical.values.Strictness.TheVariants.{Loose, Strict}
 use Rattle.semver_base.specs.declared.version.Version.{Version}
-use Rattle.semver_base.proofs.Bytes.{MadeOf, joined_made, joined_some_text, marked_made}
+use Rattle.semver_base.proofs.Bytes.{MadeOf, joined_made, joined_some_text, prefixed_made}
 use Rattle.semver_base.proofs.Numbers.{loose_some, own}
 use Rattle.semver_base.proofs.Solid.{ends_solid, is_solid_byte, number_made, qualifier_made, solid_all_ascii, some_text, starts_solid, trim_same}
 
@@ -54,12 +54,12 @@ abbrev some_ids : List (List ℕ) → Option (List (List ℕ))
 some_ids [] = None
 some_ids (id ∷ ids) = Some (id ∷ ids)
 
-pre_written : (s : Strictness) (ids : List (List ℕ)) → AreParts ids → Optional (IsPre s) (marked 45 ids) (some_ids ids)
+pre_written : (s : Strictness) (ids : List (List ℕ)) → AreParts ids → Optional (IsPre s) (prefixed 45 ids) (some_ids ids)
 pre_written s [] h = refl
 pre_written Loose (id ∷ ids) h = inl (refl, parts_written id ids h)
 pre_written Strict (id ∷ ids) h = (refl, parts_written id ids h)
 
-build_written : (ids : List (List ℕ)) → AreParts ids → Optional IsBuild (marked 43 ids) (some_ids ids)
+build_written : (ids : List (List ℕ)) → AreParts ids → Optional IsBuild (prefixed 43 ids) (some_ids ids)
 build_written [] h = refl
 build_written (id ∷ ids) h = (refl, parts_written id ids h)
 
@@ -67,7 +67,7 @@ back : (ids : List (List ℕ)) → ids ≡ or_none (some_ids ids)
 back [] = refl
 back (id ∷ ids) = refl
 
-pub qualifier_written : (s : Strictness) (pre build : List (List ℕ)) → AreParts pre → AreParts build → IsQualifier s (marked 45 pre ++ marked 43 build) (record { pre = pre; build = build })
+pub qualifier_written : (s : Strictness) (pre build : List (List ℕ)) → AreParts pre → AreParts build → IsQualifier s (prefixed 45 pre ++ prefixed 43 build) (record { pre = pre; build = build })
 qualifier_written s pre build h k = record {
   value = (some_ids pre, some_ids build);
   stands = follow _ _ (pre_written s pre h) (build_written build k);
@@ -75,7 +75,7 @@ qualifier_written s pre build h k = record {
 }
 
 -- a qualifier that is written begins with no digit
-pub no_digit_written : (pre build : List (List ℕ)) → is_ascii_digit (slice_index (marked 45 pre ++ marked 43 build) 0) ≡ true → ⊥
+pub no_digit_written : (pre build : List (List ℕ)) → is_ascii_digit (slice_index (prefixed 45 pre ++ prefixed 43 build) 0) ≡ true → ⊥
 no_digit_written [] [] h = cc h
 no_digit_written [] (id ∷ ids) h = cc h
 no_digit_written (id ∷ ids) build h = cc h
@@ -93,7 +93,7 @@ triple_written v h = follow _ _ (loose_written v.major h.numbers.major) (refl, f
 pub version_joined : (v : Version) → IsWritable v → Joined NoDigitFollows IsTriple (IsQualifier Loose) (version_text v) ((v.major, (v.minor, v.patch)), record { pre = v.pre; build = v.build })
 version_joined v h = record {
   first = decimal v.major ++ (46 ∷ (decimal v.minor ++ (46 ∷ decimal v.patch)));
-  second = marked 45 v.pre ++ marked 43 v.build;
+  second = prefixed 45 v.pre ++ prefixed 43 v.build;
   text_is = sym (append_assoc (decimal v.major) _ _ ∙ ap (λ t. decimal v.major ++ (46 ∷ t)) (append_assoc (decimal v.minor) _ _));
   in_first = triple_written v h;
   in_second = qualifier_written Loose v.pre v.build h.pre h.build;
@@ -105,7 +105,7 @@ pub version_written : (v : Version) → IsWritable v → IsVersion (version_text
 version_written v h = record { value = _; stands = after [] (version_text v) tt no_lead (version_joined v h); is = refl }
 
 triple_made : MadeOf IsTriple is_solid_byte
-triple_made = joined_made number_made (marked_made (joined_made number_made (marked_made number_made 46 refl)) 46 refl)
+triple_made = joined_made number_made (prefixed_made (joined_made number_made (prefixed_made number_made 46 refl)) 46 refl)
 
 pub version_solid : (v : Version) → IsWritable v → list_all is_solid_byte (version_text v) ≡ true
 version_solid v h = (joined_made triple_made qualifier_made).made (version_text v) _ (version_joined v h)

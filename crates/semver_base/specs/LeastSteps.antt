@@ -1,6 +1,6 @@
 -- The versions among which the least one that ranges mean is found. Of a range and a start these are three: the least
 -- release above the start, and the least pre-release above it of the numbers of either bound of the range.
-use Rattle.std.specs.Prelude.{◌≡◌, ℕ, List, [], ◌∷◌, ◌++◌, ◌+◌, Bool, true, false, Option, Some, None, if◌then◌else◌}
+use Rattle.std.specs.Prelude.{ℕ, List, [], ◌∷◌, ◌++◌, ◌+◌, Bool, Option, Some, None, if◌then◌else◌}
 use Rattle.std.specs.List.{fold}
 use Rattle.std.specs.Ordering.{nat_cmp, on, then_cmp}
 use Rattle.std.specs.declared.cmp.Ordering.{Ordering}

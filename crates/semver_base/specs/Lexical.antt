@@ -5,7 +5,7 @@ use Rattle.std.specs.Prelude.{◌≡◌, ◌<◌, ℕ, List, [], ◌∷◌, leng
 use Rattle.std.specs.Char.{is_ascii_digit, is_ascii_alphanumeric, is_not_whitespace}
 use Rattle.std.specs.Str.{NoCharPasses}
 use Rattle.std.specs.Str.Parse.{digits_value}
-use Rattle.semver_base.specs.Grammar.{Followed, Listed, Mapped, Marked, Optional, Run}
+use Rattle.semver_base.specs.Grammar.{Followed, Listed, Mapped, Prefixed, Optional, Run}
 use Rattle.semver_base.specs.declared.lexical.values.Measured.{Measured}
 use Rattle.semver_base.specs.declared.lexical.values.Measured.TheVariants.{Fits, TooLarge}
 use Rattle.semver_base.specs.declared.lexical.values.Qualifier.{Qualifier}
@@ -41,9 +41,13 @@ abbrev pub IsNumber : Strictness → List ℕ → ℕ → Type 0
 IsNumber Loose = IsLooseNumber
 IsNumber Strict = IsStrictNumber
 
+-- no digit follows
+abbrev pub NoDigitFollows : List ℕ → List ℕ → Type 0
+NoDigitFollows before after = is_ascii_digit (slice_index after 0) ≡ true → ⊥
+
 -- no digit follows a number: before begins with a digit exactly where it is a number
 abbrev pub IsNumberEnd : List ℕ → List ℕ → Type 0
-IsNumberEnd before after = is_ascii_digit (slice_index before 0) ≡ true → is_ascii_digit (slice_index after 0) ≡ true → ⊥
+IsNumberEnd before after = is_ascii_digit (slice_index before 0) ≡ true → NoDigitFollows before after
 
 -- what 64 bits can tell of a number
 abbrev pub sized : ℕ → Measured ℕ
@@ -76,7 +80,7 @@ IsLoosePre (b ∷ rest) ids = ((b ≡ 45) × IsParts rest ids) ⊎ ((b ≡ 45 �
 
 -- `-`, and parts after it
 abbrev pub IsStrictPre : List ℕ → List (List ℕ) → Type 0
-IsStrictPre = Marked 45 IsParts
+IsStrictPre = Prefixed 45 IsParts
 
 abbrev pub IsPre : Strictness → List ℕ → List (List ℕ) → Type 0
 IsPre Loose = IsLoosePre
@@ -84,7 +88,7 @@ IsPre Strict = IsStrictPre
 
 -- `+`, and parts after it
 abbrev pub IsBuild : List ℕ → List (List ℕ) → Type 0
-IsBuild = Marked 43 IsParts
+IsBuild = Prefixed 43 IsParts
 
 -- the identifiers, and none where there are no parts
 abbrev pub or_none : Option (List (List ℕ)) → List (List ℕ)

@@ -1,3 +1,4 @@
+pub mod Characters
 pub mod Clamp
 pub mod Comparators
 pub mod Containment

@@ -93,11 +93,14 @@ everything = record { start = bound.Unbounded; end = bound.Unbounded }
 abbrev pub release : ℕ → ℕ → ℕ → Version
 release major minor patch = record { major = major; minor = minor; patch = patch; pre = []; build = [] }
 
+abbrev pub bound_at : VersionBoundKind → Version → RangeBound
+bound_at k v = bound.Version (record { kind = k; version = v })
+
 abbrev pub from : Version → RangeBound
-from v = bound.Version (record { kind = kind.Inclusive; version = v })
+from = bound_at kind.Inclusive
 
 abbrev pub to_below : Version → RangeBound
-to_below v = bound.Version (record { kind = kind.Exclusive; version = v })
+to_below = bound_at kind.Exclusive
 
 -- from 0.0.0 to below 0.0.0
 abbrev pub nothing : VersionRange

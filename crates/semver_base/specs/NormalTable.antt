@@ -2,9 +2,9 @@
 -- start and the end.
 use Rattle.std.specs.Prelude.{◌≡◌, ◌<◌, ◌+◌, ℕ, ◌∷◌, ◌++◌, codes}
 use Rattle.std.specs.Fmt.{decimal}
-use Rattle.semver_base.specs.Meaning.{everything, from, release, to_below}
+use Rattle.semver_base.specs.Meaning.{bound_at, everything, from, release, to_below}
 use Rattle.semver_base.specs.NormalText.{range_text}
-use Rattle.semver_base.specs.PartialTable.{up_to, between, bound_at}
+use Rattle.semver_base.specs.PartialTable.{up_to, between}
 use Rattle.semver_base.specs.VersionText.{version_text}
 use Rattle.semver_base.specs.declared.range.RangeBound.{RangeBound}
 use Rattle.semver_base.specs.declared.range.RangeBound.TheVariants as bound

@@ -5,7 +5,9 @@ use Rattle.std.specs.Prelude.{◌≡◌, ℕ, List, [], ◌∷◌, ◌+◌, ◌^
 use Rattle.std.specs.List.{list_all}
 use Rattle.semver_base.specs.Failure.{refusal_message}
 use Rattle.semver_base.specs.declared.failure.Refusal.TheVariants.{BoundTooLarge}
-use Rattle.semver_base.specs.Meaning.{everything, from, nothing, release, to_below}
+use Rattle.semver_base.specs.Meaning.{bound_at, everything, from, nothing, release, to_below}
+use Rattle.semver_base.specs.declared.plain.FewNumbers.{FewNumbers}
+use Rattle.semver_base.specs.declared.plain.FewNumbers.TheVariants as few
 use Rattle.semver_base.specs.declared.plain.Numbers.{Numbers}
 use Rattle.semver_base.specs.declared.version.Version.{Version}
 use Rattle.semver_base.specs.declared.range.RangeBound.{RangeBound}
@@ -59,10 +61,7 @@ without_build p = record { major = or_zero p.major; minor = or_zero p.minor; pat
 
 -- the end at a version that holds it
 abbrev pub up_to : Version → RangeBound
-up_to v = bound.Version (record { kind = kind.Inclusive; version = v })
-
-abbrev pub bound_at : VersionBoundKind → Version → RangeBound
-bound_at k v = bound.Version (record { kind = k; version = v })
+up_to = bound_at kind.Inclusive
 
 abbrev pub between : RangeBound → RangeBound → VersionRange
 between start end = record { start = start; end = end }
@@ -78,6 +77,12 @@ pub record IsLineRange (line : Line) (range : VersionRange) : Type 0 where
 -- three numbers, as a partial version
 abbrev pub of_numbers : Numbers → Partial
 of_numbers n = record { major = Val n.major; minor = Val n.minor; patch = Val n.patch; pre = []; build = [] }
+
+-- one to three numbers, as a partial version: what is missing is a wildcard
+abbrev pub of_few : FewNumbers → Partial
+of_few (few.One m) = record { major = Val m; minor = Wildcard; patch = Wildcard; pre = []; build = [] }
+of_few (few.Two m n) = record { major = Val m; minor = Val n; patch = Wildcard; pre = []; build = [] }
+of_few (few.Three n) = of_numbers n
 
 -- ---- from the lower bound to below a release, with the sums in it
 abbrev pub lower_to_below : Partial → Version → List ℕ → Line

@@ -1,7 +1,9 @@
--- Plain texts: three numbers with dots between and nothing else, which each grammar reads alike.
+-- Plain texts: one to three numbers with dots between and nothing else, which each grammar reads alike.
 use Rattle.std.specs.Prelude.{◌<◌, ◌^◌, ℕ, List, [], ◌∷◌}
 use Rattle.semver_base.specs.Grammar.{IsLongest}
 use Rattle.semver_base.specs.Lexical.{IsLooseNumber, IsStrictNumber}
+use Rattle.semver_base.specs.declared.plain.FewNumbers.{FewNumbers}
+use Rattle.semver_base.specs.declared.plain.FewNumbers.TheVariants as few
 
 -- the longest number at the front by either grammar, which fits
 pub record IsPlainNumber (text : List ℕ) (n : ℕ) (rest : List ℕ) : Type 0 where
@@ -16,3 +18,15 @@ pub record IsPlainTriple (text : List ℕ) (m n p : ℕ) : Type 0 where
   pub major : IsPlainNumber text m (46 ∷ from_minor)
   pub minor : IsPlainNumber from_minor n (46 ∷ from_patch)
   pub patch : IsPlainNumber from_patch p []
+
+-- the whole text is these two numbers with a dot between
+pub record IsPlainPair (text : List ℕ) (m n : ℕ) : Type 0 where
+  pub from_minor : List ℕ
+  pub major : IsPlainNumber text m (46 ∷ from_minor)
+  pub minor : IsPlainNumber from_minor n []
+
+-- the whole text is these numbers with dots between
+abbrev pub IsFewNumbers : List ℕ → FewNumbers → Type 0
+IsFewNumbers text (few.One m) = IsPlainNumber text m []
+IsFewNumbers text (few.Two m n) = IsPlainPair text m n
+IsFewNumbers text (few.Three n) = IsPlainTriple text n.major n.minor n.patch

@@ -1,10 +1,10 @@
 -- The grammar of version texts, and which fault of a text is the first from the left. Source: SemVer 2.0.0, section 2
 -- and its grammar, in the loose form of node-semver: leading `=`, `v` and zeros, a pre-release without `-`.
-use Rattle.std.specs.Prelude.{◌≡◌, ◌≤◌, ◌<◌, ◌^◌, ℕ, List, [], ◌∷◌, true, Option, Some, None, Result, Ok, Err, ◌⊎◌, MatchResult, IsErrAnd, slice_index}
-use Rattle.std.specs.Char.{is_ascii_digit}
+use Rattle.std.specs.Prelude.{◌≡◌, ◌≤◌, ◌<◌, ◌^◌, ℕ, List, [], ◌∷◌, Option, Some, None, Result, Ok, Err, ◌⊎◌, MatchResult, IsErrAnd}
+use Rattle.semver_base.specs.Characters.{equals_sign, letter_v}
 use Rattle.semver_base.specs.Failure.{refusal_message}
-use Rattle.semver_base.specs.Grammar.{After, Followed, IsLongest, Joined, Mapped, Marked, Optional}
-use Rattle.semver_base.specs.Lexical.{IsBlanks, IsByte, IsLooseNumber, IsQualifier}
+use Rattle.semver_base.specs.Grammar.{After, Followed, IsLongest, Joined, Mapped, Prefixed, Optional}
+use Rattle.semver_base.specs.Lexical.{IsBlanks, IsByte, IsLooseNumber, IsQualifier, NoDigitFollows}
 use Rattle.semver_base.specs.declared.failure.Refusal.{Refusal}
 use Rattle.semver_base.specs.declared.failure.Refusal.TheVariants.{UnexpectedCharacter, EmptyConstraint, MissingMinor, MissingPatch, NumberTooLarge, BoundTooLarge}
 use Rattle.semver_base.specs.declared.lexical.values.Qualifier.{Qualifier}
@@ -18,15 +18,11 @@ ignored v = tt
 
 -- an optional `=`, blanks, and optionally a `v` with blanks after it
 abbrev pub IsLead : List ℕ → Unit {0} → Type 0
-IsLead = Mapped ignored (After (Optional (IsByte 61)) (After IsBlanks (Optional (Marked 118 IsBlanks))))
+IsLead = Mapped ignored (After (Optional (IsByte equals_sign)) (After IsBlanks (Optional (Prefixed letter_v IsBlanks))))
 
 -- three numbers with dots between
 abbrev pub IsTriple : List ℕ → ℕ × (ℕ × ℕ) → Type 0
-IsTriple = Followed IsLooseNumber (Marked 46 (Followed IsLooseNumber (Marked 46 IsLooseNumber)))
-
--- no digit follows the last number
-abbrev pub NoDigitFollows : List ℕ → List ℕ → Type 0
-NoDigitFollows before after = is_ascii_digit (slice_index after 0) ≡ true → ⊥
+IsTriple = Followed IsLooseNumber (Prefixed 46 (Followed IsLooseNumber (Prefixed 46 IsLooseNumber)))
 
 abbrev pub version_of : (ℕ × (ℕ × ℕ)) × Qualifier → Version
 version_of v = record { major = v.0.0; minor = v.0.1.0; patch = v.0.1.1; pre = v.1.pre; build = v.1.build }

@@ -51,7 +51,7 @@ impl Refusal {
 ///
 /// Contracts see a failure as an optional pair of the message and the optional part; none is want of memory. Two
 /// failures are equal where these are. Which refusal it is, a caller learns by [`ParseFailure::tells_of`].
-#[derive(PartialEq, Eq, Debug, Drop)]
+#[derive(Debug, PartialEq, Eq, Drop)]
 pub struct ParseFailure {
     texts: Option<(SmallStackString, Option<SmallStackString>)>,
 }
@@ -69,7 +69,8 @@ impl Model for ParseFailure {
 impl ParseFailure {
     /// The failure with these texts, or want of memory where there is none for them.
     pub fn with_texts(alloc: Global, message: &str, code_snippet: Option<&str>) -> ParseFailure
-        ensures { (result ≡ None) ⊎ (result ≡ Some (message.now, option_copied code_snippet.entry)) }
+        ensures { (result ≡ None) ⊎
+            (result ≡ Some (message.now, option_copied code_snippet.entry)) }
     {
         match copied(alloc, message, code_snippet) {
             Ok(texts) => ParseFailure { texts: Some(texts) },

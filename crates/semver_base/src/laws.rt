@@ -18,7 +18,8 @@ ghost use Rattle.semver_base.specs.VersionText.{VersionTextsReadBack};
 use crate::failure::{ParseFailure, Refusal};
 use crate::lexical::values::{Measured, Strictness};
 use crate::npm::NpmVersionParseError;
-use crate::partial::{PrimitiveKind, XRange};
+use crate::partial::XRange;
+use crate::primitive::PrimitiveKind;
 use crate::range::{
     PreRelease, RangeBound, VersionBound, VersionBoundKind, VersionRange, VersionRangeSet,
 };
@@ -148,7 +149,8 @@ pub fn same_signs(one: &PrimitiveKind, other: &PrimitiveKind) -> bool
 /// Whether two values are equal; equal values write the same to every hasher.
 pub fn equal_hash_alike<T: Hash>(one: &T, other: &T) -> bool
     ensures equal { result ≡ T.eq one.now other.now }
-    ensures alike { IsTrue (T.eq one.now other.now) → T.hash_input one.now ≡ T.hash_input other.now }
+    ensures alike { IsTrue (T.eq one.now other.now)
+        → T.hash_input one.now ≡ T.hash_input other.now }
 {
     one == other
 }

@@ -72,7 +72,7 @@ fn part_len(bytes: &[u8]) -> usize
 
 // The part at the front, which may be empty, and what follows it.
 #[inline(always)]
-fn split_part(text: &str) -> (&str, &str)
+fn identifier_front(text: &str) -> (&str, &str)
     ensures { CutsRun is_part_byte text.now result.0.now result.1.now }
 {
     text.split_at(part_len(text.as_bytes()))
@@ -141,14 +141,14 @@ fn push_part(
 fn parts(alloc: Global, text: &str) -> Result<Option<(CowVec<SmallStackString>, &str)>, AllocError>
     ensures { IfOk result (λ r. Reads IsParts text.now (answer_of r)) }
 {
-    let (first, mut rest) = split_part(text);
+    let (first, mut rest) = identifier_front(text);
     if first.is_empty() {
         return Ok(None);
     }
     let mut ids = CowVec::new(alloc);
     push_part(alloc, &mut ids, first)?;
     while let Some(next) = after(rest, '.') {
-        let (id, more) = split_part(next);
+        let (id, more) = identifier_front(next);
         if id.is_empty() {
             return Ok(Some((ids, next)));
         }

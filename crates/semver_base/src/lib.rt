@@ -1,9 +1,10 @@
 //! Versions, ranges of versions and partial versions, and the words that they are written in.
 //!
 //! The lowest crate of the port of `deno_semver`. Its modules, bottom up: `string`, texts and lists; `failure`, why
-//! something was refused; `lexical`, the words at the front of a text; `plain`, texts of three numbers, read in one pass;
-//! `dotted`, the same, written at once;
-//! `version`; `npm`, versions as npm reads them; `range`; `partial`; and `laws`, what `==`, hashes and texts of all of these say. Each stands on those before it alone.
+//! something was refused; `lexical`, the words at the front of a text; `plain`, texts of one to three numbers, read in one
+//! pass; `dotted`, three numbers, written at once; `version`; `npm`, versions as npm reads them; `range`; `partial`;
+//! `primitive`, partial versions after a sign; and `laws`, what `==`, hashes and texts of all of these say. Each stands on
+//! those before it alone.
 #![tactic(auto)]
 
 mod dotted;
@@ -13,6 +14,7 @@ pub mod lexical;
 pub mod npm;
 pub mod partial;
 pub mod plain;
+pub mod primitive;
 pub mod range;
 pub mod string;
 pub mod version;

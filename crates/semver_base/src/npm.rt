@@ -13,7 +13,7 @@ use std::alloc::{AllocError, Global};
 use thiserror::Error;
 
 /// An npm version could not be read.
-#[derive(PartialEq, Eq, Debug, Drop, Error)]
+#[derive(Debug, PartialEq, Eq, Drop, Error)]
 #[error("Invalid npm version")]
 pub struct NpmVersionParseError {
     #[source]
@@ -60,7 +60,8 @@ impl Version {
         ensures read { IfOk result (λ version. IsVersionOutcome (trim text.now) (Ok version)) }
         ensures reads_back { IfOk result ReadsBack }
         ensures refused { IfErr result (λ error. IsVersionRefusal (trim text.now) error.source) }
-        ensures answer { (outcome : Result Version Refusal) → IsVersionOutcome (trim text.now) outcome
+        ensures answer { (outcome : Result Version Refusal)
+            → IsVersionOutcome (trim text.now) outcome
             → IsVersionAnswer (λ (error : NpmVersionParseError). error.source) (trim text.now) outcome result }
     {
         match Version::parse_standard(alloc, text) {

@@ -1,12 +1,12 @@
-//! Partial versions, whose components may be wildcards, and the ranges that they stand for, alone or after a sign.
+//! Partial versions, whose components may be wildcards, and the ranges that they stand for.
 
-ghost use Rattle.std.specs.Prelude.{◌≡◌, ◌+◌, ◌∷◌, [], IfOk, IfErr, IfSome, None, OnOk, true};
-ghost use Rattle.semver_base.specs.Comparators.{signed_line};
+ghost use Rattle.std.specs.Prelude.{◌≡◌, ◌+◌, ◌∷◌, [], IfOk, IfErr, None, OnOk, true};
 ghost use Rattle.semver_base.specs.Meaning.{from, release, to_below};
-ghost use Rattle.semver_base.specs.PartialTable.{IsBoundRefusal, IsLineRange, all_fit, between, caret, equal, greater_range, greater_than, less_than, lower_to_below, lowest, of_numbers, or_zero, version_with_pre, tilde, upper, without_build};
+ghost use Rattle.semver_base.specs.PartialTable.{IsBoundRefusal, all_fit, between, caret, equal, greater_range, greater_than, less_than, lower_to_below, lowest, or_zero, version_with_pre, tilde, upper, without_build};
+
+mod numbers;
 
 use crate::failure::{ParseFailure, Refusal};
-use crate::plain::Numbers;
 use crate::range::{RangeBound, VersionBoundKind, VersionRange};
 use crate::string::CowVec;
 use crate::version::{Version, VersionPreOrBuild, release};
@@ -103,7 +103,8 @@ impl Partial {
         minor: u64,
         patch: u64,
     ) -> Result<VersionRange, ParseFailure>
-        ensures range { IfOk result (λ range. range ≡ (lower_to_below self.now (release major minor patch) []).range) }
+        ensures range { IfOk result
+            (λ range. range ≡ (lower_to_below self.now (release major minor patch) []).range) }
         ensures refused { IfErr result (λ failure. failure ≡ None) }
     {
         Ok(VersionRange {
@@ -309,7 +310,8 @@ impl Partial {
 
     // The range of `>=`.
     fn at_least(&self, alloc: Global) -> Result<VersionRange, AllocError>
-        ensures { IfOk result (λ range. range ≡ (greater_than VersionBoundKind.Inclusive self.now).range) }
+        ensures { IfOk result
+            (λ range. range ≡ (greater_than VersionBoundKind.Inclusive self.now).range) }
     {
         match self.major {
             XRange::Wildcard => Ok(VersionRange::all()),
@@ -322,9 +324,12 @@ impl Partial {
 
     // The range of `>`.
     fn above(&self, alloc: Global) -> Result<VersionRange, ParseFailure>
-        ensures range { IfOk result (λ range. range ≡ (greater_than VersionBoundKind.Exclusive self.now).range) }
-        ensures fits { OnOk result (all_fit (greater_than VersionBoundKind.Exclusive self.now).sums ≡ true) }
-        ensures refused { IfErr result (IsBoundRefusal (greater_than VersionBoundKind.Exclusive self.now).sums) }
+        ensures range { IfOk result
+            (λ range. range ≡ (greater_than VersionBoundKind.Exclusive self.now).range) }
+        ensures fits { OnOk result
+            (all_fit (greater_than VersionBoundKind.Exclusive self.now).sums ≡ true) }
+        ensures refused { IfErr result
+            (IsBoundRefusal (greater_than VersionBoundKind.Exclusive self.now).sums) }
     {
         let start = match (self.major, self.minor, self.patch) {
             (XRange::Wildcard, _, _) => return Ok(VersionRange::none(alloc)),
@@ -368,9 +373,12 @@ impl Partial {
 
     // The range of `<=`.
     fn at_most(&self, alloc: Global) -> Result<VersionRange, ParseFailure>
-        ensures range { IfOk result (λ range. range ≡ (less_than VersionBoundKind.Inclusive self.now).range) }
-        ensures fits { OnOk result (all_fit (less_than VersionBoundKind.Inclusive self.now).sums ≡ true) }
-        ensures refused { IfErr result (IsBoundRefusal (less_than VersionBoundKind.Inclusive self.now).sums) }
+        ensures range { IfOk result
+            (λ range. range ≡ (less_than VersionBoundKind.Inclusive self.now).range) }
+        ensures fits { OnOk result
+            (all_fit (less_than VersionBoundKind.Inclusive self.now).sums ≡ true) }
+        ensures refused { IfErr result
+            (IsBoundRefusal (less_than VersionBoundKind.Inclusive self.now).sums) }
     {
         let end = match (self.major, self.minor, self.patch) {
             (XRange::Wildcard, _, _) => return Ok(VersionRange::all()),
@@ -395,7 +403,8 @@ impl Partial {
 
     // The range of `<`.
     fn below(&self, alloc: Global) -> Result<VersionRange, AllocError>
-        ensures { IfOk result (λ range. range ≡ (less_than VersionBoundKind.Exclusive self.now).range) }
+        ensures { IfOk result
+            (λ range. range ≡ (less_than VersionBoundKind.Exclusive self.now).range) }
     {
         let end = match (self.major, self.minor, self.patch) {
             (XRange::Wildcard, _, _) => return Ok(VersionRange::none(alloc)),
@@ -419,96 +428,5 @@ fn from_zero(alloc: Global, end: RangeBound) -> VersionRange
     VersionRange {
         start: RangeBound::inclusive(release(alloc, 0, 0, 0)),
         end,
-    }
-}
-
-/// The sign of a comparator.
-#[derive(Clone, Copy, Debug, PartialEq, Eq)]
-pub enum PrimitiveKind {
-    /// `>`
-    GreaterThan,
-    /// `<`
-    LessThan,
-    /// `>=`
-    GreaterThanOrEqual,
-    /// `<=`
-    LessThanOrEqual,
-    /// `=`
-    Equal,
-}
-
-impl PrimitiveKind {
-    /// The range of the sign and the partial version after it (node-semver's primitives).
-    ///
-    /// The refusal "Version bound is too large." comes exactly where a number that the range raises is past
-    /// 18446744073709551615; any other failure is want of memory.
-    pub fn range(self, alloc: Global, partial: &Partial) -> Result<VersionRange, ParseFailure>
-        ensures range { IfOk result (λ range. range ≡ (signed_line self partial.now).range) }
-        ensures fits { OnOk result (all_fit (signed_line self partial.now).sums ≡ true) }
-        ensures refused { IfErr result (IsBoundRefusal (signed_line self partial.now).sums) }
-    {
-        match self {
-            PrimitiveKind::Equal => partial.as_equal_range(alloc),
-            PrimitiveKind::GreaterThan => {
-                partial.as_greater_than(alloc, VersionBoundKind::Exclusive)
-            }
-            PrimitiveKind::GreaterThanOrEqual => {
-                partial.as_greater_than(alloc, VersionBoundKind::Inclusive)
-            }
-            PrimitiveKind::LessThan => partial.as_less_than(alloc, VersionBoundKind::Exclusive),
-            PrimitiveKind::LessThanOrEqual => {
-                partial.as_less_than(alloc, VersionBoundKind::Inclusive)
-            }
-        }
-    }
-}
-
-impl Numbers {
-    // From these numbers to below others.
-    #[inline(always)]
-    fn to_below(self, alloc: Global, major: u64, minor: u64, patch: u64) -> VersionRange
-        ensures { result ≡ (lower_to_below (of_numbers self) (release major minor patch) []).range }
-    {
-        VersionRange {
-            start: RangeBound::inclusive(release(alloc, self.major, self.minor, self.patch)),
-            end: RangeBound::exclusive(release(alloc, major, minor, patch)),
-        }
-    }
-
-    /// The range of `~` and these numbers, as [`Partial::as_tilde_version_range`] has it; none where a bound is too large.
-    #[inline(always)]
-    pub fn tilde_range(self, alloc: Global) -> Option<VersionRange>
-        ensures { IfSome result (IsLineRange (tilde (of_numbers self))) }
-    {
-        let next = self.minor.checked_add(1)?;
-        Some(self.to_below(alloc, self.major, next, 0))
-    }
-
-    /// The range of `^` and these numbers, as [`Partial::as_caret_version_range`] has it; none where a bound is too large.
-    #[inline(always)]
-    pub fn caret_range(self, alloc: Global) -> Option<VersionRange>
-        ensures { IfSome result (IsLineRange (caret (of_numbers self))) }
-    {
-        if self.major > 0 {
-            let next = self.major.checked_add(1)?;
-            return Some(self.to_below(alloc, next, 0, 0));
-        }
-        if self.minor > 0 {
-            let next = self.minor.checked_add(1)?;
-            return Some(self.to_below(alloc, 0, next, 0));
-        }
-        let next = self.patch.checked_add(1)?;
-        Some(self.to_below(alloc, 0, 0, next))
-    }
-
-    /// The range of these numbers alone, as [`Partial::as_equal_range`] has it.
-    #[inline(always)]
-    pub fn equal_range(self, alloc: Global) -> VersionRange
-        ensures { IsLineRange (equal (of_numbers self)) result }
-    {
-        VersionRange {
-            start: RangeBound::inclusive(release(alloc, self.major, self.minor, self.patch)),
-            end: RangeBound::inclusive(release(alloc, self.major, self.minor, self.patch)),
-        }
     }
 }

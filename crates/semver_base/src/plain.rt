@@ -4,7 +4,7 @@
 //! grammar says, and where it answers `None` nothing is known.
 
 ghost use Rattle.std.specs.Prelude.{◌≡◌, ◌∷◌, IfSome};
-ghost use Rattle.semver_base.specs.PlainTexts.{IsPlainNumber, IsPlainTriple};
+ghost use Rattle.semver_base.specs.PlainTexts.{IsFewNumbers, IsPlainNumber, IsPlainTriple};
 
 // Ten times a number below this, and a digit, is a `u64`.
 const LIMIT: u64 = 1_000_000_000_000_000_000;
@@ -15,6 +15,14 @@ pub struct Numbers {
     pub major: u64,
     pub minor: u64,
     pub patch: u64,
+}
+
+/// One to three numbers: `M`, `M.m` or `M.m.p`.
+#[derive(Clone, Copy, Debug)]
+pub enum FewNumbers {
+    One(u64),
+    Two(u64, u64),
+    Three(Numbers),
 }
 
 // The number at the front, which has few digits and no leading zeros, and what follows it.
@@ -48,20 +56,37 @@ fn after_dot(bytes: &[u8]) -> Option<&[u8]>
     }
 }
 
+/// The one to three numbers that the whole text is.
+#[inline(always)]
+pub fn few_numbers(text: &[u8]) -> Option<FewNumbers>
+    ensures { IfSome result (IsFewNumbers text.now) }
+{
+    let (major, rest) = number(text)?;
+    if rest.is_empty() {
+        return Some(FewNumbers::One(major));
+    }
+    let (minor, rest) = number(after_dot(rest)?)?;
+    if rest.is_empty() {
+        return Some(FewNumbers::Two(major, minor));
+    }
+    let (patch, rest) = number(after_dot(rest)?)?;
+    if !rest.is_empty() {
+        return None;
+    }
+    Some(FewNumbers::Three(Numbers {
+        major,
+        minor,
+        patch,
+    }))
+}
+
 /// The three numbers that the whole text is.
 #[inline(always)]
 pub fn plain_numbers(text: &str) -> Option<Numbers>
     ensures { IfSome result (λ n. IsPlainTriple text.now n.major n.minor n.patch) }
 {
-    let (major, rest) = number(text.as_bytes())?;
-    let (minor, rest) = number(after_dot(rest)?)?;
-    let (patch, rest) = number(after_dot(rest)?)?;
-    if !rest.is_empty() {
-        return None;
+    match few_numbers(text.as_bytes())? {
+        FewNumbers::Three(numbers) => Some(numbers),
+        FewNumbers::One(_) | FewNumbers::Two(_, _) => None,
     }
-    Some(Numbers {
-        major,
-        minor,
-        patch,
-    })
 }

@@ -50,7 +50,7 @@ impl PreRelease {
 }
 
 /// A version at which a range starts or ends.
-#[derive(PartialEq, Eq, Hash, Debug, Drop)]
+#[derive(Debug, PartialEq, Eq, Hash, Drop)]
 pub struct VersionBound {
     pub kind: VersionBoundKind,
     pub version: Version,
@@ -73,7 +73,7 @@ impl VersionBound {
 }
 
 /// The start or the end of a range, which may be absent.
-#[derive(PartialEq, Eq, Hash, Debug, Drop)]
+#[derive(Debug, PartialEq, Eq, Hash, Drop)]
 pub enum RangeBound {
     Version(VersionBound),
     /// An absent bound, which holds every version.
@@ -81,27 +81,29 @@ pub enum RangeBound {
 }
 
 /// The versions between two bounds, with npm's rule about pre-releases.
-#[derive(PartialEq, Eq, Hash, Debug, Drop)]
+#[derive(Debug, PartialEq, Eq, Hash, Drop)]
 pub struct VersionRange {
     pub start: RangeBound,
     pub end: RangeBound,
 }
 
 /// Ranges of which a version need match only one.
-#[derive(PartialEq, Eq, Hash, Debug, Drop)]
+#[derive(Debug, PartialEq, Eq, Hash, Drop)]
 pub struct VersionRangeSet(pub CowVec<VersionRange>);
 
 impl RangeBound {
     /// The bound at `version` that holds it.
     pub fn inclusive(version: Version) -> RangeBound
-        ensures { result ≡ RangeBound.Version (record { kind = VersionBoundKind.Inclusive; version = version }) }
+        ensures { result ≡ RangeBound.Version
+            (record { kind = VersionBoundKind.Inclusive; version = version }) }
     {
         RangeBound::version(VersionBoundKind::Inclusive, version)
     }
 
     /// The bound at `version` that doesn't hold it.
     pub fn exclusive(version: Version) -> RangeBound
-        ensures { result ≡ RangeBound.Version (record { kind = VersionBoundKind.Exclusive; version = version }) }
+        ensures { result ≡ RangeBound.Version
+            (record { kind = VersionBoundKind.Exclusive; version = version }) }
     {
         RangeBound::version(VersionBoundKind::Exclusive, version)
     }
@@ -387,7 +389,8 @@ impl VersionRange {
     #[inline(always)]
     pub fn satisfies(&self, version: &Version) -> bool
         ensures value { result ≡ alternative_means (self.now ∷ []) version.now }
-        ensures restricted { result ≡ alternative_means_with Restricted (self.now ∷ []) version.now }
+        ensures restricted { result
+            ≡ alternative_means_with Restricted (self.now ∷ []) version.now }
     {
         self.satisfies_with(version, PreRelease::Restricted)
     }
@@ -417,7 +420,8 @@ impl VersionRange {
         ensures means { IfOk result (MeansBoth self.now other.now) }
         ensures admits { IfOk result (AdmitsBoth self.now other.now) }
         ensures releases { IfOk result (MatchesBoth self.now other.now) }
-        ensures crossed { IfOk result (λ range. HaveCrossed self.now other.now → HoldsNothing range) }
+        ensures crossed { IfOk result
+            (λ range. HaveCrossed self.now other.now → HoldsNothing range) }
         ensures stays_empty { IfOk result (λ range. HoldsNothing self.now ⊎ HoldsNothing other.now
             → HoldsNothing range) }
     {
@@ -508,7 +512,8 @@ impl VersionRangeSet {
     // Whether some range alone matches the version.
     #[inline(always)]
     fn has_match(&self, version: &Version, pre_release: PreRelease) -> bool
-        ensures { result ≡ list_any (λ range. alternative_means_with pre_release (range ∷ []) version.now) self.now.0 }
+        ensures { result ≡ list_any
+            (λ range. alternative_means_with pre_release (range ∷ []) version.now) self.now.0 }
     {
         self.0
             .iter()
@@ -527,7 +532,8 @@ impl VersionRangeSet {
     #[inline(always)]
     pub fn satisfies(&self, version: &Version) -> bool
         ensures value { result ≡ tree_means (alternatives self.now.0) version.now }
-        ensures restricted { result ≡ tree_means_with Restricted (alternatives self.now.0) version.now }
+        ensures restricted { result
+            ≡ tree_means_with Restricted (alternatives self.now.0) version.now }
     {
         self.satisfies_with(version, PreRelease::Restricted)
     }

@@ -1,31 +1,30 @@
-//! Short texts and lists, and what texts are written to.
+//! Short texts. `append` has what they are appended to, and `list` the lists that hold them; both stand below.
 //!
 //! A contract sees a text as its UTF-8 bytes and a list as its items, whatever they are kept in. A short text stands in
-//! the value itself and a longer one in a `String`. Copies of a list share its items until one of them grows.
+//! the value itself and a longer one in a `String`.
 
-ghost use Rattle.std.specs.Prelude.{List, ℕ, ◌≡◌, ◌≤◌, ◌+◌, ◌<◌, ◌^◌, ◌++◌, [], ◌∷◌, Some, IfOk, IfSome, IsOk, OnOk, OnErr, IsTrue, ◌↔◌, encode_utf8, length, nat_eq, refl, slice_get, string_bytes, IsUtf8};
+ghost use Rattle.std.specs.Prelude.{◌≡◌, ◌≤◌, ◌+◌, ◌++◌, [], Some, IfOk, IsOk, OnOk, OnErr, IsTrue, ◌↔◌, encode_utf8, length, nat_eq, refl, string_bytes, IsUtf8};
 ghost use Rattle.std.proofs.Common.{rules};
 ghost use Rattle.std.specs.Cmp.{partial_equiv_from_equiv};
-ghost use Rattle.std.specs.Cmp.Lexicographic.{lists_equiv, lists_per, nat_list_cmp_total, nat_list_eq_equiv, pointwise, slice_cmp, texts_po, texts_ties};
+ghost use Rattle.std.specs.Cmp.Lexicographic.{nat_list_cmp_total, nat_list_eq_equiv, pointwise, slice_cmp, texts_po, texts_ties};
 ghost use Rattle.std.specs.Cmp.Rules.{hashing};
 ghost use Rattle.std.specs.Cow.{cow_str_bytes};
 ghost use Rattle.std.specs.Hash as fed;
-ghost use Rattle.std.specs.Hash.{items_Alike};
-ghost use Rattle.std.specs.Option.{option_copied};
 ghost use Rattle.std.specs.Ordering.{nat_cmp};
-ghost use Rattle.std.specs.Slice.{IsItemAt};
-ghost use Rattle.std.specs.Iterator.Adapters.{IterYieldsInOrder};
-ghost use Rattle.std.specs.Slice.Iter.{iter_rest};
 ghost use Rattle.semver_base.specs.Texts.{IsInlineIfShort, IsReplaced, kept_bytes, zeros_in_front};
 
+mod append;
+mod list;
+
+pub use append::{StringAppendable, StringType, append_displayed, displayed};
 use arrayvec::ArrayString;
+pub use list::{CowItem, CowVec};
 use std::alloc::{AllocError, Global};
 use std::borrow::CowStr;
 use std::cmp::Ordering;
+use std::fmt;
 use std::hash::{Hash, Hasher};
 use std::marker::Model;
-use std::rc::Rc;
-use std::{fmt, slice};
 
 /// A text: a sequence of Unicode characters, seen in contracts as its UTF-8 bytes. One of at most `LIMIT` bytes stands in
 /// the value itself, and takes no memory.
@@ -95,7 +94,8 @@ impl<const LIMIT: usize> Kept<LIMIT> {
         ensures ok { OnOk result (kept_bytes self.new ≡ kept_bytes self.old ++ text.now) }
         ensures err { OnErr result (kept_bytes self.new ≡ kept_bytes self.old) }
         ensures inline { IsInlineIfShort self.old → IsInlineIfShort self.new }
-        ensures succeeds { IsInlineIfShort self.old → length (kept_bytes self.old) + length text.now ≤ LIMIT
+        ensures succeeds { IsInlineIfShort self.old
+            → length (kept_bytes self.old) + length text.now ≤ LIMIT
             → IsOk result }
     {
         match self {
@@ -331,89 +331,6 @@ impl<const LIMIT: usize> fmt::Debug for ShortText<LIMIT> {
     }
 }
 
-/// A text that grows: it is what was pushed, in order, and a refused push changes nothing.
-pub trait StringType: Drop {
-    /// The bytes of the text.
-    ghost text: { Self → List ℕ };
-
-    /// The empty text, with room for `capacity` bytes. It is an error only where no memory is left.
-    #[inline(always)]
-    fn with_capacity(alloc: Global, capacity: usize) -> Result<Self, AllocError>
-        ensures { IfOk result (λ s. text s ≡ []) };
-
-    /// Appends a character. Where no memory is left the text is unchanged.
-    fn push(&mut self, character: char) -> Result<(), AllocError>
-        ensures ok { OnOk result (text self.new ≡ text self.old ++ encode_utf8 character) }
-        ensures err { OnErr result (text self.new ≡ text self.old) };
-
-    /// Appends a text. Where no memory is left this one is unchanged.
-    fn push_str(&mut self, other: &str) -> Result<(), AllocError>
-        ensures ok { OnOk result (text self.new ≡ text self.old ++ other.now) }
-        ensures err { OnErr result (text self.new ≡ text self.old) };
-
-    /// The text.
-    fn as_str(&self) -> &str
-        ensures { result.now ≡ text self.now };
-}
-
-/// A value with a text, which can be appended to another one.
-pub trait StringAppendable {
-    /// The bytes of the value's text.
-    ghost text: { Self → List ℕ };
-
-    /// Appends exactly the value's text. Where no memory is left the target is unchanged.
-    fn append_to<T: StringType>(&self, alloc: Global, target: &mut T) -> Result<(), AllocError>
-        ensures ok { OnOk result (T.text target.new ≡ T.text target.old ++ text self.now) }
-        ensures err { OnErr result (T.text target.new ≡ T.text target.old) };
-}
-
-// The room that a text is begun with, into which most texts of requirements and packages fit.
-const ROOM: usize = 32;
-
-/// How the value is displayed, in a text that asks for its room at once and grows only where that is too little. It is an
-/// error only where no memory is left.
-pub fn displayed<D: fmt::Display>(alloc: Global, value: &D) -> Result<String, AllocError>
-    ensures { IfOk result (λ s. IfSome (D.output value.now) (λ text. string_bytes s ≡ text)) }
-{
-    let mut text = String::with_capacity(alloc, ROOM)?;
-    text.write(value)?;
-    Ok(text)
-}
-
-/// Appends how the value is displayed. Where no memory is left the target is unchanged.
-pub fn append_displayed<D: fmt::Display, T: StringType>(
-    value: &D,
-    alloc: Global,
-    target: &mut T,
-) -> Result<(), AllocError>
-    ensures ok { OnOk result (IfSome (D.output value.now) (λ text. T.text target.new ≡ T.text target.old ++ text)) }
-    ensures err { OnErr result (T.text target.new ≡ T.text target.old) }
-{
-    let text = displayed(alloc, value)?;
-    target.push_str(text.as_str())
-}
-
-impl StringType for String {
-    ghost text = { string_bytes };
-
-    #[inline(always)]
-    fn with_capacity(alloc: Global, capacity: usize) -> Result<Self, AllocError> {
-        String::with_capacity(alloc, capacity)
-    }
-
-    fn push(&mut self, character: char) -> Result<(), AllocError> {
-        String::push(self, character)
-    }
-
-    fn push_str(&mut self, other: &str) -> Result<(), AllocError> {
-        String::push_str(self, other)
-    }
-
-    fn as_str(&self) -> &str {
-        String::as_str(self)
-    }
-}
-
 impl<const LIMIT: usize> StringType for ShortText<LIMIT> {
     ghost text = { λ s. s };
 
@@ -443,183 +360,8 @@ impl<const LIMIT: usize> StringAppendable for ShortText<LIMIT> {
     }
 }
 
-/// A value that a [`CowVec`] can hold: a copy of it is the same value.
-pub trait CowItem {
-    /// The same value again. It is an error only where no memory is left.
-    fn copy(&self) -> Result<Self, AllocError>
-        ensures { IfOk result (λ x. x ≡ self.now) };
-}
-
 impl<const LIMIT: usize> CowItem for ShortText<LIMIT> {
     fn copy(&self) -> Result<Self, AllocError> {
         ShortText::copy(self)
-    }
-}
-
-/// A list, seen in contracts as its items. Its copies share them until one of the lists grows.
-///
-/// Two lists are equal where they have equal items in the same order.
-#[derive(Drop)]
-pub struct CowVec<T> {
-    alloc: Global,
-    items: Option<Rc<Vec<T>>>,
-}
-
-impl<T> Model for CowVec<T> {
-    ghost use Rattle.std.specs.Prelude.{List};
-    ghost use Rattle.semver_base.specs.Texts.{shared_items};
-
-    ghost Value = { List T };
-
-    ghost view = { λ v. shared_items v.items };
-}
-
-impl<T> CowVec<T> {
-    /// The empty list.
-    #[inline(always)]
-    pub fn new(alloc: Global) -> Self
-        ensures { result ≡ [] }
-    {
-        CowVec { alloc, items: None }
-    }
-
-    /// The items.
-    #[inline(always)]
-    pub(crate) fn as_slice(&self) -> &[T]
-        ensures { result.now ≡ self.now }
-    {
-        match &self.items {
-            None => &[],
-            Some(items) => items.as_slice(),
-        }
-    }
-
-    /// How many items there are.
-    pub fn len(&self) -> usize
-        ensures { result ≡ length self.now }
-    {
-        self.as_slice().len()
-    }
-
-    /// Whether there is no item.
-    #[inline(always)]
-    pub fn is_empty(&self) -> bool
-        ensures { IsTrue result ↔ (self.now ≡ []) }
-    {
-        self.as_slice().is_empty()
-    }
-
-    /// The item at `index`, if there is one.
-    pub fn get(&self, index: usize) -> Option<&T>
-        ensures value { option_copied result ≡ slice_get self.now index }
-        ensures item { IsItemAt self.now index result }
-    {
-        self.as_slice().get(index)
-    }
-
-    /// The items in order.
-    pub fn iter(&self) -> slice::Iter<'_, T>
-        ensures rest { iter_rest result ≡ self.now }
-        ensures len { length (iter_rest result) ≡ length self.now }
-        ensures bound { length (iter_rest result) < 2 ^ 64 }
-        ensures runs { IterYieldsInOrder T }
-    {
-        self.as_slice().iter()
-    }
-}
-
-// A list of the same items.
-fn copied<T: CowItem + Drop>(alloc: Global, items: &[T]) -> Result<Vec<T>, AllocError>
-    ensures { IfOk result (λ v. v.items ≡ items.now) }
-{
-    let mut all = Vec::new(alloc);
-    for item in items {
-        all.push(item.copy()?)?;
-    }
-    Ok(all)
-}
-
-impl<T: CowItem + Drop> CowVec<T> {
-    /// Appends `item`; a list that shares its items copies them first. Where no memory is left the list is unchanged and
-    /// the item is dropped.
-    pub fn push(&mut self, item: T) -> Result<(), AllocError>
-        ensures ok { OnOk result (self.new ≡ self.old ++ item ∷ []) }
-        ensures err { OnErr result (self.new ≡ self.old) }
-    {
-        let alloc = self.alloc;
-        match &mut self.items {
-            None => {
-                let mut items = Vec::new(alloc);
-                items.push(item)?;
-                self.items = Some(Rc::new(alloc, items)?);
-            }
-            Some(shared) => {
-                if let Some(items) = Rc::get_mut(shared) {
-                    items.push(item)?;
-                } else {
-                    let mut items = copied(alloc, shared.as_slice())?;
-                    items.push(item)?;
-                    *shared = Rc::new(alloc, items)?;
-                }
-            }
-        }
-        Ok(())
-    }
-
-    /// The list of one item, with room for no more. It is an error only where no memory is left.
-    #[inline(always)]
-    pub fn of_one(alloc: Global, item: T) -> Result<Self, AllocError>
-        ensures { IfOk result (λ v. v ≡ item ∷ []) }
-    {
-        let mut items = Vec::with_capacity(alloc, 1)?;
-        items.push(item)?;
-        Ok(CowVec {
-            alloc,
-            items: Some(Rc::new(alloc, items)?),
-        })
-    }
-
-    /// The same list again, which shares the items. It is an error only where no memory is left.
-    pub fn copy(&self) -> Result<Self, AllocError>
-        ensures { IfOk result (λ v. v ≡ self.now) }
-    {
-        match &self.items {
-            None => Ok(CowVec::new(self.alloc)),
-            Some(items) => Ok(CowVec {
-                alloc: self.alloc,
-                items: Some(items.clone()?),
-            }),
-        }
-    }
-}
-
-impl<T: PartialEq> PartialEq for CowVec<T> {
-    ghost eq = { pointwise T.eq };
-
-    ghost laws = { lists_per T.laws };
-
-    fn eq(&self, other: &Self) -> bool {
-        self.as_slice() == other.as_slice()
-    }
-}
-
-impl<T: Eq> Eq for CowVec<T> {
-    ghost laws = { lists_equiv T.Eq.laws };
-}
-
-// A list shows as its items between `[` and `]`.
-impl<T: fmt::Debug> fmt::Debug for CowVec<T> {
-    fn fmt<W: fmt::Write>(&self, f: &mut fmt::Formatter<W>) -> fmt::Result {
-        fmt::Debug::fmt(self.as_slice(), f)
-    }
-}
-
-impl<T: Hash> Hash for CowVec<T> {
-    ghost hash_input = { fed.slice T.hash_input };
-
-    ghost respects_eq = { (items_Alike (record { fed = T.respects_eq })).fed };
-
-    fn hash<H: Hasher>(&self, state: &mut H) {
-        self.as_slice().hash(state);
     }
 }

@@ -6,15 +6,16 @@ ghost use Rattle.std.specs.Str.{trim};
 ghost use Rattle.std.specs.Cmp.{IsTotalOrder};
 ghost use Rattle.std.specs.Cmp.Lexicographic.{slice_cmp};
 ghost use Rattle.std.specs.Ordering.{as_partial_cmp};
+ghost use Rattle.semver_base.specs.Characters.{equals_sign, letter_v};
 ghost use Rattle.semver_base.specs.declared.failure.Refusal.{Refusal};
-ghost use Rattle.semver_base.specs.Grammar.{IsLongest, IsSeen, Optional, Marked};
+ghost use Rattle.semver_base.specs.Grammar.{IsLongest, IsSeen, Optional, Prefixed};
 ghost use Rattle.semver_base.specs.Lexical.{IsBlanks, IsByte};
 ghost use Rattle.semver_base.specs.VersionGrammar.{IsLead, IsVersionAnswer, IsVersionOutcome, IsVersionRefusal, ignored, version_failure};
 ghost use Rattle.semver_base.specs.VersionReaderSteps.{IsFittingNumber, IsFittingTriple, IsNumberRefusal, IsReadVersion, IsTripleRefusal};
 ghost use Rattle.semver_base.specs.Meaning.{release};
 ghost use Rattle.semver_base.specs.Precedence.{identifier_cmp, number_of, numbers_cmp, pre_cmp, precedence_cmp, qualifiers_cmp, version_cmp};
 ghost use Rattle.semver_base.specs.PrecedenceLaws.{version_po, version_ties, version_total, SamePrecedence};
-ghost use Rattle.semver_base.specs.VersionText.{ReadsBack, marked, version_text};
+ghost use Rattle.semver_base.specs.VersionText.{ReadsBack, prefixed, version_text};
 
 use crate::dotted::{DOTTED_ROOM, dotted};
 use crate::failure::{ParseFailure, Refusal};
@@ -31,7 +32,7 @@ use thiserror::Error;
 pub type VersionPreOrBuild = SmallStackString;
 
 /// A version could not be read.
-#[derive(PartialEq, Eq, Debug, Drop, Error)]
+#[derive(Debug, PartialEq, Eq, Drop, Error)]
 #[error("Invalid version")]
 pub struct VersionParseError {
     #[source]
@@ -69,7 +70,7 @@ impl From<VersionParseError> for ParseFailure {
 ///
 /// Versions are equal where all of this is. Their order is precedence, where versions that it leaves equal are in the
 /// dictionary order of their builds.
-#[derive(PartialEq, Eq, Hash, Debug, Drop)]
+#[derive(Debug, PartialEq, Eq, Hash, Drop)]
 pub struct Version {
     pub major: u64,
     pub minor: u64,
@@ -105,7 +106,8 @@ impl Version {
         ensures read { IfOk result (λ version. IsVersionOutcome (trim text.now) (Ok version)) }
         ensures reads_back { IfOk result ReadsBack }
         ensures refused { IfErr result (λ error. IsVersionRefusal (trim text.now) error.source) }
-        ensures answer { (outcome : Result Version Refusal) → IsVersionOutcome (trim text.now) outcome
+        ensures answer { (outcome : Result Version Refusal)
+            → IsVersionOutcome (trim text.now) outcome
             → IsVersionAnswer (λ (error : VersionParseError). error.source) (trim text.now) outcome result }
     {
         if let Some(numbers) = plain_numbers(text) {
@@ -158,8 +160,8 @@ pub(crate) fn release(alloc: Global, major: u64, minor: u64, patch: u64) -> Vers
 
 // What follows an `=` at the front, or the whole text.
 #[inline(always)]
-fn after_equals(text: &str) -> &str
-    ensures { IsSeen ignored (Optional (IsByte 61)) text.now tt result.now }
+fn after_optional_equals(text: &str) -> &str
+    ensures { IsSeen ignored (Optional (IsByte equals_sign)) text.now tt result.now }
 {
     match lexical::after(text, '=') {
         Some(rest) => rest,
@@ -170,7 +172,7 @@ fn after_equals(text: &str) -> &str
 // What follows a `v` and blanks at the front, or the whole text.
 #[inline(always)]
 fn after_v(text: &str) -> &str
-    ensures { IsSeen ignored (Optional (Marked 118 IsBlanks)) text.now tt result.now }
+    ensures { IsSeen ignored (Optional (Prefixed letter_v IsBlanks)) text.now tt result.now }
 {
     match lexical::after(text, 'v') {
         Some(rest) => lexical::after_blanks(rest),
@@ -183,7 +185,7 @@ fn after_v(text: &str) -> &str
 fn after_lead(text: &str) -> &str
     ensures { IsLongest IsLead text.now tt result.now }
 {
-    after_v(lexical::after_blanks(after_equals(text)))
+    after_v(lexical::after_blanks(after_optional_equals(text)))
 }
 
 // The number at the front, where it fits.
@@ -202,7 +204,8 @@ fn fitting_number(text: &str) -> Result<(u64, &str), Refusal>
 // The three numbers at the front, where they fit.
 #[inline(always)]
 fn triple(text: &str) -> Result<(Numbers, &str), Refusal>
-    ensures read { IfOk result (λ r. IsFittingTriple text.now (r.0.major, (r.0.minor, r.0.patch)) r.1.now) }
+    ensures read { IfOk result
+        (λ r. IsFittingTriple text.now (r.0.major, (r.0.minor, r.0.patch)) r.1.now) }
     ensures refused { IfErr result (IsTripleRefusal text.now) }
 {
     let (major, rest) = fitting_number(text)?;
@@ -367,13 +370,13 @@ fn write_part<W: fmt::Write>(f: &mut fmt::Formatter<W>, separator: char, part: &
 }
 
 // Writes the identifiers, the mark before the first and a `.` before each other one.
-fn write_marked<W: fmt::Write>(
+fn write_prefixed<W: fmt::Write>(
     f: &mut fmt::Formatter<W>,
     mark: char,
     parts: &[VersionPreOrBuild],
 ) -> fmt::Result
     requires { mark < 128 }
-    ensures { DisplaysOnOk W.write_str_gives f.old result (Some (marked mark parts.now)) f.new }
+    ensures { DisplaysOnOk W.write_str_gives f.old result (Some (prefixed mark parts.now)) f.new }
 {
     let mut separator = mark;
     for part in parts {
@@ -394,8 +397,8 @@ impl fmt::Display for Version {
         if is_unqualified(self) {
             return Ok(());
         }
-        write_marked(f, '-', self.pre.as_slice())?;
-        write_marked(f, '+', self.build.as_slice())
+        write_prefixed(f, '-', self.pre.as_slice())?;
+        write_prefixed(f, '+', self.build.as_slice())
     }
 }
 

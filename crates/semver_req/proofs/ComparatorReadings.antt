@@ -5,15 +5,15 @@ use Rattle.std.specs.List.{list_all}
 use Rattle.std.proofs.lemmas.Bool.{and_from, or_left, or_right}
 use Rattle.std.proofs.lemmas.Bool.Decides.{nat_tests}
 use Rattle.semver_base.specs.Comparators.{Comparator, Tilde, Caret, sign_text}
-use Rattle.semver_base.specs.Grammar.{After, Either, this, that, Mapped, Marked}
+use Rattle.semver_base.specs.Grammar.{After, Either, this, that, Mapped, Prefixed}
 use Rattle.semver_base.specs.Lexical.{IsBlanks, IsByte, IsSomeBlanks}
 use Rattle.semver_base.specs.declared.partial.Partial.{Partial}
-use Rattle.semver_base.specs.declared.partial.PrimitiveKind.{PrimitiveKind}
-use Rattle.semver_base.specs.declared.partial.PrimitiveKind.TheVariants.{GreaterThan, LessThan, GreaterThanOrEqual, LessThanOrEqual, Equal}
+use Rattle.semver_base.specs.declared.primitive.PrimitiveKind.{PrimitiveKind}
+use Rattle.semver_base.specs.declared.primitive.PrimitiveKind.TheVariants.{GreaterThan, LessThan, GreaterThanOrEqual, LessThanOrEqual, Equal}
 use Rattle.semver_base.proofs.Blanks.{blanks_made, is_blank_byte}
-use Rattle.semver_base.proofs.Bytes.{BeginsBy, Disjoint, GoesBy, MadeOf, apart_by, begins_from_made, begins_wider, either_begins, either_made, goes_from_made, joined_begins, joined_begins_either, joined_goes_second, joined_made, joined_some_second, joined_some_text, list_all-append, made_wider, mapped_begins, mapped_goes, mapped_made, mapped_some_text, marked_made, optional_begins, optional_made}
+use Rattle.semver_base.proofs.Bytes.{BeginsBy, Disjoint, GoesBy, MadeOf, apart_by, begins_from_made, begins_wider, either_begins, either_made, goes_from_made, joined_begins, joined_begins_either, joined_goes_second, joined_made, joined_some_second, joined_some_text, list_all-append, made_wider, mapped_begins, mapped_goes, mapped_made, mapped_some_text, prefixed_made, optional_begins, optional_made}
 use Rattle.semver_base.proofs.Fronts.{Apart, NonEmpty, no_clash}
-use Rattle.semver_base.proofs.Readings.{EachByte, HasOther, Unambiguous, Within, after_one, each_made, either_one, either_other, followed_one, goes_within, joined_other_first, joined_other_second, mapped_one, mapped_other, marked_other_byte, narrowed_one, never_by, never_made, other_narrower, some_within}
+use Rattle.semver_base.proofs.Readings.{EachByte, HasOther, Unambiguous, Within, after_one, each_made, either_one, either_other, followed_one, goes_within, joined_other_first, joined_other_second, mapped_one, mapped_other, prefixed_other_byte, narrowed_one, never_by, never_made, other_narrower, some_within}
 use Rattle.semver_req.specs.Comparators.{IsComparator, IsEquals, no_more, one_more, IsIgnored, IsLed, IsNpmCaret, IsNpmTilde, IsPlain, IsSign, IsSigned}
 use Rattle.semver_req.specs.Partials.{IsPartial, IsPlainPartial}
 use Rattle.semver_req.specs.Written.{IsTildes}
@@ -119,10 +119,10 @@ after_core {V} {A} {B} f a b = record { core = go }
           is = h.is ∙ c.is;
         }
 
-marked_core : {B : List ℕ → Partial → Type 0} (f : Flavour) (m : ℕ) → is_lead_byte m ≡ true → HasCore f B → HasCore f (Marked m B)
+marked_core : {B : List ℕ → Partial → Type 0} (f : Flavour) (m : ℕ) → is_lead_byte m ≡ true → HasCore f B → HasCore f (Prefixed m B)
 marked_core {B} f m lead b = record { core = go }
   where
-    go : (text : List ℕ) (p : Partial) → Marked m B text p → IsCore f text p
+    go : (text : List ℕ) (p : Partial) → Prefixed m B text p → IsCore f text p
     go [] p h = absurd h
     go (x ∷ text) p h =
         let c = b.core text p h.1 in
@@ -197,7 +197,7 @@ abbrev IsTildeLed : List ℕ → Partial → Type 0
 IsTildeLed = After IsIgnored (After IsTildes IsLed)
 
 abbrev IsCaretLed : List ℕ → Partial → Type 0
-IsCaretLed = After IsIgnored (Marked 94 IsLed)
+IsCaretLed = After IsIgnored (Prefixed 94 IsLed)
 
 tilde_core : HasCore Npm IsTildeLed
 tilde_core = after_core Npm ignored_lead (after_core Npm tildes_lead led_core)
@@ -229,7 +229,7 @@ plain_word : (f : Flavour) → MadeOf (IsPlainPartial f) is_word_byte
 plain_word f = made_wider is_plain_byte is_word_byte (λ x h. or_right (is_sign_byte x || (x == 118) || is_blank_byte x) (is_plain_byte x) h) (plain_made f)
 
 partial_word : (f : Flavour) → MadeOf (IsPartial f) is_word_byte
-partial_word Npm = either_made (marked_made (plain_word Npm) 118 refl) (plain_word Npm)
+partial_word Npm = either_made (prefixed_made (plain_word Npm) 118 refl) (plain_word Npm)
 partial_word Normal = plain_word Normal
 partial_word Specifier = plain_word Specifier
 
@@ -256,19 +256,19 @@ tildes_other = either_other (record { other = λ text v h k. no_true (rw h at k)
     no_true e = cc e
 
 caret_made : MadeOf IsNpmCaret is_caret_byte
-caret_made = mapped_made (mapped_made (joined_made (made_wider is_word_byte is_caret_byte word_caret ignored_word) (marked_made (made_wider is_word_byte is_caret_byte word_caret led_word) 94 refl)))
+caret_made = mapped_made (mapped_made (joined_made (made_wider is_word_byte is_caret_byte word_caret ignored_word) (prefixed_made (made_wider is_word_byte is_caret_byte word_caret led_word) 94 refl)))
 
 -- ---- marks of both grammars, and the others
 
 abbrev pub IsTildeOf : Flavour → List ℕ → Comparator → Type 0
 IsTildeOf Npm = IsNpmTilde
-IsTildeOf Normal = Mapped Tilde (Marked 126 (IsPartial Normal))
-IsTildeOf Specifier = Mapped Tilde (Marked 126 (IsPartial Specifier))
+IsTildeOf Normal = Mapped Tilde (Prefixed 126 (IsPartial Normal))
+IsTildeOf Specifier = Mapped Tilde (Prefixed 126 (IsPartial Specifier))
 
 abbrev pub IsCaretOf : Flavour → List ℕ → Comparator → Type 0
 IsCaretOf Npm = IsNpmCaret
-IsCaretOf Normal = Mapped Caret (Marked 94 (IsPartial Normal))
-IsCaretOf Specifier = Mapped Caret (Marked 94 (IsPartial Specifier))
+IsCaretOf Normal = Mapped Caret (Prefixed 94 (IsPartial Normal))
+IsCaretOf Specifier = Mapped Caret (Prefixed 94 (IsPartial Specifier))
 
 tilde_one : (f : Flavour) → Unambiguous (IsTildeOf f)
 tilde_one Npm = mapped_one (core_unambiguous Npm tilde_core)
@@ -282,18 +282,18 @@ caret_one Specifier = mapped_one (core_unambiguous Specifier (marked_core Specif
 
 tilde_other : (f : Flavour) → HasOther (IsTildeOf f) is_caret_byte
 tilde_other Npm = mapped_other (mapped_other (joined_other_second (mapped_other (joined_other_first tildes_other))))
-tilde_other Normal = mapped_other (marked_other_byte 126 is_caret_byte refl)
-tilde_other Specifier = mapped_other (marked_other_byte 126 is_caret_byte refl)
+tilde_other Normal = mapped_other (prefixed_other_byte 126 is_caret_byte refl)
+tilde_other Specifier = mapped_other (prefixed_other_byte 126 is_caret_byte refl)
 
 caret_other : (f : Flavour) → HasOther (IsCaretOf f) is_word_byte
-caret_other Npm = mapped_other (mapped_other (joined_other_second (marked_other_byte 94 is_word_byte refl)))
-caret_other Normal = mapped_other (marked_other_byte 94 is_word_byte refl)
-caret_other Specifier = mapped_other (marked_other_byte 94 is_word_byte refl)
+caret_other Npm = mapped_other (mapped_other (joined_other_second (prefixed_other_byte 94 is_word_byte refl)))
+caret_other Normal = mapped_other (prefixed_other_byte 94 is_word_byte refl)
+caret_other Specifier = mapped_other (prefixed_other_byte 94 is_word_byte refl)
 
 caret_all : (f : Flavour) → MadeOf (IsCaretOf f) is_caret_byte
 caret_all Npm = caret_made
-caret_all Normal = mapped_made (marked_made (made_wider is_word_byte is_caret_byte word_caret (partial_word Normal)) 94 refl)
-caret_all Specifier = mapped_made (marked_made (made_wider is_word_byte is_caret_byte word_caret (partial_word Specifier)) 94 refl)
+caret_all Normal = mapped_made (prefixed_made (made_wider is_word_byte is_caret_byte word_caret (partial_word Normal)) 94 refl)
+caret_all Specifier = mapped_made (prefixed_made (made_wider is_word_byte is_caret_byte word_caret (partial_word Specifier)) 94 refl)
 
 marks_one : (f : Flavour) → Unambiguous (Either (IsTildeOf f) (IsCaretOf f))
 marks_one f = either_one (never_made is_caret_byte (tilde_other f) (caret_all f)) (tilde_one f) (caret_one f)
@@ -385,7 +385,7 @@ tildes_some = record { some = go }
     go v (this h) = cc h
     go v (that h) = cc h
 
-mark_start : {V : Type 0} {A : List ℕ → V → Type 0} (m : ℕ) → is_start_byte m ≡ true → BeginsBy (Marked m A) is_start_byte
+mark_start : {V : Type 0} {A : List ℕ → V → Type 0} (m : ℕ) → is_start_byte m ≡ true → BeginsBy (Prefixed m A) is_start_byte
 mark_start m h = record { begins = λ x b. rw b.stands.0 h }
 
 others_start : (f : Flavour) → BeginsBy (Either (IsSigned f) (IsPlain f)) is_start_byte

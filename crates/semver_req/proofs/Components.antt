@@ -10,7 +10,7 @@ use Rattle.semver_base.specs.declared.lexical.values.Measured.{Measured}
 use Rattle.semver_base.specs.declared.lexical.values.Qualifier.{Qualifier}
 use Rattle.semver_base.specs.declared.partial.XRange.{XRange}
 use Rattle.semver_base.specs.declared.partial.XRange.TheVariants.{Wildcard, Val}
-use Rattle.semver_base.proofs.Fronts.{NoClash, NonEmpty, joined, marked_some}
+use Rattle.semver_base.proofs.Fronts.{NoClash, NonEmpty, joined, prefixed_some}
 use Rattle.semver_base.proofs.Bytes.{BeginsBy, GoesBy}
 use Rattle.semver_base.proofs.Numbers.{loose_begins, loose_end, loose_goes, loose_some, number_is_loose}
 use Rattle.semver_base.proofs.Qualifiers.{strict_no_digit}
@@ -150,6 +150,6 @@ component_clash f = record {
 pub third_read : (f : Flavour) {text after middle rest : List ℕ} {answer : Measured XRange} {q : Qualifier} → text ≡ 46 ∷ after → IsSeen sized_component (IsComponent f) after answer middle → IsLongest (IsQualifier (strictness_of f)) middle q rest → IsSeen sized_third (IsThird f) text (record { patch = answer; qualifier = q }) rest
 third_read f {rest = rest} {q = q} e a b = record {
   value = (a.value, q);
-  longest = marked_some e (joined (component_clash f) a.longest b (component_end f a.longest b.front rest q b.text_is b.stands));
+  longest = prefixed_some e (joined (component_clash f) a.longest b (component_end f a.longest b.front rest q b.text_is b.stands));
   seen = rw a.seen refl;
 }

@@ -5,7 +5,7 @@ use Rattle.semver_base.specs.Grammar.{HasNone, IsLongest, IsSeen, ReadsAs}
 use Rattle.semver_base.specs.Lexical.{IsBlanks, IsSomeBlanks}
 use Rattle.semver_base.specs.declared.lexical.values.Measured.{Measured}
 use Rattle.semver_base.specs.declared.partial.Partial.{Partial}
-use Rattle.semver_base.proofs.Fronts.{followed, followed_none_second, joined_none_first, mapped, mapped_none, marked_none, marked_other, marked_some}
+use Rattle.semver_base.proofs.Fronts.{followed, followed_none_second, joined_none_first, mapped, mapped_none, prefixed_none, prefixed_other, prefixed_some}
 use Rattle.semver_req.specs.Partials.{IsPartial, sized_partial}
 use Rattle.semver_req.specs.PieceSteps.{sized_hyphen}
 use Rattle.semver_req.specs.Pieces.{IsHyphen, IsHyphened, IsHyphenPair, IsUpper}
@@ -23,15 +23,15 @@ no_blanks_before n = mapped_none (joined_none_first n)
 
 module _ {text middle : List ℕ} (b : IsLongest IsSomeBlanks text tt middle) where
   pub no_hyphen_mark : ((rest : List ℕ) → middle ≡ 45 ∷ rest → ⊥) → HasNone IsHyphened text
-  no_hyphen_mark other = mapped_none (followed_none_second blanks_hyphen b (marked_other other))
+  no_hyphen_mark other = mapped_none (followed_none_second blanks_hyphen b (prefixed_other other))
 
   module _ {after : List ℕ} (e : middle ≡ 45 ∷ after) where
     pub no_blanks_after : HasNone IsSomeBlanks after → HasNone IsHyphened text
-    no_blanks_after n = mapped_none (followed_none_second blanks_hyphen b (marked_none e (mapped_none (joined_none_first n))))
+    no_blanks_after n = mapped_none (followed_none_second blanks_hyphen b (prefixed_none e (mapped_none (joined_none_first n))))
 
     pub hyphened_read : {start : List ℕ} (r : Option (Measured Partial × List ℕ)) → IsLongest IsSomeBlanks after tt start → ReadsAs sized_partial IsUpper start r → ReadsAs sized_partial IsHyphened text r
-    hyphened_read None c n = mapped_none (followed_none_second blanks_hyphen b (marked_none e (mapped_none (followed_none_second blanks_upper c n))))
-    hyphened_read (Some p) c h = record { value = h.value; longest = mapped (followed blanks_hyphen b (marked_some e (mapped (followed blanks_upper c h.longest)))); seen = h.seen }
+    hyphened_read None c n = mapped_none (followed_none_second blanks_hyphen b (prefixed_none e (mapped_none (followed_none_second blanks_upper c n))))
+    hyphened_read (Some p) c h = record { value = h.value; longest = mapped (followed blanks_hyphen b (prefixed_some e (mapped (followed blanks_upper c h.longest)))); seen = h.seen }
 
 pub pair_read : {text middle rest : List ℕ} {lower upper : Measured Partial} → IsSeen sized_partial (IsPartial Npm) text lower middle → IsSeen sized_partial IsHyphened middle upper rest → IsSeen sized_hyphen IsHyphenPair text (record { lower = lower; upper = upper }) rest
 pair_read p q = record { value = (p.value, q.value); longest = followed partial_hyphened p.longest q.longest; seen = ap₂ (λ (x y : Measured Partial). record { lower = x; upper = y }) p.seen q.seen }

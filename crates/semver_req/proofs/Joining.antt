@@ -22,8 +22,8 @@ use Rattle.semver_req.specs.PieceReading.{joined, numbers_fit, sums_fit}
 use Rattle.semver_req.specs.Readers.{Failure}
 use Rattle.semver_req.specs.Written.{comparator_of}
 use Rattle.semver_req.specs.declared.common.comparator.Mark.{Mark}
-use Rattle.semver_req.specs.declared.range_set_or_tag.RangeOrInvalid.{RangeOrInvalid}
-use Rattle.semver_req.specs.declared.range_set_or_tag.RangeOrInvalid.TheVariants as read
+use Rattle.semver_req.specs.declared.range_set_or_tag.pieces.RangeOrInvalid.{RangeOrInvalid}
+use Rattle.semver_req.specs.declared.range_set_or_tag.pieces.RangeOrInvalid.TheVariants as read
 use Rattle.semver_req.proofs.Fitting.{comparator_all}
 
 -- ---- what is read, by what fits

@@ -5,12 +5,12 @@ use Rattle.std.specs.Char.{is_not_whitespace}
 use Rattle.std.proofs.lemmas.Bool.{or_left, or_right}
 use Rattle.std.proofs.lemmas.Bool.Decides.{nat_tests}
 use Rattle.std.proofs.lemmas.Str.{NoCharPasses-append, NoCharPasses-nil}
-use Rattle.semver_base.specs.Grammar.{After, Either, this, that, HasNone, IsLongest, Marked, Optional, ReadsAs}
+use Rattle.semver_base.specs.Grammar.{After, Either, this, that, HasNone, IsLongest, Prefixed, Optional, ReadsAs}
 use Rattle.semver_base.specs.Lexical.{IsBlanks, IsByte}
 use Rattle.semver_base.specs.declared.partial.Partial.{Partial}
 use Rattle.semver_base.proofs.Blanks.{blanks_made, is_blank_byte}
-use Rattle.semver_base.proofs.Bytes.{BeginsBy, Disjoint, apart_by, begins_from_made, begins_wider, either_begins, goes_from_made, joined_begins_either, mapped_begins, marked_begins, none_by_byte}
-use Rattle.semver_base.proofs.Fronts.{Apart, either_none, either_that, either_this, followed, followed_none_second, mapped, mapped_none, marked_none, marked_other, marked_some, narrowed, narrowed_none}
+use Rattle.semver_base.proofs.Bytes.{BeginsBy, Disjoint, apart_by, begins_from_made, begins_wider, either_begins, goes_from_made, joined_begins_either, mapped_begins, prefixed_begins, none_by_byte}
+use Rattle.semver_base.proofs.Fronts.{Apart, either_none, either_that, either_this, followed, followed_none_second, mapped, mapped_none, prefixed_none, prefixed_other, prefixed_some, narrowed, narrowed_none}
 use Rattle.semver_base.proofs.Readings.{after_maps, after_of, after_parts}
 use Rattle.semver_req.specs.Comparators.{IsEquals, one_more, IsLed}
 use Rattle.semver_req.specs.Partials.{IsPartial, IsPlainPartial}
@@ -22,7 +22,7 @@ use Rattle.semver_req.proofs.Signs.{blanks_apart}
 
 -- after the blanks: a `v`, blanks and a partial version, which may have its own `v`, or a plain one
 abbrev pub IsAfterBlanks : List ℕ → Partial → Type 0
-IsAfterBlanks = Either (Marked 118 (After IsBlanks (IsPartial Npm))) (IsPlainPartial Npm)
+IsAfterBlanks = Either (Prefixed 118 (After IsBlanks (IsPartial Npm))) (IsPlainPartial Npm)
 
 abbrev pub IsOrderedLed : List ℕ → Partial → Type 0
 IsOrderedLed = After IsEquals (After IsBlanks IsAfterBlanks)
@@ -83,7 +83,7 @@ is_after_byte x = (x == 118) || is_component_byte x
 
 after_begins : BeginsBy IsAfterBlanks is_after_byte
 after_begins = either_begins
-    (begins_wider (λ x. x == 118) is_after_byte (λ x h. or_left (x == 118) (is_component_byte x) h) (marked_begins 118))
+    (begins_wider (λ x. x == 118) is_after_byte (λ x h. or_left (x == 118) (is_component_byte x) h) (prefixed_begins 118))
     (begins_wider is_component_byte is_after_byte (λ x h. or_right (x == 118) (is_component_byte x) h) (partial_begins Npm))
 
 blank_no_after : Disjoint is_blank_byte is_after_byte
@@ -131,13 +131,13 @@ module _ {X : Type 0} (see : Partial → X) where
       plain = none_by_byte (partial_some Npm) (partial_begins Npm) text (λ x t f k. no_v x (cc) k)
 
       go : (r : Option (X × List ℕ)) → ReadsAs see (IsPartial Npm) start r → ReadsAs see IsAfterBlanks text r
-      go None h = either_none (marked_none e (mapped_none (followed_none_second (blanks_apart Npm) b h))) plain
-      go (Some q) h = record { value = h.value; longest = either_this (marked_some e (mapped (followed (blanks_apart Npm) b h.longest))) plain; seen = h.seen }
+      go None h = either_none (prefixed_none e (mapped_none (followed_none_second (blanks_apart Npm) b h))) plain
+      go (Some q) h = record { value = h.value; longest = either_this (prefixed_some e (mapped (followed (blanks_apart Npm) b h.longest))) plain; seen = h.seen }
 
   -- no `v`
   pub after_no_v : {text : List ℕ} (r : Option (X × List ℕ)) → ((rest : List ℕ) → text ≡ 118 ∷ rest → ⊥) → ReadsAs see (IsPlainPartial Npm) text r → ReadsAs see IsAfterBlanks text r
-  after_no_v None other h = either_none (marked_other other) h
-  after_no_v (Some p) other h = record { value = h.value; longest = either_that (marked_other other) h.longest; seen = h.seen }
+  after_no_v None other h = either_none (prefixed_other other) h
+  after_no_v (Some p) other h = record { value = h.value; longest = either_that (prefixed_other other) h.longest; seen = h.seen }
 
   pub led_read : {text middle start : List ℕ} (r : Option (X × List ℕ)) → IsLongest IsEquals text tt middle → IsLongest IsBlanks middle tt start → ReadsAs see IsAfterBlanks start r → ReadsAs see IsLed text r
   led_read None e b h = led_none (mapped_none (followed_none_second equals_led e (mapped_none (followed_none_second blanks_after b h))))

@@ -6,9 +6,9 @@ use Rattle.semver_base.specs.Grammar.{Either, this, that, HasNone, IsLongest, Is
 use Rattle.semver_base.specs.Lexical.{IsBlanks}
 use Rattle.semver_base.specs.declared.lexical.values.Measured.{Measured}
 use Rattle.semver_base.specs.declared.partial.Partial.{Partial}
-use Rattle.semver_base.specs.declared.partial.PrimitiveKind.{PrimitiveKind}
+use Rattle.semver_base.specs.declared.primitive.PrimitiveKind.{PrimitiveKind}
 use Rattle.semver_base.proofs.Bytes.{Disjoint, none_by_byte}
-use Rattle.semver_base.proofs.Fronts.{NonEmpty, either_none, either_that, either_this, followed, joined_none_first, mapped, mapped_none, marked_none, marked_other, marked_some}
+use Rattle.semver_base.proofs.Fronts.{NonEmpty, either_none, either_that, either_this, followed, joined_none_first, mapped, mapped_none, prefixed_none, prefixed_other, prefixed_some}
 use Rattle.semver_base.proofs.Readings.{some_within}
 use Rattle.semver_req.specs.Comparators.{IsComparator, IsMarked, IsPlain, IsSign}
 use Rattle.semver_req.specs.Partials.{IsPartial, sized_partial}
@@ -45,26 +45,26 @@ pub unsigned_some : (f : Flavour) (m : Mark) {text rest end : List ℕ} {answer 
     → IsFront (IsUnsigned f) text (record { mark = m; partial = answer }) end
 unsigned_some f mark.Tilde e s = record {
   partial = s.value;
-  longest = either_this (either_this (mapped (marked_some e s.longest)) (mapped_none (marked_other (λ r g. absurd (omega (arith, first_byte e g)))))) (mapped_none (after_tilde f e));
+  longest = either_this (either_this (mapped (prefixed_some e s.longest)) (mapped_none (prefixed_other (λ r g. absurd (omega (arith, first_byte e g)))))) (mapped_none (after_tilde f e));
   seen = s.seen;
 }
 unsigned_some f mark.Caret e s = record {
   partial = s.value;
-  longest = either_this (either_that (mapped_none (marked_other (λ r g. absurd (omega (arith, first_byte e g))))) (mapped (marked_some e s.longest))) (mapped_none (after_caret f e));
+  longest = either_this (either_that (mapped_none (prefixed_other (λ r g. absurd (omega (arith, first_byte e g))))) (mapped (prefixed_some e s.longest))) (mapped_none (after_caret f e));
   seen = s.seen;
 }
 unsigned_some f (mark.Sign sign) e s = absurd e
 unsigned_some f mark.Absent e s = record {
   partial = s.value;
-  longest = either_that (either_none (mapped_none (marked_other e.1)) (mapped_none (marked_other e.2))) (mapped (rw e.0 at s.longest));
+  longest = either_that (either_none (mapped_none (prefixed_other e.1)) (mapped_none (prefixed_other e.2))) (mapped (rw e.0 at s.longest));
   seen = s.seen;
 }
 
 pub unsigned_none : (f : Flavour) (m : Mark) {text rest : List ℕ} → IsMarkCut text m rest → HasNone (IsPartial f) rest → HasNone (IsUnsigned f) text
-unsigned_none f mark.Tilde e n = either_none (either_none (mapped_none (marked_none e n)) (mapped_none (marked_other (λ r g. absurd (omega (arith, first_byte e g)))))) (mapped_none (after_tilde f e))
-unsigned_none f mark.Caret e n = either_none (either_none (mapped_none (marked_other (λ r g. absurd (omega (arith, first_byte e g))))) (mapped_none (marked_none e n))) (mapped_none (after_caret f e))
+unsigned_none f mark.Tilde e n = either_none (either_none (mapped_none (prefixed_none e n)) (mapped_none (prefixed_other (λ r g. absurd (omega (arith, first_byte e g)))))) (mapped_none (after_tilde f e))
+unsigned_none f mark.Caret e n = either_none (either_none (mapped_none (prefixed_other (λ r g. absurd (omega (arith, first_byte e g))))) (mapped_none (prefixed_none e n))) (mapped_none (after_caret f e))
 unsigned_none f (mark.Sign sign) e n = absurd e
-unsigned_none f mark.Absent e n = either_none (either_none (mapped_none (marked_other e.1)) (mapped_none (marked_other e.2))) (mapped_none (rw e.0 at n))
+unsigned_none f mark.Absent e n = either_none (either_none (mapped_none (prefixed_other e.1)) (mapped_none (prefixed_other e.2))) (mapped_none (rw e.0 at n))
 
 -- ---- a sign, or none
 
@@ -113,7 +113,7 @@ module _ {text middle : List ℕ} {sign : PrimitiveKind} (s : IsLongest IsSign t
       go (y ∷ more) f h = rw (first_byte e f) (sign_begins.begins y (record { more = more; value = sign; stands = h }))
 
   no_marked : HasNone (IsMarked Normal) text
-  no_marked = either_none (mapped_none (marked_other (λ r e. tilde_no_sign 126 refl (signed_byte 126 r e)))) (mapped_none (marked_other (λ r e. caret_no_sign 94 refl (signed_byte 94 r e))))
+  no_marked = either_none (mapped_none (prefixed_other (λ r e. tilde_no_sign 126 refl (signed_byte 126 r e)))) (mapped_none (prefixed_other (λ r e. caret_no_sign 94 refl (signed_byte 94 r e))))
 
   pub no_plain : (f : Flavour) → HasNone (IsPlain f) text
   no_plain f = mapped_none (none_by_byte (partial_some f) (any_begins f) text (λ x t e k. partial_no_sign x k (signed_byte x t e)))

@@ -7,14 +7,14 @@ use Rattle.std.proofs.lemmas.Bool.{eq-eqb}
 use Rattle.std.proofs.lemmas.Bool.Decides.{nat_tests}
 use Rattle.std.proofs.lemmas.Str.{NoCharPasses-nil}
 use Rattle.semver_base.specs.Comparators.{Comparator, Tilde, Caret}
-use Rattle.semver_base.specs.Grammar.{After, Either, this, that, HasNone, IsAfter, IsLongest, Marked, ReadsAs}
+use Rattle.semver_base.specs.Grammar.{After, Either, this, that, HasNone, IsAfter, IsLongest, Prefixed, ReadsAs}
 use Rattle.semver_base.specs.Lexical.{IsBlanks, IsSomeBlanks}
 use Rattle.semver_base.specs.declared.lexical.values.Measured.{Measured}
 use Rattle.semver_base.specs.declared.partial.Partial.{Partial}
-use Rattle.semver_base.specs.declared.partial.PrimitiveKind.{PrimitiveKind}
+use Rattle.semver_base.specs.declared.primitive.PrimitiveKind.{PrimitiveKind}
 use Rattle.semver_base.proofs.Blanks.{is_blank_byte}
-use Rattle.semver_base.proofs.Bytes.{BeginsBy, Disjoint, GoesBy, apart_by, begins_from_made, goes_from_made, joined_begins, joined_some_text, mapped_begins, marked_begins}
-use Rattle.semver_base.proofs.Fronts.{Apart, either_longer, either_none, either_that, either_this, followed, followed_none_second, joined_none_first, mapped, mapped_none, marked_none, marked_other, marked_some, optional_none, optional_some}
+use Rattle.semver_base.proofs.Bytes.{BeginsBy, Disjoint, GoesBy, apart_by, begins_from_made, goes_from_made, joined_begins, joined_some_text, mapped_begins, prefixed_begins}
+use Rattle.semver_base.proofs.Fronts.{Apart, either_longer, either_none, either_that, either_this, followed, followed_none_second, joined_none_first, mapped, mapped_none, prefixed_none, prefixed_other, prefixed_some, optional_none, optional_some}
 use Rattle.semver_req.specs.Comparators.{IsComparator, IsEquals, no_more, one_more, IsIgnored, IsLed, IsNpmCaret, IsNpmTilde, IsPlain, IsSign, IsSigned}
 use Rattle.semver_req.specs.Partials.{IsPartial, sized_partial}
 use Rattle.semver_req.specs.Written.{IsNpmFront, IsNpmMarkCut, IsTildes, ReadsByMark, ReadsComparator, ReadsMarked, comparator_of, with_mark}
@@ -114,8 +114,8 @@ word_no_caret x h k = grind (arith, nat_tests)
 ignored_tildes : Apart IsIgnored (After IsTildes IsLed)
 ignored_tildes = apart_by is_word_byte (λ x. x == 126) word_no_tilde (goes_from_made ignored_word) (mapped_begins (joined_begins tildes_some tildes_begin))
 
-ignored_caret : Apart IsIgnored (Marked 94 IsLed)
-ignored_caret = apart_by is_word_byte (λ x. x == 94) word_no_caret (goes_from_made ignored_word) (marked_begins 94)
+ignored_caret : Apart IsIgnored (Prefixed 94 IsLed)
+ignored_caret = apart_by is_word_byte (λ x. x == 94) word_no_caret (goes_from_made ignored_word) (prefixed_begins 94)
 
 module _ {text start : List ℕ} {o : Option (PrimitiveKind × Unit {0})} (i : IsLongest IsIgnored text o start) where
   tilde_some : {middle rest : List ℕ} {p : Partial} → IsLongest IsTildes start tt middle → IsLongest IsLed middle p rest → IsLongest IsNpmTilde text (Tilde p) rest
@@ -128,13 +128,13 @@ module _ {text start : List ℕ} {o : Option (PrimitiveKind × Unit {0})} (i : I
   tilde_none other = mapped_none (mapped_none (followed_none_second ignored_tildes i (mapped_none (joined_none_first (tildes_none other)))))
 
   caret_some : {middle rest : List ℕ} {p : Partial} → start ≡ 94 ∷ middle → IsLongest IsLed middle p rest → IsLongest IsNpmCaret text (Caret p) rest
-  caret_some e l = mapped (mapped (followed ignored_caret i (marked_some e l)))
+  caret_some e l = mapped (mapped (followed ignored_caret i (prefixed_some e l)))
 
   caret_unled : {middle : List ℕ} → start ≡ 94 ∷ middle → HasNone IsLed middle → HasNone IsNpmCaret text
-  caret_unled e n = mapped_none (mapped_none (followed_none_second ignored_caret i (marked_none e n)))
+  caret_unled e n = mapped_none (mapped_none (followed_none_second ignored_caret i (prefixed_none e n)))
 
   caret_none : ((rest : List ℕ) → start ≡ 94 ∷ rest → ⊥) → HasNone IsNpmCaret text
-  caret_none other = mapped_none (mapped_none (followed_none_second ignored_caret i (marked_other other)))
+  caret_none other = mapped_none (mapped_none (followed_none_second ignored_caret i (prefixed_other other)))
 
 tilde_no_caret : {text rest : List ℕ} → text ≡ 126 ∷ rest → (more : List ℕ) → text ≡ 94 ∷ more → ⊥
 tilde_no_caret e more f = omega (arith, ap (λ t. get_or t 0 0) (sym e ∙ f))

@@ -1,13 +1,13 @@
 -- The identifiers of the comparators of every outcome are parts.
 use Rattle.std.proofs.Common.{ℕ, List, [], ◌∷◌, Bool, Option, Some, None, sym, subst, inl, inr}
 use Rattle.semver_base.specs.Comparators.{Comparator}
-use Rattle.semver_base.specs.Grammar.{After, Before, this, that, Listed, last_item, closed_item, more_items, Marked, Optional}
+use Rattle.semver_base.specs.Grammar.{After, Before, this, that, Listed, last_item, closed_item, more_items, Prefixed, Optional}
 use Rattle.semver_base.specs.Lexical.{IsBlanks, IsSomeBlanks}
 use Rattle.semver_base.specs.NormalText.{AreWritableRanges}
 use Rattle.semver_base.specs.declared.lexical.values.Qualifier.{Qualifier}
 use Rattle.semver_base.specs.declared.partial.Partial.{Partial}
 use Rattle.semver_base.specs.declared.partial.XRange.{XRange}
-use Rattle.semver_base.proofs.ReadVersions.{by_after, by_mapped, by_marked, qualifier_has}
+use Rattle.semver_base.proofs.ReadVersions.{by_after, by_mapped, by_prefixed, qualifier_has}
 use Rattle.semver_req.specs.Comparators.{IsComparator, IsLed, IsMarked, IsPlain, IsSigned}
 use Rattle.semver_req.specs.KeptSet.{kept}
 use Rattle.semver_req.specs.Outcome.{AreGoodOnes, none_left, good, bad, IsGood, IsCutOutcome, IsOutcome, one_good, one_bad, npm_many, normal_many, normal_refused, IsStrictOutcome, whole, left_over, no_front, no_fit, IsTagOr, tag, no_tag, Outcome, Ranges, Tag, Refused}
@@ -34,7 +34,7 @@ plain_has : (f : Flavour) (text : List ℕ) (p : Partial) → IsPlainPartial f t
 plain_has f text p h = by_mapped PartialHasParts (λ t v k. second_has f v.0 k.second v.1 k.in_second) h
 
 partial_has : (f : Flavour) (text : List ℕ) (p : Partial) → IsPartial f text p → PartialHasParts p
-partial_has Npm text p (this h) = by_marked 118 (IsPlainPartial Npm) PartialHasParts (plain_has Npm) text p h
+partial_has Npm text p (this h) = by_prefixed 118 (IsPlainPartial Npm) PartialHasParts (plain_has Npm) text p h
 partial_has Npm text p (that h) = plain_has Npm text p h
 partial_has Normal text p h = plain_has Normal text p h
 partial_has Specifier text p h = plain_has Specifier text p h
@@ -48,15 +48,15 @@ plain_comparator_has : (f : Flavour) (text : List ℕ) (c : Comparator) → IsPl
 plain_comparator_has f text c h = by_mapped ComparatorHasParts (partial_has f) h
 
 marked_has : (f : Flavour) (text : List ℕ) (c : Comparator) → IsMarked f text c → ComparatorHasParts c
-marked_has f text c (this h) = by_mapped ComparatorHasParts (by_marked 126 (IsPartial f) PartialHasParts (partial_has f)) h
-marked_has f text c (that h) = by_mapped ComparatorHasParts (by_marked 94 (IsPartial f) PartialHasParts (partial_has f)) h
+marked_has f text c (this h) = by_mapped ComparatorHasParts (by_prefixed 126 (IsPartial f) PartialHasParts (partial_has f)) h
+marked_has f text c (that h) = by_mapped ComparatorHasParts (by_prefixed 94 (IsPartial f) PartialHasParts (partial_has f)) h
 
 led_has : (text : List ℕ) (p : Partial) → IsLed text p → PartialHasParts p
 led_has text p h = by_after PartialHasParts (λ t v k. by_after PartialHasParts (λ t v k. by_after PartialHasParts (λ t v k. by_after PartialHasParts (partial_has Npm) k) k) k) h
 
 comparator_has : (f : Flavour) (text : List ℕ) (c : Comparator) → IsComparator f text c → ComparatorHasParts c
 comparator_has Npm text c (this (this h)) = by_mapped ComparatorHasParts (λ t v k. by_after PartialHasParts (λ t v k. by_after PartialHasParts led_has k) k) h
-comparator_has Npm text c (this (that h)) = by_mapped ComparatorHasParts (λ t v k. by_after PartialHasParts (λ t v k. by_marked 94 IsLed PartialHasParts led_has t v k) k) h
+comparator_has Npm text c (this (that h)) = by_mapped ComparatorHasParts (λ t v k. by_after PartialHasParts (λ t v k. by_prefixed 94 IsLed PartialHasParts led_has t v k) k) h
 comparator_has Npm text c (that (this h)) = signed_has Npm text c h
 comparator_has Npm text c (that (that h)) = plain_comparator_has Npm text c h
 comparator_has Normal text c (this h) = marked_has Normal text c h
@@ -78,8 +78,8 @@ hyphen_has text cs h = by_mapped AllHaveParts (λ t v k. ((partial_has Npm k.fir
     before : (t : List ℕ) (p : Partial) → Before (IsPartial Npm) IsBlanks t p → PartialHasParts p
     before t p k = by_mapped PartialHasParts (λ t v k. partial_has Npm k.first v.0 k.in_first) k
 
-    second : (t : List ℕ) (p : Partial) → After IsSomeBlanks (Marked 45 (After IsSomeBlanks (Before (IsPartial Npm) IsBlanks))) t p → PartialHasParts p
-    second t p k = by_after PartialHasParts (λ t v k. by_marked 45 (After IsSomeBlanks (Before (IsPartial Npm) IsBlanks)) PartialHasParts (λ t v k. by_after PartialHasParts before k) t v k) k
+    second : (t : List ℕ) (p : Partial) → After IsSomeBlanks (Prefixed 45 (After IsSomeBlanks (Before (IsPartial Npm) IsBlanks))) t p → PartialHasParts p
+    second t p k = by_after PartialHasParts (λ t v k. by_prefixed 45 (After IsSomeBlanks (Before (IsPartial Npm) IsBlanks)) PartialHasParts (λ t v k. by_after PartialHasParts before k) t v k) k
 
 filled_have : (f : Flavour) (text : List ℕ) (cs : List Comparator) → IsFilled f text cs → AllHaveParts cs
 filled_have Npm text cs (this h) = hyphen_has text cs h

@@ -7,9 +7,9 @@ use Rattle.std.proofs.lemmas.Bool.{or_left}
 use Rattle.std.proofs.lemmas.Bool.Decides.{nat_tests}
 use Rattle.semver_base.specs.declared.partial.XRange.{XRange}
 use Rattle.semver_base.specs.declared.partial.XRange.TheVariants.{Wildcard, Val}
-use Rattle.semver_base.proofs.Bytes.{Disjoint, MadeOf, joined_made, made_wider, mapped_made, marked_begins, marked_made, marked_some_text, optional_made}
+use Rattle.semver_base.proofs.Bytes.{Disjoint, MadeOf, joined_made, made_wider, mapped_made, prefixed_begins, prefixed_made, prefixed_some_text, optional_made}
 use Rattle.semver_base.proofs.Numbers.{loose_begins, loose_some}
-use Rattle.semver_base.proofs.Readings.{Unambiguous, either_one, followed_one, joined_one, mapped_one, marked_one, never_by, optional_one}
+use Rattle.semver_base.proofs.Readings.{Unambiguous, either_one, followed_one, joined_one, mapped_one, prefixed_one, never_by, optional_one}
 use Rattle.semver_base.proofs.WordReadings.{is_qualifier_byte, number_made, number_one, qualifier_made, qualifier_one}
 use Rattle.semver_req.specs.Partials.{IsComponent, IsPartial, IsPlainPartial, IsSecond, IsThird, strictness_of}
 use Rattle.semver_req.specs.declared.common.values.Flavour.{Flavour}
@@ -45,19 +45,19 @@ component_made f = record { made = go }
 -- ---- partial versions
 
 third_one : (f : Flavour) → Unambiguous (IsThird f)
-third_one f = marked_one 46 (joined_one (component_clash f) (component_one f) (qualifier_one (strictness_of f)))
+third_one f = prefixed_one 46 (joined_one (component_clash f) (component_one f) (qualifier_one (strictness_of f)))
 
 second_one : (f : Flavour) → Unambiguous (IsSecond f)
-second_one f = marked_one 46 (followed_one (component_dot_apart f) (component_one f) (optional_one (marked_some_text 46) (third_one f)))
+second_one f = prefixed_one 46 (followed_one (component_dot_apart f) (component_one f) (optional_one (prefixed_some_text 46) (third_one f)))
 
 pub plain_one : (f : Flavour) → Unambiguous (IsPlainPartial f)
-plain_one f = mapped_one (followed_one (component_dot_apart f) (component_one f) (optional_one (marked_some_text 46) (second_one f)))
+plain_one f = mapped_one (followed_one (component_dot_apart f) (component_one f) (optional_one (prefixed_some_text 46) (second_one f)))
 
 v_no_component : Disjoint (λ x. x == 118) is_component_byte
 v_no_component x h k = grind (arith, nat_tests)
 
 pub partial_one : (f : Flavour) → Unambiguous (IsPartial f)
-partial_one Npm = either_one (never_by (λ x. x == 118) is_component_byte v_no_component (marked_some_text 118) (marked_begins 118) (partial_begins Npm)) (marked_one 118 (plain_one Npm)) (plain_one Npm)
+partial_one Npm = either_one (never_by (λ x. x == 118) is_component_byte v_no_component (prefixed_some_text 118) (prefixed_begins 118) (partial_begins Npm)) (prefixed_one 118 (plain_one Npm)) (plain_one Npm)
 partial_one Normal = plain_one Normal
 partial_one Specifier = plain_one Specifier
 
@@ -76,10 +76,10 @@ plain_component_made : (f : Flavour) → MadeOf (IsComponent f) is_plain_byte
 plain_component_made f = made_wider is_component_byte is_plain_byte component_plain (component_made f)
 
 third_made : (f : Flavour) → MadeOf (IsThird f) is_plain_byte
-third_made f = marked_made (joined_made (plain_component_made f) (made_wider is_qualifier_byte is_plain_byte qualifier_plain (qualifier_made (strictness_of f)))) 46 refl
+third_made f = prefixed_made (joined_made (plain_component_made f) (made_wider is_qualifier_byte is_plain_byte qualifier_plain (qualifier_made (strictness_of f)))) 46 refl
 
 second_made : (f : Flavour) → MadeOf (IsSecond f) is_plain_byte
-second_made f = marked_made (joined_made (plain_component_made f) (optional_made (third_made f))) 46 refl
+second_made f = prefixed_made (joined_made (plain_component_made f) (optional_made (third_made f))) 46 refl
 
 pub plain_made : (f : Flavour) → MadeOf (IsPlainPartial f) is_plain_byte
 plain_made f = mapped_made (joined_made (plain_component_made f) (optional_made (second_made f)))

@@ -3,15 +3,15 @@ use Rattle.std.proofs.Common.{◌≡◌, ℕ, Bool, true, false, List, [], ◌�
 use Rattle.std.specs.Prelude.{◌&&◌, if◌then◌else◌}
 use Rattle.std.specs.Char.{is_ascii_digit}
 use Rattle.std.proofs.lemmas.Bool.Decides.{nat_tests}
-use Rattle.semver_base.specs.Grammar.{ReadsAs, IsSeen, HasNone, Marked, Optional}
+use Rattle.semver_base.specs.Grammar.{ReadsAs, IsSeen, HasNone, Prefixed, Optional}
 use Rattle.semver_base.specs.declared.lexical.values.Measured.{Measured}
 use Rattle.semver_base.specs.declared.lexical.values.Measured.TheVariants.{Fits, TooLarge}
 use Rattle.semver_base.specs.declared.lexical.values.Qualifier.{Qualifier}
 use Rattle.semver_base.specs.declared.partial.Partial.{Partial}
 use Rattle.semver_base.specs.declared.partial.XRange.{XRange}
 use Rattle.semver_base.specs.declared.partial.XRange.TheVariants.{Wildcard}
-use Rattle.semver_base.proofs.Fronts.{Apart, NonEmpty, either_none, either_that, either_this, marked_none, marked_other, followed, mapped, marked_some, optional_none, optional_some}
-use Rattle.semver_base.proofs.Bytes.{BeginsBy, Disjoint, apart_by, joined_begins, joined_some_text, mapped_begins, mapped_some_text, none_by_byte, marked_begins, optional_begins}
+use Rattle.semver_base.proofs.Fronts.{Apart, NonEmpty, either_none, either_that, either_this, prefixed_none, prefixed_other, followed, mapped, prefixed_some, optional_none, optional_some}
+use Rattle.semver_base.proofs.Bytes.{BeginsBy, Disjoint, apart_by, joined_begins, joined_some_text, mapped_begins, mapped_some_text, none_by_byte, prefixed_begins, optional_begins}
 use Rattle.semver_req.specs.Partials.{IsComponent, IsPartial, IsPlainPartial, IsSecond, IsThird, assembled, assembled_by, component_fits, partial_of, second_or_none, sized_component, sized_partial, sized_second, third_or_none}
 use Rattle.semver_req.specs.declared.common.FromMinor.{FromMinor}
 use Rattle.semver_req.specs.declared.common.FromPatch.{FromPatch}
@@ -32,13 +32,13 @@ optional_unseen or h = record { value = None; longest = optional_none h; seen = 
 digit_no_dot : Disjoint is_ascii_digit (λ x. x == 46)
 digit_no_dot x h k = grind (arith, nat_tests)
 
-pub component_dot_apart : {V : Type 0} {A : List ℕ → V → Type 0} (f : Flavour) → Apart (IsComponent f) (Optional (Marked 46 A))
-component_dot_apart f = apart_by is_ascii_digit (λ x. x == 46) digit_no_dot (component_goes f) (optional_begins (marked_begins 46))
+pub component_dot_apart : {V : Type 0} {A : List ℕ → V → Type 0} (f : Flavour) → Apart (IsComponent f) (Optional (Prefixed 46 A))
+component_dot_apart f = apart_by is_ascii_digit (λ x. x == 46) digit_no_dot (component_goes f) (optional_begins (prefixed_begins 46))
 
 pub second_read : (f : Flavour) {text after middle rest : List ℕ} {minor : Measured XRange} {third : FromPatch} → text ≡ 46 ∷ after → IsSeen sized_component (IsComponent f) after minor middle → IsSeen third_or_none (Optional (IsThird f)) middle third rest → IsSeen sized_second (IsSecond f) text (record { minor = minor; patch = third.patch; qualifier = third.qualifier }) rest
 second_read f e a b = record {
   value = (a.value, b.value);
-  longest = marked_some e (followed (component_dot_apart f) a.longest b.longest);
+  longest = prefixed_some e (followed (component_dot_apart f) a.longest b.longest);
   seen = rw (a.seen, ap (λ (t : FromPatch). t.patch) b.seen, ap (λ (t : FromPatch). t.qualifier) b.seen) refl;
 }
 
@@ -84,9 +84,9 @@ led_by_v text rest r e h = go r h
     plain = none_by_byte (partial_some Npm) (partial_begins Npm) text (λ x t f k. no_v x (cc) k)
 
     go : (r : Option (Measured Partial × List ℕ)) → ReadsAs sized_partial (IsPlainPartial Npm) rest r → ReadsAs sized_partial (IsPartial Npm) text r
-    go None h = either_none (marked_none e h) plain
-    go (Some p) h = record { value = h.value; longest = either_this (marked_some e h.longest) plain; seen = h.seen }
+    go None h = either_none (prefixed_none e h) plain
+    go (Some p) h = record { value = h.value; longest = either_this (prefixed_some e h.longest) plain; seen = h.seen }
 
 pub not_led : (text : List ℕ) (r : Option (Measured Partial × List ℕ)) → ((rest : List ℕ) → text ≡ 118 ∷ rest → ⊥) → ReadsAs sized_partial (IsPlainPartial Npm) text r → ReadsAs sized_partial (IsPartial Npm) text r
-not_led text None other h = either_none (marked_other other) h
-not_led text (Some p) other h = record { value = h.value; longest = either_that (marked_other other) h.longest; seen = h.seen }
+not_led text None other h = either_none (prefixed_other other) h
+not_led text (Some p) other h = record { value = h.value; longest = either_that (prefixed_other other) h.longest; seen = h.seen }

@@ -5,14 +5,14 @@ use Rattle.std.specs.List.{list_all}
 use Rattle.std.proofs.lemmas.Bool.{and_parts, or_left}
 use Rattle.std.proofs.lemmas.Bool.Decides.{nat_tests}
 use Rattle.semver_base.specs.Comparators.{Comparator}
-use Rattle.semver_base.specs.Grammar.{After, this, that, IsLongest, Listed, last_item, closed_item, more_items, Marked, Stops}
+use Rattle.semver_base.specs.Grammar.{After, this, that, IsLongest, Listed, last_item, closed_item, more_items, Prefixed, Stops}
 use Rattle.semver_base.specs.Lexical.{IsBlanks, IsSomeBlanks}
 use Rattle.semver_base.specs.declared.partial.Partial.{Partial}
 use Rattle.semver_base.proofs.Blanks.{blanks_made, is_blank_byte}
-use Rattle.semver_base.proofs.Bytes.{BeginsBy, Disjoint, GoesBy, MadeOf, apart_by, begins_from_made, begins_wider, either_begins, either_made, goes_from_made, joined_begins, joined_made, joined_some_second, joined_some_text, made_wider, mapped_begins, mapped_made, mapped_some_text, marked_begins}
+use Rattle.semver_base.proofs.Bytes.{BeginsBy, Disjoint, GoesBy, MadeOf, apart_by, begins_from_made, begins_wider, either_begins, either_made, goes_from_made, joined_begins, joined_made, joined_some_second, joined_some_text, made_wider, mapped_begins, mapped_made, mapped_some_text, prefixed_begins}
 use Rattle.semver_base.proofs.Fronts.{Apart, NonEmpty, one_front}
 use Rattle.semver_base.proofs.Lists.{IsListing, listed_begins, listed_some}
-use Rattle.semver_base.proofs.Readings.{EachByte, Never, Unambiguous, after_one, before_one, each_made, either_one, followed_one, goes_within, in_place, listed_one, mapped_one, marked_one, never_by, some_within, unit_one}
+use Rattle.semver_base.proofs.Readings.{EachByte, Never, Unambiguous, after_one, before_one, each_made, either_one, followed_one, goes_within, in_place, listed_one, mapped_one, prefixed_one, never_by, some_within, unit_one}
 use Rattle.semver_req.specs.Comparators.{IsComparator}
 use Rattle.semver_req.specs.Partials.{IsPartial}
 use Rattle.semver_req.specs.Pieces.{IsFilled, IsHyphen, IsHyphened, IsMark, IsNpmSeparator, IsPiece, IsSeparator, IsUpper}
@@ -55,11 +55,11 @@ separator_made = either_made (mapped_made (joined_made blanks_separate (mapped_m
 separator_some : NonEmpty IsNpmSeparator
 separator_some = record { some = go }
   where
-    marked : NonEmpty (After IsBlanks (After IsMark IsBlanks))
-    marked = mapped_some_text (joined_some_second (mapped_some_text (joined_some_text mark_some)))
+    prefixed : NonEmpty (After IsBlanks (After IsMark IsBlanks))
+    prefixed = mapped_some_text (joined_some_second (mapped_some_text (joined_some_text mark_some)))
 
     go : (v : Unit {0}) → IsNpmSeparator [] v → ⊥
-    go v (this h) = marked.some v h
+    go v (this h) = prefixed.some v h
     go v (that h) = blanks_some.some v h
 
 plain_no_separator : Disjoint is_plain_byte is_separator_byte
@@ -114,11 +114,11 @@ upper_one = before_one partial_blanks (partial_one Npm)
 pub blanks_upper : Apart IsSomeBlanks IsUpper
 blanks_upper = apart_by is_blank_byte is_partial_byte blank_no_partial (goes_from_made some_blanks_made) (mapped_begins (joined_begins any_some (any_begins Npm)))
 
-pub blanks_hyphen : Apart IsSomeBlanks (Marked 45 (After IsSomeBlanks IsUpper))
-blanks_hyphen = apart_by is_blank_byte (λ x. x == 45) blank_no_hyphen (goes_from_made some_blanks_made) (marked_begins 45)
+pub blanks_hyphen : Apart IsSomeBlanks (Prefixed 45 (After IsSomeBlanks IsUpper))
+blanks_hyphen = apart_by is_blank_byte (λ x. x == 45) blank_no_hyphen (goes_from_made some_blanks_made) (prefixed_begins 45)
 
 hyphened_one : Unambiguous IsHyphened
-hyphened_one = after_one blanks_hyphen (marked_one 45 (after_one blanks_upper upper_one))
+hyphened_one = after_one blanks_hyphen (prefixed_one 45 (after_one blanks_upper upper_one))
 
 pub partial_hyphened : Apart (IsPartial Npm) IsHyphened
 partial_hyphened = apart_by is_plain_byte is_blank_byte plain_no_blank any_goes (mapped_begins (joined_begins blanks_some (begins_from_made some_blanks_made)))
@@ -179,7 +179,7 @@ some_separate = made_wider is_blank_byte is_separator_byte blank_separator some_
 hyphen_laid_out : (text : List ℕ) (cs : List Comparator) → IsHyphen text cs → IsLaidOut true text
 hyphen_laid_out text cs h = go h.stands.second h.stands.text_is h.stands.in_second.stands.second h.stands.in_second.stands.text_is h.stands.in_second.stands.in_second
   where
-    go : (s : List ℕ) → text ≡ h.stands.first ++ s → (r : List ℕ) → s ≡ h.stands.in_second.stands.first ++ r → Marked 45 (After IsSomeBlanks IsUpper) r h.stands.in_second.value.1 → IsLaidOut true text
+    go : (s : List ℕ) → text ≡ h.stands.first ++ s → (r : List ℕ) → s ≡ h.stands.in_second.stands.first ++ r → Prefixed 45 (After IsSomeBlanks IsUpper) r h.stands.in_second.value.1 → IsLaidOut true text
     go s e [] f k = absurd k
     go s e (x ∷ r) f k =
         let blanks = h.stands.in_second.stands.first in

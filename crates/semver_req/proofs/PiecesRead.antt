@@ -28,9 +28,9 @@ use Rattle.semver_req.specs.Readers.{Failure, IsReading}
 use Rattle.semver_req.specs.Tag.{is_valid_tag}
 use Rattle.semver_req.specs.declared.common.values.Flavour.{Flavour}
 use Rattle.semver_req.specs.declared.common.values.Flavour.TheVariants.{Npm, Normal, Specifier}
-use Rattle.semver_req.specs.declared.range_set_or_tag.Alternatives.{Alternatives}
-use Rattle.semver_req.specs.declared.range_set_or_tag.RangeOrInvalid.{RangeOrInvalid}
-use Rattle.semver_req.specs.declared.range_set_or_tag.RangeOrInvalid.TheVariants as read
+use Rattle.semver_req.specs.declared.range_set_or_tag.pieces.Alternatives.{Alternatives}
+use Rattle.semver_req.specs.declared.range_set_or_tag.pieces.RangeOrInvalid.{RangeOrInvalid}
+use Rattle.semver_req.specs.declared.range_set_or_tag.pieces.RangeOrInvalid.TheVariants as read
 use Rattle.semver_req.specs.declared.range_set_or_tag.RangeSetOrTag.{RangeSetOrTag}
 use Rattle.semver_req.specs.declared.range_set_or_tag.RangeSetOrTag.TheVariants as inner
 use Rattle.semver_req.proofs.PieceReadings.{blank_piece, piece_one}
@@ -106,7 +106,7 @@ module _ (f : Flavour) where
   many_kept text (Hyphen p q) cs (closed_item a s) = refl
   many_kept text (Hyphen p q) cs (more_items a s more) = refl
 
-  list_kept : {text : List ℕ} {cs : List Comparator} → IsComparators f text cs → kept_range cs ≡ folded (map comparator_range cs)
+  pub list_kept : {text : List ℕ} {cs : List Comparator} → IsComparators f text cs → kept_range cs ≡ folded (map comparator_range cs)
   list_kept (last_item {a} {v} h) = one_kept a v h
   list_kept (closed_item {a} {v} h s) = one_kept a v h
   list_kept (more_items {b} {v} {vs} h s more) = many_kept b v vs more

@@ -63,8 +63,8 @@ blanks_mark = apart_by is_blank_byte is_mark_byte blank_no_mark (goes_from_made 
 
 -- ---- npm's separators
 
-pub separator_marked : {text rest more end : List ℕ} → IsLongest IsBlanks text tt rest → IsLongest IsMark rest tt more → IsLongest IsBlanks more tt end → IsLongest IsNpmSeparator text tt end
-separator_marked {text} {rest} {more} {end} p q r =
+pub separator_prefixed : {text rest more end : List ℕ} → IsLongest IsBlanks text tt rest → IsLongest IsMark rest tt more → IsLongest IsBlanks more tt end → IsLongest IsNpmSeparator text tt end
+separator_prefixed {text} {rest} {more} {end} p q r =
     let whole : IsLongest (After IsBlanks (After IsMark IsBlanks)) text tt end = mapped (followed blanks_mark p (mapped (followed mark_apart q r))) in
     elim (cases_lt (length rest) (length text)) [
       | inl blank ↦ either_longer whole (some_blanks text rest p blank) (omega (arith, some_front q.front q.stands, ap length q.text_is, length-append q.front more, ap length r.text_is, length-append r.front end))

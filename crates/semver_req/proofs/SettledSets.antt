@@ -6,9 +6,9 @@ use Rattle.std.specs.Prelude.{if◌then◌else◌}
 use Rattle.std.specs.declared.cmp.Ordering.{Ordering}
 use Rattle.std.specs.declared.cmp.Ordering.TheVariants.{Less, Equal, Greater}
 use Rattle.semver_base.specs.Comparators.{Comparator, comparator_range}
-use Rattle.semver_base.specs.Meaning.{alternatives, from, release, to_below, tree_means_with}
+use Rattle.semver_base.specs.Meaning.{alternatives, bound_at, from, release, to_below, tree_means_with}
 use Rattle.semver_base.specs.Overlap.{ends_at_zero, lies_within, starts_before}
-use Rattle.semver_base.specs.PartialTable.{up_to, between, bound_at}
+use Rattle.semver_base.specs.PartialTable.{up_to, between}
 use Rattle.semver_base.specs.Precedence.{precedence_cmp}
 use Rattle.semver_base.specs.PrecedenceLaws.{version_eq, version_told}
 use Rattle.semver_base.specs.Shortest.{ending, is_plain, shortest, shortest_between, shortest_of, shortest_tree, starting}

@@ -8,8 +8,8 @@ use Rattle.std.specs.declared.cmp.Ordering.{Ordering}
 use Rattle.std.specs.declared.cmp.Ordering.TheVariants.{Less, Equal, Greater}
 use Rattle.semver_base.specs.Clamp.{clamped, greater_of, of_tied, stopped_at, stopped_by}
 use Rattle.semver_base.specs.Comparators.{Caret, Comparator, Hyphen, Plain, Signed, Tilde, comparator_range}
-use Rattle.semver_base.specs.Meaning.{everything, from, release, to_below}
-use Rattle.semver_base.specs.PartialTable.{up_to, between, bound_at, without_build}
+use Rattle.semver_base.specs.Meaning.{bound_at, everything, from, release, to_below}
+use Rattle.semver_base.specs.PartialTable.{up_to, between, without_build}
 use Rattle.semver_base.specs.Precedence.{precedence_cmp}
 use Rattle.semver_base.specs.PrecedenceLaws.{precedence-anti, precedence_total, version_eq, version_told}
 use Rattle.semver_base.specs.Shortest.{ending, has_short_form, is_caret_patch, is_major, is_plain, is_tilde, shortest_between, shortest_of, starting, whole}

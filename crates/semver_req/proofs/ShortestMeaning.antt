@@ -8,8 +8,8 @@ use Rattle.std.specs.Prelude.{if◌then◌else◌, nat_lt}
 use Rattle.std.specs.declared.cmp.Ordering.{Ordering}
 use Rattle.std.specs.declared.cmp.Ordering.TheVariants.{Less, Equal, Greater}
 use Rattle.semver_base.specs.Comparators.{Caret, Comparator, Plain, Tilde, comparator_range}
-use Rattle.semver_base.specs.Meaning.{alternative_means_with, from, is_above, release, to_below}
-use Rattle.semver_base.specs.PartialTable.{up_to, between, bound_at, caret}
+use Rattle.semver_base.specs.Meaning.{alternative_means_with, bound_at, from, is_above, release, to_below}
+use Rattle.semver_base.specs.PartialTable.{up_to, between, caret}
 use Rattle.semver_base.specs.Precedence.{precedence_cmp, pre_cmp}
 use Rattle.semver_base.specs.PrecedenceLaws.{precedence_total, version_eq, version_told}
 use Rattle.semver_base.specs.Shortest.{ending, has_short_form, is_caret_major, is_caret_patch, is_major, is_minor, is_plain, is_tilde, numbered, shortest, shortest_between, shortest_of, starting, whole}

@@ -8,10 +8,10 @@ use Rattle.semver_base.specs.Grammar.{After, HasNone, IsLongest, IsSeen}
 use Rattle.semver_base.specs.Lexical.{IsBlanks}
 use Rattle.semver_base.specs.declared.lexical.values.Measured.{Measured}
 use Rattle.semver_base.specs.declared.partial.Partial.{Partial}
-use Rattle.semver_base.specs.declared.partial.PrimitiveKind.{PrimitiveKind}
-use Rattle.semver_base.specs.declared.partial.PrimitiveKind.TheVariants.{GreaterThan, LessThan, GreaterThanOrEqual, LessThanOrEqual, Equal}
+use Rattle.semver_base.specs.declared.primitive.PrimitiveKind.{PrimitiveKind}
+use Rattle.semver_base.specs.declared.primitive.PrimitiveKind.TheVariants.{GreaterThan, LessThan, GreaterThanOrEqual, LessThanOrEqual, Equal}
 use Rattle.semver_base.proofs.Blanks.{blanks_made, is_blank_byte}
-use Rattle.semver_base.proofs.Bytes.{BeginsBy, Disjoint, GoesBy, apart_by, begins_from_made, begins_wider, either_begins, goes_from_made, joined_begins_either, mapped_begins, marked_begins}
+use Rattle.semver_base.proofs.Bytes.{BeginsBy, Disjoint, GoesBy, apart_by, begins_from_made, begins_wider, either_begins, goes_from_made, joined_begins_either, mapped_begins, prefixed_begins}
 use Rattle.semver_base.proofs.Fronts.{Apart, followed, followed_none_second, mapped, mapped_none}
 use Rattle.semver_req.specs.Comparators.{IsPrimitive, IsSign, primitive_of, sized_primitive}
 use Rattle.semver_req.specs.Partials.{IsPartial, IsPlainPartial, partial_fits, sized_partial}
@@ -57,7 +57,7 @@ plain_begins : (f : Flavour) → BeginsBy (IsPlainPartial f) is_partial_byte
 plain_begins f = begins_wider is_component_byte is_partial_byte (λ x h. or_left (is_component_byte x) (x == 118) h) (partial_begins f)
 
 pub any_begins : (f : Flavour) → BeginsBy (IsPartial f) is_partial_byte
-any_begins Npm = either_begins (begins_wider (λ x. x == 118) is_partial_byte (λ x h. or_right (is_component_byte x) (x == 118) h) (marked_begins 118)) (plain_begins Npm)
+any_begins Npm = either_begins (begins_wider (λ x. x == 118) is_partial_byte (λ x h. or_right (is_component_byte x) (x == 118) h) (prefixed_begins 118)) (plain_begins Npm)
 any_begins Normal = plain_begins Normal
 any_begins Specifier = plain_begins Specifier
 

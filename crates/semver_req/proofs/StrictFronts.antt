@@ -5,7 +5,7 @@ use Rattle.std.specs.Char.{is_ascii_digit}
 use Rattle.std.specs.Str.Parse.{digits_value}
 use Rattle.std.proofs.lemmas.Bool.{and_parts, cases_Bool}
 use Rattle.std.proofs.lemmas.Bool.Decides.{nat_tests}
-use Rattle.semver_base.specs.Grammar.{Followed, IsLongest, Joined, Marked, Optional, Stops}
+use Rattle.semver_base.specs.Grammar.{Followed, IsLongest, Joined, Prefixed, Optional, Stops}
 use Rattle.semver_base.specs.Lexical.{IsLooseNumber, IsNumberEnd, IsQualifier}
 use Rattle.semver_base.specs.declared.lexical.values.Qualifier.{Qualifier}
 use Rattle.semver_base.specs.declared.lexical.values.Strictness.TheVariants.{Loose, Strict}
@@ -76,11 +76,11 @@ module _ {V W : Type 0} {A : List ℕ → V → Type 0} {C : List ℕ → W → 
 -- ---- a part that a dot begins
 
 -- a text that begins with no dot has none
-no_dot : {V : Type 0} {D : List ℕ → V → Type 0} {text rest : List ℕ} (o : Option V) → ((more : List ℕ) → text ≡ 46 ∷ more → ⊥) → Longest (Optional (Marked 46 D)) text o rest → o ≡ None
+no_dot : {V : Type 0} {D : List ℕ → V → Type 0} {text rest : List ℕ} (o : Option V) → ((more : List ℕ) → text ≡ 46 ∷ more → ⊥) → Longest (Optional (Prefixed 46 D)) text o rest → o ≡ None
 no_dot None other h = refl
 no_dot {D = D} {text} {rest} (Some v) other h = absurd (go h.front h.text_is h.stands)
   where
-    go : (front : List ℕ) → text ≡ front ++ rest → Marked 46 D front v → ⊥
+    go : (front : List ℕ) → text ≡ front ++ rest → Prefixed 46 D front v → ⊥
     go [] e k = k
     go (x ∷ front) e k = other (front ++ rest) (e ∙ ap (λ z. z ∷ (front ++ rest)) k.0)
 
@@ -90,13 +90,13 @@ record AfterDot {V : Type 0} (D : List ℕ → V → Type 0) (text : List ℕ) (
   longest : Longest D text value rest
 
 -- a part stands there where a text of it does
-dot : {V : Type 0} {D : List ℕ → V → Type 0} {text rest : List ℕ} (o : Option V) (a b : List ℕ) (w : V) → text ≡ a ++ b → D a w → Longest (Optional (Marked 46 D)) (46 ∷ text) o rest → AfterDot D text o rest
+dot : {V : Type 0} {D : List ℕ → V → Type 0} {text rest : List ℕ} (o : Option V) (a b : List ℕ) (w : V) → text ≡ a ++ b → D a w → Longest (Optional (Prefixed 46 D)) (46 ∷ text) o rest → AfterDot D text o rest
 dot {text = text} None a b w e k h =
     let long = h.longest (46 ∷ a) b (Some w) (ap (λ t. 46 ∷ t) e) (refl, k) in
     absurd (omega (arith, long, ap length h.stands))
 dot {V} {D} {text} {rest} (Some v) a b w e k h = go h.front h.text_is h.stands h.longest
   where
-    go : (front : List ℕ) → 46 ∷ text ≡ front ++ rest → Marked 46 D front v → ((a b : List ℕ) (o : Option V) → 46 ∷ text ≡ a ++ b → Optional (Marked 46 D) a o → length a ≤ length front) → AfterDot D text (Some v) rest
+    go : (front : List ℕ) → 46 ∷ text ≡ front ++ rest → Prefixed 46 D front v → ((a b : List ℕ) (o : Option V) → 46 ∷ text ≡ a ++ b → Optional (Prefixed 46 D) a o → length a ≤ length front) → AfterDot D text (Some v) rest
     go [] f m long = absurd m
     go (x ∷ front) f m long = record {
       value = v;

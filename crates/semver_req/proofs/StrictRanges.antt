@@ -15,7 +15,7 @@ use Rattle.semver_base.specs.declared.failure.Refusal.TheVariants.{BoundTooLarge
 use Rattle.semver_base.specs.declared.partial.Partial.{Partial}
 use Rattle.semver_base.specs.declared.range.VersionRange.{VersionRange}
 use Rattle.semver_base.proofs.Blanks.{blanks_made, is_blank_byte}
-use Rattle.semver_base.proofs.Bytes.{BeginsBy, Disjoint, begins_from_made, begins_wider, either_begins, mapped_begins, marked_begins, none_by_byte}
+use Rattle.semver_base.proofs.Bytes.{BeginsBy, Disjoint, begins_from_made, begins_wider, either_begins, mapped_begins, prefixed_begins, none_by_byte}
 use Rattle.semver_base.proofs.Fronts.{NonEmpty}
 use Rattle.semver_req.specs.Comparators.{fits}
 use Rattle.semver_req.specs.Outcome.{IsStrictOutcome, whole, left_over, no_front, no_fit, IsStrictRange, IsTagOr, tag, no_tag, Outcome, Ranges, Tag, Refused}
@@ -41,8 +41,8 @@ is_strict_byte x = is_component_byte x || ((x == 126) || (x == 94))
 strict_begins : BeginsBy IsStrictRange is_strict_byte
 strict_begins = either_begins
     (either_begins
-    (mapped_begins (begins_wider (λ x. x == 126) is_strict_byte (λ x h. or_right (is_component_byte x) ((x == 126) || (x == 94)) (or_left (x == 126) (x == 94) h)) (marked_begins 126)))
-    (mapped_begins (begins_wider (λ x. x == 94) is_strict_byte (λ x h. or_right (is_component_byte x) ((x == 126) || (x == 94)) (or_right (x == 126) (x == 94) h)) (marked_begins 94))))
+    (mapped_begins (begins_wider (λ x. x == 126) is_strict_byte (λ x h. or_right (is_component_byte x) ((x == 126) || (x == 94)) (or_left (x == 126) (x == 94) h)) (prefixed_begins 126)))
+    (mapped_begins (begins_wider (λ x. x == 94) is_strict_byte (λ x h. or_right (is_component_byte x) ((x == 126) || (x == 94)) (or_right (x == 126) (x == 94) h)) (prefixed_begins 94))))
     (mapped_begins (begins_wider is_component_byte is_strict_byte (λ x h. or_left (is_component_byte x) ((x == 126) || (x == 94)) h) (partial_begins Specifier)))
 
 strict_nonempty : NonEmpty IsStrictRange

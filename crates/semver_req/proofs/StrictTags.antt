@@ -10,8 +10,8 @@ use Rattle.semver_base.specs.Comparators.{Comparator, Plain, Tilde, sign_text}
 use Rattle.semver_base.specs.Grammar.{IsLongest, Listed, last_item, closed_item, more_items, this, that}
 use Rattle.semver_base.specs.Lexical.{IsSomeBlanks}
 use Rattle.semver_base.specs.declared.partial.Partial.{Partial}
-use Rattle.semver_base.specs.declared.partial.PrimitiveKind.{PrimitiveKind}
-use Rattle.semver_base.specs.declared.partial.PrimitiveKind.TheVariants.{GreaterThan, LessThan, GreaterThanOrEqual, LessThanOrEqual, Equal}
+use Rattle.semver_base.specs.declared.primitive.PrimitiveKind.{PrimitiveKind}
+use Rattle.semver_base.specs.declared.primitive.PrimitiveKind.TheVariants.{GreaterThan, LessThan, GreaterThanOrEqual, LessThanOrEqual, Equal}
 use Rattle.semver_base.proofs.Blanks.{blanks_made, is_blank_byte}
 use Rattle.semver_req.specs.Comparators.{IsComparator, fits}
 use Rattle.semver_req.specs.Outcome.{IsGood, IsStrictOutcome, no_front, no_fit, IsStrictRange, tag, Tag}

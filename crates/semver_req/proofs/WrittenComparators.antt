@@ -15,10 +15,10 @@ use Rattle.semver_base.specs.NormalText.{IsWritableBound, IsWritableRange, compa
 use Rattle.semver_base.specs.PartialTable.{Line, all_fit, caret, caret_by, lower_to_below, equal, number_fits, tilde}
 use Rattle.semver_base.specs.PrecedenceLaws.{version_eq}
 use Rattle.semver_base.specs.Shortest.{ending, is_caret_major, is_caret_patch, is_plain, numbered, shortest, shortest_between, shortest_of, starting, whole}
-use Rattle.semver_base.specs.VersionText.{IsWritable, marked, version_text}
+use Rattle.semver_base.specs.VersionText.{IsWritable, prefixed, version_text}
 use Rattle.semver_base.specs.declared.partial.Partial.{Partial}
-use Rattle.semver_base.specs.declared.partial.PrimitiveKind.{PrimitiveKind}
-use Rattle.semver_base.specs.declared.partial.PrimitiveKind.TheVariants.{GreaterThan, LessThan, GreaterThanOrEqual, LessThanOrEqual}
+use Rattle.semver_base.specs.declared.primitive.PrimitiveKind.{PrimitiveKind}
+use Rattle.semver_base.specs.declared.primitive.PrimitiveKind.TheVariants.{GreaterThan, LessThan, GreaterThanOrEqual, LessThanOrEqual}
 use Rattle.semver_base.specs.declared.partial.XRange.{XRange}
 use Rattle.semver_base.specs.declared.partial.XRange.TheVariants.{Wildcard, Val}
 use Rattle.semver_base.specs.declared.range.RangeBound.{RangeBound}
@@ -27,7 +27,7 @@ use Rattle.semver_base.specs.declared.range.VersionBoundKind.{VersionBoundKind}
 use Rattle.semver_base.specs.declared.range.VersionBoundKind.TheVariants as kind
 use Rattle.semver_base.specs.declared.range.VersionRange.{VersionRange}
 use Rattle.semver_base.specs.declared.version.Version.{Version}
-use Rattle.semver_base.proofs.Bytes.{MadeOf, joined_made, list_all-append, mapped_made, marked_made, optional_made}
+use Rattle.semver_base.proofs.Bytes.{MadeOf, joined_made, list_all-append, mapped_made, prefixed_made, optional_made}
 use Rattle.semver_base.proofs.PlainVersions.{plain_is}
 use Rattle.semver_base.proofs.Solid.{is_solid_byte, number_made, qualifier_made, some_text}
 use Rattle.semver_base.proofs.WrittenVersions.{after, follow, no_digit_written, number_written, qualifier_written}
@@ -85,12 +85,12 @@ module _ (v : Version) (h : IsWritable v) where
     fit = and_from (number_fits v.major) _ (number_small v.major h.numbers.major) (one_small v.minor h.numbers.minor);
   }
 
-  third_written : (f : Flavour) → IsThird f (46 ∷ (decimal v.patch ++ (marked 45 v.pre ++ marked 43 v.build))) (Val v.patch, record { pre = v.pre; build = v.build })
+  third_written : (f : Flavour) → IsThird f (46 ∷ (decimal v.patch ++ (prefixed 45 v.pre ++ prefixed 43 v.build))) (Val v.patch, record { pre = v.pre; build = v.build })
   third_written f = (
     refl,
     record {
       first = decimal v.patch;
-      second = marked 45 v.pre ++ marked 43 v.build;
+      second = prefixed 45 v.pre ++ prefixed 43 v.build;
       text_is = refl;
       in_first = component_written f v.patch h.numbers.patch;
       in_second = qualifier_written (strictness_of f) v.pre v.build h.pre h.build;
@@ -125,10 +125,10 @@ component_made = record { made = go }
     go text (Val n) h = number_made.made text n h
 
 third_made : MadeOf (IsThird Normal) is_solid_byte
-third_made = marked_made (joined_made component_made qualifier_made) 46 refl
+third_made = prefixed_made (joined_made component_made qualifier_made) 46 refl
 
 partial_made : MadeOf (IsPlainPartial Normal) is_solid_byte
-partial_made = mapped_made (joined_made component_made (optional_made (marked_made (joined_made component_made (optional_made third_made)) 46 refl)))
+partial_made = mapped_made (joined_made component_made (optional_made (prefixed_made (joined_made component_made (optional_made third_made)) 46 refl)))
 
 -- ---- comparators
 

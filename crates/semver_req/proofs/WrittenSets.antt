@@ -30,7 +30,7 @@ use Rattle.semver_req.proofs.WrittenComparators.{AreWritten, one, more, IsWritte
 
 -- ---- pieces
 
-one_blank : IsSomeBlanks (codes " ") tt
+pub one_blank : IsSomeBlanks (codes " ") tt
 one_blank = (omega arith, (codes " ", ap (λ t. t ++ []) (encode_ascii 32 (omega arith)), (refl, tt)))
 
 -- comparators with a blank between, where the last is followed by end

@@ -1,14 +1,15 @@
 -- Comparators as they are written. Source: node-semver's range grammar (`primitive`, `tilde`, `caret`), with the ignored
 -- signs and the leading `v` that npm accepts.
 use Rattle.std.specs.Prelude.{◌≡◌, ◌⊎◌, ℕ, List, [], ◌∷◌, ◌++◌, Bool, ◌&&◌, Option, codes, if◌then◌else◌}
+use Rattle.semver_base.specs.Characters.{equals_sign, letter_v}
 use Rattle.semver_base.specs.Comparators.{Caret, Comparator, Hyphen, Plain, Signed, Tilde, comparator_line, sign_text, signed}
-use Rattle.semver_base.specs.Grammar.{After, Either, Followed, IsText, Mapped, Marked, Optional}
+use Rattle.semver_base.specs.Grammar.{After, Either, Followed, IsText, Mapped, Prefixed, Optional}
 use Rattle.semver_base.specs.Lexical.{IsBlanks, IsByte, IsSomeBlanks}
 use Rattle.semver_base.specs.PartialTable.{all_fit}
 use Rattle.semver_base.specs.declared.lexical.values.Measured.{Measured}
 use Rattle.semver_base.specs.declared.lexical.values.Measured.TheVariants.{Fits, TooLarge}
 use Rattle.semver_base.specs.declared.partial.Partial.{Partial}
-use Rattle.semver_base.specs.declared.partial.PrimitiveKind.{PrimitiveKind}
+use Rattle.semver_base.specs.declared.primitive.PrimitiveKind.{PrimitiveKind}
 use Rattle.semver_base.specs.declared.partial.XRange.{XRange}
 use Rattle.semver_base.specs.declared.partial.XRange.TheVariants.{Wildcard, Val}
 use Rattle.semver_req.specs.Partials.{IsPartial, partial_fits}
@@ -24,7 +25,7 @@ IsSign text sign = text ≡ sign_text sign
 -- the sign is with_equal, which a `=` at the front of text ends, or where there is none the sign alone; rest is what
 -- follows
 abbrev pub IsMaybeEqual : List ℕ → PrimitiveKind → PrimitiveKind → PrimitiveKind → List ℕ → Type 0
-IsMaybeEqual text alone with_equal sign rest = ((sign ≡ with_equal) × (text ≡ 61 ∷ rest)) ⊎ ((sign ≡ alone) × (rest ≡ text) × ((more : List ℕ) → text ≡ 61 ∷ more → ⊥))
+IsMaybeEqual text alone with_equal sign rest = ((sign ≡ with_equal) × (text ≡ equals_sign ∷ rest)) ⊎ ((sign ≡ alone) × (rest ≡ text) × ((more : List ℕ) → text ≡ equals_sign ∷ more → ⊥))
 
 -- a sign, blanks and a partial version
 abbrev pub IsPrimitive : Flavour → List ℕ → PrimitiveKind × Partial → Type 0
@@ -44,11 +45,11 @@ primitive_of kind TooLarge = TooLarge
 -- any number of `=`
 pub data IsEquals : List ℕ → Unit {0} → Type 0 where
   no_more : IsEquals [] tt
-  one_more : {rest : List ℕ} → IsEquals rest tt → IsEquals (61 ∷ rest) tt
+  one_more : {rest : List ℕ} → IsEquals rest tt → IsEquals (equals_sign ∷ rest) tt
 
 -- what npm's grammar allows before the partial of a tilde or caret: any number of `=`, blanks, a `v`, blanks
 abbrev pub IsLed : List ℕ → Partial → Type 0
-IsLed = After IsEquals (After IsBlanks (After (Optional (IsByte 118)) (After IsBlanks (IsPartial Npm))))
+IsLed = After IsEquals (After IsBlanks (After (Optional (IsByte letter_v)) (After IsBlanks (IsPartial Npm))))
 
 -- a sign that says nothing, with one or more blanks after it, or nothing
 abbrev pub IsIgnored : List ℕ → Option (PrimitiveKind × Unit {0}) → Type 0
@@ -58,7 +59,7 @@ abbrev pub IsNpmTilde : List ℕ → Comparator → Type 0
 IsNpmTilde = Mapped Tilde (After IsIgnored (After (Either (IsText (codes "~>")) (IsText (codes "~"))) IsLed))
 
 abbrev pub IsNpmCaret : List ℕ → Comparator → Type 0
-IsNpmCaret = Mapped Caret (After IsIgnored (Marked 94 IsLed))
+IsNpmCaret = Mapped Caret (After IsIgnored (Prefixed 94 IsLed))
 
 -- a sign, blanks and a partial
 abbrev pub IsSigned : Flavour → List ℕ → Comparator → Type 0
@@ -69,7 +70,7 @@ IsPlain f = Mapped Plain (IsPartial f)
 
 -- `~` or `^` and a partial
 abbrev pub IsMarked : Flavour → List ℕ → Comparator → Type 0
-IsMarked f = Either (Mapped Tilde (Marked 126 (IsPartial f))) (Mapped Caret (Marked 94 (IsPartial f)))
+IsMarked f = Either (Mapped Tilde (Prefixed 126 (IsPartial f))) (Mapped Caret (Prefixed 94 (IsPartial f)))
 
 abbrev pub IsComparator : Flavour → List ℕ → Comparator → Type 0
 IsComparator Npm = Either (Either IsNpmTilde IsNpmCaret) (Either (IsSigned Npm) (IsPlain Npm))

@@ -1,7 +1,8 @@
 -- Partial versions as they are written in the three grammars of requirements. Numbers are of any size. Source:
 -- node-semver's range grammar (`xr`, `partial`, `qualifier`); the normalized and the strict grammar are narrower.
 use Rattle.std.specs.Prelude.{ℕ, List, [], Bool, true, ◌||◌, ◌&&◌, ◌==◌, Option, Some, None, if◌then◌else◌, drop}
-use Rattle.semver_base.specs.Grammar.{Either, Followed, IsLongest, Joined, Mapped, Marked, OneByte, Optional, ReadsAs}
+use Rattle.semver_base.specs.Characters.{letter_v}
+use Rattle.semver_base.specs.Grammar.{Either, Followed, IsLongest, Joined, Mapped, Prefixed, OneByte, Optional, ReadsAs}
 use Rattle.semver_base.specs.Lexical.{IsNumber, IsNumberEnd, IsQualifier}
 use Rattle.semver_base.specs.PartialTable.{number_fits}
 use Rattle.semver_base.specs.declared.lexical.values.Measured.{Measured}
@@ -40,11 +41,11 @@ IsComponent f text (Val n) = IsNumber (strictness_of f) text n
 
 -- `.`, a component and a qualifier, which may be empty; no digit follows a number
 abbrev pub IsThird : Flavour → List ℕ → XRange × Qualifier → Type 0
-IsThird f = Marked 46 (Joined IsNumberEnd (IsComponent f) (IsQualifier (strictness_of f)))
+IsThird f = Prefixed 46 (Joined IsNumberEnd (IsComponent f) (IsQualifier (strictness_of f)))
 
 -- `.` and a component, and then the third or nothing
 abbrev pub IsSecond : Flavour → List ℕ → XRange × Option (XRange × Qualifier) → Type 0
-IsSecond f = Marked 46 (Followed (IsComponent f) (Optional (IsThird f)))
+IsSecond f = Prefixed 46 (Followed (IsComponent f) (Optional (IsThird f)))
 
 -- missing components are wildcards
 abbrev pub partial_of : XRange × Option (XRange × Option (XRange × Qualifier)) → Partial
@@ -58,7 +59,7 @@ IsPlainPartial f = Mapped partial_of (Followed (IsComponent f) (Optional (IsSeco
 
 -- before the first component npm's grammar allows one `v`
 abbrev pub IsPartial : Flavour → List ℕ → Partial → Type 0
-IsPartial Npm = Either (Marked 118 (IsPlainPartial Npm)) (IsPlainPartial Npm)
+IsPartial Npm = Either (Prefixed letter_v (IsPlainPartial Npm)) (IsPlainPartial Npm)
 IsPartial Normal = IsPlainPartial Normal
 IsPartial Specifier = IsPlainPartial Specifier
 

@@ -14,8 +14,8 @@ use Rattle.semver_req.specs.Outcome.{IsBad, IsGood}
 use Rattle.semver_req.specs.Pieces.{ArePieces, IsPiece}
 use Rattle.semver_req.specs.Readers.{Failure}
 use Rattle.semver_req.specs.declared.common.values.Flavour.{Flavour}
-use Rattle.semver_req.specs.declared.range_set_or_tag.RangeOrInvalid.{RangeOrInvalid}
-use Rattle.semver_req.specs.declared.range_set_or_tag.RangeOrInvalid.TheVariants as read
+use Rattle.semver_req.specs.declared.range_set_or_tag.pieces.RangeOrInvalid.{RangeOrInvalid}
+use Rattle.semver_req.specs.declared.range_set_or_tag.pieces.RangeOrInvalid.TheVariants as read
 
 -- ---- comparators that are joined
 

@@ -13,9 +13,9 @@ use Rattle.semver_req.specs.PieceReading.{IsFirstBad, as_kept, kept_of}
 use Rattle.semver_req.specs.Pieces.{AreMorePieces, ArePieces, hyphen}
 use Rattle.semver_req.specs.declared.common.hyphen.HyphenRange.{HyphenRange}
 use Rattle.semver_req.specs.declared.common.values.Flavour.{Flavour}
-use Rattle.semver_req.specs.declared.range_set_or_tag.Alternatives.{Alternatives}
-use Rattle.semver_req.specs.declared.range_set_or_tag.RangeOrInvalid.{RangeOrInvalid}
-use Rattle.semver_req.specs.declared.range_set_or_tag.RangeOrInvalid.TheVariants as read
+use Rattle.semver_req.specs.declared.range_set_or_tag.pieces.Alternatives.{Alternatives}
+use Rattle.semver_req.specs.declared.range_set_or_tag.pieces.RangeOrInvalid.{RangeOrInvalid}
+use Rattle.semver_req.specs.declared.range_set_or_tag.pieces.RangeOrInvalid.TheVariants as read
 
 -- ---- cutting
 

@@ -1,8 +1,9 @@
 -- The pieces of a requirement: how a text is cut at `||`, and which comparators a piece stands for. Source:
 -- node-semver's range grammar (`range-set`, `logical-or`, `range`), with the separators `&&` and `,` that npm accepts.
 use Rattle.std.specs.Prelude.{◌≡◌, ◌<◌, ◌≤◌, ℕ, List, [], ◌∷◌, ◌++◌, length, drop, Bool, true, false, Option, Some, None, codes}
+use Rattle.semver_base.specs.Characters.{bar}
 use Rattle.semver_base.specs.Comparators.{Comparator, Hyphen}
-use Rattle.semver_base.specs.Grammar.{After, Before, Either, Followed, IsLongest, IsText, Listed, Mapped, Marked}
+use Rattle.semver_base.specs.Grammar.{After, Before, Either, Followed, IsLongest, IsText, Listed, Mapped, Prefixed}
 use Rattle.semver_base.specs.Lexical.{IsBlanks, IsSomeBlanks}
 use Rattle.semver_base.specs.declared.partial.Partial.{Partial}
 use Rattle.semver_req.specs.Comparators.{IsComparator}
@@ -38,7 +39,7 @@ IsUpper = Before (IsPartial Npm) IsBlanks
 
 -- a `-` with one or more blanks on both sides, and a partial
 abbrev pub IsHyphened : List ℕ → Partial → Type 0
-IsHyphened = After IsSomeBlanks (Marked 45 (After IsSomeBlanks IsUpper))
+IsHyphened = After IsSomeBlanks (Prefixed 45 (After IsSomeBlanks IsUpper))
 
 -- two partials round a `-`
 abbrev pub IsHyphenPair : List ℕ → Partial × Partial → Type 0
@@ -82,12 +83,12 @@ pub data IsCutting : Flavour → Type 0 where
 
 -- the text has no `||`
 abbrev pub HasNoBar : List ℕ → Type 0
-HasNoBar text = (a b : List ℕ) → text ≡ a ++ (124 ∷ 124 ∷ b) → ⊥
+HasNoBar text = (a b : List ℕ) → text ≡ a ++ (bar ∷ bar ∷ b) → ⊥
 
 -- the text is the piece, `||` and the rest, and no earlier place of it has a `||`
 pub record IsCutAt (text piece rest : List ℕ) : Type 0 where
-  pub text_is : text ≡ piece ++ (124 ∷ 124 ∷ rest)
-  pub leftmost : (a b : List ℕ) → text ≡ a ++ (124 ∷ 124 ∷ b) → length piece ≤ length a
+  pub text_is : text ≡ piece ++ (bar ∷ bar ∷ rest)
+  pub leftmost : (a b : List ℕ) → text ≡ a ++ (bar ∷ bar ∷ b) → length piece ≤ length a
 
 -- the text is blanks and then the rest, which begins with no blank
 pub record IsTrimmed (text rest : List ℕ) : Type 0 where

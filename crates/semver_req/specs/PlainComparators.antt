@@ -1,13 +1,17 @@
--- Comparators of plain texts, which each grammar reads alike.
-use Rattle.std.specs.Prelude.{ℕ, List}
-use Rattle.semver_base.specs.Comparators.{comparator_line}
-use Rattle.semver_base.specs.PartialTable.{IsLineRange, of_numbers}
-use Rattle.semver_base.specs.PlainTexts.{IsPlainTriple}
+-- Comparators of plain texts, which each grammar reads alike, or each that has them.
+use Rattle.std.specs.Prelude.{◌≡◌, ◌⊎◌, ℕ, List, [], ◌∷◌, ◌++◌}
+use Rattle.semver_base.specs.Comparators.{comparator_line, sign_text}
+use Rattle.semver_base.specs.PartialTable.{IsLineRange, of_few, of_numbers}
+use Rattle.semver_base.specs.PlainTexts.{IsFewNumbers, IsPlainTriple}
+use Rattle.semver_base.specs.declared.lexical.values.Measured.TheVariants.{Fits}
+use Rattle.semver_base.specs.declared.plain.FewNumbers.{FewNumbers}
 use Rattle.semver_base.specs.declared.plain.Numbers.{Numbers}
 use Rattle.semver_base.specs.declared.range.VersionRange.{VersionRange}
 use Rattle.semver_req.specs.Readers.{IsReading}
 use Rattle.semver_req.specs.Written.{IsMarkCut, comparator_of}
 use Rattle.semver_req.specs.declared.common.comparator.Mark.{Mark}
+use Rattle.semver_req.specs.declared.common.comparator.Mark.TheVariants as mark
+use Rattle.semver_req.specs.declared.common.comparator.Written.{Written}
 use Rattle.semver_req.specs.declared.common.values.Flavour.{Flavour}
 use Rattle.semver_req.specs.declared.range_set_or_tag.RangeSetOrTag.{RangeSetOrTag}
 
@@ -23,3 +27,46 @@ pub record IsPlainComparator (text : List ℕ) (range : VersionRange) : Type 0 w
 -- each reader answers the text so
 abbrev pub IsPlainReading : List ℕ → RangeSetOrTag → Type 0
 IsPlainReading text answer = (f : Flavour) → IsReading f text answer
+
+-- ---- comparators of one to three numbers
+
+-- the whole text is `~`, `^` or nothing and one to three numbers
+pub record IsFewUnsigned (text : List ℕ) (written : Written) : Type 0 where
+  pub rest : List ℕ
+  pub numbers : FewNumbers
+  pub cut : IsMarkCut text written.mark rest
+  pub few : IsFewNumbers rest numbers
+  pub partial_is : written.partial ≡ Fits (of_few numbers)
+
+-- how a mark is written
+abbrev pub mark_text : Mark → List ℕ
+mark_text mark.Tilde = 126 ∷ []
+mark_text mark.Caret = 94 ∷ []
+mark_text (mark.Sign sign) = sign_text sign
+mark_text mark.Absent = []
+
+-- the whole text is a mark or none and one to three numbers
+pub record IsFewMarked (text : List ℕ) (written : Written) : Type 0 where
+  pub rest : List ℕ
+  pub numbers : FewNumbers
+  pub text_is : text ≡ mark_text written.mark ++ rest
+  pub few : IsFewNumbers rest numbers
+  pub partial_is : written.partial ≡ Fits (of_few numbers)
+
+-- shorter is the text, or the text without the blank that ends it
+abbrev pub IsUnclosed : List ℕ → List ℕ → Type 0
+IsUnclosed text shorter = (text ≡ shorter) ⊎ (text ≡ shorter ++ 32 ∷ [])
+
+-- the whole piece is such a comparator, and a blank behind it or none
+pub record IsFewAlone (piece : List ℕ) (written : Written) : Type 0 where
+  pub shorter : List ℕ
+  pub unclosed : IsUnclosed piece shorter
+  pub marked : IsFewMarked shorter written
+
+-- the whole piece is two such comparators with a blank between, and a blank behind them or none
+pub record IsFewPair (piece : List ℕ) (first second : Written) : Type 0 where
+  pub front : List ℕ
+  pub back : List ℕ
+  pub text_is : piece ≡ front ++ 32 ∷ back
+  pub in_front : IsFewMarked front first
+  pub in_back : IsFewAlone back second

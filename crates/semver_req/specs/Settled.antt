@@ -2,8 +2,8 @@
 use Rattle.std.specs.Prelude.{◌≡◌, List, [], true}
 use Rattle.std.specs.Ordering.{is_ge}
 use Rattle.std.specs.declared.cmp.Ordering.TheVariants.{Less}
-use Rattle.semver_base.specs.Meaning.{everything, from, release, to_below}
-use Rattle.semver_base.specs.PartialTable.{up_to, between, bound_at}
+use Rattle.semver_base.specs.Meaning.{bound_at, everything, from, release, to_below}
+use Rattle.semver_base.specs.PartialTable.{up_to, between}
 use Rattle.semver_base.specs.Precedence.{precedence_cmp}
 use Rattle.semver_base.specs.Shortest.{has_short_form, shortest, shortest_tree}
 use Rattle.semver_base.specs.declared.range.RangeBound.TheVariants as bound

@@ -6,6 +6,7 @@
 
 ghost use Rattle.std.specs.Prelude.{◌≡◌, IfOk, IfSome, drop};
 ghost use Rattle.std.specs.Str.{IsCharBoundary};
+ghost use Rattle.semver_base.specs.Characters.{ampersand, bar};
 ghost use Rattle.semver_base.specs.Grammar.{IsAfterOne, IsSeen, Optional, Reads, ReadsAs, answer_of};
 ghost use Rattle.semver_base.specs.Lexical.{IsQualifier};
 ghost use Rattle.semver_req.specs.Comparators.{IsMaybeEqual, IsPrimitive, IsSign, primitive_of, sized_primitive};
@@ -98,7 +99,8 @@ fn optional_third(
     text: &str,
     flavour: Flavour,
 ) -> Result<(FromPatch, &str), AllocError>
-    ensures { IfOk result (λ r. IsSeen third_or_none (Optional (IsThird flavour)) text.now r.0 r.1.now) }
+    ensures { IfOk result
+        (λ r. IsSeen third_or_none (Optional (IsThird flavour)) text.now r.0 r.1.now) }
 {
     match third(alloc, text, flavour)? {
         Some(read) => Ok(read),
@@ -151,7 +153,8 @@ fn optional_second(
     text: &str,
     flavour: Flavour,
 ) -> Result<(FromMinor, &str), AllocError>
-    ensures { IfOk result (λ r. IsSeen second_or_none (Optional (IsSecond flavour)) text.now r.0 r.1.now) }
+    ensures { IfOk result
+        (λ r. IsSeen second_or_none (Optional (IsSecond flavour)) text.now r.0 r.1.now) }
 {
     match second(alloc, text, flavour)? {
         Some(read) => Ok(read),
@@ -197,7 +200,8 @@ fn plain_partial(
     text: &str,
     flavour: Flavour,
 ) -> Result<Option<(Measured<Partial>, &str)>, AllocError>
-    ensures { IfOk result (λ r. ReadsAs sized_partial (IsPlainPartial flavour) text.now (answer_of r)) }
+    ensures { IfOk result
+        (λ r. ReadsAs sized_partial (IsPlainPartial flavour) text.now (answer_of r)) }
 {
     let Some((major, rest)) = component(text, flavour) else {
         return Ok(None);
@@ -209,7 +213,8 @@ fn plain_partial(
 // A partial version, which may have a `v` before it.
 #[inline(always)]
 fn npm_partial(alloc: Global, text: &str) -> Result<Option<(Measured<Partial>, &str)>, AllocError>
-    ensures { IfOk result (λ r. ReadsAs sized_partial (IsPartial Flavour.Npm) text.now (answer_of r)) }
+    ensures { IfOk result
+        (λ r. ReadsAs sized_partial (IsPartial Flavour.Npm) text.now (answer_of r)) }
 {
     match after(text, 'v') {
         Some(rest) => plain_partial(alloc, rest, Flavour::Npm),
@@ -282,7 +287,8 @@ fn primitive_front(
     text: &str,
     flavour: Flavour,
 ) -> Result<Option<(Measured<Primitive>, &str)>, AllocError>
-    ensures { IfOk result (λ r. ReadsAs sized_primitive (IsPrimitive flavour) text.now (answer_of r)) }
+    ensures { IfOk result
+        (λ r. ReadsAs sized_primitive (IsPrimitive flavour) text.now (answer_of r)) }
 {
     let Some((kind, rest)) = sign_front(text) else {
         return Ok(None);
@@ -324,7 +330,8 @@ pub fn qualifier(
     flavour: Flavour,
 ) -> Result<(Qualifier, usize), AllocError>
     requires { IsCharBoundary text.now place }
-    ensures value { IfOk result (λ r. IsLongestAt (IsQualifier (strictness_of flavour)) text.now place r.0 r.1) }
+    ensures value { IfOk result
+        (λ r. IsLongestAt (IsQualifier (strictness_of flavour)) text.now place r.0 r.1) }
     ensures reached { IfOk result (λ r. IsCharBoundary text.now r.1) }
 {
     let (qualifier, rest) = lexical::qualifier(alloc, &text[place..], flavour.strictness())?;
@@ -366,7 +373,7 @@ pub fn primitive(
 /// grammar, `logical-or`).
 pub fn logical_or(text: &str, place: usize) -> Option<usize>
     requires { IsCharBoundary text.now place }
-    ensures value { Reads (IsOperator 124) (drop place text.now) (place_answer text.now result) }
+    ensures value { Reads (IsOperator bar) (drop place text.now) (place_answer text.now result) }
     ensures reached { IfSome result (IsCharBoundary text.now) }
 {
     let rest = after_operator(&text[place..], '|')?;
@@ -376,7 +383,8 @@ pub fn logical_or(text: &str, place: usize) -> Option<usize>
 /// The `&&` at the place in the text with the blanks round it, and the place that they reach.
 pub fn logical_and(text: &str, place: usize) -> Option<usize>
     requires { IsCharBoundary text.now place }
-    ensures value { Reads (IsOperator 38) (drop place text.now) (place_answer text.now result) }
+    ensures value { Reads (IsOperator ampersand) (drop place text.now)
+        (place_answer text.now result) }
     ensures reached { IfSome result (IsCharBoundary text.now) }
 {
     let rest = after_operator(&text[place..], '&')?;

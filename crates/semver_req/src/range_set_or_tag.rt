@@ -1,34 +1,25 @@
 //! What a requirement stands for, ranges of versions or a tag, and how npm's and the normalized grammar read it.
 
-ghost use Rattle.std.specs.Prelude.{◌≡◌, ◌↔◌, ◌++◌, ◌∷◌, ◌⊎◌, [], IfErr, IfOk, IfSome, IsTrue, List, MatchOption, None, OnOk, Some, true, false};
+ghost use Rattle.std.specs.Prelude.{◌≡◌, ◌⊎◌, IfErr, IfOk, IfSome, None, Some, true, false};
 ghost use Rattle.std.specs.Bool.{OnFalse};
 ghost use Rattle.std.specs.Str.{trim};
-ghost use Rattle.semver_base.specs.Comparators.{Comparator};
-ghost use Rattle.semver_base.specs.Grammar.{ReadsAs, answer_of};
-ghost use Rattle.semver_base.specs.Lexical.{IsBlanks};
-ghost use Rattle.semver_base.specs.declared.partial.Partial.{Partial};
 ghost use Rattle.semver_req.specs.Outcome.{IsOutcome, Refused};
-ghost use Rattle.semver_req.specs.Partials.{sized_partial};
-ghost use Rattle.semver_req.specs.PieceReading.{IsCutRefusal, IsPieceRead, joined, kept_of, refusal_failure};
-ghost use Rattle.semver_req.specs.PieceSteps.{AreAllRead, IsEverything, IsFirstPiece, IsHyphenRead, IsNextPiece, IsOneMore, IsWholeRead, both_now};
-ghost use Rattle.semver_req.specs.Pieces.{HasNoBar, IsComparators, IsCutAt, IsCutting, IsFilled, IsHyphen};
+ghost use Rattle.semver_req.specs.PieceReading.{IsCutRefusal, refusal_failure};
 ghost use Rattle.semver_req.specs.PlainComparators.{IsPlainReading};
 ghost use Rattle.semver_req.specs.Readers.{IsReading};
 ghost use Rattle.semver_req.specs.Requirement.{MatchNoVersion, OverlapAsTags, inner_overlap, inner_text};
 ghost use Rattle.semver_req.specs.Tag.{is_valid_tag};
-ghost use Rattle.semver_req.specs.Written.{comparator_of};
 ghost use Rattle.semver_req.specs.declared.common.values.Flavour.TheVariants.{Normal, Npm};
 
-use crate::common::comparator::{Written, comparator_front};
-use crate::common::hyphen::{HyphenRange, hyphen_front};
+mod pieces;
+
 use crate::common::plain::plain_range;
-use crate::common::separators::after_separator;
 use crate::common::values::Flavour;
 use crate::tag::is_valid_npm_tag;
+pub use pieces::RangeOrInvalid;
+use pieces::{first_piece, read_pieces};
 use semver_base::failure::{ParseFailure, Refusal};
-use semver_base::lexical::after_blanks;
-use semver_base::lexical::values::Measured;
-use semver_base::range::{VersionRange, VersionRangeSet};
+use semver_base::range::VersionRangeSet;
 use semver_base::string::{
     CowVec, SmallStackString, StringAppendable, StringType, append_displayed,
 };
@@ -39,7 +30,7 @@ use std::fmt;
 pub type PackageTag = SmallStackString;
 
 /// Ranges of versions, or the name of a version that a registry keeps.
-#[derive(PartialEq, Eq, Hash, Debug, Drop)]
+#[derive(Debug, PartialEq, Eq, Hash, Drop)]
 pub enum RangeSetOrTag {
     /// Ranges, of which a version need match only one.
     RangeSet(VersionRangeSet),
@@ -47,302 +38,10 @@ pub enum RangeSetOrTag {
     Tag(PackageTag),
 }
 
-/// What is read of a piece of a text, which is what stands between two `||`.
-#[derive(Debug, Drop)]
-pub enum RangeOrInvalid {
-    /// The range of its comparators.
-    Range(VersionRange),
-    /// The piece is bad: it is outside the grammar, or a number or a bound in it is too large.
-    Invalid(Refusal),
-}
-
-// Whether a piece is nothing, or blanks that are followed by `||`.
-fn is_everything(piece: &str, is_followed: bool) -> bool
-    ensures { IsTrue result ↔ IsEverything is_followed piece.now }
-{
-    if is_followed {
-        return after_blanks(piece).is_empty();
-    }
-    piece.is_empty()
-}
-
-impl RangeOrInvalid {
-    // The range of one comparator. It is taken over as it is, and only its start is looked at.
-    #[inline(always)]
-    fn of_one(alloc: Global, written: Written) -> Result<RangeOrInvalid, ParseFailure>
-        ensures value { (p : Partial) → written.partial ≡ sized_partial p
-            → IfOk result (λ read. read ≡ joined (comparator_of written.mark p ∷ [])) }
-        ensures memory { IfErr result (λ failure. failure ≡ None) }
-    {
-        let Written { mark, partial } = written;
-        let Measured::Fits(partial) = partial else {
-            return Ok(RangeOrInvalid::Invalid(Refusal::NumberTooLarge));
-        };
-        match mark.range(alloc, &partial) {
-            Ok(range) => Ok(RangeOrInvalid::Range(range.into_stopped()?)),
-            Err(failure) if failure.is_memory() => Err(failure),
-            Err(_) => Ok(RangeOrInvalid::Invalid(Refusal::BoundTooLarge)),
-        }
-    }
-
-    // The range of these comparators and one more.
-    fn and(self, alloc: Global, written: Written) -> Result<RangeOrInvalid, ParseFailure>
-        ensures value { (cs : List Comparator) (p : Partial) → self ≡ joined cs → written.partial ≡ sized_partial p
-            → IfOk result (λ read. read ≡ joined (cs ++ comparator_of written.mark p ∷ [])) }
-        ensures memory { IfErr result (λ failure. failure ≡ None) }
-    {
-        let Written { mark, partial } = written;
-        let Measured::Fits(partial) = partial else {
-            return Ok(RangeOrInvalid::Invalid(Refusal::NumberTooLarge));
-        };
-        let range = match self {
-            RangeOrInvalid::Range(range) => range,
-            RangeOrInvalid::Invalid(refusal) => return Ok(RangeOrInvalid::Invalid(refusal)),
-        };
-        match mark.range(alloc, &partial) {
-            Ok(next) => Ok(RangeOrInvalid::Range(range.clamp_into(next)?)),
-            Err(failure) if failure.is_memory() => Err(failure),
-            Err(_) => Ok(RangeOrInvalid::Invalid(Refusal::BoundTooLarge)),
-        }
-    }
-
-    // The comparators at the front, with separators between, and what follows them.
-    #[inline(always)]
-    fn comparators(
-        alloc: Global,
-        text: &str,
-        flavour: Flavour,
-    ) -> Result<Option<(RangeOrInvalid, &str)>, ParseFailure>
-        ensures value { IfOk result (λ r. ReadsAs joined (IsComparators flavour) text.now (answer_of r)) }
-        ensures memory { IfErr result (λ failure. failure ≡ None) }
-    {
-        let Some((first, mut rest)) = comparator_front(alloc, text, flavour)? else {
-            return Ok(None);
-        };
-        let mut read = RangeOrInvalid::of_one(alloc, first)?;
-        while let Some(next) = after_separator(rest, flavour) {
-            let Some((written, more)) = comparator_front(alloc, next, flavour)? else {
-                return Ok(Some((read, next)));
-            };
-            read = read.and(alloc, written)?;
-            rest = more;
-        }
-        Ok(Some((read, rest)))
-    }
-
-    // The whole piece as comparators.
-    #[inline(always)]
-    fn list(
-        alloc: Global,
-        piece: &str,
-        flavour: Flavour,
-    ) -> Result<Option<RangeOrInvalid>, ParseFailure>
-        ensures value { IfOk result (IsWholeRead (IsComparators flavour) piece.now) }
-        ensures memory { IfErr result (λ failure. failure ≡ None) }
-    {
-        let Some((read, rest)) = RangeOrInvalid::comparators(alloc, piece, flavour)? else {
-            return Ok(None);
-        };
-        if !rest.is_empty() {
-            return Ok(None);
-        }
-        Ok(Some(read))
-    }
-
-    // The range from the lower bound of the first to the upper bound of the second.
-    fn between(alloc: Global, hyphen: HyphenRange) -> Result<RangeOrInvalid, ParseFailure>
-        ensures value { IfOk result (IsHyphenRead hyphen) }
-        ensures memory { IfErr result (λ failure. failure ≡ None) }
-    {
-        let HyphenRange { lower, upper } = hyphen;
-        let Measured::Fits(lower) = lower else {
-            return Ok(RangeOrInvalid::Invalid(Refusal::NumberTooLarge));
-        };
-        let Measured::Fits(upper) = upper else {
-            return Ok(RangeOrInvalid::Invalid(Refusal::NumberTooLarge));
-        };
-        let start = lower.as_lower_bound(alloc)?;
-        match upper.as_upper_bound(alloc) {
-            Ok(end) => Ok(RangeOrInvalid::Range(VersionRange { start, end })),
-            Err(failure) if failure.is_memory() => Err(failure),
-            Err(_) => Ok(RangeOrInvalid::Invalid(Refusal::BoundTooLarge)),
-        }
-    }
-
-    // The whole piece as a hyphen range.
-    #[inline(always)]
-    fn hyphen(alloc: Global, piece: &str) -> Result<Option<RangeOrInvalid>, ParseFailure>
-        ensures value { IfOk result (IsWholeRead IsHyphen piece.now) }
-        ensures memory { IfErr result (λ failure. failure ≡ None) }
-    {
-        let Some((hyphen, rest)) = hyphen_front(alloc, piece)? else {
-            return Ok(None);
-        };
-        if !rest.is_empty() {
-            return Ok(None);
-        }
-        Ok(Some(RangeOrInvalid::between(alloc, hyphen)?))
-    }
-
-    // The whole piece, which is not empty.
-    #[inline(always)]
-    fn filled(
-        alloc: Global,
-        piece: &str,
-        flavour: Flavour,
-    ) -> Result<Option<RangeOrInvalid>, ParseFailure>
-        ensures value { IfOk result (IsWholeRead (IsFilled flavour) piece.now) }
-        ensures memory { IfErr result (λ failure. failure ≡ None) }
-    {
-        match flavour {
-            Flavour::Npm => match RangeOrInvalid::hyphen(alloc, piece)? {
-                Some(read) => Ok(Some(read)),
-                None => RangeOrInvalid::list(alloc, piece, Flavour::Npm),
-            },
-            Flavour::Normal => RangeOrInvalid::list(alloc, piece, Flavour::Normal),
-            Flavour::Specifier => Ok(None),
-        }
-    }
-
-    /// What a piece of npm's or the normalized grammar is, which is followed by `||` or not: nothing, or blanks that are
-    /// followed by `||`, is the range without bounds; comparators with separators between, and one at the end or none,
-    /// are their ranges clamped to one another; two partial versions round a `-` are npm's hyphen range; anything else
-    /// is bad. It is an error only where no memory is left.
-    pub fn parse(
-        alloc: Global,
-        piece: &str,
-        is_followed: bool,
-        flavour: Flavour,
-    ) -> Result<RangeOrInvalid, ParseFailure>
-        ensures value { IfOk result (IsPieceRead flavour is_followed piece.now) }
-        ensures memory { IfErr result (λ failure. failure ≡ None) }
-    {
-        if is_everything(piece, is_followed) {
-            return Ok(RangeOrInvalid::Range(VersionRange::all()));
-        }
-        match RangeOrInvalid::filled(alloc, piece, flavour)? {
-            Some(read) => Ok(read),
-            None => Ok(RangeOrInvalid::Invalid(Refusal::UnexpectedCharacter)),
-        }
-    }
-
-    /// The range that a set keeps of the piece: none of a bad one, and none that ends below 0.0.0.
-    #[inline(always)]
-    pub fn into_range(self) -> Option<VersionRange>
-        ensures { result ≡ kept_of self }
-    {
-        match self {
-            RangeOrInvalid::Range(range) if range.is_none() => None,
-            RangeOrInvalid::Range(range) => Some(range),
-            RangeOrInvalid::Invalid(_) => None,
-        }
-    }
-}
-
-// The first piece of a text.
-#[derive(Clone, Copy)]
-struct FirstPiece<'a> {
-    piece: &'a str,
-    is_followed: bool,
-    // What follows its `||`, or nothing.
-    rest: &'a str,
-}
-
-// The text before the leftmost `||`, and what follows that.
-fn cut(text: &str) -> Option<(&str, &str)>
-    ensures { MatchOption result (HasNoBar text.now) (λ p. IsCutAt text.now p.0.now p.1.now) }
-{
-    text.split_once("||")
-}
-
-fn first_piece(text: &str) -> FirstPiece<'_>
-    ensures { IsFirstPiece text.now result.piece.now result.is_followed result.rest.now }
-{
-    match cut(text) {
-        Some((piece, rest)) => FirstPiece {
-            piece,
-            is_followed: true,
-            rest,
-        },
-        None => FirstPiece {
-            piece: text,
-            is_followed: false,
-            rest: "",
-        },
-    }
-}
-
-// The next piece of what follows a `||`, and what follows it in turn.
-fn next_piece(rest: &str) -> Option<(&str, &str)>
-    ensures { IsNextPiece rest.now (both_now result) }
-{
-    let start = after_blanks(rest);
-    if start.is_empty() {
-        return None;
-    }
-    Some(cut(start).unwrap_or((start, "")))
-}
-
-// What was read of the pieces of a text.
-#[derive(Drop)]
-struct Alternatives {
-    // The ranges that are kept of the good ones, in order.
-    ranges: CowVec<VersionRange>,
-    // Why the first bad one is bad.
-    refused: Option<Refusal>,
-    // Whether only one piece was read.
-    is_only: bool,
-}
-
-impl Alternatives {
-    // One piece more.
-    #[inline(always)]
-    fn add(&mut self, alloc: Global, read: RangeOrInvalid) -> Result<(), AllocError>
-        ensures { OnOk result (IsOneMore read self.old self.new) }
-    {
-        if let RangeOrInvalid::Invalid(refusal) = &read {
-            self.refused = self.refused.or(Some(*refusal));
-        }
-        if let Some(range) = read.into_range() {
-            if self.ranges.is_empty() {
-                self.ranges = CowVec::of_one(alloc, range)?;
-            } else {
-                self.ranges.push(range)?;
-            }
-        }
-        Ok(())
-    }
-}
-
-// What is read of each piece of a text, whose first one is cut off.
-fn read_pieces(
-    alloc: Global,
-    first: FirstPiece<'_>,
-    flavour: Flavour,
-) -> Result<Alternatives, ParseFailure>
-    requires { IsCutting flavour }
-    ensures value { let f = first.entry in IfOk result (AreAllRead flavour f.piece.now f.is_followed f.rest.now) }
-    ensures memory { IfErr result (λ failure. failure ≡ None) }
-{
-    let mut all = Alternatives {
-        ranges: CowVec::new(alloc),
-        refused: None,
-        is_only: true,
-    };
-    let read = RangeOrInvalid::parse(alloc, first.piece, first.is_followed, flavour)?;
-    all.add(alloc, read)?;
-    let mut rest = first.rest;
-    while let Some((piece, more)) = next_piece(rest) {
-        all.is_only = false;
-        all.add(alloc, RangeOrInvalid::parse(alloc, piece, false, flavour)?)?;
-        rest = more;
-    }
-    Ok(all)
-}
-
 // The text as a tag, or the refusal where it is none.
 fn tag_or(alloc: Global, text: &str, refusal: Refusal) -> Result<RangeSetOrTag, ParseFailure>
-    ensures tag { IfOk result (λ inner. (inner ≡ RangeSetOrTag.Tag text.now) × (is_valid_tag text.now ≡ true)) }
+    ensures tag { IfOk result
+        (λ inner. (inner ≡ RangeSetOrTag.Tag text.now) × (is_valid_tag text.now ≡ true)) }
     ensures no_tag { IfErr result (λ failure. (failure ≡ None)
         ⊎ ((failure ≡ refusal_failure refusal) × (is_valid_tag text.now ≡ false))) }
 {
@@ -374,7 +73,8 @@ impl RangeSetOrTag {
     /// where that is all that is wrong. Any other failure is want of memory.
     pub fn parse(alloc: Global, text: &str) -> Result<RangeSetOrTag, ParseFailure>
         ensures reading { IfOk result (IsReading Normal text.now) }
-        ensures refused { IfErr result (λ failure. (failure ≡ None) ⊎ IsOutcome Normal text.now Refused) }
+        ensures refused { IfErr result
+            (λ failure. (failure ≡ None) ⊎ IsOutcome Normal text.now Refused) }
         ensures refusal { IfErr result (IsCutRefusal Normal text.now) }
     {
         match plain_set(alloc, text)? {
@@ -386,7 +86,8 @@ impl RangeSetOrTag {
     // What the normalized grammar makes of a text, piece by piece.
     fn parse_pieces(alloc: Global, text: &str) -> Result<RangeSetOrTag, ParseFailure>
         ensures reading { IfOk result (IsReading Normal text.now) }
-        ensures refused { IfErr result (λ failure. (failure ≡ None) ⊎ IsOutcome Normal text.now Refused) }
+        ensures refused { IfErr result
+            (λ failure. (failure ≡ None) ⊎ IsOutcome Normal text.now Refused) }
         ensures refusal { IfErr result (IsCutRefusal Normal text.now) }
     {
         let first = first_piece(text);
@@ -407,7 +108,8 @@ impl RangeSetOrTag {
     /// of two or more pieces the bad ones are left out. Any other failure is want of memory.
     pub fn parse_npm(alloc: Global, text: &str) -> Result<RangeSetOrTag, ParseFailure>
         ensures reading { IfOk result (IsReading Npm text.now) }
-        ensures refused { IfErr result (λ failure. (failure ≡ None) ⊎ IsOutcome Npm text.now Refused) }
+        ensures refused { IfErr result
+            (λ failure. (failure ≡ None) ⊎ IsOutcome Npm text.now Refused) }
         ensures refusal { IfErr result (IsCutRefusal Npm (trim text.now)) }
     {
         match plain_set(alloc, text)? {
@@ -419,7 +121,8 @@ impl RangeSetOrTag {
     // What npm's grammar makes of a text, piece by piece.
     fn parse_npm_pieces(alloc: Global, text: &str) -> Result<RangeSetOrTag, ParseFailure>
         ensures reading { IfOk result (IsReading Npm text.now) }
-        ensures refused { IfErr result (λ failure. (failure ≡ None) ⊎ IsOutcome Npm text.now Refused) }
+        ensures refused { IfErr result
+            (λ failure. (failure ≡ None) ⊎ IsOutcome Npm text.now Refused) }
         ensures refusal { IfErr result (IsCutRefusal Npm (trim text.now)) }
     {
         let first = first_piece(text.trim());

@@ -28,7 +28,7 @@ use thiserror::Error;
 /// Two requirements are equal where they stand for the same, whatever their texts are. A requirement is displayed as
 /// its text.
 #[derive(Drop)]
-#[derive_where(PartialEq, Eq, Hash, Debug)]
+#[derive_where(Debug, PartialEq, Eq, Hash)]
 pub struct VersionReq {
     #[derive_where(skip)]
     raw_text: SmallStackString,
@@ -46,7 +46,7 @@ impl Model for VersionReq {
 }
 
 /// Why a text is no normalized requirement, or that memory was wanting.
-#[derive(PartialEq, Eq, Debug, Drop, Error)]
+#[derive(Debug, PartialEq, Eq, Drop, Error)]
 #[error("Invalid normalized version requirement")]
 pub struct VersionReqNormalizedParseError {
     #[source]
@@ -206,11 +206,16 @@ impl VersionReq {
     /// It is an error only where no memory is left.
     pub fn to_string_normalized(&self, alloc: Global) -> Result<String, AllocError>
         ensures text { IfOk result (λ text. string_bytes text ≡ inner_text self.now.inner) }
-        ensures forms { IfOk result (λ text. OfReadRanges IsReadAsForms self.now.inner (string_bytes text)) }
-        ensures means { IfOk result (λ text. OfReadRanges MeansTheSame self.now.inner (string_bytes text)) }
-        ensures kept_means { IfOk result (λ text. OfReadRanges KeepsTheSame self.now.inner (string_bytes text)) }
-        ensures equal { IfOk result (λ text. OfReadRanges KeepsEqual self.now.inner (string_bytes text)) }
-        ensures settled { IfOk result (λ text. OfReadRanges KeepsSettled self.now.inner (string_bytes text)) }
+        ensures forms { IfOk result
+            (λ text. OfReadRanges IsReadAsForms self.now.inner (string_bytes text)) }
+        ensures means { IfOk result
+            (λ text. OfReadRanges MeansTheSame self.now.inner (string_bytes text)) }
+        ensures kept_means { IfOk result
+            (λ text. OfReadRanges KeepsTheSame self.now.inner (string_bytes text)) }
+        ensures equal { IfOk result
+            (λ text. OfReadRanges KeepsEqual self.now.inner (string_bytes text)) }
+        ensures settled { IfOk result
+            (λ text. OfReadRanges KeepsSettled self.now.inner (string_bytes text)) }
     {
         normal_text(alloc, self)
     }

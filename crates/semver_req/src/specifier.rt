@@ -1,13 +1,15 @@
 //! The strict reader, of the requirements in package specifiers.
 
 ghost use Rattle.std.specs.Prelude.{◌≡◌, ◌↔◌, ◌⊎◌, ◌∷◌, [], IfErr, IfOk, IsTrue, None, true};
+ghost use Rattle.semver_base.specs.Grammar.{answer_of};
 ghost use Rattle.semver_base.specs.Lexical.{IsBlanks};
 ghost use Rattle.semver_req.specs.Readers.{IsReaderAnswer, IsReading};
 ghost use Rattle.semver_req.specs.Strict.{IsNoTag, IsStrictRefusal, empty_constraint};
 ghost use Rattle.semver_req.specs.Tag.{is_valid_tag};
+ghost use Rattle.semver_req.specs.Written.{IsUnsigned, ReadsComparator};
 
 use crate::common::comparator::{Written, unsigned_front};
-use crate::common::plain::plain_range;
+use crate::common::plain::{few_unsigned, plain_range};
 use crate::common::values::Flavour;
 use crate::range_set_or_tag::RangeSetOrTag;
 use crate::req::VersionReq;
@@ -21,7 +23,7 @@ use std::alloc::{AllocError, Global};
 use thiserror::Error;
 
 /// Why the text of a package specifier is no requirement, or that memory was wanting.
-#[derive(PartialEq, Eq, Debug, Drop, Error)]
+#[derive(Debug, PartialEq, Eq, Drop, Error)]
 #[error("Invalid specifier version requirement")]
 pub struct VersionReqSpecifierParseError {
     #[source]
@@ -73,8 +75,13 @@ impl From<VersionReqSpecifierParseError> for ParseFailure {
 }
 
 // The whole text as a tag, or the refusal where it is none.
-fn tag_or(alloc: Global, text: &str, refusal: Refusal) -> Result<RangeSetOrTag, ParseFailure>
-    ensures tag { IfOk result (λ inner. (inner ≡ RangeSetOrTag.Tag text.now) × (is_valid_tag text.now ≡ true)) }
+fn whole_text_as_tag(
+    alloc: Global,
+    text: &str,
+    refusal: Refusal,
+) -> Result<RangeSetOrTag, ParseFailure>
+    ensures tag { IfOk result
+        (λ inner. (inner ≡ RangeSetOrTag.Tag text.now) × (is_valid_tag text.now ≡ true)) }
     ensures no_tag { IfErr result (IsNoTag text.now refusal) }
 {
     if is_valid_npm_tag(text) {
@@ -94,23 +101,35 @@ fn only(alloc: Global, range: VersionRange) -> Result<VersionRangeSet, AllocErro
     Ok(VersionRangeSet(CowVec::of_one(alloc, range)?))
 }
 
+// The comparator at the front, and what follows it; in the short way where the text is one of few numbers.
+#[inline(always)]
+fn front(alloc: Global, text: &str) -> Result<Option<(Written, &str)>, AllocError>
+    ensures { IfOk result
+        (λ r. ReadsComparator (IsUnsigned Flavour.Specifier) text.now (answer_of r)) }
+{
+    match few_unsigned(alloc, text) {
+        Some(written) => Ok(Some((written, ""))),
+        None => unsigned_front(alloc, text, Flavour::Specifier),
+    }
+}
+
 // What the text stands for, by the grammar from its front on.
 fn read_long(alloc: Global, text: &str) -> Result<RangeSetOrTag, ParseFailure>
     ensures reading { IfOk result (IsReading Flavour.Specifier text.now) }
     ensures refusal { IfErr result (IsStrictRefusal text.now) }
 {
-    let Some((written, rest)) = unsigned_front(alloc, text, Flavour::Specifier)? else {
-        return tag_or(alloc, text, Refusal::UnexpectedCharacter);
+    let Some((written, rest)) = front(alloc, text)? else {
+        return whole_text_as_tag(alloc, text, Refusal::UnexpectedCharacter);
     };
     let Written { mark, partial } = written;
     let Measured::Fits(partial) = partial else {
-        return tag_or(alloc, text, Refusal::NumberTooLarge);
+        return whole_text_as_tag(alloc, text, Refusal::NumberTooLarge);
     };
     match mark.range(alloc, &partial) {
         Ok(range) if rest.is_empty() => Ok(RangeSetOrTag::RangeSet(only(alloc, range)?)),
         Ok(_) => Err(ParseFailure::of_refusal(alloc, Refusal::UnexpectedCharacter)),
         Err(failure) if failure.is_memory() => Err(failure),
-        Err(_) => tag_or(alloc, text, Refusal::BoundTooLarge),
+        Err(_) => whole_text_as_tag(alloc, text, Refusal::BoundTooLarge),
     }
 }
 
@@ -141,7 +160,8 @@ pub fn parse_version_req_from_specifier(
 ) -> Result<VersionReq, VersionReqSpecifierParseError>
     ensures reads { IsReaderAnswer (λ e. e.source) Flavour.Specifier text.now result }
     ensures refusal { IfErr result (λ e. IsStrictRefusal text.now e.source) }
-    ensures empty { IsBlanks text.now tt → IfErr result (λ e. (e.source ≡ None) ⊎ (e.source ≡ empty_constraint)) }
+    ensures empty { IsBlanks text.now tt
+        → IfErr result (λ e. (e.source ≡ None) ⊎ (e.source ≡ empty_constraint)) }
     ensures empty_only { IfErr result (λ e. e.source ≡ empty_constraint → IsBlanks text.now tt) }
 {
     let inner = read(alloc, text)?;
@@ -158,8 +178,10 @@ impl VersionReq {
     ) -> Result<VersionReq, VersionReqSpecifierParseError>
         ensures reads { IsReaderAnswer (λ e. e.source) Flavour.Specifier text.now result }
         ensures refusal { IfErr result (λ e. IsStrictRefusal text.now e.source) }
-        ensures empty { IsBlanks text.now tt → IfErr result (λ e. (e.source ≡ None) ⊎ (e.source ≡ empty_constraint)) }
-        ensures empty_only { IfErr result (λ e. e.source ≡ empty_constraint → IsBlanks text.now tt) }
+        ensures empty { IsBlanks text.now tt
+            → IfErr result (λ e. (e.source ≡ None) ⊎ (e.source ≡ empty_constraint)) }
+        ensures empty_only { IfErr result
+            (λ e. e.source ≡ empty_constraint → IsBlanks text.now tt) }
     {
         parse_version_req_from_specifier(alloc, text)
     }

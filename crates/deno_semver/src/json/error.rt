@@ -6,7 +6,7 @@ use std::alloc::AllocError;
 use thiserror::Error;
 
 /// Why no value is read of a JSON value, or that memory was wanting.
-#[derive(PartialEq, Eq, Debug, Drop, Error)]
+#[derive(Debug, PartialEq, Eq, Drop, Error)]
 pub enum JsonError {
     /// The JSON value has another form, lacks a member, or holds a text that its reader refuses.
     #[error("Invalid JSON value")]

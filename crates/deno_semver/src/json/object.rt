@@ -147,13 +147,13 @@ impl JsonForm for VersionRange {
     }
 }
 
-// The JSON of the ranges, in order.
-fn items_json(alloc: Global, ranges: &[VersionRange]) -> Result<Vec<Value>, AllocError>
-    ensures { IfOk result (λ items. map view items.items ≡ map range_json ranges.now) }
+/// The JSON of the values, in order.
+pub(super) fn items_json<T: JsonForm>(alloc: Global, values: &[T]) -> Result<Vec<Value>, AllocError>
+    ensures { IfOk result (λ items. map view items.items ≡ map T.json values.now) }
 {
     let mut items = Vec::new(alloc);
-    for range in ranges {
-        items.push(range.to_json(alloc)?)?;
+    for value in values {
+        items.push(value.to_json(alloc)?)?;
     }
     Ok(items)
 }

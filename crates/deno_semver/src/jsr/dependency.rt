@@ -68,7 +68,7 @@ impl JsrDepPackageReqParseError {
 /// A requirement of a package of npm or of JSR, on which a JSR package depends.
 ///
 /// Two are ordered by their registries, JSR below npm, and then by their requirements.
-#[derive(PartialEq, Eq, Hash, Debug, Drop)]
+#[derive(Debug, PartialEq, Eq, Hash, Drop)]
 pub struct JsrDepPackageReq {
     pub kind: PackageKind,
     pub req: PackageReq,

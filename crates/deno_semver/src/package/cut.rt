@@ -3,6 +3,7 @@
 ghost use Rattle.std.specs.Prelude.{◌≡◌, ◌⊎◌, IfErr, IfOk, length, ◌==◌};
 ghost use Rattle.std.specs.List.{list_any, take_while};
 ghost use Rattle.std.specs.Option.{option_copied};
+ghost use Rattle.semver_base.specs.Characters.{slash};
 ghost use Rattle.semver_base.specs.Grammar.{CutsRun, Stops};
 ghost use Rattle.deno_semver.specs.Cuts.{is_not};
 ghost use Rattle.deno_semver.specs.PackageSteps.{IsCut, IsUncut};
@@ -35,21 +36,21 @@ pub(crate) fn without_slash(text: &str) -> &str
 
 // How many bytes stand before the first `/`.
 fn before_slash(bytes: &[u8]) -> usize
-    ensures { result ≡ length (take_while (is_not 47) bytes.now) }
+    ensures { result ≡ length (take_while (is_not slash) bytes.now) }
 {
     bytes.iter().take_while(|b| **b != b'/').count()
 }
 
 // What stands before the first `/`, and what follows from that on.
-fn split_part(text: &str) -> (&str, &str)
-    ensures { CutsRun (is_not 47) text.now result.0.now result.1.now }
+fn segment_and_rest(text: &str) -> (&str, &str)
+    ensures { CutsRun (is_not slash) text.now result.0.now result.1.now }
 {
     text.split_at(before_slash(text.as_bytes()))
 }
 
 // What follows the `/` at the front, or nothing.
 fn path_of(tail: &str) -> &str
-    ensures { Stops (is_not 47) tail.now → IsPathPart tail.now result.now }
+    ensures { Stops (is_not slash) tail.now → IsPathPart tail.now result.now }
 {
     match after(tail, '/') {
         Some(path) => path,
@@ -58,7 +59,7 @@ fn path_of(tail: &str) -> &str
 }
 
 /// What stands before the last `@`, and after it.
-pub(crate) fn split_name(last: &str) -> (&str, Option<&str>)
+pub(crate) fn name_and_version(last: &str) -> (&str, Option<&str>)
     ensures { IsNamePart last.now result.0.now (option_copied result.1) }
 {
     match last.rsplit_once('@') {
@@ -82,12 +83,12 @@ pub(crate) fn parts_of(text: &str) -> Result<Cut<'_>, PackageReqPartsParseError>
         (option_copied c.version) c.tail.now c.path.now) }
     ensures uncut { IfErr result (IsUncut text.now) }
 {
-    let (first, tail) = split_part(without_slash(text));
+    let (first, tail) = segment_and_rest(without_slash(text));
     if first.is_empty() {
         return Err(PackageReqPartsParseError::NoPackageName);
     }
     if !starts_with_at(first) {
-        let (name, version) = split_name(first);
+        let (name, version) = name_and_version(first);
         return Ok(Cut {
             scope: None,
             name,
@@ -96,11 +97,11 @@ pub(crate) fn parts_of(text: &str) -> Result<Cut<'_>, PackageReqPartsParseError>
             path: path_of(tail),
         });
     }
-    let (last, tail) = split_part(path_of(tail));
+    let (last, tail) = segment_and_rest(path_of(tail));
     if last.is_empty() {
         return Err(PackageReqPartsParseError::InvalidPackageName);
     }
-    let (name, version) = split_name(last);
+    let (name, version) = name_and_version(last);
     Ok(Cut {
         scope: Some(first),
         name,
@@ -111,7 +112,7 @@ pub(crate) fn parts_of(text: &str) -> Result<Cut<'_>, PackageReqPartsParseError>
 }
 
 fn holds_slash(bytes: &[u8]) -> bool
-    ensures { result ≡ list_any (λ b. b == 47) bytes.now }
+    ensures { result ≡ list_any (λ b. b == slash) bytes.now }
 {
     bytes.iter().any(|b| *b == b'/')
 }

@@ -11,7 +11,7 @@ use std::alloc::{AllocError, Global};
 use thiserror::Error;
 
 /// What is wrong in the text of a package, or that memory was wanting.
-#[derive(PartialEq, Eq, Debug, Drop, Error)]
+#[derive(Debug, PartialEq, Eq, Drop, Error)]
 pub enum PackageReqPartsParseError {
     /// Nothing stands before the first `/`, or before the end.
     #[error("Did not contain a package name")]

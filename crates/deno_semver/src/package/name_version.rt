@@ -2,6 +2,7 @@
 
 ghost use Rattle.std.specs.Prelude.{◌≡◌, ◌↔◌, ◌⊎◌, [], IfErr, IfOk, IsTrue, List, MatchOption, Ok, Result, length, ℕ};
 ghost use Rattle.std.specs.List.{take_while};
+ghost use Rattle.semver_base.specs.Characters.{at_sign};
 ghost use Rattle.semver_base.specs.Grammar.{CutsRun};
 ghost use Rattle.semver_base.specs.VersionText.{ReadsBack};
 ghost use Rattle.semver_base.specs.declared.failure.Refusal.{Refusal};
@@ -93,7 +94,7 @@ struct Parts<'a> {
 
 // How many bytes stand before the first `@`.
 fn before_at(bytes: &[u8]) -> usize
-    ensures { result ≡ length (take_while (is_not 64) bytes.now) }
+    ensures { result ≡ length (take_while (is_not at_sign) bytes.now) }
 {
     bytes.iter().take_while(|b| **b != b'@').count()
 }
@@ -109,7 +110,7 @@ fn name_len(bytes: &[u8]) -> usize
 }
 
 // The name at the front, and what follows it.
-fn split_name(text: &str) -> (&str, &str)
+fn name_front(text: &str) -> (&str, &str)
     ensures { IsNameCut text.now result.0.now result.1.now }
 {
     text.split_at(name_len(text.as_bytes()))
@@ -140,7 +141,7 @@ fn cut(text: &str) -> Option<Parts<'_>>
     ensures { MatchOption result (IsNoNvText text.now)
         (λ p. IsNvText text.now p.name.now p.version.now p.rest.now) }
 {
-    let (name, rest) = split_name(text);
+    let (name, rest) = name_front(text);
     let Some(rest) = after(rest, '@') else {
         return None;
     };

@@ -55,7 +55,7 @@ impl PackageNvReferenceParseError {
 /// A reference to one version of a package, and to a module in it by its path, if one is named.
 ///
 /// Two are ordered by their names and versions, and then by their paths as texts, an absent one first.
-#[derive(PartialEq, Eq, Hash, Debug, Drop)]
+#[derive(Debug, PartialEq, Eq, Hash, Drop)]
 pub struct PackageNvReference {
     pub nv: PackageNv,
     pub sub_path: Option<PackageSubPath>,

@@ -6,7 +6,7 @@ ghost use Rattle.deno_semver.specs.ReferenceReading.{FindsVersion, IsReferenceRe
 ghost use Rattle.deno_semver.specs.ReferenceText.{reference_text, sub_path_of, text_with_version};
 ghost use Rattle.deno_semver.specs.declared.package.reference.PackageReqReference.{PackageReqReference};
 
-use super::cut::split_name;
+use super::cut::name_and_version;
 use super::errors::PackageReqPartsParseError;
 use super::kind::PackageKind;
 use super::read::read_with_path;
@@ -25,7 +25,7 @@ use std::fmt;
 ///
 /// Two are equal where their requirements and their paths are. It is displayed as its requirement, with `/` and the path
 /// after it.
-#[derive(PartialEq, Eq, Hash, Debug, Drop)]
+#[derive(Debug, PartialEq, Eq, Hash, Drop)]
 pub struct PackageReqReference {
     pub req: PackageReq,
     pub sub_path: Option<PackageSubPath>,
@@ -88,7 +88,7 @@ fn version_in_path(reference: &PackageReqReference) -> Option<(&str, &str)>
     let Some(path) = &reference.sub_path else {
         return None;
     };
-    match split_name(path.as_str()) {
+    match name_and_version(path.as_str()) {
         (before, Some(version)) => Some((before, version)),
         (_, None) => None,
     }

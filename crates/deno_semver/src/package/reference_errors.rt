@@ -10,7 +10,7 @@ use std::alloc::AllocError;
 use thiserror::Error;
 
 /// Why a text is no reference to a package, or that memory was wanting.
-#[derive(PartialEq, Eq, Debug, Drop, Error)]
+#[derive(Debug, PartialEq, Eq, Drop, Error)]
 pub enum PackageReqReferenceParseError {
     /// The text doesn't begin with the scheme of this registry.
     #[error("Not {} specifier", .0.scheme_with_colon())]
@@ -27,7 +27,7 @@ pub enum PackageReqReferenceParseError {
 }
 
 /// The whole text of a reference, and what is wrong in it.
-#[derive(PartialEq, Eq, Debug, Drop, Error)]
+#[derive(Debug, PartialEq, Eq, Drop, Error)]
 #[error("Invalid package specifier '{specifier}'")]
 pub struct PackageReqReferenceInvalidParseError {
     pub specifier: StackString,
@@ -37,7 +37,7 @@ pub struct PackageReqReferenceInvalidParseError {
 
 /// A reference to any version, with a version in its path: the registry, how it is written now, and how it would be with
 /// that version behind the name.
-#[derive(PartialEq, Eq, Debug, Drop, Error)]
+#[derive(Debug, PartialEq, Eq, Drop, Error)]
 #[error("Invalid package specifier '{}{current}'. Did you mean to write '{}{suggested}'? If not, add a version requirement to the specifier.", .kind.scheme_with_colon(), .kind.scheme_with_colon())]
 pub struct PackageReqReferenceInvalidWithVersionParseError {
     pub kind: PackageKind,

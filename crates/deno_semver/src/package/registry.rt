@@ -42,7 +42,7 @@ pub trait Registry {
 ///
 /// Two are equal where their requirements and their paths are.
 #[derive(Drop)]
-#[derive_where(PartialEq, Eq, Hash, Debug)]
+#[derive_where(Debug, PartialEq, Eq, Hash)]
 pub struct RegistryReqReference<R> {
     reference: PackageReqReference,
     #[derive_where(skip)]
@@ -165,7 +165,7 @@ impl<R: Registry> StringAppendable for RegistryReqReference<R> {
 ///
 /// Two are ordered by their names and versions, and then by their paths as texts, an absent one first.
 #[derive(Drop)]
-#[derive_where(PartialEq, Eq, Hash, Debug)]
+#[derive_where(Debug, PartialEq, Eq, Hash)]
 pub struct RegistryNvReference<R> {
     reference: PackageNvReference,
     #[derive_where(skip)]

@@ -26,7 +26,7 @@ pub type PackageSubPath = SmallStackString;
 ///
 /// Two are equal where the names are and the requirements of versions stand for the same. It is displayed as its name,
 /// with `@` and the text of the requirement after it unless that is `*`.
-#[derive(PartialEq, Eq, Hash, Debug, Drop)]
+#[derive(Debug, PartialEq, Eq, Hash, Drop)]
 pub struct PackageReq {
     pub name: PackageName,
     pub version_req: VersionReq,
@@ -68,7 +68,7 @@ impl StringAppendable for PackageReq {
 /// A package's name and one version of it.
 ///
 /// Two are ordered by their names as texts, and then by their versions.
-#[derive(PartialEq, Eq, Hash, Debug, Drop)]
+#[derive(Debug, PartialEq, Eq, Hash, Drop)]
 pub struct PackageNv {
     pub name: PackageName,
     pub version: Version,

@@ -43,7 +43,8 @@ impl VersionRangeSet {
         range: &VersionRange,
         start: &RangeBound,
     ) -> Result<Option<Version>, AllocError>
-        ensures { IfOk result (λ least. least ≡ least_from (all_mean self.now.0 others.now) range.now start.now) }
+        ensures { IfOk result
+            (λ least. least ≡ least_from (all_mean self.now.0 others.now) range.now start.now) }
     {
         let release = self.kept_by_all(others, least_release(alloc, start));
         let by_start = self.kept_by_all(others, least_pre(alloc, start, &range.start)?);
@@ -60,7 +61,8 @@ impl VersionRangeSet {
         found: Option<Version>,
         set: &VersionRangeSet,
     ) -> Result<Option<Version>, AllocError>
-        ensures { IfOk result (λ least. least ≡ least_by_starts (all_mean self.now.0 others.now) range.now found set.now.0) }
+        ensures { IfOk result (λ least.
+            least ≡ least_by_starts (all_mean self.now.0 others.now) range.now found set.now.0) }
     {
         let mut least = found;
         for other in set.0.as_slice() {
@@ -77,7 +79,8 @@ impl VersionRangeSet {
         range: &VersionRange,
         found: Option<Version>,
     ) -> Result<Option<Version>, AllocError>
-        ensures { IfOk result (λ least. least ≡ least_by_sets (all_mean self.now.0 others.now) range.now found others.now) }
+        ensures { IfOk result (λ least.
+            least ≡ least_by_sets (all_mean self.now.0 others.now) range.now found others.now) }
     {
         let mut least = found;
         for set in others {

@@ -77,8 +77,10 @@ fn is_next_patch(start: &Version, end: &Version) -> bool
 
 // The form from `start` up to `end`: the first that fits.
 fn closed_form(start: &Version, end: &Version) -> Form
-    ensures { shortest_between VersionBoundKind.Inclusive VersionBoundKind.Inclusive start.now end.now
-        ≡ form_comparators result VersionBoundKind.Inclusive VersionBoundKind.Inclusive start.now end.now }
+    ensures { shortest_between VersionBoundKind.Inclusive VersionBoundKind.Inclusive
+        start.now end.now
+        ≡ form_comparators result VersionBoundKind.Inclusive VersionBoundKind.Inclusive
+        start.now end.now }
 {
     if start == end {
         return Form::Whole;
@@ -91,8 +93,10 @@ fn closed_form(start: &Version, end: &Version) -> Form
 
 // The form from `start` to below `end`: the first that fits.
 fn half_open_form(start: &Version, end: &Version) -> Form
-    ensures { shortest_between VersionBoundKind.Inclusive VersionBoundKind.Exclusive start.now end.now
-        ≡ form_comparators result VersionBoundKind.Inclusive VersionBoundKind.Exclusive start.now end.now }
+    ensures { shortest_between VersionBoundKind.Inclusive VersionBoundKind.Exclusive
+        start.now end.now
+        ≡ form_comparators result VersionBoundKind.Inclusive VersionBoundKind.Exclusive
+        start.now end.now }
 {
     if is_plain(start, start.major, 0, 0) && is_next_major(start, end) {
         return Form::Major;
@@ -134,7 +138,8 @@ fn form_between(start: &VersionBound, end: &VersionBound) -> Form
 // Writes what leads the version, and the version.
 #[inline(always)]
 fn write_led<W: fmt::Write>(f: &mut fmt::Formatter<W>, lead: &str, version: &Version) -> fmt::Result
-    ensures { DisplaysOnOk W.write_str_gives f.old result (Some (lead.now ++ version_text version.now)) f.new }
+    ensures { DisplaysOnOk W.write_str_gives f.old result
+        (Some (lead.now ++ version_text version.now)) f.new }
 {
     f.write_str(lead)?;
     fmt::Display::fmt(version, f)

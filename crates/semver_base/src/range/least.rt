@@ -185,7 +185,8 @@ impl VersionRange {
     ) -> Result<Option<Version>, AllocError>
         ensures least { IfOk result (IsLeast (both_mean self.now other.now)) }
         ensures no_build { IfOk result (λ least. IfSome least HasNoBuild) }
-        ensures reads_back { IfOk result (λ least. IsWritableRange self.now → IsWritableRange other.now
+        ensures reads_back { IfOk result
+            (λ least. IsWritableRange self.now → IsWritableRange other.now
             → IfSome least ReadsBack) }
     {
         let start = self.start.clamp_start(alloc, &other.start)?;
@@ -201,7 +202,8 @@ impl VersionRange {
     pub fn min_version(&self, alloc: Global) -> Result<Option<Version>, AllocError>
         ensures least { IfOk result (IsLeast (range_means self.now)) }
         ensures no_build { IfOk result (λ least. IfSome least HasNoBuild) }
-        ensures reads_back { IfOk result (λ least. IsWritableRange self.now → IfSome least ReadsBack) }
+        ensures reads_back { IfOk result
+            (λ least. IsWritableRange self.now → IfSome least ReadsBack) }
     {
         self.common_version(alloc, self)
     }
@@ -214,9 +216,11 @@ impl VersionRangeSet {
         alloc: Global,
         range: &VersionRange,
     ) -> Result<Option<Version>, AllocError>
-        ensures least { IfOk result (IsLeast (λ v. range_means range.now v && list_any (λ own. range_means own v) self.now.0)) }
+        ensures least { IfOk result (IsLeast
+            (λ v. range_means range.now v && list_any (λ own. range_means own v) self.now.0)) }
         ensures no_build { IfOk result (λ least. IfSome least HasNoBuild) }
-        ensures reads_back { IfOk result (λ least. IsWritableRange range.now → AreWritableRanges self.now.0
+        ensures reads_back { IfOk result
+            (λ least. IsWritableRange range.now → AreWritableRanges self.now.0
             → IfSome least ReadsBack) }
     {
         let mut least = None;
@@ -239,7 +243,8 @@ impl VersionRangeSet {
     ) -> Result<Option<Version>, AllocError>
         ensures least { IfOk result (IsLeast (sets_mean self.now.0 other.now.0)) }
         ensures no_build { IfOk result (λ least. IfSome least HasNoBuild) }
-        ensures reads_back { IfOk result (λ least. AreWritableRanges self.now.0 → AreWritableRanges other.now.0
+        ensures reads_back { IfOk result
+            (λ least. AreWritableRanges self.now.0 → AreWritableRanges other.now.0
             → IfSome least ReadsBack) }
     {
         let mut least = None;
@@ -255,7 +260,8 @@ impl VersionRangeSet {
     pub fn min_version(&self, alloc: Global) -> Result<Option<Version>, AllocError>
         ensures least { IfOk result (IsLeast (set_means self.now.0)) }
         ensures no_build { IfOk result (λ least. IfSome least HasNoBuild) }
-        ensures reads_back { IfOk result (λ least. AreWritableRanges self.now.0 → IfSome least ReadsBack) }
+        ensures reads_back { IfOk result
+            (λ least. AreWritableRanges self.now.0 → IfSome least ReadsBack) }
     {
         let mut least = None;
         for range in self.0.as_slice() {

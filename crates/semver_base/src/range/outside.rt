@@ -51,7 +51,8 @@ impl VersionRange {
         others: &VersionRangeSet,
         start: &RangeBound,
     ) -> Result<Option<Version>, AllocError>
-        ensures { IfOk result (λ least. least ≡ least_from (means_alone self.now others.now.0) self.now start.now) }
+        ensures { IfOk result
+            (λ least. least ≡ least_from (means_alone self.now others.now.0) self.now start.now) }
     {
         let release = self.kept_alone(others, least_release(alloc, start));
         let by_start = self.kept_alone(others, least_pre(alloc, start, &self.start)?);
@@ -102,7 +103,8 @@ impl VersionRange {
     ) -> Result<Option<Version>, AllocError>
         ensures least { IfOk result (IsLeast (means_alone self.now others.now.0)) }
         ensures no_build { IfOk result (λ least. IfSome least HasNoBuild) }
-        ensures reads_back { IfOk result (λ least. IsWritableRange self.now → AreWritableRanges others.now.0
+        ensures reads_back { IfOk result
+            (λ least. IsWritableRange self.now → AreWritableRanges others.now.0
             → IfSome least ReadsBack) }
     {
         self.least_outside(alloc, others)
@@ -125,7 +127,8 @@ impl VersionRangeSet {
     ) -> Result<Option<Version>, AllocError>
         ensures least { IfOk result (IsLeast (set_means_alone self.now.0 other.now.0)) }
         ensures no_build { IfOk result (λ least. IfSome least HasNoBuild) }
-        ensures reads_back { IfOk result (λ least. AreWritableRanges self.now.0 → AreWritableRanges other.now.0
+        ensures reads_back { IfOk result
+            (λ least. AreWritableRanges self.now.0 → AreWritableRanges other.now.0
             → IfSome least ReadsBack) }
     {
         let mut least = None;
@@ -145,7 +148,8 @@ impl VersionRangeSet {
     /// It is an error only where no memory is left.
     pub fn is_subset(&self, alloc: Global, other: &VersionRangeSet) -> Result<bool, AllocError>
         ensures value { IfOk result (TellsWithin (set_means self.now.0) (set_means other.now.0)) }
-        ensures exact { IfOk result (λ told. AreWritableRanges self.now.0 → AreWritableRanges other.now.0
+        ensures exact { IfOk result
+            (λ told. AreWritableRanges self.now.0 → AreWritableRanges other.now.0
             → (IsTrue told ↔ IsWithin (set_means self.now.0) (set_means other.now.0))) }
     {
         let outside = self.version_outside(alloc, other)?;
@@ -159,8 +163,10 @@ impl VersionRangeSet {
     ///
     /// It is an error only where no memory is left.
     pub fn is_equivalent(&self, alloc: Global, other: &VersionRangeSet) -> Result<bool, AllocError>
-        ensures value { IfOk result (TellsEquivalent (set_means self.now.0) (set_means other.now.0)) }
-        ensures exact { IfOk result (λ told. AreWritableRanges self.now.0 → AreWritableRanges other.now.0
+        ensures value { IfOk result
+            (TellsEquivalent (set_means self.now.0) (set_means other.now.0)) }
+        ensures exact { IfOk result
+            (λ told. AreWritableRanges self.now.0 → AreWritableRanges other.now.0
             → (IsTrue told ↔ AreEquivalent (set_means self.now.0) (set_means other.now.0))) }
     {
         if !self.is_subset(alloc, other)? {

@@ -39,9 +39,12 @@ impl Mark {
     /// 18446744073709551615; any other failure is want of memory.
     #[inline(always)]
     pub fn range(self, alloc: Global, partial: &Partial) -> Result<VersionRange, ParseFailure>
-        ensures range { IfOk result (λ range. range ≡ comparator_range (comparator_of self partial.now)) }
-        ensures fits { OnOk result (all_fit (comparator_line (comparator_of self partial.now)).sums ≡ true) }
-        ensures refused { IfErr result (IsBoundRefusal (comparator_line (comparator_of self partial.now)).sums) }
+        ensures range { IfOk result
+            (λ range. range ≡ comparator_range (comparator_of self partial.now)) }
+        ensures fits { OnOk result
+            (all_fit (comparator_line (comparator_of self partial.now)).sums ≡ true) }
+        ensures refused { IfErr result
+            (IsBoundRefusal (comparator_line (comparator_of self partial.now)).sums) }
     {
         match self {
             Mark::Tilde => partial.as_tilde_version_range(alloc),
@@ -53,7 +56,7 @@ impl Mark {
 }
 
 /// A comparator as it is written.
-#[derive(Debug)]
+#[derive(Debug, Drop)]
 pub struct Written {
     pub mark: Mark,
     /// The partial version after the mark; `Measured::TooLarge` where a number in it is past 18446744073709551615.
@@ -109,7 +112,7 @@ pub fn normal_front(alloc: Global, text: &str) -> Result<Option<(Written, &str)>
 }
 
 // What follows any number of `=`.
-fn after_equals(text: &str) -> &str
+fn after_every_equals(text: &str) -> &str
     ensures { IsLongest IsEquals text.now tt result.now }
 {
     let mut rest = text;
@@ -123,7 +126,7 @@ fn after_equals(text: &str) -> &str
 fn led_partial(alloc: Global, text: &str) -> Result<Option<(Measured<Partial>, &str)>, AllocError>
     ensures { IfOk result (λ r. ReadsAs sized_partial IsLed text.now (answer_of r)) }
 {
-    let start = after_blanks(after_equals(text));
+    let start = after_blanks(after_every_equals(text));
     match after(start, 'v') {
         Some(rest) => partial_front(alloc, after_blanks(rest), Flavour::Npm),
         None => plain_partial(alloc, start, Flavour::Npm),

@@ -1,20 +1,26 @@
-//! Comparators of plain texts, which are a mark and three numbers and nothing else.
+//! Comparators of plain texts, which are a mark and three numbers, or fewer, and nothing else.
+//!
+//! Most comparators are such texts. What is read so is a comparator by the grammar, and a text stands for one thing alone;
+//! so each reader asks here first, and takes the long way where it is told nothing.
 
-ghost use Rattle.std.specs.Prelude.{IfSome};
+ghost use Rattle.std.specs.Prelude.{◌≡◌, ◌++◌, ◌∷◌, IfSome};
 ghost use Rattle.semver_base.specs.Comparators.{comparator_line};
 ghost use Rattle.semver_base.specs.PartialTable.{IsLineRange, of_numbers};
-ghost use Rattle.semver_req.specs.PlainComparators.{IsPlainComparator};
+ghost use Rattle.semver_req.specs.PlainComparators.{IsFewAlone, IsFewMarked, IsFewPair, IsFewUnsigned, IsPlainComparator, IsUnclosed, mark_text};
 ghost use Rattle.semver_req.specs.Written.{comparator_of};
 
-use crate::common::comparator::{Mark, split_mark};
-use semver_base::plain::{Numbers, plain_numbers};
+use crate::common::comparator::{Mark, Written, split_mark};
+use crate::common::values::PrimitiveKind;
+use semver_base::lexical::values::Measured;
+use semver_base::plain::{Numbers, few_numbers, plain_numbers};
 use semver_base::range::VersionRange;
 use std::alloc::Global;
 
 // The range of the mark and three numbers, where its bounds fit; none of a sign.
 #[inline(always)]
 fn numbers_range(alloc: Global, mark: Mark, numbers: Numbers) -> Option<VersionRange>
-    ensures { IfSome result (IsLineRange (comparator_line (comparator_of mark (of_numbers numbers)))) }
+    ensures { IfSome result
+        (IsLineRange (comparator_line (comparator_of mark (of_numbers numbers)))) }
 {
     match mark {
         Mark::Tilde => numbers.tilde_range(alloc),
@@ -33,4 +39,83 @@ pub fn plain_range(alloc: Global, text: &str) -> Option<VersionRange>
     let (mark, rest) = split_mark(text);
     let numbers = plain_numbers(rest)?;
     numbers_range(alloc, mark, numbers)
+}
+
+/// The comparator that is `~`, `^` or nothing before one to three numbers, where that is the whole text. Where it answers
+/// `None` nothing is known of the text.
+#[inline(always)]
+pub fn few_unsigned(alloc: Global, text: &str) -> Option<Written>
+    ensures { IfSome result (IsFewUnsigned text.now) }
+{
+    let (mark, rest) = split_mark(text);
+    let numbers = few_numbers(rest.as_bytes())?;
+    let partial = Measured::Fits(numbers.into_partial(alloc));
+    Some(Written { mark, partial })
+}
+
+// The mark at the front, and what follows it.
+#[inline(always)]
+fn after_any_mark(text: &[u8]) -> (Mark, &[u8])
+    ensures { text.now ≡ mark_text result.0 ++ result.1.now }
+{
+    match text {
+        [b'~', rest @ ..] => (Mark::Tilde, rest),
+        [b'^', rest @ ..] => (Mark::Caret, rest),
+        [b'>', b'=', rest @ ..] => (Mark::Sign(PrimitiveKind::GreaterThanOrEqual), rest),
+        [b'>', rest @ ..] => (Mark::Sign(PrimitiveKind::GreaterThan), rest),
+        [b'<', b'=', rest @ ..] => (Mark::Sign(PrimitiveKind::LessThanOrEqual), rest),
+        [b'<', rest @ ..] => (Mark::Sign(PrimitiveKind::LessThan), rest),
+        [b'=', rest @ ..] => (Mark::Sign(PrimitiveKind::Equal), rest),
+        _ => (Mark::Absent, text),
+    }
+}
+
+// The text without the blank that ends it, or the whole text.
+#[inline(always)]
+fn unclosed(text: &[u8]) -> &[u8]
+    ensures { IsUnclosed text.now result.now }
+{
+    match text {
+        [shorter @ .., b' '] => shorter,
+        _ => text,
+    }
+}
+
+// The comparator that is a mark or none before one to three numbers, where that is the whole text.
+#[inline(always)]
+fn few_marked(alloc: Global, text: &[u8]) -> Option<Written>
+    ensures { IfSome result (IsFewMarked text.now) }
+{
+    let (mark, rest) = after_any_mark(text);
+    let numbers = few_numbers(rest)?;
+    let partial = Measured::Fits(numbers.into_partial(alloc));
+    Some(Written { mark, partial })
+}
+
+/// The comparator that is a mark or none before one to three numbers, where that is the whole piece, by npm's and by the
+/// normalized grammar; a blank may end the piece. Where it answers `None` nothing is known of the piece.
+#[inline(always)]
+pub fn few_alone(alloc: Global, piece: &str) -> Option<Written>
+    ensures { IfSome result (IsFewAlone piece.now) }
+{
+    few_marked(alloc, unclosed(piece.as_bytes()))
+}
+
+// What stands before the first blank, and what follows it.
+#[inline(always)]
+fn at_blank(text: &str) -> Option<(&str, &str)>
+    ensures { IfSome result (λ p. text.now ≡ p.0.now ++ 32 ∷ p.1.now) }
+{
+    text.split_once(' ')
+}
+
+/// The two such comparators with a blank between that are the whole piece.
+#[inline(always)]
+pub fn few_pair(alloc: Global, piece: &str) -> Option<(Written, Written)>
+    ensures { IfSome result (λ p. IsFewPair piece.now p.0 p.1) }
+{
+    let (front, back) = at_blank(piece)?;
+    let first = few_marked(alloc, front.as_bytes())?;
+    let second = few_alone(alloc, back)?;
+    Some((first, second))
 }

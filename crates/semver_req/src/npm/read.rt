@@ -14,7 +14,7 @@ use std::alloc::{AllocError, Global};
 use thiserror::Error;
 
 /// Why a text is no requirement of npm's grammar, or that memory was wanting.
-#[derive(PartialEq, Eq, Debug, Drop, Error)]
+#[derive(Debug, PartialEq, Eq, Drop, Error)]
 #[error("Invalid version requirement")]
 pub struct NpmVersionReqParseError {
     #[source]
@@ -71,8 +71,8 @@ impl From<NpmVersionReqParseError> for ParseFailure {
 /// The text is trimmed, and the requirement keeps the trimmed text. A text without `||` that is outside the grammar, or
 /// has a number or a bound past 18446744073709551615, is a tag where it is a valid one; else it is refused, with
 /// "Unexpected character.", "Number is too large." or "Version bound is too large.". Of alternatives the bad ones are
-/// left out ([`RangeSetOrTag::parse_npm`]). Any other failure is want of memory. No piece is read more than twice; each
-/// comparator more copies the bounds that are kept so far.
+/// left out ([`RangeSetOrTag::parse_npm`]). Any other failure is want of memory. No piece is read more than twice by the
+/// grammar, after a short way for comparators of few numbers; each comparator takes over the bounds that are kept so far.
 pub fn parse_npm_version_req(
     alloc: Global,
     text: &str,

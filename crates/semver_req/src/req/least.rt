@@ -24,7 +24,8 @@ fn all_ranges(
     alloc: Global,
     requirements: &[VersionReq],
 ) -> Result<Vec<VersionRangeSet>, AllocError>
-    ensures { IfOk result (λ sets. sets.items ≡ map (λ (req : Requirement). ranges_of req.inner) requirements.now) }
+    ensures { IfOk result
+        (λ sets. sets.items ≡ map (λ (req : Requirement). ranges_of req.inner) requirements.now) }
 {
     let mut sets = Vec::new(alloc);
     for requirement in requirements {
@@ -69,9 +70,11 @@ impl VersionReq {
         requires other_ranges { tag_of other.now.inner ≡ None }
         ensures least { IfOk result (IsLeast (inners_mean self.now.inner other.now.inner)) }
         ensures no_build { IfOk result (λ least. IfSome least HasNoBuild) }
-        ensures reads_back { IfOk result (λ least. IsReadOrTag self.now.inner → IsReadOrTag other.now.inner
+        ensures reads_back { IfOk result
+            (λ least. IsReadOrTag self.now.inner → IsReadOrTag other.now.inner
             → IfSome least ReadsBack) }
-        ensures any_order { IfOk result (λ least. IsReadOrTag self.now.inner → IsReadOrTag other.now.inner
+        ensures any_order { IfOk result
+            (λ least. IsReadOrTag self.now.inner → IsReadOrTag other.now.inner
             → BothInAnyOrder inners_mean self.now.inner other.now.inner least) }
     {
         match (&self.inner, &other.inner) {
@@ -94,7 +97,8 @@ impl VersionReq {
         requires { tag_of self.now.inner ≡ None }
         ensures least { IfOk result (IsLeast (inner_means self.now.inner)) }
         ensures no_build { IfOk result (λ least. IfSome least HasNoBuild) }
-        ensures reads_back { IfOk result (λ least. IsReadOrTag self.now.inner → IfSome least ReadsBack) }
+        ensures reads_back { IfOk result
+            (λ least. IsReadOrTag self.now.inner → IfSome least ReadsBack) }
         ensures any_order { IfOk result (λ least. IsReadOrTag self.now.inner
             → InAnyOrder inner_means self.now.inner least) }
     {
@@ -121,9 +125,11 @@ impl VersionReq {
         requires other_ranges { have_no_tag others.now ≡ true }
         ensures least { IfOk result (IsLeast (all_inners_mean self.now.inner others.now)) }
         ensures no_build { IfOk result (λ least. IfSome least HasNoBuild) }
-        ensures reads_back { IfOk result (λ least. IsReadOrTag self.now.inner → AreReadOrTags others.now
+        ensures reads_back { IfOk result
+            (λ least. IsReadOrTag self.now.inner → AreReadOrTags others.now
             → IfSome least ReadsBack) }
-        ensures any_order { IfOk result (λ least. IsReadOrTag self.now.inner → AreReadOrTags others.now
+        ensures any_order { IfOk result
+            (λ least. IsReadOrTag self.now.inner → AreReadOrTags others.now
             → AllInAnyOrder self.now.inner others.now least) }
     {
         let own = self.ranges(alloc)?;
@@ -148,9 +154,11 @@ impl VersionReq {
         requires other_ranges { tag_of other.now.inner ≡ None }
         ensures least { IfOk result (IsLeast (inner_means_alone self.now.inner other.now.inner)) }
         ensures no_build { IfOk result (λ least. IfSome least HasNoBuild) }
-        ensures reads_back { IfOk result (λ least. IsReadOrTag self.now.inner → IsReadOrTag other.now.inner
+        ensures reads_back { IfOk result
+            (λ least. IsReadOrTag self.now.inner → IsReadOrTag other.now.inner
             → IfSome least ReadsBack) }
-        ensures any_order { IfOk result (λ least. IsReadOrTag self.now.inner → IsReadOrTag other.now.inner
+        ensures any_order { IfOk result
+            (λ least. IsReadOrTag self.now.inner → IsReadOrTag other.now.inner
             → BothInAnyOrder inner_means_alone self.now.inner other.now.inner least) }
     {
         match (&self.inner, &other.inner) {
@@ -172,8 +180,10 @@ impl VersionReq {
     pub fn is_subset(&self, alloc: Global, other: &VersionReq) -> Result<bool, AllocError>
         requires own_ranges { tag_of self.now.inner ≡ None }
         requires other_ranges { tag_of other.now.inner ≡ None }
-        ensures value { IfOk result (TellsWithin (inner_means self.now.inner) (inner_means other.now.inner)) }
-        ensures exact { IfOk result (λ told. IsReadOrTag self.now.inner → IsReadOrTag other.now.inner
+        ensures value { IfOk result
+            (TellsWithin (inner_means self.now.inner) (inner_means other.now.inner)) }
+        ensures exact { IfOk result
+            (λ told. IsReadOrTag self.now.inner → IsReadOrTag other.now.inner
             → (IsTrue told ↔ IsWithin (inner_means self.now.inner) (inner_means other.now.inner))) }
     {
         let outside = self.version_outside(alloc, other)?;
@@ -190,8 +200,10 @@ impl VersionReq {
     pub fn is_equivalent(&self, alloc: Global, other: &VersionReq) -> Result<bool, AllocError>
         requires own_ranges { tag_of self.now.inner ≡ None }
         requires other_ranges { tag_of other.now.inner ≡ None }
-        ensures value { IfOk result (TellsEquivalent (inner_means self.now.inner) (inner_means other.now.inner)) }
-        ensures exact { IfOk result (λ told. IsReadOrTag self.now.inner → IsReadOrTag other.now.inner
+        ensures value { IfOk result
+            (TellsEquivalent (inner_means self.now.inner) (inner_means other.now.inner)) }
+        ensures exact { IfOk result
+            (λ told. IsReadOrTag self.now.inner → IsReadOrTag other.now.inner
             → (IsTrue told ↔ AreEquivalent (inner_means self.now.inner) (inner_means other.now.inner))) }
     {
         if !self.is_subset(alloc, other)? {

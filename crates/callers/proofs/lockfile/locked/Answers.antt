@@ -1,14 +1,14 @@
 use Rattle.std.proofs.Common.{sym, subst}
-use Rattle.callers.specs.Lockfile.{IsLocked}
 use Rattle.deno_semver.specs.Json.{IsStringOf, IsTextOfReq}
 use Rattle.deno_semver.specs.Equal.{AreEqualReqs}
+use Rattle.deno_semver.specs.Stored.{IsKeptReq}
 use Rattle.callers.proofs.Locking.{answered}
 use Rattle.callers.proofs.lockfile.locked.Goals as goal
 
 pub returns-clause-loose : goal.returns-clause-loose
 returns-clause-loose c text u h =
     let s = c.in_ok-entry.ensures.read_again text u h in
-    answered (IsLocked c.args.req.now) s.again c.from_json.result (c.from_json.ensures.answer s.again s.stands_for) (record { name = s.name; kept = s.kept; settled = s.settled })
+    answered (IsKeptReq c.args.req.now) s.again c.from_json.result (c.from_json.ensures.answer s.again s.stands_for) s.is_kept
 
 pub returns-clause-settled : goal.returns-clause-settled
 returns-clause-settled c s =

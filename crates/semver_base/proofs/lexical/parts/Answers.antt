@@ -5,20 +5,20 @@ use Rattle.semver_base.proofs.Numbers.{run_seen, run_unseen}
 use Rattle.semver_base.proofs.lexical.parts.Goals as goal
 
 pub returns-then-is_empty : goal.returns-then-is_empty
-returns-then-is_empty c = listed_none (run_unseen c.split_part.ensures (search rules))
+returns-then-is_empty c = listed_none (run_unseen c.identifier_front.ensures (search rules))
 
 pub loop-next-init : goal.loop-next-init
 loop-next-init c = record {
   is_text = search rules;
-  so_far = rw (c.in_ok-push_part.ensures, c.new-ids.ensures) (so_far_one parts_listing (run_seen c.split_part.ensures (search rules)));
+  so_far = rw (c.in_ok-push_part.ensures, c.new-ids.ensures) (so_far_one parts_listing (run_seen c.identifier_front.ensures (search rules)));
 }
 
 pub returns-then-is_empty-2 : goal.returns-then-is_empty-2
 returns-then-is_empty-2 c =
-    c.loop-next.invariant.so_far.at_separator c.in-Some.next.now tt (byte_longest 46 c.loop-next.rest.now c.in-Some.next.now c.in-Some.ensures) (run_unseen c.split_part-in-Some.ensures (search rules))
+    c.loop-next.invariant.so_far.at_separator c.in-Some.next.now tt (byte_longest 46 c.loop-next.rest.now c.in-Some.next.now c.in-Some.ensures) (run_unseen c.identifier_front-in-Some.ensures (search rules))
 
 pub loop-next-preserved : goal.loop-next-preserved
 loop-next-preserved c = record {
   is_text = search rules;
-  so_far = rw c.in_ok-push_part-2.ensures (so_far_more parts_listing c.loop-next.invariant.so_far (byte_longest 46 c.loop-next.rest.now c.in-Some.next.now c.in-Some.ensures) (run_seen c.split_part-in-Some.ensures (search rules)));
+  so_far = rw c.in_ok-push_part-2.ensures (so_far_more parts_listing c.loop-next.invariant.so_far (byte_longest 46 c.loop-next.rest.now c.in-Some.next.now c.in-Some.ensures) (run_seen c.identifier_front-in-Some.ensures (search rules)));
 }

@@ -10,18 +10,18 @@ pub returns-in_err-written-clause-refusal : goal.returns-in_err-written-clause-r
 returns-in_err-written-clause-refusal c = memory_err c.from_residual.result _ c.from_residual.ensures.1 memory_wanting
 
 pub returns-in_default-clause-reading : goal.returns-in_default-clause-reading
-returns-in_default-clause-reading c = IfOk-weaker c.tag_or.result _ _ (none_reading (rw c.in_default.is at c.in_ok-written.ensures)) c.tag_or.ensures.tag
+returns-in_default-clause-reading c = IfOk-weaker c.whole_text_as_tag.result _ _ (none_reading (rw c.in_default.is at c.in_ok-written.ensures)) c.whole_text_as_tag.ensures.tag
 
 pub returns-in_default-clause-refusal : goal.returns-in_default-clause-refusal
-returns-in_default-clause-refusal c = IfErr-weaker c.tag_or.result _ _ (none_refusal (rw c.in_default.is at c.in_ok-written.ensures)) c.tag_or.ensures.no_tag
+returns-in_default-clause-refusal c = IfErr-weaker c.whole_text_as_tag.result _ _ (none_refusal (rw c.in_default.is at c.in_ok-written.ensures)) c.whole_text_as_tag.ensures.no_tag
 
 pub returns-in_default-partial-clause-reading : goal.returns-in_default-partial-clause-reading
 returns-in_default-partial-clause-reading c =
-    IfOk-weaker c.tag_or-in_default-partial.result _ _ (number_reading (too_large c.in_default-partial.is (rw c.in-Some.is at c.in_ok-written.ensures))) c.tag_or-in_default-partial.ensures.tag
+    IfOk-weaker c.whole_text_as_tag-in_default-partial.result _ _ (number_reading (too_large c.in_default-partial.is (rw c.in-Some.is at c.in_ok-written.ensures))) c.whole_text_as_tag-in_default-partial.ensures.tag
 
 pub returns-in_default-partial-clause-refusal : goal.returns-in_default-partial-clause-refusal
 returns-in_default-partial-clause-refusal c =
-    IfErr-weaker c.tag_or-in_default-partial.result _ _ (number_refusal (too_large c.in_default-partial.is (rw c.in-Some.is at c.in_ok-written.ensures))) c.tag_or-in_default-partial.ensures.no_tag
+    IfErr-weaker c.whole_text_as_tag-in_default-partial.result _ _ (number_refusal (too_large c.in_default-partial.is (rw c.in-Some.is at c.in_ok-written.ensures))) c.whole_text_as_tag-in_default-partial.ensures.no_tag
 
 pub returns-in_err-only-in-Ok-clause-refusal : goal.returns-in_err-only-in-Ok-clause-refusal
 returns-in_err-only-in-Ok-clause-refusal c = memory_err c.from_residual-in_err-only-in-Ok.result _ c.from_residual-in_err-only-in-Ok.ensures.1 memory_wanting
@@ -39,8 +39,8 @@ returns-in-Err-clause-refusal c = rw (c.if-is_memory.ensures.0 refl) memory_want
 
 pub returns-clause-reading : goal.returns-clause-reading
 returns-clause-reading c =
-    IfOk-weaker c.tag_or-in-Err-2.result _ _ (bound_reading (fitting (rw (c.in-Some.is, c.in-Fits.is) at c.in_ok-written.ensures)) c.in-Err.failure c.in-Err.ensures.refused (λ e. cc (c.if-is_memory.ensures.1 e))) c.tag_or-in-Err-2.ensures.tag
+    IfOk-weaker c.whole_text_as_tag-in-Err-2.result _ _ (bound_reading (fitting (rw (c.in-Some.is, c.in-Fits.is) at c.in_ok-written.ensures)) c.in-Err.failure c.in-Err.ensures.refused (λ e. cc (c.if-is_memory.ensures.1 e))) c.whole_text_as_tag-in-Err-2.ensures.tag
 
 pub returns-clause-refusal : goal.returns-clause-refusal
 returns-clause-refusal c =
-    IfErr-weaker c.tag_or-in-Err-2.result _ _ (bound_refusal (fitting (rw (c.in-Some.is, c.in-Fits.is) at c.in_ok-written.ensures)) c.in-Err.failure c.in-Err.ensures.refused (λ e. cc (c.if-is_memory.ensures.1 e))) c.tag_or-in-Err-2.ensures.no_tag
+    IfErr-weaker c.whole_text_as_tag-in-Err-2.result _ _ (bound_refusal (fitting (rw (c.in-Some.is, c.in-Fits.is) at c.in_ok-written.ensures)) c.in-Err.failure c.in-Err.ensures.refused (λ e. cc (c.if-is_memory.ensures.1 e))) c.whole_text_as_tag-in-Err-2.ensures.no_tag

@@ -12,14 +12,14 @@ none_left xs b e f = grind (arith, nat_tests)
 
 pub returns-clause-cut : goal.returns-clause-cut
 returns-clause-cut c =
-    scoped_cut c.args.text.now c.without_slash.ensures c.split_part.ensures (sym c.starts_with_at.ensures ∙ c.if-not-starts_with_at.false) (c.path_of-2.ensures c.split_part.ensures.stops) c.split_part-2.ensures
-    (some_left _ _ c.is_empty-2.ensures c.if-is_empty-2.false) c.split_name-2.result.0.now (option_copied c.split_name-2.result.1) c.path_of-3.result.now
-    c.split_name-2.ensures (c.path_of-3.ensures c.split_part-2.ensures.stops)
+    scoped_cut c.args.text.now c.without_slash.ensures c.segment_and_rest.ensures (sym c.starts_with_at.ensures ∙ c.if-not-starts_with_at.false) (c.path_of-2.ensures c.segment_and_rest.ensures.stops) c.segment_and_rest-2.ensures
+    (some_left _ _ c.is_empty-2.ensures c.if-is_empty-2.false) c.name_and_version-2.result.0.now (option_copied c.name_and_version-2.result.1) c.path_of-3.result.now
+    c.name_and_version-2.ensures (c.path_of-3.ensures c.segment_and_rest-2.ensures.stops)
 
 pub returns-then-is_empty-2-clause-uncut : goal.returns-then-is_empty-2-clause-uncut
 returns-then-is_empty-2-clause-uncut c =
     inr (
       refl,
-      scope_alone c.args.text.now c.without_slash.ensures c.split_part.ensures (sym c.starts_with_at.ensures ∙ c.if-not-starts_with_at.false) (c.path_of-2.ensures c.split_part.ensures.stops) c.split_part-2.ensures
+      scope_alone c.args.text.now c.without_slash.ensures c.segment_and_rest.ensures (sym c.starts_with_at.ensures ∙ c.if-not-starts_with_at.false) (c.path_of-2.ensures c.segment_and_rest.ensures.stops) c.segment_and_rest-2.ensures
           (none_left _ _ c.is_empty-2.ensures c.if-is_empty-2.true),
     )

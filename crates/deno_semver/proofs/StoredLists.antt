@@ -1,0 +1,87 @@
+-- What is read again of a list of requirements that was stored.
+use Rattle.std.proofs.Common.{◌≡◌, List, [], ◌∷◌, All, IsSorted, Result, Ok, Err, map, refl, ◌∙◌}
+use Rattle.std.proofs.lemmas.List.Elements.{All-head, All-tail}
+use Rattle.std.specs.Prelude.{MatchResult}
+use Rattle.std.specs.Result.{IsErrAnd}
+use Rattle.serde_json.specs.Data.{Data, string}
+use Rattle.serde_json.specs.View.{items_of}
+use Rattle.deno_semver.specs.Equal.{AreEqualReqs}
+use Rattle.deno_semver.specs.Json.{AreItemsOf, IsStringOf, IsTextOfReq}
+use Rattle.deno_semver.specs.ReqOrder.{req_cmp}
+use Rattle.deno_semver.specs.ReqOrderLaws.{req_same, req_total, same_req}
+use Rattle.deno_semver.specs.RequirementText.{normal_req_text}
+use Rattle.deno_semver.specs.Stored.{IsKeptReq, IsSettledReq}
+use Rattle.deno_semver.specs.StoredList.{AreEqualLists, IsLooseReq, IsSortedFrom, IsStoredList, OneByOne, StandsForEqualList, reqs_json}
+use Rattle.deno_semver.specs.declared.json.error.JsonError.{JsonError}
+use Rattle.deno_semver.specs.declared.json.error.JsonError.TheVariants as error
+use Rattle.deno_semver.specs.declared.package.values.PackageReq.{PackageReq}
+use Rattle.deno_semver.proofs.ListOrder.{Tie, sorted_ties}
+use Rattle.deno_semver.proofs.StoredReqs.{stored_loose}
+
+-- the exit of a `?` for want of memory
+pub exit_memory : {T : Type 0} (Says : T → Type 0) (r : Result T JsonError) (e : JsonError) → IsErrAnd r (λ f. f ≡ e) → e ≡ error.Memory → MatchResult r Says (λ f. f ≡ error.Memory)
+exit_memory Says (Ok x) e is m = absurd is
+exit_memory Says (Err f) e is m = is ∙ m
+
+json_of : PackageReq → Data
+json_of req = string (normal_req_text req)
+
+-- ---- what is read again
+
+-- items that stand, one by one, for requirements that are so related to these
+record AreReadAs (R : PackageReq → PackageReq → Type 0) (reqs : List PackageReq) : Type 0 where
+  again : List PackageReq
+  read : AreItemsOf (IsStringOf IsTextOfReq) (items_of (map (λ req. string (normal_req_text req)) reqs)) again
+  related : OneByOne R reqs again
+
+record IsReadAs (R : PackageReq → PackageReq → Type 0) (req : PackageReq) : Type 0 where
+  again : PackageReq
+  read : IsStringOf IsTextOfReq (string (normal_req_text req)) again
+  related : R req again
+
+each_read : (R : PackageReq → PackageReq → Type 0) (Is : PackageReq → Type 0) → ((req : PackageReq) → Is req → IsReadAs R req) → (reqs : List PackageReq) → All Is reqs → AreReadAs R reqs
+each_read R Is one [] h = record { again = []; read = tt; related = tt }
+each_read R Is one (req ∷ reqs) h =
+    let first = one req (All-head Is req reqs h) in
+    let others = each_read R Is one reqs (All-tail Is req reqs h) in
+    record { again = first.again ∷ others.again; read = (first.read, others.read); related = (first.related, others.related) }
+
+loose_read : (req : PackageReq) → IsLooseReq req → IsReadAs IsKeptReq req
+loose_read req h = let s = stored_loose req h.text h.is_text h.is_read in record { again = s.again; read = s.stands_for; related = s.is_kept }
+
+pub loose_list : (reqs : List PackageReq) → All IsLooseReq reqs → IsStoredList reqs (reqs_json reqs)
+loose_list reqs h =
+    let r = each_read IsKeptReq IsLooseReq loose_read reqs h in
+    record { again = r.again; stands_for = record { items = items_of (map (λ req. string (normal_req_text req)) reqs); is_array = refl; are_read = r.read }; are_kept = r.related }
+
+settled_read : (req : PackageReq) → IsSettledReq req → IsReadAs (λ x y. AreEqualReqs y x) req
+settled_read req h = record { again = h.again; read = h.stands_for; related = h.equal }
+
+turned : (xs ys : List PackageReq) → OneByOne (λ x y. AreEqualReqs y x) xs ys → AreEqualLists ys xs
+turned [] [] h = tt
+turned [] (y ∷ ys) h = absurd h
+turned (x ∷ xs) [] h = absurd h
+turned (x ∷ xs) (y ∷ ys) h = (h.0, turned xs ys h.1)
+
+pub settled_list : (reqs : List PackageReq) → All IsSettledReq reqs → StandsForEqualList (reqs_json reqs) reqs
+settled_list reqs h =
+    let r = each_read (λ x y. AreEqualReqs y x) IsSettledReq settled_read reqs h in
+    record { again = r.again; stands_for = record { items = items_of (map (λ req. string (normal_req_text req)) reqs); is_array = refl; are_read = r.read }; are_equal = turned reqs r.again r.related }
+
+-- ---- the order
+
+tie_of : (xs ys : List PackageReq) → AreEqualLists xs ys → Tie req_cmp req_total xs ys
+tie_of [] [] h = tt
+tie_of [] (y ∷ ys) h = absurd h
+tie_of (x ∷ xs) [] h = absurd h
+tie_of (x ∷ xs) (y ∷ ys) h = (same_req x y h.0, tie_of xs ys h.1)
+
+of_tie : (xs ys : List PackageReq) → Tie req_cmp req_total xs ys → AreEqualLists xs ys
+of_tie [] [] h = tt
+of_tie [] (y ∷ ys) h = absurd h
+of_tie (x ∷ xs) [] h = absurd h
+of_tie (x ∷ xs) (y ∷ ys) h = (req_same x y h.0, of_tie xs ys h.1)
+
+-- what is sorted from a list that is equal to an ascending one is equal to that
+pub sorted_equal : (reqs stored sorted : List PackageReq) → IsSorted req_cmp reqs → AreEqualLists stored reqs → IsSortedFrom stored sorted → AreEqualLists sorted reqs
+sorted_equal reqs stored sorted h equal k = of_tie sorted reqs (sorted_ties req_cmp req_total reqs stored sorted h (tie_of stored reqs equal) k.same k.ascending)

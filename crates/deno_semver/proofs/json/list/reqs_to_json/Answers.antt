@@ -1,0 +1,15 @@
+use Rattle.std.proofs.Common.{sym, subst}
+use Rattle.std.proofs.lemmas.Result.{IfOk-weaker}
+use Rattle.deno_semver.specs.StoredList.{IsStoredList, StandsForEqualList}
+use Rattle.deno_semver.proofs.StoredLists.{loose_list, settled_list}
+use Rattle.deno_semver.proofs.json.list.reqs_to_json.Goals as goal
+
+pub returns-clause-read_again : goal.returns-clause-read_again
+returns-clause-read_again c =
+    let reqs = c.args.reqs.now in
+    IfOk-weaker c.stored.result _ _ (λ json is h. subst (IsStoredList reqs) (sym is) (loose_list reqs h)) c.stored.ensures
+
+pub returns-clause-settled : goal.returns-clause-settled
+returns-clause-settled c =
+    let reqs = c.args.reqs.now in
+    IfOk-weaker c.stored.result _ _ (λ json is h. subst (λ d. StandsForEqualList d reqs) (sym is) (settled_list reqs h)) c.stored.ensures

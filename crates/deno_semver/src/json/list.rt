@@ -1,0 +1,84 @@
+//! Lists of requirements of packages as JSON.
+
+ghost use Rattle.std.specs.Prelude.{◌≡◌, All, IfErr, IfOk, IsSorted, List, MatchResult};
+ghost use Rattle.serde_json.specs.View.{items_view, view};
+ghost use Rattle.deno_semver.specs.Json.{AreItemsOf, IsStringOf, IsTextOfReq};
+ghost use Rattle.deno_semver.specs.JsonAnswers.{IsJsonRefusal};
+ghost use Rattle.deno_semver.specs.ReqOrder.{req_cmp};
+ghost use Rattle.deno_semver.specs.Stored.{IsSettledReq};
+ghost use Rattle.deno_semver.specs.StoredList.{AreEqualLists, IsJsonOfReqs, IsLooseReq, IsReadList, IsSortedFrom, IsStoredList, StandsForEqualList, reqs_json};
+
+use super::JsonForm;
+use super::error::JsonError;
+use super::object::items_json;
+use crate::package::PackageReq;
+use serde_json::Value;
+use std::alloc::{AllocError, Global};
+
+// The array of the JSON of the requirements.
+fn stored(alloc: Global, reqs: &[PackageReq]) -> Result<Value, AllocError>
+    ensures { IfOk result (λ json. view json ≡ reqs_json reqs.now) }
+{
+    let items = items_json(alloc, reqs)?;
+    Ok(Value::Array(items))
+}
+
+/// The array of the JSON of the requirements, in the given order. It is an error only where no memory is left.
+///
+/// Of the JSON of requirements that [`PackageReq::from_str_loose`] read requirements are read again, at the same places,
+/// as [`PackageReq`]'s JSON says; and of the JSON of what was read again so, equal ones.
+pub fn reqs_to_json(alloc: Global, reqs: &[PackageReq]) -> Result<Value, AllocError>
+    ensures value { IfOk result (λ json. view json ≡ reqs_json reqs.now) }
+    ensures read_again { IfOk result (λ json. All IsLooseReq reqs.now
+        → IsStoredList reqs.now (view json)) }
+    ensures settled { IfOk result (λ json. All IsSettledReq reqs.now
+        → StandsForEqualList (view json) reqs.now) }
+{
+    stored(alloc, reqs)
+}
+
+// The requirements that the items stand for, in order.
+fn of_items(alloc: Global, items: &[Value]) -> Result<Vec<PackageReq>, JsonError>
+    ensures read { IfOk result
+        (λ reqs. AreItemsOf (IsStringOf IsTextOfReq) (items_view items.now) reqs.items) }
+    ensures answer { (reqs : List PackageReq)
+        → AreItemsOf (IsStringOf IsTextOfReq) (items_view items.now) reqs
+        → MatchResult result (λ read. read.items ≡ reqs) (λ e. e ≡ JsonError.Memory) }
+{
+    let mut reqs = Vec::new(alloc);
+    for item in items {
+        let req = PackageReq::from_json(alloc, item)?;
+        if reqs.push(req).is_err() {
+            return Err(JsonError::Memory);
+        }
+    }
+    Ok(reqs)
+}
+
+// The same requirements in ascending order.
+fn sorted(mut reqs: Vec<PackageReq>) -> Result<Vec<PackageReq>, AllocError>
+    ensures { IfOk result (λ sorted. IsSortedFrom reqs.items sorted.items) }
+{
+    reqs.sort()?;
+    Ok(reqs)
+}
+
+/// The requirements that the items of an array stand for, each as often as it stands there, in ascending order. Which of
+/// several equal ones comes first is open.
+///
+/// It is [`JsonError::Json`] exactly where the JSON is no array, or an item stands for no requirement, and
+/// [`JsonError::Memory`] only where no memory is left. A list in ascending order that was stored is read as an equal one.
+pub fn reqs_from_json(alloc: Global, value: &Value) -> Result<Vec<PackageReq>, JsonError>
+    ensures read { IfOk result (λ reqs. IsReadList (view value.now) reqs.items) }
+    ensures refused { IfErr result (IsJsonRefusal IsJsonOfReqs (view value.now)) }
+    ensures answer { (reqs : List PackageReq) → IsJsonOfReqs (view value.now) reqs
+        → MatchResult result (λ read. IsSortedFrom reqs read.items) (λ e. e ≡ JsonError.Memory) }
+    ensures again { (reqs : List PackageReq) → IsSorted req_cmp reqs
+        → StandsForEqualList (view value.now) reqs
+        → MatchResult result (λ read. AreEqualLists read.items reqs) (λ e. e ≡ JsonError.Memory) }
+{
+    match value.as_array() {
+        Some(items) => Ok(sorted(of_items(alloc, items.as_slice())?)?),
+        None => Err(JsonError::Json),
+    }
+}

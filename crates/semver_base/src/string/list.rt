@@ -1,0 +1,191 @@
+//! Lists whose copies share their items until one of them grows.
+
+ghost use Rattle.std.specs.Prelude.{◌≡◌, ◌≤◌, ◌<◌, ◌^◌, ◌++◌, [], ◌∷◌, IfOk, OnOk, OnErr, IsTrue, ◌↔◌, length, slice_get};
+ghost use Rattle.std.specs.Cmp.Lexicographic.{lists_equiv, lists_per, pointwise};
+ghost use Rattle.std.specs.Hash as fed;
+ghost use Rattle.std.specs.Hash.{items_Alike};
+ghost use Rattle.std.specs.Option.{option_copied};
+ghost use Rattle.std.specs.Slice.{IsItemAt};
+ghost use Rattle.std.specs.Iterator.Adapters.{IterYieldsInOrder};
+ghost use Rattle.std.specs.Slice.Iter.{iter_rest};
+
+use std::alloc::{AllocError, Global};
+use std::hash::{Hash, Hasher};
+use std::marker::Model;
+use std::rc::Rc;
+use std::{fmt, slice};
+
+/// A value that a [`CowVec`] can hold: a copy of it is the same value.
+pub trait CowItem {
+    /// The same value again. It is an error only where no memory is left.
+    fn copy(&self) -> Result<Self, AllocError>
+        ensures { IfOk result (λ x. x ≡ self.now) };
+}
+
+/// A list, seen in contracts as its items. Its copies share them until one of the lists grows.
+///
+/// Two lists are equal where they have equal items in the same order.
+#[derive(Drop)]
+pub struct CowVec<T> {
+    alloc: Global,
+    items: Option<Rc<Vec<T>>>,
+}
+
+impl<T> Model for CowVec<T> {
+    ghost use Rattle.std.specs.Prelude.{List};
+    ghost use Rattle.semver_base.specs.Texts.{shared_items};
+
+    ghost Value = { List T };
+
+    ghost view = { λ v. shared_items v.items };
+}
+
+impl<T> CowVec<T> {
+    /// The empty list.
+    #[inline(always)]
+    pub fn new(alloc: Global) -> Self
+        ensures { result ≡ [] }
+    {
+        CowVec { alloc, items: None }
+    }
+
+    /// The items.
+    #[inline(always)]
+    pub(crate) fn as_slice(&self) -> &[T]
+        ensures { result.now ≡ self.now }
+    {
+        match &self.items {
+            None => &[],
+            Some(items) => items.as_slice(),
+        }
+    }
+
+    /// How many items there are.
+    pub fn len(&self) -> usize
+        ensures { result ≡ length self.now }
+    {
+        self.as_slice().len()
+    }
+
+    /// Whether there is no item.
+    #[inline(always)]
+    pub fn is_empty(&self) -> bool
+        ensures { IsTrue result ↔ (self.now ≡ []) }
+    {
+        self.as_slice().is_empty()
+    }
+
+    /// The item at `index`, if there is one.
+    pub fn get(&self, index: usize) -> Option<&T>
+        ensures value { option_copied result ≡ slice_get self.now index }
+        ensures item { IsItemAt self.now index result }
+    {
+        self.as_slice().get(index)
+    }
+
+    /// The items in order.
+    pub fn iter(&self) -> slice::Iter<'_, T>
+        ensures rest { iter_rest result ≡ self.now }
+        ensures len { length (iter_rest result) ≡ length self.now }
+        ensures bound { length (iter_rest result) < 2 ^ 64 }
+        ensures runs { IterYieldsInOrder T }
+    {
+        self.as_slice().iter()
+    }
+}
+
+// A list of the same items.
+fn copied<T: CowItem + Drop>(alloc: Global, items: &[T]) -> Result<Vec<T>, AllocError>
+    ensures { IfOk result (λ v. v.items ≡ items.now) }
+{
+    let mut all = Vec::new(alloc);
+    for item in items {
+        all.push(item.copy()?)?;
+    }
+    Ok(all)
+}
+
+impl<T: CowItem + Drop> CowVec<T> {
+    /// Appends `item`; a list that shares its items copies them first. Where no memory is left the list is unchanged and
+    /// the item is dropped.
+    pub fn push(&mut self, item: T) -> Result<(), AllocError>
+        ensures ok { OnOk result (self.new ≡ self.old ++ item ∷ []) }
+        ensures err { OnErr result (self.new ≡ self.old) }
+    {
+        let alloc = self.alloc;
+        match &mut self.items {
+            None => {
+                let mut items = Vec::new(alloc);
+                items.push(item)?;
+                self.items = Some(Rc::new(alloc, items)?);
+            }
+            Some(shared) => {
+                if let Some(items) = Rc::get_mut(shared) {
+                    items.push(item)?;
+                } else {
+                    let mut items = copied(alloc, shared.as_slice())?;
+                    items.push(item)?;
+                    *shared = Rc::new(alloc, items)?;
+                }
+            }
+        }
+        Ok(())
+    }
+
+    /// The list of one item, with room for no more. It is an error only where no memory is left.
+    #[inline(always)]
+    pub fn of_one(alloc: Global, item: T) -> Result<Self, AllocError>
+        ensures { IfOk result (λ v. v ≡ item ∷ []) }
+    {
+        let mut items = Vec::with_capacity(alloc, 1)?;
+        items.push_reserved(item);
+        Ok(CowVec {
+            alloc,
+            items: Some(Rc::new(alloc, items)?),
+        })
+    }
+
+    /// The same list again, which shares the items. It is an error only where no memory is left.
+    pub fn copy(&self) -> Result<Self, AllocError>
+        ensures { IfOk result (λ v. v ≡ self.now) }
+    {
+        match &self.items {
+            None => Ok(CowVec::new(self.alloc)),
+            Some(items) => Ok(CowVec {
+                alloc: self.alloc,
+                items: Some(items.clone()?),
+            }),
+        }
+    }
+}
+
+impl<T: PartialEq> PartialEq for CowVec<T> {
+    ghost eq = { pointwise T.eq };
+
+    ghost laws = { lists_per T.laws };
+
+    fn eq(&self, other: &Self) -> bool {
+        self.as_slice() == other.as_slice()
+    }
+}
+
+impl<T: Eq> Eq for CowVec<T> {
+    ghost laws = { lists_equiv T.Eq.laws };
+}
+
+// A list shows as its items between `[` and `]`.
+impl<T: fmt::Debug> fmt::Debug for CowVec<T> {
+    fn fmt<W: fmt::Write>(&self, f: &mut fmt::Formatter<W>) -> fmt::Result {
+        fmt::Debug::fmt(self.as_slice(), f)
+    }
+}
+
+impl<T: Hash> Hash for CowVec<T> {
+    ghost hash_input = { fed.slice T.hash_input };
+
+    ghost respects_eq = { (items_Alike (record { fed = T.respects_eq })).fed };
+
+    fn hash<H: Hasher>(&self, state: &mut H) {
+        self.as_slice().hash(state);
+    }
+}

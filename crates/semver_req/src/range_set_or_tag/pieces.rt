@@ -1,0 +1,342 @@
+//! How npm's and the normalized grammar cut a text at each `||`, and what they read of each piece.
+
+ghost use Rattle.std.specs.Prelude.{◌≡◌, ◌↔◌, ◌++◌, ◌∷◌, [], IfErr, IfOk, IsTrue, List, MatchOption, None, OnOk};
+ghost use Rattle.semver_base.specs.Comparators.{Comparator};
+ghost use Rattle.semver_base.specs.Grammar.{ReadsAs, answer_of};
+ghost use Rattle.semver_base.specs.declared.partial.Partial.{Partial};
+ghost use Rattle.semver_req.specs.Partials.{sized_partial};
+ghost use Rattle.semver_req.specs.PieceReading.{IsPieceRead, joined, kept_of};
+ghost use Rattle.semver_req.specs.PieceSteps.{AreAllRead, IsEverything, IsFirstPiece, IsHyphenRead, IsNextPiece, IsOneMore, IsWholeRead, both_now};
+ghost use Rattle.semver_req.specs.Pieces.{HasNoBar, IsComparators, IsCutAt, IsCutting, IsFilled, IsHyphen};
+ghost use Rattle.semver_req.specs.Written.{comparator_of};
+
+use crate::common::comparator::{Written, comparator_front};
+use crate::common::hyphen::{HyphenRange, hyphen_front};
+use crate::common::plain::{few_alone, few_pair};
+use crate::common::separators::after_separator;
+use crate::common::values::Flavour;
+use semver_base::failure::{ParseFailure, Refusal};
+use semver_base::lexical::after_blanks;
+use semver_base::lexical::values::Measured;
+use semver_base::range::VersionRange;
+use semver_base::string::CowVec;
+use std::alloc::{AllocError, Global};
+
+/// What is read of a piece of a text, which is what stands between two `||`.
+#[derive(Debug, Drop)]
+pub enum RangeOrInvalid {
+    /// The range of its comparators.
+    Range(VersionRange),
+    /// The piece is bad: it is outside the grammar, or a number or a bound in it is too large.
+    Invalid(Refusal),
+}
+
+// Whether a piece is nothing, or blanks that are followed by `||`.
+fn is_everything(piece: &str, is_followed: bool) -> bool
+    ensures { IsTrue result ↔ IsEverything is_followed piece.now }
+{
+    if is_followed {
+        return after_blanks(piece).is_empty();
+    }
+    piece.is_empty()
+}
+
+impl RangeOrInvalid {
+    // The range of one comparator. It is taken over as it is, and only its start is looked at.
+    #[inline(always)]
+    fn of_one(alloc: Global, written: Written) -> Result<RangeOrInvalid, ParseFailure>
+        ensures value { (p : Partial) → written.partial ≡ sized_partial p
+            → IfOk result (λ read. read ≡ joined (comparator_of written.mark p ∷ [])) }
+        ensures memory { IfErr result (λ failure. failure ≡ None) }
+    {
+        let Written { mark, partial } = written;
+        let Measured::Fits(partial) = partial else {
+            return Ok(RangeOrInvalid::Invalid(Refusal::NumberTooLarge));
+        };
+        match mark.range(alloc, &partial) {
+            Ok(range) => Ok(RangeOrInvalid::Range(range.into_stopped()?)),
+            Err(failure) if failure.is_memory() => Err(failure),
+            Err(_) => Ok(RangeOrInvalid::Invalid(Refusal::BoundTooLarge)),
+        }
+    }
+
+    // The range of these comparators and one more.
+    fn and(self, alloc: Global, written: Written) -> Result<RangeOrInvalid, ParseFailure>
+        ensures value { (cs : List Comparator) (p : Partial) → self ≡ joined cs
+            → written.partial ≡ sized_partial p
+            → IfOk result (λ read. read ≡ joined (cs ++ comparator_of written.mark p ∷ [])) }
+        ensures memory { IfErr result (λ failure. failure ≡ None) }
+    {
+        let Written { mark, partial } = written;
+        let Measured::Fits(partial) = partial else {
+            return Ok(RangeOrInvalid::Invalid(Refusal::NumberTooLarge));
+        };
+        let range = match self {
+            RangeOrInvalid::Range(range) => range,
+            RangeOrInvalid::Invalid(refusal) => return Ok(RangeOrInvalid::Invalid(refusal)),
+        };
+        match mark.range(alloc, &partial) {
+            Ok(next) => Ok(RangeOrInvalid::Range(range.clamp_into(next)?)),
+            Err(failure) if failure.is_memory() => Err(failure),
+            Err(_) => Ok(RangeOrInvalid::Invalid(Refusal::BoundTooLarge)),
+        }
+    }
+
+    // The comparators at the front, with separators between, and what follows them.
+    #[inline(always)]
+    fn comparators(
+        alloc: Global,
+        text: &str,
+        flavour: Flavour,
+    ) -> Result<Option<(RangeOrInvalid, &str)>, ParseFailure>
+        ensures value { IfOk result
+            (λ r. ReadsAs joined (IsComparators flavour) text.now (answer_of r)) }
+        ensures memory { IfErr result (λ failure. failure ≡ None) }
+    {
+        let Some((first, mut rest)) = comparator_front(alloc, text, flavour)? else {
+            return Ok(None);
+        };
+        let mut read = RangeOrInvalid::of_one(alloc, first)?;
+        while let Some(next) = after_separator(rest, flavour) {
+            let Some((written, more)) = comparator_front(alloc, next, flavour)? else {
+                return Ok(Some((read, next)));
+            };
+            read = read.and(alloc, written)?;
+            rest = more;
+        }
+        Ok(Some((read, rest)))
+    }
+
+    // The whole piece as comparators.
+    #[inline(always)]
+    fn list(
+        alloc: Global,
+        piece: &str,
+        flavour: Flavour,
+    ) -> Result<Option<RangeOrInvalid>, ParseFailure>
+        ensures value { IfOk result (IsWholeRead (IsComparators flavour) piece.now) }
+        ensures memory { IfErr result (λ failure. failure ≡ None) }
+    {
+        let Some((read, rest)) = RangeOrInvalid::comparators(alloc, piece, flavour)? else {
+            return Ok(None);
+        };
+        if !rest.is_empty() {
+            return Ok(None);
+        }
+        Ok(Some(read))
+    }
+
+    // The range from the lower bound of the first to the upper bound of the second.
+    fn between(alloc: Global, hyphen: HyphenRange) -> Result<RangeOrInvalid, ParseFailure>
+        ensures value { IfOk result (IsHyphenRead hyphen) }
+        ensures memory { IfErr result (λ failure. failure ≡ None) }
+    {
+        let HyphenRange { lower, upper } = hyphen;
+        let Measured::Fits(lower) = lower else {
+            return Ok(RangeOrInvalid::Invalid(Refusal::NumberTooLarge));
+        };
+        let Measured::Fits(upper) = upper else {
+            return Ok(RangeOrInvalid::Invalid(Refusal::NumberTooLarge));
+        };
+        let start = lower.as_lower_bound(alloc)?;
+        match upper.as_upper_bound(alloc) {
+            Ok(end) => Ok(RangeOrInvalid::Range(VersionRange { start, end })),
+            Err(failure) if failure.is_memory() => Err(failure),
+            Err(_) => Ok(RangeOrInvalid::Invalid(Refusal::BoundTooLarge)),
+        }
+    }
+
+    // The whole piece as a hyphen range.
+    #[inline(always)]
+    fn hyphen(alloc: Global, piece: &str) -> Result<Option<RangeOrInvalid>, ParseFailure>
+        ensures value { IfOk result (IsWholeRead IsHyphen piece.now) }
+        ensures memory { IfErr result (λ failure. failure ≡ None) }
+    {
+        let Some((hyphen, rest)) = hyphen_front(alloc, piece)? else {
+            return Ok(None);
+        };
+        if !rest.is_empty() {
+            return Ok(None);
+        }
+        Ok(Some(RangeOrInvalid::between(alloc, hyphen)?))
+    }
+
+    // The whole piece, which is not empty; in the short way where it is one comparator of few numbers, or two.
+    #[inline(always)]
+    fn filled(
+        alloc: Global,
+        piece: &str,
+        flavour: Flavour,
+    ) -> Result<Option<RangeOrInvalid>, ParseFailure>
+        ensures value { IfOk result (IsWholeRead (IsFilled flavour) piece.now) }
+        ensures memory { IfErr result (λ failure. failure ≡ None) }
+    {
+        if flavour == Flavour::Specifier {
+            return Ok(None);
+        }
+        if let Some(only) = few_alone(alloc, piece) {
+            return Ok(Some(RangeOrInvalid::of_one(alloc, only)?));
+        }
+        if let Some((first, second)) = few_pair(alloc, piece) {
+            let read = RangeOrInvalid::of_one(alloc, first)?;
+            return Ok(Some(read.and(alloc, second)?));
+        }
+        RangeOrInvalid::by_grammar(alloc, piece, flavour)
+    }
+
+    // The same, by the grammar from its front on.
+    fn by_grammar(
+        alloc: Global,
+        piece: &str,
+        flavour: Flavour,
+    ) -> Result<Option<RangeOrInvalid>, ParseFailure>
+        ensures value { IfOk result (IsWholeRead (IsFilled flavour) piece.now) }
+        ensures memory { IfErr result (λ failure. failure ≡ None) }
+    {
+        match flavour {
+            Flavour::Npm => match RangeOrInvalid::hyphen(alloc, piece)? {
+                Some(read) => Ok(Some(read)),
+                None => RangeOrInvalid::list(alloc, piece, Flavour::Npm),
+            },
+            Flavour::Normal => RangeOrInvalid::list(alloc, piece, Flavour::Normal),
+            Flavour::Specifier => Ok(None),
+        }
+    }
+
+    /// What a piece of npm's or the normalized grammar is, which is followed by `||` or not: nothing, or blanks that are
+    /// followed by `||`, is the range without bounds; comparators with separators between, and one at the end or none,
+    /// are their ranges clamped to one another; two partial versions round a `-` are npm's hyphen range; anything else
+    /// is bad. It is an error only where no memory is left.
+    pub fn parse(
+        alloc: Global,
+        piece: &str,
+        is_followed: bool,
+        flavour: Flavour,
+    ) -> Result<RangeOrInvalid, ParseFailure>
+        ensures value { IfOk result (IsPieceRead flavour is_followed piece.now) }
+        ensures memory { IfErr result (λ failure. failure ≡ None) }
+    {
+        if is_everything(piece, is_followed) {
+            return Ok(RangeOrInvalid::Range(VersionRange::all()));
+        }
+        match RangeOrInvalid::filled(alloc, piece, flavour)? {
+            Some(read) => Ok(read),
+            None => Ok(RangeOrInvalid::Invalid(Refusal::UnexpectedCharacter)),
+        }
+    }
+
+    /// The range that a set keeps of the piece: none of a bad one, and none that ends below 0.0.0.
+    #[inline(always)]
+    pub fn into_range(self) -> Option<VersionRange>
+        ensures { result ≡ kept_of self }
+    {
+        match self {
+            RangeOrInvalid::Range(range) if range.is_none() => None,
+            RangeOrInvalid::Range(range) => Some(range),
+            RangeOrInvalid::Invalid(_) => None,
+        }
+    }
+}
+
+/// The first piece of a text.
+#[derive(Clone, Copy)]
+pub(super) struct FirstPiece<'a> {
+    pub(super) piece: &'a str,
+    is_followed: bool,
+    // What follows its `||`, or nothing.
+    rest: &'a str,
+}
+
+// The text before the leftmost `||`, and what follows that.
+fn cut(text: &str) -> Option<(&str, &str)>
+    ensures { MatchOption result (HasNoBar text.now) (λ p. IsCutAt text.now p.0.now p.1.now) }
+{
+    text.split_once("||")
+}
+
+/// The first piece of the text, and what follows it.
+pub(super) fn first_piece(text: &str) -> FirstPiece<'_>
+    ensures { IsFirstPiece text.now result.piece.now result.is_followed result.rest.now }
+{
+    match cut(text) {
+        Some((piece, rest)) => FirstPiece {
+            piece,
+            is_followed: true,
+            rest,
+        },
+        None => FirstPiece {
+            piece: text,
+            is_followed: false,
+            rest: "",
+        },
+    }
+}
+
+// The next piece of what follows a `||`, and what follows it in turn.
+fn next_piece(rest: &str) -> Option<(&str, &str)>
+    ensures { IsNextPiece rest.now (both_now result) }
+{
+    let start = after_blanks(rest);
+    if start.is_empty() {
+        return None;
+    }
+    Some(cut(start).unwrap_or((start, "")))
+}
+
+/// What was read of the pieces of a text.
+#[derive(Drop)]
+pub(super) struct Alternatives {
+    /// The ranges that are kept of the good ones, in order.
+    pub(super) ranges: CowVec<VersionRange>,
+    /// Why the first bad one is bad.
+    pub(super) refused: Option<Refusal>,
+    /// Whether only one piece was read.
+    pub(super) is_only: bool,
+}
+
+impl Alternatives {
+    // One piece more.
+    #[inline(always)]
+    fn add(&mut self, alloc: Global, read: RangeOrInvalid) -> Result<(), AllocError>
+        ensures { OnOk result (IsOneMore read self.old self.new) }
+    {
+        if let RangeOrInvalid::Invalid(refusal) = &read {
+            self.refused = self.refused.or(Some(*refusal));
+        }
+        if let Some(range) = read.into_range() {
+            if self.ranges.is_empty() {
+                self.ranges = CowVec::of_one(alloc, range)?;
+            } else {
+                self.ranges.push(range)?;
+            }
+        }
+        Ok(())
+    }
+}
+
+/// What is read of each piece of a text, whose first one is cut off. It is an error only where no memory is left.
+pub(super) fn read_pieces(
+    alloc: Global,
+    first: FirstPiece<'_>,
+    flavour: Flavour,
+) -> Result<Alternatives, ParseFailure>
+    requires { IsCutting flavour }
+    ensures value { let f = first.entry in IfOk result
+        (AreAllRead flavour f.piece.now f.is_followed f.rest.now) }
+    ensures memory { IfErr result (λ failure. failure ≡ None) }
+{
+    let mut all = Alternatives {
+        ranges: CowVec::new(alloc),
+        refused: None,
+        is_only: true,
+    };
+    let read = RangeOrInvalid::parse(alloc, first.piece, first.is_followed, flavour)?;
+    all.add(alloc, read)?;
+    let mut rest = first.rest;
+    while let Some((piece, more)) = next_piece(rest) {
+        all.is_only = false;
+        all.add(alloc, RangeOrInvalid::parse(alloc, piece, false, flavour)?)?;
+        rest = more;
+    }
+    Ok(all)
+}

@@ -1,0 +1,198 @@
+#!/usr/bin/env python3
+"""Runs conformance and npmver with each of their requests for memory refused in turn, and holds what they answer to what they
+answer with ample memory. Run at the top of the project, after rt ci (or after rt run in both crates), which builds them.
+
+    tools/refuse/sweep.py [ROWS]    ROWS: another table to choose rows from, or conformance's own
+
+The last line counts; the status is 1 where an answer is wrong."""
+import itertools, json, os, pathlib, subprocess, sys, tempfile
+from concurrent.futures import ThreadPoolExecutor
+
+TOP = pathlib.Path(__file__).resolve().parents[2]
+HERE = pathlib.Path(__file__).resolve().parent
+PROGRAMS = {name: TOP / f"crates/{name}/out/{name}" for name in ("conformance", "npmver")}
+# How many runs in a row meet no refusal before a sweep ends.
+QUIET = 3
+# Rows of each call: the first, the last, and those between in even steps.
+ROWS = 3
+# Texts that are always asked, by each call that takes one like them.
+TEXTS = (
+    "^1.2.3-alpha.beta >=1.2.3-beta || foo || 2.x",
+    "abcdefghijklmnopqrstuvwxyzabcdefghijklmn",
+    "@scope/name@^1.0.0-a.b.c",
+)
+# Calls on texts that stand in the value, which never want memory.
+NEEDS_NONE = ("in-value",)
+# Calls that are asked with ample memory alone, since they answer whether memory was wanting.
+NOT_SWEPT = ("ample",)
+SHORT = 2955
+
+
+def built(name):
+    program = PROGRAMS[name]
+    if not program.is_file():
+        sys.exit(f"{program} isn't built: run rt ci first")
+    return str(program)
+
+
+def library(room):
+    to = f"{room}/refuse.so"
+    subprocess.run(["cc", "-O1", "-shared", "-fPIC", "-o", to, str(HERE / "refuse.c")], check=True)
+    return to
+
+
+class Run:
+    """What a program did."""
+
+    def __init__(self, words, given, preload=None, at=0, is_all=False):
+        read, write = os.pipe()
+        env = {"PATH": "/usr/bin:/bin", "LANG": "C.UTF-8"}
+        if preload:
+            env |= {"LD_PRELOAD": preload, "REFUSE_AT": str(at), "REFUSE_TOLD": str(write), "REFUSE_ALL": str(int(is_all))}
+        ran = subprocess.run(words, input=given, capture_output=True, env=env, pass_fds=[write], timeout=60)
+        os.close(write)
+        with os.fdopen(read, "rb") as it:
+            self.refused = len(it.read())
+        self.status, self.out, self.err = ran.returncode, ran.stdout, ran.stderr
+
+
+class Sweep:
+    """One question with each request refused in turn: alone, and with all after it."""
+
+    def __init__(self, name, words, given, is_right):
+        self.name, self.words, self.given, self.is_right = name, words, given, is_right
+        self.runs = self.refusals = 0
+        self.wrong = []
+
+    def go(self, preload):
+        ample = Run(self.words, self.given)
+        for is_all in (False, True):
+            quiet = 0
+            for at in itertools.count(1):
+                ran = Run(self.words, self.given, preload, at, is_all)
+                self.runs += 1
+                self.refusals += ran.refused
+                if not self.is_right(ample, ran):
+                    how = "and all after it" if is_all else "alone"
+                    self.wrong.append(f"{self.name}: request {at} {how}: status {ran.status}: {(ran.out + ran.err)[:200]!r}")
+                quiet = quiet + 1 if ran.refused == 0 else 0
+                if quiet == QUIET:
+                    break
+        return self
+
+
+def row_is_right(line, may_want):
+    """The right answer; or want of memory, of the call (the row differs, with that answer) or of the program (status 5)."""
+    wants = b"line 1: " + line + b"\n    answered [\"out of memory\"]\n"
+
+    def is_right(ample, ran):
+        if ran.refused == 0 or (ran.status, ran.out) == (0, ample.out):
+            return (ran.status, ran.out) == (0, ample.out)
+        if ran.status == 5:
+            return True
+        return may_want and ran.status == 1 and ran.out.startswith(wants)
+
+    return is_right
+
+
+def command_is_right(ample, ran):
+    if (ran.status, ran.out, ran.err) == (ample.status, ample.out, ample.err):
+        return True
+    return ran.refused > 0 and ran.status == 5 and not ran.out and ran.err in (b"", b"out of memory\n")
+
+
+def rows_of(table):
+    rows = {}
+    for line in table.read_bytes().split(b"\n"):
+        if line.startswith(b"[["):
+            rows.setdefault(json.loads(line)[0][0], []).append(line)
+    return rows
+
+
+def chosen(lines):
+    """Rows of one call: some in even steps, and the first one for each of the texts."""
+    step = max(1, (len(lines) - 1) // (ROWS - 1))
+    picked = [lines[at] for at in sorted({*range(0, len(lines), step)} | {len(lines) - 1})][: ROWS + 1]
+    for text in TEXTS:
+        words = json.dumps(text, ensure_ascii=False).encode()
+        picked += [line for line in lines if words in line][:1]
+    return list(dict.fromkeys(picked))
+
+
+def commands():
+    loose = TEXTS[0]
+    yield from (["fits", "npm", loose, "1.2.3-gamma"], ["fits", "strict", TEXTS[1], "1.0.0"], ["fits", "normal", "1 || 2", "3.0.0"])
+    yield from (["fits-pre", "npm", "^1.0.0", "2.0.0-rc1"], ["normal", "npm", loose], ["normal", "strict", "latest"])
+    yield from (["meet", "<1", ">=1"], ["meet", loose, "1.2.3-b - 3"], ["best", "npm", loose, "1.2.3-rc", "2.1.0", "2.0.0"])
+    yield from (["best", "npm", "1", "1.0.0", "foo"], ["fits", "strict", "", "1.0.0"], ["nothing"], [])
+
+
+def status_of(words, out, err):
+    with open(out, "wb") as to, open(err, "wb") as told:
+        return subprocess.run(words, stdin=subprocess.DEVNULL, stdout=to, stderr=told, timeout=60).returncode
+
+
+def streams():
+    """A standard output that can't be written gives status 6 wherever something is printed there; a standard error that can't be
+    written changes no status; arguments that are no UTF-8, many or long get a line and a status."""
+    npmver, wrong, asked = built("npmver"), [], 0
+    for words in commands():
+        ample = Run([npmver, *words], b"")
+        full = status_of([npmver, *words], "/dev/full", os.devnull)
+        untold = status_of([npmver, *words], os.devnull, "/dev/full")
+        if full != (6 if ample.out else ample.status) or untold != ample.status:
+            wrong.append(f"npmver {words}: statuses {full} and {untold} where a stream can't be written, {ample.status} else")
+        asked += 2
+    long = "1" * 120_000
+    odd = [["fits", "npm", b"\xff", "1.0.0"], ["fits", "npm", "1", b"1.0.0\xfe"], ["fits", "npm", long, "1.0.0"], ["normal", "npm", long]]
+    odd += [["best", "npm", "1", *["1.0.0"] * 100_000], ["meet", *["1"] * 100_000]]
+    for words in odd:
+        ran = Run([npmver, *words], b"")
+        asked += 1
+        if ran.status not in (0, 1, 2, 3, 4) or (ran.out + ran.err).count(b"\n") != 1:
+            wrong.append(f"npmver {str(words)[:60]}: status {ran.status}, {(ran.out + ran.err)[:80]!r}")
+    return asked, wrong
+
+
+def short_texts():
+    signs = " 01.-+*xa^~>=|"
+    return ["".join(it) for length in range(4) for it in itertools.product(signs, repeat=length)]
+
+
+def ample(rows):
+    """No reader wants memory where there is enough: the short texts, and every text of the table with 1 to 64 times `1` behind it."""
+    texts = dict.fromkeys(word for lines in rows.values() for line in lines for word in json.loads(line)[0][1:] if word is not None)
+    short = short_texts()
+    assert len(short) == SHORT, len(short)
+    asked = [*((it, "0") for it in short), *((it, "64") for it in texts)]
+    table = "\n".join(json.dumps([["ample", text, count], ["yes"]], ensure_ascii=False) for text, count in asked)
+    ran = Run([built("conformance")], table.encode())
+    wrong = [] if ran.status == 0 else [f"ample memory: {ran.out[:300]!r}"]
+    return len(asked), wrong
+
+
+def main():
+    table = pathlib.Path(sys.argv[1]) if sys.argv[1:] else TOP / "crates/conformance/stdin"
+    rows = rows_of(table)
+    sweeps = []
+    for call, lines in rows.items():
+        for line in [] if call in NOT_SWEPT else chosen(lines):
+            sweeps.append(Sweep(f"{call}: {line.decode()}", [built("conformance")], line, row_is_right(line, call not in NEEDS_NONE)))
+    for words in commands():
+        sweeps.append(Sweep(f"npmver {words}", [built("npmver"), *words], b"", command_is_right))
+    with tempfile.TemporaryDirectory() as room:
+        preload = library(room)
+        with ThreadPoolExecutor(os.cpu_count()) as pool:
+            done = list(pool.map(lambda it: it.go(preload), sweeps))
+    texts, wrong = ample(rows)
+    asked, broken = streams()
+    wrong += broken + [it for sweep in done for it in sweep.wrong]
+    for it in wrong[:40]:
+        print(it)
+    runs, refusals = sum(it.runs for it in done), sum(it.refusals for it in done)
+    print(f"refuse: {len(rows)} calls and npmver, {len(sweeps)} questions, {runs} runs, {refusals} refusals, {texts} texts with ample memory, {asked} runs with odd streams or words, {len(wrong)} wrong answers")
+    return 1 if wrong else 0
+
+
+if __name__ == "__main__":
+    sys.exit(main())
