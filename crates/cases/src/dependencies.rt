@@ -1,8 +1,5 @@
 //! Dependencies of either kind.
 
-ghost use Rattle.std.specs.Prelude.{◌≡◌};
-ghost use Rattle.cases.specs.Call.{dependency_call_name};
-
 use crate::packages::kind;
 use crate::words::{Answer, Fault, Word, answer};
 use deno_semver::jsr::{JsrDepPackageReq, JsrDepPackageReqParseError};
@@ -10,37 +7,16 @@ use deno_semver::package::{PackageKind, PackageReq};
 use std::alloc::Global;
 use std::cmp::Ordering;
 
-/// The calls on dependencies.
-#[derive(Clone, Copy, Debug, PartialEq, Eq)]
-pub enum DependencyCall {
-    Dependency,
-    DependencyError,
-    DependencyOrder,
-    DependencyMade,
-}
-
-impl DependencyCall {
-    /// The first word of a question that asks the call.
-    pub fn name(self) -> &'static str
-        ensures { result.now ≡ dependency_call_name self }
-    {
-        match self {
-            DependencyCall::Dependency => "dependency",
-            DependencyCall::DependencyError => "dependency-error",
-            DependencyCall::DependencyOrder => "dependency-order",
-            DependencyCall::DependencyMade => "dependency-made",
-        }
-    }
-
-    /// What the call answers to a question's words after its name.
-    pub fn ask(self, alloc: Global, words: &[Word<'_>]) -> Answer {
-        match self {
-            DependencyCall::Dependency => dependency(alloc, words),
-            DependencyCall::DependencyError => dependency_error(alloc, words),
-            DependencyCall::DependencyOrder => dependency_order(alloc, words),
-            DependencyCall::DependencyMade => dependency_made(alloc, words),
-        }
-    }
+/// What a call on dependencies answers to a question's words after its name, where the name is of one.
+pub fn ask(alloc: Global, name: &str, words: &[Word<'_>]) -> Option<Answer> {
+    let answer = match name {
+        "dependency" => dependency(alloc, words),
+        "dependency-error" => dependency_error(alloc, words),
+        "dependency-order" => dependency_order(alloc, words),
+        "dependency-made" => dependency_made(alloc, words),
+        _ => return None,
+    };
+    Some(answer)
 }
 
 // What the reader of this name makes of a text.

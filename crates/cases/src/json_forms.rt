@@ -1,8 +1,5 @@
 //! The JSON forms of values.
 
-ghost use Rattle.std.specs.Prelude.{◌≡◌};
-ghost use Rattle.cases.specs.Call.{json_call_name};
-
 use crate::words::{Answer, Fault, Word, answer, yes_or_no};
 use deno_semver::json::{JsonError, JsonForm, reqs_from_json, reqs_to_json};
 use deno_semver::jsr::{JsrDepPackageReq, JsrPackageNvReference};
@@ -15,46 +12,19 @@ use deno_semver::{
 use serde_json::{Category, Value};
 use std::alloc::Global;
 
-/// The calls on JSON forms.
-#[derive(Clone, Copy, Debug, PartialEq, Eq)]
-pub enum JsonCall {
-    Json,
-    JsonError,
-    JsonOf,
-    Stored,
-    ReqsJson,
-    ReqsOfJson,
-    ReqsStored,
-}
-
-impl JsonCall {
-    /// The first word of a question that asks the call.
-    pub fn name(self) -> &'static str
-        ensures { result.now ≡ json_call_name self }
-    {
-        match self {
-            JsonCall::Json => "json",
-            JsonCall::JsonError => "json-error",
-            JsonCall::JsonOf => "json-of",
-            JsonCall::Stored => "stored",
-            JsonCall::ReqsJson => "reqs-json",
-            JsonCall::ReqsOfJson => "reqs-of-json",
-            JsonCall::ReqsStored => "reqs-stored",
-        }
-    }
-
-    /// What the call answers to a question's words after its name.
-    pub fn ask(self, alloc: Global, words: &[Word<'_>]) -> Answer {
-        match self {
-            JsonCall::Json => json(alloc, words),
-            JsonCall::JsonError => json_error(alloc, words),
-            JsonCall::JsonOf => json_of(alloc, words),
-            JsonCall::Stored => stored(alloc, words),
-            JsonCall::ReqsJson => reqs_json(alloc, words),
-            JsonCall::ReqsOfJson => reqs_of_json(alloc, words),
-            JsonCall::ReqsStored => reqs_stored(alloc, words),
-        }
-    }
+/// What a call on JSON forms answers to a question's words after its name, where the name is of one.
+pub fn ask(alloc: Global, name: &str, words: &[Word<'_>]) -> Option<Answer> {
+    let answer = match name {
+        "json" => json(alloc, words),
+        "json-error" => json_error(alloc, words),
+        "json-of" => json_of(alloc, words),
+        "stored" => stored(alloc, words),
+        "reqs-json" => reqs_json(alloc, words),
+        "reqs-of-json" => reqs_of_json(alloc, words),
+        "reqs-stored" => reqs_stored(alloc, words),
+        _ => return None,
+    };
+    Some(answer)
 }
 
 // The JSON value that a text is.

@@ -1,57 +1,25 @@
 //! The least version that requirements match, and whether each version that one matches another does too.
 
-ghost use Rattle.std.specs.Prelude.{◌≡◌};
-ghost use Rattle.cases.specs.Call.{least_call_name};
-
 use crate::requirements::read;
 use crate::shown;
 use crate::words::{Answer, Fault, Word, answer, yes_or_no};
 use deno_semver::{Version, VersionReq};
 use std::alloc::{AllocError, Global};
 
-/// The calls on least versions and containment.
-#[derive(Clone, Copy, Debug, PartialEq, Eq)]
-pub enum LeastCall {
-    MinVersion,
-    CommonVersion,
-    CommonWithAll,
-    VersionOutside,
-    IsSubset,
-    IsEquivalent,
-    SetIsSubset,
-    SetIsEquivalent,
-}
-
-impl LeastCall {
-    /// The first word of a question that asks the call.
-    pub fn name(self) -> &'static str
-        ensures { result.now ≡ least_call_name self }
-    {
-        match self {
-            LeastCall::MinVersion => "min-version",
-            LeastCall::CommonVersion => "common-version",
-            LeastCall::CommonWithAll => "common-with-all",
-            LeastCall::VersionOutside => "version-outside",
-            LeastCall::IsSubset => "is-subset",
-            LeastCall::IsEquivalent => "is-equivalent",
-            LeastCall::SetIsSubset => "set-is-subset",
-            LeastCall::SetIsEquivalent => "set-is-equivalent",
-        }
-    }
-
-    /// What the call answers to a question's words after its name.
-    pub fn ask(self, alloc: Global, words: &[Word<'_>]) -> Answer {
-        match self {
-            LeastCall::MinVersion => min_version(alloc, words),
-            LeastCall::CommonVersion => common_version(alloc, words),
-            LeastCall::CommonWithAll => common_with_all(alloc, words),
-            LeastCall::VersionOutside => version_outside(alloc, words),
-            LeastCall::IsSubset => is_subset(alloc, words),
-            LeastCall::IsEquivalent => is_equivalent(alloc, words),
-            LeastCall::SetIsSubset => set_is_subset(alloc, words),
-            LeastCall::SetIsEquivalent => set_is_equivalent(alloc, words),
-        }
-    }
+/// What a call on least versions and containment answers to a question's words after its name, where the name is of one.
+pub fn ask(alloc: Global, name: &str, words: &[Word<'_>]) -> Option<Answer> {
+    let answer = match name {
+        "min-version" => min_version(alloc, words),
+        "common-version" => common_version(alloc, words),
+        "common-with-all" => common_with_all(alloc, words),
+        "version-outside" => version_outside(alloc, words),
+        "is-subset" => is_subset(alloc, words),
+        "is-equivalent" => is_equivalent(alloc, words),
+        "set-is-subset" => set_is_subset(alloc, words),
+        "set-is-equivalent" => set_is_equivalent(alloc, words),
+        _ => return None,
+    };
+    Some(answer)
 }
 
 // How the version is displayed, or `none`.

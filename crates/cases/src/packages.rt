@@ -1,8 +1,5 @@
 //! Packages: requirements of them, and names with versions.
 
-ghost use Rattle.std.specs.Prelude.{◌≡◌};
-ghost use Rattle.cases.specs.Call.{package_call_name};
-
 use crate::words::{Answer, Fault, Word, answer};
 use deno_semver::package::{
     PackageNv, PackageReq, PackageReqParseError, PackageReqPartsParseError,
@@ -10,40 +7,17 @@ use deno_semver::package::{
 use std::alloc::Global;
 use std::cmp::Ordering;
 
-/// The calls on packages.
-#[derive(Clone, Copy, Debug, PartialEq, Eq)]
-pub enum PackageCall {
-    NameVersion,
-    NameVersionError,
-    Package,
-    PackageError,
-    Order,
-}
-
-impl PackageCall {
-    /// The first word of a question that asks the call.
-    pub fn name(self) -> &'static str
-        ensures { result.now ≡ package_call_name self }
-    {
-        match self {
-            PackageCall::NameVersion => "name-version",
-            PackageCall::NameVersionError => "name-version-error",
-            PackageCall::Package => "package",
-            PackageCall::PackageError => "package-error",
-            PackageCall::Order => "order",
-        }
-    }
-
-    /// What the call answers to a question's words after its name.
-    pub fn ask(self, alloc: Global, words: &[Word<'_>]) -> Answer {
-        match self {
-            PackageCall::NameVersion => name_version(alloc, words),
-            PackageCall::NameVersionError => name_version_error(alloc, words),
-            PackageCall::Package => package(alloc, words),
-            PackageCall::PackageError => package_error(alloc, words),
-            PackageCall::Order => order(alloc, words),
-        }
-    }
+/// What a call on packages answers to a question's words after its name, where the name is of one.
+pub fn ask(alloc: Global, name: &str, words: &[Word<'_>]) -> Option<Answer> {
+    let answer = match name {
+        "name-version" => name_version(alloc, words),
+        "name-version-error" => name_version_error(alloc, words),
+        "package" => package(alloc, words),
+        "package-error" => package_error(alloc, words),
+        "order" => order(alloc, words),
+        _ => return None,
+    };
+    Some(answer)
 }
 
 // The requirement that the reader of this name makes of the text of a package.

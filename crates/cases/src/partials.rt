@@ -1,35 +1,17 @@
 //! The ranges and bounds that partial versions stand for.
 
-ghost use Rattle.std.specs.Prelude.{◌≡◌};
-ghost use Rattle.cases.specs.Call.{partial_call_name};
-
 use crate::shown;
 use crate::words::{Answer, Fault, Word, answer};
 use deno_semver::{Partial, VersionBoundKind, VersionRange};
 use std::alloc::Global;
 
-/// The calls on partial versions.
-#[derive(Clone, Copy, Debug, PartialEq, Eq)]
-pub enum PartialCall {
-    Partial,
-}
-
-impl PartialCall {
-    /// The first word of a question that asks the call.
-    pub fn name(self) -> &'static str
-        ensures { result.now ≡ partial_call_name self }
-    {
-        match self {
-            PartialCall::Partial => "partial",
-        }
-    }
-
-    /// What the call answers to a question's words after its name.
-    pub fn ask(self, alloc: Global, words: &[Word<'_>]) -> Answer {
-        match self {
-            PartialCall::Partial => partial(alloc, words),
-        }
-    }
+/// What a call on partial versions answers to a question's words after its name, where the name is of one.
+pub fn ask(alloc: Global, name: &str, words: &[Word<'_>]) -> Option<Answer> {
+    let answer = match name {
+        "partial" => partial(alloc, words),
+        _ => return None,
+    };
+    Some(answer)
 }
 
 // `partial`, a word or a sign, and a partial version: the bound or the range that a copy of the partial version stands

@@ -1,7 +1,5 @@
 //! What the readers over a text and a place read, and what follows it.
 
-ghost use Rattle.std.specs.Prelude.{◌≡◌};
-ghost use Rattle.cases.specs.Call.{place_call_name};
 ghost use Rattle.std.specs.Prelude.{IfOk};
 ghost use Rattle.std.specs.Str.{IsCharBoundary};
 
@@ -12,40 +10,17 @@ use semver_req::common;
 use semver_req::common::values::{Flavour, PrimitiveKind};
 use std::alloc::Global;
 
-/// The calls on the parts of a requirement at a place of its text.
-#[derive(Clone, Copy, Debug, PartialEq, Eq)]
-pub enum PlaceCall {
-    PartialAt,
-    QualifierAt,
-    SignAt,
-    ComparatorAt,
-    OperatorAt,
-}
-
-impl PlaceCall {
-    /// The first word of a question that asks the call.
-    pub fn name(self) -> &'static str
-        ensures { result.now ≡ place_call_name self }
-    {
-        match self {
-            PlaceCall::PartialAt => "partial-at",
-            PlaceCall::QualifierAt => "qualifier-at",
-            PlaceCall::SignAt => "sign-at",
-            PlaceCall::ComparatorAt => "comparator-at",
-            PlaceCall::OperatorAt => "operator-at",
-        }
-    }
-
-    /// What the call answers to a question's words after its name.
-    pub fn ask(self, alloc: Global, words: &[Word<'_>]) -> Answer {
-        match self {
-            PlaceCall::PartialAt => partial_at(alloc, words),
-            PlaceCall::QualifierAt => qualifier_at(alloc, words),
-            PlaceCall::SignAt => sign_at(alloc, words),
-            PlaceCall::ComparatorAt => comparator_at(alloc, words),
-            PlaceCall::OperatorAt => operator_at(alloc, words),
-        }
-    }
+/// What a call on the parts of a requirement at a place of its text answers to a question's words after its name, where the name is of one.
+pub fn ask(alloc: Global, name: &str, words: &[Word<'_>]) -> Option<Answer> {
+    let answer = match name {
+        "partial-at" => partial_at(alloc, words),
+        "qualifier-at" => qualifier_at(alloc, words),
+        "sign-at" => sign_at(alloc, words),
+        "comparator-at" => comparator_at(alloc, words),
+        "operator-at" => operator_at(alloc, words),
+        _ => return None,
+    };
+    Some(answer)
 }
 
 fn flavour_of(name: &str) -> Result<Flavour, Fault> {

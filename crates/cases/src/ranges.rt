@@ -1,68 +1,28 @@
 //! What ranges match, and how they are clamped and overlap.
 
-ghost use Rattle.std.specs.Prelude.{◌≡◌};
-ghost use Rattle.cases.specs.Call.{range_call_name};
-
 use crate::shown;
 use crate::words::{Answer, Fault, Word, answer, yes_or_no};
 use deno_semver::Version;
 use std::alloc::Global;
 
-/// The calls on ranges and bounds.
-#[derive(Clone, Copy, Debug, PartialEq, Eq)]
-pub enum RangeCall {
-    Satisfies,
-    SetSatisfies,
-    Admits,
-    Clamp,
-    ClampStart,
-    ClampEnd,
-    IsNone,
-    IntersectsVersion,
-    IntersectsRange,
-    IntersectsSet,
-    SatisfiesWith,
-    SetSatisfiesWith,
-}
-
-impl RangeCall {
-    /// The first word of a question that asks the call.
-    pub fn name(self) -> &'static str
-        ensures { result.now ≡ range_call_name self }
-    {
-        match self {
-            RangeCall::Satisfies => "satisfies",
-            RangeCall::SetSatisfies => "set-satisfies",
-            RangeCall::Admits => "admits",
-            RangeCall::Clamp => "clamp",
-            RangeCall::ClampStart => "clamp-start",
-            RangeCall::ClampEnd => "clamp-end",
-            RangeCall::IsNone => "is-none",
-            RangeCall::IntersectsVersion => "intersects-version",
-            RangeCall::IntersectsRange => "intersects-range",
-            RangeCall::IntersectsSet => "intersects-set",
-            RangeCall::SatisfiesWith => "satisfies-with",
-            RangeCall::SetSatisfiesWith => "set-satisfies-with",
-        }
-    }
-
-    /// What the call answers to a question's words after its name.
-    pub fn ask(self, alloc: Global, words: &[Word<'_>]) -> Answer {
-        match self {
-            RangeCall::Satisfies => satisfies(alloc, words),
-            RangeCall::SetSatisfies => set_satisfies(alloc, words),
-            RangeCall::Admits => admits(alloc, words),
-            RangeCall::Clamp => clamp(alloc, words),
-            RangeCall::ClampStart => clamp_start(alloc, words),
-            RangeCall::ClampEnd => clamp_end(alloc, words),
-            RangeCall::IsNone => is_none(alloc, words),
-            RangeCall::IntersectsVersion => intersects_version(alloc, words),
-            RangeCall::IntersectsRange => intersects_range(alloc, words),
-            RangeCall::IntersectsSet => intersects_set(alloc, words),
-            RangeCall::SatisfiesWith => satisfies_with(alloc, words),
-            RangeCall::SetSatisfiesWith => set_satisfies_with(alloc, words),
-        }
-    }
+/// What a call on ranges and bounds answers to a question's words after its name, where the name is of one.
+pub fn ask(alloc: Global, name: &str, words: &[Word<'_>]) -> Option<Answer> {
+    let answer = match name {
+        "satisfies" => satisfies(alloc, words),
+        "set-satisfies" => set_satisfies(alloc, words),
+        "admits" => admits(alloc, words),
+        "clamp" => clamp(alloc, words),
+        "clamp-start" => clamp_start(alloc, words),
+        "clamp-end" => clamp_end(alloc, words),
+        "is-none" => is_none(alloc, words),
+        "intersects-version" => intersects_version(alloc, words),
+        "intersects-range" => intersects_range(alloc, words),
+        "intersects-set" => intersects_set(alloc, words),
+        "satisfies-with" => satisfies_with(alloc, words),
+        "set-satisfies-with" => set_satisfies_with(alloc, words),
+        _ => return None,
+    };
+    Some(answer)
 }
 
 // The two texts that the words are.

@@ -1,8 +1,5 @@
 //! References to packages, and the names of exports.
 
-ghost use Rattle.std.specs.Prelude.{◌≡◌};
-ghost use Rattle.cases.specs.Call.{reference_call_name};
-
 use crate::packages::kind;
 use crate::words::{Answer, Fault, Word, answer};
 use deno_semver::jsr::{JsrPackageNvReference, JsrPackageReqReference, normalized_export_name};
@@ -14,46 +11,19 @@ use deno_semver::package::{
 use std::alloc::Global;
 use url::{ParseError, Url};
 
-/// The calls on references to packages.
-#[derive(Clone, Copy, Debug, PartialEq, Eq)]
-pub enum ReferenceCall {
-    Reference,
-    ReferenceError,
-    VersionReference,
-    VersionReferenceError,
-    Specifier,
-    OfSpecifier,
-    Export,
-}
-
-impl ReferenceCall {
-    /// The first word of a question that asks the call.
-    pub fn name(self) -> &'static str
-        ensures { result.now ≡ reference_call_name self }
-    {
-        match self {
-            ReferenceCall::Reference => "reference",
-            ReferenceCall::ReferenceError => "reference-error",
-            ReferenceCall::VersionReference => "version-reference",
-            ReferenceCall::VersionReferenceError => "version-reference-error",
-            ReferenceCall::Specifier => "specifier",
-            ReferenceCall::OfSpecifier => "of-specifier",
-            ReferenceCall::Export => "export",
-        }
-    }
-
-    /// What the call answers to a question's words after its name.
-    pub fn ask(self, alloc: Global, words: &[Word<'_>]) -> Answer {
-        match self {
-            ReferenceCall::Reference => reference(alloc, words),
-            ReferenceCall::ReferenceError => reference_error(alloc, words),
-            ReferenceCall::VersionReference => version_reference(alloc, words),
-            ReferenceCall::VersionReferenceError => version_reference_error(alloc, words),
-            ReferenceCall::Specifier => specifier(alloc, words),
-            ReferenceCall::OfSpecifier => of_specifier(alloc, words),
-            ReferenceCall::Export => export(alloc, words),
-        }
-    }
+/// What a call on references to packages answers to a question's words after its name, where the name is of one.
+pub fn ask(alloc: Global, name: &str, words: &[Word<'_>]) -> Option<Answer> {
+    let answer = match name {
+        "reference" => reference(alloc, words),
+        "reference-error" => reference_error(alloc, words),
+        "version-reference" => version_reference(alloc, words),
+        "version-reference-error" => version_reference_error(alloc, words),
+        "specifier" => specifier(alloc, words),
+        "of-specifier" => of_specifier(alloc, words),
+        "export" => export(alloc, words),
+        _ => return None,
+    };
+    Some(answer)
 }
 
 // The two texts that the words are.

@@ -1,8 +1,5 @@
 //! How requirements are read, and what they match.
 
-ghost use Rattle.std.specs.Prelude.{◌≡◌};
-ghost use Rattle.cases.specs.Call.{requirement_call_name};
-
 use crate::shown;
 use crate::words::{Answer, Fault, Word, answer, yes_or_no};
 use deno_semver::npm::{is_valid_npm_tag, parse_npm_version, parse_npm_version_req};
@@ -12,73 +9,28 @@ use deno_semver::{
 };
 use std::alloc::Global;
 
-/// The calls on requirements.
-#[derive(Clone, Copy, Debug, PartialEq, Eq)]
-pub enum RequirementCall {
-    Tag,
-    Requirement,
-    SameRequirement,
-    Ranges,
-    Fits,
-    Overlap,
-    Error,
-    Normal,
-    Reread,
-    Pinned,
-    MatchesWith,
-    MaxSatisfying,
-    MinSatisfying,
-    MaxSatisfyingWith,
-    MinSatisfyingWith,
-    Ample,
-}
-
-impl RequirementCall {
-    /// The first word of a question that asks the call.
-    pub fn name(self) -> &'static str
-        ensures { result.now ≡ requirement_call_name self }
-    {
-        match self {
-            RequirementCall::Tag => "tag",
-            RequirementCall::Requirement => "requirement",
-            RequirementCall::SameRequirement => "same-requirement",
-            RequirementCall::Ranges => "ranges",
-            RequirementCall::Fits => "fits",
-            RequirementCall::Overlap => "overlap",
-            RequirementCall::Error => "error",
-            RequirementCall::Normal => "normal",
-            RequirementCall::Reread => "reread",
-            RequirementCall::Pinned => "pinned",
-            RequirementCall::MatchesWith => "matches-with",
-            RequirementCall::MaxSatisfying => "max-satisfying",
-            RequirementCall::MinSatisfying => "min-satisfying",
-            RequirementCall::MaxSatisfyingWith => "max-satisfying-with",
-            RequirementCall::MinSatisfyingWith => "min-satisfying-with",
-            RequirementCall::Ample => "ample",
-        }
-    }
-
-    /// What the call answers to a question's words after its name.
-    pub fn ask(self, alloc: Global, words: &[Word<'_>]) -> Answer {
-        match self {
-            RequirementCall::Tag => tag(alloc, words),
-            RequirementCall::Requirement => requirement(alloc, words),
-            RequirementCall::SameRequirement => same_requirement(alloc, words),
-            RequirementCall::Ranges => ranges(alloc, words),
-            RequirementCall::Fits => fits(alloc, words),
-            RequirementCall::Overlap => overlap(alloc, words),
-            RequirementCall::Error => error(alloc, words),
-            RequirementCall::Normal => normal(alloc, words),
-            RequirementCall::Reread => reread(alloc, words),
-            RequirementCall::Pinned => pinned(alloc, words),
-            RequirementCall::MatchesWith => matches_with(alloc, words),
-            RequirementCall::MaxSatisfying => max_satisfying(alloc, words),
-            RequirementCall::MinSatisfying => min_satisfying(alloc, words),
-            RequirementCall::MaxSatisfyingWith => max_satisfying_with(alloc, words),
-            RequirementCall::MinSatisfyingWith => min_satisfying_with(alloc, words),
-            RequirementCall::Ample => ample(alloc, words),
-        }
-    }
+/// What a call on requirements answers to a question's words after its name, where the name is of one.
+pub fn ask(alloc: Global, name: &str, words: &[Word<'_>]) -> Option<Answer> {
+    let answer = match name {
+        "tag" => tag(alloc, words),
+        "requirement" => requirement(alloc, words),
+        "same-requirement" => same_requirement(alloc, words),
+        "ranges" => ranges(alloc, words),
+        "fits" => fits(alloc, words),
+        "overlap" => overlap(alloc, words),
+        "error" => error(alloc, words),
+        "normal" => normal(alloc, words),
+        "reread" => reread(alloc, words),
+        "pinned" => pinned(alloc, words),
+        "matches-with" => matches_with(alloc, words),
+        "max-satisfying" => max_satisfying(alloc, words),
+        "min-satisfying" => min_satisfying(alloc, words),
+        "max-satisfying-with" => max_satisfying_with(alloc, words),
+        "min-satisfying-with" => min_satisfying_with(alloc, words),
+        "ample" => ample(alloc, words),
+        _ => return None,
+    };
+    Some(answer)
 }
 
 /// The requirement that the reader of this name makes of a text.

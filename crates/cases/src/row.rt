@@ -1,12 +1,12 @@
 //! Rows of a table.
 
-use crate::call::Call;
+use crate::call;
 use crate::words::{Fault, Word, Words, out_of_memory, refused};
 use serde_json::Category;
 use std::alloc::{AllocError, Global};
 
 /// Why a line is no row that can be asked.
-#[derive(Clone, Copy, Debug, PartialEq, Eq)]
+#[derive(Clone, Copy)]
 pub enum Unreadable {
     /// It is no JSON array of two arrays of texts or nulls.
     NoRow,
@@ -30,8 +30,10 @@ impl Unreadable {
 /// A question and the answer that the table gives it.
 #[derive(Drop)]
 pub struct Row {
-    call: Call,
-    question: Words,
+    // The name of a call.
+    name: String,
+    // The words after it.
+    words: Words,
     expected: Words,
 }
 
@@ -39,27 +41,27 @@ impl Row {
     /// The row that a line is, a JSON array of the question's words and the answer's; or why it is none. It is an error only
     /// where no memory is left.
     pub fn read(alloc: Global, line: &[u8]) -> Result<Result<Row, Unreadable>, AllocError> {
-        let (question, expected): (Words, Words) = match serde_json::from_slice(alloc, line) {
+        let (mut words, expected): (Words, Words) = match serde_json::from_slice(alloc, line) {
             Ok(words) => words,
             Err(e) if e.classify() == Category::Memory => return Err(AllocError),
             Err(_) => return Ok(Err(Unreadable::NoRow)),
         };
-        let Some(Some(name)) = question.first() else {
+        if words.is_empty() {
             return Ok(Err(Unreadable::NoCall));
-        };
-        let Some(call) = Call::named(name.as_str()) else {
-            return Ok(Err(Unreadable::NoCall));
-        };
-        Ok(Ok(Row {
-            call,
-            question,
-            expected,
-        }))
+        }
+        match words.remove(0) {
+            Some(name) if call::is_named(name.as_str()) => Ok(Ok(Row {
+                name,
+                words,
+                expected,
+            })),
+            _ => Ok(Err(Unreadable::NoCall)),
+        }
     }
 
-    /// The call that the row asks.
-    pub fn call(&self) -> Call {
-        self.call
+    /// The name of the call that the row asks.
+    pub fn name(&self) -> &str {
+        self.name.as_str()
     }
 
     /// The answer that the table gives.
@@ -67,24 +69,25 @@ impl Row {
         self.expected.as_slice()
     }
 
-    // The words after the call's name.
+    // The words after the name.
     fn words(&self, alloc: Global) -> Result<Vec<Word<'_>>, AllocError> {
-        self.question
-            .iter()
-            .skip(1)
-            .map(|word| word.as_deref())
-            .collect(alloc)
+        let mut words = Vec::new(alloc);
+        for word in self.words.iter() {
+            words.push(word.as_deref())?;
+        }
+        Ok(words)
     }
 
     /// What the call answers, or why it can't be asked. A refusal is an answer too, and so is that the call wanted memory.
     /// It is an error only where no memory is left to ask with, or to tell the answer.
     pub fn ask(&self, alloc: Global) -> Result<Result<Words, Unreadable>, AllocError> {
-        match self.call.ask(alloc, self.words(alloc)?.as_slice()) {
-            Ok(answer) => Ok(Ok(answer)),
-            Err(Fault::Refused(failure)) => Ok(Ok(refused(alloc, &failure)?)),
-            Err(Fault::Unreadable) => Ok(Err(Unreadable::OtherWords)),
-            Err(Fault::OutOfMemory) => Ok(Ok(out_of_memory(alloc)?)),
-            Err(Fault::Untold) => Err(AllocError),
+        match call::ask(alloc, self.name(), self.words(alloc)?.as_slice()) {
+            None => Ok(Err(Unreadable::NoCall)),
+            Some(Ok(answer)) => Ok(Ok(answer)),
+            Some(Err(Fault::Refused(failure))) => Ok(Ok(refused(alloc, &failure)?)),
+            Some(Err(Fault::Unreadable)) => Ok(Err(Unreadable::OtherWords)),
+            Some(Err(Fault::OutOfMemory)) => Ok(Ok(out_of_memory(alloc)?)),
+            Some(Err(Fault::Untold)) => Err(AllocError),
         }
     }
 }

@@ -90,7 +90,7 @@ fn compare_row<W: Write>(
     match row.ask(alloc)? {
         Ok(answer) => compare_answer(alloc, line, &row, &answer, tally, out),
         Err(why) => {
-            tally.add(row.call(), true);
+            tally.add(row.name(), true);
             print_unreadable(line, why, out)
         }
     }
@@ -105,7 +105,7 @@ fn compare_answer<W: Write>(
     out: &mut W,
 ) -> Result<(), Problem> {
     let differs = !is_met(row.expected(), answer.as_slice());
-    tally.add(row.call(), differs);
+    tally.add(row.name(), differs);
     if differs {
         print_answer(alloc, line, answer, out)?;
     }
@@ -144,7 +144,7 @@ fn print_counts<W: Write>(tally: &Tally, out: &mut W) -> Result<(), Problem> {
 
 // Nothing of a call that no row asked.
 fn print_count<W: Write>(count: &Count, out: &mut W) -> Result<(), Problem> {
-    let name = count.call.name();
+    let name = count.name;
     let asked = count.asked;
     let differ = count.differ;
     if asked > 0 {

@@ -2,13 +2,13 @@
 
 ghost use Rattle.std.specs.Prelude.{◌≡◌, ◌↔◌, IsTrue, All};
 
-use crate::call::Call;
+use crate::call::NAMES;
 use std::alloc::{AllocError, Global};
 
 /// How many rows of a call were asked, and how many of them differ.
-#[derive(Clone, Copy, Debug, PartialEq, Eq)]
+#[derive(Clone, Copy)]
 pub struct Count {
-    pub call: Call,
+    pub name: &'static str,
     pub asked: u64,
     pub differ: u64,
 }
@@ -30,24 +30,24 @@ pub struct Tally {
 impl Tally {
     /// No rows yet.
     pub fn new(alloc: Global) -> Result<Tally, AllocError> {
-        let counts = Call::ALL
-            .iter()
-            .map(|call| Count {
-                call: *call,
+        let mut counts = Vec::new(alloc);
+        for name in NAMES {
+            counts.push(Count {
+                name,
                 asked: 0,
                 differ: 0,
-            })
-            .collect(alloc)?;
+            })?;
+        }
         Ok(Tally {
             counts,
             unreadable: 0,
         })
     }
 
-    /// Counts a row of the call.
-    pub fn add(&mut self, call: Call, differs: bool) {
+    /// Counts a row of the call of this name.
+    pub fn add(&mut self, name: &str, differs: bool) {
         for count in self.counts.iter_mut() {
-            if count.call == call {
+            if count.name == name {
                 count.add(differs);
             }
         }

@@ -1,8 +1,5 @@
 //! Texts that are made and grow, and what is appended to them.
 
-ghost use Rattle.std.specs.Prelude.{◌≡◌};
-ghost use Rattle.cases.specs.Call.{text_call_name};
-
 use crate::shown;
 use crate::words::{Answer, Fault, Word, answer, yes_or_no};
 use deno_semver::jsr::{JsrDepPackageReq, JsrPackageNvReference, JsrPackageReqReference};
@@ -16,43 +13,18 @@ use std::alloc::{AllocError, Global};
 use std::borrow::CowStr;
 use std::fmt;
 
-/// The calls on the two text types.
-#[derive(Clone, Copy, Debug, PartialEq, Eq)]
-pub enum TextCall {
-    Made,
-    Pushed,
-    Replaced,
-    Grown,
-    Written,
-    InValue,
-}
-
-impl TextCall {
-    /// The first word of a question that asks the call.
-    pub fn name(self) -> &'static str
-        ensures { result.now ≡ text_call_name self }
-    {
-        match self {
-            TextCall::Made => "made",
-            TextCall::Pushed => "pushed",
-            TextCall::Replaced => "replaced",
-            TextCall::Grown => "grown",
-            TextCall::Written => "written",
-            TextCall::InValue => "in-value",
-        }
-    }
-
-    /// What the call answers to a question's words after its name.
-    pub fn ask(self, alloc: Global, words: &[Word<'_>]) -> Answer {
-        match self {
-            TextCall::Made => made(alloc, words),
-            TextCall::Pushed => pushed(alloc, words),
-            TextCall::Replaced => replaced(alloc, words),
-            TextCall::Grown => grown(alloc, words),
-            TextCall::Written => written_as(alloc, words),
-            TextCall::InValue => in_value(alloc, words),
-        }
-    }
+/// What a call on the two text types answers to a question's words after its name, where the name is of one.
+pub fn ask(alloc: Global, name: &str, words: &[Word<'_>]) -> Option<Answer> {
+    let answer = match name {
+        "made" => made(alloc, words),
+        "pushed" => pushed(alloc, words),
+        "replaced" => replaced(alloc, words),
+        "grown" => grown(alloc, words),
+        "written" => written_as(alloc, words),
+        "in-value" => in_value(alloc, words),
+        _ => return None,
+    };
+    Some(answer)
 }
 
 // The text as a text of this type, made in the way of this name. The only literal is `latest`.

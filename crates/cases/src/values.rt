@@ -1,8 +1,5 @@
 //! Texts, lists, failures, ranges and requirements that are made by hand.
 
-ghost use Rattle.std.specs.Prelude.{◌≡◌};
-ghost use Rattle.cases.specs.Call.{value_call_name};
-
 use crate::shown;
 use crate::words::{Answer, Fault, Word, answer, yes_or_no};
 use deno_semver::json::JsonError;
@@ -16,52 +13,21 @@ use deno_semver::{
 use semver_base::failure::Refusal;
 use std::alloc::Global;
 
-/// The calls on values, failures and requirements that are made by hand.
-#[derive(Clone, Copy, Debug, PartialEq, Eq)]
-pub enum ValueCall {
-    Text,
-    Items,
-    Failure,
-    SameFailure,
-    Refusal,
-    Range,
-    SameRange,
-    TagRequirement,
-    MemoryError,
-}
-
-impl ValueCall {
-    /// The first word of a question that asks the call.
-    pub fn name(self) -> &'static str
-        ensures { result.now ≡ value_call_name self }
-    {
-        match self {
-            ValueCall::Text => "text",
-            ValueCall::Items => "items",
-            ValueCall::Failure => "failure",
-            ValueCall::SameFailure => "same-failure",
-            ValueCall::Refusal => "refusal",
-            ValueCall::Range => "range",
-            ValueCall::SameRange => "same-range",
-            ValueCall::TagRequirement => "tag-requirement",
-            ValueCall::MemoryError => "memory-error",
-        }
-    }
-
-    /// What the call answers to a question's words after its name.
-    pub fn ask(self, alloc: Global, words: &[Word<'_>]) -> Answer {
-        match self {
-            ValueCall::Text => text(alloc, words),
-            ValueCall::Items => items(alloc, words),
-            ValueCall::Failure => failure(alloc, words),
-            ValueCall::SameFailure => same_failure(alloc, words),
-            ValueCall::Refusal => refusal(alloc, words),
-            ValueCall::Range => range(alloc, words),
-            ValueCall::SameRange => same_range(alloc, words),
-            ValueCall::TagRequirement => tag_requirement(alloc, words),
-            ValueCall::MemoryError => memory_error(alloc, words),
-        }
-    }
+/// What a call on values, failures and requirements that are made by hand answers to a question's words after its name, where the name is of one.
+pub fn ask(alloc: Global, name: &str, words: &[Word<'_>]) -> Option<Answer> {
+    let answer = match name {
+        "text" => text(alloc, words),
+        "items" => items(alloc, words),
+        "failure" => failure(alloc, words),
+        "same-failure" => same_failure(alloc, words),
+        "refusal" => refusal(alloc, words),
+        "range" => range(alloc, words),
+        "same-range" => same_range(alloc, words),
+        "tag-requirement" => tag_requirement(alloc, words),
+        "memory-error" => memory_error(alloc, words),
+        _ => return None,
+    };
+    Some(answer)
 }
 
 // `text`, two texts: the text of a copy of the first, how that is displayed, and whether it is the second.

@@ -1,8 +1,5 @@
 //! How versions are read and compared.
 
-ghost use Rattle.std.specs.Prelude.{◌≡◌};
-ghost use Rattle.cases.specs.Call.{version_call_name};
-
 use crate::shown;
 use crate::words::{Answer, Fault, Word, answer, yes_or_no};
 use deno_semver::npm::parse_npm_version;
@@ -10,43 +7,18 @@ use deno_semver::{Version, VersionPreOrBuild};
 use std::alloc::{AllocError, Global};
 use std::cmp::Ordering;
 
-/// The calls on versions.
-#[derive(Clone, Copy, Debug, PartialEq, Eq)]
-pub enum VersionCall {
-    Version,
-    NpmVersion,
-    Equal,
-    Compare,
-    Precedence,
-    Identifiers,
-}
-
-impl VersionCall {
-    /// The first word of a question that asks the call.
-    pub fn name(self) -> &'static str
-        ensures { result.now ≡ version_call_name self }
-    {
-        match self {
-            VersionCall::Version => "version",
-            VersionCall::NpmVersion => "npm-version",
-            VersionCall::Equal => "equal",
-            VersionCall::Compare => "compare",
-            VersionCall::Precedence => "precedence",
-            VersionCall::Identifiers => "identifiers",
-        }
-    }
-
-    /// What the call answers to a question's words after its name.
-    pub fn ask(self, alloc: Global, words: &[Word<'_>]) -> Answer {
-        match self {
-            VersionCall::Version => version(alloc, words),
-            VersionCall::NpmVersion => npm_version(alloc, words),
-            VersionCall::Equal => equal(alloc, words),
-            VersionCall::Compare => compare(alloc, words),
-            VersionCall::Precedence => precedence(alloc, words),
-            VersionCall::Identifiers => identifiers(alloc, words),
-        }
-    }
+/// What a call on versions answers to a question's words after its name, where the name is of one.
+pub fn ask(alloc: Global, name: &str, words: &[Word<'_>]) -> Option<Answer> {
+    let answer = match name {
+        "version" => version(alloc, words),
+        "npm-version" => npm_version(alloc, words),
+        "equal" => equal(alloc, words),
+        "compare" => compare(alloc, words),
+        "precedence" => precedence(alloc, words),
+        "identifiers" => identifiers(alloc, words),
+        _ => return None,
+    };
+    Some(answer)
 }
 
 // `version`, a text: `read` and how the version is displayed.

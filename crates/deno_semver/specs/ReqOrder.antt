@@ -22,18 +22,17 @@ text_cmp = slice_cmp nat_cmp
 
 -- ---- bounds
 
--- an exclusive one first
+-- an inclusive one first
 abbrev pub kind_place : VersionBoundKind → ℕ
-kind_place kind.Exclusive = 0
-kind_place kind.Inclusive = 1
+kind_place kind.Inclusive = 0
+kind_place kind.Exclusive = 1
 
--- the higher version first, and then an exclusive bound
-abbrev pub start_bound_cmp : VersionBound → VersionBound → Ordering
-start_bound_cmp = then_cmp (on (λ (b : VersionBound). b.version) (flip_args precedence_cmp)) (on (λ (b : VersionBound). kind_place b.kind) nat_cmp)
+abbrev pub bound_versions_cmp : VersionBound → VersionBound → Ordering
+bound_versions_cmp = on (λ (b : VersionBound). b.version) precedence_cmp
 
--- the lower version first, and then an exclusive bound
-abbrev pub end_bound_cmp : VersionBound → VersionBound → Ordering
-end_bound_cmp = then_cmp (on (λ (b : VersionBound). b.version) precedence_cmp) (on (λ (b : VersionBound). kind_place b.kind) nat_cmp)
+-- by precedence, and then an inclusive one first
+abbrev pub bound_cmp : VersionBound → VersionBound → Ordering
+bound_cmp = then_cmp bound_versions_cmp (on (λ (b : VersionBound). kind_place b.kind) nat_cmp)
 
 -- an absent one last
 abbrev pub bound_place : RangeBound → ℕ
@@ -44,13 +43,13 @@ abbrev pub version_bound_of : RangeBound → Option VersionBound
 version_bound_of (bound.Version b) = Some b
 version_bound_of bound.Unbounded = None
 
--- starts: an absent one last
+-- starts: an absent one last, the higher version first, and then an exclusive one
 abbrev pub start_cmp : RangeBound → RangeBound → Ordering
-start_cmp = then_cmp (on bound_place nat_cmp) (on version_bound_of (option_cmp start_bound_cmp))
+start_cmp = then_cmp (on bound_place nat_cmp) (on version_bound_of (flip_args (option_cmp bound_cmp)))
 
--- ends: an absent one last
+-- ends: an absent one last, the lower version first, and then an exclusive one
 abbrev pub end_cmp : RangeBound → RangeBound → Ordering
-end_cmp = then_cmp (on bound_place nat_cmp) (on version_bound_of (option_cmp end_bound_cmp))
+end_cmp = then_cmp (on bound_place nat_cmp) (on version_bound_of (option_cmp (then_cmp bound_versions_cmp (flip_args bound_cmp))))
 
 -- the starts, and then the ends
 abbrev pub range_cmp : VersionRange → VersionRange → Ordering

@@ -20,23 +20,23 @@ use Rattle.semver_req.specs.declared.range_set_or_tag.RangeSetOrTag.{RangeSetOrT
 use Rattle.semver_req.specs.declared.range_set_or_tag.RangeSetOrTag.TheVariants as inner
 use Rattle.semver_req.proofs.Equality.{inner_eq, inner_told}
 use Rattle.deno_semver.specs.Equal.{AreEqualReqs}
-use Rattle.deno_semver.specs.ReqOrder.{bound_place, build_of, builds_cmp, end_bound_cmp, end_cmp, inner_cmp, kind_place, range_cmp, ranges_of, req_cmp, start_bound_cmp, start_cmp, text_cmp, version_bound_of}
+use Rattle.deno_semver.specs.ReqOrder.{bound_cmp, bound_place, bound_versions_cmp, build_of, builds_cmp, end_cmp, inner_cmp, kind_place, range_cmp, ranges_of, req_cmp, start_cmp, text_cmp, version_bound_of}
 use Rattle.deno_semver.specs.Ties.{then_ties}
 use Rattle.deno_semver.specs.declared.package.values.PackageReq.{PackageReq}
 
 -- ---- it is total
 
-start_bound_total : IsTotalOrder start_bound_cmp
-start_bound_total = then_total (on_total (λ (b : VersionBound). b.version) (back_total precedence_total)) (on_total (λ (b : VersionBound). kind_place b.kind) nat_cmp_total)
+bound_versions_total : IsTotalOrder bound_versions_cmp
+bound_versions_total = on_total (λ (b : VersionBound). b.version) precedence_total
 
-end_bound_total : IsTotalOrder end_bound_cmp
-end_bound_total = then_total (on_total (λ (b : VersionBound). b.version) precedence_total) (on_total (λ (b : VersionBound). kind_place b.kind) nat_cmp_total)
+bound_total : IsTotalOrder bound_cmp
+bound_total = then_total bound_versions_total (on_total (λ (b : VersionBound). kind_place b.kind) nat_cmp_total)
 
 start_total : IsTotalOrder start_cmp
-start_total = then_total (on_total bound_place nat_cmp_total) (on_total version_bound_of (options_total start_bound_total))
+start_total = then_total (on_total bound_place nat_cmp_total) (on_total version_bound_of (back_total (options_total bound_total)))
 
 end_total : IsTotalOrder end_cmp
-end_total = then_total (on_total bound_place nat_cmp_total) (on_total version_bound_of (options_total end_bound_total))
+end_total = then_total (on_total bound_place nat_cmp_total) (on_total version_bound_of (options_total (then_total bound_versions_total (back_total bound_total))))
 
 range_total : IsTotalOrder range_cmp
 range_total = then_total (on_total (λ (r : VersionRange). r.start) start_total) (on_total (λ (r : VersionRange). r.end) end_total)
@@ -79,32 +79,24 @@ version_same x y h b =
 abbrev bound_of : VersionBoundKind → Version → VersionBound
 bound_of k v = record { kind = k; version = v }
 
-bound_same : (x y : VersionBound) → nat_cmp (kind_place x.kind) (kind_place y.kind) ≡ Equal → SamePrecedence x.version y.version → x.version.build ≡ y.version.build → x ≡ y
-bound_same x y e same_precedence b =
-    let k = kind_same x.kind y.kind e in
-    let v = version_same x.version y.version same_precedence b in
+bound_same : (x y : VersionBound) → bound_cmp x y ≡ Equal → x.version.build ≡ y.version.build → x ≡ y
+bound_same x y e b =
+    let k = kind_same x.kind y.kind (then_second _ _ e) in
+    let v = version_same x.version y.version (precedence-anti x.version y.version (then_first _ _ e)) b in
     let same : bound_of x.kind x.version ≡ bound_of y.kind y.version = rw (k, v) refl in
     same
-
-start_bound_same : (x y : VersionBound) → start_bound_cmp x y ≡ Equal → x.version.build ≡ y.version.build → x ≡ y
-start_bound_same x y e b =
-    let back = precedence-anti y.version x.version (then_first _ _ e) in
-    bound_same x y (then_second _ _ e) (record { major = sym back.major; minor = sym back.minor; patch = sym back.patch; pre = sym back.pre }) b
-
-end_bound_same : (x y : VersionBound) → end_bound_cmp x y ≡ Equal → x.version.build ≡ y.version.build → x ≡ y
-end_bound_same x y e b = bound_same x y (then_second _ _ e) (precedence-anti x.version y.version (then_first _ _ e)) b
 
 builds_same : (xs ys : List (List ℕ)) → slice_cmp text_cmp xs ys ≡ Equal → xs ≡ ys
 builds_same xs ys e = slice_cmp-IsAntisymmetric (slice_cmp-IsAntisymmetric nat_cmp-IsAntisymmetric) xs ys e
 
 start_same : (a b : RangeBound) → start_cmp a b ≡ Equal → build_of a ≡ build_of b → a ≡ b
-start_same (bound.Version x) (bound.Version y) e b = ap (λ (v : VersionBound). bound.Version v) (start_bound_same x y e b)
+start_same (bound.Version x) (bound.Version y) e b = ap (λ (v : VersionBound). bound.Version v) (sym (bound_same y x e (sym b)))
 start_same (bound.Version x) bound.Unbounded e b = cc e
 start_same bound.Unbounded (bound.Version y) e b = cc e
 start_same bound.Unbounded bound.Unbounded e b = refl
 
 end_same : (a b : RangeBound) → end_cmp a b ≡ Equal → build_of a ≡ build_of b → a ≡ b
-end_same (bound.Version x) (bound.Version y) e b = ap (λ (v : VersionBound). bound.Version v) (end_bound_same x y e b)
+end_same (bound.Version x) (bound.Version y) e b = ap (λ (v : VersionBound). bound.Version v) (sym (bound_same y x (then_second _ _ e) (sym b)))
 end_same (bound.Version x) bound.Unbounded e b = cc e
 end_same bound.Unbounded (bound.Version y) e b = cc e
 end_same bound.Unbounded bound.Unbounded e b = refl

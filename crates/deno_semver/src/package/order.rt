@@ -3,7 +3,7 @@
 ghost use Rattle.std.specs.Prelude.{◌≡◌, refl};
 ghost use Rattle.std.specs.Cmp.Lexicographic.{slice_cmp};
 ghost use Rattle.std.specs.Ordering.{as_partial_cmp};
-ghost use Rattle.deno_semver.specs.ReqOrder.{build_of, builds_cmp, end_bound_cmp, end_cmp, inner_cmp, kind_place, range_cmp, req_cmp, start_bound_cmp, start_cmp, text_cmp};
+ghost use Rattle.deno_semver.specs.ReqOrder.{bound_cmp, bound_versions_cmp, build_of, builds_cmp, end_cmp, inner_cmp, kind_place, range_cmp, req_cmp, start_cmp, text_cmp};
 ghost use Rattle.deno_semver.specs.ReqOrderLaws.{req_po, req_ties, req_total};
 
 use super::values::PackageReq;
@@ -12,35 +12,29 @@ use semver_base::version::VersionPreOrBuild;
 use semver_req::range_set_or_tag::RangeSetOrTag;
 use std::cmp::Ordering;
 
-// The place of a kind: an exclusive one first.
+// The place of a kind: an inclusive one first.
 fn kind_place(kind: VersionBoundKind) -> u8
     ensures { result ≡ kind_place kind }
 {
     match kind {
-        VersionBoundKind::Exclusive => 0,
-        VersionBoundKind::Inclusive => 1,
+        VersionBoundKind::Inclusive => 0,
+        VersionBoundKind::Exclusive => 1,
     }
 }
 
-// The higher version first, and then an exclusive bound.
-fn cmp_start_bounds(a: &VersionBound, b: &VersionBound) -> Ordering
-    ensures { result ≡ start_bound_cmp a.now b.now }
+fn cmp_versions(a: &VersionBound, b: &VersionBound) -> Ordering
+    ensures { result ≡ bound_versions_cmp a.now b.now }
 {
-    b.version
-        .cmp_precedence(&a.version)
-        .then_with(|| kind_place(a.kind).cmp(&kind_place(b.kind)))
+    a.version.cmp_precedence(&b.version)
 }
 
-// The lower version first, and then an exclusive bound.
-fn cmp_end_bounds(a: &VersionBound, b: &VersionBound) -> Ordering
-    ensures { result ≡ end_bound_cmp a.now b.now }
+fn cmp_bounds(a: &VersionBound, b: &VersionBound) -> Ordering
+    ensures { result ≡ bound_cmp a.now b.now }
 {
-    a.version
-        .cmp_precedence(&b.version)
-        .then_with(|| kind_place(a.kind).cmp(&kind_place(b.kind)))
+    cmp_versions(a, b).then_with(|| kind_place(a.kind).cmp(&kind_place(b.kind)))
 }
 
-// No start last.
+// The higher version first, then an exclusive bound, and no start last.
 fn cmp_starts(a: &RangeBound, b: &RangeBound) -> Ordering
     ensures { result ≡ start_cmp a.now b.now }
 {
@@ -48,11 +42,11 @@ fn cmp_starts(a: &RangeBound, b: &RangeBound) -> Ordering
         (RangeBound::Unbounded, RangeBound::Unbounded) => Ordering::Equal,
         (RangeBound::Unbounded, RangeBound::Version(_)) => Ordering::Greater,
         (RangeBound::Version(_), RangeBound::Unbounded) => Ordering::Less,
-        (RangeBound::Version(a), RangeBound::Version(b)) => cmp_start_bounds(a, b),
+        (RangeBound::Version(a), RangeBound::Version(b)) => cmp_bounds(b, a),
     }
 }
 
-// No end last.
+// The lower version first, then an exclusive bound, and no end last.
 fn cmp_ends(a: &RangeBound, b: &RangeBound) -> Ordering
     ensures { result ≡ end_cmp a.now b.now }
 {
@@ -60,7 +54,7 @@ fn cmp_ends(a: &RangeBound, b: &RangeBound) -> Ordering
         (RangeBound::Unbounded, RangeBound::Unbounded) => Ordering::Equal,
         (RangeBound::Unbounded, RangeBound::Version(_)) => Ordering::Greater,
         (RangeBound::Version(_), RangeBound::Unbounded) => Ordering::Less,
-        (RangeBound::Version(a), RangeBound::Version(b)) => cmp_end_bounds(a, b),
+        (RangeBound::Version(a), RangeBound::Version(b)) => cmp_versions(a, b).then(cmp_bounds(b, a)),
     }
 }
 
