@@ -21,6 +21,8 @@ TEXTS = (
     "abcdefghijklmnopqrstuvwxyzabcdefghijklmn",
     "@scope/name@^1.0.0-a.b.c",
 )
+# How many items the list has whose copy is asked for.
+ITEMS = 1000
 # Calls on texts that stand in the value, which never want memory.
 NEEDS_NONE = ("in-value",)
 # Calls that are asked with ample memory alone, since they answer whether memory was wanting.
@@ -119,6 +121,14 @@ def chosen(lines):
     return list(dict.fromkeys(picked))
 
 
+def long_list():
+    """A row whose answer is told of the copy of a long list."""
+    items = [f"a{at}" for at in range(ITEMS)]
+    whole = ".".join(items)
+    row = [["items", whole, str(ITEMS - 1)], [str(ITEMS), items[-1], whole]]
+    return json.dumps(row).encode()
+
+
 def commands():
     loose = TEXTS[0]
     yield from (["fits", "npm", loose, "1.2.3-gamma"], ["fits", "strict", TEXTS[1], "1.0.0"], ["fits", "normal", "1 || 2", "3.0.0"])
@@ -178,6 +188,8 @@ def main():
     for call, lines in rows.items():
         for line in [] if call in NOT_SWEPT else chosen(lines):
             sweeps.append(Sweep(f"{call}: {line.decode()}", [built("conformance")], line, row_is_right(line, call not in NEEDS_NONE)))
+    long = long_list()
+    sweeps.append(Sweep(f"the copy of a list of {ITEMS} items", [built("conformance")], long, row_is_right(long, True)))
     for words in commands():
         sweeps.append(Sweep(f"npmver {words}", [built("npmver"), *words], b"", command_is_right))
     with tempfile.TemporaryDirectory() as room:

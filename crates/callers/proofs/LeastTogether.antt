@@ -1,6 +1,6 @@
 -- The least version that several requirements match, told of the trees of their texts.
-use Rattle.std.proofs.Common.{◌≡◌, ◌&&◌, ℕ, Bool, true, false, List, [], ◌∷◌, None, Some, Ok, refl, sym, ◌∙◌}
-use Rattle.callers.specs.TextsAsked.{AreOfTexts, HaveTrees, IsAnswerOfTexts, IsOfText, Tree, trees_mean}
+use Rattle.std.proofs.Common.{ℕ, List, ◌∷◌, None, Some, Ok}
+use Rattle.callers.specs.TextsAsked.{AreOfTexts, IsAnswerOfTexts, IsOfText, trees_mean}
 use Rattle.callers.specs.Together.{IsLeastOfAll, IsLeastOfTrees}
 use Rattle.callers.specs.declared.together.Suitable.{Suitable}
 use Rattle.callers.specs.declared.together.Suitable.TheVariants as answer

@@ -1,17 +1,21 @@
 -- What is read again of a stored requirement, from the contracts of its text and of its reader.
-use Rattle.std.proofs.Common.{◌≡◌, ℕ, List, Bool, true, Result, Ok, Err, sym, ap, subst, ◌∙◌}
-use Rattle.std.specs.Prelude.{◌↔◌, IsTrue}
-use Rattle.callers.specs.Stored.{IsReadAgain, IsReread, OfRanges}
+use Rattle.std.proofs.Common.{◌≡◌, ℕ, List, Bool, true, false, Result, Ok, Err, sym, ap, subst, ◌∙◌}
+use Rattle.std.specs.List.{list_all}
+use Rattle.callers.specs.Allowance.{allowance_of, yes_or_no}
+use Rattle.callers.specs.Stored.{IsReadAgain, IsReread, IsTagRead, IsToldOfRanges, OfRanges, OfTag}
+use Rattle.callers.specs.declared.requirements.Allowance.TheVariants as answer
+use Rattle.semver_base.specs.Meaning.{alternatives, tree_means}
 use Rattle.semver_base.specs.NormalText.{set_text}
 use Rattle.semver_base.specs.Shortest.{shortest_tree}
 use Rattle.semver_base.specs.declared.range.PreRelease.TheVariants.{Restricted}
 use Rattle.semver_base.specs.declared.range.VersionRange.{VersionRange}
+use Rattle.semver_base.specs.declared.version.Version.{Version}
 use Rattle.semver_req.specs.KeptSet.{kept}
-use Rattle.semver_req.specs.Outcome.{Ranges}
+use Rattle.semver_req.specs.Outcome.{IsOutcome, Ranges, Tag}
 use Rattle.semver_req.specs.Pieces.{IsCutting}
 use Rattle.semver_req.specs.Readers.{Failure, IsReadOrTag, IsReaderAnswer}
 use Rattle.semver_req.specs.Requirement.{Requirement, inner_text}
-use Rattle.semver_req.specs.Rereading.{IsReadAsForms, IsTree, KeepsEqual, KeepsSettled, KeepsTheSame, OfReadRanges}
+use Rattle.semver_req.specs.Rereading.{IsReadAsForms, IsTree, KeepsEqual, KeepsSettled, KeepsTheSame, OfReadRanges, keeps_meaning}
 use Rattle.semver_req.specs.declared.common.values.Flavour.{Flavour}
 use Rattle.semver_req.specs.declared.range_set_or_tag.RangeSetOrTag.{RangeSetOrTag}
 use Rattle.semver_req.specs.declared.range_set_or_tag.RangeSetOrTag.TheVariants as inner
@@ -44,6 +48,13 @@ module _ {E : Type 0} (source : E → Failure) (f : Flavour) (cut : IsCutting f)
   of_text (inner.RangeSet set) text is forms same equal settled (Err e) h = λ k. h.answer (Ranges (shortest_tree set.0)) (forms k f cut).0
   of_text (inner.Tag tag) text is forms same equal settled r h = tt
 
+  -- a tag is read as the tag that the reader makes of it
+  pub of_tag : (stored : RangeSetOrTag) (text : List ℕ) → text ≡ inner_text stored → (r : Result Requirement E) → IsReaderAnswer source f text r → OfTag f (IsTagRead source r) stored
+  of_tag (inner.RangeSet set) text is r h = tt
+  of_tag (inner.Tag tag) text is r h = λ t. h.answer (Tag tag) (subst (λ u. IsOutcome f u (Tag tag)) (sym is) t)
+
+-- ---- read twice
+
 -- what is read of ranges that were read again
 again_of : (Says : List VersionRange → Type 0) {ranges : List VersionRange} {once : RangeSetOrTag} → (h : IsReadAgain ranges once) → OfRanges Says once → Says h.again
 again_of Says h k = subst (OfRanges Says) h.is_ranges k h.read_set
@@ -53,13 +64,30 @@ twice_is {twice = twice} h k =
     let next : IsReadAgain h.again twice = again_of (λ again. IsReadAgain again twice) h k in
     next.is_ranges ∙ (ap as_inner (next.stays h.settled) ∙ sym h.is_ranges)
 
--- what is read a second time is equal to what was read the first time
-pub is_settled : (stored once twice : RangeSetOrTag) → OfRanges (λ ranges. IsReadAgain ranges once) stored → OfRanges (λ again. IsReadAgain again twice) once
-    → (b : Bool) → IsTrue b ↔ (twice ≡ once) → OfRanges (λ ranges. b ≡ true) stored
-is_settled (inner.RangeSet set) once twice h k b told = λ s. told.1 (twice_is (h s) k)
-is_settled (inner.Tag tag) once twice h k b told = tt
+-- what is read a second time is what was read the first time
+pub both_times : (stored once twice : RangeSetOrTag) → OfRanges (λ ranges. IsReadAgain ranges once) stored → OfRanges (λ again. IsReadAgain again twice) once
+    → OfRanges (λ ranges. IsReadAgain ranges once × (twice ≡ once)) stored
+both_times (inner.RangeSet set) once twice h k = λ s. (h s, twice_is (h s) k)
+both_times (inner.Tag tag) once twice h k = tt
 
 -- a failure of the second reading is one of the first reading's ranges
 pub is_wanting : (stored once : RangeSetOrTag) (P : Type 0) → OfRanges (λ ranges. IsReadAgain ranges once) stored → OfRanges (λ again. P) once → OfRanges (λ ranges. P) stored
 is_wanting (inner.RangeSet set) once P h k = λ s. again_of (λ again. P) (h s) k
 is_wanting (inner.Tag tag) once P h k = tt
+
+-- ---- asked for a version
+
+no_tag : (b : Bool) → yes_or_no b ≡ answer.Tag → ⊥
+no_tag true e = cc e
+no_tag false e = cc e
+
+told_again : (ranges : List VersionRange) (read : RangeSetOrTag) (v : Version) → IsReadAgain ranges read
+    → IsToldOfRanges (list_all keeps_meaning ranges) (tree_means (alternatives ranges) v) (allowance_of read v)
+told_again ranges read v h = subst (λ r. IsToldOfRanges (list_all keeps_meaning ranges) (tree_means (alternatives ranges) v) (allowance_of r v)) (sym h.is_ranges)
+    (no_tag _, λ keep. ap yes_or_no (h.means keep v))
+
+-- what is told of a requirement that was read again
+pub told_of_ranges : (stored read : RangeSetOrTag) (v : Version) → OfRanges (λ ranges. IsReadAgain ranges read) stored
+    → OfRanges (λ ranges. IsToldOfRanges (list_all keeps_meaning ranges) (tree_means (alternatives ranges) v) (allowance_of read v)) stored
+told_of_ranges (inner.RangeSet set) read v h = λ s. told_again set.0 read v (h s)
+told_of_ranges (inner.Tag tag) read v h = tt

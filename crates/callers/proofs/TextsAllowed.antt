@@ -2,7 +2,6 @@
 use Rattle.std.proofs.Common.{◌≡◌, ℕ, true, false, List, Ok, Err, inl, inr, refl, subst, ap}
 use Rattle.std.specs.Str.{trim}
 use Rattle.callers.specs.Allowance.{AllowsText, EitherIsRefused, IsTold, allowance_of, yes_or_no}
-use Rattle.callers.specs.declared.requirements.Allowance.TheVariants as answer
 use Rattle.semver_base.specs.Meaning.{tree_means}
 use Rattle.semver_base.specs.VersionGrammar.{IsVersionOutcome}
 use Rattle.semver_base.specs.declared.failure.Refusal.{Refusal}

@@ -6,9 +6,8 @@ use Rattle.callers.specs.declared.update.Update.{Update}
 use Rattle.callers.specs.declared.update.Update.TheVariants as answer
 use Rattle.semver_base.specs.Meaning.{tree_means}
 use Rattle.semver_base.specs.declared.range.PreRelease.TheVariants.{Restricted}
-use Rattle.semver_base.specs.declared.version.Version.{Version}
 use Rattle.semver_req.specs.Outcome.{TextsHaveOneOutcome, tree_ranges}
-use Rattle.semver_req.specs.Requirement.{Requirement, have_no_tag, inner_means, is_no_tag, tag_of}
+use Rattle.semver_req.specs.Requirement.{Requirement, inner_means, is_no_tag, tag_of}
 use Rattle.semver_req.specs.declared.common.values.Flavour.{Flavour}
 use Rattle.semver_req.specs.declared.range_set_or_tag.RangeSetOrTag.{RangeSetOrTag}
 use Rattle.semver_req.specs.declared.range_set_or_tag.RangeSetOrTag.TheVariants as inner

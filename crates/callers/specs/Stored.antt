@@ -1,19 +1,20 @@
 -- What is read again of a requirement that was stored as its normal text.
-use Rattle.std.specs.Prelude.{◌≡◌, ℕ, Bool, List, true, None, Result, MatchResult}
+use Rattle.std.specs.Prelude.{◌≡◌, ◌⊎◌, ℕ, Bool, List, true, None, Result, IfErr, IfOk, IsErr, MatchResult}
 use Rattle.std.specs.List.{list_all}
 use Rattle.callers.specs.Allowance.{yes_or_no}
 use Rattle.callers.specs.declared.requirements.Allowance.{Allowance}
+use Rattle.callers.specs.declared.requirements.Allowance.TheVariants as answer
+use Rattle.callers.specs.declared.stored.Reread.{Reread}
 use Rattle.semver_base.specs.Comparators.{Comparator}
 use Rattle.semver_base.specs.Meaning.{alternatives, tree_means}
 use Rattle.semver_base.specs.declared.range.VersionRange.{VersionRange}
 use Rattle.semver_base.specs.declared.version.Version.{Version}
 use Rattle.semver_req.specs.KeptSet.{IsReadSet, kept}
-use Rattle.semver_req.specs.Outcome.{IsOutcome, Ranges, Tag, tree_ranges}
+use Rattle.semver_req.specs.Outcome.{IsOutcome, Outcome, Ranges, Refused, Tag, tree_ranges}
 use Rattle.semver_req.specs.Readers.{Failure}
 use Rattle.semver_req.specs.Requirement.{Requirement}
 use Rattle.semver_req.specs.Rereading.{IsSettledSet, is_orderly, keeps_meaning}
 use Rattle.semver_req.specs.declared.common.values.Flavour.{Flavour}
-use Rattle.semver_req.specs.declared.common.values.Flavour.TheVariants.{Normal}
 use Rattle.semver_req.specs.declared.range_set_or_tag.RangeSetOrTag.{RangeSetOrTag}
 use Rattle.semver_req.specs.declared.range_set_or_tag.RangeSetOrTag.TheVariants as inner
 
@@ -22,22 +23,22 @@ abbrev pub OfRanges : (List VersionRange → Type 0) → RangeSetOrTag → Type 
 OfRanges Says (inner.RangeSet set) = IsReadSet set.0 → Says set.0
 OfRanges Says (inner.Tag tag) = Unit {0}
 
--- what is known of a tag that the normalized reader makes of it again
-abbrev pub OfTag : Type 0 → RangeSetOrTag → Type 0
-OfTag Says (inner.RangeSet set) = Unit {0}
-OfTag Says (inner.Tag tag) = IsOutcome Normal tag (Tag tag) → Says
+-- what is known of a tag that the reader makes of it again
+abbrev pub OfTag : Flavour → (List ℕ → Type 0) → RangeSetOrTag → Type 0
+OfTag f Says (inner.RangeSet set) = Unit {0}
+OfTag f Says (inner.Tag tag) = IsOutcome f tag (Tag tag) → Says tag
 
 -- what is known of a text that is a tag
-abbrev pub TagOfText : Flavour → List ℕ → Type 0 → Type 0
-TagOfText f text Says = (name : List ℕ) → IsOutcome f text (Tag name) → Says
+abbrev pub TagOfText : Flavour → List ℕ → (List ℕ → Type 0) → Type 0
+TagOfText f text Says = (name : List ℕ) → IsOutcome f text (Tag name) → Says name
 
 -- the value is so, want of memory aside
 abbrev pub Answers : {T E : Type 0} → (E → Failure) → (T → Type 0) → Result T E → Type 0
 Answers source Says result = MatchResult result Says (λ e. source e ≡ None)
 
--- the answer is yes, want of memory aside
-abbrev pub AnswersYes : {E : Type 0} → (E → Failure) → Result Bool E → Type 0
-AnswersYes source = Answers source (λ yes. yes ≡ true)
+-- this tag is read, want of memory aside
+abbrev pub IsTagRead : {E : Type 0} → (E → Failure) → Result Requirement E → List ℕ → Type 0
+IsTagRead source result tag = Answers source (λ req. req.inner ≡ inner.Tag tag) result
 
 -- what is read again of the text of ranges
 pub record IsReadAgain (ranges : List VersionRange) (read : RangeSetOrTag) : Type 0 where
@@ -56,14 +57,31 @@ pub record IsReadAgain (ranges : List VersionRange) (read : RangeSetOrTag) : Typ
 abbrev pub IsReread : {E : Type 0} → (E → Failure) → Result Requirement E → List VersionRange → Type 0
 IsReread source result ranges = Answers source (λ req. IsReadAgain ranges req.inner) result
 
--- a version is allowed exactly where the ranges mean it, if each keeps its meaning
-abbrev pub AllowsAsBefore : {E : Type 0} → (E → Failure) → Version → Result Allowance E → List VersionRange → Type 0
-AllowsAsBefore source v result ranges = list_all keeps_meaning ranges ≡ true
-    → Answers source (λ allowance. allowance ≡ yes_or_no (tree_means (alternatives ranges) v)) result
+-- what is read again of such ranges, and what is read again of that, which is the same, want of memory aside
+abbrev pub IsRereadTwice : {E : Type 0} → (E → Failure) → Result Reread E → List VersionRange → Type 0
+IsRereadTwice source result ranges = Answers source (λ r. IsReadAgain ranges r.once.inner × (r.twice.inner ≡ r.once.inner)) result
 
--- for every tree of the text a version is allowed exactly where the tree means it, if each range that is kept of the
--- tree keeps its meaning
-abbrev pub AllowsAsItsText : {E : Type 0} → (E → Failure) → Flavour → List ℕ → Version → Result Allowance E → Type 0
-AllowsAsItsText source f text v result = (tree : List (List Comparator)) → IsOutcome f text (Ranges tree)
-    → list_all keeps_meaning (kept f tree) ≡ true
-    → Answers source (λ allowance. allowance ≡ yes_or_no (tree_means (tree_ranges tree) v)) result
+-- what is told of ranges: never that they are a tag; and that a version is allowed exactly where they mean it, if each keeps
+-- its meaning
+abbrev pub IsToldOfRanges : Bool → Bool → Allowance → Type 0
+IsToldOfRanges keep mean allowance = (allowance ≡ answer.Tag → ⊥) × (keep ≡ true → allowance ≡ yes_or_no mean)
+
+abbrev pub AllowsAsBefore : {E : Type 0} → (E → Failure) → Version → Result Allowance E → List VersionRange → Type 0
+AllowsAsBefore source v result ranges =
+    Answers source (IsToldOfRanges (list_all keeps_meaning ranges) (tree_means (alternatives ranges) v)) result
+
+-- a tag is told as one, want of memory aside
+abbrev pub IsTagTold : {E : Type 0} → (E → Failure) → Result Allowance E → List ℕ → Type 0
+IsTagTold source result tag = Answers source (λ allowance. allowance ≡ answer.Tag) result
+
+-- what is answered of a text whose requirement is stored and read again
+pub record AllowsAsItsText (f : Flavour) (text : List ℕ) (v : Version) (result : Result Allowance Failure) : Type 0 where
+  -- a text that is answered has an outcome, and each outcome of it is told so, want of memory aside
+  pub told : IfOk result (λ allowance. (o : Outcome) × IsOutcome f text o)
+  -- for every tree of the text what the tree's ranges tell
+  pub ranges : (tree : List (List Comparator)) → IsOutcome f text (Ranges tree)
+      → Answers (λ failure. failure) (IsToldOfRanges (list_all keeps_meaning (kept f tree)) (tree_means (tree_ranges tree) v)) result
+  pub tag : TagOfText f text (IsTagTold (λ failure. failure) result)
+  -- a text is refused where that is its outcome, and nowhere else, want of memory aside
+  pub refused : IsOutcome f text Refused → IsErr result
+  pub refused_only : IfErr result (λ failure. (failure ≡ None) ⊎ IsOutcome f text Refused)

@@ -1,10 +1,10 @@
 -- What is answered to a question about several texts of requirements together, by the outcomes of the texts.
-use Rattle.std.specs.Prelude.{◌≡◌, ◌⊎◌, ℕ, List, [], ◌∷◌, Bool, None, Result, IfErr, IfOk, IsErr, MatchResult, map}
+use Rattle.std.specs.Prelude.{◌≡◌, ◌⊎◌, ℕ, List, [], ◌∷◌, Bool, None, Result, IfErr, IfOk, IsErr, MatchResult}
 use Rattle.std.specs.List.{list_all}
 use Rattle.semver_base.specs.Comparators.{Comparator}
 use Rattle.semver_base.specs.Meaning.{tree_means}
 use Rattle.semver_base.specs.declared.version.Version.{Version}
-use Rattle.semver_req.specs.Outcome.{IsOutcome, Outcome, Ranges, Refused, Tag, tree_ranges}
+use Rattle.semver_req.specs.Outcome.{IsOutcome, Ranges, Refused, Tag, tree_ranges}
 use Rattle.semver_req.specs.Readers.{Failure, IsReading, MeansTrees}
 use Rattle.semver_req.specs.Requirement.{Requirement}
 use Rattle.semver_req.specs.declared.common.values.Flavour.{Flavour}

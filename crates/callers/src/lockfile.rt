@@ -1,6 +1,6 @@
 //! Does a requirement of a package, or a list of them, survive a lockfile, which keeps it as JSON?
 
-ghost use Rattle.std.specs.Prelude.{◌≡◌, All, IsSorted, true};
+ghost use Rattle.std.specs.Prelude.{◌≡◌, All, IsSorted};
 ghost use Rattle.deno_semver.specs.Equal.{AreEqualReqs};
 ghost use Rattle.deno_semver.specs.ReqOrder.{req_cmp};
 ghost use Rattle.deno_semver.specs.Stored.{IsKeptReq, IsSettledReq};
@@ -11,7 +11,6 @@ ghost use Rattle.callers.specs.Lockfile.{IsLockedList, KeepsMeaning, Locks, OfLo
 use crate::requirements::{Allowance, allowance_by};
 use deno_semver::Version;
 use deno_semver::json::{JsonError, JsonForm, reqs_from_json, reqs_to_json};
-use deno_semver::laws::equal_package_requirements;
 use deno_semver::package::PackageReq;
 use std::alloc::Global;
 
@@ -26,13 +25,15 @@ pub fn locked(alloc: Global, req: &PackageReq) -> Result<PackageReq, JsonError>
     PackageReq::from_json(alloc, &entry)
 }
 
-/// Is a requirement that was kept in a lockfile once the same from then on? Yes, if npm's reader read it.
-pub fn is_settled_once_locked(alloc: Global, req: &PackageReq) -> Result<bool, JsonError>
-    ensures { OfLoose req.now (Locks (λ is_equal. is_equal ≡ true) result) }
+/// What is read of the entry of a requirement, and what is read of that once it is kept again? Of one that npm's reader read
+/// what [`locked`] tells, and then an equal one.
+pub fn locked_twice(alloc: Global, req: &PackageReq) -> Result<(PackageReq, PackageReq), JsonError>
+    ensures once { OfLoose req.now (Locks (λ reqs. IsKeptReq req.now reqs.0) result) }
+    ensures twice { OfLoose req.now (Locks (λ reqs. AreEqualReqs reqs.1 reqs.0) result) }
 {
     let once = locked(alloc, req)?;
     let twice = locked(alloc, &once)?;
-    Ok(equal_package_requirements(&twice, &once))
+    Ok((once, twice))
 }
 
 /// Is the version allowed by the requirement once a lockfile has kept it? Exactly where the requirement allows it, if npm's

@@ -10,7 +10,8 @@
 //! 6 where standard output can't be written.
 #![tactic(auto)]
 
-ghost use Rattle.std.specs.Prelude.{◌≡◌, ◌↔◌, true};
+ghost use Rattle.std.specs.Prelude.{◌≡◌, ◌↔◌, false, true};
+ghost use Rattle.cases.specs.declared.table.Problem.TheVariants.{OutOfMemory, Unread, Unwritten};
 
 use cases::table;
 use cases::table::Problem;
@@ -44,7 +45,11 @@ fn run(rt: &HostRuntime) -> Result<bool, Problem> {
 
 // The exit status.
 fn status(agrees: Result<bool, Problem>) -> u8
-    ensures { (result ≡ 0) ↔ (agrees ≡ Ok true) }
+    ensures agrees { (result ≡ 0) ↔ (agrees ≡ Ok true) }
+    ensures differs { (result ≡ 1) ↔ (agrees ≡ Ok false) }
+    ensures unread { (result ≡ 4) ↔ (agrees ≡ Err Unread) }
+    ensures memory { (result ≡ 5) ↔ (agrees ≡ Err OutOfMemory) }
+    ensures unwritten { (result ≡ 6) ↔ (agrees ≡ Err Unwritten) }
 {
     match agrees {
         Ok(true) => 0,

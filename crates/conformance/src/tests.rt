@@ -8,6 +8,7 @@ use std::test::Fail;
 
 // A row that agrees, and rows of each kind that doesn't.
 const TABLE: &str = "\
+[[\"tag\",\"next\"],[\"no\"]]
 # A heading
 [[\"tag\",\"latest\"],[\"yes\"]]
 \t
@@ -24,24 +25,26 @@ const TABLE: &str = "\
 
 // What is printed.
 const DIFFERING: &str = "\
-line 4: [[\"tag\",\"a b\"],[\"yes\"]]
+line 1: [[\"tag\",\"next\"],[\"no\"]]
+    answered [\"yes\"]
+line 5: [[\"tag\",\"a b\"],[\"yes\"]]
     answered [\"no\"]
-line 5: [[\"tag\"],[\"yes\"]]
+line 6: [[\"tag\"],[\"yes\"]]
     can't be read: the call takes other words
-line 6: [[\"unknown\"],[\"yes\"]]
+line 7: [[\"unknown\"],[\"yes\"]]
     can't be read: no call has this name
-line 7: [\"tag\"]
+line 8: [\"tag\"]
     can't be read: no JSON array of two arrays of texts or nulls
-line 8: [[\"tag\",1],[\"yes\"]]
+line 9: [[\"tag\",1],[\"yes\"]]
     can't be read: no JSON array of two arrays of texts or nulls
-line 9: [[],[]]
+line 10: [[],[]]
     can't be read: no call has this name
-line 10:  # no heading
+line 11:  # no heading
     can't be read: no JSON array of two arrays of texts or nulls
-line 12: [[\"version\",\"1\"],[\"refused\",\"Unexpected character.\",null]]
+line 13: [[\"version\",\"1\"],[\"refused\",\"Unexpected character.\",null]]
     answered [\"refused\",\"Missing minor version. Versions must be in the form MAJOR.MINOR.PATCH (ex. 1.0.0).\",\"1\"]
 version: 2 asked, 1 differ
-tag: 3 asked, 2 differ
+tag: 4 asked, 3 differ
 lines that are no row: 5
 ";
 

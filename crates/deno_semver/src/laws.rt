@@ -16,7 +16,7 @@ use crate::npm::{NpmPackageNvReference, NpmPackageReqReference};
 use crate::package::{
     PackageKind, PackageNv, PackageNvReference, PackageReq, PackageReqPartsParseError,
     PackageReqReference, PackageReqReferenceInvalidParseError,
-    PackageReqReferenceInvalidWithVersionParseError, PackageReqReferenceParseError,
+    PackageReqReferenceInvalidWithVersionParseError, PackageReqReferenceParseError, SpecifierError,
 };
 
 /// Whether two registries are the same.
@@ -136,6 +136,13 @@ pub fn same_path_errors(
     one: &PackageReqReferenceInvalidWithVersionParseError,
     other: &PackageReqReferenceInvalidWithVersionParseError,
 ) -> bool
+    ensures { IsTrue result ↔ (one.now ≡ other.now) }
+{
+    one == other
+}
+
+/// Whether two errors are the same.
+pub fn same_url_errors(one: &SpecifierError, other: &SpecifierError) -> bool
     ensures { IsTrue result ↔ (one.now ≡ other.now) }
 {
     one == other

@@ -1,37 +1,132 @@
--- What std's `replace` answers is each leftmost occurrence replaced.
-use Rattle.std.proofs.Common.{◌≡◌, ℕ, zero, suc, List, [], ◌++◌, length, take, drop, Some, None, refl, sym, ap, ◌∙◌, subst, arith, inl, inr, append-nil}
+-- What is replaced so far, while a text is gone through from its front.
+use Rattle.std.proofs.Common.{◌≡◌, ◌≤◌, ◌<◌, ◌+◌, ◌-◌, ℕ, List, [], ◌++◌, length, take, drop, slice_get, Some, None, refl, sym, ap, ◌∙◌, subst, arith, inl, inr, length-append}
+use Rattle.std.proofs.lemmas.Bool.{cases_lt}
+use Rattle.std.proofs.lemmas.List.{append_assoc, append_cancel_left, length-drop, nil_from_length}
+use Rattle.std.proofs.lemmas.Str.{chars-nil}
 use Rattle.std.specs.Prelude.{encode_utf8}
-use Rattle.std.specs.Str.Pattern.{FindsText}
-use Rattle.std.specs.Str.Replace.{ContinuesAfterMatch, ReplacesMatches}
-use Rattle.std.proofs.lemmas.List.{nil_from_length}
-use Rattle.semver_base.specs.Texts.{IsReplaced, no_more, one_more, before_character, at_end}
+use Rattle.std.specs.Str.Pattern.{FindsText, HasTextAt}
+use Rattle.semver_base.specs.Texts.{IsFirstCharacter, IsReplaced, at_end, before_character, no_more, one_more}
 
--- an empty text is found at the front
-at_front : (from s : List ℕ) (a b : ℕ) → length from ≡ 0 → FindsText from s (Some (a, b)) → a ≡ 0
-at_front from s zero b none found = refl
-at_front from s (suc a) b none found = absurd (found.0 0 (omega arith) s (ap (λ t. t ++ s) (sym (nil_from_length from none))))
+-- nothing is found in front of what is found
+first_found : (from s : List ℕ) (a b i j : ℕ) → FindsText from s (Some (a, b)) → HasTextAt from s i j → a ≤ i
+first_found from s a b i j found at = elim (cases_lt i a) [
+  | inl earlier ↦ absurd (found.0 i earlier (drop j s) at.split)
+  | inr later ↦ omega (arith, later)
+]
 
-module _ {P : Type 0} (text_of : P → List ℕ) (from to : List ℕ) where
-  abbrev Answers : ℕ → P → List ℕ → List ℕ → Type 0
-  Answers = ReplacesMatches (λ p. FindsText (text_of p)) (λ p q. text_of q ≡ text_of p) to
+-- what is found stands inside the text
+within : (from s : List ℕ) (i j : ℕ) → 0 < length from → HasTextAt from s i j → i ≤ length s
+within from s i j some at =
+    let same : length s - i ≡ length from + length (drop j s) = sym (length-drop i s) ∙ (ap length at.split ∙ length-append from (drop j s)) in
+    omega (arith, same, some)
 
-  -- what becomes of s, where from is found from a to b and what follows that has become rest
-  past : (On : List ℕ → List ℕ → Type 0) → ((t out : List ℕ) → On t out → IsReplaced from to t out) → (s rest : List ℕ) (a b : ℕ) → FindsText from s (Some (a, b))
-      → ContinuesAfterMatch (λ (p : P). FindsText (text_of p)) (λ p q. text_of q ≡ text_of p) to On s a b rest → IsReplaced from to s (take a s ++ (to ++ rest))
-  past On made s rest a b found (inl p) = one_more found (omega (arith, p.0, found.1.ends)) (made (drop b s) rest p.1)
-  past On made s rest a b found (inr (same, inl p)) =
-      let none : length from ≡ 0 = omega (arith, same, found.1.ends) in
-      let front : a ≡ 0 = at_front from s a b none found in
-      let empty : s ≡ [] = nil_from_length s (ap (λ n. length (drop n s)) (sym (sym same ∙ front)) ∙ p.0) in
-      rw (front, p.1, empty, append-nil to) (at_end none)
-  past On made s rest a b found (inr (same, inr (c, t, more, split, on, is))) =
-      let none : length from ≡ 0 = omega (arith, same, found.1.ends) in
-      let front : a ≡ 0 = at_front from s a b none found in
-      let whole : s ≡ encode_utf8 c ++ t = ap (λ n. drop n s) (sym (sym same ∙ front)) ∙ split in
-      rw (front, is, whole) (before_character c none (made t more on))
+module _ (from to : List ℕ) where
+  -- the text begins with what was replaced, whatever follows
+  pub record IsBegun (s rest front r : List ℕ) : Type 0 where
+    pub more : List ℕ
+    pub is : r ≡ front ++ more
+    pub replaced : IsReplaced from to rest more
 
-  pub replaced : (n : ℕ) (p : P) (s out : List ℕ) → text_of p ≡ from → Answers n p s out → IsReplaced from to s out
-  replaced zero p s out same h = subst (IsReplaced from to s) (sym h.1) (no_more (subst (λ t. FindsText t s None) same h.0))
-  replaced (suc n) p s out same (a, b, q, rest, found, keeps, on, is) =
-      subst (IsReplaced from to s) (sym is)
-      (past (Answers n q) (λ t o. replaced n q t o (keeps ∙ same)) s rest a b (subst (λ t. FindsText t s (Some (a, b))) same found) on)
+  -- done is what became of the text, but for the rest of it
+  pub record IsPartly (whole done rest : List ℕ) : Type 0 where
+    pub goes_on : (r : List ℕ) → IsReplaced from to rest r → IsReplaced from to whole (done ++ r)
+    pub comes_from : (r : List ℕ) → IsReplaced from to whole r → IsBegun whole rest done r
+
+  pub start : (whole : List ℕ) → IsPartly whole [] whole
+  start whole = record { goes_on = λ r h. h; comes_from = λ r h. record { more = r; is = refl; replaced = h } }
+
+  -- a step: what becomes of s begins with front, and goes on with what becomes of the rest
+  pub record IsStep (s front rest : List ℕ) : Type 0 where
+    pub goes_on : (r : List ℕ) → IsReplaced from to rest r → IsReplaced from to s (front ++ r)
+    pub comes_from : (r : List ℕ) → IsReplaced from to s r → IsBegun s rest front r
+
+  pub next : (whole done s front rest : List ℕ) → IsPartly whole done s → IsStep s front rest → IsPartly whole (done ++ front) rest
+  next whole done s front rest h step = record {
+    goes_on = λ r k. subst (IsReplaced from to whole) (sym (append_assoc done front r)) (h.goes_on (front ++ r) (step.goes_on r k));
+    comes_from = λ r k.
+        let before = h.comes_from r k in
+        let after = step.comes_from before.more before.replaced in
+        record { more = after.more; is = before.is ∙ (ap (λ t. done ++ t) after.is ∙ sym (append_assoc done front after.more)); replaced = after.replaced };
+  }
+
+  -- ---- of a text that is not empty
+
+  module _ (some : 0 < length from) where
+    found_begins : (s r : List ℕ) (a b : ℕ) → FindsText from s (Some (a, b)) → IsReplaced from to s r → IsBegun s (drop b s) (take a s ++ to) r
+    found_begins s r a b found (no_more none) = absurd (none a (within from s a b some found.1) (drop b s) found.1.split)
+    found_begins s r a b found (one_more {replaced = replaced} {start = i} {end = j} other _ more) =
+        let least = first_found from s a b i j found other.1 in
+        let same : i ≡ a = omega (arith, least, first_found from s i j a b other found.1) in
+        let ends : j ≡ b = omega (arith, same, other.1.ends, found.1.ends) in
+        record {
+          more = replaced;
+          is = ap (λ n. take n s ++ (to ++ replaced)) same ∙ sym (append_assoc (take a s) to replaced);
+          replaced = subst (λ n. IsReplaced from to (drop n s) replaced) ends more;
+        }
+    found_begins s r a b found (before_character c none _ _ _) = absurd (omega (arith, some, none))
+    found_begins s r a b found (at_end none) = absurd (omega (arith, some, none))
+
+    pub found_step : (s : List ℕ) (a b : ℕ) → FindsText from s (Some (a, b)) → IsStep s (take a s ++ to) (drop b s)
+    found_step s a b found = record {
+      goes_on = λ r h. subst (IsReplaced from to s) (sym (append_assoc (take a s) to r)) (one_more found some h);
+      comes_from = λ r h. found_begins s r a b found h;
+    }
+
+    pub left_over : (s r : List ℕ) → FindsText from s None → IsReplaced from to s r → r ≡ s
+    left_over s r none (no_more _) = refl
+    left_over s r none (one_more {start = i} {end = j} found _ _) = absurd (none i (within from s i j some found.1) (drop j s) found.1.split)
+    left_over s r none (before_character c empty _ _ _) = absurd (omega (arith, some, empty))
+    left_over s r none (at_end empty) = absurd (omega (arith, some, empty))
+
+  -- ---- of an empty one
+
+  module _ (empty : length from ≡ 0) where
+    always_found : (s : List ℕ) → FindsText from s None → ⊥
+    always_found s none = none 0 (omega arith) s (ap (λ t. t ++ s) (sym (nil_from_length from empty)))
+
+    no_first : (c : ℕ) → IsFirstCharacter c [] → ⊥
+    no_first c first = cc (sym (ap (λ cs. slice_get cs 0) chars-nil) ∙ first)
+
+    character_begins : (s r rest : List ℕ) (c : ℕ) → IsFirstCharacter c s → s ≡ encode_utf8 c ++ rest → IsReplaced from to s r → IsBegun s rest (to ++ encode_utf8 c) r
+    character_begins s r rest c first split (no_more none) = absurd (always_found s none)
+    character_begins s r rest c first split (one_more _ some _) = absurd (omega (arith, some, empty))
+    character_begins s r rest c first split (before_character {rest = others} {replaced = replaced} d _ other same more) =
+        let is_c : d ≡ c = some_is d c (sym other ∙ first) in
+        let is_rest : others ≡ rest = append_cancel_left (encode_utf8 c) others rest (sym (ap (λ x. encode_utf8 x ++ others) is_c) ∙ (sym same ∙ split)) in
+        record {
+          more = replaced;
+          is = ap (λ x. to ++ (encode_utf8 x ++ replaced)) is_c ∙ sym (append_assoc to (encode_utf8 c) replaced);
+          replaced = subst (λ t. IsReplaced from to t replaced) is_rest more;
+        }
+      where
+        some_is : (x y : ℕ) → Some x ≡ Some y → x ≡ y
+        some_is x y e = cc e
+    character_begins s r rest c first split (at_end _) = absurd (no_first c first)
+
+    pub character_step : (s rest : List ℕ) (c : ℕ) → IsFirstCharacter c s → s ≡ encode_utf8 c ++ rest → IsStep s (to ++ encode_utf8 c) rest
+    character_step s rest c first split = record {
+      goes_on = λ r h. subst (IsReplaced from to s) (sym (append_assoc to (encode_utf8 c) r)) (before_character c empty first split h);
+      comes_from = λ r h. character_begins s r rest c first split h;
+    }
+
+    pub last_one : (s r : List ℕ) → length s ≡ 0 → IsReplaced from to s r → r ≡ to
+    last_one s r none (no_more found) = absurd (always_found s found)
+    last_one s r none (one_more _ some _) = absurd (omega (arith, some, empty))
+    last_one s r none (before_character c _ first same _) = absurd (no_first c (subst (IsFirstCharacter c) (nil_from_length s none) first))
+    last_one s r none (at_end _) = refl
+
+-- ---- how long it gets
+
+-- what is pushed next is no longer than what becomes of the whole
+pub no_longer : (from to whole done s front rest r : List ℕ) → IsPartly from to whole done s → IsStep from to s front rest → IsReplaced from to whole r → length done + length front ≤ length r
+no_longer from to whole done s front rest r h step k =
+    let all = (next from to whole done s front rest h step).comes_from r k in
+    let long : length r ≡ (length done + length front) + length all.more = ap length all.is ∙ (length-append (done ++ front) all.more ∙ ap (λ n. n + length all.more) (length-append done front)) in
+    omega (arith, long)
+
+-- the parts of what is pushed fit where the whole of it does
+pub first_fits : (done a b : List ℕ) (n : ℕ) → length done + length (a ++ b) ≤ n → length done + length a ≤ n
+first_fits done a b n h = omega (arith, h, length-append a b)
+
+pub second_fits : (done a b grown : List ℕ) (n : ℕ) → length done + length (a ++ b) ≤ n → grown ≡ done ++ a → length grown + length b ≤ n
+second_fits done a b grown n h is = omega (arith, h, length-append a b, ap length is, length-append done a)

@@ -1,8 +1,11 @@
 -- Texts that stand in the value itself where they are short, lists whose copies share their items, and what replacing is.
-use Rattle.std.specs.Prelude.{◌≡◌, ℕ, List, [], ◌++◌, ◌<◌, ◌==◌, length, take, drop, string_bytes, encode_utf8, Option, Some, None}
+use Rattle.std.specs.Prelude.{◌≡◌, ℕ, List, [], ◌++◌, ◌<◌, ◌≤◌, ◌==◌, length, take, drop, slice_get, string_bytes, encode_utf8, Option, Some, None}
 use Rattle.std.specs.List.{take_while}
+use Rattle.std.specs.Str.{chars}
 use Rattle.std.specs.Str.Pattern.{FindsText}
 use Rattle.std.specs.declared.alloc.Global.{Global}
+use Rattle.std.specs.declared.borrow.CowStr.{CowStr}
+use Rattle.std.specs.declared.borrow.CowStr.TheVariants as cow
 use Rattle.std.specs.declared.rc.Rc.{Rc}
 use Rattle.std.specs.declared.vec.Vec.{Vec}
 use Rattle.semver_base.specs.declared.string.Kept.{Kept}
@@ -32,12 +35,20 @@ abbrev pub shared_items : {T : Type 0} → Option (Rc (Vec T Global) Global) →
 shared_items None = []
 shared_items (Some shared) = shared.value.items
 
+-- no memory is needed to take the text over: it is owned, or has at most limit bytes
+abbrev pub FitsOrIsOwned : {Z : Type 0} → ℕ → CowStr Z → Type 0
+FitsOrIsOwned limit (cow.Borrowed text) = length text.now ≤ limit
+FitsOrIsOwned limit (cow.Owned text) = Unit {0}
+
+abbrev pub IsFirstCharacter : ℕ → List ℕ → Type 0
+IsFirstCharacter c text = slice_get (chars text) 0 ≡ Some c
+
 -- text with to in place of each leftmost from that doesn't overlap an earlier one; an empty from stands before each
 -- character and at the end
 pub data IsReplaced (from to : List ℕ) : List ℕ → List ℕ → Type 0 where
   no_more : {text : List ℕ} → FindsText from text None → IsReplaced from to text text
   one_more : {text replaced : List ℕ} {start end : ℕ} → FindsText from text (Some (start, end)) → 0 < length from
       → IsReplaced from to (drop end text) replaced → IsReplaced from to text (take start text ++ (to ++ replaced))
-  before_character : {text replaced : List ℕ} (c : ℕ) → length from ≡ 0
-      → IsReplaced from to text replaced → IsReplaced from to (encode_utf8 c ++ text) (to ++ (encode_utf8 c ++ replaced))
+  before_character : {text rest replaced : List ℕ} (c : ℕ) → length from ≡ 0 → IsFirstCharacter c text → text ≡ encode_utf8 c ++ rest
+      → IsReplaced from to rest replaced → IsReplaced from to text (to ++ (encode_utf8 c ++ replaced))
   at_end : length from ≡ 0 → IsReplaced from to [] to

@@ -45,6 +45,16 @@ impl NpmVersionParseError {
     }
 }
 
+impl From<AllocError> for NpmVersionParseError {
+    ghost from_gives = { λ _ error. error.source ≡ None };
+
+    fn from(_error: AllocError) -> NpmVersionParseError {
+        NpmVersionParseError {
+            source: ParseFailure::memory(),
+        }
+    }
+}
+
 impl From<NpmVersionParseError> for ParseFailure {
     ghost from_gives = { λ error failure. failure ≡ error.source };
 

@@ -3,7 +3,7 @@
 //! A contract sees a text as its UTF-8 bytes and a list as its items, whatever they are kept in. A short text stands in
 //! the value itself and a longer one in a `String`.
 
-ghost use Rattle.std.specs.Prelude.{◌≡◌, ◌≤◌, ◌+◌, ◌++◌, [], Some, IfOk, IsOk, OnOk, OnErr, IsTrue, ◌↔◌, encode_utf8, length, nat_eq, refl, string_bytes, IsUtf8};
+ghost use Rattle.std.specs.Prelude.{◌≡◌, ◌≤◌, ◌+◌, ◌++◌, ℕ, List, [], Some, IfOk, IsOk, OnOk, OnErr, IsTrue, ◌↔◌, encode_utf8, length, nat_eq, refl, string_bytes, IsUtf8};
 ghost use Rattle.std.proofs.Common.{rules};
 ghost use Rattle.std.specs.Cmp.{partial_equiv_from_equiv};
 ghost use Rattle.std.specs.Cmp.Lexicographic.{nat_list_cmp_total, nat_list_eq_equiv, pointwise, slice_cmp, texts_po, texts_ties};
@@ -11,7 +11,7 @@ ghost use Rattle.std.specs.Cmp.Rules.{hashing};
 ghost use Rattle.std.specs.Cow.{cow_str_bytes};
 ghost use Rattle.std.specs.Hash as fed;
 ghost use Rattle.std.specs.Ordering.{nat_cmp};
-ghost use Rattle.semver_base.specs.Texts.{IsInlineIfShort, IsReplaced, kept_bytes, zeros_in_front};
+ghost use Rattle.semver_base.specs.Texts.{FitsOrIsOwned, IsInlineIfShort, IsReplaced, kept_bytes, zeros_in_front};
 
 mod append;
 mod list;
@@ -171,7 +171,8 @@ impl<const LIMIT: usize> ShortText<LIMIT> {
 
     /// The text `text`, as [`ShortText::from_str`] or [`ShortText::from_string`] makes it.
     pub fn from_cow(alloc: Global, text: CowStr<'_, Global>) -> Result<Self, AllocError>
-        ensures { IfOk result (λ s. s ≡ cow_str_bytes text.entry) }
+        ensures value { IfOk result (λ s. s ≡ cow_str_bytes text.entry) }
+        ensures succeeds { FitsOrIsOwned LIMIT text.entry → IsOk result }
     {
         match text {
             CowStr::Borrowed(borrowed) => ShortText::from_str(alloc, borrowed),
@@ -223,15 +224,42 @@ impl<const LIMIT: usize> ShortText<LIMIT> {
         self.push_str(character.encode_utf8(&mut bytes))
     }
 
+    // The text with `to` before each character of `text` and at the end.
+    fn parted(alloc: Global, text: &str, to: &str) -> Result<Self, AllocError>
+        ensures value { IfOk result (IsReplaced [] to.now text.now) }
+        ensures succeeds { (parted : List ℕ) → IsReplaced [] to.now text.now parted
+            → length parted ≤ LIMIT → IsOk result }
+    {
+        let mut parted = ShortText::new(alloc);
+        for character in text.chars() {
+            parted.push_str(to)?;
+            parted.push(character)?;
+        }
+        parted.push_str(to)?;
+        Ok(parted)
+    }
+
     /// The text with `to` in place of each leftmost occurrence of `from` that doesn't overlap an earlier one. An empty
     /// `from` puts `to` before each character and at the end, as `str::replace` does.
     ///
-    /// It is an error only where no memory is left.
+    /// It is an error only where no memory is left, and never where the new text has at most `LIMIT` bytes.
     pub fn replace(&self, alloc: Global, from: &str, to: &str) -> Result<Self, AllocError>
-        ensures { IfOk result (IsReplaced from.now to.now self.now) }
+        ensures value { IfOk result (IsReplaced from.now to.now self.now) }
+        ensures succeeds { (replaced : List ℕ) → IsReplaced from.now to.now self.now replaced
+            → length replaced ≤ LIMIT → IsOk result }
     {
-        let replaced = self.as_str().replace(alloc, from, to)?;
-        ShortText::from_string(alloc, replaced)
+        if from.is_empty() {
+            return ShortText::parted(alloc, self.as_str(), to);
+        }
+        let mut replaced = ShortText::new(alloc);
+        let mut rest = self.as_str();
+        while let Some((before, after)) = rest.split_once(from) {
+            replaced.push_str(before)?;
+            replaced.push_str(to)?;
+            rest = after;
+        }
+        replaced.push_str(rest)?;
+        Ok(replaced)
     }
 
     /// The same text again. It is an error only where no memory is left, and never for a text of at most `LIMIT` bytes.

@@ -57,6 +57,16 @@ impl VersionParseError {
     }
 }
 
+impl From<AllocError> for VersionParseError {
+    ghost from_gives = { λ _ error. error.source ≡ None };
+
+    fn from(_error: AllocError) -> VersionParseError {
+        VersionParseError {
+            source: ParseFailure::memory(),
+        }
+    }
+}
+
 impl From<VersionParseError> for ParseFailure {
     ghost from_gives = { λ error failure. failure ≡ error.source };
 

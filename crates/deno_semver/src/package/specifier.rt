@@ -10,7 +10,7 @@ use thiserror::Error;
 use url::{ParseError, Url};
 
 /// Why a reference has no URL, or that memory was wanting.
-#[derive(Clone, Copy, Debug, Error)]
+#[derive(Clone, Copy, Debug, PartialEq, Eq, Error)]
 pub enum SpecifierError {
     /// The crate `url` refuses its text.
     #[error("Invalid URL")]
