@@ -1,7 +1,7 @@
 //! The words of questions and answers.
 
 ghost use Rattle.std.specs.Prelude.{◌≡◌, ◌↔◌, ◌∷◌, [], IsTrue, map};
-ghost use Rattle.cases.specs.Met.{IsMet, first_word, refused_word, word_text};
+ghost use Rattle.cases.specs.RowAnswer.{IsMet, first_word, refused_word, word_text};
 
 use deno_semver::jsr::JsrDepPackageReqParseError;
 use deno_semver::npm::{NpmVersionParseError, NpmVersionReqParseError};
