@@ -2,10 +2,11 @@
 use Rattle.std.proofs.Common.{◌≡◌, ◌<◌, ℕ, Bool, true, false, List, [], ◌∷◌, length, Option, Some, None, Result, Ok, Err, refl, sym, ap, subst, ◌∙◌, arith, inl, inr}
 use Rattle.std.specs.Prelude.{◌⊎◌, if◌then◌else◌, codes}
 use Rattle.semver_req.specs.Outcome.{IsOutcome, Outcome, Ranges, Refused, Tag}
-use Rattle.semver_req.specs.Readers.{Failure, IsAnswer, IsRead}
+use Rattle.semver_req.specs.Readers.{IsRead, IsReadFrom}
 use Rattle.semver_req.specs.Requirement.{Requirement}
 use Rattle.semver_req.specs.declared.common.values.Flavour.{Flavour}
 use Rattle.semver_req.specs.declared.range_set_or_tag.RangeSetOrTag.{RangeSetOrTag}
+use Rattle.semver_req.proofs.OneOutcome.{one_outcome}
 use Rattle.deno_semver.specs.PackageOutcome.{BadName, BadVersion, Fault, HasPath, IsFirstFault, IsPackageAnswer, IsPackageOutcome, IsPackageRefusal, IsReadReq, IsVersionReq, IsWantOfMemory, NoAt, NoName, Tells, TellsFault, bad_name, bad_version, has_path, is_fault, is_package, no_name}
 use Rattle.deno_semver.specs.PackageReading.{IsFaultError, IsPartsRefusal, IsPathError, TellsSource}
 use Rattle.deno_semver.specs.PackageSteps.{IsUncut}
@@ -62,27 +63,26 @@ req_of text answer = record { raw_text = text; inner = answer }
 pub same_req : {s t : List ℕ} {i j : RangeSetOrTag} → s ≡ t → i ≡ j → req_of s i ≡ req_of t j
 same_req a b = rw (a, b) refl
 
-same_read : (f : Flavour) (o : Outcome) (x y : RangeSetOrTag) → IsRead f o x → IsAnswer (λ (e : Failure). e) f o (Ok (req_of [] y)) → x ≡ y
+-- what is read of one outcome
+same_read : (f : Flavour) (o : Outcome) (x y : RangeSetOrTag) → IsRead f o x → IsRead f o y → x ≡ y
 same_read f (Ranges tree) x y a b = a ∙ sym b
 same_read f (Tag tag) x y a b = a ∙ sym b
 same_read f Refused x y a b = absurd a
 
-moved_answer : (f : Flavour) (o : Outcome) (y : Requirement) → IsAnswer (λ (e : Failure). e) f o (Ok y) → IsAnswer (λ (e : Failure). e) f o (Ok (req_of [] y.inner))
-moved_answer f (Ranges tree) y h = h
-moved_answer f (Tag tag) y h = h
-moved_answer f Refused y h = h
+-- what is read of a text is what its outcome stands for
+pub read_of : (f : Flavour) (text : List ℕ) (o : Outcome) (req : Requirement) → IsReadFrom f text req → IsOutcome f text o → IsRead f o req.inner
+read_of f text o req h is = subst (λ x. IsRead f x req.inner) (one_outcome f text h.reading.outcome o h.reading.is_outcome is) h.reading.is_read
 
 -- what one reader answers to one text
 pub version_one : (f : Flavour) (v : Option (List ℕ)) (x y : Requirement) → IsVersionReq f v x → IsVersionReq f v y → x ≡ y
 version_one f None x y h k = h ∙ sym k
 version_one f (Some text) x y h k =
-    let read = h.outcome in
-    let inner : x.inner ≡ y.inner = same_read f read.outcome x.inner y.inner read.is_read (moved_answer f read.outcome y (k.answer read.outcome read.is_outcome)) in
-    same_req (h.raw_text ∙ sym k.raw_text) inner
+    let read = k.reading in
+    same_req (h.raw_text ∙ sym k.raw_text) (same_read f read.outcome x.inner y.inner (read_of f text read.outcome x h read.is_outcome) read.is_read)
 
 pub read_or_refused : (f : Flavour) (v : Option (List ℕ)) (w : List ℕ) (x : Requirement) → v ≡ Some w → IsVersionReq f v x → IsOutcome f w Refused → ⊥
 read_or_refused f None w x is h refused = cc is
-read_or_refused f (Some v) w x is h refused = let same : v ≡ w = cc is in cc (h.answer Refused (rw same refused))
+read_or_refused f (Some v) w x is h refused = let same : v ≡ w = cc is in read_of f v Refused x h (rw same refused)
 
 pub version_at : (f : Flavour) {x y : PackageParts} (req : Requirement) → x ≡ y → IsVersionReq f x.version req → IsVersionReq f y.version req
 version_at f req e h = subst (λ (c : PackageParts). IsVersionReq f c.version req) e h

@@ -24,7 +24,7 @@ use Rattle.deno_semver.specs.ReferenceOutcome.{HasNoVersionInPath, IsPlainName, 
 use Rattle.deno_semver.specs.ReferenceText.{path_text, reference_text, sub_path_of}
 use Rattle.deno_semver.specs.declared.package.kind.PackageKind.{PackageKind}
 use Rattle.deno_semver.specs.declared.package.reference.PackageReqReference.{PackageReqReference}
-use Rattle.deno_semver.proofs.PackageFaults.{same_req}
+use Rattle.deno_semver.proofs.PackageFaults.{read_of, same_req}
 
 -- ---- `*` in the strict grammar
 
@@ -50,7 +50,7 @@ pub any_version : (v : Option (List ℕ)) (req : Requirement) → IsVersionReq S
 any_version None req is star = is
 any_version (Some v) req is star =
     let text : v ≡ codes "*" = sym is.raw_text ∙ star in
-    let answer = (subst (λ (t : List ℕ). IsVersionReq Specifier (Some t) req) text is).answer (Ranges ((Plain any_partial ∷ []) ∷ [])) (whole star_longest refl) in
+    let answer = read_of Specifier (codes "*") (Ranges ((Plain any_partial ∷ []) ∷ [])) req (subst (λ (t : List ℕ). IsVersionReq Specifier (Some t) req) text is) (whole star_longest refl) in
     same_req star answer
 
 -- ---- what is written is cut so

@@ -18,7 +18,7 @@ use Rattle.semver_base.proofs.Solid.{all_ascii, is_solid_byte, solid_ascii}
 use Rattle.semver_req.specs.KeptSet.{IsReadSet, kept}
 use Rattle.semver_req.specs.Outcome.{IsOutcome, Outcome, Ranges, Refused, Tag}
 use Rattle.semver_req.specs.Pieces.{normal}
-use Rattle.semver_req.specs.Readers.{Failure, IsRead, IsReaderAnswer, IsReading, IsReadOrTag}
+use Rattle.semver_req.specs.Readers.{Failure, IsRead, IsReadFrom, IsReading, IsReadOrTag}
 use Rattle.semver_req.specs.Requirement.{Requirement, inner_text}
 use Rattle.semver_req.specs.declared.common.values.Flavour.TheVariants.{Npm, Normal}
 use Rattle.semver_req.specs.declared.range_set_or_tag.RangeSetOrTag.{RangeSetOrTag}
@@ -113,7 +113,7 @@ reads_again name answer n h =
     let c = cut_again (inner_text answer) (no_at answer h) (no_slash answer h) name n in
     let version : IsVersionReq Normal c.cut.version (req_of (inner_text answer) (again_of answer)) =
     subst (λ v. IsVersionReq Normal v (req_of (inner_text answer) (again_of answer))) (sym c.version_is)
-    (answers_read Normal (inner_text answer) (λ (e : Failure). e) (req_of (inner_text answer) (again_of answer)) (text_utf8 answer h) (reading answer h) refl) in
+    (record { reading = reading answer h; raw_text = refl }) in
     is_package (record { cut = c.cut; is_cut = c.is_cut; name = c.is_name; version_req = version; no_path = c.no_path })
 
 settled_req : (name : List ℕ) (answer : RangeSetOrTag) → IsReadName name → CanBeStored answer → IsSettledReq (package_of name answer)
@@ -185,8 +185,8 @@ tag_read version t (Ranges tree) u h k = cc k
 tag_read version t (Tag s) u h k = let same : t ≡ s = cc k in subst IsNpmTag (sym same) (npm_tag version s u h)
 tag_read version t Refused u h k = absurd k
 
-some_read : (version : List ℕ) (req : Requirement) → IsUtf8 version → IsReaderAnswer (λ (e : Failure). e) Npm version (Ok req) → CanBeStored req.inner
-some_read version req u h = go req.inner h.outcome h.read_set
+some_read : (version : List ℕ) (req : Requirement) → IsUtf8 version → IsReadFrom Npm version req → CanBeStored req.inner
+some_read version req u h = go req.inner h.reading (answers_read Npm version (λ (e : Failure). e) req u h.reading h.raw_text).read_set
   where
     go : (answer : RangeSetOrTag) → IsReading Npm version answer → IsReadOrTag answer → CanBeStored answer
     go (inner.RangeSet set) r k = k

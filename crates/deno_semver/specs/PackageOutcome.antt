@@ -5,7 +5,7 @@ use Rattle.std.specs.Str.{trim}
 use Rattle.semver_base.specs.Characters.{slash}
 use Rattle.semver_req.specs.Outcome.{IsOutcome, Refused}
 use Rattle.semver_req.specs.PieceReading.{IsCutRefusal}
-use Rattle.semver_req.specs.Readers.{Failure, IsReaderAnswer}
+use Rattle.semver_req.specs.Readers.{Failure, IsReadFrom}
 use Rattle.semver_req.specs.Requirement.{Requirement, wildcard}
 use Rattle.semver_req.specs.Strict.{IsStrictRefusal}
 use Rattle.semver_req.specs.declared.common.values.Flavour.{Flavour}
@@ -16,10 +16,10 @@ use Rattle.deno_semver.specs.declared.package.errors.PackageReqPartsParseError.T
 use Rattle.deno_semver.specs.declared.package.errors.PackageReqParseError.{PackageReqParseError}
 use Rattle.deno_semver.specs.declared.package.values.PackageReq.{PackageReq}
 
--- the requirement of the version's text is what its reader answers; without such a text it is that of any version
+-- the requirement is read from the version's text; without such a text it is that of any version
 abbrev pub IsVersionReq : Flavour → Option (List ℕ) → Requirement → Type 0
 IsVersionReq f None req = req ≡ wildcard
-IsVersionReq f (Some text) req = IsReaderAnswer (λ (e : Failure). e) f text (Ok req)
+IsVersionReq f (Some text) req = IsReadFrom f text req
 
 -- why a text is refused
 pub data Fault : Type 0 where

@@ -1,5 +1,5 @@
 -- What a reader answers to a text, by the outcome that its grammar gives the text.
-use Rattle.std.specs.Prelude.{◌≡◌, ◌⊎◌, ℕ, List, Option, None, Result, IfErr, IfOk, IsErr, MatchResult}
+use Rattle.std.specs.Prelude.{◌≡◌, ◌⊎◌, ℕ, List, Option, None, Result, Ok, IfErr, IfOk, IsErr, IsUtf8, MatchResult}
 use Rattle.std.specs.List.{AllByRecursion}
 use Rattle.std.specs.Str.{trim_start}
 use Rattle.semver_base.specs.Comparators.{Comparator}
@@ -66,6 +66,11 @@ abbrev pub TagReadsBack : Flavour → List ℕ → RangeSetOrTag → Type 0
 TagReadsBack f text (inner.RangeSet set) = Unit {0}
 TagReadsBack f text (inner.Tag tag) = StartsFit f text → IsOutcome Normal tag (Tag tag)
 
+-- the requirement stands for some outcome of the text, and keeps the text that the reader worked on
+pub record IsReadFrom (f : Flavour) (text : List ℕ) (req : Requirement) : Type 0 where
+  pub reading : IsReading f text req.inner
+  pub raw_text : req.raw_text ≡ worked_on f text
+
 -- what the reader of a flavour answers to a text
 pub record IsReaderAnswer {E : Type 0} (source : E → Failure) (f : Flavour) (text : List ℕ) (result : Result Requirement E) : Type 0 where
   -- what is read is what some outcome of the text stands for
@@ -83,3 +88,8 @@ pub record IsReaderAnswer {E : Type 0} (source : E → Failure) (f : Flavour) (t
   pub tag : IfOk result (λ req. TagReadsBack f text req.inner)
   -- the requirement keeps the text that the reader worked on
   pub raw_text : IfOk result (λ req. req.raw_text ≡ worked_on f text)
+
+-- all that is said of a reader's answer holds of what is read from a text
+abbrev pub ReadRequirementsAreAnswers : Type 0
+ReadRequirementsAreAnswers = (f : Flavour) (text : List ℕ) (req : Requirement) → IsUtf8 text → IsReadFrom f text req
+    → IsReaderAnswer (λ (failure : Failure). failure) f text (Ok req)

@@ -11,6 +11,7 @@ ghost use Rattle.std.specs.Prelude.{◌≡◌, ◌↔◌, IsTrue};
 ghost use Rattle.semver_req.specs.KeptSet.{KeptSetsMeanTheirTrees};
 ghost use Rattle.semver_req.specs.Outcome.{TextsHaveOneOutcome};
 ghost use Rattle.semver_req.specs.Pieces.{NormalPiecesAreNpms};
+ghost use Rattle.semver_req.specs.Readers.{ReadRequirementsAreAnswers};
 ghost use Rattle.semver_req.specs.Rereading.{NormalTextsAreEquivalent, NormalTextsKeepTheirMeaning, OneRereadingSettles, SettledSetsAreTheirTexts, TagsReadBack};
 
 use crate::common::values::Flavour;
@@ -71,6 +72,12 @@ pub fn same_npm_errors(one: &NpmVersionReqParseError, other: &NpmVersionReqParse
 /// tag and a refusal.
 pub fn texts_have_one_outcome()
     ensures { TextsHaveOneOutcome }
+{}
+
+/// Whatever stands for an outcome of a text, and keeps the text that is worked on, is an answer of the text's reader: all that
+/// the reader promises holds of it.
+pub fn read_requirements_are_answers()
+    ensures { ReadRequirementsAreAnswers }
 {}
 
 /// What stands between two `||` in the normalized grammar is in npm's too, as the same comparators.
