@@ -1,9 +1,9 @@
 -- What is written of a set of ranges is cut into the texts of its ranges, each of which is read back as its shortest
 -- form, by npm's and by the normalized reader.
 use Rattle.std.proofs.Common.{◌≡◌, ◌≤◌, ◌<◌, ℕ, suc, Bool, true, false, List, [], ◌∷◌, ◌++◌, length, map, refl, sym, ap, ◌∙◌, arith, inl, append-nil, append_assoc, length-append, ◌==◌}
-use Rattle.std.specs.Prelude.{codes, not}
+use Rattle.std.specs.Prelude.{codes, if◌then◌else◌, not}
 use Rattle.std.specs.Char.{is_ascii}
-use Rattle.std.specs.List.{list_all}
+use Rattle.std.specs.List.{AllByRecursion, list_all}
 use Rattle.std.specs.Str.{trim}
 use Rattle.std.proofs.lemmas.Bool.{and_from, and_parts}
 use Rattle.std.proofs.lemmas.Bool.Decides.{nat_tests}
@@ -14,9 +14,14 @@ use Rattle.semver_base.specs.Grammar.{Listed, last_item, closed_item, more_items
 use Rattle.semver_base.specs.Lexical.{IsBlanks, IsSomeBlanks}
 use Rattle.semver_base.specs.Meaning.{release}
 use Rattle.semver_base.specs.NormalText.{AreWritableRanges, IsWritableRange, comparator_text, comparators_text, range_text, set_text}
-use Rattle.semver_base.specs.Shortest.{ending, shortest, shortest_tree}
+use Rattle.semver_base.specs.PrecedenceLaws.{version_eq}
+use Rattle.semver_base.specs.Shortest.{ending, is_caret_major, is_caret_patch, is_major, is_minor, is_plain, is_tilde, shortest, shortest_between, shortest_of, shortest_tree}
+use Rattle.semver_base.specs.declared.range.RangeBound.{RangeBound}
+use Rattle.semver_base.specs.declared.range.RangeBound.TheVariants as bound
+use Rattle.semver_base.specs.declared.range.VersionBoundKind.{VersionBoundKind}
 use Rattle.semver_base.specs.declared.range.VersionBoundKind.TheVariants as kind
 use Rattle.semver_base.specs.declared.range.VersionRange.{VersionRange}
+use Rattle.semver_base.specs.declared.version.Version.{Version}
 use Rattle.semver_base.proofs.Blanks.{blanks_made, is_blank_byte}
 use Rattle.semver_base.proofs.Bytes.{list_all-append, list_all-wider}
 use Rattle.semver_base.proofs.Fronts.{fronts, same, shorter, longer}
@@ -24,6 +29,7 @@ use Rattle.semver_base.proofs.Solid.{EndsSolid, StartsSolid, ends_after, ends_so
 use Rattle.semver_req.specs.Comparators.{fits}
 use Rattle.semver_req.specs.Outcome.{AreGoodOnes, none_left, good, IsCutOutcome, IsOutcome, one_good, npm_many, normal_many, Ranges}
 use Rattle.semver_req.specs.Pieces.{IsCutting, npm, normal, AreMorePieces, last_piece, cut_piece, one_piece, first_cut, HasNoBar, IsCutAt, IsFilled, IsPiece, IsTrimmed}
+use Rattle.semver_req.specs.Rereading.{IsOnePiece}
 use Rattle.semver_req.specs.declared.common.values.Flavour.{Flavour}
 use Rattle.semver_req.specs.declared.common.values.Flavour.TheVariants.{Npm, Normal}
 use Rattle.semver_req.proofs.WrittenComparators.{AreWritten, one, more, IsWritten, ending_written, shortest_written}
@@ -102,7 +108,7 @@ module _ (r : VersionRange) (h : IsWritableRange r) where
   pub range_ends : EndsSolid (range_text r)
   range_ends = comparators_end (shortest r) (shortest_written r h)
 
-  range_fits : list_all fits (shortest r) ≡ true
+  pub range_fits : list_all fits (shortest r) ≡ true
   range_fits = all_comparators_fit (shortest r) (shortest_written r h)
 
 -- ---- cuts
@@ -220,3 +226,50 @@ set_trimmed ranges h = trim_same (set_text ranges) (set_passes is_ascii solid_as
 pub set_outcome : (f : Flavour) → IsCutting f → (ranges : List VersionRange) → AreWritableRanges ranges → IsOutcome f (set_text ranges) (Ranges (shortest_tree ranges))
 set_outcome f npm ranges h = rw (set_trimmed ranges h) (cut_outcome Npm npm ranges h)
 set_outcome f normal ranges h = cut_outcome Normal normal ranges h
+
+-- ---- how many comparators a form has
+
+record AreOneOrTwo (cs : List Comparator) : Type 0 where
+  pub some : 0 < length cs
+  pub few : length cs ≤ 2
+
+either : (b : Bool) (cs ds : List Comparator) → AreOneOrTwo cs → AreOneOrTwo ds → AreOneOrTwo (if b then cs else ds)
+either true cs ds h k = h
+either false cs ds h k = k
+
+one_is : (c : Comparator) → AreOneOrTwo (c ∷ [])
+one_is c = record { some = omega arith; few = omega arith }
+
+two_are : (c d : Comparator) → AreOneOrTwo (c ∷ d ∷ [])
+two_are c d = record { some = omega arith; few = omega arith }
+
+between_few : (i j : VersionBoundKind) (s e : Version) → AreOneOrTwo (shortest_between i j s e)
+between_few kind.Inclusive kind.Inclusive s e = either (version_eq s e) _ _ (one_is _) (either (is_plain s 0 0 0) _ _ (one_is _) (two_are _ _))
+between_few kind.Inclusive kind.Exclusive s e =
+    either (is_major s e) _ _ (one_is _)
+    (either (is_minor s e) _ _ (one_is _)
+    (either (is_tilde s e) _ _ (one_is _)
+    (either (is_caret_patch s e) _ _ (one_is _)
+    (either (is_caret_major s e) _ _ (one_is _)
+    (either (is_plain s 0 0 0) _ _ (one_is _) (two_are _ _))))))
+between_few kind.Exclusive j s e = two_are _ _
+
+bounds_few : (s e : RangeBound) → AreOneOrTwo (shortest_of s e)
+bounds_few bound.Unbounded bound.Unbounded = one_is _
+bounds_few bound.Unbounded (bound.Version e) = one_is _
+bounds_few (bound.Version s) bound.Unbounded = one_is _
+bounds_few (bound.Version s) (bound.Version e) = between_few s.kind e.kind s.version e.version
+
+pub written_pieces : (ranges : List VersionRange) → AreWritableRanges ranges → AllByRecursion IsOnePiece ranges
+written_pieces [] h = tt
+written_pieces (r ∷ rs) h =
+    let few = bounds_few r.start r.end in (
+      record {
+        no_bar = no_bar (range_text r) (range_no_bar r h.0);
+        piece = λ f cut. range_piece f cut r h.0;
+        some = few.some;
+        few = few.few;
+        fit = range_fits r h.0;
+      },
+      written_pieces rs h.1,
+    )

@@ -1,15 +1,15 @@
 -- The normal text of a set that was read, read again. Source: `deno_semver`, whose text of a requirement is meant to be
 -- read back.
-use Rattle.std.specs.Prelude.{◌≡◌, ◌↔◌, ℕ, List, length, Bool, true, false, not, ◌==◌, ◌&&◌, ◌||◌, IsUtf8}
-use Rattle.std.specs.List.{list_all}
+use Rattle.std.specs.Prelude.{◌≡◌, ◌≤◌, ◌<◌, ◌↔◌, ℕ, List, length, Bool, true, false, not, ◌==◌, ◌&&◌, ◌||◌, IsUtf8}
+use Rattle.std.specs.List.{AllByRecursion, list_all}
 use Rattle.std.specs.Str.{trim}
 use Rattle.semver_base.specs.Comparators.{Comparator}
 use Rattle.semver_base.specs.Containment.{AreEquivalent}
 use Rattle.semver_base.specs.Meaning.{alternatives, set_means, tree_means_with}
-use Rattle.semver_base.specs.NormalText.{set_text}
+use Rattle.semver_base.specs.NormalText.{range_text, set_text}
 use Rattle.semver_base.specs.Overlap.{starts_before}
 use Rattle.semver_base.specs.PrecedenceLaws.{version_eq}
-use Rattle.semver_base.specs.Shortest.{is_plain, shortest_tree}
+use Rattle.semver_base.specs.Shortest.{is_plain, shortest, shortest_tree}
 use Rattle.semver_base.specs.declared.range.PreRelease.{PreRelease}
 use Rattle.semver_base.specs.declared.range.RangeBound.{RangeBound}
 use Rattle.semver_base.specs.declared.range.RangeBound.TheVariants as bound
@@ -17,9 +17,10 @@ use Rattle.semver_base.specs.declared.range.VersionBoundKind.{VersionBoundKind}
 use Rattle.semver_base.specs.declared.range.VersionBoundKind.TheVariants as kind
 use Rattle.semver_base.specs.declared.range.VersionRange.{VersionRange}
 use Rattle.semver_base.specs.declared.version.Version.{Version}
+use Rattle.semver_req.specs.Comparators.{fits}
 use Rattle.semver_req.specs.KeptSet.{IsReadSet, kept}
 use Rattle.semver_req.specs.Outcome.{IsOutcome, Outcome, Ranges, Tag, tree_ranges}
-use Rattle.semver_req.specs.Pieces.{IsCutting}
+use Rattle.semver_req.specs.Pieces.{HasNoBar, IsCutting, IsPiece}
 use Rattle.semver_req.specs.Readers.{IsReading, StartsFit}
 use Rattle.semver_req.specs.Requirement.{inner_means}
 use Rattle.semver_req.specs.declared.common.values.Flavour.{Flavour}
@@ -123,6 +124,18 @@ OneRereadingSettles = (ranges : List VersionRange) → IsReadSet ranges → Keep
 abbrev pub SettledSetsAreTheirTexts : Type 0
 SettledSetsAreTheirTexts = (some others : List VersionRange) → IsReadSet some → IsReadSet others
     → IsSettledSet some → IsSettledSet others → (some ≡ others) ↔ (set_text some ≡ set_text others)
+
+-- the normal text of a range is one piece without `||`, in npm's grammar and in the normalized one of the same one or two
+-- comparators, which fit
+pub record IsOnePiece (range : VersionRange) : Type 0 where
+  pub no_bar : HasNoBar (range_text range)
+  pub piece : (f : Flavour) → IsCutting f → IsPiece f (range_text range) (shortest range)
+  pub some : 0 < length (shortest range)
+  pub few : length (shortest range) ≤ 2
+  pub fit : list_all fits (shortest range) ≡ true
+
+abbrev pub RangesAreWrittenAsPieces : Type 0
+RangesAreWrittenAsPieces = (ranges : List VersionRange) → IsReadSet ranges → AllByRecursion IsOnePiece ranges
 
 -- ---- tags
 

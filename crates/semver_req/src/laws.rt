@@ -12,7 +12,7 @@ ghost use Rattle.semver_req.specs.KeptSet.{KeptSetsMeanTheirTrees};
 ghost use Rattle.semver_req.specs.Outcome.{TextsHaveOneOutcome};
 ghost use Rattle.semver_req.specs.Pieces.{NormalPiecesAreNpms};
 ghost use Rattle.semver_req.specs.Readers.{ReadRequirementsAreAnswers};
-ghost use Rattle.semver_req.specs.Rereading.{NormalTextsAreEquivalent, NormalTextsKeepTheirMeaning, OneRereadingSettles, SettledSetsAreTheirTexts, TagsReadBack};
+ghost use Rattle.semver_req.specs.Rereading.{NormalTextsAreEquivalent, NormalTextsKeepTheirMeaning, OneRereadingSettles, RangesAreWrittenAsPieces, SettledSetsAreTheirTexts, TagsReadBack};
 
 use crate::common::values::Flavour;
 use crate::npm::NpmVersionReqParseError;
@@ -103,6 +103,12 @@ pub fn normal_texts_keep_their_meaning()
 /// `^0.0.0-pre` or `~0.0.0-pre` of it.
 pub fn normal_texts_are_equivalent()
     ensures { NormalTextsAreEquivalent }
+{}
+
+/// The normal text of each range that some reader answered is one piece without `||`, in npm's grammar and in the normalized one
+/// of the same one or two comparators, whose numbers and bounds fit.
+pub fn ranges_are_written_as_pieces()
+    ensures { RangesAreWrittenAsPieces }
 {}
 
 /// What either reader keeps of the normal text of ranges that some reader answered is settled: either reader keeps the

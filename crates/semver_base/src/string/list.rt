@@ -94,6 +94,20 @@ impl<T> CowVec<T> {
     }
 }
 
+/// The items in order, as [`CowVec::iter`] gives them.
+impl<'a, T> IntoIterator for &'a CowVec<T> {
+    type Item = &'a T;
+
+    type IntoIter = slice::Iter<'a, T>;
+
+    ghost into_iter_gives = { λ list items. (iter_rest items ≡ list.now)
+        × (length (iter_rest items) < 2 ^ 64) × IterYieldsInOrder T };
+
+    fn into_iter(self) -> slice::Iter<'a, T> {
+        self.iter()
+    }
+}
+
 // A list of the same items.
 fn copied<T: CowItem + Drop>(alloc: Global, items: &[T]) -> Result<Vec<T>, AllocError>
     ensures { IfOk result (λ v. v.items ≡ items.now) }

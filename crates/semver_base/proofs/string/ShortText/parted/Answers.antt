@@ -18,7 +18,7 @@ loop-character-preserved g c =
     let steps = c.in-Some.ensures.steps in
     let step = character_step [] to refl c.loop-character.character-iterator.rest.now c.next.new.self.rest.now c.in-Some.character (sym steps.2) steps.0 in
     let grown : c.push.new.self ≡ c.loop-character.parted ++ (to ++ encode_utf8 c.in-Some.character) =
-        c.in_ok-push.ensures.ok ∙ (ap (λ done. done ++ encode_utf8 c.in-Some.character) c.in_ok-push_str.ensures.ok ∙ append_assoc c.loop-character.parted to (encode_utf8 c.in-Some.character)) in
+    c.in_ok-push.ensures.ok ∙ (ap (λ done. done ++ encode_utf8 c.in-Some.character) c.in_ok-push_str.ensures.ok ∙ append_assoc c.loop-character.parted to (encode_utf8 c.in-Some.character)) in
     subst (λ done. IsPartly [] to c.args.text.now done c.next.new.self.rest.now) (sym grown) (next [] to c.args.text.now c.loop-character.parted _ _ _ c.loop-character.invariant step)
 
 pub returns-in_err-push-clause-succeeds : goal.returns-in_err-push-clause-succeeds

@@ -30,10 +30,12 @@ loop-before-preserved g c =
     let cut = c.in-Some.ensures.cases in
     let step = found_step c.args.from.now to some c.loop-before.rest.now cut.0 cut.1 cut.2 in
     let grown : c.push_str-in-Some.new.self ≡ c.loop-before.replaced ++ (take cut.0 c.loop-before.rest.now ++ to) =
-        c.in_ok-push_str-2.ensures.ok ∙ (ap (λ done. done ++ to) c.in_ok-push_str.ensures.ok ∙ (append_assoc c.loop-before.replaced c.in-Some.before.now to ∙ ap (λ front. c.loop-before.replaced ++ (front ++ to)) cut.3)) in
-    (search rules, subst (λ done. IsPartly c.args.from.now to c.args.self.now done c.in-Some.after.now) (sym grown)
-    (subst (IsPartly c.args.from.now to c.args.self.now (c.loop-before.replaced ++ (take cut.0 c.loop-before.rest.now ++ to))) (sym cut.4)
-    (next c.args.from.now to c.args.self.now c.loop-before.replaced _ _ _ c.loop-before.invariant.1 step)))
+    c.in_ok-push_str-2.ensures.ok ∙ (ap (λ done. done ++ to) c.in_ok-push_str.ensures.ok ∙ (append_assoc c.loop-before.replaced c.in-Some.before.now to ∙ ap (λ front. c.loop-before.replaced ++ (front ++ to)) cut.3)) in (
+      search rules,
+      subst (λ done. IsPartly c.args.from.now to c.args.self.now done c.in-Some.after.now) (sym grown)
+          (subst (IsPartly c.args.from.now to c.args.self.now (c.loop-before.replaced ++ (take cut.0 c.loop-before.rest.now ++ to))) (sym cut.4)
+          (next c.args.from.now to c.args.self.now c.loop-before.replaced _ _ _ c.loop-before.invariant.1 step)),
+    )
 
 pub returns-in_err-push_str-3-clause-succeeds : goal.returns-in_err-push_str-3-clause-succeeds
 returns-in_err-push_str-3-clause-succeeds g c r h short =
