@@ -1,5 +1,5 @@
 -- A text stands for one dependency or has one fault, and which fault an error tells.
-use Rattle.std.proofs.Common.{◌≡◌, ◌==◌, ◌++◌, ℕ, List, true, false, Result, Ok, Err, get_or, refl, sym, ap, subst, ◌∙◌, inl, inr}
+use Rattle.std.proofs.Common.{◌≡◌, ◌==◌, ◌++◌, ℕ, List, true, false, Result, Ok, Err, get_or, refl, sym, ap, ap₂, subst, ◌∙◌, inl, inr}
 use Rattle.std.specs.Prelude.{◌⊎◌}
 use Rattle.semver_req.specs.declared.common.values.Flavour.{Flavour}
 use Rattle.deno_semver.specs.DependencyOutcome.{BadRequirement, DependencyFault, IsDependencyAnswer, IsDependencyOutcome, IsDependencyRefusal, IsOfPackageError, IsToldScheme, OtherScheme, TellsDependency, bad_requirement, is_dependency, other_scheme}
@@ -13,6 +13,7 @@ use Rattle.deno_semver.specs.declared.package.errors.PackageReqParseError.{Packa
 use Rattle.deno_semver.specs.declared.package.kind.PackageKind.{PackageKind}
 use Rattle.deno_semver.specs.declared.package.kind.PackageKind.TheVariants.{Jsr, Npm}
 use Rattle.deno_semver.specs.declared.package.values.PackageReq.{PackageReq}
+use Rattle.deno_semver.proofs.PackageFaults.{outcome_one}
 use Rattle.deno_semver.proofs.References.{cancel}
 
 -- ---- one scheme
@@ -56,6 +57,27 @@ dependency_of kind req = record { kind = kind; req = req }
 
 same_dependency : {k l : PackageKind} {x y : PackageReq} → k ≡ l → x ≡ y → dependency_of k x ≡ dependency_of l y
 same_dependency a b = rw (a, b) refl
+
+module _ {f : Flavour} {text : List ℕ} where
+  -- two requirements after the schemes of one text are one
+  after_one : (k l : PackageKind) (a b : List ℕ) (o p : Result PackageReq Fault) → text ≡ scheme_of k ++ a → text ≡ scheme_of l ++ b
+      → IsPackageOutcome f a o → IsPackageOutcome f b p → o ≡ p
+  after_one k l a b o p e e' h h' = outcome_one o p h (subst (λ body. IsPackageOutcome f body p) (sym (one_body k l a b (sym e ∙ e'))) h')
+
+  pub dependency_one : (o p : Result JsrDepPackageReq DependencyFault) → IsDependencyOutcome f text o → IsDependencyOutcome f text p → o ≡ p
+  dependency_one _ _ (other_scheme none) (other_scheme _) = refl
+  dependency_one _ _ (other_scheme none) (is_dependency kind body is h) = absurd (none kind body is)
+  dependency_one _ _ (other_scheme none) (bad_requirement kind body is h) = absurd (none kind body is)
+  dependency_one _ _ (is_dependency kind body is h) (other_scheme none) = absurd (none kind body is)
+  dependency_one _ _ (bad_requirement kind body is h) (other_scheme none) = absurd (none kind body is)
+  dependency_one _ _ (is_dependency k a {req = x} e h) (is_dependency l b {req = y} e' h') =
+      let same : x ≡ y = cc (after_one k l a b (Ok x) (Ok y) e e' h h') in
+      ap Ok (same_dependency (one_kind k l a b (sym e ∙ e')) same)
+  dependency_one _ _ (is_dependency k a {req = x} e h) (bad_requirement l b {fault = y} e' h') = absurd (cc (after_one k l a b (Ok x) (Err y) e e' h h'))
+  dependency_one _ _ (bad_requirement k a {fault = x} e h) (is_dependency l b {req = y} e' h') = absurd (cc (after_one k l a b (Err x) (Ok y) e e' h h'))
+  dependency_one _ _ (bad_requirement k a {fault = x} e h) (bad_requirement l b {fault = y} e' h') =
+      let same : x ≡ y = cc (after_one k l a b (Err x) (Err y) e e' h h') in
+      ap₂ (λ (body : List ℕ) (fault : Fault). Err (BadRequirement body fault)) (one_body k l a b (sym e ∙ e')) same
 
 -- what the reader of requirements answers to each outcome
 abbrev pub PackageAnswers : Flavour → List ℕ → Result PackageReq PackageReqParseError → Type 0

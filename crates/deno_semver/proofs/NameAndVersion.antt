@@ -1,5 +1,5 @@
 -- What a text is cut into as a name and version, and that it is one cut.
-use Rattle.std.proofs.Common.{◌≡◌, ◌≤◌, ◌<◌, ◌==◌, ℕ, true, false, List, [], ◌∷◌, ◌++◌, length, take, drop, get_or, Option, None, Result, Ok, Err, refl, sym, ap, subst, ◌∙◌, arith, inl, inr, add-one, length-append}
+use Rattle.std.proofs.Common.{◌≡◌, ◌≤◌, ◌<◌, ◌==◌, ℕ, true, false, List, [], ◌∷◌, ◌++◌, length, take, drop, get_or, Option, None, Result, Ok, Err, refl, sym, ap, ap₂, subst, ◌∙◌, arith, inl, inr, add-one, length-append}
 use Rattle.std.specs.Borrow.{Bor}
 use Rattle.std.specs.Prelude.{◌⊎◌}
 use Rattle.std.specs.List.{list_all, take_while}
@@ -13,6 +13,7 @@ use Rattle.semver_base.specs.declared.failure.Refusal.{Refusal}
 use Rattle.semver_base.specs.declared.failure.Refusal.TheVariants.{UnexpectedCharacter}
 use Rattle.semver_base.specs.declared.version.Version.{Version}
 use Rattle.semver_base.proofs.Numbers.{cuts_run}
+use Rattle.semver_base.proofs.VersionReading.{one_outcome}
 use Rattle.deno_semver.specs.Cuts.{is_not}
 use Rattle.deno_semver.specs.NameAndVersion.{IsNoNvText, IsNvAnswer, IsNvFront, IsNvMemory, IsNvName, IsNvOutcome, IsNvRefusal, IsNvText, TellsNvFault, is_bad, is_bad_version, is_followed, is_front, is_nv, is_uncut, is_version_byte}
 use Rattle.deno_semver.specs.NameAndVersionSteps.{IsFrontAnswer, IsFrontRefusal, IsNameCut, TellsFailure, name_len}
@@ -181,3 +182,62 @@ module _ {text : List ℕ} {nv : PackageNv} {rest : Bor (List ℕ)} (answer : Fr
 
 pub whole_read : {text rest : List ℕ} {nv : PackageNv} → IsNvFront text (Ok (nv, rest)) → length rest ≡ 0 → IsNvOutcome text (Ok nv)
 whole_read {text} {rest} {nv} h none = is_nv (subst (λ (r : List ℕ). IsNvFront text (Ok (nv, r))) (nil_from_length rest none) h)
+
+-- ---- one outcome
+
+-- two versions of one text are the same
+version_same : {v w : List ℕ} (o p : Result Version Refusal) → v ≡ w → IsVersionOutcome (trim v) o → IsVersionOutcome (trim w) p → o ≡ p
+version_same {v = v} o p e h k = one_outcome (trim v) o p h (moved e k)
+
+pub front_one : {text : List ℕ} (o p : Result (PackageNv × List ℕ) Refusal) → IsNvFront text o → IsNvFront text p → o ≡ p
+front_one _ _ (is_front {v = v} h a) (is_front {v = w} k b) =
+    let same = nv_one h k in
+    let versions : v ≡ w = cc (version_same (Ok v) (Ok w) same.1 a b) in
+    ap₂ (λ (nv : PackageNv) (rest : List ℕ). Ok (nv, rest)) (nv_same same.0 versions) same.2
+front_one _ _ (is_front h a) (is_uncut none) = absurd (none _ _ _ h)
+front_one _ _ (is_front {v = v} h a) (is_bad_version {fault = fault} k b) = absurd (cc (version_same (Ok v) (Err fault) (nv_one h k).1 a b))
+front_one _ _ (is_uncut none) (is_front k b) = absurd (none _ _ _ k)
+front_one _ _ (is_uncut none) (is_uncut _) = refl
+front_one _ _ (is_uncut none) (is_bad_version k b) = absurd (none _ _ _ k)
+front_one _ _ (is_bad_version {fault = fault} h a) (is_front {v = w} k b) = absurd (cc (version_same (Err fault) (Ok w) (nv_one h k).1 a b))
+front_one _ _ (is_bad_version h a) (is_uncut none) = absurd (none _ _ _ h)
+front_one _ _ (is_bad_version {fault = x} h a) (is_bad_version {fault = y} k b) =
+    let same : x ≡ y = cc (version_same (Err x) (Err y) (nv_one h k).1 a b) in
+    ap Err same
+
+-- a name and version at the front, with what follows
+abbrev pub front_of : PackageNv → List ℕ → Result (PackageNv × List ℕ) Refusal
+front_of nv rest = Ok (nv, rest)
+
+abbrev front_pair : PackageNv × List ℕ → Result (PackageNv × List ℕ) Refusal
+front_pair p = Ok p
+
+same_pair : (a b : PackageNv × List ℕ) → front_pair a ≡ front_pair b → a ≡ b
+same_pair a b e = cc e
+
+pub same_nv : (x y : PackageNv) (r s : List ℕ) → front_of x r ≡ front_of y s → x ≡ y
+same_nv x y r s e = ap (λ (p : PackageNv × List ℕ). p.0) (same_pair (x, r) (y, s) e)
+
+pub same_rest : (x y : PackageNv) (r s : List ℕ) → front_of x r ≡ front_of y s → r ≡ s
+same_rest x y r s e = ap (λ (p : PackageNv × List ℕ). p.1) (same_pair (x, r) (y, s) e)
+
+-- nothing follows, or something does
+ends_or_goes : (x y : PackageNv) (rest : List ℕ) → front_of x [] ≡ front_of y rest → 0 < length rest → ⊥
+ends_or_goes x y rest e some = omega (arith, some, ap length (same_rest x y [] rest e))
+
+pub no_front : (x : PackageNv) (rest : List ℕ) (fault : Refusal) → front_of x rest ≡ Err fault → ⊥
+no_front x rest fault e = cc e
+
+pub same_fault : (a b : Refusal) (o p : Result (PackageNv × List ℕ) Refusal) → o ≡ Err a → p ≡ Err b → o ≡ p → a ≡ b
+same_fault a b o p e f g = cc (e, f, g)
+
+pub nv_outcome_one : {text : List ℕ} (o p : Result PackageNv Refusal) → IsNvOutcome text o → IsNvOutcome text p → o ≡ p
+nv_outcome_one _ _ (is_nv {nv = x} h) (is_nv {nv = y} k) = ap Ok (same_nv x y [] [] (front_one _ _ h k))
+nv_outcome_one _ _ (is_nv {nv = x} h) (is_bad {fault = y} k) = absurd (no_front x [] y (front_one _ _ h k))
+nv_outcome_one _ _ (is_nv {nv = x} h) (is_followed {nv = y} {rest = rest} k some) = absurd (ends_or_goes x y rest (front_one _ _ h k) some)
+nv_outcome_one _ _ (is_bad {fault = x} h) (is_nv {nv = y} k) = absurd (no_front y [] x (front_one _ _ k h))
+nv_outcome_one _ _ (is_bad {fault = x} h) (is_bad {fault = y} k) = ap Err (same_fault x y _ _ refl refl (front_one _ _ h k))
+nv_outcome_one _ _ (is_bad {fault = x} h) (is_followed {nv = y} {rest = rest} k some) = absurd (no_front y rest x (front_one _ _ k h))
+nv_outcome_one _ _ (is_followed {nv = x} {rest = rest} h some) (is_nv {nv = y} k) = absurd (ends_or_goes y x rest (front_one _ _ k h) some)
+nv_outcome_one _ _ (is_followed {nv = x} {rest = rest} h some) (is_bad {fault = y} k) = absurd (no_front x rest y (front_one _ _ h k))
+nv_outcome_one _ _ (is_followed h some) (is_followed k more) = refl

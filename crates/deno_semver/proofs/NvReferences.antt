@@ -19,7 +19,7 @@ use Rattle.deno_semver.specs.declared.package.values.PackageNv.{PackageNv}
 use Rattle.deno_semver.specs.declared.package.name_version.PackageNvParseError.{PackageNvParseError}
 use Rattle.deno_semver.specs.declared.package.nv_reference.PackageNvReference.{PackageNvReference}
 use Rattle.deno_semver.specs.declared.package.nv_reference.PackageNvReferenceParseError.{PackageNvReferenceParseError}
-use Rattle.deno_semver.proofs.NameAndVersion.{FrontAnswers}
+use Rattle.deno_semver.proofs.NameAndVersion.{FrontAnswers, front_of, front_one, no_front, same_fault, same_nv, same_rest}
 use Rattle.deno_semver.proofs.NvText.{front_name, front_writable, writes_text}
 use Rattle.deno_semver.proofs.References.{bodies}
 
@@ -100,6 +100,38 @@ module _ {kind : PackageKind} {text : List ℕ} (body : List ℕ) (is : text ≡
         same_reference nvs (path_one r.sub_path path (sym same.1 ∙ both.1))
     read_answer r same _ (bad_front other e h) = absurd (answer _ (at kind body other is e h))
     read_answer r same _ (is_followed other {rest = tail} e h k) = absurd (no_path r.sub_path tail k (sym (answer _ (at kind body other is e h)).1 ∙ same.1))
+
+-- ---- one outcome
+
+-- a path, or nothing, isn't what is neither
+path_or_not : (x y : PackageNv) (path : Option (List ℕ)) (rest : List ℕ) → front_of x (path_text path) ≡ front_of y rest → IsNoPath rest → ⊥
+path_or_not x y path rest e none = no_path path rest none (sym (same_rest x y (path_text path) rest e))
+
+module _ (kind : PackageKind) {text : List ℕ} where
+  -- two names with versions after the scheme of one text are one
+  after_one : (a b : List ℕ) (o p : Result (PackageNv × List ℕ) Refusal) → text ≡ scheme_of kind ++ a → text ≡ scheme_of kind ++ b
+      → IsNvFront (without_slash a) o → IsNvFront (without_slash b) p → o ≡ p
+  after_one a b o p e e' h k = front_one o p h (at kind a b e e' k)
+
+  pub nv_reference_one : (o p : Result PackageNvReference Refusal) → IsNvReferenceOutcome kind text o → IsNvReferenceOutcome kind text p → o ≡ p
+  nv_reference_one _ _ (other_scheme none) (other_scheme _) = refl
+  nv_reference_one _ _ (other_scheme none) (is_reference body e h) = absurd (none body e)
+  nv_reference_one _ _ (other_scheme none) (bad_front body e h) = absurd (none body e)
+  nv_reference_one _ _ (other_scheme none) (is_followed body e h k) = absurd (none body e)
+  nv_reference_one _ _ (is_reference body e h) (other_scheme none) = absurd (none body e)
+  nv_reference_one _ _ (bad_front body e h) (other_scheme none) = absurd (none body e)
+  nv_reference_one _ _ (is_followed body e h k) (other_scheme none) = absurd (none body e)
+  nv_reference_one _ _ (is_reference a {nv = x} {path = p} e h) (is_reference b {nv = y} {path = q} e' k) =
+      let same : front_of x (path_text p) ≡ front_of y (path_text q) = after_one a b _ _ e e' h k in
+      ap Ok (same_reference (same_nv x y (path_text p) (path_text q) same) (path_one p q (same_rest x y (path_text p) (path_text q) same)))
+  nv_reference_one _ _ (is_reference a {nv = x} {path = p} e h) (bad_front b {fault = y} e' k) = absurd (no_front x (path_text p) y (after_one a b _ _ e e' h k))
+  nv_reference_one _ _ (is_reference a {nv = x} {path = p} e h) (is_followed b {rest = rest} {nv = y} e' k none) = absurd (path_or_not x y p rest (after_one a b _ _ e e' h k) none)
+  nv_reference_one _ _ (bad_front a {fault = x} e h) (is_reference b {nv = y} {path = q} e' k) = absurd (no_front y (path_text q) x (after_one b a _ _ e' e k h))
+  nv_reference_one _ _ (bad_front a {fault = x} e h) (bad_front b {fault = y} e' k) = ap Err (same_fault x y _ _ refl refl (after_one a b _ _ e e' h k))
+  nv_reference_one _ _ (bad_front a {fault = x} e h) (is_followed b {rest = rest} {nv = y} e' k none) = absurd (no_front y rest x (after_one b a _ _ e' e k h))
+  nv_reference_one _ _ (is_followed a {rest = rest} {nv = x} e h none) (is_reference b {nv = y} {path = q} e' k) = absurd (path_or_not y x q rest (after_one b a _ _ e' e k h) none)
+  nv_reference_one _ _ (is_followed a {rest = rest} {nv = x} e h none) (bad_front b {fault = y} e' k) = absurd (no_front x rest y (after_one a b _ _ e e' h k))
+  nv_reference_one _ _ (is_followed a e h none) (is_followed b e' k other) = refl
 
 -- ---- it reads back
 

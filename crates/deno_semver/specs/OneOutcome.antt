@@ -1,11 +1,18 @@
--- No text of a package or of a reference has two cuts, or two outcomes.
+-- No text of a package, a name with a version, a reference or a dependency has two outcomes, and none of a package two cuts.
 use Rattle.std.specs.Prelude.{◌≡◌, ℕ, List, Result}
+use Rattle.semver_base.specs.declared.failure.Refusal.{Refusal}
 use Rattle.semver_req.specs.declared.common.values.Flavour.{Flavour}
+use Rattle.deno_semver.specs.DependencyOutcome.{DependencyFault, IsDependencyOutcome}
+use Rattle.deno_semver.specs.NameAndVersion.{IsNvOutcome}
+use Rattle.deno_semver.specs.NvReference.{IsNvReferenceOutcome}
 use Rattle.deno_semver.specs.PackageOutcome.{Fault, IsPackageOutcome}
 use Rattle.deno_semver.specs.PackageText.{IsPackageText, PackageParts}
 use Rattle.deno_semver.specs.ReferenceOutcome.{IsReferenceOutcome, ReferenceFault}
+use Rattle.deno_semver.specs.declared.jsr.dependency.JsrDepPackageReq.{JsrDepPackageReq}
 use Rattle.deno_semver.specs.declared.package.kind.PackageKind.{PackageKind}
+use Rattle.deno_semver.specs.declared.package.nv_reference.PackageNvReference.{PackageNvReference}
 use Rattle.deno_semver.specs.declared.package.reference.PackageReqReference.{PackageReqReference}
+use Rattle.deno_semver.specs.declared.package.values.PackageNv.{PackageNv}
 use Rattle.deno_semver.specs.declared.package.values.PackageReq.{PackageReq}
 
 -- no text is cut as a package in two ways
@@ -20,3 +27,16 @@ PackageTextsHaveOneOutcome = (f : Flavour) (text : List ℕ) (o p : Result Packa
 abbrev pub ReferencesHaveOneOutcome : Type 0
 ReferencesHaveOneOutcome = (kind : PackageKind) (text : List ℕ) (o p : Result PackageReqReference ReferenceFault)
     → IsReferenceOutcome kind text o → IsReferenceOutcome kind text p → o ≡ p
+
+-- and of dependencies of JSR packages
+abbrev pub DependenciesHaveOneOutcome : Type 0
+DependenciesHaveOneOutcome = (f : Flavour) (text : List ℕ) (o p : Result JsrDepPackageReq DependencyFault)
+    → IsDependencyOutcome f text o → IsDependencyOutcome f text p → o ≡ p
+
+-- of names with versions, and of references to versions
+abbrev pub NamesWithVersionsHaveOneOutcome : Type 0
+NamesWithVersionsHaveOneOutcome = (text : List ℕ) (o p : Result PackageNv Refusal) → IsNvOutcome text o → IsNvOutcome text p → o ≡ p
+
+abbrev pub VersionReferencesHaveOneOutcome : Type 0
+VersionReferencesHaveOneOutcome = (kind : PackageKind) (text : List ℕ) (o p : Result PackageNvReference Refusal)
+    → IsNvReferenceOutcome kind text o → IsNvReferenceOutcome kind text p → o ≡ p

@@ -7,7 +7,7 @@
 
 ghost use Rattle.std.specs.Prelude.{◌≡◌, ◌↔◌, IsTrue};
 ghost use Rattle.deno_semver.specs.Equal.{AreEqualDependencies, AreEqualReferences};
-ghost use Rattle.deno_semver.specs.OneOutcome.{PackageTextsHaveOneCut, PackageTextsHaveOneOutcome, ReferencesHaveOneOutcome};
+ghost use Rattle.deno_semver.specs.OneOutcome.{DependenciesHaveOneOutcome, NamesWithVersionsHaveOneOutcome, PackageTextsHaveOneCut, PackageTextsHaveOneOutcome, ReferencesHaveOneOutcome, VersionReferencesHaveOneOutcome};
 ghost use Rattle.deno_semver.specs.ReferenceOutcome.{unboxed};
 
 use crate::json::JsonError;
@@ -162,4 +162,19 @@ pub fn package_texts_have_one_outcome()
 /// A text has at most one outcome as a reference to a package of either registry.
 pub fn references_have_one_outcome()
     ensures { ReferencesHaveOneOutcome }
+{}
+
+/// The text of a dependency of a JSR package stands for one dependency or has one first fault, never two and never both.
+pub fn dependencies_have_one_outcome()
+    ensures { DependenciesHaveOneOutcome }
+{}
+
+/// A text stands for one name with a version or has one refusal, never two and never both.
+pub fn names_with_versions_have_one_outcome()
+    ensures { NamesWithVersionsHaveOneOutcome }
+{}
+
+/// A text has at most one outcome as a reference to a version of either registry.
+pub fn version_references_have_one_outcome()
+    ensures { VersionReferencesHaveOneOutcome }
 {}

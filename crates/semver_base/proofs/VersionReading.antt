@@ -15,6 +15,8 @@ use Rattle.semver_base.specs.declared.failure.Refusal.TheVariants.{UnexpectedCha
 use Rattle.semver_base.specs.declared.lexical.values.Qualifier.{Qualifier}
 use Rattle.semver_base.specs.declared.lexical.values.Strictness.TheVariants.{Loose}
 use Rattle.semver_base.specs.declared.version.Version.{Version}
+use Rattle.semver_base.proofs.Readings.{Unambiguous, after_one, followed_one, joined_one, mapped_one, prefixed_one}
+use Rattle.semver_base.proofs.WordReadings.{loose_one, qualifier_one}
 use Rattle.semver_base.proofs.Fronts.{Apart, NoClash, NonEmpty, followed, followed_none_second, joined, joined_none_first, mapped, mapped_none, prefixed_none, prefixed_some, no_clash, one_front, rest_is}
 use Rattle.semver_base.proofs.Bytes.{BeginsBy, Disjoint, GoesBy, MadeOf, apart_by, begins_from_made, begins_wider, goes_from_made, goes_wider, joined_begins, joined_begins_either, joined_goes_second, joined_made, joined_some_text, made_wider, mapped_begins, mapped_made, prefixed_begins, prefixed_goes, prefixed_made, prefixed_some_text, optional_begins, optional_goes, optional_made}
 use Rattle.semver_base.proofs.Lists.{run_longest}
@@ -297,6 +299,15 @@ one_refusal (is_fault {fault} f) (is_outside none no_fault) = absurd (no_fault f
 one_refusal (is_outside none no_fault) (is_version {v} k small) = absurd (none v k)
 one_refusal (is_outside none no_fault) (is_fault {fault} g) = absurd (no_fault fault g)
 one_refusal (is_outside none no_fault) (is_outside other no_other) = refl
+
+-- a text is one version at most
+version_one : Unambiguous IsVersion
+version_one = mapped_one (after_one lead_apart (joined_one core_clash (followed_one number_apart loose_one (prefixed_one 46 (followed_one number_apart loose_one (prefixed_one 46 loose_one)))) (qualifier_one Loose)))
+
+pub one_outcome : (text : List ℕ) (o p : Result Version Refusal) → IsVersionOutcome text o → IsVersionOutcome text p → o ≡ p
+one_outcome text (Ok v) (Ok w) (is_version h small) (is_version k _) = ap Ok (version_one.one text v w h k)
+one_outcome text (Err fault) (Ok w) h k = sym (one_refusal h k)
+one_outcome text o (Err fault) h k = one_refusal k h
 
 -- ---- answers
 

@@ -14,7 +14,7 @@ use Rattle.semver_base.proofs.Readings.{Unambiguous, followed_one, listed_one, m
 
 -- ---- numbers
 
-loose_one : Unambiguous IsLooseNumber
+pub loose_one : Unambiguous IsLooseNumber
 loose_one = mapped_one (run_one is_ascii_digit)
 
 pub number_one : (s : Strictness) → Unambiguous (IsNumber s)

@@ -6,14 +6,14 @@
 //!
 //! Equal values hash alike: they write the same to every `Hasher`. `equal_hash_alike` says it of each type that has `Hash`.
 //!
-//! The last three laws speak of versions, ranges and their texts alone, so their calls do nothing: what they promise is what
+//! The last four laws speak of versions, ranges and their texts alone, so their calls do nothing: what they promise is what
 //! a caller cites.
 
 ghost use Rattle.std.specs.Prelude.{◌≡◌, ◌↔◌, IsTrue};
 ghost use Rattle.semver_base.specs.LeastVersion.{ReadVersionsAreReadable};
 ghost use Rattle.semver_base.specs.NormalTable.{IsNormalTable};
 ghost use Rattle.semver_base.specs.Sameness.{TellsSame};
-ghost use Rattle.semver_base.specs.VersionText.{VersionTextsReadBack};
+ghost use Rattle.semver_base.specs.VersionText.{VersionTextsHaveOneOutcome, VersionTextsReadBack};
 
 use crate::failure::{ParseFailure, Refusal};
 use crate::lexical::values::{Measured, Strictness};
@@ -154,6 +154,11 @@ pub fn equal_hash_alike<T: Hash>(one: &T, other: &T) -> bool
 {
     one == other
 }
+
+/// A text stands for one version or has one refusal, never two and never both.
+pub fn version_texts_have_one_outcome()
+    ensures { VersionTextsHaveOneOutcome }
+{}
 
 /// The text of a version whose identifiers are parts is read as that version, build included (SemVer 2.0.0, section 2).
 pub fn version_texts_read_back()

@@ -22,16 +22,16 @@ fn kind_place(kind: VersionBoundKind) -> u8
     }
 }
 
-fn cmp_versions(a: &VersionBound, b: &VersionBound) -> Ordering
+fn cmp_version(a: &VersionBound, b: &VersionBound) -> Ordering
     ensures { result ≡ bound_versions_cmp a.now b.now }
 {
     a.version.cmp_precedence(&b.version)
 }
 
-fn cmp_bounds(a: &VersionBound, b: &VersionBound) -> Ordering
+fn cmp_bound(a: &VersionBound, b: &VersionBound) -> Ordering
     ensures { result ≡ bound_cmp a.now b.now }
 {
-    cmp_versions(a, b).then_with(|| kind_place(a.kind).cmp(&kind_place(b.kind)))
+    cmp_version(a, b).then_with(|| kind_place(a.kind).cmp(&kind_place(b.kind)))
 }
 
 // The higher version first, then an exclusive bound, and no start last.
@@ -42,7 +42,7 @@ fn cmp_starts(a: &RangeBound, b: &RangeBound) -> Ordering
         (RangeBound::Unbounded, RangeBound::Unbounded) => Ordering::Equal,
         (RangeBound::Unbounded, RangeBound::Version(_)) => Ordering::Greater,
         (RangeBound::Version(_), RangeBound::Unbounded) => Ordering::Less,
-        (RangeBound::Version(a), RangeBound::Version(b)) => cmp_bounds(b, a),
+        (RangeBound::Version(a), RangeBound::Version(b)) => cmp_bound(b, a),
     }
 }
 
@@ -54,7 +54,7 @@ fn cmp_ends(a: &RangeBound, b: &RangeBound) -> Ordering
         (RangeBound::Unbounded, RangeBound::Unbounded) => Ordering::Equal,
         (RangeBound::Unbounded, RangeBound::Version(_)) => Ordering::Greater,
         (RangeBound::Version(_), RangeBound::Unbounded) => Ordering::Less,
-        (RangeBound::Version(a), RangeBound::Version(b)) => cmp_versions(a, b).then(cmp_bounds(b, a)),
+        (RangeBound::Version(a), RangeBound::Version(b)) => cmp_version(a, b).then(cmp_bound(b, a)),
     }
 }
 
