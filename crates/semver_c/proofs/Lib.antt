@@ -1,0 +1,3 @@
+pub mod HandleValues
+pub mod Telling
+pub mod Values
