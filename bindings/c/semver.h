@@ -1,8 +1,19 @@
-/* deno_semver 0.10.1, proved: the border to C. Texts are bytes and a length, and are UTF-8.
+/* deno_semver, proved: its calls from C.
  *
- * No call keeps a pointer to a text. Each is safe to call from several threads at once, on memory of their own (malloc has to be), but
- * not from a signal handler. A pointer of length 0 still has to be non-null (any aligned address does). `answers` and `out`
- * must not overlap any other argument. */
+ * Texts are bytes and a length, and are UTF-8. Of every call:
+ * - A pointer is never null, also where its length is 0. What it points to lives and stays as it is while the call runs.
+ * - `out`, `answers`, `needed` and the handles overlap no other argument and one another in nothing.
+ * - No call keeps a pointer to what it is given. Several threads may call at once, each with memory and handles of its own;
+ *   none may call from a signal handler, nor from a forked child of a program that has threads.
+ * - `malloc`, `realloc` and `free` are those of one allocator, and a block is aligned to each power of two up to 16 that
+ *   divides its size.
+ *
+ * A call answers a code. A question has one code, but for want of memory, SEMVER_NO_MEMORY. Words are looked at from the left,
+ * and the first that is wrong decides: of a requirement its reader, then its bytes, then its text.
+ *
+ * A text goes to the front of `out` where it fits, and the rest of `out` stays; where it doesn't, `out` stays as it was. Its
+ * length is in `*needed` either way, and 0 where there is none. With the codes from SEMVER_NO_REQUIREMENT on the text is a
+ * message in English. To ask for no text, give a buffer of length 0. */
 #ifndef SEMVER_H
 #define SEMVER_H
 
@@ -14,57 +25,105 @@ extern "C" {
 #endif
 
 /* readers of requirements */
-enum { SEMVER_NPM = 0, SEMVER_NORMALIZED = 1, SEMVER_STRICT = 2 };
+enum {
+    SEMVER_NPM = 0,        /* npm's grammar of ranges */
+    SEMVER_NORMALIZED = 1, /* comparators with blanks between, alternatives with || */
+    SEMVER_STRICT = 2      /* the grammar of package specifiers: ~, ^ or nothing before one partial version */
+};
+
+/* pre-releases: by npm's rule, or every one that stands between the bounds */
+enum { SEMVER_RESTRICTED = 0, SEMVER_ADMITTED = 1 };
 
 /* codes */
 enum {
     SEMVER_NO = 0,
     SEMVER_YES = 1,
-    SEMVER_TAG = 2,            /* the requirement is a tag */
+    SEMVER_TAG = 2, /* a requirement is a tag, which is no question of versions */
+    SEMVER_BEFORE = 0, SEMVER_SAME = 1, SEMVER_AFTER = 2, /* of two versions */
     SEMVER_NO_REQUIREMENT = 3, /* a requirement is refused */
     SEMVER_NO_VERSION = 4,     /* a version is refused */
-    SEMVER_NO_UTF8 = 5,
+    SEMVER_NO_UTF8 = 5,        /* bytes are no UTF-8 */
     SEMVER_NO_MEMORY = 6,
-    SEMVER_NO_READER = 7,
-    SEMVER_NO_ROOM = 8         /* the buffer is too small, and as it was */
+    SEMVER_NO_READER = 7       /* no reader has this number */
 };
 
-/* Whether the version fits the requirement: 0, 1, 2, 3, 4, 5, 6 or 7. */
+/* Whether the version fits the requirement: NO, YES or TAG. */
 uint32_t semver_fits(uint32_t reader, const uint8_t *requirement, size_t requirement_len,
-                     const uint8_t *version, size_t version_len);
+                     const uint8_t *version, size_t version_len, uint32_t pre_releases,
+                     uint8_t *out, size_t out_len, size_t *needed);
 
-/* One code for each line of `versions` (0, 1, 2, 4 or 6), and how many lines there are: 1, 3, 5, 6, 7, or 8 where there are
- * more lines than answers. Only where it answers 1 is `*count` other than 0, and have all lines their code. */
+/* Whether each version of a list, a line each, fits the requirement: YES. `answers[n]` is the code of line n, NO, YES, TAG or
+ * NO_VERSION, and `*needed` how many lines there are. Where there are more than `answers_len`, `answers` stays as it was. A line
+ * ends at "\n" or "\r\n", and there is none after the last; an empty text has none. */
 uint32_t semver_filter(uint32_t reader, const uint8_t *requirement, size_t requirement_len,
-                       const uint8_t *versions, size_t versions_len,
-                       uint8_t *answers, size_t answers_len, size_t *count);
+                       const uint8_t *versions, size_t versions_len, uint32_t pre_releases,
+                       uint8_t *answers, size_t answers_len, size_t *needed);
 
-/* Whether two requirements overlap: 0, 1, 3, 5, 6 or 7. */
-uint32_t semver_overlap(uint32_t reader, const uint8_t *one, size_t one_len,
-                        const uint8_t *other, size_t other_len);
-
-/* 0 where the first version is before the other, 1 where neither is, 2 where it is after: the build has no part. Else 4, 5, 6. */
+/* The order of two versions, in which the build has no part: BEFORE, where the first is before the other, SAME or AFTER. */
 uint32_t semver_compare(const uint8_t *one, size_t one_len, const uint8_t *other, size_t other_len);
 
-/* The normal text of the requirement at the front of `out`, the rest of which stays: 1; or 8, and `out` is as it was: in both
- * `*needed` is the length of the text. Else 3, 5, 6 or 7, `*needed` is 0, and `out` is as it was. */
+/* Whether two requirements overlap by the bound rule: NO or YES. Two tags do where they are the same, a tag and ranges never. */
+uint32_t semver_overlap(uint32_t reader, const uint8_t *one, size_t one_len, const uint8_t *other, size_t other_len);
+
+/* Whether the other requirement matches each version that the first one matches: YES; NO, with the text of the least version that
+ * it doesn't; or TAG. */
+uint32_t semver_within(uint32_t reader, const uint8_t *one, size_t one_len, const uint8_t *other, size_t other_len,
+                       uint8_t *out, size_t out_len, size_t *needed);
+
+/* The least version that both requirements match: YES, with its text; NO, where there is none; or TAG. */
+uint32_t semver_common(uint32_t reader, const uint8_t *one, size_t one_len, const uint8_t *other, size_t other_len,
+                       uint8_t *out, size_t out_len, size_t *needed);
+
+/* The least version that the requirement matches: YES, with its text; NO, where there is none; or TAG. */
+uint32_t semver_least(uint32_t reader, const uint8_t *requirement, size_t requirement_len,
+                      uint8_t *out, size_t out_len, size_t *needed);
+
+/* The normal text of the requirement: YES. */
 uint32_t semver_normal(uint32_t reader, const uint8_t *requirement, size_t requirement_len,
                        uint8_t *out, size_t out_len, size_t *needed);
 
-/* A requirement that is kept across calls, for one thread at a time. `semver_req r = {0};` has none. Only these three calls
- * may write it, and it must not be copied while it has a requirement: a copy would be freed or used twice. */
+/* How the version is displayed: YES. */
+uint32_t semver_version(const uint8_t *version, size_t version_len, uint8_t *out, size_t out_len, size_t *needed);
+
+/* Values that are kept across calls. `semver_req r = {0};` has none. Only the calls below write a handle; it is used by one thread
+ * at a time, is given to a call as one argument only, and isn't copied while it has a value: a copy would be a second owner. */
 typedef struct {
     void *at;
 } semver_req;
 
-/* Reads a requirement into a handle that has none: 1; else 3, 5, 6 or 7, and it has none still. */
-uint32_t semver_req_read(uint32_t reader, const uint8_t *requirement, size_t requirement_len, semver_req *handle);
+typedef struct {
+    void *at;
+} semver_ver;
 
-/* Whether the version fits the requirement of a handle that has one: 0, 1, 2, 4, 5 or 6. */
-uint32_t semver_req_fits(semver_req *handle, const uint8_t *version, size_t version_len);
+/* Reads a requirement into a handle that has none: YES. At any other code it has none still. */
+uint32_t semver_req_read(uint32_t reader, const uint8_t *text, size_t text_len, semver_req *handle,
+                         uint8_t *out, size_t out_len, size_t *needed);
 
-/* Frees the requirement of a handle that has one; it has none then. */
+/* Reads a version into a handle that has none: YES. At any other code it has none still. */
+uint32_t semver_version_read(const uint8_t *text, size_t text_len, semver_ver *handle,
+                             uint8_t *out, size_t out_len, size_t *needed);
+
+/* Lets the value of a handle go that has one; it has none then. */
 void semver_req_free(semver_req *handle);
+void semver_version_free(semver_ver *handle);
+
+/* The handles of the calls below have a value, and keep it. */
+
+/* Whether a version of a text fits the requirement: as semver_fits. */
+uint32_t semver_req_fits(semver_req *requirement, const uint8_t *version, size_t version_len, uint32_t pre_releases);
+
+/* Whether the version fits the requirement: NO, YES or TAG. */
+uint32_t semver_req_matches(semver_req *requirement, semver_ver *version, uint32_t pre_releases);
+
+/* Whether two requirements overlap: as semver_overlap. The handles are two. */
+uint32_t semver_req_overlap(semver_req *one, semver_req *other);
+
+/* The order of two versions: as semver_compare. The handles are two. */
+uint32_t semver_version_compare(semver_ver *one, semver_ver *other);
+
+/* The normal text of the requirement, and how the version is displayed: YES, or NO_MEMORY. */
+uint32_t semver_req_normal(semver_req *handle, uint8_t *out, size_t out_len, size_t *needed);
+uint32_t semver_version_text(semver_ver *handle, uint8_t *out, size_t out_len, size_t *needed);
 
 #ifdef __cplusplus
 }

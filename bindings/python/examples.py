@@ -1,7 +1,6 @@
-"""Twelve examples, and with `speed` the time of 100,000 versions. python3 examples.py LIBRARY [speed]"""
+"""The twenty examples. python3 examples.py LIBRARY; the status is how many fail."""
 
 import sys
-import time
 
 import semver
 
@@ -12,43 +11,47 @@ def refused(call, *words):
     try:
         call(*words)
     except semver.Refused as error:
-        return str(error)
+        return error.word, str(error)
+
+
+r, other = s.requirement("^1.2 || >=3"), s.requirement("2")
+v, w = s.version("v1.3.0"), s.version("1.3.1-a")
+many = " || ".join(f"{n}.{n}" for n in range(200))
+
+
+def want_of_memory():
+    """What Python can see of it: each code that the library has for it is `MemoryError`."""
+    try:
+        semver._fit(semver.NO_MEMORY)
+    except MemoryError:
+        return True
 
 
 examples = [
-    (s.fits(">=1.2 <2 || 3", "1.3.0"), True),
-    (s.fits(">=1.2 <2 || 3", "2.0.0"), False),
-    (s.fits("latest", "1.0.0", semver.STRICT), None),
-    (refused(s.fits, "", "1.0.0", semver.STRICT), "no requirement"),
-    (refused(s.fits, "1", "x"), "no version"),
-    (refused(s.fits, b"\xff", "1.0.0"), "no UTF-8"),
-    ((s.compare("1.0.0-a", "1.0.0"), s.compare("1.0.0+b", "1.0.0"), s.compare("1.0.1", "1.0.0")), (-1, 0, 1)),
-    ((s.overlap("<1", ">=1"), s.overlap("<=1", ">=1")), (False, True)),
-    ((s.normal(">=1.2.0 <2.0.0 || 3.x"), len(s.normal(" || ".join(f"{n}.{n}" for n in range(200)))) > 64), ("^1.2.0 || 3", True)),
-    ([s.requirement("^1.2 || >=3").fits(v) for v in ("1.2.9", "2.0.0", "3.0.0")], [True, False, True]),
-    (refused(s.requirement, "", semver.STRICT), "no requirement"),
-    (s.filter("^1.2", "1.2.0\n2.0.0\nfoo\n1.9.9\n"), bytes([1, 0, 4, 1])),
+    ("npm's ranges", [s.fits(">=1.2 <2 || 3", "1.3.0"), s.fits(">=1.2 <2 || 3", "2.0.0")], [True, False]),
+    ("pre-releases", [s.fits("^1.0.0", "1.2.0-rc.1"), s.fits("^1.0.0", "1.2.0-rc.1", pre_releases=True)], [False, True]),
+    ("a tag", s.fits("latest", "1.0.0", semver.STRICT), None),
+    ("no requirement", refused(s.fits, "", "1.0.0", semver.STRICT), ("requirement", "Empty version constraint.")),
+    ("no version", refused(s.fits, "1", "99999999999999999999.0.0"), ("version", "Number is too large.")),
+    ("no UTF-8", [refused(s.fits, b"\xff", "1.0.0")[0], refused(s.fits, "1", b"\xff")[0]], ["text", "text"]),
+    ("no reader", refused(s.fits, b"\xff", "1.0.0", 3)[0], "reader"),
+    ("the first word that is wrong", refused(s.fits, "", "x", semver.STRICT)[0], "requirement"),
+    ("order", [s.compare("1.0.0-a", "1.0.0"), s.compare("1.0.0+b", "1.0.0"), s.compare("1.0.1", "1.0.0"),
+               refused(s.compare, "x", "1.0.0")[0]], [-1, 0, 1, "version"]),
+    ("overlap", [s.overlap("<1", ">=1"), s.overlap("<=1", ">=1")], [False, True]),
+    ("the least version", s.least("^1.2"), "1.2.0"),
+    ("the least common one", [s.common(">1.0.0", "<1.0.1"), s.common("^1", ">=1.5")], [None, "1.5.0"]),
+    ("the least outside", [s.outside("^1.2", "^1"), s.outside("^1", "^1.2")], [None, "1.0.0"]),
+    ("a text that is long", s.normal(many).split(" || ")[-1], "199.199"),
+    ("a normal text", s.normal(">=1.2.0 <2.0.0 || 3.x"), "^1.2.0 || 3"),
+    ("a list", s.filter("^1.2", "1.2.0\n2.0.0\r\nfoo\n1.9.9\n"), bytes([1, 0, 4, 1])),
+    ("kept", [r.fits(v), r.fits(w), r.fits("2.0.0"), refused(r.fits, "x")[0]], [True, False, False, "version"]),
+    ("compared, and in an overlap", [v.compare(w), v.compare(v), r.overlaps(other), r.overlaps(r)], [-1, 0, False, True]),
+    ("their texts", [r.normal(), str(v), s.displayed("=v1.2.3-a+b")], ["^1.2.0 || >=3.0.0", "1.3.0", "1.2.3-a+b"]),
+    ("want of memory", want_of_memory(), True),
 ]
 failed = 0
-for got, wanted in examples:
-    print("ok  " if got == wanted else "FAIL", got, wanted)
+for number, (name, got, wanted) in enumerate(examples, 1):
+    print("ok  " if got == wanted else "FAIL", number, name, "" if got == wanted else (got, wanted))
     failed += got != wanted
-
-if "speed" in sys.argv:
-    versions = [f"{n % 7}.{n % 31}.{n % 101}" + ("-rc.%d" % (n % 5) if n % 3 == 0 else "") for n in range(100_000)]
-    lines = "\n".join(versions).encode()
-    for requirement in ["^1.2", ">=1.2 <2 || 3.x || ~5.6.7"]:
-        for _ in range(3):
-            start = time.perf_counter()
-            codes = s.filter(requirement, lines)
-            one = time.perf_counter() - start
-        start = time.perf_counter()
-        each = bytes(s.fits(requirement, v) for v in versions)
-        many = time.perf_counter() - start
-        kept = s.requirement(requirement)
-        start = time.perf_counter()
-        again = bytes(kept.fits(v) for v in versions)
-        held = time.perf_counter() - start
-        print("kept, a call each: %.1f ms" % (held * 1e3), again == codes)
-        print(requirement, len(codes), codes.count(1), "one call: %.1f ms" % (one * 1e3), "a call each: %.1f ms" % (many * 1e3), each == codes)
 sys.exit(failed)

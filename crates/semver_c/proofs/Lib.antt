@@ -1,3 +1,7 @@
-pub mod HandleValues
-pub mod Telling
+pub mod Asking
+pub mod LeastAnswers
+pub mod ListAnswers
+pub mod Replies
+pub mod RequirementHandleValues
 pub mod Values
+pub mod VersionHandleValues

@@ -1,2 +1,6 @@
 pub mod Codes
 pub mod Handle
+pub mod Kept
+pub mod Lists
+pub mod Questions
+pub mod Words

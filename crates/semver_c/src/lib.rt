@@ -1,291 +1,139 @@
-//! The border to C: calls over bytes, each a pointer and a length.
+//! The border to C: the questions as calls over bytes, each a pointer and a length, and what is kept across calls.
+//!
+//! Each call answers a code. 0, 1 and 2 are its answers; 3 is that a requirement is refused, 4 that a version is, 5 that bytes
+//! are no UTF-8, 6 want of memory, and 7 that no reader has the number. The readers are npm's, 0, the normalized one, 1, and
+//! the strict one, 2. A text goes to the front of the caller's buffer where it fits, and its length is always told.
 #![tactic(auto)]
 
-ghost use Rattle.std.specs.Prelude.{◌≡◌, ◌<◌, ◌≤◌, ◌⊎◌, IfSome, IsTrue, MatchOption, None, false, length};
-ghost use Rattle.semver_req.specs.Readers.{IsReaderAnswer};
-ghost use Rattle.semver_c.specs.Codes.{IsBoxed, IsFit, IsFitCode, IsHandleCode, IsHeldCode, IsKept, IsLine, IsNormal, IsNormalCode, IsOrder, IsOrderCode, IsOverlap, IsOverlapCode, allowance_of, code_of, flavour_of, number_of, order_code, with_front, yes_or_no};
+ghost use Rattle.std.specs.Prelude.{◌≡◌, IfSome, List, None, ℕ};
+ghost use Rattle.semver_base.specs.Precedence.{precedence_cmp, version_cmp};
+ghost use Rattle.semver_base.specs.VersionText.{version_text};
+ghost use Rattle.semver_req.specs.Requirement.{inner_text};
+ghost use Rattle.semver_c.specs.Codes.{IsCode, IsPlaced, IsReply, bool_code, fit_code, least_code, least_text, no_text, one_code, order_code};
+ghost use Rattle.semver_c.specs.Handle.{Holds};
+ghost use Rattle.semver_c.specs.Kept.{FitsKept, IsKept, IsKeptEqual, IsKeptFit, IsKeptOrder, IsKeptOverlap};
+ghost use Rattle.semver_c.specs.Lists.{FitsLines};
+ghost use Rattle.semver_c.specs.Questions.{Displayed, Fits, LeastCommon, LeastMatch, LeastOutside, NormalText, Orders, Overlaps};
+ghost use Rattle.semver_c.specs.Words.{Is, Requirement, VersionOf};
 
-mod handle;
+mod kept;
+mod lists;
 mod loose;
+mod questions;
+mod requirement_handle;
+mod telling;
+mod version_handle;
+mod words;
 
-use deno_semver::{ParseFailure, Version, VersionReq};
-use handle::Handle;
+use kept::{boxed_requirement, boxed_version, fits_kept, kept_text, kept_version_text};
+use lists::filter;
+use questions::{
+    common, displayed, fits, fitting, least_match, normal_text, order, outside, overlap,
+    pre_release_of, text_of_version,
+};
+use requirement_handle::RequirementHandle;
+use semver_req::laws::equal_requirements;
 use std::alloc::Global;
-use std::cmp::Ordering;
-use std::str;
+use telling::{
+    code_of_bool, code_of_fit, code_of_order, fit_code, order_code, put, tell_codes, tell_fit,
+    tell_least, tell_problem, tell_text,
+};
+use version_handle::VersionHandle;
 
-const YES: u32 = 1;
-
-const TAG: u32 = 2;
-
-const NO_REQUIREMENT: u32 = 3;
-
-const NO_VERSION: u32 = 4;
-
-const NO_UTF8: u32 = 5;
-
-const NO_MEMORY: u32 = 6;
-
-const NO_READER: u32 = 7;
-
-const NO_ROOM: u32 = 8;
-
-/// A reader of requirements.
-#[derive(Clone, Copy)]
-enum Reader {
-    Npm,
-    Normalized,
-    Strict,
-}
-
-impl Reader {
-    // The reader of this number.
-    fn of(number: u32) -> Option<Reader>
-        ensures { MatchOption result (2 < number) (λ reader. number ≡ number_of reader) }
-    {
-        match number {
-            0 => Some(Reader::Npm),
-            1 => Some(Reader::Normalized),
-            2 => Some(Reader::Strict),
-            _ => None,
-        }
-    }
-
-    // The requirement that the reader makes of a text.
-    fn read(self, alloc: Global, text: &str) -> Result<VersionReq, ParseFailure>
-        ensures { IsReaderAnswer (λ failure. failure) (flavour_of self) text.now result }
-    {
-        match self {
-            Reader::Npm => Ok(VersionReq::parse_from_npm(alloc, text)?),
-            Reader::Normalized => Ok(VersionReq::parse_from_normalized(alloc, text)?),
-            Reader::Strict => Ok(VersionReq::parse_from_specifier(alloc, text)?),
-        }
-    }
-}
-
-fn yes_or_no(holds: bool) -> u32
-    ensures { result ≡ yes_or_no holds }
-{
-    if holds { 1 } else { 0 }
-}
-
-// Whether the requirement allows the version.
-fn allowance(requirement: &VersionReq, version: &Version) -> u32
-    ensures { result ≡ allowance_of requirement.now.inner version.now }
-{
-    match requirement.tag() {
-        Some(_) => TAG,
-        None => yes_or_no(requirement.matches(version)),
-    }
-}
-
-// The code of a failure: want of memory, or that of the refusal.
-fn code_of(failure: &ParseFailure, refusal: u32) -> u32
-    ensures { result ≡ code_of failure.now refusal }
-{
-    if failure.is_memory() {
-        NO_MEMORY
-    } else {
-        refusal
-    }
-}
-
-fn fits(alloc: Global, reader: Reader, requirement: &str, version: &str) -> u32
-    ensures { IsFit (flavour_of reader) requirement.now version.now result }
-{
-    let requirement = match reader.read(alloc, requirement) {
-        Ok(requirement) => requirement,
-        Err(failure) => return code_of(&failure, NO_REQUIREMENT),
-    };
-    let version = match Version::parse_standard(alloc, version) {
-        Ok(version) => version,
-        Err(error) => return code_of(&error.source, NO_VERSION),
-    };
-    allowance(&requirement, &version)
-}
-
-/// Whether the version fits the requirement.
+/// Whether the version fits the requirement: 0 no, 1 yes, 2 the requirement is a tag. Pre-releases are restricted by npm's rule
+/// at 0, and admitted at any other number.
 #[unsafe(no_mangle)]
-pub extern "C" fn semver_fits(alloc: Global, reader: u32, requirement: &[u8], version: &[u8]) -> u32
-    ensures { IsFitCode reader requirement.now version.now result }
-{
-    let Some(reader) = Reader::of(reader) else {
-        return NO_READER;
-    };
-    let (Ok(requirement), Ok(version)) = (str::from_utf8(requirement), str::from_utf8(version))
-    else {
-        return NO_UTF8;
-    };
-    fits(alloc, reader, requirement, version)
-}
-
-// Whether the version fits the requirement, which was read.
-fn line(alloc: Global, requirement: &VersionReq, version: &str) -> u32
-    ensures { IsLine requirement.now.inner version.now result }
-{
-    match Version::parse_standard(alloc, version) {
-        Ok(version) => allowance(requirement, &version),
-        Err(error) => code_of(&error.source, NO_VERSION),
-    }
-}
-
-// Answers each line of the versions, and how many there are.
-fn lines(
-    alloc: Global,
-    requirement: &VersionReq,
-    versions: &str,
-    answers: &mut [u8],
-) -> Option<usize>
-    ensures { IfSome result (λ count. count ≤ length answers.new) }
-{
-    let mut count: usize = 0;
-    for version in versions.lines() {
-        if count >= answers.len() {
-            return None;
-        }
-        answers[count] = line(alloc, requirement, version) as u8;
-        count += 1;
-    }
-    Some(count)
-}
-
-/// Whether each version of a list, a line each, fits the requirement. `answers` gets a code for each line, and `count` how many
-/// lines there are, or 0. The answer is 1 where each line has its code.
-#[unsafe(no_mangle)]
-pub extern "C" fn semver_filter(
+pub extern "C" fn semver_fits(
     alloc: Global,
     reader: u32,
     requirement: &[u8],
-    versions: &[u8],
-    answers: &mut [u8],
-    count: &mut usize,
-) -> u32
-    ensures counted { (result ≡ 1) ⊎ (count.new ≡ 0) }
-    ensures bounded { count.new ≤ length answers.new }
-{
-    *count = 0;
-    let Some(reader) = Reader::of(reader) else {
-        return NO_READER;
-    };
-    let (Ok(requirement), Ok(versions)) = (str::from_utf8(requirement), str::from_utf8(versions))
-    else {
-        return NO_UTF8;
-    };
-    match reader.read(alloc, requirement) {
-        Ok(requirement) => match lines(alloc, &requirement, versions, answers) {
-            Some(n) => {
-                *count = n;
-                YES
-            }
-            None => NO_ROOM,
-        },
-        Err(failure) => code_of(&failure, NO_REQUIREMENT),
-    }
-}
-
-fn overlaps(alloc: Global, reader: Reader, one: &str, other: &str) -> u32
-    ensures { IsOverlap (flavour_of reader) one.now other.now result }
-{
-    let one = match reader.read(alloc, one) {
-        Ok(one) => one,
-        Err(failure) => return code_of(&failure, NO_REQUIREMENT),
-    };
-    let other = match reader.read(alloc, other) {
-        Ok(other) => other,
-        Err(failure) => return code_of(&failure, NO_REQUIREMENT),
-    };
-    yes_or_no(one.intersects(&other))
-}
-
-/// Whether two requirements overlap, both by the same reader.
-#[unsafe(no_mangle)]
-pub extern "C" fn semver_overlap(alloc: Global, reader: u32, one: &[u8], other: &[u8]) -> u32
-    ensures { IsOverlapCode reader one.now other.now result }
-{
-    let Some(reader) = Reader::of(reader) else {
-        return NO_READER;
-    };
-    let (Ok(one), Ok(other)) = (str::from_utf8(one), str::from_utf8(other)) else {
-        return NO_UTF8;
-    };
-    overlaps(alloc, reader, one, other)
-}
-
-fn order_code(order: Ordering) -> u32
-    ensures { result ≡ order_code order }
-{
-    match order {
-        Ordering::Less => 0,
-        Ordering::Equal => 1,
-        Ordering::Greater => 2,
-    }
-}
-
-fn order(alloc: Global, one: &str, other: &str) -> u32
-    ensures { IsOrder one.now other.now result }
-{
-    let one = match Version::parse_standard(alloc, one) {
-        Ok(one) => one,
-        Err(error) => return code_of(&error.source, NO_VERSION),
-    };
-    let other = match Version::parse_standard(alloc, other) {
-        Ok(other) => other,
-        Err(error) => return code_of(&error.source, NO_VERSION),
-    };
-    order_code(one.cmp_precedence(&other))
-}
-
-/// The order of two versions, in which the build has no part.
-#[unsafe(no_mangle)]
-pub extern "C" fn semver_compare(alloc: Global, one: &[u8], other: &[u8]) -> u32
-    ensures { IsOrderCode one.now other.now result }
-{
-    let (Ok(one), Ok(other)) = (str::from_utf8(one), str::from_utf8(other)) else {
-        return NO_UTF8;
-    };
-    order(alloc, one, other)
-}
-
-// Writes the text at the front of the buffer, where it fits.
-fn put(text: &[u8], out: &mut [u8]) -> bool
-    ensures fits { IsTrue result → (length text.now ≤ length out.old) × (out.new ≡ with_front text.now out.old) }
-    ensures no_room { result ≡ false → (length out.old < length text.now) × (out.new ≡ out.old) }
-{
-    if out.len() < text.len() {
-        return false;
-    }
-    let (front, _) = out.split_at_mut(text.len());
-    front.copy_from_slice(text);
-    true
-}
-
-fn normal(
-    alloc: Global,
-    reader: Reader,
-    requirement: &str,
+    version: &[u8],
+    pre_releases: u32,
     out: &mut [u8],
     needed: &mut usize,
 ) -> u32
-    requires { needed.old ≡ 0 }
-    ensures { IsNormal (flavour_of reader) requirement.now out.old out.new needed.new result }
+    ensures { IsReply (Fits pre_releases reader requirement.now version.now) fit_code no_text
+        out.old out.new needed.new result }
 {
-    let requirement = match reader.read(alloc, requirement) {
-        Ok(requirement) => requirement,
-        Err(failure) => return code_of(&failure, NO_REQUIREMENT),
-    };
-    let Ok(text) = requirement.to_string_normalized(alloc) else {
-        return NO_MEMORY;
-    };
-    *needed = text.len();
-    if put(text.as_bytes(), out) {
-        YES
-    } else {
-        NO_ROOM
-    }
+    tell_fit(
+        fits(alloc, reader, requirement, version, pre_releases),
+        out,
+        needed,
+    )
 }
 
-/// Writes the normal text of the requirement into the buffer, and how many bytes it needs. Where it doesn't fit, the buffer
-/// stays as it was.
+/// The order of two versions, in which the build has no part: 0 the first is before the other, 1 neither is, 2 it is after.
+#[unsafe(no_mangle)]
+pub extern "C" fn semver_compare(alloc: Global, one: &[u8], other: &[u8]) -> u32
+    ensures { IsCode (Orders one.now other.now) order_code result }
+{
+    code_of_order(order(alloc, one, other))
+}
+
+/// Whether two requirements overlap: 0 no, 1 yes.
+#[unsafe(no_mangle)]
+pub extern "C" fn semver_overlap(alloc: Global, reader: u32, one: &[u8], other: &[u8]) -> u32
+    ensures { IsCode (Overlaps reader one.now other.now) bool_code result }
+{
+    code_of_bool(overlap(alloc, reader, one, other))
+}
+
+/// Whether the other requirement matches each version that the first one matches: 0 no, with the least that it doesn't, 1 yes,
+/// 2 one of them is a tag.
+#[unsafe(no_mangle)]
+pub extern "C" fn semver_within(
+    alloc: Global,
+    reader: u32,
+    one: &[u8],
+    other: &[u8],
+    out: &mut [u8],
+    needed: &mut usize,
+) -> u32
+    ensures { IsReply (LeastOutside reader one.now other.now) (least_code 0 1) least_text
+        out.old out.new needed.new result }
+{
+    tell_least(alloc, outside(alloc, reader, one, other), 0, 1, out, needed)
+}
+
+/// The least version that both requirements match: 0 none, 1 with its text, 2 one of them is a tag.
+#[unsafe(no_mangle)]
+pub extern "C" fn semver_common(
+    alloc: Global,
+    reader: u32,
+    one: &[u8],
+    other: &[u8],
+    out: &mut [u8],
+    needed: &mut usize,
+) -> u32
+    ensures { IsReply (LeastCommon reader one.now other.now) (least_code 1 0) least_text
+        out.old out.new needed.new result }
+{
+    tell_least(alloc, common(alloc, reader, one, other), 1, 0, out, needed)
+}
+
+/// The least version that the requirement matches: 0 none, 1 with its text, 2 it is a tag.
+#[unsafe(no_mangle)]
+pub extern "C" fn semver_least(
+    alloc: Global,
+    reader: u32,
+    requirement: &[u8],
+    out: &mut [u8],
+    needed: &mut usize,
+) -> u32
+    ensures { IsReply (LeastMatch reader requirement.now) (least_code 1 0) least_text
+        out.old out.new needed.new result }
+{
+    tell_least(
+        alloc,
+        least_match(alloc, reader, requirement),
+        1,
+        0,
+        out,
+        needed,
+    )
+}
+
+/// The normal text of the requirement: 1.
 #[unsafe(no_mangle)]
 pub extern "C" fn semver_normal(
     alloc: Global,
@@ -294,78 +142,289 @@ pub extern "C" fn semver_normal(
     out: &mut [u8],
     needed: &mut usize,
 ) -> u32
-    ensures { IsNormalCode reader requirement.now out.old out.new needed.new result }
+    ensures { IsReply (NormalText reader requirement.now) one_code (λ text. text)
+        out.old out.new needed.new result }
 {
-    *needed = 0;
-    let Some(reader) = Reader::of(reader) else {
-        return NO_READER;
-    };
-    let Ok(requirement) = str::from_utf8(requirement) else {
-        return NO_UTF8;
-    };
-    normal(alloc, reader, requirement, out, needed)
+    tell_text(normal_text(alloc, reader, requirement), out, needed)
 }
 
-// The requirement of a text, on the heap.
-fn boxed(alloc: Global, reader: Reader, text: &str) -> Result<Box<VersionReq>, u32>
-    ensures { IsBoxed (λ value. value.value) (flavour_of reader) text.now result }
+/// How the version is displayed: 1.
+#[unsafe(no_mangle)]
+pub extern "C" fn semver_version(
+    alloc: Global,
+    version: &[u8],
+    out: &mut [u8],
+    needed: &mut usize,
+) -> u32
+    ensures { IsReply (Displayed version.now) one_code (λ text. text)
+        out.old out.new needed.new result }
 {
-    match reader.read(alloc, text) {
-        Ok(requirement) => match Box::new(alloc, requirement) {
-            Ok(value) => Ok(value),
-            Err(_) => Err(NO_MEMORY),
-        },
-        Err(failure) => Err(code_of(&failure, NO_REQUIREMENT)),
-    }
+    tell_text(displayed(alloc, version), out, needed)
 }
 
-/// Reads a requirement into a handle that has none.
+/// Whether each version of a list, a line each, fits the requirement: 1, where answer n is the code of line n, 0 no, 1 yes, 2 the
+/// requirement is a tag, and 4 the version is refused. `needed` is how many lines there are; where there are more than answers,
+/// these stay as they were.
+#[unsafe(no_mangle)]
+pub extern "C" fn semver_filter(
+    alloc: Global,
+    reader: u32,
+    requirement: &[u8],
+    versions: &[u8],
+    pre_releases: u32,
+    answers: &mut [u8],
+    needed: &mut usize,
+) -> u32
+    ensures { IsReply (FitsLines pre_releases reader requirement.now versions.now)
+        one_code (λ codes. codes) answers.old answers.new needed.new result }
+{
+    tell_codes(
+        filter(alloc, reader, requirement, versions, pre_releases),
+        answers,
+        needed,
+    )
+}
+
+/// Reads a requirement into a handle that has none: 1.
 #[unsafe(no_mangle)]
 pub extern "C" fn semver_req_read(
     alloc: Global,
     reader: u32,
     text: &[u8],
-    handle: &mut Handle,
+    handle: &mut RequirementHandle,
+    out: &mut [u8],
+    needed: &mut usize,
 ) -> u32
     requires { handle.old.value ≡ None }
-    ensures { IsHandleCode reader text.now handle.new.value result }
+    ensures kept { IsKept (Requirement reader text.now) (λ req. req.inner)
+        handle.new.value result }
+    ensures message { (words : List ℕ) × IsPlaced words out.old out.new needed.new }
 {
-    let Some(reader) = Reader::of(reader) else {
-        return NO_READER;
-    };
-    let Ok(text) = str::from_utf8(text) else {
-        return NO_UTF8;
-    };
-    match boxed(alloc, reader, text) {
-        Ok(value) => {
-            *handle = Handle::keep(value);
-            YES
+    match boxed_requirement(alloc, reader, text) {
+        Ok(requirement) => {
+            *handle = RequirementHandle::keep(requirement);
+            put("", out, needed);
+            1
         }
-        Err(code) => code,
+        Err(problem) => tell_problem(&problem, out, needed),
     }
 }
 
-/// Whether the version fits the requirement of the handle.
+/// Reads a version into a handle that has none: 1.
 #[unsafe(no_mangle)]
-pub extern "C" fn semver_req_fits(alloc: Global, handle: &mut Handle, version: &[u8]) -> u32
-    requires { IsKept handle.old.value }
-    ensures kept { handle.new.value ≡ handle.old.value }
-    ensures code { IsHeldCode handle.old.value version.now result }
+pub extern "C" fn semver_version_read(
+    alloc: Global,
+    text: &[u8],
+    handle: &mut VersionHandle,
+    out: &mut [u8],
+    needed: &mut usize,
+) -> u32
+    requires { handle.old.value ≡ None }
+    ensures kept { IsKept (VersionOf text.now) (λ version. version) handle.new.value result }
+    ensures message { (words : List ℕ) × IsPlaced words out.old out.new needed.new }
 {
-    let Ok(version) = str::from_utf8(version) else {
-        return NO_UTF8;
-    };
-    let requirement = handle.take(alloc);
-    let code = line(alloc, &*requirement, version);
-    *handle = Handle::keep(requirement);
-    code
+    match boxed_version(alloc, text) {
+        Ok(version) => {
+            *handle = VersionHandle::keep(version);
+            put("", out, needed);
+            1
+        }
+        Err(problem) => tell_problem(&problem, out, needed),
+    }
 }
 
 /// Frees the requirement of the handle, which has none then.
 #[unsafe(no_mangle)]
-pub extern "C" fn semver_req_free(alloc: Global, handle: &mut Handle)
-    requires { IsKept handle.old.value }
+pub extern "C" fn semver_req_free(alloc: Global, handle: &mut RequirementHandle)
+    requires { Holds handle.old.value }
     ensures { handle.new.value ≡ None }
 {
     let _requirement = handle.take(alloc);
+}
+
+/// Frees the version of the handle, which has none then.
+#[unsafe(no_mangle)]
+pub extern "C" fn semver_version_free(alloc: Global, handle: &mut VersionHandle)
+    requires { Holds handle.old.value }
+    ensures { handle.new.value ≡ None }
+{
+    let _version = handle.take(alloc);
+}
+
+/// Whether the version fits the requirement of the handle, as `semver_fits` tells it.
+#[unsafe(no_mangle)]
+pub extern "C" fn semver_req_fits(
+    alloc: Global,
+    handle: &mut RequirementHandle,
+    version: &[u8],
+    pre_releases: u32,
+) -> u32
+    requires { Holds handle.old.value }
+    ensures kept { handle.new.value ≡ handle.old.value }
+    ensures code { IfSome handle.old.value
+        (λ req. IsCode (FitsKept pre_releases req.inner version.now) fit_code result) }
+{
+    let requirement = handle.take(alloc);
+    let code = code_of_fit(fits_kept(alloc, &*requirement, version, pre_releases));
+    *handle = RequirementHandle::keep(requirement);
+    code
+}
+
+/// Whether the version of the one handle fits the requirement of the other: 0 no, 1 yes, 2 the requirement is a tag.
+#[unsafe(no_mangle)]
+pub extern "C" fn semver_req_matches(
+    alloc: Global,
+    requirement: &mut RequirementHandle,
+    version: &mut VersionHandle,
+    pre_releases: u32,
+) -> u32
+    requires requirement { Holds requirement.old.value }
+    requires version { Holds version.old.value }
+    ensures kept_requirement { requirement.new.value ≡ requirement.old.value }
+    ensures kept_version { version.new.value ≡ version.old.value }
+    ensures code { IsKeptFit pre_releases requirement.old.value version.old.value result }
+{
+    let (req, v) = (requirement.take(alloc), version.take(alloc));
+    let code = fit_code(&fitting(&*req, &*v, pre_release_of(pre_releases)));
+    *requirement = RequirementHandle::keep(req);
+    *version = VersionHandle::keep(v);
+    u32::from(code)
+}
+
+/// Whether the requirements of two handles overlap: 0 no, 1 yes.
+#[unsafe(no_mangle)]
+pub extern "C" fn semver_req_overlap(
+    alloc: Global,
+    one: &mut RequirementHandle,
+    other: &mut RequirementHandle,
+) -> u32
+    requires one { Holds one.old.value }
+    requires other { Holds other.old.value }
+    ensures kept_one { one.new.value ≡ one.old.value }
+    ensures kept_other { other.new.value ≡ other.old.value }
+    ensures code { IsKeptOverlap one.old.value other.old.value result }
+{
+    let (req, other_req) = (one.take(alloc), other.take(alloc));
+    let overlap = req.intersects(&*other_req);
+    *one = RequirementHandle::keep(req);
+    *other = RequirementHandle::keep(other_req);
+    u32::from(overlap)
+}
+
+/// The order of the versions of two handles, as `semver_compare` tells it.
+#[unsafe(no_mangle)]
+pub extern "C" fn semver_version_compare(
+    alloc: Global,
+    one: &mut VersionHandle,
+    other: &mut VersionHandle,
+) -> u32
+    requires one { Holds one.old.value }
+    requires other { Holds other.old.value }
+    ensures kept_one { one.new.value ≡ one.old.value }
+    ensures kept_other { other.new.value ≡ other.old.value }
+    ensures code { IsKeptOrder precedence_cmp one.old.value other.old.value result }
+{
+    let (v, w) = (one.take(alloc), other.take(alloc));
+    let order = v.cmp_precedence(&*w);
+    *one = VersionHandle::keep(v);
+    *other = VersionHandle::keep(w);
+    order_code(order)
+}
+
+/// The normal text of the requirement of the handle: 1.
+#[unsafe(no_mangle)]
+pub extern "C" fn semver_req_normal(
+    alloc: Global,
+    handle: &mut RequirementHandle,
+    out: &mut [u8],
+    needed: &mut usize,
+) -> u32
+    requires { Holds handle.old.value }
+    ensures kept { handle.new.value ≡ handle.old.value }
+    ensures text { IfSome handle.old.value (λ req. IsReply (Is (inner_text req.inner))
+        one_code (λ text. text) out.old out.new needed.new result) }
+{
+    let requirement = handle.take(alloc);
+    let code = tell_text(kept_text(alloc, &*requirement), out, needed);
+    *handle = RequirementHandle::keep(requirement);
+    code
+}
+
+/// How the version of the handle is displayed: 1.
+#[unsafe(no_mangle)]
+pub extern "C" fn semver_version_text(
+    alloc: Global,
+    handle: &mut VersionHandle,
+    out: &mut [u8],
+    needed: &mut usize,
+) -> u32
+    requires { Holds handle.old.value }
+    ensures kept { handle.new.value ≡ handle.old.value }
+    ensures text { IfSome handle.old.value (λ version. IsReply (Is (version_text version))
+        one_code (λ text. text) out.old out.new needed.new result) }
+{
+    let version = handle.take(alloc);
+    let code = tell_text(kept_version_text(alloc, &*version), out, needed);
+    *handle = VersionHandle::keep(version);
+    code
+}
+
+/// The text of the requirement of the handle as it was read: 1.
+#[unsafe(no_mangle)]
+pub extern "C" fn semver_req_text(
+    alloc: Global,
+    handle: &mut RequirementHandle,
+    out: &mut [u8],
+    needed: &mut usize,
+) -> u32
+    requires { Holds handle.old.value }
+    ensures kept { handle.new.value ≡ handle.old.value }
+    ensures text { IfSome handle.old.value
+        (λ req. IsPlaced req.raw_text out.old out.new needed.new) }
+    ensures code { result ≡ 1 }
+{
+    let requirement = handle.take(alloc);
+    put(requirement.version_text(), out, needed);
+    *handle = RequirementHandle::keep(requirement);
+    1
+}
+
+/// The order of the versions of two handles in which versions that differ in the build alone are ordered by it.
+#[unsafe(no_mangle)]
+pub extern "C" fn semver_version_order(
+    alloc: Global,
+    one: &mut VersionHandle,
+    other: &mut VersionHandle,
+) -> u32
+    requires one { Holds one.old.value }
+    requires other { Holds other.old.value }
+    ensures kept_one { one.new.value ≡ one.old.value }
+    ensures kept_other { other.new.value ≡ other.old.value }
+    ensures code { IsKeptOrder version_cmp one.old.value other.old.value result }
+{
+    let (v, w) = (one.take(alloc), other.take(alloc));
+    let order = (*v).cmp(&*w);
+    *one = VersionHandle::keep(v);
+    *other = VersionHandle::keep(w);
+    order_code(order)
+}
+
+/// Whether the requirements of two handles stand for the same: 0 no, 1 yes. The texts that they were read of have no part.
+#[unsafe(no_mangle)]
+pub extern "C" fn semver_req_equal(
+    alloc: Global,
+    one: &mut RequirementHandle,
+    other: &mut RequirementHandle,
+) -> u32
+    requires one { Holds one.old.value }
+    requires other { Holds other.old.value }
+    ensures kept_one { one.new.value ≡ one.old.value }
+    ensures kept_other { other.new.value ≡ other.old.value }
+    ensures code { IsKeptEqual one.old.value other.old.value result }
+{
+    let (req, other_req) = (one.take(alloc), other.take(alloc));
+    let equal = equal_requirements(&*req, &*other_req);
+    *one = RequirementHandle::keep(req);
+    *other = RequirementHandle::keep(other_req);
+    u32::from(equal)
 }

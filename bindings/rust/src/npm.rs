@@ -1,0 +1,62 @@
+//! npm's readers.
+
+use crate::version::Version;
+use crate::version_req::VersionReq;
+use std::error::Error;
+use std::fmt;
+
+pub fn parse_npm_version(text: &str) -> Result<Version, NpmVersionParseError> {
+    Version::parse_from_npm(text)
+}
+
+pub fn parse_npm_version_req(text: &str) -> Result<VersionReq, NpmVersionReqParseError> {
+    VersionReq::parse_from_npm(text)
+}
+
+/// Why npm's reader refuses the text of a version.
+#[derive(Clone, Debug, PartialEq, Eq)]
+pub struct NpmVersionParseError {
+    message: String,
+}
+
+impl NpmVersionParseError {
+    pub(crate) fn new(message: String) -> NpmVersionParseError {
+        NpmVersionParseError { message }
+    }
+
+    pub fn message(&self) -> &str {
+        &self.message
+    }
+}
+
+impl fmt::Display for NpmVersionParseError {
+    fn fmt(&self, f: &mut fmt::Formatter<'_>) -> fmt::Result {
+        write!(f, "Invalid npm version: {}", self.message)
+    }
+}
+
+impl Error for NpmVersionParseError {}
+
+/// Why npm's reader refuses the text of a requirement.
+#[derive(Clone, Debug, PartialEq, Eq)]
+pub struct NpmVersionReqParseError {
+    message: String,
+}
+
+impl NpmVersionReqParseError {
+    pub(crate) fn new(message: String) -> NpmVersionReqParseError {
+        NpmVersionReqParseError { message }
+    }
+
+    pub fn message(&self) -> &str {
+        &self.message
+    }
+}
+
+impl fmt::Display for NpmVersionReqParseError {
+    fn fmt(&self, f: &mut fmt::Formatter<'_>) -> fmt::Result {
+        write!(f, "Invalid version requirement: {}", self.message)
+    }
+}
+
+impl Error for NpmVersionReqParseError {}

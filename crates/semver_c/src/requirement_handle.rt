@@ -1,0 +1,71 @@
+//! A requirement that is kept across calls.
+
+ghost use Rattle.std.specs.Prelude.{◌≡◌, Option, None, Some};
+ghost use Rattle.semver_req.specs.Requirement.{Requirement};
+ghost use Rattle.semver_c.specs.Handle.{Holds};
+
+use crate::loose::Loose;
+use deno_semver::VersionReq;
+use std::alloc::Global;
+use std::marker::Model;
+use std::{mem, ptr};
+
+/// A requirement on the heap, or none. For C it is a struct of one pointer, which no C code reads.
+#[repr(C)]
+#[derive(Drop)]
+pub struct RequirementHandle {
+    at: *mut u8,
+    pub ghost value: { Option Requirement },
+}
+
+impl Model for RequirementHandle {
+    ghost use Rattle.semver_c.specs.Handle.{held_requirement};
+
+    ghost also_owns = { λ h. held_requirement h.at h.value };
+}
+
+impl RequirementHandle {
+    fn none() -> RequirementHandle
+        ensures { result.value ≡ None }
+    {
+        RequirementHandle {
+            at: ptr::null_mut(),
+        }
+    }
+
+    fn of(value: Loose<VersionReq, Global>) -> RequirementHandle
+        ensures { result.value ≡ Some value.value }
+    {
+        let Loose { at, alloc: _ } = value;
+        RequirementHandle { at: at as *mut u8 }
+    }
+
+    fn into_loose(self, alloc: Global) -> Loose<VersionReq, Global>
+        requires { Holds self.value }
+        ensures { self.value ≡ Some result.value }
+    {
+        let RequirementHandle { at } = self;
+        Loose {
+            at: at as *mut VersionReq,
+            alloc,
+        }
+    }
+
+    /// The handle of a requirement.
+    pub fn keep(value: Box<VersionReq>) -> RequirementHandle
+        ensures { result.value ≡ Some value.value }
+    {
+        RequirementHandle::of(Loose::of(value))
+    }
+
+    /// Takes the requirement out of the handle, which has none then.
+    pub fn take(&mut self, alloc: Global) -> Box<VersionReq>
+        requires { Holds self.old.value }
+        ensures taken { self.old.value ≡ Some result.value }
+        ensures left { self.new.value ≡ None }
+    {
+        mem::replace(self, RequirementHandle::none())
+            .into_loose(alloc)
+            .into_box()
+    }
+}
