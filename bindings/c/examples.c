@@ -87,7 +87,12 @@ static void buffers(void) {
     uint32_t three = semver_filter(SEMVER_NPM, TEXT("^1.2"), TEXT(list), SEMVER_RESTRICTED, answers, 3, &needed);
     int stay = three == SEMVER_YES && needed == 4 && answers[0] == 9;
     uint32_t four = semver_filter(SEMVER_NPM, TEXT("^1.2"), TEXT(list), SEMVER_RESTRICTED, answers, 4, &needed);
-    is("16 a list of versions", stay && four == SEMVER_YES && needed == 4 && memcmp(answers, "\1\0\4\1", 4) == 0);
+    size_t place = 9;
+    uint32_t refused = semver_best(SEMVER_NPM, TEXT("^1.2"), TEXT(list), SEMVER_RESTRICTED, &place);
+    int best = refused == SEMVER_NO_VERSION && place == 9
+               && semver_best(SEMVER_NPM, TEXT("^1.2"), TEXT("1.2.0\n1.10.0\n2.0.0\n1.10.0"), SEMVER_RESTRICTED, &place) == SEMVER_YES && place == 1
+               && semver_best(SEMVER_NPM, TEXT("3"), TEXT("1.2.0\n"), SEMVER_RESTRICTED, &place) == SEMVER_NO && place == 1;
+    is("16 a list of versions, and the best of one", stay && best && four == SEMVER_YES && needed == 4 && memcmp(answers, "\1\0\4\1", 4) == 0);
 }
 
 static void handles(void) {

@@ -2,7 +2,7 @@
  *
  * Texts are bytes and a length, and are UTF-8. Of every call:
  * - A pointer is never null, also where its length is 0. What it points to lives and stays as it is while the call runs.
- * - `out`, `answers`, `needed` and the handles overlap no other argument and one another in nothing.
+ * - `out`, `answers`, `needed`, `place` and the handles overlap no other argument and one another in nothing.
  * - No call keeps a pointer to what it is given. Several threads may call at once, each with memory and handles of its own;
  *   none may call from a signal handler, nor from a forked child of a program that has threads.
  * - `malloc`, `realloc` and `free` are those of one allocator, and a block is aligned to each power of two up to 16 that
@@ -58,6 +58,12 @@ uint32_t semver_fits(uint32_t reader, const uint8_t *requirement, size_t require
 uint32_t semver_filter(uint32_t reader, const uint8_t *requirement, size_t requirement_len,
                        const uint8_t *versions, size_t versions_len, uint32_t pre_releases,
                        uint8_t *answers, size_t answers_len, size_t *needed);
+
+/* Which of several versions, a line each, is the greatest that matches the requirement, the first of equal ones: YES, and `*place` is its
+ * line, counted from 0; NO, where none matches; or TAG. At any code but YES `*place` stays as it was. Each version is read, and the
+ * code is NO_VERSION where one is refused. */
+uint32_t semver_best(uint32_t reader, const uint8_t *requirement, size_t requirement_len,
+                     const uint8_t *versions, size_t versions_len, uint32_t pre_releases, size_t *place);
 
 /* The order of two versions, in which the build has no part: BEFORE, where the first is before the other, SAME or AFTER. */
 uint32_t semver_compare(const uint8_t *one, size_t one_len, const uint8_t *other, size_t other_len);
@@ -120,6 +126,15 @@ uint32_t semver_req_overlap(semver_req *one, semver_req *other);
 
 /* The order of two versions: as semver_compare. The handles are two. */
 uint32_t semver_version_compare(semver_ver *one, semver_ver *other);
+
+/* The order in which versions that differ in the build alone are ordered by it. The handles are two. */
+uint32_t semver_version_order(semver_ver *one, semver_ver *other);
+
+/* Whether two requirements stand for the same, whatever texts they were read of: NO or YES. The handles are two. */
+uint32_t semver_req_equal(semver_req *one, semver_req *other);
+
+/* The text of the requirement as it was read: YES. */
+uint32_t semver_req_text(semver_req *handle, uint8_t *out, size_t out_len, size_t *needed);
 
 /* The normal text of the requirement, and how the version is displayed: YES, or NO_MEMORY. */
 uint32_t semver_req_normal(semver_req *handle, uint8_t *out, size_t out_len, size_t *needed);

@@ -123,6 +123,7 @@ class Library:
         self._bind(ctypes.CDLL(path), c_uint32, {
             "fits": (c_uint32, *text, *text, c_uint32, *buffer),
             "filter": (c_uint32, *text, *text, c_uint32, *buffer),
+            "best": (c_uint32, *text, *text, c_uint32, POINTER(c_size_t)),
             "compare": (*text, *text),
             "overlap": (c_uint32, *text, *text),
             "within": (c_uint32, *text, *text, *buffer),
@@ -168,6 +169,14 @@ class Library:
         answers, needed = ctypes.create_string_buffer(v.count(b"\n") + 1), c_size_t()
         code = self._filter(reader, r, len(r), v, len(v), pre_releases, answers, len(answers), byref(needed))
         return answers.raw[: needed.value] if code == YES else _raise(code)
+
+    def best(self, requirement, versions, reader=NPM, pre_releases=False):
+        """The line, from 0, of the greatest of the versions that matches, the first of equal ones; None where none does."""
+        r, v, place = _bytes(requirement), _bytes(versions), c_size_t()
+        code = self._best(reader, r, len(r), v, len(v), pre_releases, byref(place))
+        if code == TAG:
+            raise IsTag
+        return (place.value if code == YES else None) if code < TAG else _raise(code)
 
     def compare(self, one, other):
         """-1, 0 or 1: the build has no part."""

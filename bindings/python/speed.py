@@ -11,12 +11,12 @@ LINES = ("\n".join(VERSIONS) + "\n").encode()
 
 
 def least(way, passes):
-    """The least wall time of so many passes, in milliseconds, and what they answer."""
+    """The least processor time of so many passes, in milliseconds, and what they answer."""
     times = []
     for _ in range(passes):
-        start = time.perf_counter()
+        start = time.thread_time()
         told = way()
-        times.append(time.perf_counter() - start)
+        times.append(time.thread_time() - start)
     return min(times) * 1e3, told
 
 

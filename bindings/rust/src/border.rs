@@ -24,6 +24,15 @@ extern "C" {
         answers_len: usize,
         needed: *mut usize,
     ) -> u32;
+    fn semver_best(
+        reader: u32,
+        requirement: *const u8,
+        requirement_len: usize,
+        versions: *const u8,
+        versions_len: usize,
+        pre_releases: u32,
+        place: *mut usize,
+    ) -> u32;
     fn semver_overlap(reader: u32, one: *const u8, one_len: usize, other: *const u8, other_len: usize) -> u32;
     fn semver_least(reader: u32, text: *const u8, text_len: usize, out: *mut u8, out_len: usize, needed: *mut usize) -> u32;
     fn semver_common(
@@ -72,6 +81,7 @@ extern "C" {
     fn semver_req_normal(handle: *mut Raw, out: *mut u8, out_len: usize, needed: *mut usize) -> u32;
     fn semver_req_text(handle: *mut Raw, out: *mut u8, out_len: usize, needed: *mut usize) -> u32;
     fn semver_version_order(one: *mut Raw, other: *mut Raw) -> u32;
+    fn semver_version_compare(one: *mut Raw, other: *mut Raw) -> u32;
     fn semver_version_text(handle: *mut Raw, out: *mut u8, out_len: usize, needed: *mut usize) -> u32;
 }
 
@@ -163,6 +173,45 @@ pub(crate) fn filter(reader: Reader, requirement: &str, versions: &str, pre_rele
         3 => Err(Requirement::read(reader, requirement).err().unwrap_or_default()),
         _ => failed(code),
     }
+}
+
+/// Which of several versions is the best match.
+#[derive(Clone, Copy, Debug, PartialEq, Eq)]
+pub enum Best {
+    /// None matches.
+    Nothing,
+    /// The one of this line, from 0.
+    At(usize),
+    Tag,
+    /// A version is refused.
+    Refused,
+}
+
+pub(crate) fn best(reader: Reader, requirement: &str, versions: &str, pre_release: PreRelease) -> Result<Best, String> {
+    let mut place = 0;
+    let code = unsafe {
+        semver_best(
+            reader as u32,
+            requirement.as_ptr(),
+            requirement.len(),
+            versions.as_ptr(),
+            versions.len(),
+            pre_release as u32,
+            &mut place,
+        )
+    };
+    match fit_or_refusal(code) {
+        Some(Fit::No) => Ok(Best::Nothing),
+        Some(Fit::Yes) => Ok(Best::At(place)),
+        Some(Fit::Tag) => Ok(Best::Tag),
+        Some(Fit::Refused) => Ok(Best::Refused),
+        None => Err(Requirement::read(reader, requirement).err().unwrap_or_default()),
+    }
+}
+
+// None where the requirement is refused.
+fn fit_or_refusal(code: u32) -> Option<Fit> {
+    (code != 3).then(|| fit(code))
 }
 
 /// Whether two requirements overlap, or that one is refused.
@@ -268,6 +317,14 @@ impl Drop for Requirement {
     }
 }
 
+fn ordering(code: u32) -> Ordering {
+    match code {
+        0 => Ordering::Less,
+        1 => Ordering::Equal,
+        _ => Ordering::Greater,
+    }
+}
+
 /// A version that the library keeps.
 pub(crate) struct KeptVersion(UnsafeCell<Raw>);
 
@@ -294,11 +351,14 @@ impl KeptVersion {
         if ptr::eq(self, other) {
             return Ordering::Equal;
         }
-        match unsafe { semver_version_order(self.0.get(), other.0.get()) } {
-            0 => Ordering::Less,
-            1 => Ordering::Equal,
-            _ => Ordering::Greater,
+        ordering(unsafe { semver_version_order(self.0.get(), other.0.get()) })
+    }
+
+    pub(crate) fn precedence(&self, other: &KeptVersion) -> Ordering {
+        if ptr::eq(self, other) {
+            return Ordering::Equal;
         }
+        ordering(unsafe { semver_version_compare(self.0.get(), other.0.get()) })
     }
 }
 

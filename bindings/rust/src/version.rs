@@ -27,6 +27,11 @@ impl Version {
         Ok(Version { text: kept.text(), kept })
     }
 
+    /// The order of precedence, in which the build has no part.
+    pub fn cmp_precedence(&self, other: &Version) -> Ordering {
+        self.kept.precedence(&other.kept)
+    }
+
     pub(crate) fn kept(&self) -> &KeptVersion {
         &self.kept
     }

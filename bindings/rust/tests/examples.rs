@@ -1,7 +1,7 @@
 //! The twenty examples.
 
 use deno_semver_proved::least::{common_by_npm, least_by_npm, outside_by_npm, Least};
-use deno_semver_proved::lists::{filter_by_npm, Fit, PreRelease};
+use deno_semver_proved::lists::{best_by_npm, filter_by_npm, Best, Fit, PreRelease};
 use deno_semver_proved::npm::{parse_npm_version, parse_npm_version_req};
 use deno_semver_proved::{Version, VersionReq};
 use std::cmp::Ordering;
@@ -66,6 +66,7 @@ fn e08_the_first_word_that_is_wrong() {
 #[test]
 fn e09_order() {
     assert_eq!(version("1.0.0-a").cmp(&version("1.0.0")), Ordering::Less);
+    assert_eq!(version("1.0.0+b").cmp_precedence(&version("1.0.0")), Ordering::Equal);
     assert_eq!(version("1.0.0+b").cmp(&version("1.0.0")), Ordering::Greater);
     assert_eq!(version("1.0.1").cmp(&version("1.0.0")), Ordering::Greater);
 }
@@ -105,6 +106,8 @@ fn e15_a_normal_text() {
 fn e16_a_list() {
     let told = filter_by_npm("^1.2", "1.2.0\n2.0.0\r\nfoo\n1.9.9\n", PreRelease::Restricted);
     assert_eq!(told, Ok(vec![Fit::Yes, Fit::No, Fit::Refused, Fit::Yes]));
+    assert_eq!(best_by_npm("^1.2", "1.2.0\n1.10.0\n2.0.0\n1.10.0", PreRelease::Restricted), Ok(Best::At(1)));
+    assert_eq!(best_by_npm("3", "1.2.0\n", PreRelease::Restricted), Ok(Best::Nothing));
 }
 
 #[test]

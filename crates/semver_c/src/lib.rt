@@ -12,7 +12,7 @@ ghost use Rattle.semver_req.specs.Requirement.{inner_text};
 ghost use Rattle.semver_c.specs.Codes.{IsCode, IsPlaced, IsReply, bool_code, fit_code, least_code, least_text, no_text, one_code, order_code};
 ghost use Rattle.semver_c.specs.Handle.{Holds};
 ghost use Rattle.semver_c.specs.Kept.{FitsKept, IsKept, IsKeptEqual, IsKeptFit, IsKeptOrder, IsKeptOverlap};
-ghost use Rattle.semver_c.specs.Lists.{FitsLines};
+ghost use Rattle.semver_c.specs.Lists.{BestLine, FitsLines, IsPlaceReply};
 ghost use Rattle.semver_c.specs.Questions.{Displayed, Fits, LeastCommon, LeastMatch, LeastOutside, NormalText, Orders, Overlaps};
 ghost use Rattle.semver_c.specs.Words.{Is, Requirement, VersionOf};
 
@@ -26,7 +26,7 @@ mod version_handle;
 mod words;
 
 use kept::{boxed_requirement, boxed_version, fits_kept, kept_text, kept_version_text};
-use lists::filter;
+use lists::{best_line, filter, tell_place};
 use questions::{
     common, displayed, fits, fitting, least_match, normal_text, order, outside, overlap,
     pre_release_of, text_of_version,
@@ -182,6 +182,26 @@ pub extern "C" fn semver_filter(
         filter(alloc, reader, requirement, versions, pre_releases),
         answers,
         needed,
+    )
+}
+
+/// Which of several versions, a line each, is the greatest that matches the requirement, the first of equal ones: 0 none, 1 the one
+/// at `place`, counted from 0, 2 the requirement is a tag. At any code but 1 `place` stays as it was.
+#[unsafe(no_mangle)]
+pub extern "C" fn semver_best(
+    alloc: Global,
+    reader: u32,
+    requirement: &[u8],
+    versions: &[u8],
+    pre_releases: u32,
+    place: &mut usize,
+) -> u32
+    ensures { IsPlaceReply (BestLine pre_releases reader requirement.now versions.now)
+        place.old place.new result }
+{
+    tell_place(
+        best_line(alloc, reader, requirement, versions, pre_releases),
+        place,
     )
 }
 

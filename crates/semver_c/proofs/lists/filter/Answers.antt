@@ -1,6 +1,6 @@
 use Rattle.std.proofs.Common.{subst}
 use Rattle.std.specs.Str.Lines.{lines}
-use Rattle.semver_c.specs.Lists.{FitsEach}
+use Rattle.semver_c.specs.Lists.{Each, FitsLine}
 use Rattle.semver_c.specs.Words.{IsAnswer}
 use Rattle.semver_c.proofs.Asking.{by_text, by_value, exit_no_text, exit_problem}
 use Rattle.semver_c.proofs.lists.filter.Goals as goal
@@ -15,5 +15,5 @@ returns-in_err-versions c = by_value _ _ _ _ c.in_ok-requirement.requirement c.i
 pub returns : goal.returns
 returns c = by_value _ _ _ _ c.in_ok-requirement.requirement c.in_ok-requirement.ensures.answer c.line_codes.result
     (by_text c.args.versions.now _ _ c.in_ok-versions.versions.now c.in_ok-versions.ensures c.line_codes.result
-    (subst (λ flag. IsAnswer (FitsEach flag c.in_ok-requirement.requirement.inner (lines c.in_ok-versions.versions.now)) (λ codes. codes.items) c.line_codes.result)
+    (subst (λ flag. IsAnswer (Each (FitsLine flag c.in_ok-requirement.requirement.inner) (lines c.in_ok-versions.versions.now)) (λ codes. codes.items) c.line_codes.result)
     c.pre_release_of.ensures c.line_codes.ensures))
