@@ -2,24 +2,31 @@
 # Builds the library of the calls, and runs the examples of each binding over it: C's, C's under an address checker, Python's, and
 # Rust's where cargo is there. It ends with a failure at the first binding that fails.
 #
-# OUT is a folder for what is built, by default bindings/out; CC is the C compiler. With the word `built` the library is taken as
-# it stands, and with `speed` the times of calls are told as well.
+# The library is built, by `rt lib`, where it isn't there or is older than a source. OUT is a folder for what is built, by default
+# bindings/out; CC is the C compiler. With the word `speed` the times of calls are told as well.
 set -e
 here=$(cd "$(dirname "$0")" && pwd)
 out=${OUT:-$here/out}
 crate=$here/../crates/semver_c
 kit=$(dirname "$(rt doc)")
-built=no
-speed=no
-for word in "$@"; do
-    case $word in
-        built) built=yes ;;
-        speed) speed=yes ;;
-        *) echo "usage: test.sh [built] [speed]" >&2; exit 2 ;;
-    esac
-done
+case "$*" in
+    "") speed=no ;;
+    speed) speed=yes ;;
+    *) echo "usage: test.sh [speed]" >&2; exit 2 ;;
+esac
 mkdir -p "$out"
-if [ $built = no ]; then
+
+# Whether the library is there and no source of it or of a crate below is newer.
+is_built() {
+    library=$crate/out/libsemver_c.a
+    [ -f "$library" ] || return 1
+    for name in semver_base semver_req deno_semver semver_c; do
+        folder=$here/../crates/$name
+        [ -z "$(find "$folder/src" "$folder/specs" "$folder/proofs" -newer "$library" -type f)" ] || return 1
+    done
+}
+
+if ! is_built; then
     (cd "$crate" && rt lib) >"$out/lib.log" 2>&1 || { cat "$out/lib.log" >&2; exit 1; }
 fi
 export SEMVER_LIB="$crate/out" RATTLE_C="$kit/c"
