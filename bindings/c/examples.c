@@ -48,7 +48,9 @@ static void texts(void) {
     is("2 pre-releases: restricted, and admitted",
        fits(SEMVER_NPM, "^1.0.0", "1.2.0-rc.1", SEMVER_RESTRICTED) == SEMVER_NO
            && fits(SEMVER_NPM, "^1.0.0", "1.2.0-rc.1", SEMVER_ADMITTED) == SEMVER_YES);
-    is("3 latest is a tag", fits(SEMVER_STRICT, "latest", "1.0.0", SEMVER_RESTRICTED) == SEMVER_TAG);
+    is("3 latest is a tag, and a blank can't be one", fits(SEMVER_STRICT, "latest", "1.0.0", SEMVER_RESTRICTED) == SEMVER_TAG
+                                                          && semver_may_be_tag(TEXT("latest")) == SEMVER_YES
+                                                          && semver_may_be_tag(TEXT(" ")) == SEMVER_NO);
     is("4 an empty requirement is refused, with a message",
        fits(SEMVER_STRICT, "", "1.0.0", SEMVER_RESTRICTED) == SEMVER_NO_REQUIREMENT && told("Empty version constraint."));
     is("5 a version 1 is refused, with a message",

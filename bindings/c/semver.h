@@ -91,6 +91,9 @@ uint32_t semver_normal(uint32_t reader, const uint8_t *requirement, size_t requi
 /* How the version is displayed: YES. */
 uint32_t semver_version(const uint8_t *version, size_t version_len, uint8_t *out, size_t out_len, size_t *needed);
 
+/* Whether the text may be the tag of a version, by npm's rules: NO or YES. */
+uint32_t semver_may_be_tag(const uint8_t *text, size_t text_len);
+
 /* Values that are kept across calls. `semver_req r = {0};` has none. Only the calls below write a handle; it is used by one thread
  * at a time, is given to a call as one argument only, and isn't copied while it has a value: a copy would be a second owner. */
 typedef struct {

@@ -30,7 +30,7 @@ def want_of_memory():
 examples = [
     ("npm's ranges", [s.fits(">=1.2 <2 || 3", "1.3.0"), s.fits(">=1.2 <2 || 3", "2.0.0")], [True, False]),
     ("pre-releases", [s.fits("^1.0.0", "1.2.0-rc.1"), s.fits("^1.0.0", "1.2.0-rc.1", pre_releases=True)], [False, True]),
-    ("a tag", s.fits("latest", "1.0.0", semver.STRICT), None),
+    ("a tag", [s.fits("latest", "1.0.0", semver.STRICT), s.may_be_tag("latest"), s.may_be_tag(" ")], [None, True, False]),
     ("no requirement", refused(s.fits, "", "1.0.0", semver.STRICT), ("requirement", "Empty version constraint.")),
     ("no version", refused(s.fits, "1", "99999999999999999999.0.0"), ("version", "Number is too large.")),
     ("no UTF-8", [refused(s.fits, b"\xff", "1.0.0")[0], refused(s.fits, "1", b"\xff")[0]], ["text", "text"]),

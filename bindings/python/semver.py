@@ -131,6 +131,7 @@ class Library:
             "least": (c_uint32, *text, *buffer),
             "normal": (c_uint32, *text, *buffer),
             "version": (*text, *buffer),
+            "may_be_tag": text,
         })
         # of handles: no other thread runs meanwhile
         kept = ctypes.PyDLL(path)
@@ -214,6 +215,11 @@ class Library:
         r = _bytes(requirement)
         code, text = _read(self._normal, reader, r, len(r))
         return text if code == YES else _raise(code, text)
+
+    def may_be_tag(self, text):
+        """Whether the text may be the tag of a version, by npm's rules."""
+        text = _bytes(text)
+        return bool(_fit(self._may_be_tag(text, len(text))))
 
     def displayed(self, version):
         """How the version is displayed."""

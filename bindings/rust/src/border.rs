@@ -33,6 +33,7 @@ extern "C" {
         pre_releases: u32,
         place: *mut usize,
     ) -> u32;
+    fn semver_may_be_tag(text: *const u8, text_len: usize) -> u32;
     fn semver_overlap(reader: u32, one: *const u8, one_len: usize, other: *const u8, other_len: usize) -> u32;
     fn semver_least(reader: u32, text: *const u8, text_len: usize, out: *mut u8, out_len: usize, needed: *mut usize) -> u32;
     fn semver_common(
@@ -212,6 +213,10 @@ pub(crate) fn best(reader: Reader, requirement: &str, versions: &str, pre_releas
 // None where the requirement is refused.
 fn fit_or_refusal(code: u32) -> Option<Fit> {
     (code != 3).then(|| fit(code))
+}
+
+pub(crate) fn may_be_tag(text: &str) -> bool {
+    unsafe { semver_may_be_tag(text.as_ptr(), text.len()) == YES }
 }
 
 /// Whether two requirements overlap, or that one is refused.

@@ -1,5 +1,6 @@
 //! npm's readers.
 
+use crate::border::may_be_tag;
 use crate::version::Version;
 use crate::version_req::VersionReq;
 use std::error::Error;
@@ -11,6 +12,11 @@ pub fn parse_npm_version(text: &str) -> Result<Version, NpmVersionParseError> {
 
 pub fn parse_npm_version_req(text: &str) -> Result<VersionReq, NpmVersionReqParseError> {
     VersionReq::parse_from_npm(text)
+}
+
+/// Whether the text may be the tag of a version, by npm's rules.
+pub fn is_valid_npm_tag(value: &str) -> bool {
+    may_be_tag(value)
 }
 
 /// Why npm's reader refuses the text of a version.

@@ -2,7 +2,7 @@
 
 use deno_semver_proved::least::{common_by_npm, least_by_npm, outside_by_npm, Least};
 use deno_semver_proved::lists::{best_by_npm, filter_by_npm, Best, Fit, PreRelease};
-use deno_semver_proved::npm::{parse_npm_version, parse_npm_version_req};
+use deno_semver_proved::npm::{is_valid_npm_tag, parse_npm_version, parse_npm_version_req};
 use deno_semver_proved::{Version, VersionReq};
 use std::cmp::Ordering;
 use std::process::Command;
@@ -35,6 +35,7 @@ fn e02_pre_releases() {
 fn e03_a_tag() {
     let req = VersionReq::parse_from_specifier("latest").unwrap();
     assert_eq!((req.tag(), npm("1").tag()), (Some("latest"), None));
+    assert!(is_valid_npm_tag("latest") && !is_valid_npm_tag(" "));
 }
 
 #[test]

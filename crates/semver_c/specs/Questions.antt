@@ -8,9 +8,10 @@ use Rattle.semver_base.specs.declared.range.PreRelease.{PreRelease}
 use Rattle.semver_base.specs.declared.range.PreRelease.TheVariants.{Restricted, Admitted}
 use Rattle.semver_base.specs.declared.version.Version.{Version}
 use Rattle.semver_req.specs.Requirement.{inner_means, inner_means_alone, inner_means_with, inner_overlap, inner_text, inners_mean}
+use Rattle.semver_req.specs.Tag.{is_valid_tag}
 use Rattle.semver_req.specs.declared.range_set_or_tag.RangeSetOrTag.{RangeSetOrTag}
 use Rattle.semver_req.specs.declared.range_set_or_tag.RangeSetOrTag.TheVariants as inner
-use Rattle.semver_c.specs.Words.{Is, Of, Requirement, VersionOf}
+use Rattle.semver_c.specs.Words.{Is, IsText, Of, Requirement, VersionOf}
 use Rattle.semver_c.specs.declared.questions.Fit.{Fit}
 use Rattle.semver_c.specs.declared.questions.Fit.TheVariants as fit
 use Rattle.semver_c.specs.declared.questions.Least.{Least}
@@ -51,6 +52,11 @@ NormalText reader requirement = Of (Requirement reader requirement) (λ read. Is
 
 abbrev pub Displayed : List ℕ → Result (List ℕ) ℕ → Type 0
 Displayed version = Of (VersionOf version) (λ v. Is (version_text v))
+
+-- ---- may a text be the tag of a version
+
+abbrev pub MayBeTag : List ℕ → Result Bool ℕ → Type 0
+MayBeTag bytes = Of (IsText bytes) (λ text. Is (is_valid_tag text))
 
 -- ---- the least version of a test, without a build and with a text that is read back; or that there is none
 

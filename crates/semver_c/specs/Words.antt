@@ -1,6 +1,7 @@
 -- What the words of a question stand for at the border, where texts are bytes and a reader is a number.
-use Rattle.std.specs.Prelude.{◌≡◌, ◌<◌, ◌⊎◌, ℕ, List, None, Some, Result, Ok, Err}
+use Rattle.std.specs.Prelude.{◌≡◌, ◌<◌, ◌⊎◌, ℕ, List, None, Some, Result, Ok, Err, codes}
 use Rattle.std.specs.Str.{IsUtf8, trim}
+use Rattle.semver_base.specs.Failure.{message_of}
 use Rattle.semver_base.specs.VersionGrammar.{IsVersionOutcome}
 use Rattle.semver_base.specs.declared.failure.Refusal.{Refusal}
 use Rattle.semver_base.specs.declared.version.Version.{Version}
@@ -25,6 +26,14 @@ problem_code (problem.Version failure) = failure_code failure 4
 problem_code problem.NoUtf8 = 5
 problem_code problem.OutOfMemory = 6
 problem_code problem.NoReader = 7
+
+-- what a problem is, in words
+abbrev pub problem_message : Problem → List ℕ
+problem_message (problem.Requirement failure) = message_of failure
+problem_message (problem.Version failure) = message_of failure
+problem_message problem.NoUtf8 = codes "The text is no UTF-8."
+problem_message problem.OutOfMemory = codes "Out of memory."
+problem_message problem.NoReader = codes "No reader has this number."
 
 -- ---- questions: each is a relation to its outcomes, a value or the code of the first problem
 

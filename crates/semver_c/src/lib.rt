@@ -13,7 +13,7 @@ ghost use Rattle.semver_c.specs.Codes.{IsCode, IsPlaced, IsReply, bool_code, fit
 ghost use Rattle.semver_c.specs.Handle.{Holds};
 ghost use Rattle.semver_c.specs.Kept.{FitsKept, IsKept, IsKeptEqual, IsKeptFit, IsKeptOrder, IsKeptOverlap};
 ghost use Rattle.semver_c.specs.Lists.{BestLine, FitsLines, IsPlaceReply};
-ghost use Rattle.semver_c.specs.Questions.{Displayed, Fits, LeastCommon, LeastMatch, LeastOutside, NormalText, Orders, Overlaps};
+ghost use Rattle.semver_c.specs.Questions.{Displayed, Fits, LeastCommon, LeastMatch, LeastOutside, MayBeTag, NormalText, Orders, Overlaps};
 ghost use Rattle.semver_c.specs.Words.{Is, Requirement, VersionOf};
 
 mod kept;
@@ -28,8 +28,8 @@ mod words;
 use kept::{boxed_requirement, boxed_version, fits_kept, kept_text, kept_version_text};
 use lists::{best_line, filter, tell_place};
 use questions::{
-    common, displayed, fits, fitting, least_match, normal_text, order, outside, overlap,
-    pre_release_of, text_of_version,
+    common, displayed, fits, fitting, least_match, may_be_tag, normal_text, order, outside,
+    overlap, pre_release_of, text_of_version,
 };
 use requirement_handle::RequirementHandle;
 use semver_req::laws::equal_requirements;
@@ -160,6 +160,14 @@ pub extern "C" fn semver_version(
         out.old out.new needed.new result }
 {
     tell_text(displayed(alloc, version), out, needed)
+}
+
+/// Whether the text may be the tag of a version: 0 no, 1 yes.
+#[unsafe(no_mangle)]
+pub extern "C" fn semver_may_be_tag(text: &[u8]) -> u32
+    ensures { IsCode (MayBeTag text.now) bool_code result }
+{
+    code_of_bool(may_be_tag(text))
 }
 
 /// Whether each version of a list, a line each, fits the requirement: 1, where answer n is the code of line n, 0 no, 1 yes, 2 the

@@ -4,10 +4,11 @@ ghost use Rattle.std.specs.Prelude.{◌≡◌, IfOk, string_bytes};
 ghost use Rattle.semver_base.specs.VersionText.{version_text};
 ghost use Rattle.semver_req.specs.Readers.{IsReadOrTag};
 ghost use Rattle.semver_req.specs.Requirement.{inner_means_alone, inners_mean};
-ghost use Rattle.semver_c.specs.Questions.{Displayed, Fits, LeastCommon, LeastMatch, LeastOf, LeastOfBoth, LeastOutside, NormalText, Orders, Overlaps, fit_of, least_of, pre_release_of};
+ghost use Rattle.semver_c.specs.Questions.{Displayed, Fits, LeastCommon, LeastMatch, LeastOf, LeastOfBoth, LeastOutside, MayBeTag, NormalText, Orders, Overlaps, fit_of, least_of, pre_release_of};
 ghost use Rattle.semver_c.specs.Words.{IsAnswer};
 
-use crate::words::{Problem, requirement_of, version_of};
+use crate::words::{Problem, requirement_of, text_of, version_of};
+use deno_semver::npm::is_valid_npm_tag;
 use deno_semver::{PreRelease, Version, VersionReq};
 use std::alloc::{AllocError, Global};
 use std::cmp::Ordering;
@@ -118,6 +119,14 @@ pub fn displayed(alloc: Global, version: &[u8]) -> Result<String, Problem>
 {
     let version = version_of(alloc, version)?;
     Ok(text_of_version(alloc, &version)?)
+}
+
+/// Whether a text may be the tag of a version.
+pub fn may_be_tag(bytes: &[u8]) -> Result<bool, Problem>
+    ensures { IsAnswer (MayBeTag bytes.now) (λ told. told) result }
+{
+    let text = text_of(bytes)?;
+    Ok(is_valid_npm_tag(text))
 }
 
 // The least version that the requirement matches.

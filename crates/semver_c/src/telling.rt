@@ -3,7 +3,7 @@
 ghost use Rattle.std.specs.Prelude.{◌≡◌, ◌⊎◌, List, ℕ, string_bytes};
 ghost use Rattle.semver_base.specs.VersionText.{version_text};
 ghost use Rattle.semver_c.specs.Codes.{IsPlaced, IsTold, bool_code, code_of, fit_code, least_code, least_text, no_text, one_code, order_code};
-ghost use Rattle.semver_c.specs.Words.{outcome_of, problem_code};
+ghost use Rattle.semver_c.specs.Words.{outcome_of, problem_code, problem_message};
 
 use crate::questions::{Fit, Least, text_of_version};
 use crate::words::Problem;
@@ -84,7 +84,7 @@ pub fn code_of_fit(answer: Result<Fit, Problem>) -> u32
 /// Tells a problem by its code, and its message in the buffer.
 pub fn tell_problem(problem: &Problem, out: &mut [u8], needed: &mut usize) -> u32
     ensures code { result ≡ problem_code problem.now }
-    ensures message { (text : List ℕ) × IsPlaced text out.old out.new needed.new }
+    ensures message { IsPlaced (problem_message problem.now) out.old out.new needed.new }
 {
     put(problem.message(), out, needed);
     problem.code()

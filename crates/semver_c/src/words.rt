@@ -3,7 +3,7 @@
 ghost use Rattle.std.specs.Prelude.{◌≡◌, ◌<◌, IfOk, IsUtf8, MatchResult, Err};
 ghost use Rattle.semver_base.specs.VersionText.{ReadsBack};
 ghost use Rattle.semver_req.specs.Readers.{IsReadOrTag, IsReaderAnswer};
-ghost use Rattle.semver_c.specs.Words.{IsAnswer, IsVersion, Requirement, VersionOf, failure_code, problem_code, reader_number};
+ghost use Rattle.semver_c.specs.Words.{IsAnswer, IsVersion, Requirement, VersionOf, failure_code, problem_code, problem_message, reader_number};
 ghost use Rattle.semver_c.specs.declared.words.Problem.TheVariants as problem;
 
 use deno_semver::{ParseFailure, Version, VersionReq};
@@ -55,7 +55,9 @@ impl Problem {
     }
 
     /// What the problem is, in words.
-    pub fn message(&self) -> &str {
+    pub fn message(&self) -> &str
+        ensures { result.now ≡ problem_message self.now }
+    {
         match self {
             Problem::Requirement(failure) | Problem::Version(failure) => failure.message(),
             Problem::NoUtf8 => "The text is no UTF-8.",
