@@ -1,5 +1,6 @@
 pub mod Installing
 pub mod Locking
+pub mod PackagesAllowed
 pub mod ReadAgain
 pub mod TextsAllowed
 pub mod TextsAsked

@@ -2,6 +2,7 @@ pub mod Allowance
 pub mod ImportMap
 pub mod Install
 pub mod Lockfile
+pub mod Packages
 pub mod Stored
 pub mod TextsAsked
 pub mod Together

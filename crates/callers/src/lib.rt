@@ -7,6 +7,7 @@ pub mod import_map;
 pub mod install;
 pub mod lockfile;
 pub mod overlap;
+pub mod packages;
 pub mod requirements;
 pub mod stored;
 pub mod texts;
