@@ -1,0 +1,4 @@
+pub mod Order
+pub mod Reading
+pub mod Together
+pub mod Versions
