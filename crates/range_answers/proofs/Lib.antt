@@ -1,3 +1,4 @@
 pub mod Orders
+pub mod Pieces
 pub mod ReadTexts
 pub mod Tags

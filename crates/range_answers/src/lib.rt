@@ -2,6 +2,9 @@
 //! says what is answered. How it is written on lines, or as JSON, is the program's own.
 #![tactic(auto)]
 
+mod cutting;
+pub mod explained;
+pub mod packages;
 pub mod reading;
 pub mod together;
 pub mod versions;
