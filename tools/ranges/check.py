@@ -15,7 +15,7 @@ PROGRAM = TOP / "crates/ranges/out/ranges"
 PAGES = ("README.md", "docs/RANGES.md")
 # How much more memory, in kilobytes, many lines may take than few.
 SLACK = 1024
-FEW, MANY = 1_000, 200_000
+FEW, MANY = 50_000, 400_000
 
 
 def run(words, given=""):
