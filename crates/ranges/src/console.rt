@@ -41,15 +41,46 @@ impl Status {
 #[derive(Clone, Copy)]
 pub enum Stop {
     OutOfMemory,
-    /// Standard input can't be read, or standard output can't be written.
-    Broken,
+    /// Standard input can't be read.
+    Unread,
+    /// Standard output can't be written.
+    Unwritten,
+    /// A word is no UTF-8.
+    NoText,
 }
 
 impl Stop {
     pub fn status(self) -> Status {
         match self {
             Stop::OutOfMemory => Status::OutOfMemory,
-            Stop::Broken => Status::Broken,
+            Stop::Unread | Stop::Unwritten => Status::Broken,
+            Stop::NoText => Status::Usage,
+        }
+    }
+
+    /// What is told of it; nothing where output can't be written, as when a pipe closes.
+    pub fn message(self) -> Option<&'static str> {
+        match self {
+            Stop::OutOfMemory => Some("out of memory"),
+            Stop::Unread => Some("standard input can't be read"),
+            Stop::Unwritten => None,
+            Stop::NoText => Some("a word is no UTF-8"),
+        }
+    }
+
+    /// Why the words can't be taken.
+    pub fn of_words(error: io::Error) -> Stop {
+        match error.kind() {
+            ErrorKind::OutOfMemory => Stop::OutOfMemory,
+            _ => Stop::NoText,
+        }
+    }
+
+    /// Why standard input isn't read on.
+    pub fn of_reading(error: io::Error) -> Stop {
+        match error.kind() {
+            ErrorKind::OutOfMemory => Stop::OutOfMemory,
+            _ => Stop::Unread,
         }
     }
 }
@@ -70,7 +101,7 @@ impl From<io::Error> for Stop {
     fn from(error: io::Error) -> Stop {
         match error.kind() {
             ErrorKind::OutOfMemory => Stop::OutOfMemory,
-            _ => Stop::Broken,
+            _ => Stop::Unwritten,
         }
     }
 }

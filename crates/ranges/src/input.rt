@@ -63,7 +63,10 @@ fn take_lines<R: Input, O: Write, E: Write, T: Take>(
     let mut all = true;
     for number in 1..u64::MAX {
         line.clear();
-        if reader.read_until(b'\n', &mut line)? == 0 {
+        let taken = reader
+            .read_until(b'\n', &mut line)
+            .map_err(Stop::of_reading)?;
+        if taken == 0 {
             break;
         }
         match str::from_utf8(line.as_slice()) {

@@ -90,10 +90,22 @@ fn run<R: Runtime + AllocGlobal, E: Write + Drop>(
     Ok(status)
 }
 
+// Tells why the program stops early.
+fn stopped<E: Write>(err: &mut E, stop: Stop) -> Status {
+    if let Some(message) = stop.message() {
+        let _ = writeln!(err, "ranges: {message}");
+    }
+    stop.status()
+}
+
 fn main(rt: HostRuntime) -> ExitCode {
-    let status = match words(&rt) {
-        Ok(words) => run(&rt, rt.stderr(), words.as_slice()).unwrap_or_else(|stop| stop.status()),
-        Err(error) => Stop::from(error).status(),
+    let outcome = match words(&rt) {
+        Ok(words) => run(&rt, rt.stderr(), words.as_slice()),
+        Err(error) => Err(Stop::of_words(error)),
+    };
+    let status = match outcome {
+        Ok(status) => status,
+        Err(stop) => stopped(&mut rt.stderr(), stop),
     };
     ExitCode::from(status.code())
 }
