@@ -26,7 +26,8 @@ IsLeastOfRange range (meaning.LeftOut refusal) = ⊥
 
 -- what is read of a piece, which is followed by `||` or not
 abbrev pub IsMeaningOf : Flavour → Bool → List ℕ → Meaning → Type 0
-IsMeaningOf f followed text (meaning.Range range least) = IsPieceRead f followed text (read.Range range) × IsLeast (range_means range) least
+IsMeaningOf f followed text (meaning.Range range least) = IsPieceRead f followed text (read.Range range)
+    × IsLeast (range_means range) least
 IsMeaningOf f followed text (meaning.LeftOut refusal) = IsPieceRead f followed text (read.Invalid refusal)
 
 -- the piece as it is written, with what is read of it
@@ -36,12 +37,14 @@ IsExplainedPiece f followed text piece = (string_bytes piece.text ≡ text) × I
 -- so are all of them, of which the first is followed by `||` or not
 abbrev pub AreAllExplained : Flavour → Bool → List (List ℕ) → List Piece → Type 0
 AreAllExplained f followed [] [] = Unit {0}
-AreAllExplained f followed (text ∷ texts) (piece ∷ pieces) = IsExplainedPiece f followed text piece × AreAllExplained f false texts pieces
+AreAllExplained f followed (text ∷ texts) (piece ∷ pieces) = IsExplainedPiece f followed text piece
+    × AreAllExplained f false texts pieces
 AreAllExplained f followed [] (piece ∷ pieces) = ⊥
 AreAllExplained f followed (text ∷ texts) [] = ⊥
 
 -- the first piece, and those of what follows its `||`
-pub record AreExplainedFrom (f : Flavour) (first : List ℕ) (followed : Bool) (rest : List ℕ) (pieces : List Piece) : Type 0 where
+pub record AreExplainedFrom (f : Flavour) (first : List ℕ) (followed : Bool) (rest : List ℕ) (pieces : List Piece) :
+    Type 0 where
   pub others : List (List ℕ)
   pub more : AreMorePieces rest others
   pub explained : AreAllExplained f followed (first ∷ others) pieces

@@ -9,4 +9,5 @@ use Rattle.semver_req.specs.declared.range_set_or_tag.RangeSetOrTag.{RangeSetOrT
 
 -- the text stands for a version, and whether this matches is told
 abbrev pub IsFitting : PreRelease → RangeSetOrTag → List ℕ → Bool → Type 0
-IsFitting flag read text told = (v : Version) × IsVersionOutcome (trim text) (Ok v) × (told ≡ inner_means_with flag read v)
+IsFitting flag read text told = (v : Version) × IsVersionOutcome (trim text) (Ok v)
+    × (told ≡ inner_means_with flag read v)
