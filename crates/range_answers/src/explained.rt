@@ -2,7 +2,6 @@
 
 ghost use Rattle.std.specs.Prelude.{◌≡◌, IfErr, IfOk, None};
 ghost use Rattle.semver_base.specs.declared.range.VersionRange.{VersionRange};
-ghost use Rattle.semver_req.specs.Readers.{IsReading};
 ghost use Rattle.range_answers.specs.Explained.{AreExplained, AreExplainedFrom, AreWholeTexts, IsExplained, IsExplainedPiece, IsLeastOfRange, IsWholeText};
 ghost use Rattle.range_answers.specs.Reading.{IsUnread};
 

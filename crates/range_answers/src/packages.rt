@@ -1,6 +1,6 @@
 //! What the texts of packages are.
 
-ghost use Rattle.std.specs.Prelude.{◌≡◌, IfErr, IfOk, Ok};
+ghost use Rattle.std.specs.Prelude.{IfErr, IfOk, Ok};
 ghost use Rattle.deno_semver.specs.PackageOutcome.{IsPackageOutcome, IsPackageRefusal};
 ghost use Rattle.range_answers.specs.Packages.{IsReference, IsReferenceRefused, IsRegistryOf};
 

@@ -7,7 +7,6 @@ use deno_semver::ParseFailure;
 use range_answers::reading::{RefusedWord, requirement};
 use range_answers::together::{Common, Within, common_version, containment};
 use serde_json::{Value, json};
-use std::alloc::{AllocError, Global};
 use std::io::Write;
 
 impl<O: Write, E: Write> Console<O, E> {

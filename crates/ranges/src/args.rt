@@ -1,6 +1,5 @@
 //! The words that the program takes, as the crate `clap` reads them.
 
-use clap::builder::PossibleValue;
 use clap::{Arg, ArgAction, ArgMatches, Command};
 use deno_semver::PreRelease;
 use semver_req::common::values::Flavour;

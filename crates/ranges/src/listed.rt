@@ -1,8 +1,5 @@
 //! The commands over lists of versions: `filter`, `best` and `sort`.
 
-ghost use Rattle.std.specs.Prelude.{◌≡◌, None};
-ghost use Rattle.semver_req.specs.Requirement.{tag_of};
-
 use crate::args::Options;
 use crate::console::{Console, Status, Stop};
 use crate::input::{Take, take_all};
@@ -12,7 +9,6 @@ use deno_semver::{ParseFailure, PreRelease, Version, VersionReq};
 use range_answers::reading::requirement;
 use range_answers::versions::{Entry, Order, fits};
 use serde_json::{Value, json};
-use std::alloc::{AllocError, Global};
 use std::io::Write;
 
 // How many of the texts that match were printed, and how.

@@ -20,7 +20,6 @@ use args::{Options, program};
 use clap::error::ErrorKind as Mistake;
 use clap::{ArgMatches, Error};
 use console::{Console, Status, Stop};
-use std::alloc::Global;
 use std::env::Env;
 use std::io::{BufWriter, Write};
 use std::process::ExitCode;

@@ -5,8 +5,7 @@ use crate::console::{Console, Status, Stop};
 use clap::ArgMatches;
 use deno_semver::jsr::normalized_export_name;
 use deno_semver::package::{
-    PackageKind, PackageReq, PackageReqParseError, PackageReqPartsParseError,
-    PackageReqReferenceParseError,
+    PackageKind, PackageReq, PackageReqPartsParseError, PackageReqReferenceParseError,
 };
 use range_answers::packages::{Reference, read_package, read_reference};
 use serde_json::{Value, json};
