@@ -65,7 +65,8 @@ pub fn allows_when_stored(
     requirement: &VersionReq,
     version: &Version,
 ) -> Result<Allowance, NpmVersionReqParseError>
-    ensures ranges { OfRanges (AllowsAsBefore (λ e. e.source) version.now result) requirement.now.inner }
+    ensures ranges { OfRanges
+        (AllowsAsBefore (λ e. e.source) version.now result) requirement.now.inner }
     ensures tag { OfTag Npm (IsTagTold (λ e. e.source) result) requirement.now.inner }
 {
     let again = read_again_by_npm(alloc, requirement)?;
@@ -79,7 +80,8 @@ pub fn allows_when_stored_as_normalized(
     requirement: &VersionReq,
     version: &Version,
 ) -> Result<Allowance, VersionReqNormalizedParseError>
-    ensures ranges { OfRanges (AllowsAsBefore (λ e. e.source) version.now result) requirement.now.inner }
+    ensures ranges { OfRanges
+        (AllowsAsBefore (λ e. e.source) version.now result) requirement.now.inner }
     ensures tag { OfTag Normal (IsTagTold (λ e. e.source) result) requirement.now.inner }
 {
     let again = read_again_by_normalized(alloc, requirement)?;

@@ -60,10 +60,6 @@ no_slash : (answer : RangeSetOrTag) → CanBeStored answer → list_all (is_not 
 no_slash (inner.RangeSet set) h = set_passes (is_not 47) solid_no_slash refl refl set.0 (read_writable set.0 h)
 no_slash (inner.Tag t) h = tag_without t h.utf8 h.valid 47 (omega arith) slash_no_tag
 
-text_utf8 : (answer : RangeSetOrTag) → CanBeStored answer → IsUtf8 (inner_text answer)
-text_utf8 (inner.RangeSet set) h = IsUtf8-from_ascii (set_text set.0) (all_ascii (set_text set.0) (set_passes is_ascii solid_ascii refl refl set.0 (read_writable set.0 h)))
-text_utf8 (inner.Tag t) h = h.utf8
-
 -- ---- what the normal text is read as
 
 abbrev as_inner : List VersionRange → RangeSetOrTag

@@ -1,0 +1,4 @@
+pub mod Orders
+pub mod Pieces
+pub mod ReadTexts
+pub mod Tags

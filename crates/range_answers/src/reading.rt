@@ -1,0 +1,78 @@
+//! How the words of a command are read, and which of them is refused.
+
+ghost use Rattle.std.specs.Prelude.{◌≡◌, IfErr, IfOk, None};
+ghost use Rattle.semver_req.specs.Readers.{IsReaderAnswer};
+ghost use Rattle.range_answers.specs.Reading.{AreReadings, IsReadingOf, IsRefusalAt, IsTextRefusal, IsUnread, texts_of};
+
+use deno_semver::{ParseFailure, VersionReq};
+use semver_req::common::values::Flavour;
+use std::alloc::{AllocError, Global};
+
+/// A word that was refused: its place among those that were given, counted from 0, and why; or want of memory, which has no
+/// place.
+#[derive(Debug, Drop)]
+pub struct RefusedWord {
+    pub place: usize,
+    pub failure: ParseFailure,
+}
+
+impl From<AllocError> for RefusedWord {
+    ghost from_gives = { λ _ word. word.failure ≡ None };
+
+    fn from(_error: AllocError) -> RefusedWord {
+        RefusedWord {
+            place: 0,
+            failure: ParseFailure::memory(),
+        }
+    }
+}
+
+/// The requirement that the reader of this grammar makes of a text.
+///
+/// Any failure but the grammar's refusal is want of memory.
+pub fn requirement(alloc: Global, flavour: Flavour, text: &str) -> Result<VersionReq, ParseFailure>
+    ensures reads { IsReaderAnswer (λ failure. failure) flavour text.now result }
+    ensures refusal { IfErr result (IsTextRefusal flavour text.now) }
+{
+    match flavour {
+        Flavour::Npm => Ok(VersionReq::parse_from_npm(alloc, text)?),
+        Flavour::Normal => Ok(VersionReq::parse_from_normalized(alloc, text)?),
+        Flavour::Specifier => Ok(VersionReq::parse_from_specifier(alloc, text)?),
+    }
+}
+
+// The requirement that the text at a place is.
+pub(crate) fn requirement_at(
+    alloc: Global,
+    flavour: Flavour,
+    text: &str,
+    place: usize,
+) -> Result<VersionReq, RefusedWord>
+    ensures read { IfOk result (IsReadingOf flavour text.now) }
+    ensures place { IfErr result (λ word. word.place ≡ place) }
+    ensures refused { IfErr result (λ word. IsUnread flavour text.now word.failure) }
+{
+    match requirement(alloc, flavour, text) {
+        Ok(requirement) => Ok(requirement),
+        Err(failure) => Err(RefusedWord { place, failure }),
+    }
+}
+
+/// The requirements that the texts are, in their order, by the reader of this grammar.
+///
+/// The first text that is refused is told, or want of memory.
+pub fn requirements(
+    alloc: Global,
+    flavour: Flavour,
+    texts: &[&str],
+) -> Result<Vec<VersionReq>, RefusedWord>
+    ensures read { IfOk result (λ all. AreReadings flavour (texts_of texts.now) all.items) }
+    ensures refused { IfErr result (IsRefusalAt flavour (texts_of texts.now)) }
+{
+    let mut requirements = Vec::new(alloc);
+    for text in texts {
+        let requirement = requirement_at(alloc, flavour, text, requirements.len())?;
+        requirements.push(requirement).map_err(AllocError::from)?;
+    }
+    Ok(requirements)
+}

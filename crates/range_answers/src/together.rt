@@ -1,0 +1,110 @@
+//! What suits several requirements at once, and what a new one allows beside an old one.
+//!
+//! Both go by npm's rule about pre-releases.
+
+ghost use Rattle.std.specs.Prelude.{◌≡◌, ◌∷◌, [], IfErr, IfOk};
+ghost use Rattle.std.specs.Option.{option_copied};
+ghost use Rattle.range_answers.specs.Reading.{IsRefusalAt, texts_of};
+ghost use Rattle.range_answers.specs.Together.{IsCommon, IsCommonOfTexts, IsWithin, IsWithinOfTexts, first_tag};
+
+use crate::reading::{RefusedWord, requirement_at, requirements};
+use deno_semver::{PackageTag, Version, VersionReq};
+use semver_req::common::values::Flavour;
+use std::alloc::{AllocError, Global};
+
+/// What suits several requirements at once.
+#[derive(Debug, Drop)]
+pub enum Common {
+    /// The least version that suits all.
+    Least(Version),
+    /// No version suits all, or no requirement was given.
+    Nothing,
+    /// The first of them that is a tag, which is no question of versions.
+    Tag(PackageTag),
+}
+
+/// What a new requirement allows beside an old one.
+#[derive(Debug, Drop)]
+pub enum Within {
+    /// Each version that the new one allows the old one allows too.
+    Yes,
+    /// The least version that the new one alone allows.
+    No(Version),
+    /// The first of both that is a tag, which is no question of versions.
+    Tag(PackageTag),
+}
+
+// The first tag among the requirements.
+fn first_tag(requirements: &[VersionReq]) -> Option<&str>
+    ensures { option_copied result ≡ first_tag requirements.now }
+{
+    let (first, others) = requirements.split_first()?;
+    match first.tag() {
+        Some(tag) => Some(tag),
+        None => first_tag(others),
+    }
+}
+
+// The least version that suits all of the requirements.
+fn common_of(alloc: Global, requirements: &[VersionReq]) -> Result<Common, AllocError>
+    ensures { IfOk result (IsCommon requirements.now) }
+{
+    if let Some(tag) = first_tag(requirements) {
+        return Ok(Common::Tag(PackageTag::from_str(alloc, tag)?));
+    }
+    let Some((first, others)) = requirements.split_first() else {
+        return Ok(Common::Nothing);
+    };
+    match first.common_version_with_all(alloc, others)? {
+        Some(least) => Ok(Common::Least(least)),
+        None => Ok(Common::Nothing),
+    }
+}
+
+/// The least version that suits all of the texts, by the reader of this grammar.
+///
+/// It is the least that every requirement matches, of those that a text stands for; a tag among them is told, once all are
+/// read. Otherwise the first text that is refused is told, or want of memory.
+pub fn common_version(
+    alloc: Global,
+    flavour: Flavour,
+    texts: &[&str],
+) -> Result<Common, RefusedWord>
+    ensures answer { IfOk result (IsCommonOfTexts flavour (texts_of texts.now)) }
+    ensures refused { IfErr result (IsRefusalAt flavour (texts_of texts.now)) }
+{
+    let requirements = requirements(alloc, flavour, texts)?;
+    Ok(common_of(alloc, requirements.as_slice())?)
+}
+
+// What the new requirement allows beside the old one.
+fn within_of(alloc: Global, new: &VersionReq, old: &VersionReq) -> Result<Within, AllocError>
+    ensures { IfOk result (IsWithin new.now old.now) }
+{
+    if let Some(tag) = new.tag().or(old.tag()) {
+        return Ok(Within::Tag(PackageTag::from_str(alloc, tag)?));
+    }
+    match new.version_outside(alloc, old)? {
+        Some(first) => Ok(Within::No(first)),
+        None => Ok(Within::Yes),
+    }
+}
+
+/// What the new text allows beside the old one, by the reader of this grammar.
+///
+/// It is whether the old requirement matches each version that a text stands for and the new one matches, and if not, the
+/// least that it doesn't; a tag is told, once both are read. Otherwise the first text that is refused is told, the new one
+/// at place 0 and the old one at place 1, or want of memory.
+pub fn containment(
+    alloc: Global,
+    flavour: Flavour,
+    new: &str,
+    old: &str,
+) -> Result<Within, RefusedWord>
+    ensures answer { IfOk result (IsWithinOfTexts flavour new.now old.now) }
+    ensures refused { IfErr result (IsRefusalAt flavour (new.now ∷ old.now ∷ [])) }
+{
+    let new = requirement_at(alloc, flavour, new, 0)?;
+    let old = requirement_at(alloc, flavour, old, 1)?;
+    Ok(within_of(alloc, &new, &old)?)
+}

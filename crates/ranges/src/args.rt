@@ -1,0 +1,172 @@
+//! The words that the program takes, as the crate `clap` reads them.
+
+use clap::{Arg, ArgAction, ArgMatches, Command};
+use deno_semver::PreRelease;
+use semver_req::common::values::Flavour;
+use std::alloc::{AllocError, Global};
+
+const VERSION: &str = "0.1.0";
+
+const READERS: [&str; 3] = ["npm", "normal", "strict"];
+
+/// What the options of a command ask for.
+#[derive(Clone, Copy)]
+pub struct Options {
+    /// The grammar of the reader.
+    pub flavour: Flavour,
+    pub pre_release: PreRelease,
+    /// Whether the answer is JSON.
+    pub json: bool,
+    /// Whether the greatest version comes first.
+    pub reverse: bool,
+}
+
+impl Options {
+    /// The options of a command; those that it hasn't are as where they aren't given.
+    pub fn of(matches: &ArgMatches<'_>) -> Options {
+        let flavour = match matches.get_str("reader") {
+            Some("normal") => Flavour::Normal,
+            Some("strict") => Flavour::Specifier,
+            _ => Flavour::Npm,
+        };
+        let pre_release = if matches.get_flag("pre") {
+            PreRelease::Admitted
+        } else {
+            PreRelease::Restricted
+        };
+        Options {
+            flavour,
+            pre_release,
+            json: matches.get_flag("json"),
+            reverse: matches.get_flag("reverse"),
+        }
+    }
+}
+
+fn flag<'a>(alloc: Global, name: &'a str, help: &'a str) -> Arg<'a> {
+    Arg::new(alloc, name)
+        .long(name)
+        .action(ArgAction::SetTrue)
+        .help(help)
+}
+
+fn word<'a>(alloc: Global, name: &'a str, help: &'a str) -> Arg<'a> {
+    Arg::new(alloc, name).required(true).help(help)
+}
+
+fn versions<'a>(alloc: Global) -> Arg<'a> {
+    Arg::new(alloc, "VERSION")
+        .num_args(0..)
+        .action(ArgAction::Append)
+        .help("A version; where none is given they are read from standard input, one a line")
+}
+
+fn command<'a>(alloc: Global, name: &'a str, about: &'a str) -> Result<Command<'a>, AllocError> {
+    Command::new(alloc, name)
+        .about(about)
+        .version(VERSION)
+        .arg(flag(alloc, "json", "Print JSON"))
+}
+
+// A command that reads requirements.
+fn asking<'a>(alloc: Global, name: &'a str, about: &'a str) -> Result<Command<'a>, AllocError> {
+    let reader = Arg::new(alloc, "reader")
+        .long("reader")
+        .value_name("READER")
+        .value_parser(READERS.as_slice())
+        .default_value("npm")
+        .help("The reader of requirements");
+    command(alloc, name, about)?.arg(reader)
+}
+
+// A command that matches versions with a requirement.
+fn matching<'a>(alloc: Global, name: &'a str, about: &'a str) -> Result<Command<'a>, AllocError> {
+    asking(alloc, name, about)?
+        .arg(flag(
+            alloc,
+            "pre",
+            "Let every pre-release between the bounds match",
+        ))?
+        .arg(word(alloc, "REQ", "The requirement"))?
+        .arg(versions(alloc))
+}
+
+fn explain<'a>(alloc: Global) -> Result<Command<'a>, AllocError> {
+    asking(
+        alloc,
+        "explain",
+        "Tell what the reader makes of a requirement",
+    )?
+    .arg(word(alloc, "REQ", "The requirement"))
+}
+
+fn sort<'a>(alloc: Global) -> Result<Command<'a>, AllocError> {
+    command(
+        alloc,
+        "sort",
+        "Print the versions in the order of precedence",
+    )?
+    .arg(flag(alloc, "reverse", "Print the greatest version first"))?
+    .arg(versions(alloc))
+}
+
+fn common<'a>(alloc: Global) -> Result<Command<'a>, AllocError> {
+    let requirements = word(alloc, "REQ", "The requirements, two or more")
+        .num_args(2..)
+        .action(ArgAction::Append);
+    asking(
+        alloc,
+        "common",
+        "Print the least version that suits all requirements",
+    )?
+    .arg(requirements)
+}
+
+fn within<'a>(alloc: Global) -> Result<Command<'a>, AllocError> {
+    asking(
+        alloc,
+        "within",
+        "Tell whether OLD allows each version that NEW allows",
+    )?
+    .arg(word(alloc, "NEW", "The new requirement"))?
+    .arg(word(alloc, "OLD", "The old requirement"))
+}
+
+fn package<'a>(alloc: Global) -> Result<Command<'a>, AllocError> {
+    asking(
+        alloc,
+        "package",
+        "Print the parts of a requirement of a package",
+    )?
+    .arg(word(alloc, "TEXT", "The text, as in @scope/name@^1.2"))
+}
+
+fn reference<'a>(alloc: Global) -> Result<Command<'a>, AllocError> {
+    command(
+        alloc,
+        "reference",
+        "Print the parts of a reference to a package",
+    )?
+    .arg(word(alloc, "TEXT", "The text, as in jsr:@scope/name@1/mod.ts"))
+}
+
+/// The program's commands.
+pub fn program<'a>(alloc: Global) -> Result<Command<'a>, AllocError> {
+    Command::new(alloc, "ranges")
+        .about("What requirements of npm and JSR packages mean, and which versions suit them")
+        .version(VERSION)
+        .subcommand_required(true)
+        .arg_required_else_help(true)
+        .subcommand(explain(alloc)?)?
+        .subcommand(matching(
+            alloc,
+            "filter",
+            "Print the versions that match, in the order given",
+        )?)?
+        .subcommand(matching(alloc, "best", "Print the greatest version that matches")?)?
+        .subcommand(sort(alloc)?)?
+        .subcommand(common(alloc)?)?
+        .subcommand(within(alloc)?)?
+        .subcommand(package(alloc)?)?
+        .subcommand(reference(alloc)?)
+}

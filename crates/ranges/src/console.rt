@@ -1,0 +1,137 @@
+//! Where the program writes, and how it ends.
+
+use serde_json::Value;
+use std::alloc::{AllocError, AllocFailed, Global};
+use std::io;
+use std::io::{ErrorKind, Write};
+
+/// How the program ends.
+#[derive(Clone, Copy, PartialEq, Eq)]
+pub enum Status {
+    /// What was asked, or `yes`.
+    Answered,
+    /// `no` or `none`, or no version matches.
+    Nothing,
+    /// The requirement is a tag.
+    Tag,
+    /// A word or a line is refused.
+    Refused,
+    /// The words are none that the program knows.
+    Usage,
+    OutOfMemory,
+    /// Standard input can't be read, or standard output can't be written.
+    Broken,
+}
+
+impl Status {
+    pub fn code(self) -> u8 {
+        match self {
+            Status::Answered => 0,
+            Status::Nothing => 1,
+            Status::Tag => 2,
+            Status::Refused => 3,
+            Status::Usage => 4,
+            Status::OutOfMemory => 5,
+            Status::Broken => 6,
+        }
+    }
+}
+
+/// Why the program stops early.
+#[derive(Clone, Copy)]
+pub enum Stop {
+    OutOfMemory,
+    /// Standard input can't be read.
+    Unread,
+    /// Standard output can't be written.
+    Unwritten,
+    /// A word is no UTF-8.
+    NoText,
+}
+
+impl Stop {
+    pub fn status(self) -> Status {
+        match self {
+            Stop::OutOfMemory => Status::OutOfMemory,
+            Stop::Unread | Stop::Unwritten => Status::Broken,
+            Stop::NoText => Status::Usage,
+        }
+    }
+
+    /// What is told of it; nothing where output can't be written, as when a pipe closes.
+    pub fn message(self) -> Option<&'static str> {
+        match self {
+            Stop::OutOfMemory => Some("out of memory"),
+            Stop::Unread => Some("standard input can't be read"),
+            Stop::Unwritten => None,
+            Stop::NoText => Some("a word is no UTF-8"),
+        }
+    }
+
+    /// Why the words can't be taken.
+    pub fn of_words(error: io::Error) -> Stop {
+        match error.kind() {
+            ErrorKind::OutOfMemory => Stop::OutOfMemory,
+            _ => Stop::NoText,
+        }
+    }
+
+    /// Why standard input isn't read on.
+    pub fn of_reading(error: io::Error) -> Stop {
+        match error.kind() {
+            ErrorKind::OutOfMemory => Stop::OutOfMemory,
+            _ => Stop::Unread,
+        }
+    }
+}
+
+impl From<AllocError> for Stop {
+    fn from(_error: AllocError) -> Stop {
+        Stop::OutOfMemory
+    }
+}
+
+impl<T: Drop> From<AllocFailed<T>> for Stop {
+    fn from(_error: AllocFailed<T>) -> Stop {
+        Stop::OutOfMemory
+    }
+}
+
+impl From<io::Error> for Stop {
+    fn from(error: io::Error) -> Stop {
+        match error.kind() {
+            ErrorKind::OutOfMemory => Stop::OutOfMemory,
+            _ => Stop::Unwritten,
+        }
+    }
+}
+
+/// Where answers and refusals are written.
+#[derive(Drop)]
+pub struct Console<O, E> {
+    pub alloc: Global,
+    pub out: O,
+    pub err: E,
+}
+
+impl<O: Write, E: Write> Console<O, E> {
+    /// Prints one JSON value on a line.
+    pub fn json(&mut self, value: &Value) -> Result<(), Stop> {
+        let text = value.to_string(self.alloc)?;
+        Ok(writeln!(self.out, "{text}")?)
+    }
+
+    /// Tells that a word is refused: what kind of word it is, the word, and what is wrong.
+    pub fn refuse(&mut self, kind: &str, word: &str, message: &str) -> Status {
+        let _ = writeln!(self.err, "ranges: {kind} \"{word}\": {message}");
+        Status::Refused
+    }
+
+    /// Tells that a line of standard input is refused.
+    pub fn refuse_line(&mut self, number: u64, line: &str, message: &str) {
+        let _ = writeln!(
+            self.err,
+            "ranges: line {number}: version \"{line}\": {message}"
+        );
+    }
+}

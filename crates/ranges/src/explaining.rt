@@ -1,0 +1,230 @@
+//! `ranges explain`: a requirement in words.
+
+use crate::args::Options;
+use crate::console::{Console, Status, Stop};
+use clap::ArgMatches;
+use deno_semver::{RangeBound, Version, VersionBound, VersionBoundKind, VersionRange};
+use range_answers::explained::{Explanation, Meaning, Piece, explain};
+use serde_json::{Value, json};
+use std::alloc::{AllocError, Global};
+use std::fmt;
+use std::io::Write;
+
+// The bounds of a range in words, as `from 1.2.0 to below 2.0.0`.
+#[derive(Clone, Copy)]
+struct Bounds<'a>(&'a VersionRange);
+
+impl fmt::Display for Bounds<'_> {
+    fn fmt<W: fmt::Write>(&self, f: &mut fmt::Formatter<W>) -> fmt::Result {
+        match (&self.0.start, &self.0.end) {
+            (RangeBound::Unbounded, RangeBound::Unbounded) => f.write_str("any version"),
+            (RangeBound::Unbounded, RangeBound::Version(end)) => match end.kind {
+                VersionBoundKind::Inclusive => write!(f, "up to {}", end.version),
+                VersionBoundKind::Exclusive => write!(f, "below {}", end.version),
+            },
+            (RangeBound::Version(start), RangeBound::Unbounded) => match start.kind {
+                VersionBoundKind::Inclusive => write!(f, "from {} on", start.version),
+                VersionBoundKind::Exclusive => write!(f, "above {}", start.version),
+            },
+            (RangeBound::Version(start), RangeBound::Version(end)) => between(f, start, end),
+        }
+    }
+}
+
+// Two bounds in words.
+fn between<W: fmt::Write>(
+    f: &mut fmt::Formatter<W>,
+    start: &VersionBound,
+    end: &VersionBound,
+) -> fmt::Result {
+    let (from, to) = (&start.version, &end.version);
+    match (start.kind, end.kind) {
+        (VersionBoundKind::Inclusive, VersionBoundKind::Inclusive) => write!(
+            f,
+            "from {from} to {to}"
+        ),
+        (VersionBoundKind::Inclusive, VersionBoundKind::Exclusive) => {
+            write!(f, "from {from} to below {to}")
+        }
+        (VersionBoundKind::Exclusive, VersionBoundKind::Inclusive) => write!(
+            f,
+            "above {from} up to {to}"
+        ),
+        (VersionBoundKind::Exclusive, VersionBoundKind::Exclusive) => {
+            write!(f, "above {from} and below {to}")
+        }
+    }
+}
+
+// The version at which the range both starts and ends.
+fn only_version(range: &VersionRange) -> Option<&Version> {
+    match (&range.start, &range.end) {
+        (RangeBound::Version(start), RangeBound::Version(end)) if start.version == end.version => {
+            Some(&start.version)
+        }
+        _ => None,
+    }
+}
+
+// The version of a bound that is a pre-release.
+fn pre_release_of(bound: &RangeBound) -> Option<&Version> {
+    match bound {
+        RangeBound::Version(bound) if !bound.version.pre.is_empty() => Some(&bound.version),
+        _ => None,
+    }
+}
+
+// The versions of whose three numbers the range admits pre-releases; not the same numbers twice.
+fn admitted(range: &VersionRange) -> (Option<&Version>, Option<&Version>) {
+    let first = pre_release_of(&range.start);
+    let second = pre_release_of(&range.end);
+    match (first, second) {
+        (Some(_), Some(version)) if range.start.has_pre_with_exact_major_minor_patch(version) => {
+            (first, None)
+        }
+        (None, second) => (second, None),
+        both => both,
+    }
+}
+
+// The three numbers of a version.
+#[derive(Clone, Copy)]
+struct Numbers<'a>(&'a Version);
+
+impl fmt::Display for Numbers<'_> {
+    fn fmt<W: fmt::Write>(&self, f: &mut fmt::Formatter<W>) -> fmt::Result {
+        write!(f, "{}.{}.{}", self.0.major, self.0.minor, self.0.patch)
+    }
+}
+
+// Which pre-releases a range admits, in words.
+#[derive(Clone, Copy)]
+struct PreReleases<'a>(&'a VersionRange);
+
+impl fmt::Display for PreReleases<'_> {
+    fn fmt<W: fmt::Write>(&self, f: &mut fmt::Formatter<W>) -> fmt::Result {
+        match admitted(self.0) {
+            (Some(first), Some(second)) => {
+                let (first, second) = (Numbers(first), Numbers(second));
+                write!(f, "of pre-releases only those of {first} and {second}")
+            }
+            (Some(only), None) => write!(f, "of pre-releases only those of {}", Numbers(only)),
+            (None, _) => f.write_str("no pre-releases"),
+        }
+    }
+}
+
+// A piece in words.
+#[derive(Clone, Copy)]
+struct Line<'a>(&'a Piece);
+
+impl fmt::Display for Line<'_> {
+    fn fmt<W: fmt::Write>(&self, f: &mut fmt::Formatter<W>) -> fmt::Result {
+        let text = self.0.text.as_str().trim();
+        write!(f, "\"{text}\": ")?;
+        match &self.0.meaning {
+            Meaning::Range {
+                range,
+                least: Some(least),
+            } => {
+                if let Some(only) = only_version(range) {
+                    return write!(f, "{only} alone");
+                }
+                let (bounds, admitted) = (Bounds(range), PreReleases(range));
+                write!(f, "{bounds}; {admitted}; the least is {least}")
+            }
+            Meaning::Range { least: None, .. } => f.write_str("no version matches"),
+            Meaning::LeftOut(refusal) => write!(f, "left out: {}", refusal.message()),
+        }
+    }
+}
+
+fn bound_json(alloc: Global, bound: &RangeBound) -> Result<Value, AllocError> {
+    let RangeBound::Version(bound) = bound else {
+        return Ok(Value::Null);
+    };
+    let version = format!(in alloc; "{}", bound.version)?;
+    let inclusive = bound.kind == VersionBoundKind::Inclusive;
+    json!(in alloc; {"version": version, "inclusive": inclusive})
+}
+
+fn numbers_json(alloc: Global, range: &VersionRange) -> Result<Value, AllocError> {
+    let (first, second) = admitted(range);
+    let mut items = Vec::new(alloc);
+    for version in [first, second].into_iter().flatten() {
+        items.push(Value::String(format!(in alloc; "{}", Numbers(version))?))?;
+    }
+    Ok(Value::Array(items))
+}
+
+fn least_json(alloc: Global, least: &Option<Version>) -> Result<Value, AllocError> {
+    match least {
+        Some(version) => Ok(Value::String(format!(in alloc; "{version}")?)),
+        None => Ok(Value::Null),
+    }
+}
+
+fn piece_json(alloc: Global, piece: &Piece) -> Result<Value, AllocError> {
+    let text = piece.text.as_str().trim();
+    match &piece.meaning {
+        Meaning::Range { range, least } => {
+            let start = bound_json(alloc, &range.start)?;
+            let end = bound_json(alloc, &range.end)?;
+            let numbers = numbers_json(alloc, range)?;
+            let least = least_json(alloc, least)?;
+            json!(in alloc; {
+                "text": text, "start": start, "end": end, "pre-releases": numbers, "least": least
+            })
+        }
+        Meaning::LeftOut(refusal) => json!(in alloc; {"text": text, "refused": refusal.message()}),
+    }
+}
+
+fn pieces_json(alloc: Global, pieces: &[Piece], normal: &str) -> Result<Value, AllocError> {
+    let mut items = Vec::new(alloc);
+    for piece in pieces {
+        items.push(piece_json(alloc, piece)?)?;
+    }
+    let items = Value::Array(items);
+    json!(in alloc; {"alternatives": items, "normal": normal})
+}
+
+// Tells that a requirement is a tag.
+fn tell_tag<O: Write, E: Write>(
+    console: &mut Console<O, E>,
+    options: Options,
+    tag: &str,
+) -> Result<Status, Stop> {
+    if !options.json {
+        writeln!(
+            console.out,
+            "\"{tag}\": a tag, the name of a version that a registry keeps"
+        )?;
+        return Ok(Status::Tag);
+    }
+    console.tag(options, tag)
+}
+
+/// `ranges explain REQ`: the tag that a requirement is; or each alternative on a line, and the normal text.
+pub fn tell<O: Write, E: Write>(
+    console: &mut Console<O, E>,
+    matches: &ArgMatches<'_>,
+    options: Options,
+) -> Result<Status, Stop> {
+    let word = matches.get_str("REQ").unwrap_or("");
+    let (pieces, normal) = match explain(console.alloc, options.flavour, word) {
+        Ok(Explanation::Tag(tag)) => return tell_tag(console, options, tag.as_str()),
+        Ok(Explanation::Ranges { pieces, normal }) => (pieces, normal),
+        Err(failure) => return console.refuse_requirement(word, &failure),
+    };
+    if options.json {
+        let json = pieces_json(console.alloc, pieces.as_slice(), normal.as_str())?;
+        console.json(&json)?;
+        return Ok(Status::Answered);
+    }
+    for piece in &pieces {
+        writeln!(console.out, "{}", Line(piece))?;
+    }
+    writeln!(console.out, "normal text: {normal}")?;
+    Ok(Status::Answered)
+}

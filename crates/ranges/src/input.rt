@@ -1,0 +1,101 @@
+//! The versions of a command: its words, or the lines of standard input.
+
+use crate::console::{Console, Stop};
+use deno_semver::ParseFailure;
+use std::io::{BufRead, BufReader, Write};
+
+/// Where a text stands that may be a version.
+#[derive(Clone, Copy)]
+pub enum Place {
+    /// It is a word of the command.
+    Word,
+    /// It is the line of standard input with this number, counted from 1.
+    Line(u64),
+}
+
+impl Place {
+    /// Tells that the text is refused.
+    fn refuse<O: Write, E: Write>(self, console: &mut Console<O, E>, text: &str, message: &str) {
+        match self {
+            Place::Word => {
+                console.refuse("version", text, message);
+            }
+            Place::Line(number) => console.refuse_line(number, text, message),
+        }
+    }
+}
+
+/// What is done with each version.
+pub trait Take {
+    /// Takes a text; a failure says why it is no version.
+    fn take<O: Write, E: Write>(
+        &mut self,
+        console: &mut Console<O, E>,
+        text: &str,
+    ) -> Result<Result<(), ParseFailure>, Stop>;
+}
+
+// Takes a text, and tells whether it is a version; a refusal is told.
+fn take_one<O: Write, E: Write, T: Take>(
+    console: &mut Console<O, E>,
+    taker: &mut T,
+    text: &str,
+    place: Place,
+) -> Result<bool, Stop> {
+    match taker.take(console, text)? {
+        Ok(()) => Ok(true),
+        Err(failure) if failure.is_memory() => Err(Stop::OutOfMemory),
+        Err(failure) => {
+            place.refuse(console, text, failure.message());
+            Ok(false)
+        }
+    }
+}
+
+// Takes the lines of standard input, which are read through a buffer, and tells whether each is a version.
+fn take_lines<R: Input, O: Write, E: Write, T: Take>(
+    rt: &R,
+    console: &mut Console<O, E>,
+    taker: &mut T,
+) -> Result<bool, Stop> {
+    let mut reader = BufReader::new(console.alloc, rt.reader())?;
+    let mut line = Vec::new(console.alloc);
+    let mut all = true;
+    for number in 1..u64::MAX {
+        line.clear();
+        let taken = reader
+            .read_until(b'\n', &mut line)
+            .map_err(Stop::of_reading)?;
+        if taken == 0 {
+            break;
+        }
+        match str::from_utf8(line.as_slice()) {
+            Ok(text) => {
+                let text = text.trim_end_matches(['\n', '\r'].as_slice());
+                all &= take_one(console, taker, text, Place::Line(number))?;
+            }
+            Err(_) => {
+                console.refuse_line(number, "", "The line is no UTF-8.");
+                all = false;
+            }
+        }
+    }
+    Ok(all)
+}
+
+/// Takes each of the words, or each line of standard input where there are none, and tells whether each is a version.
+pub fn take_all<R: Input, O: Write, E: Write, T: Take>(
+    rt: &R,
+    console: &mut Console<O, E>,
+    words: Option<&[&str]>,
+    taker: &mut T,
+) -> Result<bool, Stop> {
+    let Some(words) = words else {
+        return take_lines(rt, console, taker);
+    };
+    let mut all = true;
+    for word in words {
+        all &= take_one(console, taker, word, Place::Word)?;
+    }
+    Ok(all)
+}

@@ -1,0 +1,110 @@
+//! `ranges` tells what requirements of versions mean, and which versions suit them, at a terminal and in scripts.
+//!
+//! Its commands are `explain`, `filter`, `best`, `sort`, `common`, `within`, `package` and `reference`; `ranges --help` and
+//! `ranges COMMAND --help` tell the words of each, and `docs/RANGES.md` what each prints.
+//!
+//! The status is 0 for `yes` and for what was asked, 1 for `no` and `none` and where no version matches, 2 for a tag, 3 where
+//! a word or a line is refused, 4 for words that the program doesn't know, 5 for want of memory, and 6 where standard input
+//! can't be read or standard output can't be written.
+#![tactic(auto)]
+
+mod answers;
+mod args;
+mod console;
+mod explaining;
+mod input;
+mod listed;
+mod packaged;
+
+use args::{Options, program};
+use clap::error::ErrorKind as Mistake;
+use clap::{ArgMatches, Error};
+use console::{Console, Status, Stop};
+use std::env::Env;
+use std::io::{BufWriter, Write};
+use std::process::ExitCode;
+use std::rt::Runtime;
+use std::{env, io};
+
+// Answers the command that was given.
+fn answer<R: Input, O: Write, E: Write>(
+    rt: &R,
+    console: &mut Console<O, E>,
+    matches: &ArgMatches<'_>,
+) -> Result<Status, Stop> {
+    let Some((name, matches)) = matches.subcommand() else {
+        return Ok(Status::Usage);
+    };
+    let options = Options::of(matches);
+    match name {
+        "explain" => explaining::tell(console, matches, options),
+        "filter" => listed::filter(rt, console, matches, options),
+        "best" => listed::best(rt, console, matches, options),
+        "sort" => listed::sort(rt, console, matches, options),
+        "common" => answers::common(console, matches, options),
+        "within" => answers::within(console, matches, options),
+        "package" => packaged::tell_package(console, matches, options),
+        "reference" => packaged::tell_reference(console, matches, options),
+        _ => Ok(Status::Usage),
+    }
+}
+
+// Prints help or the version, or what is wrong with the words.
+fn print_mistake<R: Print + Eprint>(rt: &R, mistake: &Error) -> Status {
+    let status = match mistake.kind() {
+        Mistake::DisplayHelp | Mistake::DisplayVersion => Status::Answered,
+        Mistake::OutOfMemory => Status::OutOfMemory,
+        _ => Status::Usage,
+    };
+    match mistake.print(rt) {
+        Ok(()) => status,
+        Err(_) if mistake.use_stderr() => status,
+        Err(_) => Status::Broken,
+    }
+}
+
+fn words<R: Env + AllocGlobal>(rt: &R) -> io::Result<Vec<String>> {
+    let mut words = Vec::new(rt.alloc());
+    for word in env::args(rt)? {
+        words.push(word)?;
+    }
+    Ok(words)
+}
+
+// Answers the words, and writes out what is still in the buffer.
+fn run<R: Runtime + AllocGlobal, E: Write + Drop>(
+    rt: &R,
+    err: E,
+    words: &[String],
+) -> Result<Status, Stop> {
+    let alloc = rt.alloc();
+    let matches = match program(alloc)?.try_get_matches_from(words) {
+        Ok(matches) => matches,
+        Err(mistake) => return Ok(print_mistake(rt, &mistake)),
+    };
+    let out = BufWriter::new(alloc, io::writer(rt))?;
+    let mut console = Console { alloc, out, err };
+    let status = answer(rt, &mut console, &matches)?;
+    console.out.flush()?;
+    Ok(status)
+}
+
+// Tells why the program stops early.
+fn stopped<E: Write>(err: &mut E, stop: Stop) -> Status {
+    if let Some(message) = stop.message() {
+        let _ = writeln!(err, "ranges: {message}");
+    }
+    stop.status()
+}
+
+fn main(rt: HostRuntime) -> ExitCode {
+    let outcome = match words(&rt) {
+        Ok(words) => run(&rt, rt.stderr(), words.as_slice()),
+        Err(error) => Err(Stop::of_words(error)),
+    };
+    let status = match outcome {
+        Ok(status) => status,
+        Err(stop) => stopped(&mut rt.stderr(), stop),
+    };
+    ExitCode::from(status.code())
+}

@@ -1,0 +1,96 @@
+#!/usr/bin/env python3
+"""Holds the program ranges to its rows, and to the examples of the pages that show it. Run at the top of the project, after
+rt ci (or after rt run in crates/ranges), which builds it.
+
+    tools/ranges/check.py
+
+A row of rows.jsonl is a JSON object: the words after the program's name, standard input where there is one, standard output,
+standard error and the status; absent texts are empty. An example is what stands after `$ ` in a console block of a page, where
+`ranges` is in it, with the lines that it prints. The last line counts; the status is 1 where something differs."""
+import json, os, pathlib, re, subprocess, sys
+
+TOP = pathlib.Path(__file__).resolve().parents[2]
+HERE = pathlib.Path(__file__).resolve().parent
+PROGRAM = TOP / "crates/ranges/out/ranges"
+PAGES = ("README.md", "docs/RANGES.md")
+# How much more memory, in kilobytes, many lines may take than few.
+SLACK = 1024
+FEW, MANY = 50_000, 400_000
+
+
+def run(words, given=""):
+    ran = subprocess.run([str(PROGRAM), *words], input=given.encode(), capture_output=True, timeout=60)
+    return ran.stdout.decode(), ran.stderr.decode(), ran.returncode
+
+
+def rows():
+    """The rows that differ, and how many there are."""
+    lines = (HERE / "rows.jsonl").read_text().splitlines()
+    for number, line in enumerate(lines, 1):
+        row = json.loads(line)
+        wanted = (row.get("stdout", ""), row.get("stderr", ""), row["status"])
+        found = run(row["words"], row.get("stdin", ""))
+        yield None if found == wanted else f"rows.jsonl:{number}: {row['words']}: wanted {wanted}, found {found}"
+
+
+def examples(page):
+    """The command lines of a page and what it says they print."""
+    for block in re.findall(r"^```console\n(.*?)^```$", page, re.S | re.M):
+        for part in re.split(r"^\$ ", block, flags=re.M)[1:]:
+            command, _, printed = part.partition("\n")
+            if re.search(r"(^|\| )ranges ", command):
+                yield command, printed
+
+
+def pages():
+    path = f"{PROGRAM.parent}:{os.environ['PATH']}"
+    for name in PAGES:
+        for command, printed in examples((TOP / name).read_text()):
+            ran = subprocess.run(["bash", "-c", command], stdout=subprocess.PIPE, stderr=subprocess.STDOUT, env={"PATH": path}, timeout=60)
+            found = ran.stdout.decode()
+            yield None if found == printed else f"{name}: {command}: wanted {printed!r}, found {found!r}"
+
+
+def peak(count):
+    """The most memory, in kilobytes, that filtering so many lines takes."""
+    child = subprocess.Popen([str(PROGRAM), "filter", "^1.2"], stdin=subprocess.PIPE, stdout=subprocess.DEVNULL)
+    for n in range(count):
+        child.stdin.write(f"{n % 7}.{n % 11}.{n}\n".encode())
+    child.stdin.flush()
+    status = pathlib.Path(f"/proc/{child.pid}/status").read_text()
+    child.stdin.close()
+    child.wait(60)
+    return int(re.search(r"VmHWM:\s+(\d+) kB", status)[1])
+
+
+def memory():
+    few, many = peak(FEW), peak(MANY)
+    yield None if many <= few + SLACK else f"{FEW} lines take {few} KB, {MANY} take {many}"
+
+
+def closed():
+    """Output through a pipe that closes ends with no word."""
+    lines = "1.0.0\n" * MANY
+    child = subprocess.Popen([str(PROGRAM), "filter", "*"], stdin=subprocess.PIPE, stdout=subprocess.PIPE, stderr=subprocess.PIPE)
+    child.stdout.close()
+    try:
+        child.stdin.write(lines.encode())
+        child.stdin.close()
+    except BrokenPipeError:
+        pass
+    said = child.stderr.read().decode()
+    yield None if said == "" else f"a closed pipe is told of: {said!r}"
+    child.wait(60)
+
+
+def main():
+    if not PROGRAM.is_file():
+        sys.exit(f"{PROGRAM} isn't built: run rt ci first")
+    outcomes = [outcome for check in (rows, pages, memory, closed) for outcome in check()]
+    wrong = [outcome for outcome in outcomes if outcome]
+    print(*wrong, sep="\n", end="\n" if wrong else "")
+    print(f"{len(outcomes) - len(wrong)} of {len(outcomes)} hold")
+    sys.exit(1 if wrong else 0)
+
+
+main()
