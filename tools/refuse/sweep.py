@@ -112,12 +112,13 @@ def rows_of(table):
 
 
 def chosen(lines):
-    """Rows of one call: some in even steps, and the first one for each of the texts."""
+    """Rows of one call: some in even steps; for each of the texts the first one that holds it, by npm's reader where there is such
+    a row; and so the first one with alternatives."""
     step = max(1, (len(lines) - 1) // (ROWS - 1))
     picked = [lines[at] for at in sorted({*range(0, len(lines), step)} | {len(lines) - 1})][: ROWS + 1]
-    for text in TEXTS:
-        words = json.dumps(text, ensure_ascii=False).encode()
-        picked += [line for line in lines if words in line][:1]
+    by_npm = sorted(lines, key=lambda line: b'"npm"' not in line)
+    for words in (*(json.dumps(text, ensure_ascii=False).encode() for text in TEXTS), b"||"):
+        picked += [line for line in by_npm if words in line][:1]
     return list(dict.fromkeys(picked))
 
 
