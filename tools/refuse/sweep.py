@@ -25,9 +25,14 @@ TEXTS = (
 ITEMS = 1000
 # Calls on texts that stand in the value, which never want memory.
 NEEDS_NONE = ("in-value",)
-# Calls that are asked with ample memory alone, since they answer whether memory was wanting.
-NOT_SWEPT = ("ample",)
+# What a call says where it wants memory. One answers whether a reader wanted any; it is swept with the texts alone, with nothing
+# behind them.
+WANTING = b"out of memory"
+WANTS = {"ample": b"no"}
+ALONE = b',"0"],'
 SHORT = 2955
+# How many bytes the longest argument has that npmver gets.
+LONG = 10_000_000
 
 
 def built(name):
@@ -51,6 +56,7 @@ class Run:
         env = {"PATH": "/usr/bin:/bin", "LANG": "C.UTF-8"}
         if preload:
             env |= {"LD_PRELOAD": preload, "REFUSE_AT": str(at), "REFUSE_TOLD": str(write), "REFUSE_ALL": str(int(is_all))}
+            env |= {"LONG_WORD": str(LONG)} if "LONG" in words else {}
         ran = subprocess.run(words, input=given, capture_output=True, env=env, pass_fds=[write], timeout=60)
         os.close(write)
         with os.fdopen(read, "rb") as it:
@@ -83,9 +89,9 @@ class Sweep:
         return self
 
 
-def row_is_right(line, may_want):
+def row_is_right(line, may_want, wanting):
     """The right answer; or want of memory, of the call (the row differs, with that answer) or of the program (status 5)."""
-    wants = b"line 1: " + line + b"\n    answered [\"out of memory\"]\n"
+    wants = b"line 1: " + line + b"\n    answered [\"" + wanting + b"\"]\n"
 
     def is_right(ample, ran):
         if ran.refused == 0 or (ran.status, ran.out) == (0, ample.out):
@@ -143,7 +149,7 @@ def status_of(words, out, err):
         return subprocess.run(words, stdin=subprocess.DEVNULL, stdout=to, stderr=told, timeout=60).returncode
 
 
-def streams():
+def streams(preload):
     """A standard output that can't be written gives status 6 wherever something is printed there; a standard error that can't be
     written changes no status; arguments that are no UTF-8, many or long get a line and a status."""
     npmver, wrong, asked = built("npmver"), [], 0
@@ -154,11 +160,13 @@ def streams():
         if full != (6 if ample.out else ample.status) or untold != ample.status:
             wrong.append(f"npmver {words}: statuses {full} and {untold} where a stream can't be written, {ample.status} else")
         asked += 2
-    long = "1" * 120_000
-    odd = [["fits", "npm", b"\xff", "1.0.0"], ["fits", "npm", "1", b"1.0.0\xfe"], ["fits", "npm", long, "1.0.0"], ["normal", "npm", long]]
+    odd = [["fits", "npm", b"\xff", "1.0.0"], ["fits", "npm", "1", b"1.0.0\xfe"]]
     odd += [["best", "npm", "1", *["1.0.0"] * 100_000], ["meet", *["1"] * 100_000]]
+    for reader in ("npm", "normal", "strict"):
+        odd += [["fits", reader, "LONG", "1.0.0"], ["fits", reader, "1", "LONG"], ["normal", reader, "LONG"]]
+    odd += [["best", "npm", "LONG", "1.0.0"], ["best", "npm", "1", "1.0.0", "LONG"], ["meet", "LONG", "1"], ["meet", "1", "LONG"], ["LONG"]]
     for words in odd:
-        ran = Run([npmver, *words], b"")
+        ran = Run([npmver, *words], b"", preload)
         asked += 1
         if ran.status not in (0, 1, 2, 3, 4) or (ran.out + ran.err).count(b"\n") != 1:
             wrong.append(f"npmver {str(words)[:60]}: status {ran.status}, {(ran.out + ran.err)[:80]!r}")
@@ -187,18 +195,19 @@ def main():
     rows = rows_of(table)
     sweeps = []
     for call, lines in rows.items():
-        for line in [] if call in NOT_SWEPT else chosen(lines):
-            sweeps.append(Sweep(f"{call}: {line.decode()}", [built("conformance")], line, row_is_right(line, call not in NEEDS_NONE)))
+        for line in chosen([line for line in lines if call not in WANTS or ALONE in line]):
+            is_right = row_is_right(line, call not in NEEDS_NONE, WANTS.get(call, WANTING))
+            sweeps.append(Sweep(f"{call}: {line.decode()}", [built("conformance")], line, is_right))
     long = long_list()
-    sweeps.append(Sweep(f"the copy of a list of {ITEMS} items", [built("conformance")], long, row_is_right(long, True)))
+    sweeps.append(Sweep(f"the copy of a list of {ITEMS} items", [built("conformance")], long, row_is_right(long, True, WANTING)))
     for words in commands():
         sweeps.append(Sweep(f"npmver {words}", [built("npmver"), *words], b"", command_is_right))
     with tempfile.TemporaryDirectory() as room:
         preload = library(room)
         with ThreadPoolExecutor(os.cpu_count()) as pool:
             done = list(pool.map(lambda it: it.go(preload), sweeps))
+        asked, broken = streams(preload)
     texts, wrong = ample(rows)
-    asked, broken = streams()
     wrong += broken + [it for sweep in done for it in sweep.wrong]
     for it in wrong[:40]:
         print(it)
