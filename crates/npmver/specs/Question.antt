@@ -18,7 +18,8 @@ use Rattle.semver_base.specs.declared.range.PreRelease.TheVariants.{Restricted, 
 use Rattle.semver_base.specs.declared.version.Version.{Version}
 use Rattle.semver_req.specs.Outcome as outcome
 use Rattle.semver_req.specs.Outcome.{IsOutcome, Ranges, Tag, tree_ranges}
-use Rattle.semver_req.specs.Readers.{IsReading}
+use Rattle.semver_req.specs.PieceReading.{IsCutRefusal}
+use Rattle.semver_req.specs.Readers.{IsReading, Failure}
 use Rattle.semver_req.specs.Requirement.{inner_means, inner_means_with, inner_overlap, inner_text}
 use Rattle.semver_req.specs.declared.common.values.Flavour.{Flavour}
 use Rattle.semver_req.specs.declared.common.values.Flavour.TheVariants.{Npm, Normal, Specifier}
@@ -129,6 +130,12 @@ pub data IsMeeting (one other : List ℕ) : Told → Type 0 where
   overlap : (read others : RangeSetOrTag) → IsReading Npm one read → IsReading Npm other others → IsMeeting one other (told_answer (yes_or_no (inner_overlap read others)))
   no_one : IsOutcome Npm one outcome.Refused → IsMeeting one other Refused
   no_other : IsOutcome Npm other outcome.Refused → IsMeeting one other Refused
+
+-- of two requirements, which npm reads from the left, the failure of the first that is refused; or want of memory
+pub data IsFirstRefused (one other : List ℕ) : Failure → Type 0 where
+  memory_wanting : IsFirstRefused one other None
+  first_refused : {failure : Failure} → IsCutRefusal Npm (trim one) failure → IsFirstRefused one other failure
+  other_refused : {failure : Failure} (read : RangeSetOrTag) → IsReading Npm one read → IsCutRefusal Npm (trim other) failure → IsFirstRefused one other failure
 
 -- what is asked of the reader of a name; of no reader, the usage
 pub data ByReader (name : List ℕ) (Asked : Flavour → Told → Type 0) : Told → Type 0 where

@@ -14,9 +14,13 @@
 
 ghost use Rattle.std.specs.Prelude.{◌≡◌, ◌⊎◌, ◌∷◌, ◌<◌, ℕ, List, [], length, Err, IfErr, IfOk, MatchOption, None, map, string_bytes};
 ghost use Rattle.semver_base.specs.VersionText.{version_text};
+ghost use Rattle.std.specs.Str.{trim};
+ghost use Rattle.semver_req.specs.PieceReading.{IsCutRefusal};
 ghost use Rattle.semver_req.specs.Readers.{IsReaderAnswer};
-ghost use Rattle.npmver.specs.Question.{AreOnlyVersions, ByReader, IsAnswer, IsAsked, IsBest, IsChosen, IsFit, IsMeeting, IsNormal, IsReader, IsStatus, IsVersionsRefusal, NoReader, allowance_of, flavour_of, yes_or_no};
+ghost use Rattle.semver_req.specs.declared.common.values.Flavour.TheVariants.{Npm};
+ghost use Rattle.npmver.specs.Question.{AreOnlyVersions, ByReader, IsAnswer, IsAsked, IsBest, IsChosen, IsFirstRefused, IsFit, IsMeeting, IsNormal, IsReader, IsStatus, IsVersionsRefusal, NoReader, allowance_of, flavour_of, yes_or_no};
 ghost use Rattle.npmver.specs.declared.Problem.TheVariants as problem;
+ghost use Rattle.npmver.specs.declared.Reader.TheVariants as reader;
 ghost use Rattle.npmver.specs.Told.{IsProper, failure_of, problem_of, status_of, told_answer, told_problem};
 
 use deno_semver::npm::NpmVersionReqParseError;
@@ -200,6 +204,8 @@ impl Reader {
     // The requirement that the reader makes of a text.
     fn read(self, alloc: Global, text: &str) -> Result<VersionReq, Problem>
         ensures reads { IsReaderAnswer failure_of (flavour_of self) text.now result }
+        ensures refusal { self ≡ reader.Npm
+            → IfErr result (λ problem. IsCutRefusal Npm (trim text.now) (failure_of problem)) }
         ensures proper { IfErr result IsProper }
     {
         match self {
@@ -361,9 +367,10 @@ fn normal(alloc: Global, reader: &str, requirement: &str) -> Result<Answer, Prob
     }
 }
 
-// Whether two requirements overlap, both as npm reads them.
+// Whether two requirements overlap, both as npm reads them; where both are refused, the first one's refusal is told.
 fn meet(alloc: Global, one: &str, other: &str) -> Result<Answer, Problem>
-    ensures { IsAnswer (IsMeeting one.now other.now) result }
+    ensures answer { IsAnswer (IsMeeting one.now other.now) result }
+    ensures refusal { IfErr result (λ problem. IsFirstRefused one.now other.now (failure_of problem)) }
 {
     let one = Reader::Npm.read(alloc, one)?;
     let other = Reader::Npm.read(alloc, other)?;

@@ -1,36 +1,37 @@
 #!/usr/bin/env python3
-"""Holds the program ranges to its rows, and to the examples of the pages that show it. Run at the top of the project, after
-rt ci (or after rt run in crates/ranges), which builds it.
+"""Holds the programs ranges and npmver to their rows, and to the examples of the pages that show them. Run at the top of the
+project, after rt ci (or after rt run in both crates), which builds them.
 
-    tools/ranges/check.py
+    tools/programs/check.py
 
-A row of rows.jsonl is a JSON object: the words after the program's name, standard input where there is one, standard output,
+A row of PROGRAM.jsonl is a JSON object: the words after the program's name, standard input where there is one, standard output,
 standard error and the status; absent texts are empty. An example is what stands after `$ ` in a console block of a page, where
 `ranges` is in it, with the lines that it prints. The last line counts; the status is 1 where something differs."""
 import json, os, pathlib, re, subprocess, sys
 
 TOP = pathlib.Path(__file__).resolve().parents[2]
 HERE = pathlib.Path(__file__).resolve().parent
-PROGRAM = TOP / "crates/ranges/out/ranges"
+PROGRAMS = {name: TOP / f"crates/{name}/out/{name}" for name in ("ranges", "npmver")}
+RANGES = PROGRAMS["ranges"]
 PAGES = ("README.md", "docs/RANGES.md")
 # How much more memory, in kilobytes, many lines may take than few.
 SLACK = 1024
 FEW, MANY = 50_000, 400_000
 
 
-def run(words, given=""):
-    ran = subprocess.run([str(PROGRAM), *words], input=given.encode(), capture_output=True, timeout=60)
+def run(program, words, given=""):
+    ran = subprocess.run([str(program), *words], input=given.encode(), capture_output=True, timeout=60)
     return ran.stdout.decode(), ran.stderr.decode(), ran.returncode
 
 
 def rows():
-    """The rows that differ, and how many there are."""
-    lines = (HERE / "rows.jsonl").read_text().splitlines()
-    for number, line in enumerate(lines, 1):
-        row = json.loads(line)
-        wanted = (row.get("stdout", ""), row.get("stderr", ""), row["status"])
-        found = run(row["words"], row.get("stdin", ""))
-        yield None if found == wanted else f"rows.jsonl:{number}: {row['words']}: wanted {wanted}, found {found}"
+    """For each row what differs, or None."""
+    for name, program in PROGRAMS.items():
+        for number, line in enumerate((HERE / f"{name}.jsonl").read_text().splitlines(), 1):
+            row = json.loads(line)
+            wanted = (row.get("stdout", ""), row.get("stderr", ""), row["status"])
+            found = run(program, row["words"], row.get("stdin", ""))
+            yield None if found == wanted else f"{name}.jsonl:{number}: {row['words']}: wanted {wanted}, found {found}"
 
 
 def examples(page):
@@ -43,7 +44,7 @@ def examples(page):
 
 
 def pages():
-    path = f"{PROGRAM.parent}:{os.environ['PATH']}"
+    path = f"{RANGES.parent}:{os.environ['PATH']}"
     for name in PAGES:
         for command, printed in examples((TOP / name).read_text()):
             ran = subprocess.run(["bash", "-c", command], stdout=subprocess.PIPE, stderr=subprocess.STDOUT, env={"PATH": path}, timeout=60)
@@ -53,7 +54,7 @@ def pages():
 
 def peak(count):
     """The most memory, in kilobytes, that filtering so many lines takes."""
-    child = subprocess.Popen([str(PROGRAM), "filter", "^1.2"], stdin=subprocess.PIPE, stdout=subprocess.DEVNULL)
+    child = subprocess.Popen([str(RANGES), "filter", "^1.2"], stdin=subprocess.PIPE, stdout=subprocess.DEVNULL)
     for n in range(count):
         child.stdin.write(f"{n % 7}.{n % 11}.{n}\n".encode())
     child.stdin.flush()
@@ -71,7 +72,7 @@ def memory():
 def closed():
     """Output through a pipe that closes ends with no word."""
     lines = "1.0.0\n" * MANY
-    child = subprocess.Popen([str(PROGRAM), "filter", "*"], stdin=subprocess.PIPE, stdout=subprocess.PIPE, stderr=subprocess.PIPE)
+    child = subprocess.Popen([str(RANGES), "filter", "*"], stdin=subprocess.PIPE, stdout=subprocess.PIPE, stderr=subprocess.PIPE)
     child.stdout.close()
     try:
         child.stdin.write(lines.encode())
@@ -84,8 +85,9 @@ def closed():
 
 
 def main():
-    if not PROGRAM.is_file():
-        sys.exit(f"{PROGRAM} isn't built: run rt ci first")
+    for program in PROGRAMS.values():
+        if not program.is_file():
+            sys.exit(f"{program} isn't built: run rt ci first")
     outcomes = [outcome for check in (rows, pages, memory, closed) for outcome in check()]
     wrong = [outcome for outcome in outcomes if outcome]
     print(*wrong, sep="\n", end="\n" if wrong else "")
