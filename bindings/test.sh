@@ -2,7 +2,7 @@
 # Builds the library of the calls, and runs the examples of each binding over it: C's, C's under an address checker, Python's, and
 # Rust's where cargo is there. It ends with a failure at the first binding that fails.
 #
-# The library is built, by `rt lib`, where it isn't there or is older than a source. OUT is a folder for what is built, by default
+# library.py builds the library where it isn't there or is older than a source. OUT is a folder for what is built, by default
 # bindings/out; CC is the C compiler. With the word `speed` the times of calls are told as well.
 set -e
 here=$(cd "$(dirname "$0")" && pwd)
@@ -16,19 +16,7 @@ case "$*" in
 esac
 mkdir -p "$out"
 
-# Whether the library is there and no source of it or of a crate below is newer.
-is_built() {
-    library=$crate/out/libsemver_c.a
-    [ -f "$library" ] || return 1
-    for name in semver_base semver_req deno_semver semver_c; do
-        folder=$here/../crates/$name
-        [ -z "$(find "$folder/src" "$folder/specs" "$folder/proofs" -newer "$library" -type f)" ] || return 1
-    done
-}
-
-if ! is_built; then
-    (cd "$crate" && rt lib) >"$out/lib.log" 2>&1 || { cat "$out/lib.log" >&2; exit 1; }
-fi
+"$here/library.py" >"$out/library.log" 2>&1 || { cat "$out/library.log" >&2; exit 1; }
 export SEMVER_LIB="$crate/out" RATTLE_C="$kit/c"
 
 # The program of this C file: its name, and further options.
