@@ -9,6 +9,7 @@ use Rattle.std.proofs.lemmas.List.{drop_at, get_or-append_right}
 use Rattle.std.proofs.lemmas.Str.{IsCharBoundary-after_ascii, IsCharBoundary-before_ascii, IsUtf8-drop, IsUtf8-from_ascii, IsUtf8-take}
 use Rattle.std.proofs.Math.Seq.{take-append_seam}
 use Rattle.serde_json.specs.Data.{string}
+use Rattle.semver_base.specs.Comparators.{Comparator}
 use Rattle.semver_base.specs.Meaning.{everything}
 use Rattle.semver_base.specs.NormalText.{set_text}
 use Rattle.semver_base.specs.Shortest.{shortest_tree}
@@ -84,13 +85,18 @@ kept_again (inner.RangeSet set) h =
     record { means = λ k v. r.kept_means k Normal normal (shortest_tree set.0) tree Restricted v; equal = λ o k. r.equal o k Normal normal (shortest_tree set.0) tree }
 kept_again (inner.Tag t) h = refl
 
+one_tree : (t u : List (List Comparator)) → Ranges t ≡ Ranges u → t ≡ u
+one_tree t u e = cc e
+
 -- what is read again is read again as it is
 settled_again : (answer : RangeSetOrTag) → CanBeStored answer → again_of (again_of answer) ≡ again_of answer
 settled_again (inner.RangeSet set) h =
     let tree = ((rereadings set.0 h).forms Normal normal).0 in
     let once = kept Normal (shortest_tree set.0) in
     let next = can_again (inner.RangeSet set) h in
-    ap as_inner (settles set.0 h Normal normal (shortest_tree set.0) tree Normal normal (shortest_tree once) ((rereadings once next).forms Normal normal).0)
+    let s = settles set.0 h Normal normal (shortest_tree set.0) tree Normal normal in
+    let same : s.tree ≡ shortest_tree once = one_tree s.tree (shortest_tree once) (((rereadings once next).forms Normal normal).1 (Ranges s.tree) s.is_tree) in
+    ap as_inner (sym (ap (kept Normal) same) ∙ s.is_kept)
 settled_again (inner.Tag t) h = refl
 
 -- ---- the requirement of a package

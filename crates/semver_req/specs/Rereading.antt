@@ -89,9 +89,15 @@ KeepsEqual text ranges = list_all is_orderly ranges ≡ true → list_all keeps_
 
 -- ---- settling
 
--- either reader keeps of its normal text the set itself
+-- the reader takes the set's normal text for comparators, and keeps of them the set itself
+pub record IsReadAsItself (f : Flavour) (ranges : List VersionRange) : Type 0 where
+  pub tree : List (List Comparator)
+  pub is_tree : IsTree f (set_text ranges) tree
+  pub is_kept : kept f tree ≡ ranges
+
+-- npm's reader and the normalized one do so
 abbrev pub IsSettledSet : List VersionRange → Type 0
-IsSettledSet ranges = (f : Flavour) → IsCutting f → (tree : List (List Comparator)) → IsTree f (set_text ranges) tree → kept f tree ≡ ranges
+IsSettledSet ranges = (f : Flavour) → IsCutting f → IsReadAsItself f ranges
 
 -- what either reader keeps of the text is settled
 abbrev pub KeepsSettled : List ℕ → List VersionRange → Type 0
@@ -122,8 +128,8 @@ OneRereadingSettles = (ranges : List VersionRange) → IsReadSet ranges → Keep
 
 -- settled sets are the same exactly where their normal texts are
 abbrev pub SettledSetsAreTheirTexts : Type 0
-SettledSetsAreTheirTexts = (some others : List VersionRange) → IsReadSet some → IsReadSet others
-    → IsSettledSet some → IsSettledSet others → (some ≡ others) ↔ (set_text some ≡ set_text others)
+SettledSetsAreTheirTexts = (some others : List VersionRange) → IsSettledSet some → IsSettledSet others
+    → (some ≡ others) ↔ (set_text some ≡ set_text others)
 
 -- the normal text of a range is one piece without `||`, in npm's grammar and in the normalized one of the same one or two
 -- comparators, which fit
