@@ -1,26 +1,22 @@
 -- That no JSON stands for two values, from what texts stand for.
 use Rattle.std.proofs.Common.{◌≡◌, ◌==◌, ℕ, Bool, List, [], ◌∷◌, get_or, Some, Result, Ok, codes, refl, sym, ap, ap₂, subst, ◌∙◌}
-use Rattle.serde_json.specs.Data.{Data, array, object, string, Items, item, no_items, member, no_members}
+use Rattle.serde_json.specs.Data.{Data, array, string, Items, item, no_items}
 use Rattle.semver_base.specs.declared.range.RangeBound.{RangeBound}
 use Rattle.semver_base.specs.declared.range.RangeBound.TheVariants as bound
-use Rattle.semver_base.specs.declared.range.VersionBound.{VersionBound}
 use Rattle.semver_base.specs.declared.range.VersionBoundKind.{VersionBoundKind}
 use Rattle.semver_base.specs.declared.range.VersionBoundKind.TheVariants as kind
 use Rattle.semver_base.specs.declared.range.VersionRange.{VersionRange}
-use Rattle.semver_base.specs.declared.range.VersionRangeSet.{VersionRangeSet}
 use Rattle.semver_base.specs.declared.version.Version.{Version}
 use Rattle.semver_base.specs.VersionText.{VersionTextsHaveOneOutcome}
 use Rattle.std.specs.Str.{trim}
 use Rattle.semver_req.specs.Outcome.{Outcome, Ranges, Refused, Tag, TextsHaveOneOutcome}
 use Rattle.semver_req.specs.Readers.{IsRead}
-use Rattle.semver_req.specs.Requirement.{Requirement}
 use Rattle.semver_req.specs.declared.common.values.Flavour.TheVariants.{Normal}
 use Rattle.semver_req.specs.declared.range_set_or_tag.RangeSetOrTag.{RangeSetOrTag}
 use Rattle.deno_semver.specs.Json.{AreItemsOf, IsJsonOfBound, IsJsonOfRange, IsJsonOfRangeBound, IsJsonOfSet, IsJsonOfVersionReq, IsMemberOf, IsStringOf, IsTextItself, IsTextOfDependency, IsTextOfInner, IsTextOfKind, IsTextOfNv, IsTextOfReference, IsTextOfReq, IsTextOfVersion}
 use Rattle.deno_semver.specs.OneOutcome.{DependenciesHaveOneOutcome, NamesWithVersionsHaveOneOutcome, PackageTextsHaveOneOutcome, StandsForOne, VersionReferencesHaveOneOutcome}
 use Rattle.deno_semver.specs.StoredList.{IsJsonOfReqs}
 use Rattle.deno_semver.specs.declared.package.kind.PackageKind.{PackageKind}
-use Rattle.deno_semver.specs.declared.package.values.PackageReq.{PackageReq}
 
 -- ---- strings, members and items
 
