@@ -26,7 +26,7 @@ one_tree : (t u : List (List Comparator)) → Ranges t ≡ Ranges u → t ≡ u
 one_tree t u e = cc e
 
 -- both readers keep the same of a tree
-kept_alike : (f : Flavour) → IsCutting f → (tree : List (List Comparator)) → kept f tree ≡ kept Normal tree
+pub kept_alike : (f : Flavour) → IsCutting f → (tree : List (List Comparator)) → kept f tree ≡ kept Normal tree
 kept_alike f npm tree = refl
 kept_alike f normal tree = refl
 

@@ -1,6 +1,6 @@
 -- The normal text of a set that was read, read again. Source: `deno_semver`, whose text of a requirement is meant to be
 -- read back.
-use Rattle.std.specs.Prelude.{◌≡◌, ◌≤◌, ◌<◌, ◌↔◌, ℕ, List, length, Bool, true, false, not, ◌==◌, ◌&&◌, ◌||◌, IsUtf8}
+use Rattle.std.specs.Prelude.{◌≡◌, ◌≤◌, ◌<◌, ◌↔◌, ℕ, List, length, Bool, true, false, not, ◌==◌, ◌&&◌, ◌||◌, IsUtf8, Ok}
 use Rattle.std.specs.List.{AllByRecursion, list_all}
 use Rattle.std.specs.Str.{trim}
 use Rattle.semver_base.specs.Comparators.{Comparator}
@@ -10,6 +10,7 @@ use Rattle.semver_base.specs.NormalText.{range_text, set_text}
 use Rattle.semver_base.specs.Overlap.{starts_before}
 use Rattle.semver_base.specs.PrecedenceLaws.{version_eq}
 use Rattle.semver_base.specs.Shortest.{is_plain, shortest, shortest_tree}
+use Rattle.semver_base.specs.VersionGrammar.{IsVersionOutcome}
 use Rattle.semver_base.specs.declared.range.PreRelease.{PreRelease}
 use Rattle.semver_base.specs.declared.range.RangeBound.{RangeBound}
 use Rattle.semver_base.specs.declared.range.RangeBound.TheVariants as bound
@@ -102,6 +103,10 @@ IsSettledSet ranges = (f : Flavour) → IsCutting f → IsReadAsItself f ranges
 -- what either reader keeps of the text is settled
 abbrev pub KeepsSettled : List ℕ → List VersionRange → Type 0
 KeepsSettled text ranges = (f : Flavour) → IsCutting f → (tree : List (List Comparator)) → IsTree f text tree → IsSettledSet (kept f tree)
+
+-- said of a version that some text stands for
+abbrev pub OfReadVersion : Version → Type 0 → Type 0
+OfReadVersion v Says = (text : List ℕ) → IsVersionOutcome text (Ok v) → Says
 
 -- ---- laws
 
