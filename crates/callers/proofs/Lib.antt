@@ -2,6 +2,7 @@ pub mod Installing
 pub mod Locking
 pub mod PackagesAllowed
 pub mod ReadAgain
+pub mod ReferencesAllowed
 pub mod TextsAllowed
 pub mod TextsAsked
 pub mod LeastTogether

@@ -4,6 +4,7 @@ use Rattle.std.specs.List.{list_all}
 use Rattle.callers.specs.Allowance.{allowance_of, yes_or_no}
 use Rattle.callers.specs.Stored.{IsReadAgain, IsReread, IsTagRead, IsToldOfRanges, OfRanges, OfTag}
 use Rattle.callers.specs.declared.requirements.Allowance.TheVariants as answer
+use Rattle.semver_base.specs.Comparators.{Comparator}
 use Rattle.semver_base.specs.Meaning.{alternatives, tree_means}
 use Rattle.semver_base.specs.NormalText.{set_text}
 use Rattle.semver_base.specs.Shortest.{shortest_tree}
@@ -11,11 +12,11 @@ use Rattle.semver_base.specs.declared.range.PreRelease.TheVariants.{Restricted}
 use Rattle.semver_base.specs.declared.range.VersionRange.{VersionRange}
 use Rattle.semver_base.specs.declared.version.Version.{Version}
 use Rattle.semver_req.specs.KeptSet.{kept}
-use Rattle.semver_req.specs.Outcome.{IsOutcome, Ranges, Tag}
+use Rattle.semver_req.specs.Outcome.{IsOutcome, Outcome, Ranges, Tag}
 use Rattle.semver_req.specs.Pieces.{IsCutting}
 use Rattle.semver_req.specs.Readers.{Failure, IsReadOrTag, IsReaderAnswer}
 use Rattle.semver_req.specs.Requirement.{Requirement, inner_text}
-use Rattle.semver_req.specs.Rereading.{IsReadAsForms, IsTree, KeepsEqual, KeepsSettled, KeepsTheSame, OfReadRanges, keeps_meaning}
+use Rattle.semver_req.specs.Rereading.{IsReadAsForms, IsReadAsItself, IsTree, KeepsEqual, KeepsSettled, KeepsTheSame, OfReadRanges, keeps_meaning}
 use Rattle.semver_req.specs.declared.common.values.Flavour.{Flavour}
 use Rattle.semver_req.specs.declared.range_set_or_tag.RangeSetOrTag.{RangeSetOrTag}
 use Rattle.semver_req.specs.declared.range_set_or_tag.RangeSetOrTag.TheVariants as inner
@@ -23,6 +24,14 @@ use Rattle.semver_req.specs.declared.range_set_or_tag.RangeSetOrTag.TheVariants 
 -- ranges as what a requirement stands for
 abbrev as_inner : List VersionRange → RangeSetOrTag
 as_inner ranges = inner.RangeSet (record { 0 = ranges })
+
+one_tree : (t u : List (List Comparator)) → Ranges t ≡ Ranges u → t ≡ u
+one_tree t u e = cc e
+
+-- a settled set is what is kept of the only tree of its text
+stays_as : (f : Flavour) (ranges : List VersionRange) (tree : List (List Comparator)) → ((o : Outcome) → IsOutcome f (set_text ranges) o → o ≡ Ranges tree)
+    → IsReadAsItself f ranges → kept f tree ≡ ranges
+stays_as f ranges tree only s = ap (kept f) (sym (one_tree s.tree tree (only (Ranges s.tree) s.is_tree))) ∙ s.is_kept
 
 module _ {E : Type 0} (source : E → Failure) (f : Flavour) (cut : IsCutting f) where
   of_ranges : (ranges : List VersionRange) (text : List ℕ) → text ≡ set_text ranges → IsReadAsForms text ranges → KeepsTheSame text ranges
@@ -37,7 +46,7 @@ module _ {E : Type 0} (source : E → Failure) (f : Flavour) (cut : IsCutting f)
         means = λ k v. same k f cut (shortest_tree ranges) p Restricted v;
         equal = λ o k. equal o k f cut (shortest_tree ranges) p;
         settled = settled f cut (shortest_tree ranges) p;
-        stays = λ s. s f cut (shortest_tree ranges) (subst (λ t. IsTree f t (shortest_tree ranges)) is p);
+        stays = λ s. stays_as f ranges (shortest_tree ranges) (subst (λ t. (o : Outcome) → IsOutcome f t o → o ≡ Ranges (shortest_tree ranges)) is (forms f cut).1) (s f cut);
       }
 
   -- what the reader makes of the text of a requirement

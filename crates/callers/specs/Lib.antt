@@ -3,6 +3,7 @@ pub mod ImportMap
 pub mod Install
 pub mod Lockfile
 pub mod Packages
+pub mod References
 pub mod Stored
 pub mod TextsAsked
 pub mod Together

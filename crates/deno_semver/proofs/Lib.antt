@@ -3,6 +3,7 @@ pub mod Dependencies
 pub mod Equality
 pub mod ExportNames
 pub mod InnerReading
+pub mod JsonOnce
 pub mod JsonReading
 pub mod ListOrder
 pub mod NameAndVersion

@@ -1,20 +1,20 @@
 -- What is read again of a requirement of a package that npm's reader read, and that was stored as its normal text.
 use Rattle.std.proofs.Common.{◌≡◌, ◌<◌, ◌==◌, ℕ, true, false, Bool, List, [], ◌∷◌, ◌++◌, length, drop, get_or, Option, Some, None, Ok, refl, sym, ap, subst, ◌∙◌, arith, append-nil, append_assoc, length-append}
 use Rattle.std.specs.Prelude.{◌-◌, ◌+◌, IsUtf8, codes, if◌then◌else◌}
-use Rattle.std.specs.Char.{is_ascii}
 use Rattle.std.specs.List.{list_all}
 use Rattle.std.proofs.lemmas.Bool.{eqb-true}
 use Rattle.std.proofs.lemmas.Bool.Decides.{nat_tests}
 use Rattle.std.proofs.lemmas.List.{drop_at, get_or-append_right}
-use Rattle.std.proofs.lemmas.Str.{IsCharBoundary-after_ascii, IsCharBoundary-before_ascii, IsUtf8-drop, IsUtf8-from_ascii, IsUtf8-take}
+use Rattle.std.proofs.lemmas.Str.{IsCharBoundary-after_ascii, IsCharBoundary-before_ascii, IsUtf8-drop, IsUtf8-take}
 use Rattle.std.proofs.Math.Seq.{take-append_seam}
 use Rattle.serde_json.specs.Data.{string}
+use Rattle.semver_base.specs.Comparators.{Comparator}
 use Rattle.semver_base.specs.Meaning.{everything}
 use Rattle.semver_base.specs.NormalText.{set_text}
 use Rattle.semver_base.specs.Shortest.{shortest_tree}
 use Rattle.semver_base.specs.declared.range.PreRelease.TheVariants.{Restricted}
 use Rattle.semver_base.specs.declared.range.VersionRange.{VersionRange}
-use Rattle.semver_base.proofs.Solid.{all_ascii, is_solid_byte, solid_ascii}
+use Rattle.semver_base.proofs.Solid.{is_solid_byte}
 use Rattle.semver_req.specs.KeptSet.{IsReadSet, kept}
 use Rattle.semver_req.specs.Outcome.{IsOutcome, Outcome, Ranges, Refused, Tag}
 use Rattle.semver_req.specs.Pieces.{normal}
@@ -84,13 +84,18 @@ kept_again (inner.RangeSet set) h =
     record { means = λ k v. r.kept_means k Normal normal (shortest_tree set.0) tree Restricted v; equal = λ o k. r.equal o k Normal normal (shortest_tree set.0) tree }
 kept_again (inner.Tag t) h = refl
 
+one_tree : (t u : List (List Comparator)) → Ranges t ≡ Ranges u → t ≡ u
+one_tree t u e = cc e
+
 -- what is read again is read again as it is
 settled_again : (answer : RangeSetOrTag) → CanBeStored answer → again_of (again_of answer) ≡ again_of answer
 settled_again (inner.RangeSet set) h =
     let tree = ((rereadings set.0 h).forms Normal normal).0 in
     let once = kept Normal (shortest_tree set.0) in
     let next = can_again (inner.RangeSet set) h in
-    ap as_inner (settles set.0 h Normal normal (shortest_tree set.0) tree Normal normal (shortest_tree once) ((rereadings once next).forms Normal normal).0)
+    let s = settles set.0 h Normal normal (shortest_tree set.0) tree Normal normal in
+    let same : s.tree ≡ shortest_tree once = one_tree s.tree (shortest_tree once) (((rereadings once next).forms Normal normal).1 (Ranges s.tree) s.is_tree) in
+    ap as_inner (sym (ap (kept Normal) same) ∙ s.is_kept)
 settled_again (inner.Tag t) h = refl
 
 -- ---- the requirement of a package

@@ -1,5 +1,7 @@
--- No text of a package, a name with a version, a reference or a dependency has two outcomes, and none of a package two cuts.
+-- No text of a package, a name with a version, a reference or a dependency has two outcomes, and none of a package two cuts; no
+-- JSON stands for two values of a type.
 use Rattle.std.specs.Prelude.{◌≡◌, ℕ, List, Result}
+use Rattle.serde_json.specs.Data.{Data}
 use Rattle.semver_base.specs.declared.failure.Refusal.{Refusal}
 use Rattle.semver_req.specs.declared.common.values.Flavour.{Flavour}
 use Rattle.deno_semver.specs.DependencyOutcome.{DependencyFault, IsDependencyOutcome}
@@ -40,3 +42,7 @@ NamesWithVersionsHaveOneOutcome = (text : List ℕ) (o p : Result PackageNv Refu
 abbrev pub VersionReferencesHaveOneOutcome : Type 0
 VersionReferencesHaveOneOutcome = (kind : PackageKind) (text : List ℕ) (o p : Result PackageNvReference Refusal)
     → IsNvReferenceOutcome kind text o → IsNvReferenceOutcome kind text p → o ≡ p
+
+-- no JSON stands for two values
+abbrev pub StandsForOne : {T : Type 0} → (Data → T → Type 0) → Type 0
+StandsForOne {T} StandsFor = (json : Data) (x y : T) → StandsFor json x → StandsFor json y → x ≡ y

@@ -1,4 +1,4 @@
-//! Laws of equality, and of what texts stand for, each as the contract of a call.
+//! Laws of equality, and of what texts and JSON stand for, each as the contract of a call.
 //!
 //! `==` of each type of this crate says yes exactly where the two values are the same, as contracts see them; that of
 //! requirements of packages where the names are and the requirements of versions stand for the same. A caller whose proof
@@ -7,8 +7,11 @@
 
 ghost use Rattle.std.specs.Prelude.{◌≡◌, ◌↔◌, IsTrue};
 ghost use Rattle.deno_semver.specs.Equal.{AreEqualDependencies, AreEqualReferences};
-ghost use Rattle.deno_semver.specs.OneOutcome.{DependenciesHaveOneOutcome, NamesWithVersionsHaveOneOutcome, PackageTextsHaveOneCut, PackageTextsHaveOneOutcome, ReferencesHaveOneOutcome, VersionReferencesHaveOneOutcome};
+ghost use Rattle.deno_semver.specs.Json.{IsJsonOfRange, IsJsonOfSet, IsJsonOfVersionReq, IsStringOf, IsTextOfDependency, IsTextOfNv, IsTextOfReference, IsTextOfReq, IsTextOfVersion};
+ghost use Rattle.deno_semver.specs.OneOutcome.{DependenciesHaveOneOutcome, NamesWithVersionsHaveOneOutcome, PackageTextsHaveOneCut, PackageTextsHaveOneOutcome, ReferencesHaveOneOutcome, StandsForOne, VersionReferencesHaveOneOutcome};
 ghost use Rattle.deno_semver.specs.ReferenceOutcome.{unboxed};
+ghost use Rattle.deno_semver.specs.StoredList.{IsJsonOfReqs};
+ghost use Rattle.deno_semver.specs.declared.package.kind.PackageKind.{PackageKind};
 
 use crate::json::JsonError;
 use crate::jsr::{JsrDepPackageReq, JsrPackageNvReference, JsrPackageReqReference};
@@ -18,6 +21,8 @@ use crate::package::{
     PackageReqReference, PackageReqReferenceInvalidParseError,
     PackageReqReferenceInvalidWithVersionParseError, PackageReqReferenceParseError, SpecifierError,
 };
+use semver_base::laws::version_texts_have_one_outcome;
+use semver_req::laws::texts_have_one_outcome;
 
 /// Whether two registries are the same.
 pub fn same_kinds(one: &PackageKind, other: &PackageKind) -> bool
@@ -178,3 +183,30 @@ pub fn names_with_versions_have_one_outcome()
 pub fn version_references_have_one_outcome()
     ensures { VersionReferencesHaveOneOutcome }
 {}
+
+/// JSON stands for at most one version, one range, and one set of ranges.
+pub fn json_stands_for_one_range()
+    ensures versions { StandsForOne (IsStringOf IsTextOfVersion) }
+    ensures ranges { StandsForOne IsJsonOfRange }
+    ensures sets { StandsForOne IsJsonOfSet }
+{
+    version_texts_have_one_outcome();
+}
+
+/// JSON stands for at most one requirement of versions, one requirement of a package, one list of these, one name with a
+/// version, one reference to a version of a registry, and one dependency. Which list an array is read as is open where the
+/// order leaves equal ones.
+pub fn json_stands_for_one_value()
+    ensures requirements { StandsForOne IsJsonOfVersionReq }
+    ensures package_requirements { StandsForOne (IsStringOf IsTextOfReq) }
+    ensures lists { StandsForOne IsJsonOfReqs }
+    ensures names_with_versions { StandsForOne (IsStringOf IsTextOfNv) }
+    ensures references { (kind : PackageKind) → StandsForOne (IsStringOf (IsTextOfReference kind)) }
+    ensures dependencies { StandsForOne (IsStringOf IsTextOfDependency) }
+{
+    texts_have_one_outcome();
+    package_texts_have_one_outcome();
+    names_with_versions_have_one_outcome();
+    version_references_have_one_outcome();
+    dependencies_have_one_outcome();
+}

@@ -1,5 +1,5 @@
--- Which versions the requirement of one version matches.
-use Rattle.std.proofs.Common.{◌≡◌, ◌==◌, Bool, true, false, [], ◌∷◌, length, refl, sym, ◌∙◌}
+-- Which versions the requirement of one version matches, and that its normal text is read as it again.
+use Rattle.std.proofs.Common.{◌≡◌, ◌==◌, ℕ, Bool, true, false, List, [], ◌∷◌, length, Ok, refl, sym, ap, ◌∙◌}
 use Rattle.std.specs.Prelude.{◌&&◌, ◌||◌, not}
 use Rattle.std.specs.Ordering.{is_ge, is_le}
 use Rattle.std.specs.declared.cmp.Ordering.{Ordering}
@@ -9,10 +9,24 @@ use Rattle.semver_base.specs.Meaning.{admits_pre, alternative_means, bounds_hold
 use Rattle.semver_base.specs.PartialTable.{between, up_to}
 use Rattle.semver_base.specs.Precedence.{precedence_cmp}
 use Rattle.semver_base.specs.PrecedenceLaws.{SamePrecedence, precedence-anti, precedence-same}
+use Rattle.semver_base.specs.NormalText.{set_text}
+use Rattle.semver_base.specs.Shortest.{shortest_tree}
+use Rattle.semver_base.specs.VersionGrammar.{IsVersionOutcome, is_version}
+use Rattle.semver_base.specs.VersionText.{IsWritable}
 use Rattle.semver_base.specs.declared.range.VersionRange.{VersionRange}
 use Rattle.semver_base.specs.declared.version.Version.{Version}
 use Rattle.semver_base.proofs.Orders.{and_first, and_second, or_false}
+use Rattle.semver_base.proofs.ReadVersions.{read_writable}
+use Rattle.semver_req.specs.KeptSet.{IsReadSet}
+use Rattle.semver_req.specs.Pieces.{normal}
 use Rattle.semver_req.specs.Requirement.{PinsTo, inner_means, pinned}
+use Rattle.semver_req.specs.Rereading.{IsSettledSet}
+use Rattle.semver_req.specs.Settled.{one_version, reread_set}
+use Rattle.semver_req.specs.declared.common.values.Flavour.TheVariants.{Normal}
+use Rattle.semver_req.proofs.Rereading.{kept_alike}
+use Rattle.semver_req.proofs.SettledSets.{set_reread}
+use Rattle.semver_req.proofs.Settling.{settled_reread}
+use Rattle.semver_req.proofs.WrittenSets.{set_outcome}
 
 tied : (r : Ordering) → is_ge r ≡ true → is_le r ≡ true → r ≡ Equal
 tied Less h k = cc h
@@ -54,3 +68,27 @@ also v w s =
 
 pub pinned_means : (v : Version) → PinsTo v (pinned v).inner
 pinned_means v w = (only v w, also v w)
+
+-- ---- its normal text
+
+abbrev only_range : Version → List VersionRange
+only_range v = one v ∷ []
+
+one_kept : (v : Version) → reread_set (only_range v) ≡ only_range v
+one_kept v = set_reread (only_range v) refl ∙ ap (λ (range : VersionRange). range ∷ []) (settled_reread (one v) one_version)
+
+one_settled : (v : Version) → IsWritable v → IsSettledSet (only_range v)
+one_settled v w f cut = record {
+  tree = shortest_tree (only_range v);
+  is_tree = set_outcome f cut (only_range v) (record { start = w; end = w }, tt);
+  is_kept = kept_alike f cut (shortest_tree (only_range v)) ∙ one_kept v;
+}
+
+pub pinned_settled : (v : Version) (text : List ℕ) → IsVersionOutcome text (Ok v) → IsSettledSet (only_range v)
+pinned_settled v text (is_version h fits) = one_settled v (read_writable text v h fits)
+
+-- so it is a read set
+pub pinned_read : (v : Version) (text : List ℕ) → IsVersionOutcome text (Ok v) → IsReadSet (only_range v)
+pinned_read v text h =
+    let s = pinned_settled v text h Normal normal in
+    record { flavour = Normal; text = set_text (only_range v); tree = s.tree; is_outcome = s.is_tree; is_kept = sym s.is_kept }

@@ -10,7 +10,7 @@ use Rattle.semver_base.specs.declared.range.VersionRange.{VersionRange}
 use Rattle.semver_req.specs.KeptSet.{IsReadSet, kept}
 use Rattle.semver_req.specs.Outcome.{IsOutcome, Outcome, Ranges, Refused, Tag, tree_ranges}
 use Rattle.semver_req.specs.Pieces.{IsCutting, npm, normal}
-use Rattle.semver_req.specs.Rereading.{IsTree, NormalTextsAreEquivalent, NormalTextsKeepTheirMeaning, OneRereadingSettles, OfReadRanges, SettledSetsAreTheirTexts}
+use Rattle.semver_req.specs.Rereading.{IsReadAsItself, IsTree, NormalTextsAreEquivalent, NormalTextsKeepTheirMeaning, OneRereadingSettles, OfReadRanges, SettledSetsAreTheirTexts}
 use Rattle.semver_req.specs.Readers.{IsRead}
 use Rattle.semver_req.specs.Requirement.{inner_means, inner_text}
 use Rattle.semver_req.specs.Settled.{reread_set}
@@ -26,7 +26,7 @@ one_tree : (t u : List (List Comparator)) → Ranges t ≡ Ranges u → t ≡ u
 one_tree t u e = cc e
 
 -- both readers keep the same of a tree
-kept_alike : (f : Flavour) → IsCutting f → (tree : List (List Comparator)) → kept f tree ≡ kept Normal tree
+pub kept_alike : (f : Flavour) → IsCutting f → (tree : List (List Comparator)) → kept f tree ≡ kept Normal tree
 kept_alike f npm tree = refl
 kept_alike f normal tree = refl
 
@@ -48,8 +48,14 @@ read_again : (f : Flavour) (ranges : List VersionRange) (tree : List (List Compa
 read_again f ranges tree h = record { flavour = f; text = set_text ranges; tree = tree; is_outcome = h; is_kept = refl }
 
 pub settles : OneRereadingSettles
-settles ranges r f cut tree h g other next k =
-    kept_read g other (kept f tree) (read_again f ranges tree h) next k ∙ kept_settled f cut ranges r tree h
+settles ranges r f cut tree h g other =
+    let again : IsReadSet (kept f tree) = read_again f ranges tree h in
+    let read : IsTree g (set_text (kept f tree)) (shortest_tree (kept f tree)) = text_read g other (kept f tree) again in
+    record {
+      tree = shortest_tree (kept f tree);
+      is_tree = read;
+      is_kept = kept_read g other (kept f tree) again (shortest_tree (kept f tree)) read ∙ kept_settled f cut ranges r tree h;
+    }
 
 pub rereadings : NormalTextsKeepTheirMeaning
 rereadings ranges r = record {
@@ -68,17 +74,15 @@ equivalent_again ranges r k f cut again reading = go reading.outcome reading.is_
     go (Tag text) h is = absurd (cc (one_outcome f (set_text ranges) (Tag text) (Ranges (shortest_tree ranges)) h (text_read f cut ranges r)))
     go Refused h is = absurd is
 
-pub settled_by_text : SettledSetsAreTheirTexts
-settled_by_text some others r s settled_some settled_others = (ap set_text, from_text)
-  where
-    IsRereadText : List ℕ → Type 0
-    IsRereadText text = IsOutcome Normal text (Ranges (shortest_tree some))
+-- two sets that a reader keeps of their texts are the same where the texts are
+same_by_text : (some others : List VersionRange) → IsReadAsItself Normal some → IsReadAsItself Normal others → set_text some ≡ set_text others → some ≡ others
+same_by_text some others one other same =
+    let read : IsTree Normal (set_text others) one.tree = subst (λ text. IsTree Normal text one.tree) same one.is_tree in
+    let trees : one.tree ≡ other.tree = one_tree one.tree other.tree (one_outcome Normal (set_text others) (Ranges one.tree) (Ranges other.tree) read other.is_tree) in
+    sym one.is_kept ∙ ap (kept Normal) trees ∙ other.is_kept
 
-    from_text : set_text some ≡ set_text others → some ≡ others
-    from_text same =
-        let read = text_read Normal normal some r in
-        sym (settled_some Normal normal (shortest_tree some) read)
-        ∙ settled_others Normal normal (shortest_tree some) (subst (λ text. IsRereadText text) same read)
+pub settled_by_text : SettledSetsAreTheirTexts
+settled_by_text some others one other = (ap set_text, same_by_text some others (one Normal normal) (other Normal normal))
 
 -- what is true of the normal text of every read set is true of the text of a requirement
 pub of_text : (Says : List ℕ → List VersionRange → Type 0) → ((ranges : List VersionRange) → IsReadSet ranges → Says (set_text ranges) ranges)

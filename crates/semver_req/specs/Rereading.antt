@@ -1,6 +1,6 @@
 -- The normal text of a set that was read, read again. Source: `deno_semver`, whose text of a requirement is meant to be
 -- read back.
-use Rattle.std.specs.Prelude.{◌≡◌, ◌≤◌, ◌<◌, ◌↔◌, ℕ, List, length, Bool, true, false, not, ◌==◌, ◌&&◌, ◌||◌, IsUtf8}
+use Rattle.std.specs.Prelude.{◌≡◌, ◌≤◌, ◌<◌, ◌↔◌, ℕ, List, length, Bool, true, false, not, ◌==◌, ◌&&◌, ◌||◌, IsUtf8, Ok}
 use Rattle.std.specs.List.{AllByRecursion, list_all}
 use Rattle.std.specs.Str.{trim}
 use Rattle.semver_base.specs.Comparators.{Comparator}
@@ -10,6 +10,7 @@ use Rattle.semver_base.specs.NormalText.{range_text, set_text}
 use Rattle.semver_base.specs.Overlap.{starts_before}
 use Rattle.semver_base.specs.PrecedenceLaws.{version_eq}
 use Rattle.semver_base.specs.Shortest.{is_plain, shortest, shortest_tree}
+use Rattle.semver_base.specs.VersionGrammar.{IsVersionOutcome}
 use Rattle.semver_base.specs.declared.range.PreRelease.{PreRelease}
 use Rattle.semver_base.specs.declared.range.RangeBound.{RangeBound}
 use Rattle.semver_base.specs.declared.range.RangeBound.TheVariants as bound
@@ -89,13 +90,23 @@ KeepsEqual text ranges = list_all is_orderly ranges ≡ true → list_all keeps_
 
 -- ---- settling
 
--- either reader keeps of its normal text the set itself
+-- the reader takes the set's normal text for comparators, and keeps of them the set itself
+pub record IsReadAsItself (f : Flavour) (ranges : List VersionRange) : Type 0 where
+  pub tree : List (List Comparator)
+  pub is_tree : IsTree f (set_text ranges) tree
+  pub is_kept : kept f tree ≡ ranges
+
+-- npm's reader and the normalized one do so
 abbrev pub IsSettledSet : List VersionRange → Type 0
-IsSettledSet ranges = (f : Flavour) → IsCutting f → (tree : List (List Comparator)) → IsTree f (set_text ranges) tree → kept f tree ≡ ranges
+IsSettledSet ranges = (f : Flavour) → IsCutting f → IsReadAsItself f ranges
 
 -- what either reader keeps of the text is settled
 abbrev pub KeepsSettled : List ℕ → List VersionRange → Type 0
 KeepsSettled text ranges = (f : Flavour) → IsCutting f → (tree : List (List Comparator)) → IsTree f text tree → IsSettledSet (kept f tree)
+
+-- said of a version that some text stands for
+abbrev pub OfReadVersion : Version → Type 0 → Type 0
+OfReadVersion v Says = (text : List ℕ) → IsVersionOutcome text (Ok v) → Says
 
 -- ---- laws
 
@@ -122,8 +133,8 @@ OneRereadingSettles = (ranges : List VersionRange) → IsReadSet ranges → Keep
 
 -- settled sets are the same exactly where their normal texts are
 abbrev pub SettledSetsAreTheirTexts : Type 0
-SettledSetsAreTheirTexts = (some others : List VersionRange) → IsReadSet some → IsReadSet others
-    → IsSettledSet some → IsSettledSet others → (some ≡ others) ↔ (set_text some ≡ set_text others)
+SettledSetsAreTheirTexts = (some others : List VersionRange) → IsSettledSet some → IsSettledSet others
+    → (some ≡ others) ↔ (set_text some ≡ set_text others)
 
 -- the normal text of a range is one piece without `||`, in npm's grammar and in the normalized one of the same one or two
 -- comparators, which fit

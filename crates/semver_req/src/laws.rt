@@ -111,8 +111,9 @@ pub fn ranges_are_written_as_pieces()
     ensures { RangesAreWrittenAsPieces }
 {}
 
-/// What either reader keeps of the normal text of ranges that some reader answered is settled: either reader keeps the
-/// same ranges of its own normal text. Two settled sets are the same exactly where their normal texts are.
+/// What either reader keeps of the normal text of ranges that some reader answered is settled: either reader takes its own
+/// normal text for comparators, and keeps the same ranges of them. Two settled sets are the same exactly where their normal
+/// texts are, whoever made them.
 pub fn one_rereading_settles()
     ensures settles { OneRereadingSettles }
     ensures by_text { SettledSetsAreTheirTexts }

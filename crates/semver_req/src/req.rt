@@ -6,9 +6,9 @@ ghost use Rattle.std.specs.Option.{option_copied};
 ghost use Rattle.semver_base.specs.declared.range.PreRelease.TheVariants.{Restricted};
 ghost use Rattle.semver_base.specs.declared.version.Version.{Version};
 ghost use Rattle.semver_req.specs.PieceReading.{IsCutRefusal};
-ghost use Rattle.semver_req.specs.Readers.{IsReaderAnswer};
-ghost use Rattle.semver_req.specs.Rereading.{IsReadAsForms, KeepsEqual, KeepsSettled, KeepsTheSame, MeansTheSame, OfReadRanges};
-ghost use Rattle.semver_req.specs.Requirement.{MatchNoVersion, OverlapAsTags, PinsTo, Requirement, inner_means, inner_means_with, inner_overlap, inner_text, pinned, set_of, tag_of, wildcard};
+ghost use Rattle.semver_req.specs.Readers.{IsReadOrTag, IsReaderAnswer};
+ghost use Rattle.semver_req.specs.Rereading.{IsReadAsForms, IsSettledSet, KeepsEqual, KeepsSettled, KeepsTheSame, MeansTheSame, OfReadRanges, OfReadVersion};
+ghost use Rattle.semver_req.specs.Requirement.{MatchNoVersion, OverlapAsTags, PinsTo, Requirement, inner_means, inner_means_with, inner_overlap, inner_text, pinned, ranges_of, set_of, tag_of, wildcard};
 ghost use Rattle.semver_req.specs.declared.common.values.Flavour.TheVariants.{Normal};
 
 mod least;
@@ -259,12 +259,17 @@ pub trait IntoVersionReq {
     ghost version: { Self → Version };
 
     /// The requirement of the versions of the same precedence: one range from the version to itself, both inclusive. Its
-    /// text is the version's.
+    /// text is the version's. That of a version that was read is also one that a reader answers, and its normal text is read
+    /// as that range again, build included.
     ///
     /// It is an error only where no memory is left.
     fn into_req(self, alloc: Global) -> Result<VersionReq, AllocError>
         ensures value { IfOk result (λ req. req ≡ pinned (version self)) }
-        ensures matches { IfOk result (λ req. PinsTo (version self) req.inner) };
+        ensures matches { IfOk result (λ req. PinsTo (version self) req.inner) }
+        ensures read_set { IfOk result
+            (λ req. OfReadVersion (version self) (IsReadOrTag req.inner)) }
+        ensures settled { IfOk result
+            (λ req. OfReadVersion (version self) (IsSettledSet (ranges_of req.inner).0)) };
 }
 
 // The requirement from the version to itself.

@@ -7,7 +7,9 @@ ghost use Rattle.semver_base.specs.Grammar.{CutsRun};
 ghost use Rattle.semver_base.specs.VersionText.{ReadsBack};
 ghost use Rattle.semver_base.specs.declared.failure.Refusal.{Refusal};
 ghost use Rattle.semver_base.specs.declared.failure.Refusal.TheVariants.{UnexpectedCharacter};
-ghost use Rattle.semver_req.specs.Requirement.{PinsTo, pinned};
+ghost use Rattle.semver_req.specs.Readers.{IsReadOrTag};
+ghost use Rattle.semver_req.specs.Requirement.{PinsTo, pinned, ranges_of};
+ghost use Rattle.semver_req.specs.Rereading.{IsSettledSet, OfReadVersion};
 ghost use Rattle.deno_semver.specs.Cuts.{is_not};
 ghost use Rattle.deno_semver.specs.NameAndVersion.{IsNoNvText, IsNvAnswer, IsNvFront, IsNvMemory, IsNvOutcome, IsNvRefusal, IsNvText, NvReadsBack, TellsNvFault, is_version_byte};
 ghost use Rattle.deno_semver.specs.NameAndVersionSteps.{IsFrontAnswer, IsFrontRefusal, IsNameCut, TellsFailure, name_len};
@@ -224,11 +226,16 @@ impl PackageNv {
     }
 
     /// The requirement of the package with this name, and of the versions of the same precedence
-    /// ([`IntoVersionReq::into_req`]). It is an error only where no memory is left.
+    /// ([`IntoVersionReq::into_req`], which says what is known where the version was read). It is an error only where no memory
+    /// is left.
     pub fn into_req(self, alloc: Global) -> Result<PackageReq, AllocError>
         ensures name { IfOk result (λ req. req.name ≡ self.name) }
         ensures version { IfOk result (λ req. req.version_req ≡ pinned self.version) }
         ensures matches { IfOk result (λ req. PinsTo self.version req.version_req.inner) }
+        ensures read_set { IfOk result
+            (λ req. OfReadVersion self.version (IsReadOrTag req.version_req.inner)) }
+        ensures settled { IfOk result (λ req. OfReadVersion self.version
+            (IsSettledSet (ranges_of req.version_req.inner).0)) }
     {
         let PackageNv { name, version } = self;
         let version_req = version.into_req(alloc)?;

@@ -230,8 +230,8 @@ impl<R: Registry> RegistryNvReference<R> {
         RegistryNvReference::from_str(alloc, specifier.as_str())
     }
 
-    /// The URL that the crate `url` makes of the scheme, `/` and the reference. `SpecifierError::Url`: that crate refuses the
-    /// text for another cause than want of memory. Any other error is want of memory.
+    /// The URL that the crate `url` makes of the scheme, `/` and the reference. `SpecifierError::Url`: the URL Standard, as that
+    /// crate states it, refuses the text. Of the other errors, a URL of 4 GB and want of memory, no more is said.
     pub fn as_specifier(&self, alloc: Global) -> Result<Url, SpecifierError>
         ensures { IsSpecifier (specifier_text R.kind self.now) result }
     {

@@ -12,9 +12,12 @@ use url::{ParseError, Url};
 /// Why a reference has no URL, or that memory was wanting.
 #[derive(Clone, Copy, Debug, PartialEq, Eq, Error)]
 pub enum SpecifierError {
-    /// The crate `url` refuses its text.
+    /// The URL Standard, as the crate `url` has it, refuses its text.
     #[error("Invalid URL")]
     Url,
+    /// The URL comes to 4 GB, which is past what the crate `url` keeps.
+    #[error("URL too long")]
+    Overflow,
     /// Memory was wanting.
     #[error("Out of memory.")]
     Memory,
@@ -47,6 +50,7 @@ fn of_url(error: ParseError) -> SpecifierError
 {
     match error {
         ParseError::OutOfMemory => SpecifierError::Memory,
+        ParseError::Overflow => SpecifierError::Overflow,
         _ => SpecifierError::Url,
     }
 }

@@ -1,0 +1,73 @@
+-- What is answered of the text of a reference and the text of a version.
+use Rattle.std.specs.Prelude.{◌≡◌, ◌⊎◌, ℕ, List, Some, None, Result, Ok, Err, IfErr, IfOk, IsErrAnd, MatchResult, codes, true}
+use Rattle.std.specs.List.{list_all}
+use Rattle.std.specs.Str.{trim}
+use Rattle.semver_base.specs.Characters.{at_sign}
+use Rattle.semver_base.specs.Comparators.{Comparator}
+use Rattle.semver_base.specs.Meaning.{tree_means}
+use Rattle.semver_base.specs.VersionGrammar.{IsVersionOutcome, IsVersionRefusal, version_failure}
+use Rattle.semver_base.specs.declared.failure.Refusal.{Refusal}
+use Rattle.semver_base.specs.declared.version.Version.{Version}
+use Rattle.semver_req.specs.Outcome.{IsOutcome, Ranges, Tag, tree_ranges}
+use Rattle.semver_req.specs.declared.common.values.Flavour.TheVariants.{Specifier}
+use Rattle.deno_semver.specs.Cuts.{is_not}
+use Rattle.deno_semver.specs.PackageText.{IsPackageText, PackageParts}
+use Rattle.deno_semver.specs.ReferenceOutcome.{IsReferenceOutcome, IsReferenceRefusal, Memory, ReferenceFault, TellsReference, unboxed}
+use Rattle.deno_semver.specs.ReferenceText.{with_scheme}
+use Rattle.deno_semver.specs.declared.package.kind.PackageKind.{PackageKind}
+use Rattle.deno_semver.specs.declared.package.reference.PackageReqReference.{PackageReqReference}
+use Rattle.callers.specs.Allowance.{allowance_of, yes_or_no}
+use Rattle.callers.specs.declared.packages.UnansweredReference.{UnansweredReference}
+use Rattle.callers.specs.declared.packages.UnansweredReference.TheVariants as why
+use Rattle.callers.specs.declared.requirements.Allowance.{Allowance}
+use Rattle.callers.specs.declared.requirements.Allowance.TheVariants as allowance_is
+
+-- memory was wanting
+abbrev pub IsReferenceWant : UnansweredReference → Type 0
+IsReferenceWant (why.Reference error) = unboxed error ≡ Memory
+IsReferenceWant (why.Version error) = error.source ≡ None
+
+-- why there is no answer: the refusal of either text, or want of memory
+abbrev pub IsWhy : PackageKind → List ℕ → List ℕ → UnansweredReference → Type 0
+IsWhy kind text version (why.Reference error) = IsReferenceRefusal kind text error
+IsWhy kind text version (why.Version error) = IsVersionRefusal (trim version) error.source
+
+-- the fault of the reference's text is told
+abbrev pub TellsOfReference : PackageKind → List ℕ → ReferenceFault → UnansweredReference → Type 0
+TellsOfReference kind text fault (why.Reference error) = TellsReference kind text fault error
+TellsOfReference kind text fault (why.Version error) = ⊥
+
+-- the fault of the version's text is told
+abbrev pub TellsOfVersion : List ℕ → Refusal → UnansweredReference → Type 0
+TellsOfVersion version fault (why.Reference error) = ⊥
+TellsOfVersion version fault (why.Version error) = error.source ≡ version_failure fault version
+
+-- the part of a reference's text that its requirement is; where that is `*` the path has no `@`
+pub record IsPartOf (kind : PackageKind) (text part : List ℕ) : Type 0 where
+  pub body : List ℕ
+  pub cut : PackageParts
+  pub scheme : text ≡ with_scheme kind body
+  pub is_cut : IsPackageText body cut
+  pub is_part : cut.version ≡ Some part
+  pub no_version_in_path : part ≡ codes "*" → list_all (is_not at_sign) cut.path ≡ true
+
+pub record AllowsReference (kind : PackageKind) (text version : List ℕ) (result : Result Allowance UnansweredReference) : Type 0 where
+  -- an answer is that of the reference and the version that the texts are
+  pub told : IfOk result (λ allowance. (reference : PackageReqReference) × (v : Version) × IsReferenceOutcome kind text (Ok reference)
+      × IsVersionOutcome (trim version) (Ok v) × (allowance ≡ allowance_of reference.req.version_req.inner v))
+  -- it is that for every reference and version that they are, want of memory aside
+  pub answer : (reference : PackageReqReference) (v : Version) → IsReferenceOutcome kind text (Ok reference) → IsVersionOutcome (trim version) (Ok v)
+      → MatchResult result (λ allowance. allowance ≡ allowance_of reference.req.version_req.inner v) IsReferenceWant
+  -- for every tree of the requirement's part it is yes exactly where the tree means the version, want of memory aside
+  pub tree : (part : List ℕ) (tree : List (List Comparator)) (v : Version) → IsPartOf kind text part → IsOutcome Specifier part (Ranges tree)
+      → IsVersionOutcome (trim version) (Ok v) → MatchResult result (λ allowance. allowance ≡ yes_or_no (tree_means (tree_ranges tree) v)) IsReferenceWant
+  -- a tag is told as one, want of memory aside
+  pub tag : (part name : List ℕ) (v : Version) → IsPartOf kind text part → IsOutcome Specifier part (Tag name)
+      → IsVersionOutcome (trim version) (Ok v) → MatchResult result (λ allowance. allowance ≡ allowance_is.Tag) IsReferenceWant
+  -- the fault of a text that is no reference is told, and of a reference's version that is none, want of memory aside
+  pub no_reference : (fault : ReferenceFault) → IsReferenceOutcome kind text (Err fault)
+      → IsErrAnd result (λ e. IsReferenceWant e ⊎ TellsOfReference kind text fault e)
+  pub no_version : (reference : PackageReqReference) (fault : Refusal) → IsReferenceOutcome kind text (Ok reference) → IsVersionOutcome (trim version) (Err fault)
+      → IsErrAnd result (λ e. IsReferenceWant e ⊎ TellsOfVersion (trim version) fault e)
+  -- nothing else is told
+  pub refusal : IfErr result (IsWhy kind text version)
