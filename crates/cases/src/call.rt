@@ -8,7 +8,7 @@ use crate::{
 use std::alloc::Global;
 
 /// The names of all calls, in the order in which they are counted.
-pub const NAMES: [&str; 86] = [
+pub const NAMES: [&str; 92] = [
     "text",
     "items",
     "failure",
@@ -90,6 +90,12 @@ pub const NAMES: [&str; 86] = [
     "min-satisfying",
     "max-satisfying-with",
     "min-satisfying-with",
+    "min-version-with",
+    "common-version-with",
+    "common-of-all-with",
+    "version-outside-with",
+    "is-subset-with",
+    "is-equivalent-with",
     "ample",
     "in-value",
     "name-version-error",

@@ -3,7 +3,7 @@
 use crate::requirements::read;
 use crate::shown;
 use crate::words::{Answer, Fault, Word, answer, yes_or_no};
-use deno_semver::{Version, VersionReq};
+use deno_semver::{PreRelease, Version, VersionReq};
 use std::alloc::{AllocError, Global};
 
 /// What a call on least versions and containment answers to a question's words after its name, where the name is of one.
@@ -17,6 +17,12 @@ pub fn ask(alloc: Global, name: &str, words: &[Word<'_>]) -> Option<Answer> {
         "is-equivalent" => is_equivalent(alloc, words),
         "set-is-subset" => set_is_subset(alloc, words),
         "set-is-equivalent" => set_is_equivalent(alloc, words),
+        "min-version-with" => min_version_with(alloc, words),
+        "common-version-with" => common_version_with(alloc, words),
+        "common-of-all-with" => common_of_all_with(alloc, words),
+        "version-outside-with" => version_outside_with(alloc, words),
+        "is-subset-with" => is_subset_with(alloc, words),
+        "is-equivalent-with" => is_equivalent_with(alloc, words),
         _ => return None,
     };
     Some(answer)
@@ -135,4 +141,94 @@ fn set_is_equivalent(alloc: Global, words: &[Word<'_>]) -> Answer {
         alloc,
         shown::set_of(alloc, set)?.is_equivalent(alloc, &other)?,
     )
+}
+
+// What the words say of pre-releases, and the two requirements that they are, by the reader that the first word names.
+fn pair_with(
+    alloc: Global,
+    words: &[Word<'_>],
+) -> Result<(PreRelease, VersionReq, VersionReq), Fault> {
+    let [Some(reader), Some(word), Some(left), Some(right)] = words else {
+        return Err(Fault::Unreadable);
+    };
+    let pre_release = shown::pre_release_of(word)?;
+    let left = read(alloc, reader, left)?;
+    Ok((pre_release, left, read(alloc, reader, right)?))
+}
+
+// `min-version-with`, a reader, `restricted` or `admitted` and a text: the least version that the requirement matches, or
+// `none`; or `tag`.
+fn min_version_with(alloc: Global, words: &[Word<'_>]) -> Answer {
+    let [Some(reader), Some(word), Some(text)] = words else {
+        return Err(Fault::Unreadable);
+    };
+    let pre_release = shown::pre_release_of(word)?;
+    let requirement = read(alloc, reader, text)?;
+    match requirement.tag() {
+        None => version_or_none(alloc, requirement.min_version_with(alloc, pre_release)?),
+        Some(_) => answer(alloc, &[Some("tag")]),
+    }
+}
+
+// `common-version-with`, a reader, `restricted` or `admitted` and two texts: the least version that both match, or `none`;
+// or `tag`.
+fn common_version_with(alloc: Global, words: &[Word<'_>]) -> Answer {
+    let (pre_release, left, right) = pair_with(alloc, words)?;
+    match (left.tag(), right.tag()) {
+        (None, None) => version_or_none(
+            alloc,
+            left.common_version_with(alloc, &right, pre_release)?,
+        ),
+        (_, _) => answer(alloc, &[Some("tag")]),
+    }
+}
+
+// `common-of-all-with`, a reader, `restricted` or `admitted`, a text and any number of others: the least version that all
+// match, or `none`; or `tag`.
+fn common_of_all_with(alloc: Global, words: &[Word<'_>]) -> Answer {
+    let [Some(reader), Some(word), Some(text), others @ ..] = words else {
+        return Err(Fault::Unreadable);
+    };
+    let pre_release = shown::pre_release_of(word)?;
+    let own = read(alloc, reader, text)?;
+    let others = read_all(alloc, reader, others)?;
+    if own.tag().is_some() || !VersionReq::have_no_tag(others.as_slice()) {
+        return answer(alloc, &[Some("tag")]);
+    }
+    version_or_none(
+        alloc,
+        own.common_version_of_all_with(alloc, others.as_slice(), pre_release)?,
+    )
+}
+
+// `version-outside-with`, a reader, `restricted` or `admitted` and two texts: the least version that the first matches and
+// the second doesn't, or `none`; or `tag`.
+fn version_outside_with(alloc: Global, words: &[Word<'_>]) -> Answer {
+    let (pre_release, left, right) = pair_with(alloc, words)?;
+    match (left.tag(), right.tag()) {
+        (None, None) => version_or_none(
+            alloc,
+            left.version_outside_with(alloc, &right, pre_release)?,
+        ),
+        (_, _) => answer(alloc, &[Some("tag")]),
+    }
+}
+
+// `is-subset-with`, a reader, `restricted` or `admitted` and two texts: whether the second matches each version that the
+// first matches; or `tag`.
+fn is_subset_with(alloc: Global, words: &[Word<'_>]) -> Answer {
+    let (pre_release, left, right) = pair_with(alloc, words)?;
+    match (left.tag(), right.tag()) {
+        (None, None) => yes_or_no(alloc, left.is_subset_with(alloc, &right, pre_release)?),
+        (_, _) => answer(alloc, &[Some("tag")]),
+    }
+}
+
+// `is-equivalent-with`, a reader, `restricted` or `admitted` and two texts: whether both match the same versions; or `tag`.
+fn is_equivalent_with(alloc: Global, words: &[Word<'_>]) -> Answer {
+    let (pre_release, left, right) = pair_with(alloc, words)?;
+    match (left.tag(), right.tag()) {
+        (None, None) => yes_or_no(alloc, left.is_equivalent_with(alloc, &right, pre_release)?),
+        (_, _) => answer(alloc, &[Some("tag")]),
+    }
 }

@@ -5,12 +5,11 @@ ghost use Rattle.semver_base.specs.declared.range.VersionRange.{VersionRange};
 ghost use Rattle.range_answers.specs.Explained.{AreExplained, AreExplainedFrom, AreWholeTexts, IsExplained, IsExplainedPiece, IsLeastOfRange, IsWholeText};
 ghost use Rattle.range_answers.specs.Reading.{IsUnread};
 
-use crate::cutting::{FirstPiece, first_piece, next_piece};
 use crate::reading::requirement;
-use deno_semver::{PackageTag, ParseFailure, RangeSetOrTag, Version, VersionRange};
+use deno_semver::{PackageTag, ParseFailure, PreRelease, RangeSetOrTag, Version, VersionRange};
 use semver_base::failure::Refusal;
 use semver_req::common::values::Flavour;
-use semver_req::range_set_or_tag::RangeOrInvalid;
+use semver_req::range_set_or_tag::{FirstPiece, RangeOrInvalid, first_piece, next_piece};
 use std::alloc::{AllocError, Global};
 
 /// What a reader makes of a text.
@@ -33,7 +32,7 @@ pub struct Piece {
 /// What a reader makes of a piece.
 #[derive(Debug, Drop)]
 pub enum Meaning {
-    /// The range that it means, and the least version that this matches, by npm's rule about pre-releases.
+    /// The range that it means, and the least version that this matches.
     Range {
         range: VersionRange,
         least: Option<Version>,
@@ -44,10 +43,14 @@ pub enum Meaning {
 
 impl Meaning {
     // The range, with its least version.
-    fn of(alloc: Global, range: VersionRange) -> Result<Meaning, AllocError>
-        ensures { IfOk result (IsLeastOfRange range) }
+    fn of(
+        alloc: Global,
+        pre_release: PreRelease,
+        range: VersionRange,
+    ) -> Result<Meaning, AllocError>
+        ensures { IfOk result (IsLeastOfRange pre_release range) }
     {
-        let least = range.min_version(alloc)?;
+        let least = range.min_version_with(alloc, pre_release)?;
         Ok(Meaning::Range { range, least })
     }
 }
@@ -57,14 +60,15 @@ impl Piece {
     fn read(
         alloc: Global,
         flavour: Flavour,
+        pre_release: PreRelease,
         text: &str,
         is_followed: bool,
     ) -> Result<Piece, ParseFailure>
-        ensures piece { IfOk result (IsExplainedPiece flavour is_followed text.now) }
+        ensures piece { IfOk result (IsExplainedPiece flavour pre_release is_followed text.now) }
         ensures memory { IfErr result (λ failure. failure ≡ None) }
     {
         let meaning = match RangeOrInvalid::parse(alloc, text, is_followed, flavour)? {
-            RangeOrInvalid::Range(range) => Meaning::of(alloc, range)?,
+            RangeOrInvalid::Range(range) => Meaning::of(alloc, pre_release, range)?,
             RangeOrInvalid::Invalid(refusal) => Meaning::LeftOut(refusal),
         };
         let text = String::from_str(alloc, text)?;
@@ -72,10 +76,15 @@ impl Piece {
     }
 
     // The text as the one piece that means this range.
-    fn whole(alloc: Global, text: &str, range: &VersionRange) -> Result<Piece, AllocError>
-        ensures { IfOk result (IsWholeText text.now range.now) }
+    fn whole(
+        alloc: Global,
+        pre_release: PreRelease,
+        text: &str,
+        range: &VersionRange,
+    ) -> Result<Piece, AllocError>
+        ensures { IfOk result (IsWholeText pre_release text.now range.now) }
     {
-        let meaning = Meaning::of(alloc, range.copy()?)?;
+        let meaning = Meaning::of(alloc, pre_release, range.copy()?)?;
         let text = String::from_str(alloc, text)?;
         Ok(Piece { text, meaning })
     }
@@ -85,19 +94,20 @@ impl Piece {
 fn pieces_from(
     alloc: Global,
     flavour: Flavour,
+    pre_release: PreRelease,
     first: FirstPiece<'_>,
 ) -> Result<Vec<Piece>, ParseFailure>
     ensures pieces { let f = first.entry in IfOk result
-        (λ pieces. AreExplainedFrom flavour f.piece.now f.is_followed f.rest.now pieces.items) }
+        (λ pieces. AreExplainedFrom flavour pre_release f.piece.now f.is_followed f.rest.now
+        pieces.items) }
     ensures memory { IfErr result (λ failure. failure ≡ None) }
 {
     let mut pieces = Vec::new(alloc);
-    pieces
-        .push(Piece::read(alloc, flavour, first.piece, first.is_followed)?)
-        .map_err(AllocError::from)?;
+    let head = Piece::read(alloc, flavour, pre_release, first.piece, first.is_followed)?;
+    pieces.push(head).map_err(AllocError::from)?;
     let mut rest = first.rest;
     while let Some((piece, more)) = next_piece(rest) {
-        let piece = Piece::read(alloc, flavour, piece, false)?;
+        let piece = Piece::read(alloc, flavour, pre_release, piece, false)?;
         pieces.push(piece).map_err(AllocError::from)?;
         rest = more;
     }
@@ -105,40 +115,68 @@ fn pieces_from(
 }
 
 // The pieces of a text, each as a grammar that is cut at each `||` reads it.
-fn pieces_of(alloc: Global, flavour: Flavour, text: &str) -> Result<Vec<Piece>, ParseFailure>
-    ensures pieces { IfOk result (λ pieces. AreExplained flavour text.now pieces.items) }
+fn pieces_of(
+    alloc: Global,
+    flavour: Flavour,
+    pre_release: PreRelease,
+    text: &str,
+) -> Result<Vec<Piece>, ParseFailure>
+    ensures pieces { IfOk result
+        (λ pieces. AreExplained flavour pre_release text.now pieces.items) }
     ensures memory { IfErr result (λ failure. failure ≡ None) }
 {
-    pieces_from(alloc, flavour, first_piece(text))
+    pieces_from(alloc, flavour, pre_release, first_piece(text))
 }
 
 // The text as the piece that means each of these ranges, of which the strict grammar gives a text one.
-fn whole_of(alloc: Global, text: &str, ranges: &[VersionRange]) -> Result<Vec<Piece>, AllocError>
-    ensures { IfOk result (λ pieces. AreWholeTexts text.now ranges.now pieces.items) }
+fn whole_of(
+    alloc: Global,
+    pre_release: PreRelease,
+    text: &str,
+    ranges: &[VersionRange],
+) -> Result<Vec<Piece>, AllocError>
+    ensures { IfOk result
+        (λ pieces. AreWholeTexts pre_release text.now ranges.now pieces.items) }
 {
     let mut pieces = Vec::new(alloc);
     for range in ranges {
-        pieces.push(Piece::whole(alloc, text, range)?)?;
+        pieces.push(Piece::whole(alloc, pre_release, text, range)?)?;
     }
     Ok(pieces)
 }
 
 /// What the reader of this grammar makes of a text: the tag that it is; or its pieces, each with the range that it means and
-/// the least version of that, or why it is bad and left out, and the normal text.
+/// the least version of that, with pre-releases restricted or admitted throughout, or why it is bad and left out, and the
+/// normal text.
 ///
 /// Otherwise the reader's refusal is told, or want of memory.
-pub fn explain(alloc: Global, flavour: Flavour, text: &str) -> Result<Explanation, ParseFailure>
-    ensures answer { IfOk result (IsExplained flavour text.now) }
+pub fn explain(
+    alloc: Global,
+    flavour: Flavour,
+    pre_release: PreRelease,
+    text: &str,
+) -> Result<Explanation, ParseFailure>
+    ensures answer { IfOk result (IsExplained flavour pre_release text.now) }
     ensures refused { IfErr result (IsUnread flavour text.now) }
 {
     let requirement = requirement(alloc, flavour, text)?;
     let pieces = match (requirement.inner(), flavour) {
         (RangeSetOrTag::Tag(tag), _) => return Ok(Explanation::Tag(tag.copy()?)),
         (RangeSetOrTag::RangeSet(set), Flavour::Specifier) => {
-            whole_of(alloc, text, set.0.iter().as_slice())?
+            whole_of(alloc, pre_release, text, set.0.iter().as_slice())?
         }
-        (RangeSetOrTag::RangeSet(_), Flavour::Npm) => pieces_of(alloc, flavour, text.trim())?,
-        (RangeSetOrTag::RangeSet(_), Flavour::Normal) => pieces_of(alloc, flavour, text)?,
+        (RangeSetOrTag::RangeSet(_), Flavour::Npm) => pieces_of(
+            alloc,
+            flavour,
+            pre_release,
+            text.trim(),
+        )?,
+        (RangeSetOrTag::RangeSet(_), Flavour::Normal) => pieces_of(
+            alloc,
+            flavour,
+            pre_release,
+            text,
+        )?,
     };
     let normal = requirement.to_string_normalized(alloc)?;
     Ok(Explanation::Ranges { pieces, normal })

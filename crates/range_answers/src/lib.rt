@@ -2,7 +2,6 @@
 //! says what is answered. How it is written on lines, or as JSON, is the program's own.
 #![tactic(auto)]
 
-mod cutting;
 pub mod explained;
 pub mod packages;
 pub mod reading;

@@ -1,6 +1,6 @@
 //! What suits several requirements at once, and what a new one allows beside an old one.
 //!
-//! Both go by npm's rule about pre-releases.
+//! Both go by npm's rule about pre-releases, or with pre-releases admitted throughout.
 
 ghost use Rattle.std.specs.Prelude.{◌≡◌, ◌∷◌, [], IfErr, IfOk};
 ghost use Rattle.std.specs.Option.{option_copied};
@@ -8,7 +8,7 @@ ghost use Rattle.range_answers.specs.Reading.{IsRefusalAt, texts_of};
 ghost use Rattle.range_answers.specs.Together.{IsCommon, IsCommonOfTexts, IsWithin, IsWithinOfTexts, first_tag};
 
 use crate::reading::{RefusedWord, requirement_at, requirements};
-use deno_semver::{PackageTag, Version, VersionReq};
+use deno_semver::{PackageTag, PreRelease, Version, VersionReq};
 use semver_req::common::values::Flavour;
 use std::alloc::{AllocError, Global};
 
@@ -46,8 +46,12 @@ fn first_tag(requirements: &[VersionReq]) -> Option<&str>
 }
 
 // The least version that suits all of the requirements.
-fn common_of(alloc: Global, requirements: &[VersionReq]) -> Result<Common, AllocError>
-    ensures { IfOk result (IsCommon requirements.now) }
+fn common_of(
+    alloc: Global,
+    pre_release: PreRelease,
+    requirements: &[VersionReq],
+) -> Result<Common, AllocError>
+    ensures { IfOk result (IsCommon pre_release requirements.now) }
 {
     if let Some(tag) = first_tag(requirements) {
         return Ok(Common::Tag(PackageTag::from_str(alloc, tag)?));
@@ -55,42 +59,50 @@ fn common_of(alloc: Global, requirements: &[VersionReq]) -> Result<Common, Alloc
     let Some((first, others)) = requirements.split_first() else {
         return Ok(Common::Nothing);
     };
-    match first.common_version_with_all(alloc, others)? {
+    match first.common_version_of_all_with(alloc, others, pre_release)? {
         Some(least) => Ok(Common::Least(least)),
         None => Ok(Common::Nothing),
     }
 }
 
-/// The least version that suits all of the texts, by the reader of this grammar.
+/// The least version that suits all of the texts, by the reader of this grammar, with pre-releases restricted or admitted
+/// throughout.
 ///
 /// It is the least that every requirement matches, of those that a text stands for; a tag among them is told, once all are
 /// read. Otherwise the first text that is refused is told, or want of memory.
 pub fn common_version(
     alloc: Global,
     flavour: Flavour,
+    pre_release: PreRelease,
     texts: &[&str],
 ) -> Result<Common, RefusedWord>
-    ensures answer { IfOk result (IsCommonOfTexts flavour (texts_of texts.now)) }
+    ensures answer { IfOk result (IsCommonOfTexts flavour pre_release (texts_of texts.now)) }
     ensures refused { IfErr result (IsRefusalAt flavour (texts_of texts.now)) }
 {
     let requirements = requirements(alloc, flavour, texts)?;
-    Ok(common_of(alloc, requirements.as_slice())?)
+    Ok(common_of(alloc, pre_release, requirements.as_slice())?)
 }
 
 // What the new requirement allows beside the old one.
-fn within_of(alloc: Global, new: &VersionReq, old: &VersionReq) -> Result<Within, AllocError>
-    ensures { IfOk result (IsWithin new.now old.now) }
+fn within_of(
+    alloc: Global,
+    pre_release: PreRelease,
+    new: &VersionReq,
+    old: &VersionReq,
+) -> Result<Within, AllocError>
+    ensures { IfOk result (IsWithin pre_release new.now old.now) }
 {
     if let Some(tag) = new.tag().or(old.tag()) {
         return Ok(Within::Tag(PackageTag::from_str(alloc, tag)?));
     }
-    match new.version_outside(alloc, old)? {
+    match new.version_outside_with(alloc, old, pre_release)? {
         Some(first) => Ok(Within::No(first)),
         None => Ok(Within::Yes),
     }
 }
 
-/// What the new text allows beside the old one, by the reader of this grammar.
+/// What the new text allows beside the old one, by the reader of this grammar, with pre-releases restricted or admitted
+/// throughout.
 ///
 /// It is whether the old requirement matches each version that a text stands for and the new one matches, and if not, the
 /// least that it doesn't; a tag is told, once both are read. Otherwise the first text that is refused is told, the new one
@@ -98,13 +110,14 @@ fn within_of(alloc: Global, new: &VersionReq, old: &VersionReq) -> Result<Within
 pub fn containment(
     alloc: Global,
     flavour: Flavour,
+    pre_release: PreRelease,
     new: &str,
     old: &str,
 ) -> Result<Within, RefusedWord>
-    ensures answer { IfOk result (IsWithinOfTexts flavour new.now old.now) }
+    ensures answer { IfOk result (IsWithinOfTexts flavour pre_release new.now old.now) }
     ensures refused { IfErr result (IsRefusalAt flavour (new.now ∷ old.now ∷ [])) }
 {
     let new = requirement_at(alloc, flavour, new, 0)?;
     let old = requirement_at(alloc, flavour, old, 1)?;
-    Ok(within_of(alloc, &new, &old)?)
+    Ok(within_of(alloc, pre_release, &new, &old)?)
 }

@@ -52,7 +52,7 @@ pub fn common<O: Write, E: Write>(
 ) -> Result<Status, Stop> {
     let alloc = console.alloc;
     let words = matches.get_strs("REQ").unwrap_or(&[]);
-    match common_version(alloc, options.flavour, words) {
+    match common_version(alloc, options.flavour, options.pre_release, words) {
         Ok(Common::Least(version)) => {
             let line = format!(in alloc; "{version}")?;
             let json = json!(in alloc; {"version": line.as_str()})?;
@@ -78,7 +78,7 @@ pub fn within<O: Write, E: Write>(
     let alloc = console.alloc;
     let new = matches.get_str("NEW").unwrap_or("");
     let old = matches.get_str("OLD").unwrap_or("");
-    match containment(alloc, options.flavour, new, old) {
+    match containment(alloc, options.flavour, options.pre_release, new, old) {
         Ok(Within::Yes) => {
             let json = json!(in alloc; {"within": true})?;
             console.answer(options, "yes", &json)?;

@@ -79,20 +79,24 @@ fn asking<'a>(alloc: Global, name: &'a str, about: &'a str) -> Result<Command<'a
     command(alloc, name, about)?.arg(reader)
 }
 
+// A command that asks what requirements match.
+fn weighing<'a>(alloc: Global, name: &'a str, about: &'a str) -> Result<Command<'a>, AllocError> {
+    asking(alloc, name, about)?.arg(flag(
+        alloc,
+        "pre",
+        "Let every pre-release between the bounds match",
+    ))
+}
+
 // A command that matches versions with a requirement.
 fn matching<'a>(alloc: Global, name: &'a str, about: &'a str) -> Result<Command<'a>, AllocError> {
-    asking(alloc, name, about)?
-        .arg(flag(
-            alloc,
-            "pre",
-            "Let every pre-release between the bounds match",
-        ))?
+    weighing(alloc, name, about)?
         .arg(word(alloc, "REQ", "The requirement"))?
         .arg(versions(alloc))
 }
 
 fn explain<'a>(alloc: Global) -> Result<Command<'a>, AllocError> {
-    asking(
+    weighing(
         alloc,
         "explain",
         "Tell what the reader makes of a requirement",
@@ -114,7 +118,7 @@ fn common<'a>(alloc: Global) -> Result<Command<'a>, AllocError> {
     let requirements = word(alloc, "REQ", "The requirements, two or more")
         .num_args(2..)
         .action(ArgAction::Append);
-    asking(
+    weighing(
         alloc,
         "common",
         "Print the least version that suits all requirements",
@@ -123,7 +127,7 @@ fn common<'a>(alloc: Global) -> Result<Command<'a>, AllocError> {
 }
 
 fn within<'a>(alloc: Global) -> Result<Command<'a>, AllocError> {
-    asking(
+    weighing(
         alloc,
         "within",
         "Tell whether OLD allows each version that NEW allows",

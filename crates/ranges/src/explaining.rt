@@ -3,7 +3,7 @@
 use crate::args::Options;
 use crate::console::{Console, Status, Stop};
 use clap::ArgMatches;
-use deno_semver::{RangeBound, Version, VersionBound, VersionBoundKind, VersionRange};
+use deno_semver::{PreRelease, RangeBound, Version, VersionBound, VersionBoundKind, VersionRange};
 use range_answers::explained::{Explanation, Meaning, Piece, explain};
 use serde_json::{Value, json};
 use std::alloc::{AllocError, Global};
@@ -99,11 +99,17 @@ impl fmt::Display for Numbers<'_> {
 
 // Which pre-releases a range admits, in words.
 #[derive(Clone, Copy)]
-struct PreReleases<'a>(&'a VersionRange);
+struct PreReleases<'a> {
+    range: &'a VersionRange,
+    pre_release: PreRelease,
+}
 
 impl fmt::Display for PreReleases<'_> {
     fn fmt<W: fmt::Write>(&self, f: &mut fmt::Formatter<W>) -> fmt::Result {
-        match admitted(self.0) {
+        if self.pre_release == PreRelease::Admitted {
+            return f.write_str("pre-releases too");
+        }
+        match admitted(self.range) {
             (Some(first), Some(second)) => {
                 let (first, second) = (Numbers(first), Numbers(second));
                 write!(f, "of pre-releases only those of {first} and {second}")
@@ -116,13 +122,16 @@ impl fmt::Display for PreReleases<'_> {
 
 // A piece in words.
 #[derive(Clone, Copy)]
-struct Line<'a>(&'a Piece);
+struct Line<'a> {
+    piece: &'a Piece,
+    pre_release: PreRelease,
+}
 
 impl fmt::Display for Line<'_> {
     fn fmt<W: fmt::Write>(&self, f: &mut fmt::Formatter<W>) -> fmt::Result {
-        let text = self.0.text.as_str().trim();
+        let text = self.piece.text.as_str().trim();
         write!(f, "\"{text}\": ")?;
-        match &self.0.meaning {
+        match &self.piece.meaning {
             Meaning::Range {
                 range,
                 least: Some(least),
@@ -130,7 +139,11 @@ impl fmt::Display for Line<'_> {
                 if let Some(only) = only_version(range) {
                     return write!(f, "{only} alone");
                 }
-                let (bounds, admitted) = (Bounds(range), PreReleases(range));
+                let bounds = Bounds(range);
+                let admitted = PreReleases {
+                    range,
+                    pre_release: self.pre_release,
+                };
                 write!(f, "{bounds}; {admitted}; the least is {least}")
             }
             Meaning::Range { least: None, .. } => f.write_str("no version matches"),
@@ -148,7 +161,15 @@ fn bound_json(alloc: Global, bound: &RangeBound) -> Result<Value, AllocError> {
     json!(in alloc; {"version": version, "inclusive": inclusive})
 }
 
-fn numbers_json(alloc: Global, range: &VersionRange) -> Result<Value, AllocError> {
+// Of which three numbers pre-releases match, or `all`.
+fn admitted_json(
+    alloc: Global,
+    range: &VersionRange,
+    pre_release: PreRelease,
+) -> Result<Value, AllocError> {
+    if pre_release == PreRelease::Admitted {
+        return Ok(Value::String(String::from_str(alloc, "all")?));
+    }
     let (first, second) = admitted(range);
     let mut items = Vec::new(alloc);
     for version in [first, second].into_iter().flatten() {
@@ -164,26 +185,31 @@ fn least_json(alloc: Global, least: &Option<Version>) -> Result<Value, AllocErro
     }
 }
 
-fn piece_json(alloc: Global, piece: &Piece) -> Result<Value, AllocError> {
+fn piece_json(alloc: Global, piece: &Piece, pre_release: PreRelease) -> Result<Value, AllocError> {
     let text = piece.text.as_str().trim();
     match &piece.meaning {
         Meaning::Range { range, least } => {
             let start = bound_json(alloc, &range.start)?;
             let end = bound_json(alloc, &range.end)?;
-            let numbers = numbers_json(alloc, range)?;
+            let admitted = admitted_json(alloc, range, pre_release)?;
             let least = least_json(alloc, least)?;
             json!(in alloc; {
-                "text": text, "start": start, "end": end, "pre-releases": numbers, "least": least
+                "text": text, "start": start, "end": end, "pre-releases": admitted, "least": least
             })
         }
         Meaning::LeftOut(refusal) => json!(in alloc; {"text": text, "refused": refusal.message()}),
     }
 }
 
-fn pieces_json(alloc: Global, pieces: &[Piece], normal: &str) -> Result<Value, AllocError> {
+fn pieces_json(
+    alloc: Global,
+    pieces: &[Piece],
+    pre_release: PreRelease,
+    normal: &str,
+) -> Result<Value, AllocError> {
     let mut items = Vec::new(alloc);
     for piece in pieces {
-        items.push(piece_json(alloc, piece)?)?;
+        items.push(piece_json(alloc, piece, pre_release)?)?;
     }
     let items = Value::Array(items);
     json!(in alloc; {"alternatives": items, "normal": normal})
@@ -212,18 +238,25 @@ pub fn tell<O: Write, E: Write>(
     options: Options,
 ) -> Result<Status, Stop> {
     let word = matches.get_str("REQ").unwrap_or("");
-    let (pieces, normal) = match explain(console.alloc, options.flavour, word) {
+    let pre_release = options.pre_release;
+    let (pieces, normal) = match explain(console.alloc, options.flavour, pre_release, word) {
         Ok(Explanation::Tag(tag)) => return tell_tag(console, options, tag.as_str()),
         Ok(Explanation::Ranges { pieces, normal }) => (pieces, normal),
         Err(failure) => return console.refuse_requirement(word, &failure),
     };
     if options.json {
-        let json = pieces_json(console.alloc, pieces.as_slice(), normal.as_str())?;
+        let json = pieces_json(
+            console.alloc,
+            pieces.as_slice(),
+            pre_release,
+            normal.as_str(),
+        )?;
         console.json(&json)?;
         return Ok(Status::Answered);
     }
     for piece in &pieces {
-        writeln!(console.out, "{}", Line(piece))?;
+        let line = Line { piece, pre_release };
+        writeln!(console.out, "{line}")?;
     }
     writeln!(console.out, "normal text: {normal}")?;
     Ok(Status::Answered)

@@ -1,5 +1,6 @@
 -- Of the versions that pass a test, the least that is found from a start: it reaches each version that the start holds
--- where the test goes on below that, as far as the start holds versions of its kind.
+-- where the test goes on below that, as far as the start holds versions of its kind. With pre-releases admitted all versions
+-- are of one kind.
 use Rattle.std.proofs.Common.{◌≡◌, ◌&&◌, ◌||◌, Bool, true, false, not, [], ◌∷◌, Option, Some, None, refl, sym, ap, ◌∙◌, inl, inr}
 use Rattle.std.specs.Prelude.{◌⊎◌, if◌then◌else◌, IfSome}
 use Rattle.std.proofs.lemmas.Bool.{cases_Bool}
@@ -8,16 +9,19 @@ use Rattle.std.specs.Ordering.{is_le, is_lt}
 use Rattle.std.specs.declared.cmp.Ordering.{Ordering}
 use Rattle.std.specs.declared.cmp.Ordering.TheVariants.{Less, Equal, Greater}
 use Rattle.semver_base.specs.LeastVersion.{IsLeast, IsReadable}
-use Rattle.semver_base.specs.LeastSteps.{kept_if, least_from, least_pre, least_release, lesser, lower_by}
-use Rattle.semver_base.specs.Meaning.{admits_pre, alternative_means, bounds_hold, end_holds, has_pre_of, is_below, is_release, start_holds}
+use Rattle.semver_base.specs.LeastSteps.{kept_if, least_admitted, least_free, least_from, least_pre, least_release, least_version, lesser, lower_by}
+use Rattle.semver_base.specs.Meaning.{admits_pre, alternative_means_with, bounds_hold, end_holds, has_pre_of, is_below, is_release, is_unrestricted, start_holds}
 use Rattle.semver_base.specs.Precedence.{precedence_cmp}
 use Rattle.semver_base.specs.PrecedenceLaws.{precedence_total}
 use Rattle.semver_base.specs.declared.version.Version.{Version}
+use Rattle.semver_base.specs.declared.range.PreRelease.{PreRelease}
+use Rattle.semver_base.specs.declared.range.PreRelease.TheVariants.{Restricted, Admitted}
 use Rattle.semver_base.specs.declared.range.RangeBound.{RangeBound}
 use Rattle.semver_base.specs.declared.range.RangeBound.TheVariants as bound
 use Rattle.semver_base.specs.declared.range.VersionBoundKind.{VersionBoundKind}
 use Rattle.semver_base.specs.declared.range.VersionBoundKind.TheVariants as kind
 use Rattle.semver_base.specs.declared.range.VersionRange.{VersionRange}
+use Rattle.semver_base.proofs.LeastAbove.{version_least}
 use Rattle.semver_base.proofs.LeastPres.{is_pre_above, pre_least}
 use Rattle.semver_base.proofs.LeastReleases.{is_release_from, release_least}
 use Rattle.semver_base.proofs.Orders.{and_both, and_first, and_second, le_le, le_less, or_cases, or_false, or_first, or_second, turned}
@@ -76,11 +80,12 @@ module _ (P : Version → Type 0) where
       go true = h
       go false = tt
 
-  -- from a start, of the numbers of the range's bounds
-  pub from_keeps : (test : Version → Bool) (a : VersionRange) (start : RangeBound) → IfSome (least_release start) P → IfSome (least_pre start a.start) P → IfSome (least_pre start a.end) P → IfSome (least_from test a start) P
-  from_keeps test a start release first second =
-      lesser_keeps (kept_if test (least_release start)) _ (kept_keeps test (least_release start) release)
-      (lesser_keeps (kept_if test (least_pre start a.start)) _ (kept_keeps test (least_pre start a.start) first) (kept_keeps test (least_pre start a.end) second))
+  -- from a start, of what no bound has to admit and of what the range's bounds have to
+  pub from_keeps : (flag : PreRelease) (test : Version → Bool) (a : VersionRange) (start : RangeBound) → IfSome (least_free flag start) P → IfSome (least_admitted flag start a.start) P → IfSome (least_admitted flag start a.end) P
+      → IfSome (least_from flag test a start) P
+  from_keeps flag test a start free first second =
+      lesser_keeps (kept_if test (least_free flag start)) _ (kept_keeps test (least_free flag start) free)
+      (lesser_keeps (kept_if test (least_admitted flag start a.start)) _ (kept_keeps test (least_admitted flag start a.start) first) (kept_keeps test (least_admitted flag start a.end) second))
 
 itself : (x : Version) → is_le (precedence_cmp x x) ≡ true
 itself x = ap is_le (tied_itself precedence_total x)
@@ -102,20 +107,20 @@ lesser_reaches_second (Some x) (Some y) v h = le_le precedence_total (lower_by (
 
 -- ---- what a range means
 
-abbrev pub means : VersionRange → Version → Bool
-means a v = alternative_means (a ∷ []) v
+abbrev pub means : PreRelease → VersionRange → Version → Bool
+means flag a v = alternative_means_with flag (a ∷ []) v
 
-pub means_start : (a : VersionRange) (v : Version) → means a v ≡ true → start_holds a.start v ≡ true
-means_start a v h = and_first _ (end_holds a.end v) (and_first (bounds_hold a v) true (and_first (bounds_hold a v && true) _ h))
+pub means_start : (flag : PreRelease) (a : VersionRange) (v : Version) → means flag a v ≡ true → start_holds a.start v ≡ true
+means_start flag a v h = and_first _ (end_holds a.end v) (and_first (bounds_hold a v) true (and_first (bounds_hold a v && true) _ h))
 
-pub means_end : (a : VersionRange) (v : Version) → means a v ≡ true → end_holds a.end v ≡ true
-means_end a v h = and_second (start_holds a.start v) _ (and_first (bounds_hold a v) true (and_first (bounds_hold a v && true) _ h))
+pub means_end : (flag : PreRelease) (a : VersionRange) (v : Version) → means flag a v ≡ true → end_holds a.end v ≡ true
+means_end flag a v h = and_second (start_holds a.start v) _ (and_first (bounds_hold a v) true (and_first (bounds_hold a v && true) _ h))
 
-pub means_admits : (a : VersionRange) (v : Version) → means a v ≡ true → (is_release v || admits_pre a v) ≡ true
-means_admits a v h = rw (or_false (admits_pre a v)) at (and_second (bounds_hold a v && true) _ h)
+pub means_admits : (flag : PreRelease) (a : VersionRange) (v : Version) → means flag a v ≡ true → (is_unrestricted flag v || admits_pre a v) ≡ true
+means_admits flag a v h = rw (or_false (admits_pre a v)) at (and_second (bounds_hold a v && true) _ h)
 
-pub means_from : (a : VersionRange) (v : Version) → start_holds a.start v ≡ true → end_holds a.end v ≡ true → (is_release v || admits_pre a v) ≡ true → means a v ≡ true
-means_from a v start end admitted = rw (start, end, or_false (admits_pre a v)) admitted
+pub means_from : (flag : PreRelease) (a : VersionRange) (v : Version) → start_holds a.start v ≡ true → end_holds a.end v ≡ true → (is_unrestricted flag v || admits_pre a v) ≡ true → means flag a v ≡ true
+means_from flag a v start end admitted = rw (start, end, or_false (admits_pre a v)) admitted
 
 -- an end that holds a version holds what is not above it
 end_lower : (end : RangeBound) (w v : Version) → is_le (precedence_cmp w v) ≡ true → end_holds end v ≡ true → end_holds end w ≡ true
@@ -133,9 +138,10 @@ end_lower (bound.Version x) w v le h = go x.kind h
 
 -- ---- versions of one kind
 
--- both are releases, or both pre-releases of the same numbers
-abbrev pub AreAlike : Version → Version → Type 0
-AreAlike w v = ((is_release w ≡ true) × (is_release v ≡ true)) ⊎ ((is_release w ≡ false) × (is_release v ≡ false) × SameNumbers v w)
+-- both are releases, or both pre-releases of the same numbers; where pre-releases are admitted any two are alike
+abbrev pub AreAlike : PreRelease → Version → Version → Type 0
+AreAlike Admitted w v = Unit {0}
+AreAlike Restricted w v = ((is_release w ≡ true) × (is_release v ≡ true)) ⊎ ((is_release w ≡ false) × (is_release v ≡ false) × SameNumbers v w)
 
 -- a bound that is a pre-release of the numbers of v is one of those of w too
 same_admits : (x : RangeBound) (w v : Version) → SameNumbers v w → has_pre_of x v ≡ true → has_pre_of x w ≡ true
@@ -143,22 +149,23 @@ same_admits bound.Unbounded w v same h = h
 same_admits (bound.Version x) w v same h = triples.pre_from x.version w (triples.same_on x.version v w (triples.pre_numbers x.version v h) same) (triples.pre_some x.version v h)
 
 -- a range that admits a version admits those of its kind
-pub alike_admitted : (a : VersionRange) (w v : Version) → AreAlike w v → (is_release v || admits_pre a v) ≡ true → (is_release w || admits_pre a w) ≡ true
-alike_admitted a w v (inl plain) h = or_first _ (admits_pre a w) plain.0
-alike_admitted a w v (inr pre) h = or_second (is_release w) _ (elim (or_cases _ _ (rw pre.1 at h)) [
+pub alike_admitted : (flag : PreRelease) (a : VersionRange) (w v : Version) → AreAlike flag w v → (is_unrestricted flag v || admits_pre a v) ≡ true → (is_unrestricted flag w || admits_pre a w) ≡ true
+alike_admitted Admitted a w v alike h = refl
+alike_admitted Restricted a w v (inl plain) h = or_first _ (admits_pre a w) plain.0
+alike_admitted Restricted a w v (inr pre) h = or_second (is_release w) _ (elim (or_cases _ _ (rw pre.1 at h)) [
   | inl start ↦ or_first _ _ (same_admits a.start w v pre.2 start)
   | inr end ↦ or_second (has_pre_of a.start w) _ (same_admits a.end w v pre.2 end)
 ])
 
 -- a version that the start of a range holds is meant by it where one of its kind is that is not below it
-pub lower_means : (a : VersionRange) (w v : Version) → start_holds a.start w ≡ true → AreAlike w v → is_le (precedence_cmp w v) ≡ true → means a v ≡ true → means a w ≡ true
-lower_means a w v start alike le h = means_from a w start (end_lower a.end w v le (means_end a v h)) (alike_admitted a w v alike (means_admits a v h))
+pub lower_means : (flag : PreRelease) (a : VersionRange) (w v : Version) → start_holds a.start w ≡ true → AreAlike flag w v → is_le (precedence_cmp w v) ≡ true → means flag a v ≡ true → means flag a w ≡ true
+lower_means flag a w v start alike le h = means_from flag a w start (end_lower a.end w v le (means_end flag a v h)) (alike_admitted flag a w v alike (means_admits flag a v h))
 
 -- ---- from a start
 
 -- the test passes what the start holds of the version's kind, down from the version
-abbrev pub GoesDown : (Version → Bool) → RangeBound → Version → Type 0
-GoesDown test start v = (w : Version) → start_holds start w ≡ true → AreAlike w v → is_le (precedence_cmp w v) ≡ true → test w ≡ true
+abbrev pub GoesDown : PreRelease → (Version → Bool) → RangeBound → Version → Type 0
+GoesDown flag test start v = (w : Version) → start_holds start w ≡ true → AreAlike flag w v → is_le (precedence_cmp w v) ≡ true → test w ≡ true
 
 kept_reaches : (kind_of test : Version → Bool) (x : Option Version) (v : Version) → IsLeast kind_of x → IsReadable v → kind_of v ≡ true
     → ((w : Version) → kind_of w ≡ true → is_le (precedence_cmp w v) ≡ true → test w ≡ true) → Reaches (kept_if test x) v
@@ -173,18 +180,18 @@ kept_passes test (Some w) = elim (cases_Bool (test w)) [
 ]
 
 -- what is found passes the test
-pub from_passes : (test : Version → Bool) (a : VersionRange) (start : RangeBound) → IfSome (least_from test a start) (λ w. test w ≡ true)
-from_passes test a start =
+pub from_passes : (flag : PreRelease) (test : Version → Bool) (a : VersionRange) (start : RangeBound) → IfSome (least_from flag test a start) (λ w. test w ≡ true)
+from_passes flag test a start =
     let P : Version → Type 0 = λ w. test w ≡ true in
-    lesser_keeps P (kept_if test (least_release start)) _ (kept_passes test (least_release start))
-    (lesser_keeps P (kept_if test (least_pre start a.start)) _ (kept_passes test (least_pre start a.start)) (kept_passes test (least_pre start a.end)))
+    lesser_keeps P (kept_if test (least_free flag start)) _ (kept_passes test (least_free flag start))
+    (lesser_keeps P (kept_if test (least_admitted flag start a.start)) _ (kept_passes test (least_admitted flag start a.start)) (kept_passes test (least_admitted flag start a.end)))
 
 both_numbers : (x : RangeBound) (w v : Version) → has_pre_of x w ≡ true → has_pre_of x v ≡ true → SameNumbers v w
 both_numbers bound.Unbounded w v h k = cc h
 both_numbers (bound.Version x) w v h k = triples.same_on v x.version w (triples.same_back x.version v (triples.pre_numbers x.version v k)) (triples.pre_numbers x.version w h)
 
 -- a pre-release of the numbers of the bound is reached
-pre_reached : (test : Version → Bool) (start x : RangeBound) (v : Version) → IsReadable v → start_holds start v ≡ true → is_release v ≡ false → has_pre_of x v ≡ true → GoesDown test start v
+pre_reached : (test : Version → Bool) (start x : RangeBound) (v : Version) → IsReadable v → start_holds start v ≡ true → is_release v ≡ false → has_pre_of x v ≡ true → GoesDown Restricted test start v
     → Reaches (kept_if test (least_pre start x)) v
 pre_reached test start x v readable held pre admitted down = kept_reaches (is_pre_above start x) test (least_pre start x) v (pre_least start x) readable (and_both _ _ held (rw (pre, admitted) refl)) low
   where
@@ -195,15 +202,17 @@ pre_reached test start x v readable held pre admitted down = kept_reaches (is_pr
         let of_bound = and_second (not (is_release w)) _ rest in
         down w (and_first _ (not (is_release w) && has_pre_of x w) own) (inr (some, pre, both_numbers x w v of_bound admitted)) le
 
-release_reached : (test : Version → Bool) (start : RangeBound) (v : Version) → IsReadable v → start_holds start v ≡ true → is_release v ≡ true → GoesDown test start v
+release_reached : (test : Version → Bool) (start : RangeBound) (v : Version) → IsReadable v → start_holds start v ≡ true → is_release v ≡ true → GoesDown Restricted test start v
     → Reaches (kept_if test (least_release start)) v
 release_reached test start v readable held plain down = kept_reaches (is_release_from start) test (least_release start) v (release_least start) readable (and_both _ _ held plain)
     (λ w own le. down w (and_first _ (is_release w) own) (inl (and_second (start_holds start w) _ own, plain)) le)
 
 -- a version that the start holds and the range admits is reached, where the test goes down from it
-pub from_reaches : (test : Version → Bool) (a : VersionRange) (start : RangeBound) (v : Version) → IsReadable v → start_holds start v ≡ true → (is_release v || admits_pre a v) ≡ true → GoesDown test start v
-    → Reaches (least_from test a start) v
-from_reaches test a start v readable held admitted down = elim (cases_Bool (is_release v)) [
+pub from_reaches : (flag : PreRelease) (test : Version → Bool) (a : VersionRange) (start : RangeBound) (v : Version) → IsReadable v → start_holds start v ≡ true → (is_unrestricted flag v || admits_pre a v) ≡ true → GoesDown flag test start v
+    → Reaches (least_from flag test a start) v
+from_reaches Admitted test a start v readable held admitted down =
+    lesser_reaches_first (kept_if test (least_version start)) _ v (kept_reaches (start_holds start) test (least_version start) v (version_least start) readable held (λ w own le. down w own tt le))
+from_reaches Restricted test a start v readable held admitted down = elim (cases_Bool (is_release v)) [
   | inl plain ↦ lesser_reaches_first (kept_if test (least_release start)) _ v (release_reached test start v readable held plain down)
   | inr pre ↦ lesser_reaches_second (kept_if test (least_release start)) _ v (elim (or_cases (has_pre_of a.start v) (has_pre_of a.end v) (rw pre at admitted)) [
     | inl first ↦ lesser_reaches_first (kept_if test (least_pre start a.start)) _ v (pre_reached test start a.start v readable held pre first down)

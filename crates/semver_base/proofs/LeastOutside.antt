@@ -8,13 +8,14 @@ use Rattle.std.specs.Ordering.{is_ge, is_gt, is_le}
 use Rattle.std.specs.declared.cmp.Ordering.{Ordering}
 use Rattle.std.specs.declared.cmp.Ordering.TheVariants.{Less, Equal, Greater}
 use Rattle.semver_base.specs.Clamp.{clamped_start, greater_of, of_tied}
-use Rattle.semver_base.specs.LeastVersion.{means_alone, IsLeast, IsReadable}
+use Rattle.semver_base.specs.LeastVersion.{means_alone_with, IsLeast, IsReadable}
 use Rattle.semver_base.specs.LeastSteps.{after, found_after, least_from, least_outside, lesser, other_kind}
-use Rattle.semver_base.specs.Meaning.{alternatives, end_holds, is_above, is_below, start_holds, tree_means}
+use Rattle.semver_base.specs.Meaning.{alternatives, end_holds, is_above, is_below, start_holds, tree_means_with}
 use Rattle.semver_base.specs.Precedence.{precedence_cmp}
 use Rattle.semver_base.specs.PrecedenceLaws.{precedence_total}
 use Rattle.semver_base.specs.declared.version.Version.{Version}
-use Rattle.semver_base.specs.declared.range.PreRelease.TheVariants.{Restricted}
+use Rattle.semver_base.specs.declared.range.PreRelease.{PreRelease}
+use Rattle.semver_base.specs.declared.range.PreRelease.TheVariants.{Restricted, Admitted}
 use Rattle.semver_base.specs.declared.range.RangeBound.{RangeBound}
 use Rattle.semver_base.specs.declared.range.RangeBound.TheVariants as bound
 use Rattle.semver_base.specs.declared.range.VersionBoundKind.{VersionBoundKind}
@@ -81,19 +82,20 @@ start_upper (bound.Version x) w v le h = go x.kind h
         let below = less_le precedence_total x.version w v (turned precedence_total w x.version Greater (gt_from _ h)) le in
         above_from kind.Exclusive (precedence_cmp v x.version) (turned precedence_total x.version v Less below)
 
-alike_back : (w v : Version) → AreAlike w v → AreAlike v w
-alike_back w v (inl plain) = inl (plain.1, plain.0)
-alike_back w v (inr pre) = inr (pre.1, pre.0, triples.same_back v w pre.2)
+alike_back : (flag : PreRelease) (w v : Version) → AreAlike flag w v → AreAlike flag v w
+alike_back Admitted w v alike = alike
+alike_back Restricted w v (inl plain) = inl (plain.1, plain.0)
+alike_back Restricted w v (inr pre) = inr (pre.1, pre.0, triples.same_back v w pre.2)
 
 -- a range that doesn't mean a version means none below it of its kind, unless only its end let the version go
-not_meant : (b : VersionRange) (w v : Version) → AreAlike w v → is_le (precedence_cmp w v) ≡ true → (end_holds b.end v ≡ false → end_holds b.end w ≡ false) → means b v ≡ false → means b w ≡ false
-not_meant b w v alike le ends none = elim (cases_Bool (means b w)) [
+not_meant : (flag : PreRelease) (b : VersionRange) (w v : Version) → AreAlike flag w v → is_le (precedence_cmp w v) ≡ true → (end_holds b.end v ≡ false → end_holds b.end w ≡ false) → means flag b v ≡ false → means flag b w ≡ false
+not_meant flag b w v alike le ends none = elim (cases_Bool (means flag b w)) [
   | inl meant ↦
-      let start = start_upper b.start w v le (means_start b w meant) in
-      let admitted = alike_admitted b v w (alike_back w v alike) (means_admits b w meant) in
+      let start = start_upper b.start w v le (means_start flag b w meant) in
+      let admitted = alike_admitted flag b v w (alike_back flag w v alike) (means_admits flag b w meant) in
       elim (cases_Bool (end_holds b.end v)) [
-        | inl held ↦ let never : true ≡ false = sym (means_from b v start held admitted) ∙ none in cc never
-        | inr past ↦ let never : true ≡ false = sym (means_end b w meant) ∙ ends past in cc never
+        | inl held ↦ let never : true ≡ false = sym (means_from flag b v start held admitted) ∙ none in cc never
+        | inr past ↦ let never : true ≡ false = sym (means_end flag b w meant) ∙ ends past in cc never
       ]
   | inr other ↦ other
 ]
@@ -198,68 +200,69 @@ tight_start a v (b ∷ bs) held = go (tight_start a v bs held)
 
 -- ---- what the range means alone
 
-none_meant : (s : RangeBound) (w v : Version) (others : List VersionRange) → start_holds s w ≡ true → AreAlike w v → is_le (precedence_cmp w v) ≡ true → AllLetGo s v others → some_means others v ≡ false → some_means others w ≡ false
-none_meant s w v [] held alike le h none = refl
-none_meant s w v (b ∷ bs) held alike le h none =
-    rw (not_meant b w v alike le (λ past. h.0 past w held) (or_none (means b v) _ none).0) (none_meant s w v bs held alike le h.1 (or_none (means b v) _ none).1)
+none_meant : (flag : PreRelease) (s : RangeBound) (w v : Version) (others : List VersionRange) → start_holds s w ≡ true → AreAlike flag w v → is_le (precedence_cmp w v) ≡ true → AllLetGo s v others → some_means flag others v ≡ false
+    → some_means flag others w ≡ false
+none_meant flag s w v [] held alike le h none = refl
+none_meant flag s w v (b ∷ bs) held alike le h none =
+    rw (not_meant flag b w v alike le (λ past. h.0 past w held) (or_none (means flag b v) _ none).0) (none_meant flag s w v bs held alike le h.1 (or_none (means flag b v) _ none).1)
   where
     or_none : (x y : Bool) → (x || y) ≡ false → (x ≡ false) × (y ≡ false)
     or_none true y e = cc e
     or_none false y e = (refl, e)
 
-alone_down : (a : VersionRange) (others : List VersionRange) (v : Version) (s : RangeBound) → IsTight a v others s → means_alone a others v ≡ true → GoesDown (means_alone a others) s v
-alone_down a others v s tight alone = λ w held alike le.
-    let own = and_first (means a v) _ alone in
-    let none : tree_means (alternatives others) v ≡ false = triples.not_true _ (and_second (means a v) _ alone) in
-    let gone : tree_means (alternatives others) w ≡ false = sym (any_alternatives Restricted others w) ∙ none_meant s w v others held alike le tight.lets_go (any_alternatives Restricted others v ∙ none) in
-    and_both _ _ (lower_means a w v (tight.within w held) alike le own) (ap not gone)
+alone_down : (flag : PreRelease) (a : VersionRange) (others : List VersionRange) (v : Version) (s : RangeBound) → IsTight a v others s → means_alone_with flag a others v ≡ true → GoesDown flag (means_alone_with flag a others) s v
+alone_down flag a others v s tight alone = λ w held alike le.
+    let own = and_first (means flag a v) _ alone in
+    let none : tree_means_with flag (alternatives others) v ≡ false = triples.not_true _ (and_second (means flag a v) _ alone) in
+    let gone : tree_means_with flag (alternatives others) w ≡ false = sym (any_alternatives flag others w) ∙ none_meant flag s w v others held alike le tight.lets_go (any_alternatives flag others v ∙ none) in
+    and_both _ _ (lower_means flag a w v (tight.within w held) alike le own) (ap not gone)
 
 -- ---- over the ranges
 
-module _ (a : VersionRange) (others : List VersionRange) where
+module _ (flag : PreRelease) (a : VersionRange) (others : List VersionRange) where
   over : List VersionRange → Option Version → Option Version
-  over bs least = fold (λ least other. lesser least (found_after a others other)) least bs
+  over bs least = fold (λ least other. lesser least (found_after flag a others other)) least bs
 
   over_keeps : (bs : List VersionRange) (least : Option Version) (v : Version) → Reaches least v → Reaches (over bs least) v
   unfolding over
   over_keeps [] least v h = h
-  over_keeps (b ∷ bs) least v h = over_keeps bs (lesser least (found_after a others b)) v (lesser_reaches_first least (found_after a others b) v h)
+  over_keeps (b ∷ bs) least v h = over_keeps bs (lesser least (found_after flag a others b)) v (lesser_reaches_first least (found_after flag a others b) v h)
 
-  over_reaches : (bs : List VersionRange) (least : Option Version) (s : RangeBound) (v : Version) → IsAmong a bs s → Reaches (least_from (means_alone a others) a s) v → Reaches (over bs least) v
+  over_reaches : (bs : List VersionRange) (least : Option Version) (s : RangeBound) (v : Version) → IsAmong a bs s → Reaches (least_from flag (means_alone_with flag a others) a s) v → Reaches (over bs least) v
   unfolding over
   over_reaches [] least s v among h = absurd among
   over_reaches (b ∷ bs) least s v (inl is) h =
-      over_keeps bs (lesser least (found_after a others b)) v (lesser_reaches_second least (found_after a others b) v (subst (λ t. Reaches (least_from (means_alone a others) a t) v) is h))
-  over_reaches (b ∷ bs) least s v (inr among) h = over_reaches bs (lesser least (found_after a others b)) s v among h
+      over_keeps bs (lesser least (found_after flag a others b)) v (lesser_reaches_second least (found_after flag a others b) v (subst (λ t. Reaches (least_from flag (means_alone_with flag a others) a t) v) is h))
+  over_reaches (b ∷ bs) least s v (inr among) h = over_reaches bs (lesser least (found_after flag a others b)) s v among h
 
-  over_has : (P : Version → Type 0) (bs : List VersionRange) (least : Option Version) → IfSome least P → AllByRecursion (λ b. IfSome (found_after a others b) P) bs → IfSome (over bs least) P
+  over_has : (P : Version → Type 0) (bs : List VersionRange) (least : Option Version) → IfSome least P → AllByRecursion (λ b. IfSome (found_after flag a others b) P) bs → IfSome (over bs least) P
   unfolding over
   over_has P [] least h each = h
-  over_has P (b ∷ bs) least h each = over_has P bs (lesser least (found_after a others b)) (lesser_keeps P least (found_after a others b) h each.0) each.1
+  over_has P (b ∷ bs) least h each = over_has P bs (lesser least (found_after flag a others b)) (lesser_keeps P least (found_after flag a others b) h each.0) each.1
 
-  pub outside_has : (P : Version → Type 0) → IfSome (least_from (means_alone a others) a a.start) P → AllByRecursion (λ b. IfSome (found_after a others b) P) others → IfSome (least_outside a others) P
+  pub outside_has : (P : Version → Type 0) → IfSome (least_from flag (means_alone_with flag a others) a a.start) P → AllByRecursion (λ b. IfSome (found_after flag a others b) P) others → IfSome (least_outside flag a others) P
   unfolding over
-  outside_has P h each = over_has P others (least_from (means_alone a others) a a.start) h each
+  outside_has P h each = over_has P others (least_from flag (means_alone_with flag a others) a a.start) h each
 
-  each_passes : (bs : List VersionRange) → AllByRecursion (λ b. IfSome (found_after a others b) (λ w. means_alone a others w ≡ true)) bs
+  each_passes : (bs : List VersionRange) → AllByRecursion (λ b. IfSome (found_after flag a others b) (λ w. means_alone_with flag a others w ≡ true)) bs
   each_passes [] = tt
-  each_passes (b ∷ bs) = (from_passes (means_alone a others) a (clamped_start a.start (after b.end)), each_passes bs)
+  each_passes (b ∷ bs) = (from_passes flag (means_alone_with flag a others) a (clamped_start a.start (after b.end)), each_passes bs)
 
-  reached : (v : Version) → IsReadable v → means_alone a others v ≡ true → Reaches (least_outside a others) v
+  reached : (v : Version) → IsReadable v → means_alone_with flag a others v ≡ true → Reaches (least_outside flag a others) v
   unfolding over
-  reached v readable alone = go (tight_start a v others (means_start a v own))
+  reached v readable alone = go (tight_start a v others (means_start flag a v own))
     where
-      own : means a v ≡ true
-      own = and_first (means a v) _ alone
+      own : means flag a v ≡ true
+      own = and_first (means flag a v) _ alone
 
-      go : (s : RangeBound) × IsTight a v others s → Reaches (least_outside a others) v
+      go : (s : RangeBound) × IsTight a v others s → Reaches (least_outside flag a others) v
       go found =
-          let here = from_reaches (means_alone a others) a found.0 v readable found.1.held (means_admits a v own) (alone_down a others v found.0 found.1 alone) in
+          let here = from_reaches flag (means_alone_with flag a others) a found.0 v readable found.1.held (means_admits flag a v own) (alone_down flag a others v found.0 found.1 alone) in
           elim found.1.among [
-            | inl is ↦ over_keeps others (least_from (means_alone a others) a a.start) v (subst (λ t. Reaches (least_from (means_alone a others) a t) v) is here)
-            | inr among ↦ over_reaches others (least_from (means_alone a others) a a.start) found.0 v among here
+            | inl is ↦ over_keeps others (least_from flag (means_alone_with flag a others) a a.start) v (subst (λ t. Reaches (least_from flag (means_alone_with flag a others) a t) v) is here)
+            | inr among ↦ over_reaches others (least_from flag (means_alone_with flag a others) a a.start) found.0 v among here
           ]
 
-  pub outside_least : IsLeast (means_alone a others) (least_outside a others)
-  outside_least = least_by (means_alone a others) (least_outside a others)
-      (outside_has (λ w. means_alone a others w ≡ true) (from_passes (means_alone a others) a a.start) (each_passes others)) reached
+  pub outside_least : IsLeast (means_alone_with flag a others) (least_outside flag a others)
+  outside_least = least_by (means_alone_with flag a others) (least_outside flag a others)
+      (outside_has (λ w. means_alone_with flag a others w ≡ true) (from_passes flag (means_alone_with flag a others) a a.start) (each_passes others)) reached

@@ -59,10 +59,10 @@ tied_numbers x y e =
     }
 
 -- pre-releases are compared by their identifiers
-pre_slice : (xs ys : List (List ℕ)) → (length xs == 0) ≡ false → (length ys == 0) ≡ false → pre_cmp xs ys ≡ slice_cmp identifier_cmp xs ys
+pub pre_slice : (xs ys : List (List ℕ)) → (length xs == 0) ≡ false → (length ys == 0) ≡ false → pre_cmp xs ys ≡ slice_cmp identifier_cmp xs ys
 pre_slice xs ys h k = rw (h, k) refl
 
-some_appended : (ids : List (List ℕ)) → (length (ids ++ zero_part ∷ []) == 0) ≡ false
+pub some_appended : (ids : List (List ℕ)) → (length (ids ++ zero_part ∷ []) == 0) ≡ false
 some_appended [] = refl
 some_appended (x ∷ xs) = not_none x _
 
@@ -119,7 +119,7 @@ zero_above k s t less = held_above k s (with_pre t (zero_part ∷ [])) (turned n
 -- ---- from among the numbers
 
 -- what the start holds is not below it
-start_le : (k : VersionBoundKind) (s v : Version) → start_holds (bound_at k s) v ≡ true → is_le (precedence_cmp s v) ≡ true
+pub start_le : (k : VersionBoundKind) (s v : Version) → start_holds (bound_at k s) v ≡ true → is_le (precedence_cmp s v) ≡ true
 start_le k s v h = le_turned precedence_total v s (above_ge k (precedence_cmp v s) h)
 
 numbers_same : (s t v : Version) → numbers_cmp s t ≡ Equal → SameNumbers t v → numbers_cmp s v ≡ Equal
@@ -148,7 +148,7 @@ own_pre_least l s t tied pre some = (
   λ v readable h. start_le kind.Inclusive s v (pre_above_is (bound_at kind.Inclusive s) l t v h).held,
 )
 
-next_holds : (s : Version) → is_release s ≡ false → start_holds (bound_at kind.Exclusive s) (with_pre s (s.pre ++ zero_part ∷ [])) ≡ true
+pub next_holds : (s : Version) → is_release s ≡ false → start_holds (bound_at kind.Exclusive s) (with_pre s (s.pre ++ zero_part ∷ [])) ≡ true
 next_holds s some = rw (by_numbers (with_pre s (s.pre ++ zero_part ∷ [])) s, numbers_tied s, pre_slice (s.pre ++ zero_part ∷ []) s.pre (some_appended s.pre) some, appended_above s.pre) refl
 
 next_le : (s t v : Version) → numbers_cmp s t ≡ Equal → is_release s ≡ false → AreParts v.pre → IsPreAbove (bound_at kind.Exclusive s) t v

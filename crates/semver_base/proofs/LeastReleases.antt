@@ -27,7 +27,7 @@ use Rattle.semver_base.proofs.Orders.{and_both, and_first, and_second, le_then_f
 abbrev pub is_release_from : RangeBound → Version → Bool
 is_release_from start v = start_holds start v && is_release v
 
-no_pre : (v : Version) → is_release v ≡ true → v.pre ≡ []
+pub no_pre : (v : Version) → is_release v ≡ true → v.pre ≡ []
 no_pre v h = nil_from_length v.pre (grind (arith, nat_tests))
 
 pub not_none : (x : List ℕ) (xs : List (List ℕ)) → (length (x ∷ xs) == 0) ≡ false
@@ -42,7 +42,7 @@ release_high : (ids : List (List ℕ)) → is_ge (pre_cmp [] ids) ≡ true
 release_high [] = refl
 release_high (x ∷ xs) = rw (not_none x xs) refl
 
-start_le : (k : VersionBoundKind) (s v : Version) → start_holds (bound_at k s) v ≡ true → is_le (numbers_cmp s v) ≡ true
+pub start_le : (k : VersionBoundKind) (s v : Version) → start_holds (bound_at k s) v ≡ true → is_le (numbers_cmp s v) ≡ true
 start_le k s v h =
     let le : is_le (precedence_cmp s v) ≡ true = le_turned precedence_total v s (above_ge k (precedence_cmp v s) h) in
     le_then_first _ (pre_cmp s.pre v.pre) (rw (by_numbers s v) at le)
@@ -68,13 +68,13 @@ then_greater Less s e h = h
 then_greater Equal s e h = cc (e, h)
 then_greater Greater s e h = refl
 
-above_under : (s v : Version) → is_release s ≡ true → is_release v ≡ true → is_gt (precedence_cmp v s) ≡ true → Under s v
+pub above_under : (s v : Version) → is_release s ≡ true → is_release v ≡ true → is_gt (precedence_cmp v s) ≡ true → Under s v
 above_under s v first second h =
     let above : precedence_cmp v s ≡ Greater = greater_from _ h in
     let tied : pre_cmp v.pre s.pre ≡ Equal = rw (no_pre s first, no_pre v second) refl in
     numbers_under s v (then_greater _ _ tied (rw (by_numbers v s) at above))
 
-under_above : (s w : Version) → Under s w → is_gt (precedence_cmp w s) ≡ true
+pub under_above : (s w : Version) → Under s w → is_gt (precedence_cmp w s) ≡ true
 under_above s w h = rw (by_numbers w s, numbers_above s w h) refl
 
 -- a release above s whose numbers are the least above those of s
@@ -106,7 +106,7 @@ none_above s v plain numbers third second first = elim (cases_Bool (is_release_f
   | inr none ↦ none
 ]
 
-next_least : (s : Version) → is_release s ≡ true → IsLeast (is_release_from (bound_at kind.Exclusive s)) (next_release s)
+pub next_least : (s : Version) → is_release s ≡ true → IsLeast (is_release_from (bound_at kind.Exclusive s)) (next_release s)
 next_least s plain = elim (cases_Bool (number_fits (s.patch + 1))) [
   | inl third ↦ rw third (raised_least s (release s.major s.minor (s.patch + 1)) plain refl (inr (refl, inr (refl, omega arith)))
       (λ v numbers h. numbers_le (release s.major s.minor (s.patch + 1)) v (omega arith) (λ e. omega arith) (λ e f. omega arith)))

@@ -4,11 +4,11 @@ use Rattle.std.proofs.Math.Seq.{take-suc}
 use Rattle.std.proofs.lemmas.List.{take_all}
 use Rattle.std.specs.List.{list_any}
 use Rattle.std.specs.Prelude.{IfSome}
-use Rattle.semver_base.specs.LeastVersion.{both_mean, set_means_alone, sets_mean, IsLeast}
+use Rattle.semver_base.specs.LeastVersion.{both_mean_with, set_means_alone_with, sets_mean_with, IsLeast}
 use Rattle.semver_base.specs.LeastSteps.{lesser}
-use Rattle.semver_base.specs.Meaning.{alternative_means, alternatives, tree_means}
+use Rattle.semver_base.specs.Meaning.{alternative_means_with, alternatives, tree_means_with}
 use Rattle.semver_base.specs.declared.version.Version.{Version}
-use Rattle.semver_base.specs.declared.range.PreRelease.TheVariants.{Restricted}
+use Rattle.semver_base.specs.declared.range.PreRelease.{PreRelease}
 use Rattle.semver_base.specs.declared.range.VersionRange.{VersionRange}
 use Rattle.semver_base.proofs.LeastFrom.{least_alike, least_by, least_passes, least_reaches, lesser_keeps, lesser_reaches_first, lesser_reaches_second}
 use Rattle.semver_base.proofs.MeaningLemmas.{any_alternatives}
@@ -28,9 +28,9 @@ lesser_least P Q x y h k = least_by (λ v. P v || Q v) (lesser x y)
     ])
 
 -- what a range means with itself is what it means
-pub itself_least : (a : VersionRange) (x : Option Version) → IsLeast (both_mean a a) x → IsLeast (λ v. alternative_means (a ∷ []) v) x
-itself_least a x h = least_alike (both_mean a a) (λ v. alternative_means (a ∷ []) v) x
-    (λ v both. and_first (alternative_means (a ∷ []) v) _ both)
+pub itself_least : (flag : PreRelease) (a : VersionRange) (x : Option Version) → IsLeast (both_mean_with flag a a) x → IsLeast (λ v. alternative_means_with flag (a ∷ []) v) x
+itself_least flag a x h = least_alike (both_mean_with flag a a) (λ v. alternative_means_with flag (a ∷ []) v) x
+    (λ v both. and_first (alternative_means_with flag (a ∷ []) v) _ both)
     (λ v readable means. and_both _ _ means means) h
 
 -- the same test, said otherwise
@@ -74,18 +74,18 @@ pub swapped_least : (P Q : Version → Bool) (x : Option Version) → IsLeast (�
 swapped_least P Q x h = least_as (λ v. P v && Q v) (λ v. Q v && P v) x (λ v. and_swap (P v) (Q v)) h
 
 -- some range of the set means the version
-abbrev pub some_means : List VersionRange → Version → Bool
-some_means ranges v = list_any (λ range. alternative_means (range ∷ []) v) ranges
+abbrev pub some_means : PreRelease → List VersionRange → Version → Bool
+some_means flag ranges v = list_any (λ range. alternative_means_with flag (range ∷ []) v) ranges
 
 -- the ranges of two sets as the sets that they are
-pub sets_least : (some others : List VersionRange) (x : Option Version) → IsLeast (λ v. some_means others v && some_means some v) x → IsLeast (sets_mean some others) x
-sets_least some others x h = least_as (λ v. some_means others v && some_means some v) (sets_mean some others) x
-    (λ v. and_swap (some_means others v) (some_means some v) ∙ ap₂ (λ (a b : Bool). a && b) (any_alternatives Restricted some v) (any_alternatives Restricted others v)) h
+pub sets_least : (flag : PreRelease) (some others : List VersionRange) (x : Option Version) → IsLeast (λ v. some_means flag others v && some_means flag some v) x → IsLeast (sets_mean_with flag some others) x
+sets_least flag some others x h = least_as (λ v. some_means flag others v && some_means flag some v) (sets_mean_with flag some others) x
+    (λ v. and_swap (some_means flag others v) (some_means flag some v) ∙ ap₂ (λ (a b : Bool). a && b) (any_alternatives flag some v) (any_alternatives flag others v)) h
 
-pub set_least : (ranges : List VersionRange) (x : Option Version) → IsLeast (some_means ranges) x → IsLeast (λ v. tree_means (alternatives ranges) v) x
-set_least ranges x h = least_as (some_means ranges) (λ v. tree_means (alternatives ranges) v) x (any_alternatives Restricted ranges) h
+pub set_least : (flag : PreRelease) (ranges : List VersionRange) (x : Option Version) → IsLeast (some_means flag ranges) x → IsLeast (λ v. tree_means_with flag (alternatives ranges) v) x
+set_least flag ranges x h = least_as (some_means flag ranges) (λ v. tree_means_with flag (alternatives ranges) v) x (any_alternatives flag ranges) h
 
 -- what the ranges of the first set mean that the other doesn't
-pub alone_least : (some others : List VersionRange) (x : Option Version) → IsLeast (λ v. not (tree_means (alternatives others) v) && some_means some v) x → IsLeast (set_means_alone some others) x
-alone_least some others x h = least_as (λ v. not (tree_means (alternatives others) v) && some_means some v) (set_means_alone some others) x
-    (λ v. and_swap (not (tree_means (alternatives others) v)) (some_means some v) ∙ ap (λ (b : Bool). b && not (tree_means (alternatives others) v)) (any_alternatives Restricted some v)) h
+pub alone_least : (flag : PreRelease) (some others : List VersionRange) (x : Option Version) → IsLeast (λ v. not (tree_means_with flag (alternatives others) v) && some_means flag some v) x → IsLeast (set_means_alone_with flag some others) x
+alone_least flag some others x h = least_as (λ v. not (tree_means_with flag (alternatives others) v) && some_means flag some v) (set_means_alone_with flag some others) x
+    (λ v. and_swap (not (tree_means_with flag (alternatives others) v)) (some_means flag some v) ∙ ap (λ (b : Bool). b && not (tree_means_with flag (alternatives others) v)) (any_alternatives flag some v)) h

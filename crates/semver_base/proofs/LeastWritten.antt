@@ -6,8 +6,8 @@ use Rattle.std.specs.declared.cmp.Ordering.{Ordering}
 use Rattle.std.specs.declared.cmp.Ordering.TheVariants.{Less, Equal, Greater}
 use Rattle.std.proofs.lemmas.Bool.{ltb-true}
 use Rattle.semver_base.specs.Clamp.{clamped_start, greater_of, of_tied}
-use Rattle.semver_base.specs.LeastVersion.{HasNoBuild, IsLeast, both_mean, means_alone}
-use Rattle.semver_base.specs.LeastSteps.{after, found_after, least_common, least_from, least_outside, least_pre, least_release, next_release, numbers_cmp, pre_above, pre_by, pre_from, release_from, with_pre, zero_part}
+use Rattle.semver_base.specs.LeastVersion.{HasNoBuild, IsLeast, both_mean_with, means_alone_with}
+use Rattle.semver_base.specs.LeastSteps.{after, found_after, least_admitted, least_common, least_free, least_from, least_outside, least_pre, least_release, least_version, next_release, numbers_cmp, pre_above, pre_by, pre_from, release_from, version_from, with_pre, zero_of, zero_part}
 use Rattle.semver_base.specs.Lexical.{IsPart}
 use Rattle.semver_base.specs.Meaning.{is_release, release}
 use Rattle.semver_base.specs.NormalText.{AreWritableRanges, IsWritableBound, IsWritableRange}
@@ -15,6 +15,8 @@ use Rattle.semver_base.specs.PartialTable.{number_fits}
 use Rattle.semver_base.specs.Precedence.{precedence_cmp}
 use Rattle.semver_base.specs.VersionText.{AreParts, IsWritable, ReadsBack}
 use Rattle.semver_base.specs.declared.version.Version.{Version}
+use Rattle.semver_base.specs.declared.range.PreRelease.{PreRelease}
+use Rattle.semver_base.specs.declared.range.PreRelease.TheVariants.{Restricted, Admitted}
 use Rattle.semver_base.specs.declared.range.RangeBound.{RangeBound}
 use Rattle.semver_base.specs.declared.range.RangeBound.TheVariants as bound
 use Rattle.semver_base.specs.declared.range.VersionBound.{VersionBound}
@@ -67,10 +69,32 @@ least_pre_no_build : (start b : RangeBound) → IfSome (least_pre start b) HasNo
 least_pre_no_build start bound.Unbounded = tt
 least_pre_no_build start (bound.Version b) = chosen HasNoBuild (is_release b.version) None _ (λ _. tt) (λ _. pre_above_no_build start b.version)
 
-pub common_no_build : (a b : VersionRange) → IfSome (least_common a b) HasNoBuild
-common_no_build a b =
-    let start : RangeBound = clamped_start a.start b.start in
-    from_keeps HasNoBuild (both_mean a b) a start (least_release_no_build start) (least_pre_no_build start a.start) (least_pre_no_build start a.end)
+zero_of_no_build : (next : Option Version) → IfSome (zero_of next) HasNoBuild
+zero_of_no_build None = tt
+zero_of_no_build (Some v) = refl
+
+version_no_build : (k : VersionBoundKind) (v : Version) → IfSome (version_from k v) HasNoBuild
+version_no_build kind.Inclusive v = refl
+version_no_build kind.Exclusive v = chosen HasNoBuild (is_release v) (zero_of (next_release v)) _ (λ _. zero_of_no_build (next_release v)) (λ _. refl)
+
+least_version_no_build : (start : RangeBound) → IfSome (least_version start) HasNoBuild
+least_version_no_build bound.Unbounded = refl
+least_version_no_build (bound.Version s) = version_no_build s.kind s.version
+
+free_no_build : (flag : PreRelease) (start : RangeBound) → IfSome (least_free flag start) HasNoBuild
+free_no_build Restricted start = least_release_no_build start
+free_no_build Admitted start = least_version_no_build start
+
+admitted_no_build : (flag : PreRelease) (start b : RangeBound) → IfSome (least_admitted flag start b) HasNoBuild
+admitted_no_build Restricted start b = least_pre_no_build start b
+admitted_no_build Admitted start b = tt
+
+-- of what is found from a start
+pub found_no_build : (flag : PreRelease) (test : Version → Bool) (a : VersionRange) (start : RangeBound) → IfSome (least_from flag test a start) HasNoBuild
+found_no_build flag test a start = from_keeps HasNoBuild flag test a start (free_no_build flag start) (admitted_no_build flag start a.start) (admitted_no_build flag start a.end)
+
+pub common_no_build : (flag : PreRelease) (a b : VersionRange) → IfSome (least_common flag a b) HasNoBuild
+common_no_build flag a b = found_no_build flag (both_mean_with flag a b) a (clamped_start a.start b.start)
 
 -- ---- texts that are read back
 
@@ -141,45 +165,60 @@ start_writable (bound.Version x) (bound.Version y) h j = go (precedence_cmp x.ve
     go Equal = tied_writable x.kind (bound.Version x) (bound.Version y) h j
     go Greater = h
 
-common_writable : (a b : VersionRange) → IsWritableRange a → IsWritableRange b → IfSome (least_common a b) IsWritable
-common_writable a b h k =
-    let start : RangeBound = clamped_start a.start b.start in
-    let writable = start_writable a.start b.start h.start k.start in
-    from_keeps IsWritable (both_mean a b) a start (least_release_writable start writable) (least_pre_writable start a.start writable h.start) (least_pre_writable start a.end writable h.end)
+zero_of_writable : (next : Option Version) → IfSome next IsWritable → IfSome (zero_of next) IsWritable
+zero_of_writable None h = tt
+zero_of_writable (Some v) h = zero_writable v h
+
+version_writable : (k : VersionBoundKind) (v : Version) → IsWritable v → IfSome (version_from k v) IsWritable
+version_writable kind.Inclusive v h = pre_from_writable kind.Inclusive v h
+version_writable kind.Exclusive v h = chosen IsWritable (is_release v) (zero_of (next_release v)) _ (λ _. zero_of_writable (next_release v) (next_writable v h)) (λ _. pre_from_writable kind.Exclusive v h)
+
+least_version_writable : (start : RangeBound) → IsWritableBound start → IfSome (least_version start) IsWritable
+least_version_writable bound.Unbounded h = zero_writable (release 0 0 0) (release_writable 0 0 0 (omega arith) (omega arith) (omega arith))
+least_version_writable (bound.Version s) h = version_writable s.kind s.version h
+
+free_writable : (flag : PreRelease) (start : RangeBound) → IsWritableBound start → IfSome (least_free flag start) IsWritable
+free_writable Restricted start h = least_release_writable start h
+free_writable Admitted start h = least_version_writable start h
+
+admitted_writable : (flag : PreRelease) (start b : RangeBound) → IsWritableBound start → IsWritableBound b → IfSome (least_admitted flag start b) IsWritable
+admitted_writable Restricted start b h k = least_pre_writable start b h k
+admitted_writable Admitted start b h k = tt
+
+-- of what is found from a start
+pub found_writable : (flag : PreRelease) (test : Version → Bool) (a : VersionRange) (start : RangeBound) → IsWritableRange a → IsWritableBound start → IfSome (least_from flag test a start) IsWritable
+found_writable flag test a start h k = from_keeps IsWritable flag test a start (free_writable flag start k) (admitted_writable flag start a.start k h.start) (admitted_writable flag start a.end k h.end)
+
+common_writable : (flag : PreRelease) (a b : VersionRange) → IsWritableRange a → IsWritableRange b → IfSome (least_common flag a b) IsWritable
+common_writable flag a b h k = found_writable flag (both_mean_with flag a b) a (clamped_start a.start b.start) h (start_writable a.start b.start h.start k.start)
 
 pub read_back : (x : Option Version) → IfSome x IsWritable → IfSome x ReadsBack
 read_back None h = tt
 read_back (Some v) h = version_outcome v h
 
-pub common_reads_back : (a b : VersionRange) → IsWritableRange a → IsWritableRange b → IfSome (least_common a b) ReadsBack
-common_reads_back a b h k = read_back (least_common a b) (common_writable a b h k)
+pub common_reads_back : (flag : PreRelease) (a b : VersionRange) → IsWritableRange a → IsWritableRange b → IfSome (least_common flag a b) ReadsBack
+common_reads_back flag a b h k = read_back (least_common flag a b) (common_writable flag a b h k)
 
 -- ---- what a range means alone
-
--- of what is found from a start
-pub found_no_build : (test : Version → Bool) (a : VersionRange) (start : RangeBound) → IfSome (least_from test a start) HasNoBuild
-found_no_build test a start = from_keeps HasNoBuild test a start (least_release_no_build start) (least_pre_no_build start a.start) (least_pre_no_build start a.end)
-
-pub found_writable : (test : Version → Bool) (a : VersionRange) (start : RangeBound) → IsWritableRange a → IsWritableBound start → IfSome (least_from test a start) IsWritable
-found_writable test a start h k = from_keeps IsWritable test a start (least_release_writable start k) (least_pre_writable start a.start k h.start) (least_pre_writable start a.end k h.end)
 
 after_writable : (end : RangeBound) → IsWritableBound end → IsWritableBound (after end)
 after_writable bound.Unbounded h = tt
 after_writable (bound.Version x) h = h
 
-each_no_build : (a : VersionRange) (others bs : List VersionRange) → AllByRecursion (λ b. IfSome (found_after a others b) HasNoBuild) bs
-each_no_build a others [] = tt
-each_no_build a others (b ∷ bs) = (found_no_build (means_alone a others) a (clamped_start a.start (after b.end)), each_no_build a others bs)
+each_no_build : (flag : PreRelease) (a : VersionRange) (others bs : List VersionRange) → AllByRecursion (λ b. IfSome (found_after flag a others b) HasNoBuild) bs
+each_no_build flag a others [] = tt
+each_no_build flag a others (b ∷ bs) = (found_no_build flag (means_alone_with flag a others) a (clamped_start a.start (after b.end)), each_no_build flag a others bs)
 
-each_writable : (a : VersionRange) (others bs : List VersionRange) → IsWritableRange a → AreWritableRanges bs → AllByRecursion (λ b. IfSome (found_after a others b) IsWritable) bs
-each_writable a others [] h k = tt
-each_writable a others (b ∷ bs) h k = (found_writable (means_alone a others) a (clamped_start a.start (after b.end)) h (start_writable a.start (after b.end) h.start (after_writable b.end k.0.end)), each_writable a others bs h k.1)
+each_writable : (flag : PreRelease) (a : VersionRange) (others bs : List VersionRange) → IsWritableRange a → AreWritableRanges bs → AllByRecursion (λ b. IfSome (found_after flag a others b) IsWritable) bs
+each_writable flag a others [] h k = tt
+each_writable flag a others (b ∷ bs) h k =
+    (found_writable flag (means_alone_with flag a others) a (clamped_start a.start (after b.end)) h (start_writable a.start (after b.end) h.start (after_writable b.end k.0.end)), each_writable flag a others bs h k.1)
 
-pub outside_no_build : (a : VersionRange) (others : List VersionRange) → IfSome (least_outside a others) HasNoBuild
-outside_no_build a others = outside_has a others HasNoBuild (found_no_build (means_alone a others) a a.start) (each_no_build a others others)
+pub outside_no_build : (flag : PreRelease) (a : VersionRange) (others : List VersionRange) → IfSome (least_outside flag a others) HasNoBuild
+outside_no_build flag a others = outside_has flag a others HasNoBuild (found_no_build flag (means_alone_with flag a others) a a.start) (each_no_build flag a others others)
 
-pub outside_reads_back : (a : VersionRange) (others : List VersionRange) → IsWritableRange a → AreWritableRanges others → IfSome (least_outside a others) ReadsBack
-outside_reads_back a others h k = read_back (least_outside a others) (outside_has a others IsWritable (found_writable (means_alone a others) a a.start h h.start) (each_writable a others others h k))
+pub outside_reads_back : (flag : PreRelease) (a : VersionRange) (others : List VersionRange) → IsWritableRange a → AreWritableRanges others → IfSome (least_outside flag a others) ReadsBack
+outside_reads_back flag a others h k = read_back (least_outside flag a others) (outside_has flag a others IsWritable (found_writable flag (means_alone_with flag a others) a a.start h h.start) (each_writable flag a others others h k))
 
 -- ---- the ranges of a set
 

@@ -5,6 +5,7 @@ pub mod ClampMeaning
 pub mod Containment
 pub mod Equality
 pub mod Fronts
+pub mod LeastAbove
 pub mod LeastAll
 pub mod LeastCommon
 pub mod LeastFrom

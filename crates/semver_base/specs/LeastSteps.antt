@@ -1,16 +1,19 @@
--- The versions among which the least one that ranges mean is found. Of a range and a start these are three: the least
--- release above the start, and the least pre-release above it of the numbers of either bound of the range.
+-- The versions among which the least one that ranges mean is found. Of a range and a start these are three by npm's rule
+-- about pre-releases: the least release above the start, and the least pre-release above it of the numbers of either bound
+-- of the range. With pre-releases admitted it is one: the least version above the start.
 use Rattle.std.specs.Prelude.{ℕ, List, [], ◌∷◌, ◌++◌, ◌+◌, Bool, Option, Some, None, if◌then◌else◌}
 use Rattle.std.specs.List.{fold}
 use Rattle.std.specs.Ordering.{nat_cmp, on, then_cmp}
 use Rattle.std.specs.declared.cmp.Ordering.{Ordering}
 use Rattle.std.specs.declared.cmp.Ordering.TheVariants.{Less, Equal, Greater}
 use Rattle.semver_base.specs.Clamp.{clamped_start}
-use Rattle.semver_base.specs.LeastVersion.{all_mean, both_mean, means_alone}
+use Rattle.semver_base.specs.LeastVersion.{all_mean_with, both_mean_with, means_alone_with}
 use Rattle.semver_base.specs.Meaning.{is_release, release}
 use Rattle.semver_base.specs.PartialTable.{number_fits}
 use Rattle.semver_base.specs.Precedence.{precedence_cmp}
 use Rattle.semver_base.specs.declared.version.Version.{Version}
+use Rattle.semver_base.specs.declared.range.PreRelease.{PreRelease}
+use Rattle.semver_base.specs.declared.range.PreRelease.TheVariants.{Restricted, Admitted}
 use Rattle.semver_base.specs.declared.range.RangeBound.{RangeBound}
 use Rattle.semver_base.specs.declared.range.RangeBound.TheVariants as bound
 use Rattle.semver_base.specs.declared.range.VersionBound.{VersionBound}
@@ -85,22 +88,48 @@ abbrev pub least_pre : RangeBound → RangeBound → Option Version
 least_pre start bound.Unbounded = None
 least_pre start (bound.Version b) = if is_release b.version then None else pre_above start b.version
 
+-- ---- the least version above a start
+
+-- the least pre-release of the numbers of a version, where there is one
+abbrev pub zero_of : Option Version → Option Version
+zero_of None = None
+zero_of (Some v) = Some (with_pre v (zero_part ∷ []))
+
+-- the start's own version, or what comes next: after a release the least pre-release of the next one
+abbrev pub version_from : VersionBoundKind → Version → Option Version
+version_from kind.Inclusive v = Some (pre_from kind.Inclusive v)
+version_from kind.Exclusive v = if is_release v then zero_of (next_release v) else Some (pre_from kind.Exclusive v)
+
+abbrev pub least_version : RangeBound → Option Version
+least_version bound.Unbounded = Some (with_pre (release 0 0 0) (zero_part ∷ []))
+least_version (bound.Version start) = version_from start.kind start.version
+
 -- ---- the least version from a start
+
+-- the least version above a start that no bound has to admit
+abbrev pub least_free : PreRelease → RangeBound → Option Version
+least_free Restricted start = least_release start
+least_free Admitted start = least_version start
+
+-- the least one above it that this bound has to admit, which is a pre-release of its numbers
+abbrev pub least_admitted : PreRelease → RangeBound → RangeBound → Option Version
+least_admitted Restricted start b = least_pre start b
+least_admitted Admitted start b = None
 
 -- the version, where it passes the test
 abbrev pub kept_if : (Version → Bool) → Option Version → Option Version
 kept_if test None = None
 kept_if test (Some v) = if test v then Some v else None
 
--- of those that pass the test, the least of three: the least release above the start, and the least pre-release above it
--- of the numbers of either bound of the range
-abbrev pub least_from : (Version → Bool) → VersionRange → RangeBound → Option Version
-least_from test range start = lesser (kept_if test (least_release start))
-    (lesser (kept_if test (least_pre start range.start)) (kept_if test (least_pre start range.end)))
+-- of those that pass the test, the least of three: the least above the start that no bound has to admit, and the least that
+-- either bound of the range has to
+abbrev pub least_from : PreRelease → (Version → Bool) → VersionRange → RangeBound → Option Version
+least_from flag test range start = lesser (kept_if test (least_free flag start))
+    (lesser (kept_if test (least_admitted flag start range.start)) (kept_if test (least_admitted flag start range.end)))
 
 -- what both ranges mean is found from the greater start
-abbrev pub least_common : VersionRange → VersionRange → Option Version
-least_common a b = least_from (both_mean a b) a (clamped_start a.start b.start)
+abbrev pub least_common : PreRelease → VersionRange → VersionRange → Option Version
+least_common flag a b = least_from flag (both_mean_with flag a b) a (clamped_start a.start b.start)
 
 -- ---- the least version that a range means and no range of a set does
 
@@ -114,29 +143,32 @@ after bound.Unbounded = bound.Unbounded
 after (bound.Version end) = bound.Version (record { kind = other_kind end.kind; version = end.version })
 
 -- what the range means alone, from its start and from where the end of another range has let go
-abbrev pub found_after : VersionRange → List VersionRange → VersionRange → Option Version
-found_after range others other = least_from (means_alone range others) range (clamped_start range.start (after other.end))
+abbrev pub found_after : PreRelease → VersionRange → List VersionRange → VersionRange → Option Version
+found_after flag range others other =
+    least_from flag (means_alone_with flag range others) range (clamped_start range.start (after other.end))
 
 -- the least that is found from its start or from the end of one of these
-abbrev pub least_after : VersionRange → List VersionRange → List VersionRange → Option Version
-least_after range others ends = fold (λ least other. lesser least (found_after range others other))
-    (least_from (means_alone range others) range range.start) ends
+abbrev pub least_after : PreRelease → VersionRange → List VersionRange → List VersionRange → Option Version
+least_after flag range others ends = fold (λ least other. lesser least (found_after flag range others other))
+    (least_from flag (means_alone_with flag range others) range range.start) ends
 
-abbrev pub least_outside : VersionRange → List VersionRange → Option Version
-least_outside range others = least_after range others others
+abbrev pub least_outside : PreRelease → VersionRange → List VersionRange → Option Version
+least_outside flag range others = least_after flag range others others
 
 -- ---- the least version that a set and all of others mean
 
 -- what is found from the starts of these ranges, and of the ranges of these sets
-abbrev pub least_by_starts : (Version → Bool) → VersionRange → Option Version → List VersionRange → Option Version
-least_by_starts test range least ranges = fold (λ least other. lesser least (least_from test range other.start)) least ranges
+abbrev pub least_by_starts : PreRelease → (Version → Bool) → VersionRange → Option Version → List VersionRange → Option Version
+least_by_starts flag test range least ranges = fold (λ least other. lesser least (least_from flag test range other.start)) least ranges
 
-abbrev pub least_by_sets : (Version → Bool) → VersionRange → Option Version → List VersionRangeSet → Option Version
-least_by_sets test range least sets = fold (λ least (set : VersionRangeSet). least_by_starts test range least set.0) least sets
+abbrev pub least_by_sets : PreRelease → (Version → Bool) → VersionRange → Option Version → List VersionRangeSet → Option Version
+least_by_sets flag test range least sets =
+    fold (λ least (set : VersionRangeSet). least_by_starts flag test range least set.0) least sets
 
 -- for one range of the set, and over some of them
-abbrev pub least_for : List VersionRange → List VersionRangeSet → Option Version → VersionRange → Option Version
-least_for own others least range = least_by_sets (all_mean own others) range (least_by_starts (all_mean own others) range least own) others
+abbrev pub least_for : PreRelease → List VersionRange → List VersionRangeSet → Option Version → VersionRange → Option Version
+least_for flag own others least range = least_by_sets flag (all_mean_with flag own others) range
+    (least_by_starts flag (all_mean_with flag own others) range least own) others
 
-abbrev pub least_over : List VersionRange → List VersionRangeSet → List VersionRange → Option Version
-least_over own others ranges = fold (λ least range. least_for own others least range) None ranges
+abbrev pub least_over : PreRelease → List VersionRange → List VersionRangeSet → List VersionRange → Option Version
+least_over flag own others ranges = fold (λ least range. least_for flag own others least range) None ranges

@@ -3,11 +3,13 @@
 use Rattle.std.specs.Prelude.{◌≡◌, ℕ, List, [], Bool, not, ◌&&◌, IfSome, Option, Some, None, Ok, true, false}
 use Rattle.std.specs.List.{list_all}
 use Rattle.std.specs.Ordering.{is_le}
-use Rattle.semver_base.specs.Meaning.{range_means, set_means}
+use Rattle.semver_base.specs.Meaning.{range_means_with, set_means_with}
 use Rattle.semver_base.specs.Precedence.{precedence_cmp}
 use Rattle.semver_base.specs.VersionGrammar.{AllNumbersFit, IsVersionOutcome}
 use Rattle.semver_base.specs.VersionText.{AreParts, ReadsBack}
 use Rattle.semver_base.specs.declared.version.Version.{Version}
+use Rattle.semver_base.specs.declared.range.PreRelease.{PreRelease}
+use Rattle.semver_base.specs.declared.range.PreRelease.TheVariants.{Restricted}
 use Rattle.semver_base.specs.declared.range.VersionRange.{VersionRange}
 use Rattle.semver_base.specs.declared.range.VersionRangeSet.{VersionRangeSet}
 
@@ -36,21 +38,37 @@ IsOnlyLeast test least = (other : Option Version) → IsLeast test other → IfS
 -- ---- what two or more mean
 
 -- both ranges mean the version
-abbrev pub both_mean : VersionRange → VersionRange → Version → Bool
-both_mean a b v = range_means a v && range_means b v
+abbrev pub both_mean_with : PreRelease → VersionRange → VersionRange → Version → Bool
+both_mean_with flag a b v = range_means_with flag a v && range_means_with flag b v
 
 -- both sets do
-abbrev pub sets_mean : List VersionRange → List VersionRange → Version → Bool
-sets_mean some others v = set_means some v && set_means others v
+abbrev pub sets_mean_with : PreRelease → List VersionRange → List VersionRange → Version → Bool
+sets_mean_with flag some others v = set_means_with flag some v && set_means_with flag others v
 
 -- the set means the version, and so do all of the others
-abbrev pub all_mean : List VersionRange → List VersionRangeSet → Version → Bool
-all_mean own others v = set_means own v && list_all (λ (other : VersionRangeSet). set_means other.0 v) others
+abbrev pub all_mean_with : PreRelease → List VersionRange → List VersionRangeSet → Version → Bool
+all_mean_with flag own others v = set_means_with flag own v && list_all (λ (other : VersionRangeSet). set_means_with flag other.0 v) others
 
 -- the range means the version, and no range of the set does
-abbrev pub means_alone : VersionRange → List VersionRange → Version → Bool
-means_alone range others v = range_means range v && not (set_means others v)
+abbrev pub means_alone_with : PreRelease → VersionRange → List VersionRange → Version → Bool
+means_alone_with flag range others v = range_means_with flag range v && not (set_means_with flag others v)
 
 -- the first set means the version, and the other doesn't
+abbrev pub set_means_alone_with : PreRelease → List VersionRange → List VersionRange → Version → Bool
+set_means_alone_with flag some others v = set_means_with flag some v && not (set_means_with flag others v)
+
+-- the same by npm's rule about pre-releases
+abbrev pub both_mean : VersionRange → VersionRange → Version → Bool
+both_mean a b v = both_mean_with Restricted a b v
+
+abbrev pub sets_mean : List VersionRange → List VersionRange → Version → Bool
+sets_mean some others v = sets_mean_with Restricted some others v
+
+abbrev pub all_mean : List VersionRange → List VersionRangeSet → Version → Bool
+all_mean own others v = all_mean_with Restricted own others v
+
+abbrev pub means_alone : VersionRange → List VersionRange → Version → Bool
+means_alone range others v = means_alone_with Restricted range others v
+
 abbrev pub set_means_alone : List VersionRange → List VersionRange → Version → Bool
-set_means_alone some others v = set_means some v && not (set_means others v)
+set_means_alone some others v = set_means_alone_with Restricted some others v

@@ -78,6 +78,13 @@ abbrev pub alternatives : List VersionRange → List (List VersionRange)
 alternatives ranges = map (λ range. range ∷ []) ranges
 
 -- a range means what it does alone, and a set of ranges what some range of it means
+abbrev pub range_means_with : PreRelease → VersionRange → Version → Bool
+range_means_with flag range v = alternative_means_with flag (range ∷ []) v
+
+abbrev pub set_means_with : PreRelease → List VersionRange → Version → Bool
+set_means_with flag ranges v = tree_means_with flag (alternatives ranges) v
+
+-- the two by npm's rule
 abbrev pub range_means : VersionRange → Version → Bool
 range_means range v = alternative_means (range ∷ []) v
 

@@ -4,27 +4,27 @@ use Rattle.std.specs.List.{list_all, list_any}
 use Rattle.std.specs.Prelude.{◌||◌, IfOk, IfSome, IsPermutation}
 use Rattle.std.proofs.lemmas.List.Sorted.{list_any-IsPermutation}
 use Rattle.semver_base.specs.LeastVersion.{HasNoBuild, IsLeast, IsOnlyLeast}
-use Rattle.semver_base.specs.Meaning.{range_means, set_means}
+use Rattle.semver_base.specs.Meaning.{range_means_with, set_means_with}
 use Rattle.semver_base.specs.NormalText.{AreWritableRanges}
 use Rattle.semver_base.specs.VersionText.{ReadsBack}
-use Rattle.semver_base.specs.declared.range.PreRelease.TheVariants.{Restricted}
+use Rattle.semver_base.specs.declared.range.PreRelease.{PreRelease}
 use Rattle.semver_base.specs.declared.range.VersionRangeSet.{VersionRangeSet}
 use Rattle.semver_base.specs.declared.version.Version.{Version}
 use Rattle.semver_base.proofs.MeaningLemmas.{any_alternatives}
 use Rattle.semver_base.proofs.OnlyLeast.{only_alike, only_least}
-use Rattle.semver_req.specs.AnyOrder.{AllInAnyOrder, AreEachReordered, AreReordered, BothInAnyOrder, InAnyOrder, IsReordered}
+use Rattle.semver_req.specs.AnyOrder.{AllInAnyOrderWith, AreEachReordered, AreReordered, BothInAnyOrder, InAnyOrder, IsReordered}
 use Rattle.semver_req.specs.Readers.{AreReadOrTags, IsReadOrTag}
-use Rattle.semver_req.specs.Requirement.{Requirement, all_inners_mean, inner_means}
+use Rattle.semver_req.specs.Requirement.{Requirement, all_inners_mean_with, inner_means_with}
 use Rattle.semver_req.specs.declared.range_set_or_tag.RangeSetOrTag.{RangeSetOrTag}
 use Rattle.semver_req.specs.declared.range_set_or_tag.RangeSetOrTag.TheVariants as inner
 use Rattle.semver_req.proofs.ReadSets.{read_writable}
 
-reordered_means : (one same : RangeSetOrTag) → IsReordered one same → (v : Version) → inner_means same v ≡ inner_means one v
-reordered_means (inner.RangeSet set) (inner.RangeSet other) moved v =
-    sym (any_alternatives Restricted other.0 v) ∙ sym (list_any-IsPermutation (λ range. range_means range v) set.0 other.0 moved) ∙ any_alternatives Restricted set.0 v
-reordered_means (inner.Tag text) (inner.Tag other) moved v = refl
-reordered_means (inner.RangeSet set) (inner.Tag other) moved v = absurd moved
-reordered_means (inner.Tag text) (inner.RangeSet other) moved v = absurd moved
+reordered_means : (flag : PreRelease) (one same : RangeSetOrTag) → IsReordered one same → (v : Version) → inner_means_with flag same v ≡ inner_means_with flag one v
+reordered_means flag (inner.RangeSet set) (inner.RangeSet other) moved v =
+    sym (any_alternatives flag other.0 v) ∙ sym (list_any-IsPermutation (λ range. range_means_with flag range v) set.0 other.0 moved) ∙ any_alternatives flag set.0 v
+reordered_means flag (inner.Tag text) (inner.Tag other) moved v = refl
+reordered_means flag (inner.RangeSet set) (inner.Tag other) moved v = absurd moved
+reordered_means flag (inner.Tag text) (inner.RangeSet other) moved v = absurd moved
 
 -- all pass where none fails
 none_fails : {X : Type 0} (p : X → Bool) (xs : List X) → list_all p xs ≡ not (list_any (λ x. not (p x)) xs)
@@ -39,75 +39,75 @@ all_moved : {X : Type 0} (p : X → Bool) (xs ys : List X) → IsPermutation xs 
 all_moved p xs ys moved = none_fails p xs ∙ ap not (list_any-IsPermutation (λ x. not (p x)) xs ys moved) ∙ sym (none_fails p ys)
 
 -- what each of them matches
-abbrev all_match : List RangeSetOrTag → Version → Bool
-all_match requirements v = list_all (λ inner. inner_means inner v) requirements
+abbrev all_match : PreRelease → List RangeSetOrTag → Version → Bool
+all_match flag requirements v = list_all (λ inner. inner_means_with flag inner v) requirements
 
-each_means : (some others : List RangeSetOrTag) → AreEachReordered some others → (v : Version) → all_match others v ≡ all_match some v
-each_means [] [] moved v = refl
-each_means (one ∷ some) (other ∷ others) moved v = ap₂ (λ (a b : Bool). a && b) (reordered_means one other moved.0 v) (each_means some others moved.1 v)
-each_means [] (other ∷ others) moved v = absurd moved
-each_means (one ∷ some) [] moved v = absurd moved
+each_means : (flag : PreRelease) (some others : List RangeSetOrTag) → AreEachReordered some others → (v : Version) → all_match flag others v ≡ all_match flag some v
+each_means flag [] [] moved v = refl
+each_means flag (one ∷ some) (other ∷ others) moved v = ap₂ (λ (a b : Bool). a && b) (reordered_means flag one other moved.0 v) (each_means flag some others moved.1 v)
+each_means flag [] (other ∷ others) moved v = absurd moved
+each_means flag (one ∷ some) [] moved v = absurd moved
 
-as_list : (own : RangeSetOrTag) (others : List Requirement) (v : Version) → all_inners_mean own others v ≡ all_match (own ∷ map (λ (req : Requirement). req.inner) others) v
-as_list own others v = ap (λ (b : Bool). inner_means own v && b) (go others)
+as_list : (flag : PreRelease) (own : RangeSetOrTag) (others : List Requirement) (v : Version) → all_inners_mean_with flag own others v ≡ all_match flag (own ∷ map (λ (req : Requirement). req.inner) others) v
+as_list flag own others v = ap (λ (b : Bool). inner_means_with flag own v && b) (go others)
   where
-    go : (reqs : List Requirement) → list_all (λ (req : Requirement). inner_means req.inner v) reqs ≡ all_match (map (λ (req : Requirement). req.inner) reqs) v
+    go : (reqs : List Requirement) → list_all (λ (req : Requirement). inner_means_with flag req.inner v) reqs ≡ all_match flag (map (λ (req : Requirement). req.inner) reqs) v
     go [] = refl
-    go (req ∷ reqs) = ap (λ (b : Bool). inner_means req.inner v && b) (go reqs)
+    go (req ∷ reqs) = ap (λ (b : Bool). inner_means_with flag req.inner v && b) (go reqs)
 
-all_means : (own same : RangeSetOrTag) (others rest : List Requirement)
+all_means : (flag : PreRelease) (own same : RangeSetOrTag) (others rest : List Requirement)
     → AreReordered (own ∷ map (λ (req : Requirement). req.inner) others) (same ∷ map (λ (req : Requirement). req.inner) rest)
-    → (v : Version) → all_inners_mean same rest v ≡ all_inners_mean own others v
-all_means own same others rest moved v =
-    as_list same rest v
-    ∙ each_means moved.moved (same ∷ map (λ (req : Requirement). req.inner) rest) moved.each v
-    ∙ sym (all_moved (λ inner. inner_means inner v) (own ∷ map (λ (req : Requirement). req.inner) others) moved.moved moved.in_order)
-    ∙ sym (as_list own others v)
+    → (v : Version) → all_inners_mean_with flag same rest v ≡ all_inners_mean_with flag own others v
+all_means flag own same others rest moved v =
+    as_list flag same rest v
+    ∙ each_means flag moved.moved (same ∷ map (λ (req : Requirement). req.inner) rest) moved.each v
+    ∙ sym (all_moved (λ inner. inner_means_with flag inner v) (own ∷ map (λ (req : Requirement). req.inner) others) moved.moved moved.in_order)
+    ∙ sym (as_list flag own others v)
 
 -- ---- the answers
 
 -- what is asked of two
-abbrev asked : (Bool → Bool → Bool) → RangeSetOrTag → RangeSetOrTag → Version → Bool
-asked test one other v = test (inner_means one v) (inner_means other v)
+abbrev asked : PreRelease → (Bool → Bool → Bool) → RangeSetOrTag → RangeSetOrTag → Version → Bool
+asked flag test one other v = test (inner_means_with flag one v) (inner_means_with flag other v)
 
-module _ {E : Type 0} where
+module _ {E : Type 0} (flag : PreRelease) where
   pub own_in_any_order : (one : RangeSetOrTag) (set : VersionRangeSet) (r : Result (Option Version) E) → one ≡ inner.RangeSet set
-      → IfOk r (IsLeast (set_means set.0)) → IfOk r (λ least. IfSome least HasNoBuild) → IfOk r (λ least. AreWritableRanges set.0 → IfSome least ReadsBack)
-      → IfOk r (λ least. IsReadOrTag one → InAnyOrder inner_means one least)
-  own_in_any_order one set r is h plain back = subst (λ own. IfOk r (λ least. IsReadOrTag own → InAnyOrder inner_means own least)) (sym is) (go r h plain back)
+      → IfOk r (IsLeast (set_means_with flag set.0)) → IfOk r (λ least. IfSome least HasNoBuild) → IfOk r (λ least. AreWritableRanges set.0 → IfSome least ReadsBack)
+      → IfOk r (λ least. IsReadOrTag one → InAnyOrder (inner_means_with flag) one least)
+  own_in_any_order one set r is h plain back = subst (λ own. IfOk r (λ least. IsReadOrTag own → InAnyOrder (inner_means_with flag) own least)) (sym is) (go r h plain back)
     where
-      go : (r : Result (Option Version) E) → IfOk r (IsLeast (set_means set.0)) → IfOk r (λ least. IfSome least HasNoBuild)
+      go : (r : Result (Option Version) E) → IfOk r (IsLeast (set_means_with flag set.0)) → IfOk r (λ least. IfSome least HasNoBuild)
           → IfOk r (λ least. AreWritableRanges set.0 → IfSome least ReadsBack)
-          → IfOk r (λ least. IsReadOrTag (inner.RangeSet set) → InAnyOrder inner_means (inner.RangeSet set) least)
+          → IfOk r (λ least. IsReadOrTag (inner.RangeSet set) → InAnyOrder (inner_means_with flag) (inner.RangeSet set) least)
       go (Ok least) h plain back = λ read same moved.
-          only_alike (set_means set.0) (inner_means same) least (reordered_means (inner.RangeSet set) same moved)
-          (only_least (set_means set.0) least h plain (back (read_writable set.0 read)))
+          only_alike (set_means_with flag set.0) (inner_means_with flag same) least (reordered_means flag (inner.RangeSet set) same moved)
+          (only_least (set_means_with flag set.0) least h plain (back (read_writable set.0 read)))
       go (Err e) h plain back = tt
 
   pub both_in_any_order : (test : Bool → Bool → Bool) (one other : RangeSetOrTag) (set others : VersionRangeSet) (r : Result (Option Version) E)
       → one ≡ inner.RangeSet set → other ≡ inner.RangeSet others
-      → IfOk r (IsLeast (λ v. test (set_means set.0 v) (set_means others.0 v))) → IfOk r (λ least. IfSome least HasNoBuild)
+      → IfOk r (IsLeast (λ v. test (set_means_with flag set.0 v) (set_means_with flag others.0 v))) → IfOk r (λ least. IfSome least HasNoBuild)
       → IfOk r (λ least. AreWritableRanges set.0 → AreWritableRanges others.0 → IfSome least ReadsBack)
-      → IfOk r (λ least. IsReadOrTag one → IsReadOrTag other → BothInAnyOrder (asked test) one other least)
+      → IfOk r (λ least. IsReadOrTag one → IsReadOrTag other → BothInAnyOrder (asked flag test) one other least)
   both_in_any_order test one other set others r is are h plain back =
-      subst (λ own. IfOk r (λ least. IsReadOrTag own → IsReadOrTag other → BothInAnyOrder (asked test) own other least)) (sym is)
-      (subst (λ rest. IfOk r (λ least. IsReadOrTag (inner.RangeSet set) → IsReadOrTag rest → BothInAnyOrder (asked test) (inner.RangeSet set) rest least)) (sym are) (go r h plain back))
+      subst (λ own. IfOk r (λ least. IsReadOrTag own → IsReadOrTag other → BothInAnyOrder (asked flag test) own other least)) (sym is)
+      (subst (λ rest. IfOk r (λ least. IsReadOrTag (inner.RangeSet set) → IsReadOrTag rest → BothInAnyOrder (asked flag test) (inner.RangeSet set) rest least)) (sym are) (go r h plain back))
     where
-      go : (r : Result (Option Version) E) → IfOk r (IsLeast (λ v. test (set_means set.0 v) (set_means others.0 v))) → IfOk r (λ least. IfSome least HasNoBuild)
+      go : (r : Result (Option Version) E) → IfOk r (IsLeast (λ v. test (set_means_with flag set.0 v) (set_means_with flag others.0 v))) → IfOk r (λ least. IfSome least HasNoBuild)
           → IfOk r (λ least. AreWritableRanges set.0 → AreWritableRanges others.0 → IfSome least ReadsBack)
           → IfOk r (λ least. IsReadOrTag (inner.RangeSet set) → IsReadOrTag (inner.RangeSet others)
-          → BothInAnyOrder (asked test) (inner.RangeSet set) (inner.RangeSet others) least)
+          → BothInAnyOrder (asked flag test) (inner.RangeSet set) (inner.RangeSet others) least)
       go (Ok least) h plain back = λ own rest same alike moved moved_too.
-          only_alike (λ v. test (set_means set.0 v) (set_means others.0 v)) (asked test same alike) least
-          (λ v. ap₂ test (reordered_means (inner.RangeSet set) same moved v) (reordered_means (inner.RangeSet others) alike moved_too v))
-          (only_least (λ v. test (set_means set.0 v) (set_means others.0 v)) least h plain (back (read_writable set.0 own) (read_writable others.0 rest)))
+          only_alike (λ v. test (set_means_with flag set.0 v) (set_means_with flag others.0 v)) (asked flag test same alike) least
+          (λ v. ap₂ test (reordered_means flag (inner.RangeSet set) same moved v) (reordered_means flag (inner.RangeSet others) alike moved_too v))
+          (only_least (λ v. test (set_means_with flag set.0 v) (set_means_with flag others.0 v)) least h plain (back (read_writable set.0 own) (read_writable others.0 rest)))
       go (Err e) h plain back = tt
 
   pub all_in_any_order : (own : RangeSetOrTag) (others : List Requirement) (r : Result (Option Version) E)
-      → IfOk r (IsLeast (all_inners_mean own others)) → IfOk r (λ least. IfSome least HasNoBuild)
+      → IfOk r (IsLeast (all_inners_mean_with flag own others)) → IfOk r (λ least. IfSome least HasNoBuild)
       → IfOk r (λ least. IsReadOrTag own → AreReadOrTags others → IfSome least ReadsBack)
-      → IfOk r (λ least. IsReadOrTag own → AreReadOrTags others → AllInAnyOrder own others least)
+      → IfOk r (λ least. IsReadOrTag own → AreReadOrTags others → AllInAnyOrderWith flag own others least)
   all_in_any_order own others (Ok least) h plain back = λ read reads same rest moved.
-      only_alike (all_inners_mean own others) (all_inners_mean same rest) least (all_means own same others rest moved)
-      (only_least (all_inners_mean own others) least h plain (back read reads))
+      only_alike (all_inners_mean_with flag own others) (all_inners_mean_with flag same rest) least (all_means flag own same others rest moved)
+      (only_least (all_inners_mean_with flag own others) least h plain (back read reads))
   all_in_any_order own others (Err e) h plain back = tt

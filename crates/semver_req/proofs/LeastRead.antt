@@ -2,15 +2,16 @@
 use Rattle.std.proofs.Common.{◌≡◌, ◌&&◌, Bool, List, [], ◌∷◌, map, Option, Result, Ok, Err, refl, sym, ap₂, subst, ◌∙◌}
 use Rattle.std.specs.List.{list_all, AllByRecursion}
 use Rattle.std.specs.Prelude.{IfOk, IfSome}
-use Rattle.semver_base.specs.LeastVersion.{all_mean, IsLeast}
-use Rattle.semver_base.specs.Meaning.{set_means}
+use Rattle.semver_base.specs.LeastVersion.{all_mean_with, IsLeast}
+use Rattle.semver_base.specs.Meaning.{set_means_with}
 use Rattle.semver_base.specs.NormalText.{AreWritableRanges}
 use Rattle.semver_base.specs.VersionText.{ReadsBack}
+use Rattle.semver_base.specs.declared.range.PreRelease.{PreRelease}
 use Rattle.semver_base.specs.declared.range.VersionRangeSet.{VersionRangeSet}
 use Rattle.semver_base.specs.declared.version.Version.{Version}
 use Rattle.semver_base.proofs.LeastSets.{least_as}
 use Rattle.semver_req.specs.Readers.{IsReadOrTag}
-use Rattle.semver_req.specs.Requirement.{all_inners_mean, inner_means, ranges_of, Requirement}
+use Rattle.semver_req.specs.Requirement.{all_inners_mean_with, inner_means_with, ranges_of, Requirement}
 use Rattle.semver_req.specs.declared.range_set_or_tag.RangeSetOrTag.{RangeSetOrTag}
 use Rattle.semver_req.specs.declared.range_set_or_tag.RangeSetOrTag.TheVariants as inner
 use Rattle.semver_req.proofs.ReadSets.{read_writable}
@@ -30,21 +31,21 @@ own_back one set (Err e) is h = tt
 
 -- ---- all requirements
 
-ranges_mean : (one : RangeSetOrTag) (v : Version) → set_means (ranges_of one).0 v ≡ inner_means one v
-ranges_mean (inner.RangeSet set) v = refl
-ranges_mean (inner.Tag text) v = refl
+ranges_mean : (flag : PreRelease) (one : RangeSetOrTag) (v : Version) → set_means_with flag (ranges_of one).0 v ≡ inner_means_with flag one v
+ranges_mean flag (inner.RangeSet set) v = refl
+ranges_mean flag (inner.Tag text) v = refl
 
-all_mean_same : (others : List Requirement) (v : Version)
-    → list_all (λ (set : VersionRangeSet). set_means set.0 v) (map (λ (req : Requirement). ranges_of req.inner) others) ≡ list_all (λ (req : Requirement). inner_means req.inner v) others
-all_mean_same [] v = refl
-all_mean_same (req ∷ reqs) v = ap₂ (λ (a b : Bool). a && b) (ranges_mean req.inner v) (all_mean_same reqs v)
+all_mean_same : (flag : PreRelease) (others : List Requirement) (v : Version)
+    → list_all (λ (set : VersionRangeSet). set_means_with flag set.0 v) (map (λ (req : Requirement). ranges_of req.inner) others) ≡ list_all (λ (req : Requirement). inner_means_with flag req.inner v) others
+all_mean_same flag [] v = refl
+all_mean_same flag (req ∷ reqs) v = ap₂ (λ (a b : Bool). a && b) (ranges_mean flag req.inner v) (all_mean_same flag reqs v)
 
-pub all_least : {E : Type 0} (own : RangeSetOrTag) (others : List Requirement) (set : VersionRangeSet) (sets : List VersionRangeSet) (r : Result (Option Version) E)
-    → set ≡ ranges_of own → sets ≡ map (λ (req : Requirement). ranges_of req.inner) others → IfOk r (IsLeast (all_mean set.0 sets)) → IfOk r (IsLeast (all_inners_mean own others))
-all_least own others set sets (Ok least) is are h =
-    least_as (all_mean set.0 sets) (all_inners_mean own others) least
-    (λ v. ap₂ (λ (s : VersionRangeSet) (ss : List VersionRangeSet). all_mean s.0 ss v) is are ∙ ap₂ (λ (a b : Bool). a && b) (ranges_mean own v) (all_mean_same others v)) h
-all_least own others set sets (Err e) is are h = tt
+pub all_least : {E : Type 0} (flag : PreRelease) (own : RangeSetOrTag) (others : List Requirement) (set : VersionRangeSet) (sets : List VersionRangeSet) (r : Result (Option Version) E)
+    → set ≡ ranges_of own → sets ≡ map (λ (req : Requirement). ranges_of req.inner) others → IfOk r (IsLeast (all_mean_with flag set.0 sets)) → IfOk r (IsLeast (all_inners_mean_with flag own others))
+all_least flag own others set sets (Ok least) is are h =
+    least_as (all_mean_with flag set.0 sets) (all_inners_mean_with flag own others) least
+    (λ v. ap₂ (λ (s : VersionRangeSet) (ss : List VersionRangeSet). all_mean_with flag s.0 ss v) is are ∙ ap₂ (λ (a b : Bool). a && b) (ranges_mean flag own v) (all_mean_same flag others v)) h
+all_least flag own others set sets (Err e) is are h = tt
 
 ranges_writable : (one : RangeSetOrTag) → IsReadOrTag one → AreWritableRanges (ranges_of one).0
 ranges_writable (inner.RangeSet set) read = read_writable set.0 read

@@ -1,8 +1,10 @@
 -- Requirements with the same ranges in any order, and that they have one least version.
 use Rattle.std.specs.Prelude.{◌≡◌, ℕ, List, [], ◌∷◌, Bool, Option, IsPermutation, map}
 use Rattle.semver_base.specs.LeastVersion.{IsOnlyLeast}
+use Rattle.semver_base.specs.declared.range.PreRelease.{PreRelease}
+use Rattle.semver_base.specs.declared.range.PreRelease.TheVariants.{Restricted}
 use Rattle.semver_base.specs.declared.version.Version.{Version}
-use Rattle.semver_req.specs.Requirement.{Requirement, all_inners_mean}
+use Rattle.semver_req.specs.Requirement.{Requirement, all_inners_mean_with}
 use Rattle.semver_req.specs.declared.range_set_or_tag.RangeSetOrTag.{RangeSetOrTag}
 use Rattle.semver_req.specs.declared.range_set_or_tag.RangeSetOrTag.TheVariants as inner
 
@@ -32,7 +34,10 @@ abbrev pub BothInAnyOrder : (RangeSetOrTag → RangeSetOrTag → Version → Boo
 BothInAnyOrder test one other least = (same others : RangeSetOrTag) → IsReordered one same → IsReordered other others → IsOnlyLeast (test same others) least
 
 -- of a requirement and others, which stand in any order too
-abbrev pub AllInAnyOrder : RangeSetOrTag → List Requirement → Option Version → Type 0
-AllInAnyOrder own others least = (same : RangeSetOrTag) (rest : List Requirement)
+abbrev pub AllInAnyOrderWith : PreRelease → RangeSetOrTag → List Requirement → Option Version → Type 0
+AllInAnyOrderWith flag own others least = (same : RangeSetOrTag) (rest : List Requirement)
     → AreReordered (own ∷ map (λ (req : Requirement). req.inner) others) (same ∷ map (λ (req : Requirement). req.inner) rest)
-    → IsOnlyLeast (all_inners_mean same rest) least
+    → IsOnlyLeast (all_inners_mean_with flag same rest) least
+
+abbrev pub AllInAnyOrder : RangeSetOrTag → List Requirement → Option Version → Type 0
+AllInAnyOrder own others least = AllInAnyOrderWith Restricted own others least

@@ -50,12 +50,18 @@ abbrev pub MatchNoVersion : RangeSetOrTag → RangeSetOrTag → Type 0
 MatchNoVersion one other = (flag : PreRelease) (v : Version) → (inner_means_with flag one v && inner_means_with flag other v) ≡ false
 
 -- both requirements match the version
+abbrev pub inners_mean_with : PreRelease → RangeSetOrTag → RangeSetOrTag → Version → Bool
+inners_mean_with flag one other v = inner_means_with flag one v && inner_means_with flag other v
+
 abbrev pub inners_mean : RangeSetOrTag → RangeSetOrTag → Version → Bool
-inners_mean one other v = inner_means one v && inner_means other v
+inners_mean one other v = inners_mean_with Restricted one other v
 
 -- the first requirement matches the version, and the other doesn't
+abbrev pub inner_means_alone_with : PreRelease → RangeSetOrTag → RangeSetOrTag → Version → Bool
+inner_means_alone_with flag one other v = inner_means_with flag one v && not (inner_means_with flag other v)
+
 abbrev pub inner_means_alone : RangeSetOrTag → RangeSetOrTag → Version → Bool
-inner_means_alone one other v = inner_means one v && not (inner_means other v)
+inner_means_alone one other v = inner_means_alone_with Restricted one other v
 
 -- the ranges of a requirement, and none of a tag
 abbrev pub ranges_of : RangeSetOrTag → VersionRangeSet
@@ -71,8 +77,11 @@ abbrev pub have_no_tag : List Requirement → Bool
 have_no_tag requirements = list_all (λ (req : Requirement). is_no_tag req.inner) requirements
 
 -- the first requirement and all others match the version
+abbrev pub all_inners_mean_with : PreRelease → RangeSetOrTag → List Requirement → Version → Bool
+all_inners_mean_with flag own others v = inner_means_with flag own v && list_all (λ (other : Requirement). inner_means_with flag other.inner v) others
+
 abbrev pub all_inners_mean : RangeSetOrTag → List Requirement → Version → Bool
-all_inners_mean own others v = inner_means own v && list_all (λ (other : Requirement). inner_means other.inner v) others
+all_inners_mean own others v = all_inners_mean_with Restricted own others v
 
 -- two tags overlap where they are the same
 abbrev pub OverlapAsTags : RangeSetOrTag → RangeSetOrTag → Bool → Type 0

@@ -16,8 +16,8 @@ mod pieces;
 use crate::common::plain::plain_range;
 use crate::common::values::Flavour;
 use crate::tag::is_valid_npm_tag;
-pub use pieces::RangeOrInvalid;
-use pieces::{first_piece, read_pieces};
+use pieces::read_pieces;
+pub use pieces::{FirstPiece, RangeOrInvalid, first_piece, next_piece};
 use semver_base::failure::{ParseFailure, Refusal};
 use semver_base::range::VersionRangeSet;
 use semver_base::string::{

@@ -2,17 +2,20 @@
 //!
 //! Of two ranges it is one of three, if there is one: the least release above both starts, or the least pre-release above
 //! them of the numbers of the first range's start or of its end. A version that both match is of one of these three
-//! kinds, and the least of its kind is matched with it: that isn't above it, so no end lets it go.
+//! kinds, and the least of its kind is matched with it: that isn't above it, so no end lets it go. With pre-releases
+//! admitted throughout there is one kind, and the least version above both starts is the only candidate.
 
 ghost use Rattle.std.specs.Prelude.{◌≡◌, ◌∷◌, ◌++◌, ◌&&◌, [], IfOk, IfSome};
 ghost use Rattle.std.specs.List.{list_any};
-ghost use Rattle.semver_base.specs.LeastVersion.{HasNoBuild, IsLeast, both_mean, sets_mean};
-ghost use Rattle.semver_base.specs.LeastSteps.{kept_if, least_pre, least_release, lesser, next_release, numbers_cmp, pre_above, pre_from, with_pre, zero_part};
-ghost use Rattle.semver_base.specs.Meaning.{range_means, release, set_means};
+ghost use Rattle.semver_base.specs.LeastVersion.{HasNoBuild, IsLeast, both_mean, both_mean_with, sets_mean, sets_mean_with};
+ghost use Rattle.semver_base.specs.LeastSteps.{kept_if, least_admitted, least_free, least_pre, least_release, least_version, lesser, next_release, numbers_cmp, pre_above, pre_from, with_pre, zero_of, zero_part};
+ghost use Rattle.semver_base.specs.Meaning.{range_means, range_means_with, release, set_means, set_means_with};
 ghost use Rattle.semver_base.specs.NormalText.{AreWritableRanges, IsWritableRange};
 ghost use Rattle.semver_base.specs.VersionText.{ReadsBack};
 
-use crate::range::{RangeBound, VersionBound, VersionBoundKind, VersionRange, VersionRangeSet};
+use crate::range::{
+    PreRelease, RangeBound, VersionBound, VersionBoundKind, VersionRange, VersionRangeSet,
+};
 use crate::string::CowVec;
 use crate::version::{Version, VersionPreOrBuild};
 use std::alloc::{AllocError, Global};
@@ -59,7 +62,7 @@ fn next_release(alloc: Global, version: &Version) -> Option<Version>
 }
 
 // The least release above the start, if there is one.
-pub(crate) fn least_release(alloc: Global, start: &RangeBound) -> Option<Version>
+fn least_release(alloc: Global, start: &RangeBound) -> Option<Version>
     ensures { result ≡ least_release start.now }
 {
     let RangeBound::Version(bound) = start else {
@@ -129,7 +132,7 @@ fn pre_above(
 }
 
 // The least pre-release of the bound's numbers above the start, where the bound is a pre-release and there is one.
-pub(crate) fn least_pre(
+fn least_pre(
     alloc: Global,
     start: &RangeBound,
     bound: &RangeBound,
@@ -143,6 +146,61 @@ pub(crate) fn least_pre(
         return Ok(None);
     }
     pre_above(alloc, start, &bound.version)
+}
+
+// The least pre-release of the version's numbers, where there is a version.
+fn zero_of(alloc: Global, version: Option<Version>) -> Result<Option<Version>, AllocError>
+    ensures { IfOk result (λ least. least ≡ zero_of version) }
+{
+    match version {
+        Some(version) => Ok(Some(zero_pre(alloc, &version)?)),
+        None => Ok(None),
+    }
+}
+
+// The least version above the start, be it a release or not, if there is one.
+fn least_version(alloc: Global, start: &RangeBound) -> Result<Option<Version>, AllocError>
+    ensures { IfOk result (λ least. least ≡ least_version start.now) }
+{
+    let RangeBound::Version(bound) = start else {
+        return Ok(Some(zero_pre(alloc, &release(alloc, 0, 0, 0))?));
+    };
+    let is_past = bound.kind == VersionBoundKind::Exclusive;
+    if is_past && bound.version.pre.is_empty() {
+        return zero_of(alloc, next_release(alloc, &bound.version));
+    }
+    Ok(Some(pre_from(alloc, bound)?))
+}
+
+impl PreRelease {
+    // The least version above the start that no bound has to admit, if there is one.
+    pub(crate) fn least_free(
+        self,
+        alloc: Global,
+        start: &RangeBound,
+    ) -> Result<Option<Version>, AllocError>
+        ensures { IfOk result (λ least. least ≡ least_free self start.now) }
+    {
+        match self {
+            PreRelease::Restricted => Ok(least_release(alloc, start)),
+            PreRelease::Admitted => least_version(alloc, start),
+        }
+    }
+
+    // The least version above the start that the bound has to admit, if there is one.
+    pub(crate) fn least_admitted(
+        self,
+        alloc: Global,
+        start: &RangeBound,
+        bound: &RangeBound,
+    ) -> Result<Option<Version>, AllocError>
+        ensures { IfOk result (λ least. least ≡ least_admitted self start.now bound.now) }
+    {
+        match self {
+            PreRelease::Restricted => least_pre(alloc, start, bound),
+            PreRelease::Admitted => Ok(None),
+        }
+    }
 }
 
 // The lower of two versions, where there are two.
@@ -161,17 +219,53 @@ pub(crate) fn lesser(one: Option<Version>, other: Option<Version>) -> Option<Ver
 
 impl VersionRange {
     // The version, where both ranges match it.
-    fn kept_by(&self, other: &VersionRange, version: Option<Version>) -> Option<Version>
-        ensures { result ≡ kept_if (both_mean self.now other.now) version }
+    fn kept_by(
+        &self,
+        other: &VersionRange,
+        pre_release: PreRelease,
+        version: Option<Version>,
+    ) -> Option<Version>
+        ensures { result ≡ kept_if (both_mean_with pre_release self.now other.now) version }
     {
         let version = version?;
-        if self.satisfies(&version) && other.satisfies(&version) {
+        let is_own = self.satisfies_with(&version, pre_release);
+        if is_own && other.satisfies_with(&version, pre_release) {
             return Some(version);
         }
         None
     }
 
-    /// The least version that both ranges match, or none where no version matches both.
+    /// The least version that both ranges match, with pre-releases restricted or admitted throughout, or none where no
+    /// version matches both.
+    ///
+    /// The answer matches both ranges, and no version that a text stands for is lower by precedence and does too; where
+    /// there is none, no version that a text stands for matches both. So `>1.0.0` and `<1.0.1` have none by npm's rule, and
+    /// `1.0.1-0` with pre-releases admitted. It has no build, and its text is read back where those of the bounds are.
+    ///
+    /// It is an error only where no memory is left.
+    pub fn common_version_with(
+        &self,
+        alloc: Global,
+        other: &VersionRange,
+        pre_release: PreRelease,
+    ) -> Result<Option<Version>, AllocError>
+        ensures least { IfOk result (IsLeast (both_mean_with pre_release self.now other.now)) }
+        ensures no_build { IfOk result (λ least. IfSome least HasNoBuild) }
+        ensures reads_back { IfOk result
+            (λ least. IsWritableRange self.now → IsWritableRange other.now
+            → IfSome least ReadsBack) }
+    {
+        let start = self.start.clamp_start(alloc, &other.start)?;
+        let free = self.kept_by(other, pre_release, pre_release.least_free(alloc, &start)?);
+        let by_start = pre_release.least_admitted(alloc, &start, &self.start)?;
+        let by_start = self.kept_by(other, pre_release, by_start);
+        let by_end = pre_release.least_admitted(alloc, &start, &self.end)?;
+        let by_end = self.kept_by(other, pre_release, by_end);
+        Ok(lesser(free, lesser(by_start, by_end)))
+    }
+
+    /// The least version that both ranges match, or none where no version matches both. It is
+    /// [`VersionRange::common_version_with`] at [`PreRelease::Restricted`].
     ///
     /// The answer matches both ranges, and no version that a text stands for is lower by precedence and does too; where
     /// there is none, no version that a text stands for matches both. So `>1.0.0` and `<1.0.1`, which overlap, have none.
@@ -189,14 +283,29 @@ impl VersionRange {
             (λ least. IsWritableRange self.now → IsWritableRange other.now
             → IfSome least ReadsBack) }
     {
-        let start = self.start.clamp_start(alloc, &other.start)?;
-        let release = self.kept_by(other, least_release(alloc, &start));
-        let by_start = self.kept_by(other, least_pre(alloc, &start, &self.start)?);
-        let by_end = self.kept_by(other, least_pre(alloc, &start, &self.end)?);
-        Ok(lesser(release, lesser(by_start, by_end)))
+        self.common_version_with(alloc, other, PreRelease::Restricted)
     }
 
-    /// The least version that the range matches, or none where it matches none (node-semver's `minVersion`).
+    /// The least version that the range matches, with pre-releases restricted or admitted throughout, or none where it
+    /// matches none.
+    ///
+    /// No version that a text stands for is lower by precedence and matches. It has no build, and its text is read back where
+    /// those of the bounds are. It is an error only where no memory is left.
+    pub fn min_version_with(
+        &self,
+        alloc: Global,
+        pre_release: PreRelease,
+    ) -> Result<Option<Version>, AllocError>
+        ensures least { IfOk result (IsLeast (range_means_with pre_release self.now)) }
+        ensures no_build { IfOk result (λ least. IfSome least HasNoBuild) }
+        ensures reads_back { IfOk result
+            (λ least. IsWritableRange self.now → IfSome least ReadsBack) }
+    {
+        self.common_version_with(alloc, self, pre_release)
+    }
+
+    /// The least version that the range matches, or none where it matches none (node-semver's `minVersion`). It is
+    /// [`VersionRange::min_version_with`] at [`PreRelease::Restricted`].
     ///
     /// No version that a text stands for is lower by precedence and matches. It is an error only where no memory is left.
     pub fn min_version(&self, alloc: Global) -> Result<Option<Version>, AllocError>
@@ -205,7 +314,7 @@ impl VersionRange {
         ensures reads_back { IfOk result
             (λ least. IsWritableRange self.now → IfSome least ReadsBack) }
     {
-        self.common_version(alloc, self)
+        self.min_version_with(alloc, PreRelease::Restricted)
     }
 }
 
@@ -215,9 +324,11 @@ impl VersionRangeSet {
         &self,
         alloc: Global,
         range: &VersionRange,
+        pre_release: PreRelease,
     ) -> Result<Option<Version>, AllocError>
-        ensures least { IfOk result (IsLeast
-            (λ v. range_means range.now v && list_any (λ own. range_means own v) self.now.0)) }
+        ensures least { let flag = pre_release in IfOk result (IsLeast
+            (λ v. range_means_with flag range.now v
+            && list_any (λ own. range_means_with flag own v) self.now.0)) }
         ensures no_build { IfOk result (λ least. IfSome least HasNoBuild) }
         ensures reads_back { IfOk result
             (λ least. IsWritableRange range.now → AreWritableRanges self.now.0
@@ -225,12 +336,40 @@ impl VersionRangeSet {
     {
         let mut least = None;
         for own in self.0.as_slice() {
-            least = lesser(least, range.common_version(alloc, own)?);
+            least = lesser(least, range.common_version_with(alloc, own, pre_release)?);
         }
         Ok(least)
     }
 
-    /// The least version that both sets match, or none where no version matches both.
+    /// The least version that both sets match, with pre-releases restricted or admitted throughout, or none where no version
+    /// matches both.
+    ///
+    /// The answer matches both sets, and no version that a text stands for is lower by precedence and does too; where
+    /// there is none, no version that a text stands for matches both. It has no build, and its text is read back where those
+    /// of the bounds are.
+    ///
+    /// It is an error only where no memory is left.
+    pub fn common_version_with(
+        &self,
+        alloc: Global,
+        other: &VersionRangeSet,
+        pre_release: PreRelease,
+    ) -> Result<Option<Version>, AllocError>
+        ensures least { IfOk result (IsLeast (sets_mean_with pre_release self.now.0 other.now.0)) }
+        ensures no_build { IfOk result (λ least. IfSome least HasNoBuild) }
+        ensures reads_back { IfOk result
+            (λ least. AreWritableRanges self.now.0 → AreWritableRanges other.now.0
+            → IfSome least ReadsBack) }
+    {
+        let mut least = None;
+        for range in self.0.as_slice() {
+            least = lesser(least, other.common_with(alloc, range, pre_release)?);
+        }
+        Ok(least)
+    }
+
+    /// The least version that both sets match, or none where no version matches both. It is
+    /// [`VersionRangeSet::common_version_with`] at [`PreRelease::Restricted`].
     ///
     /// The answer matches both sets, and no version that a text stands for is lower by precedence and does too; where
     /// there is none, no version that a text stands for matches both. It has no build.
@@ -247,14 +386,33 @@ impl VersionRangeSet {
             (λ least. AreWritableRanges self.now.0 → AreWritableRanges other.now.0
             → IfSome least ReadsBack) }
     {
+        self.common_version_with(alloc, other, PreRelease::Restricted)
+    }
+
+    /// The least version that some range matches, with pre-releases restricted or admitted throughout, or none where none
+    /// matches any.
+    ///
+    /// No version that a text stands for is lower by precedence and matches. It has no build, and its text is read back where
+    /// those of the bounds are. It is an error only where no memory is left.
+    pub fn min_version_with(
+        &self,
+        alloc: Global,
+        pre_release: PreRelease,
+    ) -> Result<Option<Version>, AllocError>
+        ensures least { IfOk result (IsLeast (set_means_with pre_release self.now.0)) }
+        ensures no_build { IfOk result (λ least. IfSome least HasNoBuild) }
+        ensures reads_back { IfOk result
+            (λ least. AreWritableRanges self.now.0 → IfSome least ReadsBack) }
+    {
         let mut least = None;
         for range in self.0.as_slice() {
-            least = lesser(least, other.common_with(alloc, range)?);
+            least = lesser(least, range.min_version_with(alloc, pre_release)?);
         }
         Ok(least)
     }
 
-    /// The least version that some range matches, or none where none matches any (node-semver's `minVersion`).
+    /// The least version that some range matches, or none where none matches any (node-semver's `minVersion`). It is
+    /// [`VersionRangeSet::min_version_with`] at [`PreRelease::Restricted`].
     ///
     /// No version that a text stands for is lower by precedence and matches. It is an error only where no memory is left.
     pub fn min_version(&self, alloc: Global) -> Result<Option<Version>, AllocError>
@@ -263,10 +421,6 @@ impl VersionRangeSet {
         ensures reads_back { IfOk result
             (λ least. AreWritableRanges self.now.0 → IfSome least ReadsBack) }
     {
-        let mut least = None;
-        for range in self.0.as_slice() {
-            least = lesser(least, range.min_version(alloc)?);
-        }
-        Ok(least)
+        self.min_version_with(alloc, PreRelease::Restricted)
     }
 }

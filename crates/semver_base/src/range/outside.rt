@@ -4,15 +4,15 @@
 //! greatest of them that it is above.
 
 ghost use Rattle.std.specs.Prelude.{◌≡◌, ◌↔◌, IfOk, IfSome, IsTrue};
-ghost use Rattle.semver_base.specs.LeastVersion.{HasNoBuild, IsLeast, means_alone, set_means_alone};
+ghost use Rattle.semver_base.specs.LeastVersion.{HasNoBuild, IsLeast, means_alone, means_alone_with, set_means_alone, set_means_alone_with};
 ghost use Rattle.semver_base.specs.LeastSteps.{after, found_after, kept_if, least_from, least_outside};
 ghost use Rattle.semver_base.specs.Containment.{AreEquivalent, IsWithin, TellsEquivalent, TellsWithin};
-ghost use Rattle.semver_base.specs.Meaning.{set_means};
+ghost use Rattle.semver_base.specs.Meaning.{set_means, set_means_with};
 ghost use Rattle.semver_base.specs.NormalText.{AreWritableRanges, IsWritableRange};
 ghost use Rattle.semver_base.specs.VersionText.{ReadsBack};
 
-use crate::range::least::{least_pre, least_release, lesser};
-use crate::range::{RangeBound, VersionBoundKind, VersionRange, VersionRangeSet};
+use crate::range::least::lesser;
+use crate::range::{PreRelease, RangeBound, VersionBoundKind, VersionRange, VersionRangeSet};
 use crate::version::Version;
 use std::alloc::{AllocError, Global};
 
@@ -34,11 +34,17 @@ impl RangeBound {
 
 impl VersionRange {
     // The version, where this range matches it and none of the others does.
-    fn kept_alone(&self, others: &VersionRangeSet, version: Option<Version>) -> Option<Version>
-        ensures { result ≡ kept_if (means_alone self.now others.now.0) version }
+    fn kept_alone(
+        &self,
+        others: &VersionRangeSet,
+        pre_release: PreRelease,
+        version: Option<Version>,
+    ) -> Option<Version>
+        ensures { result ≡ kept_if (means_alone_with pre_release self.now others.now.0) version }
     {
         let version = version?;
-        if self.satisfies(&version) && !others.satisfies(&version) {
+        let is_own = self.satisfies_with(&version, pre_release);
+        if is_own && !others.satisfies_with(&version, pre_release) {
             return Some(version);
         }
         None
@@ -49,15 +55,18 @@ impl VersionRange {
         &self,
         alloc: Global,
         others: &VersionRangeSet,
+        pre_release: PreRelease,
         start: &RangeBound,
     ) -> Result<Option<Version>, AllocError>
-        ensures { IfOk result
-            (λ least. least ≡ least_from (means_alone self.now others.now.0) self.now start.now) }
+        ensures { let alone = means_alone_with pre_release self.now others.now.0 in IfOk result
+            (λ least. least ≡ least_from pre_release alone self.now start.now) }
     {
-        let release = self.kept_alone(others, least_release(alloc, start));
-        let by_start = self.kept_alone(others, least_pre(alloc, start, &self.start)?);
-        let by_end = self.kept_alone(others, least_pre(alloc, start, &self.end)?);
-        Ok(lesser(release, lesser(by_start, by_end)))
+        let free = self.kept_alone(others, pre_release, pre_release.least_free(alloc, start)?);
+        let by_start = pre_release.least_admitted(alloc, start, &self.start)?;
+        let by_start = self.kept_alone(others, pre_release, by_start);
+        let by_end = pre_release.least_admitted(alloc, start, &self.end)?;
+        let by_end = self.kept_alone(others, pre_release, by_end);
+        Ok(lesser(free, lesser(by_start, by_end)))
     }
 
     // The least that is found from this range's start, or from the end of the other where that is above it.
@@ -65,12 +74,14 @@ impl VersionRange {
         &self,
         alloc: Global,
         others: &VersionRangeSet,
+        pre_release: PreRelease,
         other: &VersionRange,
     ) -> Result<Option<Version>, AllocError>
-        ensures { IfOk result (λ least. least ≡ found_after self.now others.now.0 other.now) }
+        ensures { IfOk result (λ least.
+            least ≡ found_after pre_release self.now others.now.0 other.now) }
     {
         let start = self.start.clamp_start(alloc, &other.end.after()?)?;
-        self.alone_from(alloc, others, &start)
+        self.alone_from(alloc, others, pre_release, &start)
     }
 
     // The least that is found from this range's start or from the end of one of the others.
@@ -78,18 +89,43 @@ impl VersionRange {
         &self,
         alloc: Global,
         others: &VersionRangeSet,
+        pre_release: PreRelease,
     ) -> Result<Option<Version>, AllocError>
-        ensures { IfOk result (λ least. least ≡ least_outside self.now others.now.0) }
+        ensures { IfOk result (λ least. least ≡ least_outside pre_release self.now others.now.0) }
     {
-        let mut least = self.alone_from(alloc, others, &self.start)?;
+        let mut least = self.alone_from(alloc, others, pre_release, &self.start)?;
         for other in others.0.as_slice() {
-            least = lesser(least, self.found_after(alloc, others, other)?);
+            least = lesser(least, self.found_after(alloc, others, pre_release, other)?);
         }
         Ok(least)
     }
 
+    /// The least version that the range matches and no range of the set does, with pre-releases restricted or admitted
+    /// throughout, or none where the set matches each version that the range matches.
+    ///
+    /// No version that a text stands for is lower by precedence and is matched so; where there is none, the set matches
+    /// each version that a text stands for and the range matches. It has no build, and its text is read back where those
+    /// of the bounds are.
+    ///
+    /// It is an error only where no memory is left.
+    pub fn version_outside_with(
+        &self,
+        alloc: Global,
+        others: &VersionRangeSet,
+        pre_release: PreRelease,
+    ) -> Result<Option<Version>, AllocError>
+        ensures least { IfOk result
+            (IsLeast (means_alone_with pre_release self.now others.now.0)) }
+        ensures no_build { IfOk result (λ least. IfSome least HasNoBuild) }
+        ensures reads_back { IfOk result
+            (λ least. IsWritableRange self.now → AreWritableRanges others.now.0
+            → IfSome least ReadsBack) }
+    {
+        self.least_outside(alloc, others, pre_release)
+    }
+
     /// The least version that the range matches and no range of the set does, or none where the set matches each version
-    /// that the range matches.
+    /// that the range matches. It is [`VersionRange::version_outside_with`] at [`PreRelease::Restricted`].
     ///
     /// No version that a text stands for is lower by precedence and is matched so; where there is none, the set matches
     /// each version that a text stands for and the range matches. It has no build, and its text is read back where those
@@ -107,13 +143,44 @@ impl VersionRange {
             (λ least. IsWritableRange self.now → AreWritableRanges others.now.0
             → IfSome least ReadsBack) }
     {
-        self.least_outside(alloc, others)
+        self.version_outside_with(alloc, others, PreRelease::Restricted)
     }
 }
 
 impl VersionRangeSet {
+    /// The least version that this set matches and the other doesn't, with pre-releases restricted or admitted throughout, or
+    /// none where the other matches each version that this one matches.
+    ///
+    /// No version that a text stands for is lower by precedence and is matched so; where there is none, the other set
+    /// matches each version that a text stands for and this one matches. It has no build, and its text is read back where
+    /// those of the bounds are.
+    ///
+    /// It is an error only where no memory is left.
+    pub fn version_outside_with(
+        &self,
+        alloc: Global,
+        other: &VersionRangeSet,
+        pre_release: PreRelease,
+    ) -> Result<Option<Version>, AllocError>
+        ensures least { IfOk result
+            (IsLeast (set_means_alone_with pre_release self.now.0 other.now.0)) }
+        ensures no_build { IfOk result (λ least. IfSome least HasNoBuild) }
+        ensures reads_back { IfOk result
+            (λ least. AreWritableRanges self.now.0 → AreWritableRanges other.now.0
+            → IfSome least ReadsBack) }
+    {
+        let mut least = None;
+        for range in self.0.as_slice() {
+            least = lesser(
+                least,
+                range.version_outside_with(alloc, other, pre_release)?,
+            );
+        }
+        Ok(least)
+    }
+
     /// The least version that this set matches and the other doesn't, or none where the other matches each version that
-    /// this one matches.
+    /// this one matches. It is [`VersionRangeSet::version_outside_with`] at [`PreRelease::Restricted`].
     ///
     /// No version that a text stands for is lower by precedence and is matched so; where there is none, the other set
     /// matches each version that a text stands for and this one matches. It has no build, and its text is read back where
@@ -131,15 +198,34 @@ impl VersionRangeSet {
             (λ least. AreWritableRanges self.now.0 → AreWritableRanges other.now.0
             → IfSome least ReadsBack) }
     {
-        let mut least = None;
-        for range in self.0.as_slice() {
-            least = lesser(least, range.version_outside(alloc, other)?);
-        }
-        Ok(least)
+        self.version_outside_with(alloc, other, PreRelease::Restricted)
+    }
+
+    /// Whether the other set matches each version that this one matches, with pre-releases restricted or admitted throughout.
+    ///
+    /// Yes says so of each version that a text stands for. No says that some version matches this set alone; where the texts
+    /// of the bounds are read back, it is one that a text stands for, so that the answer is exact. The least such one is
+    /// what [`VersionRangeSet::version_outside_with`] answers.
+    ///
+    /// It is an error only where no memory is left.
+    pub fn is_subset_with(
+        &self,
+        alloc: Global,
+        other: &VersionRangeSet,
+        pre_release: PreRelease,
+    ) -> Result<bool, AllocError>
+        ensures value { let means = set_means_with pre_release in IfOk result
+            (TellsWithin (means self.now.0) (means other.now.0)) }
+        ensures exact { let means = set_means_with pre_release in IfOk result
+            (λ told. AreWritableRanges self.now.0 → AreWritableRanges other.now.0
+            → (IsTrue told ↔ IsWithin (means self.now.0) (means other.now.0))) }
+    {
+        let outside = self.version_outside_with(alloc, other, pre_release)?;
+        Ok(outside.is_none())
     }
 
     /// Whether the other set matches each version that this one matches (node-semver's `subset`, here exactly by what the
-    /// ranges match, pre-releases included).
+    /// ranges match, pre-releases included). It is [`VersionRangeSet::is_subset_with`] at [`PreRelease::Restricted`].
     ///
     /// Yes says so of each version that a text stands for. No says that some version matches this set alone; where the texts
     /// of the bounds are read back, it is one that a text stands for, so that the answer is exact. The least such one is
@@ -152,11 +238,35 @@ impl VersionRangeSet {
             (λ told. AreWritableRanges self.now.0 → AreWritableRanges other.now.0
             → (IsTrue told ↔ IsWithin (set_means self.now.0) (set_means other.now.0))) }
     {
-        let outside = self.version_outside(alloc, other)?;
-        Ok(outside.is_none())
+        self.is_subset_with(alloc, other, PreRelease::Restricted)
     }
 
-    /// Whether both sets match the same versions.
+    /// Whether both sets match the same versions, with pre-releases restricted or admitted throughout.
+    ///
+    /// Yes says so of each version that a text stands for, and no that some version matches one of them alone; where the
+    /// texts of the bounds are read back, the answer is exact. It is what [`VersionRangeSet::is_subset_with`] says both ways.
+    ///
+    /// It is an error only where no memory is left.
+    pub fn is_equivalent_with(
+        &self,
+        alloc: Global,
+        other: &VersionRangeSet,
+        pre_release: PreRelease,
+    ) -> Result<bool, AllocError>
+        ensures value { let means = set_means_with pre_release in IfOk result
+            (TellsEquivalent (means self.now.0) (means other.now.0)) }
+        ensures exact { let means = set_means_with pre_release in IfOk result
+            (λ told. AreWritableRanges self.now.0 → AreWritableRanges other.now.0
+            → (IsTrue told ↔ AreEquivalent (means self.now.0) (means other.now.0))) }
+    {
+        if !self.is_subset_with(alloc, other, pre_release)? {
+            return Ok(false);
+        }
+        other.is_subset_with(alloc, self, pre_release)
+    }
+
+    /// Whether both sets match the same versions. It is [`VersionRangeSet::is_equivalent_with`] at
+    /// [`PreRelease::Restricted`].
     ///
     /// Yes says so of each version that a text stands for, and no that some version matches one of them alone; where the
     /// texts of the bounds are read back, the answer is exact. It is what [`VersionRangeSet::is_subset`] says both ways.
@@ -169,9 +279,6 @@ impl VersionRangeSet {
             (λ told. AreWritableRanges self.now.0 → AreWritableRanges other.now.0
             → (IsTrue told ↔ AreEquivalent (set_means self.now.0) (set_means other.now.0))) }
     {
-        if !self.is_subset(alloc, other)? {
-            return Ok(false);
-        }
-        other.is_subset(alloc, self)
+        self.is_equivalent_with(alloc, other, PreRelease::Restricted)
     }
 }

@@ -240,11 +240,13 @@ impl RangeOrInvalid {
 
 /// The first piece of a text.
 #[derive(Clone, Copy)]
-pub(super) struct FirstPiece<'a> {
-    pub(super) piece: &'a str,
-    is_followed: bool,
-    // What follows its `||`, or nothing.
-    rest: &'a str,
+pub struct FirstPiece<'a> {
+    /// What stands before the leftmost `||`, or the whole text.
+    pub piece: &'a str,
+    /// Whether a `||` follows it.
+    pub is_followed: bool,
+    /// What follows its `||`, or nothing.
+    pub rest: &'a str,
 }
 
 // The text before the leftmost `||`, and what follows that.
@@ -254,8 +256,8 @@ fn cut(text: &str) -> Option<(&str, &str)>
     text.split_once("||")
 }
 
-/// The first piece of the text, and what follows it.
-pub(super) fn first_piece(text: &str) -> FirstPiece<'_>
+/// The first piece of the text, which is cut at its leftmost `||`, and what follows it (node-semver's `range-set`).
+pub fn first_piece(text: &str) -> FirstPiece<'_>
     ensures { IsFirstPiece text.now result.piece.now result.is_followed result.rest.now }
 {
     match cut(text) {
@@ -272,8 +274,9 @@ pub(super) fn first_piece(text: &str) -> FirstPiece<'_>
     }
 }
 
-// The next piece of what follows a `||`, and what follows it in turn.
-fn next_piece(rest: &str) -> Option<(&str, &str)>
+/// The next piece of what follows a `||`, with the blanks behind that left out, and what follows it in turn; none where
+/// blanks alone follow.
+pub fn next_piece(rest: &str) -> Option<(&str, &str)>
     ensures { IsNextPiece rest.now (both_now result) }
 {
     let start = after_blanks(rest);

@@ -5,12 +5,12 @@ use Rattle.range_answers.proofs.explained.pieces_from.Goals as goal
 
 pub loop-piece-init : goal.loop-piece-init
 loop-piece-init c =
-    let pushed : c.push.new.self.items ≡ c.in_ok-read.field-0 ∷ [] = search rules in
+    let pushed : c.push.new.self.items ≡ c.in_ok-head.head ∷ [] = search rules in
     record {
       is_text = search rules;
       others = [];
       joins = λ pieces m. m;
-      read = subst (λ items. AreAllExplained c.args.flavour c.args.first.is_followed (c.args.first.piece.now ∷ []) items) (sym pushed) (c.in_ok-read.ensures.piece, tt);
+      read = subst (λ items. AreAllExplained c.args.flavour c.args.pre_release c.args.first.is_followed (c.args.first.piece.now ∷ []) items) (sym pushed) (c.in_ok-head.ensures.piece, tt);
     }
 
 pub loop-piece-preserved : goal.loop-piece-preserved
@@ -23,11 +23,11 @@ loop-piece-preserved c =
       is_text = search rules;
       others = so_far.others ++ c.in-Some.piece.now ∷ [];
       joins = λ pieces m. rw append_assoc (so_far.joins (c.in-Some.piece.now ∷ pieces) (next.0 pieces m));
-      read = subst (λ items. AreAllExplained c.args.flavour c.args.first.is_followed (c.args.first.piece.now ∷ so_far.others ++ c.in-Some.piece.now ∷ []) items) (sym pushed)
-          (explained_more c.args.flavour c.args.first.is_followed c.args.first.piece.now so_far.others c.loop-piece.pieces.items c.in-Some.piece.now piece.piece so_far.read piece.ensures.piece);
+      read = subst (λ items. AreAllExplained c.args.flavour c.args.pre_release c.args.first.is_followed (c.args.first.piece.now ∷ so_far.others ++ c.in-Some.piece.now ∷ []) items) (sym pushed)
+          (explained_more c.args.flavour c.args.pre_release c.args.first.is_followed c.args.first.piece.now so_far.others c.loop-piece.pieces.items c.in-Some.piece.now piece.piece so_far.read piece.ensures.piece);
     }
 
 pub returns-clause-pieces : goal.returns-clause-pieces
 returns-clause-pieces c =
     let so_far = c.loop-piece.invariant in
-    record { others = so_far.others ++ []; more = so_far.joins [] c.in_default.ensures; explained = explained_first c.args.flavour c.args.first.is_followed c.args.first.piece.now so_far.others c.loop-piece.pieces.items so_far.read }
+    record { others = so_far.others ++ []; more = so_far.joins [] c.in_default.ensures; explained = explained_first c.args.flavour c.args.pre_release c.args.first.is_followed c.args.first.piece.now so_far.others c.loop-piece.pieces.items so_far.read }

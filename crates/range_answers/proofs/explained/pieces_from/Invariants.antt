@@ -10,7 +10,7 @@ invariant-loop-piece l = record {
   is_text : shadow (Utf8 l.rest);
   others : List (List ℕ);
   joins : (more : List (List ℕ)) → AreMorePieces l.rest more → AreMorePieces l.first.rest.now (others ++ more);
-  read : AreAllExplained l.flavour l.first.is_followed (l.first.piece.now ∷ others) l.pieces.items;
+  read : AreAllExplained l.flavour l.pre_release l.first.is_followed (l.first.piece.now ∷ others) l.pieces.items;
 }
 
 abbrev pub decreases-loop-piece : goal.decreases-loop-piece

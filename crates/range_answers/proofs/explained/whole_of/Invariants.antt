@@ -3,4 +3,4 @@ use Rattle.range_answers.specs.Explained.{AreWholeTexts}
 use Rattle.range_answers.proofs.explained.whole_of.Given as goal
 
 abbrev pub invariant-loop-range : goal.invariant-loop-range
-invariant-loop-range l = AreWholeTexts l.text (take l.range-index l.ranges) l.pieces.items
+invariant-loop-range l = AreWholeTexts l.pre_release l.text (take l.range-index l.ranges) l.pieces.items
