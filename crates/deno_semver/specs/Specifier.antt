@@ -20,13 +20,12 @@ specifier_text kind reference = with_scheme kind (slash ∷ nv_reference_text re
 -- what a refusal of `url` is told as
 abbrev pub told_refusal : ParseError → SpecifierError
 told_refusal OutOfMemory = error.Memory
-told_refusal Overflow = error.Overflow
+told_refusal Overflow = error.Memory
 told_refusal cause = error.Url
 
--- the URL Standard refuses the text; or its URL comes to 4 GB, or memory is wanting, of which `url` says no more
+-- the URL Standard refuses the text; or memory is wanting, as it is for a URL of 4 GB, and no more is said
 abbrev pub IsUrlRefusal : List ℕ → SpecifierError → Type 0
 IsUrlRefusal text error.Url = (cause : ParseError) × (parse_url None text ≡ Err cause)
-IsUrlRefusal text error.Overflow = Unit {0}
 IsUrlRefusal text error.Memory = Unit {0}
 
 -- what `url` parses of the text, or why there is no URL

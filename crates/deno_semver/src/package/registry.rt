@@ -231,7 +231,7 @@ impl<R: Registry> RegistryNvReference<R> {
     }
 
     /// The URL that the crate `url` makes of the scheme, `/` and the reference. `SpecifierError::Url`: the URL Standard, as that
-    /// crate states it, refuses the text. Of the other errors, a URL of 4 GB and want of memory, no more is said.
+    /// crate states it, refuses the text. The other error is want of memory, as it is for a URL of 4 GB.
     pub fn as_specifier(&self, alloc: Global) -> Result<Url, SpecifierError>
         ensures { IsSpecifier (specifier_text R.kind self.now) result }
     {

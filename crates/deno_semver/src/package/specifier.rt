@@ -15,10 +15,7 @@ pub enum SpecifierError {
     /// The URL Standard, as the crate `url` has it, refuses its text.
     #[error("Invalid URL")]
     Url,
-    /// The URL comes to 4 GB, which is past what the crate `url` keeps.
-    #[error("URL too long")]
-    Overflow,
-    /// Memory was wanting.
+    /// Memory was wanting, as it is for a URL of 4 GB, which is past what the crate `url` keeps.
     #[error("Out of memory.")]
     Memory,
 }
@@ -49,8 +46,7 @@ fn of_url(error: ParseError) -> SpecifierError
     ensures { result ≡ told_refusal error }
 {
     match error {
-        ParseError::OutOfMemory => SpecifierError::Memory,
-        ParseError::Overflow => SpecifierError::Overflow,
+        ParseError::OutOfMemory | ParseError::Overflow => SpecifierError::Memory,
         _ => SpecifierError::Url,
     }
 }
