@@ -3,7 +3,7 @@ use Rattle.std.proofs.Common.{◌≡◌, ◌==◌, ◌<◌, ℕ, false, suc, len
 use Rattle.std.specs.Prelude.{◌⊎◌, codes, slice_index}
 use Rattle.std.proofs.lemmas.Bool.{eq-eqb}
 use Rattle.std.specs.Str.{trim}
-use Rattle.npmver.specs.Question.{ByReader, IsAnswer, IsAsked, IsBest, IsFit, IsForm, IsMeeting, IsNormal, IsReader, IsStatus, NoReader, a_tag, allowance_of, asks_best, asks_fits, asks_fits_pre, asks_meet, asks_normal, asks_nothing, by, by_none, form_best, form_fits, form_fits_pre, form_meet, form_normal, no_normal_text, no_one, no_other, no_requirement, no_version, normal_text, npm, normal, of_told, of_unwritten, of_wanting, overlap, ranges, strict, yes_or_no}
+use Rattle.npmver.specs.Question.{ByReader, IsAnswer, IsAsked, IsBest, IsFit, IsForm, IsMeeting, IsNormal, IsReader, IsStatus, NoReader, a_tag, allowance_of, asks_best, asks_fits, asks_fits_pre, asks_meet, asks_normal, asks_nothing, by, by_none, form_best, form_fits, form_fits_pre, form_meet, form_normal, no_normal_text, no_one, no_other, no_requirement, no_version, normal_text, npm, normal, of_told, of_unwritten, of_wanting, overlap, ranges, strict, answer_whether}
 use Rattle.npmver.specs.Told.{ATag, IsProper, OutOfMemory, Refused, Text, Told, Usage, failure_of, problem_of, status_of, told_answer, told_by, told_problem}
 use Rattle.npmver.specs.declared.Answer.{Answer}
 use Rattle.npmver.specs.declared.Answer.TheVariants as answer
@@ -101,7 +101,7 @@ answer_usage (answer.Text text) e = cc e
 answer_usage answer.NoMatch e = cc e
 
 fit_usage : {flag : PreRelease} {f : Flavour} {requirement version : List ℕ} (told : Told) → told ≡ Usage → IsFit flag f requirement version told → ⊥
-fit_usage {flag} told e (ranges tree v o q) = answer_usage (yes_or_no (tree_means_with flag (tree_ranges tree) v)) e
+fit_usage {flag} told e (ranges tree v o q) = answer_usage (answer_whether (tree_means_with flag (tree_ranges tree) v)) e
 fit_usage told e (a_tag o q) = cc e
 fit_usage told e (no_requirement o) = cc e
 fit_usage told e (no_version q) = cc e
@@ -111,7 +111,7 @@ normal_usage told e (normal_text read k) = cc e
 normal_usage told e (no_normal_text o) = cc e
 
 meeting_usage : {one other : List ℕ} (told : Told) → told ≡ Usage → IsMeeting one other told → ⊥
-meeting_usage told e (overlap read others k l) = answer_usage (yes_or_no (inner_overlap read others)) e
+meeting_usage told e (overlap read others k l) = answer_usage (answer_whether (inner_overlap read others)) e
 meeting_usage told e (no_one o) = cc e
 meeting_usage told e (no_other o) = cc e
 
@@ -162,12 +162,12 @@ module _ (flag : PreRelease) (f : Flavour) (requirement version : List ℕ) wher
 
   -- what a requirement that was read answers
   allowance_is : (req : Requirement) → IsReaderAnswer failure_of f requirement (Ok req) → (tree : List (List Comparator)) → IsOutcome f requirement (Ranges tree)
-      → (v : Version) → allowance_of flag req.inner v ≡ yes_or_no (tree_means_with flag (tree_ranges tree) v)
+      → (v : Version) → allowance_of flag req.inner v ≡ answer_whether (tree_means_with flag (tree_ranges tree) v)
   allowance_is req h tree p v = go req.inner (h.answer (Ranges tree) p) (h.means tree p flag v)
     where
       go : (read : RangeSetOrTag) → read ≡ inner.RangeSet (record { 0 = kept f tree }) → inner_means_with flag read v ≡ tree_means_with flag (tree_ranges tree) v
-          → allowance_of flag read v ≡ yes_or_no (tree_means_with flag (tree_ranges tree) v)
-      go (inner.RangeSet set) e m = ap yes_or_no m
+          → allowance_of flag read v ≡ answer_whether (tree_means_with flag (tree_ranges tree) v)
+      go (inner.RangeSet set) e m = ap answer_whether m
       go (inner.Tag tag) e m = absurd (cc e)
 
   tag_is : (read : RangeSetOrTag) (name : List ℕ) (v : Version) → read ≡ inner.Tag name → told_answer (allowance_of flag read v) ≡ ATag name
@@ -189,7 +189,7 @@ module _ (flag : PreRelease) (f : Flavour) (requirement version : List ℕ) wher
       tells outcome.Refused p k = absurd k
 
       every : (told : Told) → IsFit flag f requirement version told → told_answer (allowance_of flag req.inner v) ≡ told
-      every told (ranges tree w o r) = ap told_answer (allowance_is req h tree o v ∙ ap (λ (x : Version). yes_or_no (tree_means_with flag (tree_ranges tree) x)) (only w r))
+      every told (ranges tree w o r) = ap told_answer (allowance_is req h tree o v ∙ ap (λ (x : Version). answer_whether (tree_means_with flag (tree_ranges tree) x)) (only w r))
       every told (a_tag {name = name} o r) = tag_is req.inner name v (h.answer (Tag name) o)
       every told (no_requirement o) = absurd (not_refused f requirement req h o)
       every told (no_version {fault = fault} r) = absurd (never fault r)
@@ -239,14 +239,14 @@ module _ (one other : List ℕ) where
       others told (no_other o) = inr refl
 
   pub meet_read : (req others : Requirement) → IsReaderAnswer failure_of Npm one (Ok req) → IsReaderAnswer failure_of Npm other (Ok others)
-      → (result : Answer) → result ≡ yes_or_no (inner_overlap req.inner others.inner) → IsAnswer (IsMeeting one other) (Ok result)
+      → (result : Answer) → result ≡ answer_whether (inner_overlap req.inner others.inner) → IsAnswer (IsMeeting one other) (Ok result)
   meet_read req others h i result is = subst (λ a. IsAnswer (IsMeeting one other) (Ok a)) (sym is) (record {
     tells = inr (overlap req.inner others.inner h.outcome i.outcome);
     every = λ told a. inr (every told a);
     usage = λ a. absurd (meeting_usage Usage refl a);
   })
     where
-      every : (told : Told) → IsMeeting one other told → told_answer (yes_or_no (inner_overlap req.inner others.inner)) ≡ told
+      every : (told : Told) → IsMeeting one other told → told_answer (answer_whether (inner_overlap req.inner others.inner)) ≡ told
       every told (overlap read reads k l) = rw (one_reading Npm one req h read k, one_reading Npm other others i reads l) refl
       every told (no_one o) = absurd (not_refused Npm one req h o)
       every told (no_other o) = absurd (not_refused Npm other others i o)

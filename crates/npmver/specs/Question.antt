@@ -27,13 +27,13 @@ use Rattle.semver_req.specs.declared.range_set_or_tag.RangeSetOrTag.{RangeSetOrT
 use Rattle.semver_req.specs.declared.range_set_or_tag.RangeSetOrTag.TheVariants as inner
 use Rattle.deno_semver.specs.Resolve.{IsBestAt, greater}
 
-abbrev pub yes_or_no : Bool → Answer
-yes_or_no true = answer.Yes
-yes_or_no false = answer.No
+abbrev pub answer_whether : Bool → Answer
+answer_whether true = answer.Yes
+answer_whether false = answer.No
 
 -- a requirement of ranges allows what it means; a tag is answered as it is
 abbrev pub allowance_of : PreRelease → RangeSetOrTag → Version → Answer
-allowance_of flag (inner.RangeSet set) v = yes_or_no (inner_means_with flag (inner.RangeSet set) v)
+allowance_of flag (inner.RangeSet set) v = answer_whether (inner_means_with flag (inner.RangeSet set) v)
 allowance_of flag (inner.Tag tag) v = answer.Tag tag
 
 -- ---- readers
@@ -107,7 +107,7 @@ IsChosen (inner.Tag tag) versions given = given ≡ answer.Tag tag
 -- version, or that it is a tag
 pub data IsFit (flag : PreRelease) (f : Flavour) (requirement version : List ℕ) : Told → Type 0 where
   ranges : (tree : List (List Comparator)) (v : Version) → IsOutcome f requirement (Ranges tree) → IsVersionOutcome (trim version) (Ok v)
-      → IsFit flag f requirement version (told_answer (yes_or_no (tree_means_with flag (tree_ranges tree) v)))
+      → IsFit flag f requirement version (told_answer (answer_whether (tree_means_with flag (tree_ranges tree) v)))
   a_tag : {name : List ℕ} {v : Version} → IsOutcome f requirement (Tag name) → IsVersionOutcome (trim version) (Ok v) → IsFit flag f requirement version (ATag name)
   no_requirement : IsOutcome f requirement outcome.Refused → IsFit flag f requirement version Refused
   no_version : {fault : Refusal} → IsVersionOutcome (trim version) (Err fault) → IsFit flag f requirement version Refused
@@ -127,7 +127,7 @@ pub data IsNormal (f : Flavour) (requirement : List ℕ) : Told → Type 0 where
 
 -- do the two requirements overlap, as npm reads them
 pub data IsMeeting (one other : List ℕ) : Told → Type 0 where
-  overlap : (read others : RangeSetOrTag) → IsReading Npm one read → IsReading Npm other others → IsMeeting one other (told_answer (yes_or_no (inner_overlap read others)))
+  overlap : (read others : RangeSetOrTag) → IsReading Npm one read → IsReading Npm other others → IsMeeting one other (told_answer (answer_whether (inner_overlap read others)))
   no_one : IsOutcome Npm one outcome.Refused → IsMeeting one other Refused
   no_other : IsOutcome Npm other outcome.Refused → IsMeeting one other Refused
 

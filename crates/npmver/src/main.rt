@@ -18,7 +18,7 @@ ghost use Rattle.std.specs.Str.{trim};
 ghost use Rattle.semver_req.specs.PieceReading.{IsCutRefusal};
 ghost use Rattle.semver_req.specs.Readers.{IsReaderAnswer};
 ghost use Rattle.semver_req.specs.declared.common.values.Flavour.TheVariants.{Npm};
-ghost use Rattle.npmver.specs.Question.{AreOnlyVersions, ByReader, IsAnswer, IsAsked, IsBest, IsChosen, IsFirstRefused, IsFit, IsMeeting, IsNormal, IsReader, IsStatus, IsVersionsRefusal, NoReader, allowance_of, flavour_of, yes_or_no};
+ghost use Rattle.npmver.specs.Question.{AreOnlyVersions, ByReader, IsAnswer, IsAsked, IsBest, IsChosen, IsFirstRefused, IsFit, IsMeeting, IsNormal, IsReader, IsStatus, IsVersionsRefusal, NoReader, allowance_of, flavour_of, answer_whether};
 ghost use Rattle.npmver.specs.declared.Problem.TheVariants as problem;
 ghost use Rattle.npmver.specs.declared.Reader.TheVariants as reader;
 ghost use Rattle.npmver.specs.Told.{IsProper, failure_of, problem_of, status_of, told_answer, told_problem};
@@ -52,7 +52,7 @@ enum Answer {
 
 impl Answer {
     fn of(holds: bool) -> Answer
-        ensures { result ≡ yes_or_no holds }
+        ensures { result ≡ answer_whether holds }
     {
         if holds { Answer::Yes } else { Answer::No }
     }

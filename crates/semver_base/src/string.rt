@@ -3,7 +3,7 @@
 //! A contract sees a text as its UTF-8 bytes and a list as its items, whatever they are kept in. A short text stands in
 //! the value itself and a longer one in a `String`.
 
-ghost use Rattle.std.specs.Prelude.{◌≡◌, ◌≤◌, ◌+◌, ◌++◌, ℕ, List, [], Some, IfOk, IsOk, OnOk, OnErr, IsTrue, ◌↔◌, encode_utf8, length, nat_eq, refl, string_bytes, IsUtf8};
+ghost use Rattle.std.specs.Prelude.{◌≡◌, ◌≤◌, ◌<◌, ◌+◌, ◌++◌, ℕ, List, [], Some, IfOk, IsOk, OnOk, OnErr, IsTrue, ◌↔◌, encode_utf8, length, nat_eq, refl, string_bytes, IsUtf8};
 ghost use Rattle.std.proofs.Common.{rules};
 ghost use Rattle.std.specs.Cmp.{partial_equiv_from_equiv};
 ghost use Rattle.std.specs.Cmp.Lexicographic.{nat_list_cmp_total, nat_list_eq_equiv, pointwise, slice_cmp, texts_po, texts_ties};
@@ -285,9 +285,11 @@ impl<const LIMIT: usize> ShortText<LIMIT> {
         String::from_str(alloc, self.as_str())
     }
 
-    /// The text in a `String`, which takes over the memory of a long one. It is an error only where no memory is left.
+    /// The text in a `String`. It is an error only where no memory is left, and never for a text of more than `LIMIT` bytes,
+    /// whose memory the `String` takes over.
     pub fn into_string(self, alloc: Global) -> Result<String, AllocError>
-        ensures { IfOk result (λ s. string_bytes s ≡ self.entry) }
+        ensures value { IfOk result (λ s. string_bytes s ≡ self.entry) }
+        ensures succeeds { LIMIT < length self.entry → IsOk result }
     {
         let ShortText { kept, .. } = self;
         match kept {

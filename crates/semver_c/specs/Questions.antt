@@ -23,13 +23,13 @@ use Rattle.semver_c.specs.declared.questions.Least.TheVariants as least
 abbrev pub pre_release_of : ℕ → PreRelease
 pre_release_of number = if number == 0 then Restricted else Admitted
 
-abbrev pub yes_or_no : Bool → Fit
-yes_or_no true = fit.Yes
-yes_or_no false = fit.No
+abbrev pub fit_whether : Bool → Fit
+fit_whether true = fit.Yes
+fit_whether false = fit.No
 
 -- a requirement of ranges allows what it means; a tag is told as one
 abbrev pub fit_of : PreRelease → RangeSetOrTag → Version → Fit
-fit_of flag (inner.RangeSet set) v = yes_or_no (inner_means_with flag (inner.RangeSet set) v)
+fit_of flag (inner.RangeSet set) v = fit_whether (inner_means_with flag (inner.RangeSet set) v)
 fit_of flag (inner.Tag tag) v = fit.Tag
 
 abbrev pub Fits : ℕ → ℕ → List ℕ → List ℕ → Result Fit ℕ → Type 0

@@ -1,7 +1,7 @@
 use Rattle.std.proofs.Common.{◌∙◌, ap}
 use Rattle.std.proofs.lemmas.Result.{err_from_is_err_and}
 use Rattle.std.specs.Prelude.{refl}
-use Rattle.npmver.specs.Question.{yes_or_no, first_refused, other_refused}
+use Rattle.npmver.specs.Question.{answer_whether, first_refused, other_refused}
 use Rattle.npmver.proofs.Telling.{meet_no_one, meet_no_other, meet_read}
 use Rattle.npmver.proofs.meet.Goals as goal
 
@@ -26,4 +26,4 @@ returns-in_err-other-clause-refusal c =
     rw (p.1, p.2) (other_refused c.in_ok-one.one.inner c.in_ok-one.ensures.reads.outcome (c.in_err-other.ensures.refusal refl))
 
 pub returns-clause-answer : goal.returns-clause-answer
-returns-clause-answer c = meet_read c.args.one.now c.args.other.now c.in_ok-one.one c.in_ok-other.other c.in_ok-one.ensures.reads c.in_ok-other.ensures.reads c.of.result (c.of.ensures ∙ ap yes_or_no c.intersects.ensures.value)
+returns-clause-answer c = meet_read c.args.one.now c.args.other.now c.in_ok-one.one c.in_ok-other.other c.in_ok-one.ensures.reads c.in_ok-other.ensures.reads c.of.result (c.of.ensures ∙ ap answer_whether c.intersects.ensures.value)

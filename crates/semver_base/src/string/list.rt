@@ -22,7 +22,7 @@ pub trait CowItem {
         ensures { IfOk result (λ x. x ≡ self.now) };
 }
 
-/// A list, seen in contracts as its items. Its copies share them until one of the lists grows.
+/// A list, seen in contracts as its items.
 ///
 /// Two lists are equal where they have equal items in the same order.
 #[derive(Drop)]
@@ -120,8 +120,7 @@ fn copied<T: CowItem + Drop>(alloc: Global, items: &[T]) -> Result<Vec<T>, Alloc
 }
 
 impl<T: CowItem + Drop> CowVec<T> {
-    /// Appends `item`; a list that shares its items copies them first. Where no memory is left the list is unchanged and
-    /// the item is dropped.
+    /// Appends `item`. Where no memory is left the list is unchanged and the item is dropped.
     pub fn push(&mut self, item: T) -> Result<(), AllocError>
         ensures ok { OnOk result (self.new ≡ self.old ++ item ∷ []) }
         ensures err { OnErr result (self.new ≡ self.old) }
@@ -159,7 +158,7 @@ impl<T: CowItem + Drop> CowVec<T> {
         })
     }
 
-    /// The same list again, which shares the items. It is an error only where no memory is left.
+    /// The same list again. It is an error only where no memory is left.
     pub fn copy(&self) -> Result<Self, AllocError>
         ensures { IfOk result (λ v. v ≡ self.now) }
     {
