@@ -15,8 +15,8 @@ use Rattle.semver_req.specs.KeptSet.{kept}
 use Rattle.semver_req.specs.Outcome.{IsOutcome, Outcome, Ranges, Tag}
 use Rattle.semver_req.specs.Pieces.{IsCutting}
 use Rattle.semver_req.specs.Readers.{Failure, IsReadOrTag, IsReaderAnswer}
-use Rattle.semver_req.specs.Requirement.{Requirement, inner_text}
-use Rattle.semver_req.specs.Rereading.{IsReadAsForms, IsReadAsItself, IsTree, KeepsEqual, KeepsSettled, KeepsTheSame, OfReadRanges, keeps_meaning}
+use Rattle.semver_req.specs.Requirement.{Requirement, inner_text, pinned, ranges_of}
+use Rattle.semver_req.specs.Rereading.{IsReadAsForms, IsReadAsItself, IsSettledSet, IsTree, KeepsEqual, KeepsSettled, KeepsTheSame, OfReadRanges, keeps_meaning}
 use Rattle.semver_req.specs.declared.common.values.Flavour.{Flavour}
 use Rattle.semver_req.specs.declared.range_set_or_tag.RangeSetOrTag.{RangeSetOrTag}
 use Rattle.semver_req.specs.declared.range_set_or_tag.RangeSetOrTag.TheVariants as inner
@@ -100,3 +100,13 @@ pub told_of_ranges : (stored read : RangeSetOrTag) (v : Version) → OfRanges (�
     → OfRanges (λ ranges. IsToldOfRanges (list_all keeps_meaning ranges) (tree_means (alternatives ranges) v) (allowance_of read v)) stored
 told_of_ranges (inner.RangeSet set) read v h = λ s. told_again set.0 read v (h s)
 told_of_ranges (inner.Tag tag) read v h = tt
+
+-- ---- of one version
+
+-- the requirement of a version, where it is a read set that is settled, is what is read again of it
+pub pinned_again : (v : Version) (req : Requirement) (again : RangeSetOrTag) → req ≡ pinned v → IsReadOrTag req.inner → IsSettledSet (ranges_of req.inner).0
+    → OfRanges (λ ranges. IsReadAgain ranges again) req.inner → again ≡ (pinned v).inner
+pinned_again v req again is = subst Says (sym is) (λ read settled h. let a = h read in a.is_ranges ∙ ap as_inner (a.stays settled))
+  where
+    Says : Requirement → Type 0
+    Says r = IsReadOrTag r.inner → IsSettledSet (ranges_of r.inner).0 → OfRanges (λ ranges. IsReadAgain ranges again) r.inner → again ≡ (pinned v).inner

@@ -6,9 +6,15 @@ ghost use Rattle.semver_base.specs.PrecedenceLaws.{SamePrecedence};
 ghost use Rattle.semver_base.specs.VersionGrammar.{IsVersionOutcome, IsVersionRefusal};
 ghost use Rattle.semver_base.specs.VersionText.{ReadsBack, version_text};
 ghost use Rattle.semver_base.specs.declared.version.Version.{Version};
+ghost use Rattle.semver_req.specs.Requirement.{pinned};
+ghost use Rattle.semver_req.specs.Rereading.{OfReadVersion};
+ghost use Rattle.callers.specs.Stored.{Answers};
 ghost use Rattle.callers.specs.Versions.{IsSameAgain};
 
-use deno_semver::{IntoVersionReq, ParseFailure, StackString, StringAppendable, Version};
+use crate::stored::read_again_by_npm;
+use deno_semver::{
+    IntoVersionReq, ParseFailure, StackString, StringAppendable, Version, VersionReq,
+};
 use std::alloc::{AllocError, Global};
 
 // How the version is displayed.
@@ -69,4 +75,14 @@ pub fn is_pinned_to(alloc: Global, version: Version, other: &Version) -> Result<
 {
     let requirement = version.into_req(alloc)?;
     Ok(requirement.matches(other))
+}
+
+/// What does npm's reader make of the text that the requirement of this version alone is stored as? Where some text stands for
+/// the version, the same requirement.
+pub fn pinned_and_read_again(alloc: Global, version: Version) -> Result<VersionReq, ParseFailure>
+    ensures { OfReadVersion version (Answers (λ failure. failure)
+        (λ again. again.inner ≡ (pinned version).inner) result) }
+{
+    let requirement = version.into_req(alloc)?;
+    Ok(read_again_by_npm(alloc, &requirement)?)
 }

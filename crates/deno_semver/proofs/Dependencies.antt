@@ -4,6 +4,7 @@ use Rattle.std.specs.Prelude.{◌⊎◌}
 use Rattle.semver_req.specs.declared.common.values.Flavour.{Flavour}
 use Rattle.deno_semver.specs.DependencyOutcome.{BadRequirement, DependencyFault, IsDependencyAnswer, IsDependencyOutcome, IsDependencyRefusal, IsOfPackageError, IsToldScheme, OtherScheme, TellsDependency, bad_requirement, is_dependency, other_scheme}
 use Rattle.deno_semver.specs.Kind.{scheme_of}
+use Rattle.deno_semver.specs.OneOutcome.{PackageTextsHaveOneOutcome}
 use Rattle.deno_semver.specs.PackageOutcome.{Fault, IsPackageAnswer, IsPackageOutcome, IsPackageRefusal, IsWantOfMemory, TellsFault}
 use Rattle.deno_semver.specs.ReferenceText.{LacksScheme}
 use Rattle.deno_semver.specs.declared.jsr.dependency.JsrDepPackageReq.{JsrDepPackageReq}
@@ -13,7 +14,6 @@ use Rattle.deno_semver.specs.declared.package.errors.PackageReqParseError.{Packa
 use Rattle.deno_semver.specs.declared.package.kind.PackageKind.{PackageKind}
 use Rattle.deno_semver.specs.declared.package.kind.PackageKind.TheVariants.{Jsr, Npm}
 use Rattle.deno_semver.specs.declared.package.values.PackageReq.{PackageReq}
-use Rattle.deno_semver.proofs.PackageFaults.{outcome_one}
 use Rattle.deno_semver.proofs.References.{cancel}
 
 -- ---- one scheme
@@ -58,11 +58,11 @@ dependency_of kind req = record { kind = kind; req = req }
 same_dependency : {k l : PackageKind} {x y : PackageReq} → k ≡ l → x ≡ y → dependency_of k x ≡ dependency_of l y
 same_dependency a b = rw (a, b) refl
 
-module _ {f : Flavour} {text : List ℕ} where
+module _ (packages : PackageTextsHaveOneOutcome) {f : Flavour} {text : List ℕ} where
   -- two requirements after the schemes of one text are one
   after_one : (k l : PackageKind) (a b : List ℕ) (o p : Result PackageReq Fault) → text ≡ scheme_of k ++ a → text ≡ scheme_of l ++ b
       → IsPackageOutcome f a o → IsPackageOutcome f b p → o ≡ p
-  after_one k l a b o p e e' h h' = outcome_one o p h (subst (λ body. IsPackageOutcome f body p) (sym (one_body k l a b (sym e ∙ e'))) h')
+  after_one k l a b o p e e' h h' = packages f a o p h (subst (λ body. IsPackageOutcome f body p) (sym (one_body k l a b (sym e ∙ e'))) h')
 
   pub dependency_one : (o p : Result JsrDepPackageReq DependencyFault) → IsDependencyOutcome f text o → IsDependencyOutcome f text p → o ≡ p
   dependency_one _ _ (other_scheme none) (other_scheme _) = refl

@@ -1,17 +1,16 @@
 -- A text has one reading as ranges or as a tag, and none where it is refused.
 use Rattle.std.proofs.Common.{◌≡◌, ◌∙◌, ℕ, List, Bool, None, sym, inl, inr}
 use Rattle.std.specs.Prelude.{◌⊎◌, ◌↔◌, IsTrue}
-use Rattle.semver_req.specs.Outcome.{IsOutcome, Outcome, Ranges, Tag, Refused}
+use Rattle.semver_req.specs.Outcome.{IsOutcome, Outcome, Ranges, Tag, Refused, TextsHaveOneOutcome}
 use Rattle.semver_req.specs.Readers.{Failure, IsRead, IsReading}
 use Rattle.semver_req.specs.declared.common.values.Flavour.{Flavour}
 use Rattle.semver_req.specs.declared.range_set_or_tag.RangeSetOrTag.{RangeSetOrTag}
-use Rattle.semver_req.proofs.OneOutcome.{one_outcome}
 use Rattle.deno_semver.specs.declared.json.error.JsonError.{JsonError}
 use Rattle.deno_semver.specs.declared.json.error.JsonError.TheVariants as error
 
-module _ (f : Flavour) (text : List ℕ) where
+module _ (texts : TextsHaveOneOutcome) (f : Flavour) (text : List ℕ) where
   pub one_reading : (x y : RangeSetOrTag) → IsReading f text x → IsReading f text y → x ≡ y
-  one_reading x y h k = go k.outcome (rw (one_outcome f text h.outcome k.outcome h.is_outcome k.is_outcome) at h.is_read) k.is_read
+  one_reading x y h k = go k.outcome (rw (texts f text h.outcome k.outcome h.is_outcome k.is_outcome) at h.is_read) k.is_read
     where
       go : (o : Outcome) → IsRead f o x → IsRead f o y → x ≡ y
       go (Ranges tree) a b = a ∙ sym b
@@ -19,7 +18,7 @@ module _ (f : Flavour) (text : List ℕ) where
       go Refused a b = absurd a
 
   no_reading : (x : RangeSetOrTag) → IsOutcome f text Refused → IsReading f text x → ⊥
-  no_reading x refused h = rw (one_outcome f text h.outcome Refused h.is_outcome refused) at h.is_read
+  no_reading x refused h = rw (texts f text h.outcome Refused h.is_outcome refused) at h.is_read
 
   -- a failure of a text that has a reading is want of memory, and is told as that
   pub told_as_memory : (failure : Failure) (is_memory : Bool) (e : JsonError) → (failure ≡ None) ⊎ IsOutcome f text Refused → IsTrue is_memory ↔ (failure ≡ None)

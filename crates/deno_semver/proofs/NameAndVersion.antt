@@ -9,11 +9,11 @@ use Rattle.std.proofs.lemmas.List.{nil_from_length}
 use Rattle.semver_base.specs.Failure.{message_of}
 use Rattle.semver_base.specs.Grammar.{CutsRun, Stops}
 use Rattle.semver_base.specs.VersionGrammar.{IsVersionAnswer, IsVersionOutcome, IsVersionRefusal, version_failure}
+use Rattle.semver_base.specs.VersionText.{VersionTextsHaveOneOutcome}
 use Rattle.semver_base.specs.declared.failure.Refusal.{Refusal}
 use Rattle.semver_base.specs.declared.failure.Refusal.TheVariants.{UnexpectedCharacter}
 use Rattle.semver_base.specs.declared.version.Version.{Version}
 use Rattle.semver_base.proofs.Numbers.{cuts_run}
-use Rattle.semver_base.proofs.VersionReading.{one_outcome}
 use Rattle.deno_semver.specs.Cuts.{is_not}
 use Rattle.deno_semver.specs.NameAndVersion.{IsNoNvText, IsNvAnswer, IsNvFront, IsNvMemory, IsNvName, IsNvOutcome, IsNvRefusal, IsNvText, TellsNvFault, is_bad, is_bad_version, is_followed, is_front, is_nv, is_uncut, is_version_byte}
 use Rattle.deno_semver.specs.NameAndVersionSteps.{IsFrontAnswer, IsFrontRefusal, IsNameCut, TellsFailure, name_len}
@@ -185,26 +185,6 @@ whole_read {text} {rest} {nv} h none = is_nv (subst (λ (r : List ℕ). IsNvFron
 
 -- ---- one outcome
 
--- two versions of one text are the same
-version_same : {v w : List ℕ} (o p : Result Version Refusal) → v ≡ w → IsVersionOutcome (trim v) o → IsVersionOutcome (trim w) p → o ≡ p
-version_same {v = v} o p e h k = one_outcome (trim v) o p h (moved e k)
-
-pub front_one : {text : List ℕ} (o p : Result (PackageNv × List ℕ) Refusal) → IsNvFront text o → IsNvFront text p → o ≡ p
-front_one _ _ (is_front {v = v} h a) (is_front {v = w} k b) =
-    let same = nv_one h k in
-    let versions : v ≡ w = cc (version_same (Ok v) (Ok w) same.1 a b) in
-    ap₂ (λ (nv : PackageNv) (rest : List ℕ). Ok (nv, rest)) (nv_same same.0 versions) same.2
-front_one _ _ (is_front h a) (is_uncut none) = absurd (none _ _ _ h)
-front_one _ _ (is_front {v = v} h a) (is_bad_version {fault = fault} k b) = absurd (cc (version_same (Ok v) (Err fault) (nv_one h k).1 a b))
-front_one _ _ (is_uncut none) (is_front k b) = absurd (none _ _ _ k)
-front_one _ _ (is_uncut none) (is_uncut _) = refl
-front_one _ _ (is_uncut none) (is_bad_version k b) = absurd (none _ _ _ k)
-front_one _ _ (is_bad_version {fault = fault} h a) (is_front {v = w} k b) = absurd (cc (version_same (Err fault) (Ok w) (nv_one h k).1 a b))
-front_one _ _ (is_bad_version h a) (is_uncut none) = absurd (none _ _ _ h)
-front_one _ _ (is_bad_version {fault = x} h a) (is_bad_version {fault = y} k b) =
-    let same : x ≡ y = cc (version_same (Err x) (Err y) (nv_one h k).1 a b) in
-    ap Err same
-
 -- a name and version at the front, with what follows
 abbrev pub front_of : PackageNv → List ℕ → Result (PackageNv × List ℕ) Refusal
 front_of nv rest = Ok (nv, rest)
@@ -231,13 +211,34 @@ no_front x rest fault e = cc e
 pub same_fault : (a b : Refusal) (o p : Result (PackageNv × List ℕ) Refusal) → o ≡ Err a → p ≡ Err b → o ≡ p → a ≡ b
 same_fault a b o p e f g = cc (e, f, g)
 
-pub nv_outcome_one : {text : List ℕ} (o p : Result PackageNv Refusal) → IsNvOutcome text o → IsNvOutcome text p → o ≡ p
-nv_outcome_one _ _ (is_nv {nv = x} h) (is_nv {nv = y} k) = ap Ok (same_nv x y [] [] (front_one _ _ h k))
-nv_outcome_one _ _ (is_nv {nv = x} h) (is_bad {fault = y} k) = absurd (no_front x [] y (front_one _ _ h k))
-nv_outcome_one _ _ (is_nv {nv = x} h) (is_followed {nv = y} {rest = rest} k some) = absurd (ends_or_goes x y rest (front_one _ _ h k) some)
-nv_outcome_one _ _ (is_bad {fault = x} h) (is_nv {nv = y} k) = absurd (no_front y [] x (front_one _ _ k h))
-nv_outcome_one _ _ (is_bad {fault = x} h) (is_bad {fault = y} k) = ap Err (same_fault x y _ _ refl refl (front_one _ _ h k))
-nv_outcome_one _ _ (is_bad {fault = x} h) (is_followed {nv = y} {rest = rest} k some) = absurd (no_front y rest x (front_one _ _ k h))
-nv_outcome_one _ _ (is_followed {nv = x} {rest = rest} h some) (is_nv {nv = y} k) = absurd (ends_or_goes y x rest (front_one _ _ k h) some)
-nv_outcome_one _ _ (is_followed {nv = x} {rest = rest} h some) (is_bad {fault = y} k) = absurd (no_front x rest y (front_one _ _ h k))
-nv_outcome_one _ _ (is_followed h some) (is_followed k more) = refl
+module _ (versions : VersionTextsHaveOneOutcome) where
+  -- two versions of one text are the same
+  version_same : {v w : List ℕ} (o p : Result Version Refusal) → v ≡ w → IsVersionOutcome (trim v) o → IsVersionOutcome (trim w) p → o ≡ p
+  version_same {v = v} o p e h k = versions (trim v) o p h (moved e k)
+
+  pub front_one : {text : List ℕ} (o p : Result (PackageNv × List ℕ) Refusal) → IsNvFront text o → IsNvFront text p → o ≡ p
+  front_one _ _ (is_front {v = v} h a) (is_front {v = w} k b) =
+      let same = nv_one h k in
+      let same_versions : v ≡ w = cc (version_same (Ok v) (Ok w) same.1 a b) in
+      ap₂ (λ (nv : PackageNv) (rest : List ℕ). Ok (nv, rest)) (nv_same same.0 same_versions) same.2
+  front_one _ _ (is_front h a) (is_uncut none) = absurd (none _ _ _ h)
+  front_one _ _ (is_front {v = v} h a) (is_bad_version {fault = fault} k b) = absurd (cc (version_same (Ok v) (Err fault) (nv_one h k).1 a b))
+  front_one _ _ (is_uncut none) (is_front k b) = absurd (none _ _ _ k)
+  front_one _ _ (is_uncut none) (is_uncut _) = refl
+  front_one _ _ (is_uncut none) (is_bad_version k b) = absurd (none _ _ _ k)
+  front_one _ _ (is_bad_version {fault = fault} h a) (is_front {v = w} k b) = absurd (cc (version_same (Err fault) (Ok w) (nv_one h k).1 a b))
+  front_one _ _ (is_bad_version h a) (is_uncut none) = absurd (none _ _ _ h)
+  front_one _ _ (is_bad_version {fault = x} h a) (is_bad_version {fault = y} k b) =
+      let same : x ≡ y = cc (version_same (Err x) (Err y) (nv_one h k).1 a b) in
+      ap Err same
+
+  pub nv_outcome_one : {text : List ℕ} (o p : Result PackageNv Refusal) → IsNvOutcome text o → IsNvOutcome text p → o ≡ p
+  nv_outcome_one _ _ (is_nv {nv = x} h) (is_nv {nv = y} k) = ap Ok (same_nv x y [] [] (front_one _ _ h k))
+  nv_outcome_one _ _ (is_nv {nv = x} h) (is_bad {fault = y} k) = absurd (no_front x [] y (front_one _ _ h k))
+  nv_outcome_one _ _ (is_nv {nv = x} h) (is_followed {nv = y} {rest = rest} k some) = absurd (ends_or_goes x y rest (front_one _ _ h k) some)
+  nv_outcome_one _ _ (is_bad {fault = x} h) (is_nv {nv = y} k) = absurd (no_front y [] x (front_one _ _ k h))
+  nv_outcome_one _ _ (is_bad {fault = x} h) (is_bad {fault = y} k) = ap Err (same_fault x y _ _ refl refl (front_one _ _ h k))
+  nv_outcome_one _ _ (is_bad {fault = x} h) (is_followed {nv = y} {rest = rest} k some) = absurd (no_front y rest x (front_one _ _ k h))
+  nv_outcome_one _ _ (is_followed {nv = x} {rest = rest} h some) (is_nv {nv = y} k) = absurd (ends_or_goes y x rest (front_one _ _ k h) some)
+  nv_outcome_one _ _ (is_followed {nv = x} {rest = rest} h some) (is_bad {fault = y} k) = absurd (no_front x rest y (front_one _ _ h k))
+  nv_outcome_one _ _ (is_followed h some) (is_followed k more) = refl

@@ -5,7 +5,7 @@ use Rattle.std.specs.Borrow.{Bor}
 use Rattle.std.proofs.lemmas.Bool.{cases_Bool}
 use Rattle.std.proofs.lemmas.Bool.Decides.{nat_tests}
 use Rattle.semver_base.specs.Grammar.{Stops}
-use Rattle.semver_base.specs.VersionText.{IsWritable, ReadsBack, version_text}
+use Rattle.semver_base.specs.VersionText.{ReadsBack, VersionTextsHaveOneOutcome, version_text}
 use Rattle.semver_base.specs.declared.failure.Refusal.{Refusal}
 use Rattle.semver_base.specs.declared.failure.Refusal.TheVariants.{UnexpectedCharacter}
 use Rattle.deno_semver.specs.Kind.{scheme_of}
@@ -20,7 +20,7 @@ use Rattle.deno_semver.specs.declared.package.name_version.PackageNvParseError.{
 use Rattle.deno_semver.specs.declared.package.nv_reference.PackageNvReference.{PackageNvReference}
 use Rattle.deno_semver.specs.declared.package.nv_reference.PackageNvReferenceParseError.{PackageNvReferenceParseError}
 use Rattle.deno_semver.proofs.NameAndVersion.{FrontAnswers, front_of, front_one, no_front, same_fault, same_nv, same_rest}
-use Rattle.deno_semver.proofs.NvText.{front_name, front_writable, writes_text}
+use Rattle.deno_semver.proofs.NvText.{IsPlainVersion, front_name, writes_text}
 use Rattle.deno_semver.proofs.References.{bodies}
 
 abbrev reference_of : PackageNv → Option (List ℕ) → PackageNvReference
@@ -107,11 +107,11 @@ module _ {kind : PackageKind} {text : List ℕ} (body : List ℕ) (is : text ≡
 path_or_not : (x y : PackageNv) (path : Option (List ℕ)) (rest : List ℕ) → front_of x (path_text path) ≡ front_of y rest → IsNoPath rest → ⊥
 path_or_not x y path rest e none = no_path path rest none (sym (same_rest x y (path_text path) rest e))
 
-module _ (kind : PackageKind) {text : List ℕ} where
+module _ (versions : VersionTextsHaveOneOutcome) (kind : PackageKind) {text : List ℕ} where
   -- two names with versions after the scheme of one text are one
   after_one : (a b : List ℕ) (o p : Result (PackageNv × List ℕ) Refusal) → text ≡ scheme_of kind ++ a → text ≡ scheme_of kind ++ b
       → IsNvFront (without_slash a) o → IsNvFront (without_slash b) p → o ≡ p
-  after_one a b o p e e' h k = front_one o p h (at kind a b e e' k)
+  after_one a b o p e e' h k = front_one versions o p h (at kind a b e e' k)
 
   pub nv_reference_one : (o p : Result PackageNvReference Refusal) → IsNvReferenceOutcome kind text o → IsNvReferenceOutcome kind text p → o ≡ p
   nv_reference_one _ _ (other_scheme none) (other_scheme _) = refl
@@ -149,13 +149,13 @@ ends : (path : Option (List ℕ)) → Stops is_version_byte (path_text path)
 ends None = tt
 ends (Some path) = refl
 
-written : (kind : PackageKind) (nv : PackageNv) (path : Option (List ℕ)) → IsNvName nv.name → IsWritable nv.version → ReadsBack nv.version → NvReferenceReadsBack kind (reference_of nv path)
-written kind nv path name_is fits back free =
+written : (kind : PackageKind) (nv : PackageNv) (path : Option (List ℕ)) → IsNvName nv.name → IsPlainVersion nv.version → ReadsBack nv.version → NvReferenceReadsBack kind (reference_of nv path)
+written kind nv path name_is plain back free =
     let text = append_assoc nv.name (64 ∷ version_text nv.version) (path_text path) in
     let same = ap without_slash text ∙ keeps_slash nv.name (64 ∷ (version_text nv.version ++ path_text path)) name_is free in
-    let front : IsNvFront (nv.name ++ (64 ∷ (version_text nv.version ++ path_text path))) (Ok (nv, path_text path)) = is_front (writes_text name_is fits (ends path)) back in
+    let front : IsNvFront (nv.name ++ (64 ∷ (version_text nv.version ++ path_text path))) (Ok (nv, path_text path)) = is_front (writes_text nv.version name_is plain (ends path)) back in
     is_reference (nv_text nv ++ path_text path) refl (subst (λ (t : List ℕ). IsNvFront t (Ok (nv, path_text path))) (sym same) front)
 
-pub reads_back : {text rest : List ℕ} {nv : PackageNv} (kind : PackageKind) (r : PackageNvReference) → IsNvFront text (Ok (nv, rest)) → ReadsBack nv.version → r.nv ≡ nv → NvReferenceReadsBack kind r
-reads_back {nv = nv} kind r h back same =
-    subst (λ (x : PackageNv). NvReferenceReadsBack kind (reference_of x r.sub_path)) (sym same) (written kind nv r.sub_path (front_name h) (front_writable h) back)
+pub reads_back : {text rest : List ℕ} {nv : PackageNv} (kind : PackageKind) (r : PackageNvReference) → IsNvFront text (Ok (nv, rest)) → IsPlainVersion nv.version → ReadsBack nv.version → r.nv ≡ nv → NvReferenceReadsBack kind r
+reads_back {nv = nv} kind r h plain back same =
+    subst (λ (x : PackageNv). NvReferenceReadsBack kind (reference_of x r.sub_path)) (sym same) (written kind nv r.sub_path (front_name h) plain back)

@@ -1,67 +1,52 @@
 -- The text of a name and version that was read is cut into that name and that version.
 use Rattle.std.proofs.Common.{◌≡◌, ◌<◌, ℕ, true, List, [], ◌∷◌, ◌++◌, length, Ok, refl, ap, arith, append-nil, length-append, subst}
-use Rattle.std.specs.Char.{is_ascii_digit}
 use Rattle.std.specs.Fmt.{decimal}
 use Rattle.std.specs.List.{list_all}
+use Rattle.std.proofs.lemmas.Bool.{and_from, and_parts}
 use Rattle.std.proofs.lemmas.Bool.Decides.{nat_tests}
 use Rattle.semver_base.specs.Grammar.{Stops}
-use Rattle.semver_base.specs.Lexical.{IsLooseNumber, IsQualifier}
-use Rattle.semver_base.specs.VersionGrammar.{IsTriple, IsVersionOutcome, is_version}
-use Rattle.semver_base.specs.VersionText.{IsWritable, ReadsBack, prefixed, version_text}
-use Rattle.semver_base.specs.declared.lexical.values.Strictness.TheVariants.{Loose}
+use Rattle.semver_base.specs.VersionGrammar.{IsVersionOutcome}
+use Rattle.semver_base.specs.VersionText.{ReadsBack, VersionTextsArePlain, is_version_text_byte, prefixed, version_text}
 use Rattle.semver_base.specs.declared.version.Version.{Version}
-use Rattle.semver_base.proofs.Bytes.{MadeOf, joined_made, made_wider, mapped_made, prefixed_made, optional_made, run_made}
-use Rattle.semver_base.proofs.Parts.{is_parts_byte, parts_made}
-use Rattle.semver_base.proofs.Qualifiers.{pre_made}
-use Rattle.semver_base.proofs.ReadVersions.{read_writable}
-use Rattle.semver_base.proofs.WrittenVersions.{version_joined}
 use Rattle.deno_semver.specs.NameAndVersion.{IsNvFront, IsNvName, IsNvText, NvReadsBack, is_front, is_nv, is_version_byte}
 use Rattle.deno_semver.specs.declared.package.values.PackageNv.{PackageNv}
 
-digit_passes : (b : ℕ) → is_ascii_digit b ≡ true → is_version_byte b ≡ true
-digit_passes b h = grind (arith, nat_tests)
+-- each byte of the version's text may stand in the version of a name with a version
+abbrev pub IsPlainVersion : Version → Type 0
+IsPlainVersion v = list_all is_version_byte (version_text v) ≡ true
 
-parts_pass : (b : ℕ) → is_parts_byte b ≡ true → is_version_byte b ≡ true
-parts_pass b h = grind (arith, nat_tests)
+byte_passes : (b : ℕ) → is_version_text_byte b ≡ true → is_version_byte b ≡ true
+byte_passes b h = grind (arith, nat_tests)
 
-number_made : MadeOf IsLooseNumber is_version_byte
-number_made = mapped_made (made_wider is_ascii_digit is_version_byte digit_passes (run_made is_ascii_digit))
+all_pass : (text : List ℕ) → list_all is_version_text_byte text ≡ true → list_all is_version_byte text ≡ true
+all_pass [] h = refl
+all_pass (b ∷ text) h =
+    let both = and_parts (is_version_text_byte b) (list_all is_version_text_byte text) h in
+    and_from (is_version_byte b) (list_all is_version_byte text) (byte_passes b both.0) (all_pass text both.1)
 
-qualifier_made : MadeOf (IsQualifier Loose) is_version_byte
-qualifier_made = mapped_made (joined_made (optional_made (made_wider is_parts_byte is_version_byte parts_pass (pre_made Loose)))
-    (optional_made (prefixed_made (made_wider is_parts_byte is_version_byte parts_pass parts_made) 43 refl)))
-
-triple_made : MadeOf IsTriple is_version_byte
-triple_made = joined_made number_made (prefixed_made (joined_made number_made (prefixed_made number_made 46 refl)) 46 refl)
-
-version_passes : (v : Version) → IsWritable v → list_all is_version_byte (version_text v) ≡ true
-version_passes v h = (joined_made triple_made qualifier_made).made (version_text v) _ (version_joined v h)
+-- that of a version that some text stands for is so
+pub version_passes : VersionTextsArePlain → (text : List ℕ) (v : Version) → IsVersionOutcome text (Ok v) → IsPlainVersion v
+version_passes plain text v h = all_pass (version_text v) (plain text v h)
 
 version_some : (v : Version) → 0 < length (version_text v)
 version_some v = omega (arith, length-append (decimal v.major) (46 ∷ (decimal v.minor ++ (46 ∷ (decimal v.patch ++ (prefixed 45 v.pre ++ prefixed 43 v.build))))))
 
-writable : {text : List ℕ} {v : Version} → IsVersionOutcome text (Ok v) → IsWritable v
-writable {text} {v} (is_version h fits) = read_writable text v h fits
-
 -- what is written of a name and a version that was read, with what doesn't go on with the version behind it
-pub writes_text : {name rest : List ℕ} {v : Version} → IsNvName name → IsWritable v → Stops is_version_byte rest → IsNvText (name ++ (64 ∷ (version_text v ++ rest))) name (version_text v) rest
-writes_text {v = v} name_is h ends = record {
+pub writes_text : {name rest : List ℕ} (v : Version) → IsNvName name → IsPlainVersion v → Stops is_version_byte rest → IsNvText (name ++ (64 ∷ (version_text v ++ rest))) name (version_text v) rest
+writes_text v name_is plain ends = record {
   text_is = refl;
   name_is = name_is;
   version_some = version_some v;
-  version_is = version_passes v h;
+  version_is = plain;
   version_ends = ends;
 }
 
--- the name of a front, and that its version can be written
+-- the name of a front
 pub front_name : {text rest : List ℕ} {nv : PackageNv} → IsNvFront text (Ok (nv, rest)) → IsNvName nv.name
 front_name (is_front h v) = h.name_is
 
-pub front_writable : {text rest : List ℕ} {nv : PackageNv} → IsNvFront text (Ok (nv, rest)) → IsWritable nv.version
-front_writable (is_front h v) = writable v
-
-pub reads_back : {text rest : List ℕ} {nv : PackageNv} → IsNvFront text (Ok (nv, rest)) → ReadsBack nv.version → NvReadsBack nv
-reads_back {nv = nv} h back =
-    let whole = writes_text {rest = []} (front_name h) (front_writable h) tt in
+pub reads_back : {text rest : List ℕ} {nv : PackageNv} → IsNvFront text (Ok (nv, rest)) → IsPlainVersion nv.version → ReadsBack nv.version → NvReadsBack nv
+reads_back {nv = nv} h plain back =
+    let whole = writes_text {rest = []} nv.version (front_name h) plain tt in
     let text = ap (λ t. nv.name ++ (64 ∷ t)) (append-nil (version_text nv.version)) in
     is_nv (is_front (subst (λ (t : List ℕ). IsNvText t nv.name (version_text nv.version) []) text whole) back)

@@ -1,12 +1,11 @@
 -- Which fault of a text an error tells, and that a text has one outcome.
 use Rattle.std.proofs.Common.{◌≡◌, ◌<◌, ℕ, Bool, true, false, List, [], ◌∷◌, length, Option, Some, None, Result, Ok, Err, refl, sym, ap, subst, ◌∙◌, arith, inl, inr}
 use Rattle.std.specs.Prelude.{◌⊎◌, if◌then◌else◌, codes}
-use Rattle.semver_req.specs.Outcome.{IsOutcome, Outcome, Ranges, Refused, Tag}
+use Rattle.semver_req.specs.Outcome.{IsOutcome, Outcome, Ranges, Refused, Tag, TextsHaveOneOutcome}
 use Rattle.semver_req.specs.Readers.{IsRead, IsReadFrom}
 use Rattle.semver_req.specs.Requirement.{Requirement}
 use Rattle.semver_req.specs.declared.common.values.Flavour.{Flavour}
 use Rattle.semver_req.specs.declared.range_set_or_tag.RangeSetOrTag.{RangeSetOrTag}
-use Rattle.semver_req.proofs.OneOutcome.{one_outcome}
 use Rattle.deno_semver.specs.PackageOutcome.{BadName, BadVersion, Fault, HasPath, IsFirstFault, IsPackageAnswer, IsPackageOutcome, IsPackageRefusal, IsReadReq, IsVersionReq, IsWantOfMemory, NoAt, NoName, Tells, TellsFault, bad_name, bad_version, has_path, is_fault, is_package, no_name}
 use Rattle.deno_semver.specs.PackageReading.{IsFaultError, IsPartsRefusal, IsPathError, TellsSource}
 use Rattle.deno_semver.specs.PackageSteps.{IsUncut}
@@ -69,21 +68,6 @@ same_read f (Ranges tree) x y a b = a ∙ sym b
 same_read f (Tag tag) x y a b = a ∙ sym b
 same_read f Refused x y a b = absurd a
 
--- what is read of a text is what its outcome stands for
-pub read_of : (f : Flavour) (text : List ℕ) (o : Outcome) (req : Requirement) → IsReadFrom f text req → IsOutcome f text o → IsRead f o req.inner
-read_of f text o req h is = subst (λ x. IsRead f x req.inner) (one_outcome f text h.reading.outcome o h.reading.is_outcome is) h.reading.is_read
-
--- what one reader answers to one text
-pub version_one : (f : Flavour) (v : Option (List ℕ)) (x y : Requirement) → IsVersionReq f v x → IsVersionReq f v y → x ≡ y
-version_one f None x y h k = h ∙ sym k
-version_one f (Some text) x y h k =
-    let read = k.reading in
-    same_req (h.raw_text ∙ sym k.raw_text) (same_read f read.outcome x.inner y.inner (read_of f text read.outcome x h read.is_outcome) read.is_read)
-
-pub read_or_refused : (f : Flavour) (v : Option (List ℕ)) (w : List ℕ) (x : Requirement) → v ≡ Some w → IsVersionReq f v x → IsOutcome f w Refused → ⊥
-read_or_refused f None w x is h refused = cc is
-read_or_refused f (Some v) w x is h refused = let same : v ≡ w = cc is in read_of f v Refused x h (rw same refused)
-
 pub version_at : (f : Flavour) {x y : PackageParts} (req : Requirement) → x ≡ y → IsVersionReq f x.version req → IsVersionReq f y.version req
 version_at f req e h = subst (λ (c : PackageParts). IsVersionReq f c.version req) e h
 
@@ -97,7 +81,23 @@ pair_of name req = record { name = name; version_req = req }
 pub same_pair : {n m : List ℕ} {x y : Requirement} → n ≡ m → x ≡ y → pair_of n x ≡ pair_of m y
 same_pair a b = rw (a, b) refl
 
-module _ {f : Flavour} {text : List ℕ} where
+module _ (texts : TextsHaveOneOutcome) where
+  -- what is read of a text is what its outcome stands for
+  pub read_of : (f : Flavour) (text : List ℕ) (o : Outcome) (req : Requirement) → IsReadFrom f text req → IsOutcome f text o → IsRead f o req.inner
+  read_of f text o req h is = subst (λ x. IsRead f x req.inner) (texts f text h.reading.outcome o h.reading.is_outcome is) h.reading.is_read
+
+  -- what one reader answers to one text
+  pub version_one : (f : Flavour) (v : Option (List ℕ)) (x y : Requirement) → IsVersionReq f v x → IsVersionReq f v y → x ≡ y
+  version_one f None x y h k = h ∙ sym k
+  version_one f (Some text) x y h k =
+      let read = k.reading in
+      same_req (h.raw_text ∙ sym k.raw_text) (same_read f read.outcome x.inner y.inner (read_of f text read.outcome x h read.is_outcome) read.is_read)
+
+  pub read_or_refused : (f : Flavour) (v : Option (List ℕ)) (w : List ℕ) (x : Requirement) → v ≡ Some w → IsVersionReq f v x → IsOutcome f w Refused → ⊥
+  read_or_refused f None w x is h refused = cc is
+  read_or_refused f (Some v) w x is h refused = let same : v ≡ w = cc is in read_of f v Refused x h (rw same refused)
+
+module _ (texts : TextsHaveOneOutcome) {f : Flavour} {text : List ℕ} where
   pub fault_one : (a b : Fault) → IsFirstFault f text a → IsFirstFault f text b → a ≡ b
   fault_one _ _ (no_name s) (no_name t) = refl
   fault_one _ _ (no_name s) (bad_name t) = absurd (part_or_alone text s t)
@@ -113,23 +113,23 @@ module _ {f : Flavour} {text : List ℕ} where
       let same : Some v ≡ Some w = sym is ∙ (ap (λ (c : PackageParts). c.version) (package_one x y h k) ∙ is') in
       let versions : v ≡ w = cc same in
       ap BadVersion versions
-  fault_one _ _ (bad_version {cut = x} {version = v} h is r) (has_path {cut = y} req k vr p) = absurd (read_or_refused f x.version v req is (version_at f req (package_one y x k h) vr) r)
+  fault_one _ _ (bad_version {cut = x} {version = v} h is r) (has_path {cut = y} req k vr p) = absurd (read_or_refused texts f x.version v req is (version_at f req (package_one y x k h) vr) r)
   fault_one _ _ (has_path {cut} req h vr p) (no_name t) = absurd (no_part cut h t)
   fault_one _ _ (has_path {cut} req h vr p) (bad_name t) = absurd (no_alone cut h t)
-  fault_one _ _ (has_path {cut = x} req h vr p) (bad_version {cut = y} {version = v} k is r) = absurd (read_or_refused f y.version v req is (version_at f req (package_one x y h k) vr) r)
+  fault_one _ _ (has_path {cut = x} req h vr p) (bad_version {cut = y} {version = v} k is r) = absurd (read_or_refused texts f y.version v req is (version_at f req (package_one x y h k) vr) r)
   fault_one _ _ (has_path {cut = x} req h vr p) (has_path {cut = y} req' k vr' p') = ap (λ (c : PackageParts). HasPath c.path) (package_one x y h k)
 
   no_fault : {req : PackageReq} (fault : Fault) → IsReadReq f text req → IsFirstFault f text fault → ⊥
   no_fault _ h (no_name s) = no_part h.cut h.is_cut s
   no_fault _ h (bad_name s) = no_alone h.cut h.is_cut s
-  no_fault {req} _ h (bad_version {cut} {version = v} k is r) = read_or_refused f cut.version v req.version_req is (version_at f req.version_req (package_one h.cut cut h.is_cut k) h.version_req) r
+  no_fault {req} _ h (bad_version {cut} {version = v} k is r) = read_or_refused texts f cut.version v req.version_req is (version_at f req.version_req (package_one h.cut cut h.is_cut k) h.version_req) r
   no_fault _ h (has_path {cut} req k vr p) = omega (arith, p, h.no_path, ap (λ (c : PackageParts). length c.path) (package_one h.cut cut h.is_cut k))
 
   read_one : (x y : PackageReq) → IsReadReq f text x → IsReadReq f text y → x ≡ y
   read_one x y h k =
       let same : h.cut ≡ k.cut = package_one h.cut k.cut h.is_cut k.is_cut in
       let names : x.name ≡ y.name = h.name ∙ (ap (λ (c : PackageParts). scoped_name c.scope c.name) same ∙ sym k.name) in
-      let reqs : x.version_req ≡ y.version_req = version_one f k.cut.version x.version_req y.version_req (version_at f x.version_req same h.version_req) k.version_req in
+      let reqs : x.version_req ≡ y.version_req = version_one texts f k.cut.version x.version_req y.version_req (version_at f x.version_req same h.version_req) k.version_req in
       same_pair names reqs
 
   pub outcome_one : (o p : Result PackageReq Fault) → IsPackageOutcome f text o → IsPackageOutcome f text p → o ≡ p

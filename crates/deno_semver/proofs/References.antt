@@ -1,5 +1,6 @@
 -- A text stands for one reference or has one fault, and which fault an error tells.
 use Rattle.std.proofs.Common.{◌≡◌, ℕ, List, [], ◌∷◌, ◌++◌, Option, Some, Result, Ok, Err, refl, sym, ap, subst, ◌∙◌, inl, inr}
+use Rattle.semver_req.specs.Outcome.{TextsHaveOneOutcome}
 use Rattle.semver_req.specs.declared.common.values.Flavour.TheVariants.{Specifier}
 use Rattle.deno_semver.specs.Kind.{scheme_of}
 use Rattle.deno_semver.specs.PackageOutcome.{Fault, IsFirstFault, bad_name, bad_version, has_path, no_name}
@@ -27,12 +28,12 @@ reference_of req path = record { req = req; sub_path = path }
 same_reference : {x y : PackageReq} {p q : Option (List ℕ)} → x ≡ y → p ≡ q → reference_of x p ≡ reference_of y q
 same_reference a b = rw (a, b) refl
 
-module _ {body : List ℕ} where
+module _ (texts : TextsHaveOneOutcome) {body : List ℕ} where
   reference_one : (x y : PackageReqReference) → IsReadReference body x → IsReadReference body y → x ≡ y
   reference_one x y h k =
       let same : h.cut ≡ k.cut = package_one h.cut k.cut h.is_cut k.is_cut in
       let names : x.req.name ≡ y.req.name = h.name ∙ (ap (λ (c : PackageParts). scoped_name c.scope c.name) same ∙ sym k.name) in
-      let reqs : x.req.version_req ≡ y.req.version_req = version_one Specifier k.cut.version x.req.version_req y.req.version_req (version_at Specifier x.req.version_req same h.version_req) k.version_req in
+      let reqs : x.req.version_req ≡ y.req.version_req = version_one texts Specifier k.cut.version x.req.version_req y.req.version_req (version_at Specifier x.req.version_req same h.version_req) k.version_req in
       let paths : x.sub_path ≡ y.sub_path = h.sub_path ∙ (ap (λ (c : PackageParts). sub_path_of c.path) same ∙ sym k.sub_path) in
       same_reference (same_pair names reqs) paths
 
@@ -40,7 +41,7 @@ module _ {body : List ℕ} where
   no_fault _ h (no_name s) of = no_part h.cut h.is_cut s
   no_fault _ h (bad_name s) of = no_alone h.cut h.is_cut s
   no_fault {r} _ h (bad_version {cut} {version = v} k is refused) of =
-      read_or_refused Specifier cut.version v r.req.version_req is (version_at Specifier r.req.version_req (package_one h.cut cut h.is_cut k) h.version_req) refused
+      read_or_refused texts Specifier cut.version v r.req.version_req is (version_at Specifier r.req.version_req (package_one h.cut cut h.is_cut k) h.version_req) refused
   no_fault _ h (has_path req k vr p) of = absurd of
 
 version_of_one : (r : PackageReqReference) {b v c w : List ℕ} → HasVersionInPath r b v → HasVersionInPath r c w → (b ≡ c) × (v ≡ w)
@@ -67,27 +68,27 @@ module _ (kind : PackageKind) {text : List ℕ} where
   fault_at : {a b : List ℕ} {fault : Fault} → text ≡ scheme_of kind ++ a → text ≡ scheme_of kind ++ b → IsFirstFault Specifier a fault → IsFirstFault Specifier b fault
   fault_at {fault = fault} e f h = subst (λ (t : List ℕ). IsFirstFault Specifier t fault) (bodies e f) h
 
-module _ {kind : PackageKind} {text : List ℕ} where
+module _ (texts : TextsHaveOneOutcome) {kind : PackageKind} {text : List ℕ} where
   pub outcome_one : (o p : Result PackageReqReference ReferenceFault) → IsReferenceOutcome kind text o → IsReferenceOutcome kind text p → o ≡ p
   outcome_one _ _ (other_scheme none) (other_scheme none') = refl
   outcome_one _ _ (other_scheme none) (is_reference {body} e h n) = absurd (none body e)
   outcome_one _ _ (other_scheme none) (bad_text {body} e h of) = absurd (none body e)
   outcome_one _ _ (other_scheme none) (version_in_path {body} e h v) = absurd (none body e)
   outcome_one _ _ (is_reference {body} e h n) (other_scheme none) = absurd (none body e)
-  outcome_one _ _ (is_reference {reference = x} e h n) (is_reference {reference = y} f k m) = ap Ok (reference_one x y (at kind e f h) k)
-  outcome_one _ _ (is_reference {reference = x} e h n) (bad_text {fault} f k of) = absurd (no_fault fault (at kind e f h) k of)
+  outcome_one _ _ (is_reference {reference = x} e h n) (is_reference {reference = y} f k m) = ap Ok (reference_one texts x y (at kind e f h) k)
+  outcome_one _ _ (is_reference {reference = x} e h n) (bad_text {fault} f k of) = absurd (no_fault texts fault (at kind e f h) k of)
   outcome_one _ _ (is_reference {reference = x} e h n) (version_in_path {before} {version} {reference = y} f k v) =
-      absurd (n before version (subst (λ (r : PackageReqReference). HasVersionInPath r before version) (sym (reference_one x y (at kind e f h) k)) v))
+      absurd (n before version (subst (λ (r : PackageReqReference). HasVersionInPath r before version) (sym (reference_one texts x y (at kind e f h) k)) v))
   outcome_one _ _ (bad_text {body} e h of) (other_scheme none) = absurd (none body e)
-  outcome_one _ _ (bad_text {fault} e h of) (is_reference f k m) = absurd (no_fault fault (at kind f e k) h of)
-  outcome_one _ _ (bad_text {fault = a} e h of) (bad_text {fault = b} f k of') = ap (λ (x : Fault). Err (BadText x)) (fault_one a b (fault_at kind e f h) k)
-  outcome_one _ _ (bad_text {fault} e h of) (version_in_path f k v) = absurd (no_fault fault (at kind f e k) h of)
+  outcome_one _ _ (bad_text {fault} e h of) (is_reference f k m) = absurd (no_fault texts fault (at kind f e k) h of)
+  outcome_one _ _ (bad_text {fault = a} e h of) (bad_text {fault = b} f k of') = ap (λ (x : Fault). Err (BadText x)) (fault_one texts a b (fault_at kind e f h) k)
+  outcome_one _ _ (bad_text {fault} e h of) (version_in_path f k v) = absurd (no_fault texts fault (at kind f e k) h of)
   outcome_one _ _ (version_in_path {body} e h v) (other_scheme none) = absurd (none body e)
   outcome_one _ _ (version_in_path {before} {version} {reference = x} e h v) (is_reference {reference = y} f k m) =
-      absurd (m before version (subst (λ (r : PackageReqReference). HasVersionInPath r before version) (reference_one x y (at kind e f h) k) v))
-  outcome_one _ _ (version_in_path e h v) (bad_text {fault} f k of) = absurd (no_fault fault (at kind e f h) k of)
+      absurd (m before version (subst (λ (r : PackageReqReference). HasVersionInPath r before version) (reference_one texts x y (at kind e f h) k) v))
+  outcome_one _ _ (version_in_path e h v) (bad_text {fault} f k of) = absurd (no_fault texts fault (at kind e f h) k of)
   outcome_one _ _ (version_in_path {before = b} {version = v} {reference = x} e h has) (version_in_path {before = c} {version = w} {reference = y} f k has') =
-      let same = reference_one x y (at kind e f h) k in
+      let same = reference_one texts x y (at kind e f h) k in
       let parts = version_of_one y (subst (λ (r : PackageReqReference). HasVersionInPath r b v) same has) has' in
       ap (λ (x : ReferenceFault). Err x) (same_moved same parts.0 parts.1)
 
@@ -101,6 +102,7 @@ module _ {kind : PackageKind} {text : List ℕ} where
   refused_answer (inl memory) (Err fault) k = inl memory
   refused_answer {e} (inr h) o k = subst (λ (x : Result PackageReqReference ReferenceFault). IsReferenceAnswer kind text x (Err e)) (outcome_one (Err h.0) o h.1 k) (inr h.2)
 
+module _ {kind : PackageKind} {text : List ℕ} where
   pub refused_text : {body : List ℕ} {source : PackageReqPartsParseError} {e : PackageReqReferenceParseError} → text ≡ scheme_of kind ++ body → IsFrontError Specifier body source → IsToldInvalid text source e
       → IsReferenceRefusal kind text e
   refused_text is fault (inl memory) = inl memory

@@ -7,15 +7,10 @@ use Rattle.std.proofs.lemmas.Bool.{and_parts}
 use Rattle.std.proofs.lemmas.Bool.Decides.{nat_tests}
 use Rattle.std.proofs.lemmas.List.Folds.{list_all-append}
 use Rattle.std.proofs.lemmas.Slice.Eq.{bytes_eq-Decides}
-use Rattle.semver_base.specs.Comparators.{Plain}
-use Rattle.semver_base.specs.Grammar.{IsLongest, that}
-use Rattle.semver_base.proofs.Readings.{in_place}
-use Rattle.semver_base.specs.declared.partial.Partial.{Partial}
-use Rattle.semver_base.specs.declared.partial.XRange.TheVariants.{Wildcard}
-use Rattle.semver_req.specs.Outcome.{IsStrictRange, Ranges, whole}
+use Rattle.semver_req.specs.Outcome.{TextsHaveOneOutcome}
 use Rattle.semver_req.specs.Requirement.{Requirement, wildcard}
+use Rattle.semver_req.specs.Rereading.{StarIsAnyVersion}
 use Rattle.semver_req.specs.declared.common.values.Flavour.TheVariants.{Specifier}
-use Rattle.semver_req.proofs.ComparatorReadings.{comparator_goes, comparator_one}
 use Rattle.deno_semver.specs.Cuts.{is_not}
 use Rattle.deno_semver.specs.Kind.{scheme_of}
 use Rattle.deno_semver.specs.PackageOutcome.{IsVersionReq}
@@ -24,34 +19,16 @@ use Rattle.deno_semver.specs.ReferenceOutcome.{HasNoVersionInPath, IsPlainName, 
 use Rattle.deno_semver.specs.ReferenceText.{path_text, reference_text, sub_path_of}
 use Rattle.deno_semver.specs.declared.package.kind.PackageKind.{PackageKind}
 use Rattle.deno_semver.specs.declared.package.reference.PackageReqReference.{PackageReqReference}
-use Rattle.deno_semver.proofs.PackageFaults.{read_of, same_req}
+use Rattle.deno_semver.proofs.PackageFaults.{version_one}
 
 -- ---- `*` in the strict grammar
 
-abbrev any_partial : Partial
-any_partial = record { major = Wildcard; minor = Wildcard; patch = Wildcard; pre = []; build = [] }
-
-star_read : IsStrictRange (codes "*") (Plain any_partial)
-star_read = that (record {
-  value = any_partial;
-  stands = record {
-    value = (Wildcard, None);
-    stands = record { first = codes "*"; second = []; text_is = refl; in_first = (42, record { text_is = refl; passes = refl }); in_second = refl; seam = tt };
-    is = refl;
-  };
-  is = refl;
-})
-
-star_longest : IsLongest IsStrictRange (codes "*") (Plain any_partial) []
-star_longest = in_place (comparator_one Specifier) (comparator_goes Specifier) (codes "*") [] star_read tt
-
 -- where the text is `*`, or there is none, any version is required
-pub any_version : (v : Option (List ℕ)) (req : Requirement) → IsVersionReq Specifier v req → req.raw_text ≡ codes "*" → req ≡ wildcard
-any_version None req is star = is
-any_version (Some v) req is star =
-    let text : v ≡ codes "*" = sym is.raw_text ∙ star in
-    let answer = read_of Specifier (codes "*") (Ranges ((Plain any_partial ∷ []) ∷ [])) req (subst (λ (t : List ℕ). IsVersionReq Specifier (Some t) req) text is) (whole star_longest refl) in
-    same_req star answer
+pub any_version : TextsHaveOneOutcome → StarIsAnyVersion → (v : Option (List ℕ)) (req : Requirement) → IsVersionReq Specifier v req → req.raw_text ≡ codes "*" → req ≡ wildcard
+any_version texts star None req is any = is
+any_version texts star (Some v) req is any =
+    let text : v ≡ codes "*" = sym is.raw_text ∙ any in
+    version_one texts Specifier (Some (codes "*")) req wildcard (subst (λ (t : List ℕ). IsVersionReq Specifier (Some t) req) text is) (star Specifier)
 
 -- ---- what is written is cut so
 
@@ -163,7 +140,7 @@ alone (Some (a ∷ scope)) last (b ∷ name) version front some named plain =
 
 -- ---- it reads back
 
-module _ (kind : PackageKind) {body : List ℕ} (r : PackageReqReference) (h : IsReadReference body r) (none : HasNoVersionInPath r) where
+module _ (texts : TextsHaveOneOutcome) (any : StarIsAnyVersion) (kind : PackageKind) {body : List ℕ} (r : PackageReqReference) (h : IsReadReference body r) (none : HasNoVersionInPath r) where
   abbrev tail : List ℕ
   tail = path_text r.sub_path
 
@@ -176,7 +153,7 @@ module _ (kind : PackageKind) {body : List ℕ} (r : PackageReqReference) (h : I
         cut = record { scope = h.cut.scope; name = h.cut.name; version = None; path = written_path r.sub_path };
         is_cut = cut_again h.cut.scope h.cut.name h.cut.name None r.sub_path (reference_text r) whole.front whole.some (no_slashes h.is_cut.last h.cut.name h.cut.version h.is_cut.named h.is_cut.last_is) (refl, whole.no_at) written;
         name = h.name;
-        version_req = any_version h.cut.version r.req.version_req h.version_req is_star;
+        version_req = any_version texts any h.cut.version r.req.version_req h.version_req is_star;
         sub_path = path_again h.cut.path r.sub_path h.sub_path;
       }) none
 

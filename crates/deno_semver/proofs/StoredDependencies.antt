@@ -8,12 +8,12 @@ use Rattle.deno_semver.specs.DependencyOutcome.{IsDependencyOutcome, is_dependen
 use Rattle.deno_semver.specs.Json.{IsStringOf, IsTextOfDependency, IsTextOfReq}
 use Rattle.deno_semver.specs.Kind.{scheme_of}
 use Rattle.deno_semver.specs.RequirementText.{normal_req_text}
-use Rattle.deno_semver.specs.Stored.{IsSettledDependency, IsSettledReq, IsStoredDependency, IsStoredReq}
+use Rattle.deno_semver.specs.Stored.{IsSettledDependency, IsSettledReq, IsStoredDependency, IsStoredReq, StoredRequirementsAreReadAgain}
 use Rattle.deno_semver.specs.declared.jsr.dependency.JsrDepPackageReq.{JsrDepPackageReq}
 use Rattle.deno_semver.specs.declared.package.kind.PackageKind.{PackageKind}
 use Rattle.deno_semver.specs.declared.package.kind.PackageKind.TheVariants as registry
 use Rattle.deno_semver.specs.declared.package.values.PackageReq.{PackageReq}
-use Rattle.deno_semver.proofs.StoredReqs.{after_ascii, stored_loose}
+use Rattle.deno_semver.proofs.StoredReqs.{after_ascii}
 
 abbrev of_kind : PackageKind → PackageReq → JsrDepPackageReq
 of_kind kind req = record { kind = kind; req = req }
@@ -51,5 +51,5 @@ scheme_utf8 registry.Jsr body u = after_ascii (codes "jsr") body 58 (omega arith
 scheme_utf8 registry.Npm body u = after_ascii (codes "npm") body 58 (omega arith) u
 
 -- what is stored of a dependency that npm's reader read of a text
-pub stored_dependency : (d : JsrDepPackageReq) (text : List ℕ) → IsUtf8 text → IsDependencyOutcome Npm text (Ok d) → IsStoredDependency d (string (normal_dependency_text d))
-stored_dependency d text u (is_dependency kind body {req = req} is outcome) = stored kind req (stored_loose req body (scheme_utf8 kind body (subst IsUtf8 is u)) outcome)
+pub stored_dependency : StoredRequirementsAreReadAgain → (d : JsrDepPackageReq) (text : List ℕ) → IsUtf8 text → IsDependencyOutcome Npm text (Ok d) → IsStoredDependency d (string (normal_dependency_text d))
+stored_dependency again d text u (is_dependency kind body {req = req} is outcome) = stored kind req (again req body (scheme_utf8 kind body (subst IsUtf8 is u)) outcome)

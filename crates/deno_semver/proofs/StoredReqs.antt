@@ -1,9 +1,8 @@
 -- What is read again of a requirement of a package that npm's reader read, and that was stored as its normal text.
-use Rattle.std.proofs.Common.{◌≡◌, ◌<◌, ◌==◌, ℕ, true, false, Bool, List, [], ◌∷◌, ◌++◌, length, drop, get_or, Option, Some, None, Ok, refl, sym, ap, subst, ◌∙◌, arith, append-nil, append_assoc, length-append}
+use Rattle.std.proofs.Common.{◌≡◌, ◌<◌, ◌==◌, ℕ, true, false, Bool, List, [], ◌∷◌, ◌++◌, length, drop, get_or, Option, Some, None, refl, sym, ap, subst, ◌∙◌, arith, append-nil, append_assoc, length-append}
 use Rattle.std.specs.Prelude.{◌-◌, ◌+◌, IsUtf8, codes, if◌then◌else◌}
 use Rattle.std.specs.List.{list_all}
 use Rattle.std.proofs.lemmas.Bool.{eqb-true}
-use Rattle.std.proofs.lemmas.Bool.Decides.{nat_tests}
 use Rattle.std.proofs.lemmas.List.{drop_at, get_or-append_right}
 use Rattle.std.proofs.lemmas.Str.{IsCharBoundary-after_ascii, IsCharBoundary-before_ascii, IsUtf8-drop, IsUtf8-take}
 use Rattle.std.proofs.Math.Seq.{take-append_seam}
@@ -14,124 +13,25 @@ use Rattle.semver_base.specs.NormalText.{set_text}
 use Rattle.semver_base.specs.Shortest.{shortest_tree}
 use Rattle.semver_base.specs.declared.range.PreRelease.TheVariants.{Restricted}
 use Rattle.semver_base.specs.declared.range.VersionRange.{VersionRange}
-use Rattle.semver_base.proofs.Solid.{is_solid_byte}
 use Rattle.semver_req.specs.KeptSet.{IsReadSet, kept}
 use Rattle.semver_req.specs.Outcome.{IsOutcome, Outcome, Ranges, Refused, Tag}
 use Rattle.semver_req.specs.Pieces.{normal}
-use Rattle.semver_req.specs.Readers.{Failure, IsRead, IsReadFrom, IsReading, IsReadOrTag}
-use Rattle.semver_req.specs.Requirement.{Requirement, inner_text}
+use Rattle.semver_req.specs.Readers.{IsRead, IsReadFrom, IsReading, IsReadOrTag, ReadRequirementsAreAnswers}
+use Rattle.semver_req.specs.Requirement.{Requirement, inner_text, ranges_of, wildcard}
+use Rattle.semver_req.specs.Rereading.{HoldsNoSeparator, NormalTextsHoldNoSeparator, NormalTextsKeepTheirMeaning, OneRereadingSettles, StarIsAnyVersion, TagsHoldNoSeparator, TagsReadBack}
 use Rattle.semver_req.specs.declared.common.values.Flavour.TheVariants.{Npm, Normal}
 use Rattle.semver_req.specs.declared.range_set_or_tag.RangeSetOrTag.{RangeSetOrTag}
 use Rattle.semver_req.specs.declared.range_set_or_tag.RangeSetOrTag.TheVariants as inner
-use Rattle.semver_req.proofs.ReaderAnswers.{answers_read}
-use Rattle.semver_req.proofs.ReadSets.{read_writable}
-use Rattle.semver_req.proofs.Rereading.{rereadings, settles}
-use Rattle.semver_req.proofs.TagCharacters.{at_no_tag, slash_no_tag}
-use Rattle.semver_req.proofs.TagTexts.{tag_without}
-use Rattle.semver_req.proofs.TagsReadBack.{IsNpmTag, npm_tag}
-use Rattle.semver_req.proofs.WrittenSets.{set_outcome, set_passes}
 use Rattle.deno_semver.specs.Cuts.{is_not}
 use Rattle.deno_semver.specs.Json.{IsTextOfReq}
-use Rattle.deno_semver.specs.PackageOutcome.{IsPackageOutcome, IsReadReq, IsVersionReq, is_package}
+use Rattle.deno_semver.specs.PackageOutcome.{IsReadReq, IsVersionReq, is_package}
 use Rattle.deno_semver.specs.PackageText.{IsAfterScope, IsNamePart, IsPackageText, IsPathPart, PackageParts, without_slash}
 use Rattle.deno_semver.specs.RequirementText.{normal_req_text}
-use Rattle.deno_semver.specs.Stored.{IsReadFor, IsSettledReq, IsStoredReq}
+use Rattle.deno_semver.specs.Stored.{IsReadFor, IsSettledReq, IsStoredReq, StoredRequirementsAreReadAgain}
 use Rattle.deno_semver.specs.declared.package.values.PackageReq.{PackageReq}
 use Rattle.deno_semver.proofs.StoredNames.{IsReadName, cut_again}
 
--- ---- the bytes of a normal text
-
-solid_no_at : (b : ℕ) → is_solid_byte b ≡ true → is_not 64 b ≡ true
-solid_no_at b h = grind (arith, nat_tests)
-
-solid_no_slash : (b : ℕ) → is_solid_byte b ≡ true → is_not 47 b ≡ true
-solid_no_slash b h = grind (arith, nat_tests)
-
--- ranges that some reader answered, or a tag that is read back
-abbrev CanBeStored : RangeSetOrTag → Type 0
-CanBeStored (inner.RangeSet set) = IsReadSet set.0
-CanBeStored (inner.Tag t) = IsNpmTag t
-
-no_at : (answer : RangeSetOrTag) → CanBeStored answer → list_all (is_not 64) (inner_text answer) ≡ true
-no_at (inner.RangeSet set) h = set_passes (is_not 64) solid_no_at refl refl set.0 (read_writable set.0 h)
-no_at (inner.Tag t) h = tag_without t h.utf8 h.valid 64 (omega arith) at_no_tag
-
-no_slash : (answer : RangeSetOrTag) → CanBeStored answer → list_all (is_not 47) (inner_text answer) ≡ true
-no_slash (inner.RangeSet set) h = set_passes (is_not 47) solid_no_slash refl refl set.0 (read_writable set.0 h)
-no_slash (inner.Tag t) h = tag_without t h.utf8 h.valid 47 (omega arith) slash_no_tag
-
--- ---- what the normal text is read as
-
-abbrev as_inner : List VersionRange → RangeSetOrTag
-as_inner ranges = inner.RangeSet (record { 0 = ranges })
-
-abbrev again_of : RangeSetOrTag → RangeSetOrTag
-again_of (inner.RangeSet set) = as_inner (kept Normal (shortest_tree set.0))
-again_of (inner.Tag t) = inner.Tag t
-
-reading : (answer : RangeSetOrTag) → CanBeStored answer → IsReading Normal (inner_text answer) (again_of answer)
-reading (inner.RangeSet set) h = record { outcome = Ranges (shortest_tree set.0); is_outcome = ((rereadings set.0 h).forms Normal normal).0; is_read = refl }
-reading (inner.Tag t) h = record { outcome = Tag t; is_outcome = h.back; is_read = refl }
-
-can_again : (answer : RangeSetOrTag) → CanBeStored answer → CanBeStored (again_of answer)
-can_again (inner.RangeSet set) h = record { flavour = Normal; text = set_text set.0; tree = shortest_tree set.0; is_outcome = ((rereadings set.0 h).forms Normal normal).0; is_kept = refl }
-can_again (inner.Tag t) h = h
-
-kept_again : (answer : RangeSetOrTag) → CanBeStored answer → IsReadFor answer (again_of answer)
-kept_again (inner.RangeSet set) h =
-    let r = rereadings set.0 h in
-    let tree = (r.forms Normal normal).0 in
-    record { means = λ k v. r.kept_means k Normal normal (shortest_tree set.0) tree Restricted v; equal = λ o k. r.equal o k Normal normal (shortest_tree set.0) tree }
-kept_again (inner.Tag t) h = refl
-
-one_tree : (t u : List (List Comparator)) → Ranges t ≡ Ranges u → t ≡ u
-one_tree t u e = cc e
-
--- what is read again is read again as it is
-settled_again : (answer : RangeSetOrTag) → CanBeStored answer → again_of (again_of answer) ≡ again_of answer
-settled_again (inner.RangeSet set) h =
-    let tree = ((rereadings set.0 h).forms Normal normal).0 in
-    let once = kept Normal (shortest_tree set.0) in
-    let next = can_again (inner.RangeSet set) h in
-    let s = settles set.0 h Normal normal (shortest_tree set.0) tree Normal normal in
-    let same : s.tree ≡ shortest_tree once = one_tree s.tree (shortest_tree once) (((rereadings once next).forms Normal normal).1 (Ranges s.tree) s.is_tree) in
-    ap as_inner (sym (ap (kept Normal) same) ∙ s.is_kept)
-settled_again (inner.Tag t) h = refl
-
--- ---- the requirement of a package
-
-abbrev req_of : List ℕ → RangeSetOrTag → Requirement
-req_of text answer = record { raw_text = text; inner = answer }
-
-abbrev package_of : List ℕ → RangeSetOrTag → PackageReq
-package_of name answer = record { name = name; version_req = req_of (inner_text answer) (again_of answer) }
-
-abbrev stored_text : List ℕ → RangeSetOrTag → List ℕ
-stored_text name answer = name ++ (64 ∷ inner_text answer)
-
-reads_again : (name : List ℕ) (answer : RangeSetOrTag) → IsReadName name → CanBeStored answer → IsTextOfReq (stored_text name answer) (package_of name answer)
-reads_again name answer n h =
-    let c = cut_again (inner_text answer) (no_at answer h) (no_slash answer h) name n in
-    let version : IsVersionReq Normal c.cut.version (req_of (inner_text answer) (again_of answer)) =
-    subst (λ v. IsVersionReq Normal v (req_of (inner_text answer) (again_of answer))) (sym c.version_is)
-    (record { reading = reading answer h; raw_text = refl }) in
-    is_package (record { cut = c.cut; is_cut = c.is_cut; name = c.is_name; version_req = version; no_path = c.no_path })
-
-settled_req : (name : List ℕ) (answer : RangeSetOrTag) → IsReadName name → CanBeStored answer → IsSettledReq (package_of name answer)
-settled_req name answer n h = record {
-  again = package_of name (again_of answer);
-  stands_for = record { text = stored_text name (again_of answer); is_string = refl; reads = reads_again name (again_of answer) n (can_again answer h) };
-  equal = (refl, settled_again answer h);
-}
-
-stored : (req : PackageReq) → IsReadName req.name → CanBeStored req.version_req.inner → IsStoredReq req (string (normal_req_text req))
-stored req n h = record {
-  again = package_of req.name req.version_req.inner;
-  stands_for = record { text = normal_req_text req; is_string = refl; reads = reads_again req.name req.version_req.inner n h };
-  is_kept = record { name = refl; kept = kept_again req.version_req.inner h; settled = settled_req req.name req.version_req.inner n h };
-}
-
--- ---- what npm's reader reads can be stored
+-- ---- the text of the version is UTF-8
 
 -- the text of the version stands behind a byte of ASCII, and before another or at the end
 pub after_ascii : (before rest : List ℕ) (a : ℕ) → a < 128 → IsUtf8 (before ++ (a ∷ rest)) → IsUtf8 rest
@@ -177,30 +77,135 @@ version_utf8 text cut version h is u =
     let whole : h.rest ≡ cut.name ++ (64 ∷ (version ++ h.tail)) = h.rest_is ∙ (ap (λ t. t ++ h.tail) named.0 ∙ append_assoc cut.name (64 ∷ version) h.tail) in
     version_end version h.tail cut.path h.path (after_ascii cut.name (version ++ h.tail) 64 (omega arith) (subst IsUtf8 whole some))
 
--- any version
-any_read : IsReadSet (everything ∷ [])
-any_read = record { flavour = Normal; text = codes "*"; tree = shortest_tree (everything ∷ []); is_outcome = set_outcome Normal normal (everything ∷ []) (record { start = tt; end = tt }, tt); is_kept = refl }
+-- ---- what can be stored
 
-tag_read : (version t : List ℕ) (o : Outcome) → IsUtf8 version → IsOutcome Npm version o → IsRead Npm o (inner.Tag t) → IsNpmTag t
-tag_read version t (Ranges tree) u h k = cc k
-tag_read version t (Tag s) u h k = let same : t ≡ s = cc k in subst IsNpmTag (sym same) (npm_tag version s u h)
-tag_read version t Refused u h k = absurd k
+-- a tag that is read back, and holds neither `@` nor `/`
+record IsStoredTag (t : List ℕ) : Type 0 where
+  back : IsOutcome Normal t (Tag t)
+  plain : HoldsNoSeparator t
 
-some_read : (version : List ℕ) (req : Requirement) → IsUtf8 version → IsReadFrom Npm version req → CanBeStored req.inner
-some_read version req u h = go req.inner h.reading (answers_read Npm version (λ (e : Failure). e) req u h.reading h.raw_text).read_set
-  where
-    go : (answer : RangeSetOrTag) → IsReading Npm version answer → IsReadOrTag answer → CanBeStored answer
-    go (inner.RangeSet set) r k = k
-    go (inner.Tag t) r k = tag_read version t r.outcome u r.is_outcome r.is_read
+-- ranges that some reader answered, or such a tag
+abbrev CanBeStored : RangeSetOrTag → Type 0
+CanBeStored (inner.RangeSet set) = IsReadSet set.0
+CanBeStored (inner.Tag t) = IsStoredTag t
 
-can_be_stored : (text : List ℕ) (cut : PackageParts) (req : Requirement) → IsPackageText text cut → IsUtf8 text → (version : Option (List ℕ)) → cut.version ≡ version → IsVersionReq Npm version req → CanBeStored req.inner
-can_be_stored text cut req h u None is k = subst CanBeStored (sym (ap (λ (r : Requirement). r.inner) k)) any_read
-can_be_stored text cut req h u (Some version) is k = some_read version req (version_utf8 text cut version h is u) k
+abbrev as_inner : List VersionRange → RangeSetOrTag
+as_inner ranges = inner.RangeSet (record { 0 = ranges })
 
-stored_read : (req : PackageReq) (text : List ℕ) → IsUtf8 text → IsReadReq Npm text req → IsStoredReq req (string (normal_req_text req))
-stored_read req text u h =
-    stored req (record { text = text; cut = h.cut; is_cut = h.is_cut; is_name = h.name }) (can_be_stored text h.cut req.version_req h.is_cut u h.cut.version refl h.version_req)
+abbrev again_of : RangeSetOrTag → RangeSetOrTag
+again_of (inner.RangeSet set) = as_inner (kept Normal (shortest_tree set.0))
+again_of (inner.Tag t) = inner.Tag t
 
--- what is stored of a requirement that npm's reader read of a text
-pub stored_loose : (req : PackageReq) (text : List ℕ) → IsUtf8 text → IsPackageOutcome Npm text (Ok req) → IsStoredReq req (string (normal_req_text req))
-stored_loose req text u (is_package h) = stored_read req text u h
+abbrev req_of : List ℕ → RangeSetOrTag → Requirement
+req_of text answer = record { raw_text = text; inner = answer }
+
+abbrev package_of : List ℕ → RangeSetOrTag → PackageReq
+package_of name answer = record { name = name; version_req = req_of (inner_text answer) (again_of answer) }
+
+abbrev stored_text : List ℕ → RangeSetOrTag → List ℕ
+stored_text name answer = name ++ (64 ∷ inner_text answer)
+
+one_tree : (t u : List (List Comparator)) → Ranges t ≡ Ranges u → t ≡ u
+one_tree t u e = cc e
+
+one_set : (a b : List VersionRange) → as_inner a ≡ as_inner b → a ≡ b
+one_set a b e = ap (λ answer. (ranges_of answer).0) e
+
+module _ (rereads : NormalTextsKeepTheirMeaning) (settles : OneRereadingSettles) (tags : TagsReadBack) (answers : ReadRequirementsAreAnswers) (plain_sets : NormalTextsHoldNoSeparator) (plain_tags : TagsHoldNoSeparator)
+    (star : StarIsAnyVersion) where
+  no_at : (answer : RangeSetOrTag) → CanBeStored answer → list_all (is_not 64) (inner_text answer) ≡ true
+  no_at (inner.RangeSet set) h = (plain_sets set.0 h).no_at
+  no_at (inner.Tag t) h = h.plain.no_at
+
+  no_slash : (answer : RangeSetOrTag) → CanBeStored answer → list_all (is_not 47) (inner_text answer) ≡ true
+  no_slash (inner.RangeSet set) h = (plain_sets set.0 h).no_slash
+  no_slash (inner.Tag t) h = h.plain.no_slash
+
+  -- ---- what the normal text is read as
+
+  reading : (answer : RangeSetOrTag) → CanBeStored answer → IsReading Normal (inner_text answer) (again_of answer)
+  reading (inner.RangeSet set) h = record { outcome = Ranges (shortest_tree set.0); is_outcome = ((rereads set.0 h).forms Normal normal).0; is_read = refl }
+  reading (inner.Tag t) h = record { outcome = Tag t; is_outcome = h.back; is_read = refl }
+
+  can_again : (answer : RangeSetOrTag) → CanBeStored answer → CanBeStored (again_of answer)
+  can_again (inner.RangeSet set) h = record { flavour = Normal; text = set_text set.0; tree = shortest_tree set.0; is_outcome = ((rereads set.0 h).forms Normal normal).0; is_kept = refl }
+  can_again (inner.Tag t) h = h
+
+  kept_again : (answer : RangeSetOrTag) → CanBeStored answer → IsReadFor answer (again_of answer)
+  kept_again (inner.RangeSet set) h =
+      let r = rereads set.0 h in
+      let tree = (r.forms Normal normal).0 in
+      record { means = λ k v. r.kept_means k Normal normal (shortest_tree set.0) tree Restricted v; equal = λ o k. r.equal o k Normal normal (shortest_tree set.0) tree }
+  kept_again (inner.Tag t) h = refl
+
+  -- what is read again is read again as it is
+  settled_again : (answer : RangeSetOrTag) → CanBeStored answer → again_of (again_of answer) ≡ again_of answer
+  settled_again (inner.RangeSet set) h =
+      let tree = ((rereads set.0 h).forms Normal normal).0 in
+      let once = kept Normal (shortest_tree set.0) in
+      let next = can_again (inner.RangeSet set) h in
+      let s = settles set.0 h Normal normal (shortest_tree set.0) tree Normal normal in
+      let same : s.tree ≡ shortest_tree once = one_tree s.tree (shortest_tree once) (((rereads once next).forms Normal normal).1 (Ranges s.tree) s.is_tree) in
+      ap as_inner (sym (ap (kept Normal) same) ∙ s.is_kept)
+  settled_again (inner.Tag t) h = refl
+
+  -- ---- the requirement of a package
+
+  reads_again : (name : List ℕ) (answer : RangeSetOrTag) → IsReadName name → CanBeStored answer → IsTextOfReq (stored_text name answer) (package_of name answer)
+  reads_again name answer n h =
+      let c = cut_again (inner_text answer) (no_at answer h) (no_slash answer h) name n in
+      let version : IsVersionReq Normal c.cut.version (req_of (inner_text answer) (again_of answer)) =
+      subst (λ v. IsVersionReq Normal v (req_of (inner_text answer) (again_of answer))) (sym c.version_is)
+      (record { reading = reading answer h; raw_text = refl }) in
+      is_package (record { cut = c.cut; is_cut = c.is_cut; name = c.is_name; version_req = version; no_path = c.no_path })
+
+  settled_req : (name : List ℕ) (answer : RangeSetOrTag) → IsReadName name → CanBeStored answer → IsSettledReq (package_of name answer)
+  settled_req name answer n h = record {
+    again = package_of name (again_of answer);
+    stands_for = record { text = stored_text name (again_of answer); is_string = refl; reads = reads_again name (again_of answer) n (can_again answer h) };
+    equal = (refl, settled_again answer h);
+  }
+
+  stored : (req : PackageReq) → IsReadName req.name → CanBeStored req.version_req.inner → IsStoredReq req (string (normal_req_text req))
+  stored req n h = record {
+    again = package_of req.name req.version_req.inner;
+    stands_for = record { text = normal_req_text req; is_string = refl; reads = reads_again req.name req.version_req.inner n h };
+    is_kept = record { name = refl; kept = kept_again req.version_req.inner h; settled = settled_req req.name req.version_req.inner n h };
+  }
+
+  -- ---- what npm's reader reads can be stored
+
+  -- any version
+  any_read : IsReadSet (everything ∷ [])
+  any_read = let read = (star Normal).reading in go read.outcome read.is_outcome read.is_read
+    where
+      go : (o : Outcome) → IsOutcome Normal (codes "*") o → IsRead Normal o wildcard.inner → IsReadSet (everything ∷ [])
+      go (Ranges tree) h is = record { flavour = Normal; text = codes "*"; tree = tree; is_outcome = h; is_kept = one_set (everything ∷ []) (kept Normal tree) is }
+      go (Tag t) h is = cc is
+      go Refused h is = absurd is
+
+  tag_read : (version t : List ℕ) (o : Outcome) → IsUtf8 version → IsOutcome Npm version o → IsRead Npm o (inner.Tag t) → IsStoredTag t
+  tag_read version t (Ranges tree) u h k = cc k
+  tag_read version t (Tag s) u h k =
+      let same : t ≡ s = cc k in
+      subst IsStoredTag (sym same) (record { back = tags Npm version s u tt h; plain = plain_tags Npm version s u tt h })
+  tag_read version t Refused u h k = absurd k
+
+  some_read : (version : List ℕ) (req : Requirement) → IsUtf8 version → IsReadFrom Npm version req → CanBeStored req.inner
+  some_read version req u h = go req.inner h.reading (answers Npm version req u h).read_set
+    where
+      go : (answer : RangeSetOrTag) → IsReading Npm version answer → IsReadOrTag answer → CanBeStored answer
+      go (inner.RangeSet set) r k = k
+      go (inner.Tag t) r k = tag_read version t r.outcome u r.is_outcome r.is_read
+
+  can_be_stored : (text : List ℕ) (cut : PackageParts) (req : Requirement) → IsPackageText text cut → IsUtf8 text → (version : Option (List ℕ)) → cut.version ≡ version → IsVersionReq Npm version req → CanBeStored req.inner
+  can_be_stored text cut req h u None is k = subst CanBeStored (sym (ap (λ (r : Requirement). r.inner) k)) any_read
+  can_be_stored text cut req h u (Some version) is k = some_read version req (version_utf8 text cut version h is u) k
+
+  stored_read : (req : PackageReq) (text : List ℕ) → IsUtf8 text → IsReadReq Npm text req → IsStoredReq req (string (normal_req_text req))
+  stored_read req text u h =
+      stored req (record { text = text; cut = h.cut; is_cut = h.is_cut; is_name = h.name }) (can_be_stored text h.cut req.version_req h.is_cut u h.cut.version refl h.version_req)
+
+  -- what is stored of a requirement that npm's reader read of a text
+  pub stored_loose : StoredRequirementsAreReadAgain
+  stored_loose req text u (is_package h) = stored_read req text u h

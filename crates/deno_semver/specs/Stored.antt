@@ -1,17 +1,19 @@
 -- What is read again of a requirement of a package, or a dependency, that was stored as its normal text. Source: the crate `deno_semver`,
 -- whose text of a requirement is meant to be read back.
-use Rattle.std.specs.Prelude.{◌≡◌, List, true}
+use Rattle.std.specs.Prelude.{◌≡◌, ℕ, List, true, Ok, IsUtf8}
 use Rattle.std.specs.List.{list_all}
 use Rattle.serde_json.specs.Data.{Data, string}
 use Rattle.semver_base.specs.Meaning.{alternatives, tree_means}
 use Rattle.semver_base.specs.declared.range.VersionRange.{VersionRange}
 use Rattle.semver_base.specs.declared.version.Version.{Version}
 use Rattle.semver_req.specs.Rereading.{is_orderly, keeps_meaning}
+use Rattle.semver_req.specs.declared.common.values.Flavour.TheVariants.{Npm}
 use Rattle.semver_req.specs.declared.range_set_or_tag.RangeSetOrTag.{RangeSetOrTag}
 use Rattle.semver_req.specs.declared.range_set_or_tag.RangeSetOrTag.TheVariants as inner
 use Rattle.deno_semver.specs.DependencyOrder.{normal_dependency_text}
 use Rattle.deno_semver.specs.Equal.{AreEqualDependencies, AreEqualReqs}
 use Rattle.deno_semver.specs.Json.{IsStringOf, IsTextOfDependency, IsTextOfReq}
+use Rattle.deno_semver.specs.PackageOutcome.{IsPackageOutcome}
 use Rattle.deno_semver.specs.RequirementText.{normal_req_text}
 use Rattle.deno_semver.specs.declared.jsr.dependency.JsrDepPackageReq.{JsrDepPackageReq}
 use Rattle.deno_semver.specs.declared.package.values.PackageReq.{PackageReq}
@@ -51,6 +53,11 @@ pub record IsStoredReq (req : PackageReq) (json : Data) : Type 0 where
   pub again : PackageReq
   pub stands_for : IsStringOf IsTextOfReq json again
   pub is_kept : IsKeptReq req again
+
+-- the JSON of each requirement that npm's reader read of some text does so
+abbrev pub StoredRequirementsAreReadAgain : Type 0
+StoredRequirementsAreReadAgain = (req : PackageReq) (text : List ℕ) → IsUtf8 text → IsPackageOutcome Npm text (Ok req)
+    → IsStoredReq req (string (normal_req_text req))
 
 -- ---- dependencies
 

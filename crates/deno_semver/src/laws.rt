@@ -10,6 +10,7 @@ ghost use Rattle.deno_semver.specs.Equal.{AreEqualDependencies, AreEqualReferenc
 ghost use Rattle.deno_semver.specs.Json.{IsJsonOfRange, IsJsonOfSet, IsJsonOfVersionReq, IsStringOf, IsTextOfDependency, IsTextOfNv, IsTextOfReference, IsTextOfReq, IsTextOfVersion};
 ghost use Rattle.deno_semver.specs.OneOutcome.{DependenciesHaveOneOutcome, NamesWithVersionsHaveOneOutcome, PackageTextsHaveOneCut, PackageTextsHaveOneOutcome, ReferencesHaveOneOutcome, StandsForOne, VersionReferencesHaveOneOutcome};
 ghost use Rattle.deno_semver.specs.ReferenceOutcome.{unboxed};
+ghost use Rattle.deno_semver.specs.Stored.{StoredRequirementsAreReadAgain};
 ghost use Rattle.deno_semver.specs.StoredList.{IsJsonOfReqs};
 ghost use Rattle.deno_semver.specs.declared.package.kind.PackageKind.{PackageKind};
 
@@ -22,7 +23,10 @@ use crate::package::{
     PackageReqReferenceInvalidWithVersionParseError, PackageReqReferenceParseError, SpecifierError,
 };
 use semver_base::laws::version_texts_have_one_outcome;
-use semver_req::laws::texts_have_one_outcome;
+use semver_req::laws::{
+    normal_texts_keep_their_meaning, one_rereading_settles, read_requirements_are_answers,
+    requirements_hold_no_separator, star_is_any_version, tags_read_back, texts_have_one_outcome,
+};
 
 /// Whether two registries are the same.
 pub fn same_kinds(one: &PackageKind, other: &PackageKind) -> bool
@@ -162,27 +166,37 @@ pub fn package_texts_have_one_cut()
 /// requirements, nor a requirement and a fault, nor two faults.
 pub fn package_texts_have_one_outcome()
     ensures { PackageTextsHaveOneOutcome }
-{}
+{
+    texts_have_one_outcome();
+}
 
 /// A text has at most one outcome as a reference to a package of either registry.
 pub fn references_have_one_outcome()
     ensures { ReferencesHaveOneOutcome }
-{}
+{
+    texts_have_one_outcome();
+}
 
 /// The text of a dependency of a JSR package stands for one dependency or has one first fault, never two and never both.
 pub fn dependencies_have_one_outcome()
     ensures { DependenciesHaveOneOutcome }
-{}
+{
+    package_texts_have_one_outcome();
+}
 
 /// A text stands for one name with a version or has one refusal, never two and never both.
 pub fn names_with_versions_have_one_outcome()
     ensures { NamesWithVersionsHaveOneOutcome }
-{}
+{
+    version_texts_have_one_outcome();
+}
 
 /// A text has at most one outcome as a reference to a version of either registry.
 pub fn version_references_have_one_outcome()
     ensures { VersionReferencesHaveOneOutcome }
-{}
+{
+    version_texts_have_one_outcome();
+}
 
 /// JSON stands for at most one version, one range, and one set of ranges.
 pub fn json_stands_for_one_range()
@@ -209,4 +223,17 @@ pub fn json_stands_for_one_value()
     names_with_versions_have_one_outcome();
     version_references_have_one_outcome();
     dependencies_have_one_outcome();
+}
+
+/// The JSON of a requirement of a package that npm's reader read stands for one with the same name and the same tag, or ranges
+/// that match the same versions where each of the first ones keeps its meaning; its own JSON stands for an equal one.
+pub fn stored_requirements_are_read_again()
+    ensures { StoredRequirementsAreReadAgain }
+{
+    normal_texts_keep_their_meaning();
+    one_rereading_settles();
+    tags_read_back();
+    read_requirements_are_answers();
+    requirements_hold_no_separator();
+    star_is_any_version();
 }

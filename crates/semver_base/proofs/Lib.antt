@@ -33,6 +33,7 @@ pub mod Readings
 pub mod Replaced
 pub mod Solid
 pub mod Triples
+pub mod VersionBytes
 pub mod VersionReading
 pub mod WordReadings
 pub mod WrittenVersions

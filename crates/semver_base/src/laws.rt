@@ -6,14 +6,14 @@
 //!
 //! Equal values hash alike: they write the same to every `Hasher`. `equal_hash_alike` says it of each type that has `Hash`.
 //!
-//! The last four laws speak of versions, ranges and their texts alone, so their calls do nothing: what they promise is what
+//! The last five laws speak of versions, ranges and their texts alone, so their calls do nothing: what they promise is what
 //! a caller cites.
 
 ghost use Rattle.std.specs.Prelude.{◌≡◌, ◌↔◌, IsTrue};
 ghost use Rattle.semver_base.specs.LeastVersion.{ReadVersionsAreReadable};
 ghost use Rattle.semver_base.specs.NormalTable.{IsNormalTable};
 ghost use Rattle.semver_base.specs.Sameness.{TellsSame};
-ghost use Rattle.semver_base.specs.VersionText.{VersionTextsHaveOneOutcome, VersionTextsReadBack};
+ghost use Rattle.semver_base.specs.VersionText.{VersionTextsArePlain, VersionTextsHaveOneOutcome, VersionTextsReadBack};
 
 use crate::failure::{ParseFailure, Refusal};
 use crate::lexical::values::{Measured, Strictness};
@@ -174,4 +174,9 @@ pub fn normal_texts_follow_the_table()
 /// its numbers fit, and the identifiers of its pre-release are parts (SemVer 2.0.0, sections 2 and 9).
 pub fn read_versions_are_readable()
     ensures { ReadVersionsAreReadable }
+{}
+
+/// The text of a version that was read is letters, digits, `-`, `.` and `+` alone.
+pub fn version_texts_are_plain()
+    ensures { VersionTextsArePlain }
 {}

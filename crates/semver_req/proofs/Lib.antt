@@ -33,6 +33,7 @@ pub mod Settling
 pub mod ShortestMeaning
 pub mod Signs
 pub mod SignsNoTag
+pub mod Star
 pub mod Starts
 pub mod StrictFits
 pub mod StrictFronts
@@ -44,6 +45,7 @@ pub mod TagPieces
 pub mod TagTexts
 pub mod TagsReadBack
 pub mod Wider
+pub mod WithoutSeparators
 pub mod WritableRanges
 pub mod WrittenComparators
 pub mod WrittenSets

@@ -2,8 +2,9 @@
 use Rattle.std.proofs.Common.{◌≡◌, ◌<◌, ℕ, Bool, true, false, List, [], ◌∷◌, ◌++◌, length, sym, ◌∙◌, arith}
 use Rattle.std.specs.Prelude.{IsUtf8}
 use Rattle.std.specs.Str.{trim, trim_start}
-use Rattle.semver_req.specs.Outcome.{IsBad, IsCutOutcome, IsStrictOutcome, IsTagOr, Tag, no_fit, no_front, one_bad, tag}
+use Rattle.semver_req.specs.Outcome.{IsBad, IsCutOutcome, IsOutcome, IsStrictOutcome, IsTagOr, Tag, no_fit, no_front, one_bad, tag}
 use Rattle.semver_req.specs.Pieces.{IsCutting, npm, normal, one_piece}
+use Rattle.semver_req.specs.Readers.{StartsFit}
 use Rattle.semver_req.specs.Rereading.{TagsReadBack}
 use Rattle.semver_req.specs.Tag.{is_valid_tag}
 use Rattle.semver_req.specs.declared.common.values.Flavour.{Flavour}
@@ -41,23 +42,20 @@ tag_back Npm text t u start o = let first = trimmed text u in cut_back Npm npm (
 tag_back Normal text t u start o = cut_back Normal normal text t u start o
 tag_back Specifier text t u start o = strict_back text t u o
 
--- the tag that npm's reader makes of a text is a valid one, and read back
-pub record IsNpmTag (t : List ℕ) : Type 0 where
-  pub utf8 : IsUtf8 t
-  pub valid : is_valid_tag t ≡ true
-  pub back : IsCutOutcome Normal t (Tag t)
+-- such a tag is a valid one
+of_tag : (text t : List ℕ) → IsUtf8 text → IsTagOr text (Tag t) → IsUtf8 t × (is_valid_tag t ≡ true)
+of_tag text t u (tag valid) = (u, valid)
 
-pub npm_tag : (text t : List ℕ) → IsUtf8 text → IsCutOutcome Npm (trim text) (Tag t) → IsNpmTag t
-npm_tag text t u o =
-    let first = trimmed text u in
-    let back = cut_back Npm npm (trim text) t first.utf8 first.start o in
-    let tells = told (trim text) t first.utf8 first.start o in
-    record { utf8 = tells.0; valid = tells.1; back = back }
-  where
-    of_tag : (piece t : List ℕ) → IsUtf8 (trim piece) → IsTagOr (trim piece) (Tag t) → IsUtf8 t × (is_valid_tag t ≡ true)
-    of_tag piece t u (tag valid) = (u, valid)
+cut_valid : (f : Flavour) (text t : List ℕ) → IsUtf8 text → trim_start text ≡ text → IsCutOutcome f text (Tag t) → IsUtf8 t × (is_valid_tag t ≡ true)
+cut_valid f text t u start (one_bad {piece = piece} {b = b} pieces bad is) =
+    let first = only_piece text piece b u start pieces in
+    of_tag (trim piece) t (piece_left piece first.utf8 first.start).utf8 is
 
-    told : (text t : List ℕ) → IsUtf8 text → trim_start text ≡ text → IsCutOutcome Npm text (Tag t) → IsUtf8 t × (is_valid_tag t ≡ true)
-    told text t u start (one_bad {piece = piece} {b = b} pieces bad is) =
-        let first = only_piece text piece b u start pieces in
-        of_tag piece t (piece_left piece first.utf8 first.start).utf8 is
+strict_valid : (text t : List ℕ) → IsUtf8 text → IsStrictOutcome text (Tag t) → IsUtf8 t × (is_valid_tag t ≡ true)
+strict_valid text t u (no_front n is) = of_tag text t u is
+strict_valid text t u (no_fit l f is) = of_tag text t u is
+
+pub tag_valid : (f : Flavour) (text t : List ℕ) → IsUtf8 text → StartsFit f text → IsOutcome f text (Tag t) → IsUtf8 t × (is_valid_tag t ≡ true)
+tag_valid Npm text t u start o = let first = trimmed text u in cut_valid Npm (trim text) t first.utf8 first.start o
+tag_valid Normal text t u start o = cut_valid Normal text t u start o
+tag_valid Specifier text t u start o = strict_valid text t u o

@@ -1,8 +1,9 @@
 -- The normal text of a set that was read, read again. Source: `deno_semver`, whose text of a requirement is meant to be
 -- read back.
-use Rattle.std.specs.Prelude.{◌≡◌, ◌≤◌, ◌<◌, ◌↔◌, ℕ, List, length, Bool, true, false, not, ◌==◌, ◌&&◌, ◌||◌, IsUtf8, Ok}
+use Rattle.std.specs.Prelude.{◌≡◌, ◌≤◌, ◌<◌, ◌↔◌, ℕ, List, length, Bool, true, false, not, ◌==◌, ◌&&◌, ◌||◌, IsUtf8, Ok, codes}
 use Rattle.std.specs.List.{AllByRecursion, list_all}
 use Rattle.std.specs.Str.{trim}
+use Rattle.semver_base.specs.Characters.{at_sign, slash}
 use Rattle.semver_base.specs.Comparators.{Comparator}
 use Rattle.semver_base.specs.Containment.{AreEquivalent}
 use Rattle.semver_base.specs.Meaning.{alternatives, set_means, tree_means_with}
@@ -22,8 +23,8 @@ use Rattle.semver_req.specs.Comparators.{fits}
 use Rattle.semver_req.specs.KeptSet.{IsReadSet, kept}
 use Rattle.semver_req.specs.Outcome.{IsOutcome, Outcome, Ranges, Tag, tree_ranges}
 use Rattle.semver_req.specs.Pieces.{HasNoBar, IsCutting, IsPiece}
-use Rattle.semver_req.specs.Readers.{IsReading, StartsFit}
-use Rattle.semver_req.specs.Requirement.{inner_means}
+use Rattle.semver_req.specs.Readers.{IsReadFrom, IsReading, StartsFit}
+use Rattle.semver_req.specs.Requirement.{inner_means, wildcard}
 use Rattle.semver_req.specs.declared.common.values.Flavour.{Flavour}
 use Rattle.semver_req.specs.declared.common.values.Flavour.TheVariants.{Normal}
 use Rattle.semver_req.specs.declared.range_set_or_tag.RangeSetOrTag.{RangeSetOrTag}
@@ -153,6 +154,24 @@ RangesAreWrittenAsPieces = (ranges : List VersionRange) → IsReadSet ranges →
 -- the normalized reader makes a tag of what some reader made a tag of; its own text begins with no blank
 abbrev pub TagsReadBack : Type 0
 TagsReadBack = (f : Flavour) (text t : List ℕ) → IsUtf8 text → StartsFit f text → IsOutcome f text (Tag t) → IsOutcome Normal t (Tag t)
+
+-- ---- in texts of packages
+
+-- no `@` and no `/`, which stand before and behind a requirement in the text of a package
+pub record HoldsNoSeparator (text : List ℕ) : Type 0 where
+  pub no_at : list_all (λ b. not (b == at_sign)) text ≡ true
+  pub no_slash : list_all (λ b. not (b == slash)) text ≡ true
+
+-- neither the normal text of a read set holds one, nor a tag that some reader makes of a text
+abbrev pub NormalTextsHoldNoSeparator : Type 0
+NormalTextsHoldNoSeparator = (ranges : List VersionRange) → IsReadSet ranges → HoldsNoSeparator (set_text ranges)
+
+abbrev pub TagsHoldNoSeparator : Type 0
+TagsHoldNoSeparator = (f : Flavour) (text t : List ℕ) → IsUtf8 text → StartsFit f text → IsOutcome f text (Tag t) → HoldsNoSeparator t
+
+-- each reader takes `*` for any version
+abbrev pub StarIsAnyVersion : Type 0
+StarIsAnyVersion = (f : Flavour) → IsReadFrom f (codes "*") wildcard
 
 -- ---- requirements
 

@@ -12,7 +12,7 @@ ghost use Rattle.semver_req.specs.KeptSet.{KeptSetsMeanTheirTrees};
 ghost use Rattle.semver_req.specs.Outcome.{TextsHaveOneOutcome};
 ghost use Rattle.semver_req.specs.Pieces.{NormalPiecesAreNpms};
 ghost use Rattle.semver_req.specs.Readers.{ReadRequirementsAreAnswers};
-ghost use Rattle.semver_req.specs.Rereading.{NormalTextsAreEquivalent, NormalTextsKeepTheirMeaning, OneRereadingSettles, RangesAreWrittenAsPieces, SettledSetsAreTheirTexts, TagsReadBack};
+ghost use Rattle.semver_req.specs.Rereading.{NormalTextsAreEquivalent, NormalTextsHoldNoSeparator, NormalTextsKeepTheirMeaning, OneRereadingSettles, RangesAreWrittenAsPieces, SettledSetsAreTheirTexts, StarIsAnyVersion, TagsHoldNoSeparator, TagsReadBack};
 
 use crate::common::values::Flavour;
 use crate::npm::NpmVersionReqParseError;
@@ -123,4 +123,16 @@ pub fn one_rereading_settles()
 /// reader itself is where its text begins with no blank: of ` 1` it makes the tag `1`, whose text is a range.
 pub fn tags_read_back()
     ensures { TagsReadBack }
+{}
+
+/// Neither the normal text of ranges that some reader answered holds an `@` or a `/`, nor a tag that a reader made of a text, of
+/// the normalized reader where that begins with no blank. So either can stand in the text of a package.
+pub fn requirements_hold_no_separator()
+    ensures ranges { NormalTextsHoldNoSeparator }
+    ensures tags { TagsHoldNoSeparator }
+{}
+
+/// Each reader takes `*` for what [`wildcard_version_req`](crate::req::wildcard_version_req) makes: any version.
+pub fn star_is_any_version()
+    ensures { StarIsAnyVersion }
 {}

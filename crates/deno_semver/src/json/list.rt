@@ -11,6 +11,7 @@ ghost use Rattle.deno_semver.specs.StoredList.{AreEqualLists, IsJsonOfReqs, IsLo
 use super::JsonForm;
 use super::error::JsonError;
 use super::object::items_json;
+use crate::laws::stored_requirements_are_read_again;
 use crate::package::PackageReq;
 use serde_json::Value;
 use std::alloc::{AllocError, Global};
@@ -34,6 +35,7 @@ pub fn reqs_to_json(alloc: Global, reqs: &[PackageReq]) -> Result<Value, AllocEr
     ensures settled { IfOk result (λ json. All IsSettledReq reqs.now
         → StandsForEqualList (view json) reqs.now) }
 {
+    stored_requirements_are_read_again();
     stored(alloc, reqs)
 }
 

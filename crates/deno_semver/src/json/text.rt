@@ -22,11 +22,13 @@ ghost use Rattle.deno_semver.specs.declared.package.kind.PackageKind.TheVariants
 use super::JsonForm;
 use super::error::JsonError;
 use crate::jsr::{JsrDepPackageReq, JsrPackageNvReference};
+use crate::laws::stored_requirements_are_read_again;
 use crate::npm::NpmPackageNvReference;
 use crate::package::{PackageNv, PackageReq, normal_req_text};
 use semver_base::range::VersionBoundKind;
 use semver_base::string::{SmallStackString, StackString, displayed};
 use semver_base::version::Version;
+use semver_req::laws::texts_have_one_outcome;
 use semver_req::range_set_or_tag::RangeSetOrTag;
 use serde_json::Value;
 use std::alloc::{AllocError, Global};
@@ -154,6 +156,7 @@ impl TextForm for RangeSetOrTag {
     ghost reads = { IsTextOfInner };
 
     fn of_text(alloc: Global, text: &str) -> Result<Self, JsonError> {
+        texts_have_one_outcome();
         match RangeSetOrTag::parse(alloc, text) {
             Ok(inner) => Ok(inner),
             Err(failure) => Err(JsonError::of_reader(failure.is_memory())),
@@ -269,6 +272,7 @@ impl JsonForm for PackageReq {
         ensures read_again { IfOk result (λ json. (text : List ℕ) → IsUtf8 text
             → IsPackageOutcome Npm text (Ok self.now) → IsStoredReq self.now (view json)) }
     {
+        stored_requirements_are_read_again();
         stored(alloc, self)
     }
 
@@ -322,6 +326,7 @@ impl JsonForm for JsrDepPackageReq {
         ensures read_again { IfOk result (λ json. (text : List ℕ) → IsUtf8 text
             → IsDependencyOutcome Npm text (Ok self.now) → IsStoredDependency self.now (view json)) }
     {
+        stored_requirements_are_read_again();
         let normal = self.to_string_normalized(alloc)?;
         string_of(alloc, &normal)
     }

@@ -1,10 +1,10 @@
 //! How names with versions are read.
 
-ghost use Rattle.std.specs.Prelude.{◌≡◌, ◌↔◌, ◌⊎◌, [], IfErr, IfOk, IsTrue, List, MatchOption, Ok, Result, length, ℕ};
-ghost use Rattle.std.specs.List.{take_while};
+ghost use Rattle.std.specs.Prelude.{◌≡◌, ◌↔◌, ◌⊎◌, [], IfErr, IfOk, IsTrue, List, MatchOption, Ok, Result, length, true, ℕ};
+ghost use Rattle.std.specs.List.{list_all, take_while};
 ghost use Rattle.semver_base.specs.Characters.{at_sign};
 ghost use Rattle.semver_base.specs.Grammar.{CutsRun};
-ghost use Rattle.semver_base.specs.VersionText.{ReadsBack};
+ghost use Rattle.semver_base.specs.VersionText.{ReadsBack, version_text};
 ghost use Rattle.semver_base.specs.declared.failure.Refusal.{Refusal};
 ghost use Rattle.semver_base.specs.declared.failure.Refusal.TheVariants.{UnexpectedCharacter};
 ghost use Rattle.semver_req.specs.Readers.{IsReadOrTag};
@@ -17,6 +17,7 @@ ghost use Rattle.deno_semver.specs.declared.package.values.PackageNv.{PackageNv}
 
 use super::values::{PackageName, PackageNv, PackageReq};
 use semver_base::failure::Refusal;
+use semver_base::laws::version_texts_are_plain;
 use semver_base::lexical::after;
 use semver_base::npm::NpmVersionParseError;
 use semver_base::string::{SmallStackString, StackString};
@@ -183,10 +184,13 @@ pub(crate) fn nv_at_front<'a>(
 ) -> Result<(PackageNv, &'a str), PackageNvParseError>
     ensures read { IfOk result (λ r. IsNvFront text.now (Ok (r.0, r.1.now))) }
     ensures reads_back { IfOk result (λ r. ReadsBack r.0.version) }
+    ensures plain { IfOk result
+        (λ r. list_all is_version_byte (version_text r.0.version) ≡ true) }
     ensures refused { IfErr result (IsFrontRefusal text.now whole.now) }
     ensures answer { (outcome : Result (PackageNv × List ℕ) Refusal) → IsNvFront text.now outcome
         → IsFrontAnswer whole.now outcome result }
 {
+    version_texts_are_plain();
     let Some(parts) = cut(text) else {
         return Err(unexpected(alloc, whole));
     };

@@ -15,6 +15,7 @@ use super::values::{PackageName, PackageReq};
 use semver_base::failure::ParseFailure;
 use semver_base::string::StackString;
 use semver_req::common::values::Flavour;
+use semver_req::laws::texts_have_one_outcome;
 use semver_req::req::{VersionReq, wildcard_version_req};
 use semver_req::specifier::VersionReqSpecifierParseError;
 use std::alloc::{AllocError, Global};
@@ -187,6 +188,7 @@ pub(crate) fn package_req(
     ensures answer { (outcome : Result PackageReq Fault) → IsPackageOutcome flavour text.now outcome
         → IsPackageAnswer flavour text.now outcome result }
 {
+    texts_have_one_outcome();
     match read(alloc, text, flavour) {
         Ok(req) => Ok(req),
         Err(source) => Err(whole_error(alloc, text, source)),

@@ -18,6 +18,7 @@ use super::sub_path::copied_sub_path;
 use super::values::{PackageReq, PackageSubPath};
 use semver_base::string::{StackString, StringAppendable, StringType, append_displayed};
 use semver_req::common::values::Flavour;
+use semver_req::laws::{star_is_any_version, texts_have_one_outcome};
 use std::alloc::{AllocError, Global};
 use std::fmt;
 
@@ -169,6 +170,8 @@ impl PackageReqReference {
             → IsReferenceOutcome kind text.now outcome
             → IsReferenceAnswer kind text.now outcome result }
     {
+        texts_have_one_outcome();
+        star_is_any_version();
         let Some(body) = kind.after_scheme(text) else {
             return Err(PackageReqReferenceParseError::NotExpectedScheme(kind));
         };

@@ -7,7 +7,7 @@ use Rattle.deno_semver.proofs.json.list.reqs_to_json.Goals as goal
 pub returns-clause-read_again : goal.returns-clause-read_again
 returns-clause-read_again c =
     let reqs = c.args.reqs.now in
-    IfOk-weaker c.stored.result _ _ (λ json is h. subst (IsStoredList reqs) (sym is) (loose_list reqs h)) c.stored.ensures
+    IfOk-weaker c.stored.result _ _ (λ json is h. subst (IsStoredList reqs) (sym is) (loose_list c.stored_requirements_are_read_again.ensures reqs h)) c.stored.ensures
 
 pub returns-clause-settled : goal.returns-clause-settled
 returns-clause-settled c =

@@ -1,5 +1,6 @@
 use Rattle.std.proofs.Common.{refl}
 use Rattle.deno_semver.proofs.NameAndVersion.{read_answer, reads, refused_answer, tells_uncut, tells_version, uncut_answer}
+use Rattle.deno_semver.proofs.NvText.{version_passes}
 use Rattle.deno_semver.proofs.package.name_version.nv_at_front.Goals as goal
 
 pub returns-in_default-clause-refused : goal.returns-in_default-clause-refused
@@ -20,3 +21,6 @@ returns-in-Ok-from_str-clause-read c = reads c.in-Some.ensures c.in-Ok-from_str.
 pub returns-in-Ok-from_str-clause-answer : goal.returns-in-Ok-from_str-clause-answer
 returns-in-Ok-from_str-clause-answer c =
     read_answer (λ e. e.source) c.in-Some.ensures c.args.whole.now c.in-Ok.version c.in-Ok.ensures.answer c.in-Ok-from_str.ensures.value c.in-Some.parts.rest refl
+
+pub returns-in-Ok-from_str-clause-plain : goal.returns-in-Ok-from_str-clause-plain
+returns-in-Ok-from_str-clause-plain c = version_passes c.version_texts_are_plain.ensures _ c.in-Ok.version c.in-Ok.ensures.read

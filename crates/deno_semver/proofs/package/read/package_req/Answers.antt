@@ -6,10 +6,10 @@ pub returns-in-Ok-clause-read : goal.returns-in-Ok-clause-read
 returns-in-Ok-clause-read c = is_package c.in-Ok.ensures
 
 pub returns-in-Ok-clause-answer : goal.returns-in-Ok-clause-answer
-returns-in-Ok-clause-answer c = read_answer c.in-Ok.req c.in-Ok.ensures
+returns-in-Ok-clause-answer c = read_answer c.texts_have_one_outcome.ensures c.in-Ok.req c.in-Ok.ensures
 
 pub returns-in-Err-clause-refused : goal.returns-in-Err-clause-refused
-returns-in-Err-clause-refused c = refused c.in-Err.source c.whole_error.result c.in-Err.ensures c.whole_error.ensures
+returns-in-Err-clause-refused c = refused c.texts_have_one_outcome.ensures c.in-Err.source c.whole_error.result c.in-Err.ensures c.whole_error.ensures
 
 pub returns-in-Err-clause-answer : goal.returns-in-Err-clause-answer
-returns-in-Err-clause-answer c = refused_answer c.in-Err.source c.whole_error.result c.in-Err.ensures c.whole_error.ensures
+returns-in-Err-clause-answer c = refused_answer c.texts_have_one_outcome.ensures c.in-Err.source c.whole_error.result c.in-Err.ensures c.whole_error.ensures

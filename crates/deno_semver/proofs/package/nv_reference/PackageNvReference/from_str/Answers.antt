@@ -17,7 +17,7 @@ pub returns-in-Ok-with_rest-clause-read : goal.returns-in-Ok-with_rest-clause-re
 returns-in-Ok-with_rest-clause-read c = reads c.in-Some.body.now c.in-Some.ensures c.in-Ok-with_rest.reference (rw c.without_slash.ensures at c.in-Ok.ensures.read) c.in-Ok-with_rest.ensures
 
 pub returns-in-Ok-with_rest-clause-reads_back : goal.returns-in-Ok-with_rest-clause-reads_back
-returns-in-Ok-with_rest-clause-reads_back c = reads_back c.args.kind c.in-Ok-with_rest.reference c.in-Ok.ensures.read c.in-Ok.ensures.reads_back c.in-Ok-with_rest.ensures.0
+returns-in-Ok-with_rest-clause-reads_back c = reads_back c.args.kind c.in-Ok-with_rest.reference c.in-Ok.ensures.read c.in-Ok.ensures.plain c.in-Ok.ensures.reads_back c.in-Ok-with_rest.ensures.0
 
 pub returns-in-Ok-with_rest-clause-answer : goal.returns-in-Ok-with_rest-clause-answer
 returns-in-Ok-with_rest-clause-answer c =

@@ -8,25 +8,25 @@ pub returns-in_default-clause-refused : goal.returns-in_default-clause-refused
 returns-in_default-clause-refused c = inr (OtherScheme, other_scheme c.in_default.ensures, refl)
 
 pub returns-in_default-clause-answer : goal.returns-in_default-clause-answer
-returns-in_default-clause-answer c = refused_answer (inr (OtherScheme, other_scheme c.in_default.ensures, refl))
+returns-in_default-clause-answer c = refused_answer c.texts_have_one_outcome.ensures (inr (OtherScheme, other_scheme c.in_default.ensures, refl))
 
 pub returns-in-Err-clause-refused : goal.returns-in-Err-clause-refused
 returns-in-Err-clause-refused c = refused_text c.in-Some.ensures c.in-Err.ensures c.invalid.ensures
 
 pub returns-in-Err-clause-answer : goal.returns-in-Err-clause-answer
-returns-in-Err-clause-answer c = refused_answer (refused_text c.in-Some.ensures c.in-Err.ensures c.invalid.ensures)
+returns-in-Err-clause-answer c = refused_answer c.texts_have_one_outcome.ensures (refused_text c.in-Some.ensures c.in-Err.ensures c.invalid.ensures)
 
 pub returns-in-Some-version_in_path-clause-refused : goal.returns-in-Some-version_in_path-clause-refused
 returns-in-Some-version_in_path-clause-refused c = refused_version c.in-Some.ensures c.in-Ok.ensures c.in-Some-version_in_path.ensures c.told.ensures
 
 pub returns-in-Some-version_in_path-clause-answer : goal.returns-in-Some-version_in_path-clause-answer
-returns-in-Some-version_in_path-clause-answer c = refused_answer (refused_version c.in-Some.ensures c.in-Ok.ensures c.in-Some-version_in_path.ensures c.told.ensures)
+returns-in-Some-version_in_path-clause-answer c = refused_answer c.texts_have_one_outcome.ensures (refused_version c.in-Some.ensures c.in-Ok.ensures c.in-Some-version_in_path.ensures c.told.ensures)
 
 pub returns-clause-read : goal.returns-clause-read
 returns-clause-read c = is_reference c.in-Some.ensures c.in-Ok.ensures c.in_default-version_in_path.ensures
 
 pub returns-clause-answer : goal.returns-clause-answer
-returns-clause-answer c = read_answer c.in-Ok.reference (is_reference c.in-Some.ensures c.in-Ok.ensures c.in_default-version_in_path.ensures)
+returns-clause-answer c = read_answer c.texts_have_one_outcome.ensures c.in-Ok.reference (is_reference c.in-Some.ensures c.in-Ok.ensures c.in_default-version_in_path.ensures)
 
 pub returns-clause-reads_back : goal.returns-clause-reads_back
-returns-clause-reads_back c = reads_back c.args.kind c.in-Ok.reference c.in-Ok.ensures c.in_default-version_in_path.ensures
+returns-clause-reads_back c = reads_back c.texts_have_one_outcome.ensures c.star_is_any_version.ensures c.args.kind c.in-Ok.reference c.in-Ok.ensures c.in_default-version_in_path.ensures

@@ -26,7 +26,7 @@ pub returns-clause-read : goal.returns-clause-read
 returns-clause-read c = whole_read c.in-Ok.ensures.read (none_left _ _ c.is_empty.ensures c.if-not-is_empty.false)
 
 pub returns-clause-reads_back : goal.returns-clause-reads_back
-returns-clause-reads_back c = reads_back c.in-Ok.ensures.read c.in-Ok.ensures.reads_back
+returns-clause-reads_back c = reads_back c.in-Ok.ensures.read c.in-Ok.ensures.plain c.in-Ok.ensures.reads_back
 
 pub returns-clause-answer : goal.returns-clause-answer
 returns-clause-answer c = whole_answer c.in-Ok.ensures.answer (none_left _ _ c.is_empty.ensures c.if-not-is_empty.false)
