@@ -33,7 +33,8 @@ IsMeaningOf f flag followed text (meaning.LeftOut refusal) = IsPieceRead f follo
 
 -- the piece as it is written, with what is read of it
 abbrev pub IsExplainedPiece : Flavour → PreRelease → Bool → List ℕ → Piece → Type 0
-IsExplainedPiece f flag followed text piece = (string_bytes piece.text ≡ text) × IsMeaningOf f flag followed text piece.meaning
+IsExplainedPiece f flag followed text piece = (string_bytes piece.text ≡ text)
+    × IsMeaningOf f flag followed text piece.meaning
 
 -- so are all of them, of which the first is followed by `||` or not
 abbrev pub AreAllExplained : Flavour → PreRelease → Bool → List (List ℕ) → List Piece → Type 0
@@ -44,7 +45,8 @@ AreAllExplained f flag followed [] (piece ∷ pieces) = ⊥
 AreAllExplained f flag followed (text ∷ texts) [] = ⊥
 
 -- the first piece, and those of what follows its `||`
-pub record AreExplainedFrom (f : Flavour) (flag : PreRelease) (first : List ℕ) (followed : Bool) (rest : List ℕ) (pieces : List Piece) :
+pub record AreExplainedFrom
+    (f : Flavour) (flag : PreRelease) (first : List ℕ) (followed : Bool) (rest : List ℕ) (pieces : List Piece) :
     Type 0 where
   pub others : List (List ℕ)
   pub more : AreMorePieces rest others
@@ -64,7 +66,8 @@ IsWholeText flag text range piece = (string_bytes piece.text ≡ text) × IsLeas
 -- the whole text, for each of these ranges
 abbrev pub AreWholeTexts : PreRelease → List ℕ → List VersionRange → List Piece → Type 0
 AreWholeTexts flag text [] [] = Unit {0}
-AreWholeTexts flag text (range ∷ ranges) (piece ∷ pieces) = IsWholeText flag text range piece × AreWholeTexts flag text ranges pieces
+AreWholeTexts flag text (range ∷ ranges) (piece ∷ pieces) = IsWholeText flag text range piece
+    × AreWholeTexts flag text ranges pieces
 AreWholeTexts flag text [] (piece ∷ pieces) = ⊥
 AreWholeTexts flag text (range ∷ ranges) [] = ⊥
 

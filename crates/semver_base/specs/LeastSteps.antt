@@ -1,6 +1,6 @@
--- The versions among which the least one that ranges mean is found. Of a range and a start these are three by npm's rule
--- about pre-releases: the least release above the start, and the least pre-release above it of the numbers of either bound
--- of the range. With pre-releases admitted it is one: the least version above the start.
+-- The versions among which the least one that ranges mean is found. Of a range and a start these are three by npm's
+-- rule about pre-releases: the least release above the start, and the least pre-release above it of the numbers of
+-- either bound of the range. With pre-releases admitted it is one: the least version above the start.
 use Rattle.std.specs.Prelude.{ℕ, List, [], ◌∷◌, ◌++◌, ◌+◌, Bool, Option, Some, None, if◌then◌else◌}
 use Rattle.std.specs.List.{fold}
 use Rattle.std.specs.Ordering.{nat_cmp, on, then_cmp}
@@ -121,8 +121,8 @@ abbrev pub kept_if : (Version → Bool) → Option Version → Option Version
 kept_if test None = None
 kept_if test (Some v) = if test v then Some v else None
 
--- of those that pass the test, the least of three: the least above the start that no bound has to admit, and the least that
--- either bound of the range has to
+-- of those that pass the test, the least of three: the least above the start that no bound has to admit, and the least
+-- that either bound of the range has to
 abbrev pub least_from : PreRelease → (Version → Bool) → VersionRange → RangeBound → Option Version
 least_from flag test range start = lesser (kept_if test (least_free flag start))
     (lesser (kept_if test (least_admitted flag start range.start)) (kept_if test (least_admitted flag start range.end)))
@@ -158,15 +158,19 @@ least_outside flag range others = least_after flag range others others
 -- ---- the least version that a set and all of others mean
 
 -- what is found from the starts of these ranges, and of the ranges of these sets
-abbrev pub least_by_starts : PreRelease → (Version → Bool) → VersionRange → Option Version → List VersionRange → Option Version
-least_by_starts flag test range least ranges = fold (λ least other. lesser least (least_from flag test range other.start)) least ranges
+abbrev pub least_by_starts : PreRelease → (Version → Bool) → VersionRange
+    → Option Version → List VersionRange → Option Version
+least_by_starts flag test range least ranges =
+    fold (λ least other. lesser least (least_from flag test range other.start)) least ranges
 
-abbrev pub least_by_sets : PreRelease → (Version → Bool) → VersionRange → Option Version → List VersionRangeSet → Option Version
+abbrev pub least_by_sets : PreRelease → (Version → Bool) → VersionRange
+    → Option Version → List VersionRangeSet → Option Version
 least_by_sets flag test range least sets =
     fold (λ least (set : VersionRangeSet). least_by_starts flag test range least set.0) least sets
 
 -- for one range of the set, and over some of them
-abbrev pub least_for : PreRelease → List VersionRange → List VersionRangeSet → Option Version → VersionRange → Option Version
+abbrev pub least_for : PreRelease → List VersionRange → List VersionRangeSet
+    → Option Version → VersionRange → Option Version
 least_for flag own others least range = least_by_sets flag (all_mean_with flag own others) range
     (least_by_starts flag (all_mean_with flag own others) range least own) others
 

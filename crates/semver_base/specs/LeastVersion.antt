@@ -47,7 +47,8 @@ sets_mean_with flag some others v = set_means_with flag some v && set_means_with
 
 -- the set means the version, and so do all of the others
 abbrev pub all_mean_with : PreRelease → List VersionRange → List VersionRangeSet → Version → Bool
-all_mean_with flag own others v = set_means_with flag own v && list_all (λ (other : VersionRangeSet). set_means_with flag other.0 v) others
+all_mean_with flag own others v = set_means_with flag own v
+    && list_all (λ (other : VersionRangeSet). set_means_with flag other.0 v) others
 
 -- the range means the version, and no range of the set does
 abbrev pub means_alone_with : PreRelease → VersionRange → List VersionRange → Version → Bool

@@ -78,7 +78,8 @@ have_no_tag requirements = list_all (λ (req : Requirement). is_no_tag req.inner
 
 -- the first requirement and all others match the version
 abbrev pub all_inners_mean_with : PreRelease → RangeSetOrTag → List Requirement → Version → Bool
-all_inners_mean_with flag own others v = inner_means_with flag own v && list_all (λ (other : Requirement). inner_means_with flag other.inner v) others
+all_inners_mean_with flag own others v = inner_means_with flag own v
+    && list_all (λ (other : Requirement). inner_means_with flag other.inner v) others
 
 abbrev pub all_inners_mean : RangeSetOrTag → List Requirement → Version → Bool
 all_inners_mean own others v = all_inners_mean_with Restricted own others v
