@@ -61,42 +61,36 @@ fn versions<'a>(alloc: Global) -> Arg<'a> {
         .help("A version; where none is given they are read from standard input, one a line")
 }
 
+// A command, with the options of all: also those that have no part in what it answers.
 fn command<'a>(alloc: Global, name: &'a str, about: &'a str) -> Result<Command<'a>, AllocError> {
-    Command::new(alloc, name)
-        .about(about)
-        .version(VERSION)
-        .arg(flag(alloc, "json", "Print JSON"))
-}
-
-// A command that reads requirements.
-fn asking<'a>(alloc: Global, name: &'a str, about: &'a str) -> Result<Command<'a>, AllocError> {
     let reader = Arg::new(alloc, "reader")
         .long("reader")
         .value_name("READER")
         .value_parser(READERS.as_slice())
         .default_value("npm")
         .help("The reader of requirements");
-    command(alloc, name, about)?.arg(reader)
-}
-
-// A command that asks what requirements match.
-fn weighing<'a>(alloc: Global, name: &'a str, about: &'a str) -> Result<Command<'a>, AllocError> {
-    asking(alloc, name, about)?.arg(flag(
+    let pre = flag(
         alloc,
         "pre",
         "Let every pre-release between the bounds match",
-    ))
+    );
+    Command::new(alloc, name)
+        .about(about)
+        .version(VERSION)
+        .arg(flag(alloc, "json", "Print JSON"))?
+        .arg(reader)?
+        .arg(pre)
 }
 
 // A command that matches versions with a requirement.
 fn matching<'a>(alloc: Global, name: &'a str, about: &'a str) -> Result<Command<'a>, AllocError> {
-    weighing(alloc, name, about)?
+    command(alloc, name, about)?
         .arg(word(alloc, "REQ", "The requirement"))?
         .arg(versions(alloc))
 }
 
 fn explain<'a>(alloc: Global) -> Result<Command<'a>, AllocError> {
-    weighing(
+    command(
         alloc,
         "explain",
         "Tell what the reader makes of a requirement",
@@ -118,7 +112,7 @@ fn common<'a>(alloc: Global) -> Result<Command<'a>, AllocError> {
     let requirements = word(alloc, "REQ", "The requirements, two or more")
         .num_args(2..)
         .action(ArgAction::Append);
-    weighing(
+    command(
         alloc,
         "common",
         "Print the least version that suits all requirements",
@@ -127,7 +121,7 @@ fn common<'a>(alloc: Global) -> Result<Command<'a>, AllocError> {
 }
 
 fn within<'a>(alloc: Global) -> Result<Command<'a>, AllocError> {
-    weighing(
+    command(
         alloc,
         "within",
         "Tell whether OLD allows each version that NEW allows",
@@ -137,7 +131,7 @@ fn within<'a>(alloc: Global) -> Result<Command<'a>, AllocError> {
 }
 
 fn package<'a>(alloc: Global) -> Result<Command<'a>, AllocError> {
-    asking(
+    command(
         alloc,
         "package",
         "Print the parts of a requirement of a package",
