@@ -167,7 +167,8 @@ abbrev pub NormalTextsHoldNoSeparator : Type 0
 NormalTextsHoldNoSeparator = (ranges : List VersionRange) → IsReadSet ranges → HoldsNoSeparator (set_text ranges)
 
 abbrev pub TagsHoldNoSeparator : Type 0
-TagsHoldNoSeparator = (f : Flavour) (text t : List ℕ) → IsUtf8 text → StartsFit f text → IsOutcome f text (Tag t) → HoldsNoSeparator t
+TagsHoldNoSeparator = (f : Flavour) (text t : List ℕ) → IsUtf8 text → StartsFit f text
+    → IsOutcome f text (Tag t) → HoldsNoSeparator t
 
 -- each reader takes `*` for any version
 abbrev pub StarIsAnyVersion : Type 0
