@@ -1,5 +1,5 @@
 -- Requirements with the same ranges in any order, and that they have one least version.
-use Rattle.std.specs.Prelude.{◌≡◌, ℕ, List, [], ◌∷◌, Bool, Option, IsPermutation, map}
+use Rattle.std.specs.Prelude.{◌≡◌, List, [], ◌∷◌, Bool, Option, IsPermutation, map}
 use Rattle.semver_base.specs.LeastVersion.{IsOnlyLeast}
 use Rattle.semver_base.specs.declared.version.Version.{Version}
 use Rattle.semver_req.specs.Requirement.{Requirement, all_inners_mean}
