@@ -7,8 +7,9 @@ use Rattle.callers.specs.Allowance.{allowance_of, yes_or_no}
 use Rattle.callers.specs.References.{AllowsReference, IsPartOf}
 use Rattle.callers.specs.declared.packages.UnansweredReference.TheVariants as why
 use Rattle.semver_base.specs.Comparators.{Comparator}
-use Rattle.semver_base.specs.VersionGrammar.{IsVersionOutcome}
+use Rattle.semver_base.specs.VersionGrammar.{IsVersionAnswer, IsVersionOutcome, IsVersionRefusal}
 use Rattle.semver_base.specs.declared.failure.Refusal.{Refusal}
+use Rattle.semver_base.specs.declared.npm.NpmVersionParseError.{NpmVersionParseError}
 use Rattle.semver_base.specs.declared.range.PreRelease.TheVariants.{Restricted}
 use Rattle.semver_base.specs.declared.version.Version.{Version}
 use Rattle.semver_req.specs.KeptSet.{KeptSetsMeanTheirTrees, kept}
@@ -78,6 +79,22 @@ module _ (kind : PackageKind) (text : List ℕ) where
       no_reference = λ fault h. answers (Err fault) h;
       no_version = λ reference fault h k. inl (answers (Ok reference) h);
       refusal = refusal;
+    }
+
+    -- it is one, and the other no version
+    pub version_refused : (reference : PackageReqReference) → IsReferenceOutcome kind text (Ok reference)
+        → ((o : Result PackageReqReference ReferenceFault) → IsReferenceOutcome kind text o → IsReferenceAnswer kind text o (Ok reference))
+        → (e : NpmVersionParseError) → IsVersionRefusal (trim version) e.source
+        → ((o : Result Version Refusal) → IsVersionOutcome (trim version) o → IsVersionAnswer (λ (error : NpmVersionParseError). error.source) (trim version) o (Err e))
+        → AllowsReference kind text version (Err (why.Version e))
+    version_refused reference is answers e refusal versions = record {
+      told = tt;
+      answer = λ _ v h k. versions (Ok v) k;
+      tree = λ part tree v p t k. versions (Ok v) k;
+      tag = λ part name v p t k. versions (Ok v) k;
+      no_reference = λ fault h. absurd (answers (Err fault) h);
+      no_version = λ _ fault h k. versions (Err fault) k;
+      refusal = (refusal, reference, is);
     }
 
     -- both were read

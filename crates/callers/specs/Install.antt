@@ -37,14 +37,17 @@ IsInstalledOf (Tag text) versions told = told ≡ installed.Tag
 IsInstalledOf Refused versions told = ⊥
 
 -- what is told of a text and versions; source is the failure in the error
-pub record IsInstallation {E : Type 0} (source : E → Failure) (f : Flavour) (text : List ℕ) (versions : List Version) (result : Result Installed E) : Type 0 where
+pub record IsInstallation {E : Type 0} (source : E → Failure) (f : Flavour) (text : List ℕ) (versions : List Version)
+    (result : Result Installed E) : Type 0 where
   -- an answer is that of some outcome of the text
   pub told : IfOk result (λ told. (o : Outcome) × IsOutcome f text o × IsInstalledOf o versions told)
   -- for every tree of the text it is the greatest version that the tree means, want of memory aside
   pub ranges : (tree : List (List Comparator)) → IsOutcome f text (Ranges tree)
-      → MatchResult result (λ told. TellsGreatest (λ v. tree_means (tree_ranges tree) v) versions told) (λ e. source e ≡ None)
+      → MatchResult result (λ told. TellsGreatest (λ v. tree_means (tree_ranges tree) v) versions told)
+      (λ e. source e ≡ None)
   -- a tag is told as one, want of memory aside
-  pub tag : (name : List ℕ) → IsOutcome f text (Tag name) → MatchResult result (λ told. told ≡ installed.Tag) (λ e. source e ≡ None)
+  pub tag : (name : List ℕ) → IsOutcome f text (Tag name)
+      → MatchResult result (λ told. told ≡ installed.Tag) (λ e. source e ≡ None)
   -- a text is refused where that is its outcome, and nowhere else, want of memory aside
   pub refused : IsOutcome f text Refused → IsErr result
   pub refused_only : IfErr result (λ e. (source e ≡ None) ⊎ IsOutcome f text Refused)

@@ -20,8 +20,8 @@ Locks Says result = MatchResult result Says (λ e. e ≡ error.Memory)
 abbrev pub OfLoose : PackageReq → Type 0 → Type 0
 OfLoose req Says = (text : List ℕ) → IsUtf8 text → IsPackageOutcome Npm text (Ok req) → Says
 
--- what is read again of a list: of each requirement one with the same name, which keeps what that one means, and is settled;
--- all in ascending order
+-- what is read again of a list: of each requirement one with the same name, which keeps what that one means, and is
+-- settled; all in ascending order
 pub record IsLockedList (reqs again : List PackageReq) : Type 0 where
   pub kept : List PackageReq
   pub are_kept : OneByOne IsKeptReq reqs kept

@@ -24,18 +24,21 @@ IsWant (why.Version error) = error.source ≡ None
 -- the text is no package, or the other no version
 abbrev pub IsNoPackageOrVersion : Flavour → List ℕ → List ℕ → Type 0
 IsNoPackageOrVersion f text version =
-    ((fault : Fault) × IsPackageOutcome f text (Err fault)) ⊎ ((fault : Refusal) × IsVersionOutcome (trim version) (Err fault))
+    ((fault : Fault) × IsPackageOutcome f text (Err fault))
+    ⊎ ((fault : Refusal) × IsVersionOutcome (trim version) (Err fault))
 
 pub record AllowsPackage (f : Flavour) (text version : List ℕ) (result : Result Allowance Unanswered) : Type 0 where
   -- an answer is that of the requirement and the version that the texts are
   pub told : IfOk result (λ allowance. (req : PackageReq) × (v : Version) × IsPackageOutcome f text (Ok req)
       × IsVersionOutcome (trim version) (Ok v) × (allowance ≡ allowance_of req.version_req.inner v))
   -- it is that for every requirement and version that they are, want of memory aside
-  pub answer : (req : PackageReq) (v : Version) → IsPackageOutcome f text (Ok req) → IsVersionOutcome (trim version) (Ok v)
+  pub answer : (req : PackageReq) (v : Version) → IsPackageOutcome f text (Ok req)
+      → IsVersionOutcome (trim version) (Ok v)
       → MatchResult result (λ allowance. allowance ≡ allowance_of req.version_req.inner v) IsWant
   -- for every tree of the requirement's part it is yes exactly where the tree means the version, want of memory aside
   pub tree : (cut : PackageParts) (part : List ℕ) (tree : List (List Comparator)) (v : Version) → IsPackageText text cut
-      → cut.version ≡ Some part → length cut.path ≡ 0 → IsOutcome f part (Ranges tree) → IsVersionOutcome (trim version) (Ok v)
+      → cut.version ≡ Some part → length cut.path ≡ 0 → IsOutcome f part (Ranges tree)
+      → IsVersionOutcome (trim version) (Ok v)
       → MatchResult result (λ allowance. allowance ≡ yes_or_no (tree_means (tree_ranges tree) v)) IsWant
   -- there is no answer where either is refused, and nowhere else, want of memory aside
   pub refused : IsNoPackageOrVersion f text version → IsErr result

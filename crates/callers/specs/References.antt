@@ -27,10 +27,13 @@ abbrev pub IsReferenceWant : UnansweredReference → Type 0
 IsReferenceWant (why.Reference error) = unboxed error ≡ Memory
 IsReferenceWant (why.Version error) = error.source ≡ None
 
--- why there is no answer: the refusal of either text, or want of memory
+-- why there is no answer: the refusal of the reference's text, or where that is a reference of the version's, or want
+-- of memory
 abbrev pub IsWhy : PackageKind → List ℕ → List ℕ → UnansweredReference → Type 0
 IsWhy kind text version (why.Reference error) = IsReferenceRefusal kind text error
-IsWhy kind text version (why.Version error) = IsVersionRefusal (trim version) error.source
+IsWhy kind text version (why.Version error) =
+    IsVersionRefusal (trim version) error.source × (reference : PackageReqReference)
+    × IsReferenceOutcome kind text (Ok reference)
 
 -- the fault of the reference's text is told
 abbrev pub TellsOfReference : PackageKind → List ℕ → ReferenceFault → UnansweredReference → Type 0
@@ -51,23 +54,29 @@ pub record IsPartOf (kind : PackageKind) (text part : List ℕ) : Type 0 where
   pub is_part : cut.version ≡ Some part
   pub no_version_in_path : part ≡ codes "*" → list_all (is_not at_sign) cut.path ≡ true
 
-pub record AllowsReference (kind : PackageKind) (text version : List ℕ) (result : Result Allowance UnansweredReference) : Type 0 where
+pub record AllowsReference (kind : PackageKind) (text version : List ℕ) (result : Result Allowance UnansweredReference)
+    : Type 0 where
   -- an answer is that of the reference and the version that the texts are
-  pub told : IfOk result (λ allowance. (reference : PackageReqReference) × (v : Version) × IsReferenceOutcome kind text (Ok reference)
-      × IsVersionOutcome (trim version) (Ok v) × (allowance ≡ allowance_of reference.req.version_req.inner v))
+  pub told : IfOk result (λ allowance. (reference : PackageReqReference) × (v : Version)
+      × IsReferenceOutcome kind text (Ok reference) × IsVersionOutcome (trim version) (Ok v)
+      × (allowance ≡ allowance_of reference.req.version_req.inner v))
   -- it is that for every reference and version that they are, want of memory aside
-  pub answer : (reference : PackageReqReference) (v : Version) → IsReferenceOutcome kind text (Ok reference) → IsVersionOutcome (trim version) (Ok v)
+  pub answer : (reference : PackageReqReference) (v : Version) → IsReferenceOutcome kind text (Ok reference)
+      → IsVersionOutcome (trim version) (Ok v)
       → MatchResult result (λ allowance. allowance ≡ allowance_of reference.req.version_req.inner v) IsReferenceWant
   -- for every tree of the requirement's part it is yes exactly where the tree means the version, want of memory aside
-  pub tree : (part : List ℕ) (tree : List (List Comparator)) (v : Version) → IsPartOf kind text part → IsOutcome Specifier part (Ranges tree)
-      → IsVersionOutcome (trim version) (Ok v) → MatchResult result (λ allowance. allowance ≡ yes_or_no (tree_means (tree_ranges tree) v)) IsReferenceWant
+  pub tree : (part : List ℕ) (tree : List (List Comparator)) (v : Version) → IsPartOf kind text part
+      → IsOutcome Specifier part (Ranges tree) → IsVersionOutcome (trim version) (Ok v)
+      → MatchResult result (λ allowance. allowance ≡ yes_or_no (tree_means (tree_ranges tree) v)) IsReferenceWant
   -- a tag is told as one, want of memory aside
   pub tag : (part name : List ℕ) (v : Version) → IsPartOf kind text part → IsOutcome Specifier part (Tag name)
-      → IsVersionOutcome (trim version) (Ok v) → MatchResult result (λ allowance. allowance ≡ allowance_is.Tag) IsReferenceWant
+      → IsVersionOutcome (trim version) (Ok v)
+      → MatchResult result (λ allowance. allowance ≡ allowance_is.Tag) IsReferenceWant
   -- the fault of a text that is no reference is told, and of a reference's version that is none, want of memory aside
   pub no_reference : (fault : ReferenceFault) → IsReferenceOutcome kind text (Err fault)
       → IsErrAnd result (λ e. IsReferenceWant e ⊎ TellsOfReference kind text fault e)
-  pub no_version : (reference : PackageReqReference) (fault : Refusal) → IsReferenceOutcome kind text (Ok reference) → IsVersionOutcome (trim version) (Err fault)
+  pub no_version : (reference : PackageReqReference) (fault : Refusal) → IsReferenceOutcome kind text (Ok reference)
+      → IsVersionOutcome (trim version) (Err fault)
       → IsErrAnd result (λ e. IsReferenceWant e ⊎ TellsOfVersion (trim version) fault e)
   -- nothing else is told
   pub refusal : IfErr result (IsWhy kind text version)

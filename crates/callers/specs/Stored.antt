@@ -46,7 +46,8 @@ pub record IsReadAgain (ranges : List VersionRange) (read : RangeSetOrTag) : Typ
   pub is_ranges : read ≡ inner.RangeSet (record { 0 = again })
   pub read_set : IsReadSet again
   -- it means the same where each range keeps its meaning
-  pub means : list_all keeps_meaning ranges ≡ true → (v : Version) → tree_means (alternatives again) v ≡ tree_means (alternatives ranges) v
+  pub means : list_all keeps_meaning ranges ≡ true → (v : Version)
+      → tree_means (alternatives again) v ≡ tree_means (alternatives ranges) v
   -- it is the same where each range is orderly too
   pub equal : list_all is_orderly ranges ≡ true → list_all keeps_meaning ranges ≡ true → again ≡ ranges
   -- it is settled, and what was settled stays as it is
@@ -59,10 +60,11 @@ IsReread source result ranges = Answers source (λ req. IsReadAgain ranges req.i
 
 -- what is read again of such ranges, and what is read again of that, which is the same, want of memory aside
 abbrev pub IsRereadTwice : {E : Type 0} → (E → Failure) → Result Reread E → List VersionRange → Type 0
-IsRereadTwice source result ranges = Answers source (λ r. IsReadAgain ranges r.once.inner × (r.twice.inner ≡ r.once.inner)) result
+IsRereadTwice source result ranges =
+    Answers source (λ r. IsReadAgain ranges r.once.inner × (r.twice.inner ≡ r.once.inner)) result
 
--- what is told of ranges: never that they are a tag; and that a version is allowed exactly where they mean it, if each keeps
--- its meaning
+-- what is told of ranges: never that they are a tag; and that a version is allowed exactly where they mean it, if each
+-- keeps its meaning
 abbrev pub IsToldOfRanges : Bool → Bool → Allowance → Type 0
 IsToldOfRanges keep mean allowance = (allowance ≡ answer.Tag → ⊥) × (keep ≡ true → allowance ≡ yes_or_no mean)
 
@@ -75,12 +77,14 @@ abbrev pub IsTagTold : {E : Type 0} → (E → Failure) → Result Allowance E �
 IsTagTold source result tag = Answers source (λ allowance. allowance ≡ answer.Tag) result
 
 -- what is answered of a text whose requirement is stored and read again
-pub record AllowsAsItsText (f : Flavour) (text : List ℕ) (v : Version) (result : Result Allowance Failure) : Type 0 where
+pub record AllowsAsItsText (f : Flavour) (text : List ℕ) (v : Version)
+    (result : Result Allowance Failure) : Type 0 where
   -- a text that is answered has an outcome, and each outcome of it is told so, want of memory aside
   pub told : IfOk result (λ allowance. (o : Outcome) × IsOutcome f text o)
   -- for every tree of the text what the tree's ranges tell
   pub ranges : (tree : List (List Comparator)) → IsOutcome f text (Ranges tree)
-      → Answers (λ failure. failure) (IsToldOfRanges (list_all keeps_meaning (kept f tree)) (tree_means (tree_ranges tree) v)) result
+      → Answers (λ failure. failure)
+      (IsToldOfRanges (list_all keeps_meaning (kept f tree)) (tree_means (tree_ranges tree) v)) result
   pub tag : TagOfText f text (IsTagTold (λ failure. failure) result)
   -- a text is refused where that is its outcome, and nowhere else, want of memory aside
   pub refused : IsOutcome f text Refused → IsErr result

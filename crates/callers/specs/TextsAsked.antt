@@ -36,13 +36,17 @@ abbrev pub trees_mean : List Tree → Version → Bool
 trees_mean trees v = list_all (λ tree. tree_means (tree_ranges tree) v) trees
 
 -- the answer to what is asked of the trees of texts, none of which is a tag
-pub record IsAnswerOfTexts {Answer : Type 0} (tag : Answer) (Asked : List Tree → Answer → Type 0) (f : Flavour) (texts : List (List ℕ)) (result : Result Answer Failure) : Type 0 where
+pub record IsAnswerOfTexts {Answer : Type 0} (tag : Answer) (Asked : List Tree → Answer → Type 0) (f : Flavour)
+    (texts : List (List ℕ)) (result : Result Answer Failure) : Type 0 where
   -- for all trees of the texts it is what is asked of these, want of memory aside
-  pub ranges : (trees : List Tree) → HaveTrees f texts trees → MatchResult result (Asked trees) (λ failure. failure ≡ None)
+  pub ranges : (trees : List Tree) → HaveTrees f texts trees
+      → MatchResult result (Asked trees) (λ failure. failure ≡ None)
   -- where some text is a tag that is told, unless another is refused, want of memory aside
   pub tags : SomeIsTag f texts → MatchResult result (λ answer. answer ≡ tag) (IsNoneOrRefused f texts)
   -- what is answered is a tag where some text is one, or what is asked of trees of the texts
-  pub told : IfOk result (λ answer. ((answer ≡ tag) × SomeIsTag f texts) ⊎ ((trees : List Tree) × HaveTrees f texts trees × Asked trees answer))
+  pub told : IfOk result
+      (λ answer. ((answer ≡ tag) × SomeIsTag f texts)
+      ⊎ ((trees : List Tree) × HaveTrees f texts trees × Asked trees answer))
   -- there is no answer where some text is refused, and nowhere else, want of memory aside
   pub refused : SomeIsRefused f texts → IsErr result
   pub refused_only : IfErr result (IsNoneOrRefused f texts)

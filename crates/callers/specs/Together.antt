@@ -14,6 +14,8 @@ IsLeastOfTrees trees answer.Tag = ⊥
 
 -- the least version that all requirements match, or that there is none; or that one of them is a tag
 abbrev pub IsLeastOfAll : Requirement → List Requirement → Suitable → Type 0
-IsLeastOfAll own others (answer.Least v) = (have_no_tag (own ∷ others) ≡ true) × IsLeast (all_inners_mean own.inner others) (Some v)
-IsLeastOfAll own others answer.Nothing = (have_no_tag (own ∷ others) ≡ true) × IsLeast (all_inners_mean own.inner others) None
+IsLeastOfAll own others (answer.Least v) =
+    (have_no_tag (own ∷ others) ≡ true) × IsLeast (all_inners_mean own.inner others) (Some v)
+IsLeastOfAll own others answer.Nothing =
+    (have_no_tag (own ∷ others) ≡ true) × IsLeast (all_inners_mean own.inner others) None
 IsLeastOfAll own others answer.Tag = have_no_tag (own ∷ others) ≡ false

@@ -19,11 +19,14 @@ IsUpdate new old answer.Tag = ⊥
 
 -- of the trees of two texts
 abbrev pub IsUpdateOfTrees : List Tree → Update → Type 0
-IsUpdateOfTrees (new ∷ old ∷ []) told = IsUpdate (λ v. tree_means (tree_ranges new) v) (λ v. tree_means (tree_ranges old) v) told
+IsUpdateOfTrees (new ∷ old ∷ []) told =
+    IsUpdate (λ v. tree_means (tree_ranges new) v) (λ v. tree_means (tree_ranges old) v) told
 IsUpdateOfTrees trees told = ⊥
 
 -- of two requirements that are no tags; or that one of them is
 abbrev pub IsUpdateOf : RangeSetOrTag → RangeSetOrTag → Update → Type 0
-IsUpdateOf new old answer.Within = (tag_of new ≡ None) × (tag_of old ≡ None) × IsWithin (inner_means new) (inner_means old)
-IsUpdateOf new old (answer.Beyond v) = (tag_of new ≡ None) × (tag_of old ≡ None) × IsLeast (λ w. inner_means new w && not (inner_means old w)) (Some v)
+IsUpdateOf new old answer.Within =
+    (tag_of new ≡ None) × (tag_of old ≡ None) × IsWithin (inner_means new) (inner_means old)
+IsUpdateOf new old (answer.Beyond v) =
+    (tag_of new ≡ None) × (tag_of old ≡ None) × IsLeast (λ w. inner_means new w && not (inner_means old w)) (Some v)
 IsUpdateOf new old answer.Tag = (tag_of new ≡ None) → (tag_of old ≡ None) → ⊥

@@ -21,17 +21,21 @@ normal_dependency_text d = with_scheme d.kind (normal_req_text d.req)
 
 -- the registry, and then the requirement
 abbrev pub dependency_cmp : JsrDepPackageReq → JsrDepPackageReq → Ordering
-dependency_cmp = then_cmp (on (λ (d : JsrDepPackageReq). d.kind) kind_cmp) (on (λ (d : JsrDepPackageReq). d.req) req_cmp)
+dependency_cmp =
+    then_cmp (on (λ (d : JsrDepPackageReq). d.kind) kind_cmp) (on (λ (d : JsrDepPackageReq). d.req) req_cmp)
 
 pub dependency_total : IsTotalOrder dependency_cmp
-dependency_total = then_total (on_total (λ (d : JsrDepPackageReq). d.kind) kind_total) (on_total (λ (d : JsrDepPackageReq). d.req) req_total)
+dependency_total =
+    then_total (on_total (λ (d : JsrDepPackageReq). d.kind) kind_total)
+    (on_total (λ (d : JsrDepPackageReq). d.req) req_total)
 
 -- the derived `==`
 abbrev pub dependency_eq : JsrDepPackageReq → JsrDepPackageReq → Bool
 dependency_eq x y = kind_eq x.kind y.kind && req_eq x.req y.req
 
 pub dependency_ties : (x y : JsrDepPackageReq) → dependency_eq x y ≡ eq_by_cmp dependency_cmp x y
-dependency_ties x y = then_ties _ _ (kind_cmp x.kind y.kind) (req_cmp x.req y.req) (kind_ties x.kind y.kind) (req_ties x.req y.req)
+dependency_ties x y =
+    then_ties _ _ (kind_cmp x.kind y.kind) (req_cmp x.req y.req) (kind_ties x.kind y.kind) (req_ties x.req y.req)
 
 pub dependency_po : IsPartialOrder dependency_eq (λ x y. Some (dependency_cmp x y))
 dependency_po = po dependency_total dependency_ties

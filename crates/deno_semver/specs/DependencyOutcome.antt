@@ -24,9 +24,11 @@ pub data DependencyFault : Type 0 where
 -- what a text stands for: a requirement after the scheme of either registry, or its first fault
 pub data IsDependencyOutcome (f : Flavour) (text : List ℕ) : Result JsrDepPackageReq DependencyFault → Type 0 where
   other_scheme : ((kind : PackageKind) → LacksScheme kind text) → IsDependencyOutcome f text (Err OtherScheme)
-  is_dependency : (kind : PackageKind) (body : List ℕ) {req : PackageReq} → text ≡ scheme_of kind ++ body → IsPackageOutcome f body (Ok req)
+  is_dependency : (kind : PackageKind) (body : List ℕ) {req : PackageReq} → text ≡ scheme_of kind ++ body
+      → IsPackageOutcome f body (Ok req)
       → IsDependencyOutcome f text (Ok (record { kind = kind; req = req }))
-  bad_requirement : (kind : PackageKind) (body : List ℕ) {fault : Fault} → text ≡ scheme_of kind ++ body → IsPackageOutcome f body (Err fault)
+  bad_requirement : (kind : PackageKind) (body : List ℕ) {fault : Fault} → text ≡ scheme_of kind ++ body
+      → IsPackageOutcome f body (Err fault)
       → IsDependencyOutcome f text (Err (BadRequirement body fault))
 
 -- what stands before the first `:`, or the whole text
@@ -41,18 +43,25 @@ TellsDependency f text fault e = ⊥
 
 -- the error is want of memory, or tells the fault that the text has as its outcome
 abbrev pub IsDependencyRefusal : Flavour → List ℕ → JsrDepPackageReqParseError → Type 0
-IsDependencyRefusal f text e = (e ≡ error.Memory) ⊎ ((fault : DependencyFault) × IsDependencyOutcome f text (Err fault) × TellsDependency f text fault e)
+IsDependencyRefusal f text e =
+    (e ≡ error.Memory)
+    ⊎ ((fault : DependencyFault) × IsDependencyOutcome f text (Err fault) × TellsDependency f text fault e)
 
 -- the answer to a text with this outcome, want of memory aside
-abbrev pub IsDependencyAnswer : Flavour → List ℕ → Result JsrDepPackageReq DependencyFault → Result JsrDepPackageReq JsrDepPackageReqParseError → Type 0
-IsDependencyAnswer f text (Ok dependency) result = MatchResult result (λ answer. answer ≡ dependency) (λ e. e ≡ error.Memory)
-IsDependencyAnswer f text (Err fault) result = IsErrAnd result (λ e. (e ≡ error.Memory) ⊎ TellsDependency f text fault e)
+abbrev pub IsDependencyAnswer : Flavour → List ℕ → Result JsrDepPackageReq DependencyFault
+    → Result JsrDepPackageReq JsrDepPackageReqParseError → Type 0
+IsDependencyAnswer f text (Ok dependency) result =
+    MatchResult result (λ answer. answer ≡ dependency) (λ e. e ≡ error.Memory)
+IsDependencyAnswer f text (Err fault) result =
+    IsErrAnd result (λ e. (e ≡ error.Memory) ⊎ TellsDependency f text fault e)
 
 -- ---- steps
 
 -- the error that an error of a requirement turns into
 abbrev pub IsOfPackageError : PackageReqParseError → JsrDepPackageReqParseError → Type 0
-IsOfPackageError inner e = ((inner.source ≡ parts.Memory) × (e ≡ error.Memory)) ⊎ ((inner.source ≡ parts.Memory → ⊥) × (e ≡ error.PackageReqParse inner))
+IsOfPackageError inner e =
+    ((inner.source ≡ parts.Memory) × (e ≡ error.Memory))
+    ⊎ ((inner.source ≡ parts.Memory → ⊥) × (e ≡ error.PackageReqParse inner))
 
 -- the same error, whatever its texts are kept in
 abbrev pub IsSameError : JsrDepPackageReqParseError → JsrDepPackageReqParseError → Type 0
@@ -63,7 +72,8 @@ IsSameError (error.NotExpectedScheme scheme) e = ⊥
 
 -- the registry and what follows its scheme, or none where the text begins with neither scheme
 abbrev pub IsAfterEither : List ℕ → Option (PackageKind × Bor (List ℕ)) → Type 0
-IsAfterEither text r = MatchOption r ((kind : PackageKind) → LacksScheme kind text) (λ p. text ≡ scheme_of p.0 ++ p.1.now)
+IsAfterEither text r =
+    MatchOption r ((kind : PackageKind) → LacksScheme kind text) (λ p. text ≡ scheme_of p.0 ++ p.1.now)
 
 -- the error shows the scheme, unless memory was wanting
 abbrev pub IsToldScheme : List ℕ → JsrDepPackageReqParseError → Type 0

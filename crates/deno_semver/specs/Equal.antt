@@ -1,5 +1,5 @@
--- When requirements of packages, and what is made of them, are equal. Source: the crate `deno_semver`, in which the text of a
--- version has no part in it.
+-- When requirements of packages, and what is made of them, are equal. Source: the crate `deno_semver`, in which the
+-- text of a version has no part in it.
 use Rattle.std.specs.Prelude.{◌≡◌}
 use Rattle.deno_semver.specs.declared.jsr.dependency.JsrDepPackageReq.{JsrDepPackageReq}
 use Rattle.deno_semver.specs.declared.package.reference.PackageReqReference.{PackageReqReference}

@@ -87,7 +87,9 @@ AreItemsOf Reads (item d ds) (x ∷ xs) = Reads d x × AreItemsOf Reads ds xs
 -- ---- bounds, ranges and requirements of versions
 
 abbrev pub bound_json : VersionBound → Data
-bound_json b = object (member (codes "kind") (string (kind_text b.kind)) (member (codes "version") (string (version_text b.version)) no_members))
+bound_json b =
+    object (member (codes "kind") (string (kind_text b.kind))
+    (member (codes "version") (string (version_text b.version)) no_members))
 
 pub record IsJsonOfBound (json : Data) (b : VersionBound) : Type 0 where
   pub kind : IsMemberOf (IsStringOf IsTextOfKind) (codes "kind") json b.kind
@@ -101,10 +103,13 @@ range_bound_json (bound.Version b) = object (member (codes "Version") (bound_jso
 -- that object has no further member
 abbrev pub IsJsonOfRangeBound : Data → RangeBound → Type 0
 IsJsonOfRangeBound json bound.Unbounded = json ≡ string (codes "Unbounded")
-IsJsonOfRangeBound json (bound.Version b) = (only : Data) × (json ≡ object (member (codes "Version") only no_members)) × IsJsonOfBound only b
+IsJsonOfRangeBound json (bound.Version b) =
+    (only : Data) × (json ≡ object (member (codes "Version") only no_members)) × IsJsonOfBound only b
 
 abbrev pub range_json : VersionRange → Data
-range_json range = object (member (codes "end") (range_bound_json range.end) (member (codes "start") (range_bound_json range.start) no_members))
+range_json range =
+    object (member (codes "end") (range_bound_json range.end)
+    (member (codes "start") (range_bound_json range.start) no_members))
 
 pub record IsJsonOfRange (json : Data) (range : VersionRange) : Type 0 where
   pub start : IsMemberOf IsJsonOfRangeBound (codes "start") json range.start
@@ -119,7 +124,9 @@ pub record IsJsonOfSet (json : Data) (set : VersionRangeSet) : Type 0 where
   pub ranges : AreItemsOf IsJsonOfRange items set.0
 
 abbrev pub version_req_json : Requirement → Data
-version_req_json req = object (member (codes "inner") (string (inner_text req.inner)) (member (codes "raw_text") (string req.raw_text) no_members))
+version_req_json req =
+    object (member (codes "inner") (string (inner_text req.inner))
+    (member (codes "raw_text") (string req.raw_text) no_members))
 
 -- the text that was read isn't examined
 pub record IsJsonOfVersionReq (json : Data) (req : Requirement) : Type 0 where

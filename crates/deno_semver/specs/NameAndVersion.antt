@@ -50,7 +50,8 @@ IsNoNvText text = (name version rest : List ℕ) → IsNvText text name version 
 
 -- what stands at the front of a text: a name and version with what follows them, or the refusal of the first fault
 pub data IsNvFront (text : List ℕ) : Result (PackageNv × List ℕ) Refusal → Type 0 where
-  is_front : {name version rest : List ℕ} {v : Version} → IsNvText text name version rest → IsVersionOutcome (trim version) (Ok v)
+  is_front : {name version rest : List ℕ} {v : Version} → IsNvText text name version rest
+      → IsVersionOutcome (trim version) (Ok v)
       → IsNvFront text (Ok (record { name = name; version = v }, rest))
   is_uncut : IsNoNvText text → IsNvFront text (Err UnexpectedCharacter)
   is_bad_version : {name version rest : List ℕ} {fault : Refusal} → IsNvText text name version rest
@@ -60,7 +61,8 @@ pub data IsNvFront (text : List ℕ) : Result (PackageNv × List ℕ) Refusal �
 pub data IsNvOutcome (text : List ℕ) : Result PackageNv Refusal → Type 0 where
   is_nv : {nv : PackageNv} → IsNvFront text (Ok (nv, [])) → IsNvOutcome text (Ok nv)
   is_bad : {fault : Refusal} → IsNvFront text (Err fault) → IsNvOutcome text (Err fault)
-  is_followed : {nv : PackageNv} {rest : List ℕ} → IsNvFront text (Ok (nv, rest)) → 0 < length rest → IsNvOutcome text (Err UnexpectedCharacter)
+  is_followed : {nv : PackageNv} {rest : List ℕ} → IsNvFront text (Ok (nv, rest)) → 0 < length rest
+      → IsNvOutcome text (Err UnexpectedCharacter)
 
 -- ---- answers
 

@@ -23,16 +23,20 @@ pub record IsNameCut (text name rest : List ℕ) : Type 0 where
   pub ends : Stops (is_not at_sign) rest
 
 -- the message of a failure that isn't want of memory, and the whole text
-pub record TellsFailure (failure : Option (List ℕ × Option (List ℕ))) (text : List ℕ) (e : PackageNvParseError) : Type 0 where
+pub record TellsFailure (failure : Option (List ℕ × Option (List ℕ))) (text : List ℕ)
+    (e : PackageNvParseError) : Type 0 where
   pub no_memory : failure ≡ None → ⊥
   pub message : e.message ≡ message_of failure
   pub text_is : e.text ≡ text
 
 -- the error is want of memory, or tells the whole text and the fault at the front of a text
 abbrev pub IsFrontRefusal : List ℕ → List ℕ → PackageNvParseError → Type 0
-IsFrontRefusal text whole e = IsNvMemory e ⊎ ((fault : Refusal) × IsNvFront text (Err fault) × TellsNvFault fault whole e)
+IsFrontRefusal text whole e =
+    IsNvMemory e ⊎ ((fault : Refusal) × IsNvFront text (Err fault) × TellsNvFault fault whole e)
 
 -- the answer to a text with this at its front, want of memory aside
-abbrev pub IsFrontAnswer : List ℕ → Result (PackageNv × List ℕ) Refusal → Result (PackageNv × Bor (List ℕ)) PackageNvParseError → Type 0
-IsFrontAnswer whole (Ok front) result = MatchResult result (λ answer. (answer.0 ≡ front.0) × (answer.1.now ≡ front.1)) IsNvMemory
+abbrev pub IsFrontAnswer : List ℕ → Result (PackageNv × List ℕ) Refusal
+    → Result (PackageNv × Bor (List ℕ)) PackageNvParseError → Type 0
+IsFrontAnswer whole (Ok front) result =
+    MatchResult result (λ answer. (answer.0 ≡ front.0) × (answer.1.now ≡ front.1)) IsNvMemory
 IsFrontAnswer whole (Err fault) result = IsErrAnd result (λ e. IsNvMemory e ⊎ TellsNvFault fault whole e)

@@ -27,10 +27,13 @@ IsNoPath (first ∷ rest) = first ≢ slash
 -- nothing after it; or the refusal of its first fault
 pub data IsNvReferenceOutcome (kind : PackageKind) (text : List ℕ) : Result PackageNvReference Refusal → Type 0 where
   other_scheme : LacksScheme kind text → IsNvReferenceOutcome kind text (Err UnexpectedCharacter)
-  is_reference : (body : List ℕ) {nv : PackageNv} {path : Option (List ℕ)} → text ≡ scheme_of kind ++ body → IsNvFront (without_slash body) (Ok (nv, path_text path))
+  is_reference : (body : List ℕ) {nv : PackageNv} {path : Option (List ℕ)} → text ≡ scheme_of kind ++ body
+      → IsNvFront (without_slash body) (Ok (nv, path_text path))
       → IsNvReferenceOutcome kind text (Ok (record { nv = nv; sub_path = path }))
-  bad_front : (body : List ℕ) {fault : Refusal} → text ≡ scheme_of kind ++ body → IsNvFront (without_slash body) (Err fault) → IsNvReferenceOutcome kind text (Err fault)
-  is_followed : (body : List ℕ) {rest : List ℕ} {nv : PackageNv} → text ≡ scheme_of kind ++ body → IsNvFront (without_slash body) (Ok (nv, rest)) → IsNoPath rest
+  bad_front : (body : List ℕ) {fault : Refusal} → text ≡ scheme_of kind ++ body
+      → IsNvFront (without_slash body) (Err fault) → IsNvReferenceOutcome kind text (Err fault)
+  is_followed : (body : List ℕ) {rest : List ℕ} {nv : PackageNv} → text ≡ scheme_of kind ++ body
+      → IsNvFront (without_slash body) (Ok (nv, rest)) → IsNoPath rest
       → IsNvReferenceOutcome kind text (Err UnexpectedCharacter)
 
 -- ---- answers
@@ -41,12 +44,17 @@ nv_error e = record { message = e.message; text = e.text }
 
 -- the error is want of memory, or tells the refusal that the text has as its outcome
 abbrev pub IsNvReferenceRefusal : PackageKind → List ℕ → PackageNvReferenceParseError → Type 0
-IsNvReferenceRefusal kind text e = IsNvMemory (nv_error e) ⊎ ((fault : Refusal) × IsNvReferenceOutcome kind text (Err fault) × TellsNvFault fault text (nv_error e))
+IsNvReferenceRefusal kind text e =
+    IsNvMemory (nv_error e)
+    ⊎ ((fault : Refusal) × IsNvReferenceOutcome kind text (Err fault) × TellsNvFault fault text (nv_error e))
 
 -- the answer to a text with this outcome, want of memory aside
-abbrev pub IsNvReferenceAnswer : List ℕ → Result PackageNvReference Refusal → Result PackageNvReference PackageNvReferenceParseError → Type 0
-IsNvReferenceAnswer text (Ok reference) result = MatchResult result (λ answer. answer ≡ reference) (λ e. IsNvMemory (nv_error e))
-IsNvReferenceAnswer text (Err fault) result = IsErrAnd result (λ e. IsNvMemory (nv_error e) ⊎ TellsNvFault fault text (nv_error e))
+abbrev pub IsNvReferenceAnswer : List ℕ → Result PackageNvReference Refusal
+    → Result PackageNvReference PackageNvReferenceParseError → Type 0
+IsNvReferenceAnswer text (Ok reference) result =
+    MatchResult result (λ answer. answer ≡ reference) (λ e. IsNvMemory (nv_error e))
+IsNvReferenceAnswer text (Err fault) result =
+    IsErrAnd result (λ e. IsNvMemory (nv_error e) ⊎ TellsNvFault fault text (nv_error e))
 
 -- with the scheme in front the text of a reference stands for it again, where its name doesn't begin with `/`
 abbrev pub NvReferenceReadsBack : PackageKind → PackageNvReference → Type 0

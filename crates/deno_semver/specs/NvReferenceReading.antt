@@ -10,4 +10,6 @@ use Rattle.deno_semver.specs.declared.package.nv_reference.PackageNvReference.{P
 
 -- the name and version with the path that the rest is, or the refusal of a rest that is none
 abbrev pub IsWithRest : PackageNv → List ℕ → List ℕ → Result PackageNvReference PackageNvParseError → Type 0
-IsWithRest nv rest whole result = MatchResult result (λ r. (r.nv ≡ nv) × (rest ≡ path_text r.sub_path)) (λ e. IsNvMemory e ⊎ (IsNoPath rest × TellsNvFault UnexpectedCharacter whole e))
+IsWithRest nv rest whole result =
+    MatchResult result (λ r. (r.nv ≡ nv) × (rest ≡ path_text r.sub_path))
+    (λ e. IsNvMemory e ⊎ (IsNoPath rest × TellsNvFault UnexpectedCharacter whole e))

@@ -1,5 +1,5 @@
--- No text of a package, a name with a version, a reference or a dependency has two outcomes, and none of a package two cuts; no
--- JSON stands for two values of a type.
+-- No text of a package, a name with a version, a reference or a dependency has two outcomes, and none of a package two
+-- cuts; no JSON stands for two values of a type.
 use Rattle.std.specs.Prelude.{◌≡◌, ℕ, List, Result}
 use Rattle.serde_json.specs.Data.{Data}
 use Rattle.semver_base.specs.declared.failure.Refusal.{Refusal}
@@ -19,11 +19,14 @@ use Rattle.deno_semver.specs.declared.package.values.PackageReq.{PackageReq}
 
 -- no text is cut as a package in two ways
 abbrev pub PackageTextsHaveOneCut : Type 0
-PackageTextsHaveOneCut = (text : List ℕ) (cut other : PackageParts) → IsPackageText text cut → IsPackageText text other → cut ≡ other
+PackageTextsHaveOneCut =
+    (text : List ℕ) (cut other : PackageParts) → IsPackageText text cut → IsPackageText text other → cut ≡ other
 
 -- no text stands for two requirements of packages, nor for one and a fault, nor has it two faults
 abbrev pub PackageTextsHaveOneOutcome : Type 0
-PackageTextsHaveOneOutcome = (f : Flavour) (text : List ℕ) (o p : Result PackageReq Fault) → IsPackageOutcome f text o → IsPackageOutcome f text p → o ≡ p
+PackageTextsHaveOneOutcome =
+    (f : Flavour) (text : List ℕ) (o p : Result PackageReq Fault) → IsPackageOutcome f text o
+    → IsPackageOutcome f text p → o ≡ p
 
 -- the same of references to packages of either registry
 abbrev pub ReferencesHaveOneOutcome : Type 0
@@ -37,7 +40,8 @@ DependenciesHaveOneOutcome = (f : Flavour) (text : List ℕ) (o p : Result JsrDe
 
 -- of names with versions, and of references to versions
 abbrev pub NamesWithVersionsHaveOneOutcome : Type 0
-NamesWithVersionsHaveOneOutcome = (text : List ℕ) (o p : Result PackageNv Refusal) → IsNvOutcome text o → IsNvOutcome text p → o ≡ p
+NamesWithVersionsHaveOneOutcome =
+    (text : List ℕ) (o p : Result PackageNv Refusal) → IsNvOutcome text o → IsNvOutcome text p → o ≡ p
 
 abbrev pub VersionReferencesHaveOneOutcome : Type 0
 VersionReferencesHaveOneOutcome = (kind : PackageKind) (text : List ℕ) (o p : Result PackageNvReference Refusal)

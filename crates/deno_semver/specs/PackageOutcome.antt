@@ -1,5 +1,5 @@
--- What the text of a package stands for, and why it is refused. Sources: npm's package specifiers; which fault comes first is
--- the crate `deno_semver`'s choice.
+-- What the text of a package stands for, and why it is refused. Sources: npm's package specifiers; which fault comes
+-- first is the crate `deno_semver`'s choice.
 use Rattle.std.specs.Prelude.{◌≡◌, ◌<◌, ◌∷◌, ◌⊎◌, [], ℕ, List, length, Option, Some, None, Result, Ok, Err, MatchResult, IsErrAnd, codes, if◌then◌else◌}
 use Rattle.std.specs.Str.{trim}
 use Rattle.semver_base.specs.Characters.{slash}
@@ -35,9 +35,11 @@ pub data Fault : Type 0 where
 pub data IsFirstFault (f : Flavour) (text : List ℕ) : Fault → Type 0 where
   no_name : LacksPart (without_slash text) → IsFirstFault f text NoName
   bad_name : IsScopeAlone (without_slash text) → IsFirstFault f text BadName
-  bad_version : {cut : PackageParts} {version : List ℕ} → IsPackageText text cut → cut.version ≡ Some version → IsOutcome f version Refused
+  bad_version : {cut : PackageParts} {version : List ℕ} → IsPackageText text cut → cut.version ≡ Some version
+      → IsOutcome f version Refused
       → IsFirstFault f text (BadVersion version)
-  has_path : {cut : PackageParts} (req : Requirement) → IsPackageText text cut → IsVersionReq f cut.version req → 0 < length cut.path
+  has_path : {cut : PackageParts} (req : Requirement) → IsPackageText text cut → IsVersionReq f cut.version req
+      → 0 < length cut.path
       → IsFirstFault f text (HasPath cut.path)
 
 -- the requirement that a text is: its parts, without a path
@@ -51,7 +53,8 @@ pub record IsReadReq (f : Flavour) (text : List ℕ) (req : PackageReq) : Type 0
 -- what a text stands for; whatever its fault, one that holds a `/` and doesn't begin with `@` lacks an `@`
 pub data IsPackageOutcome (f : Flavour) (text : List ℕ) : Result PackageReq Fault → Type 0 where
   is_package : {req : PackageReq} → IsReadReq f text req → IsPackageOutcome f text (Ok req)
-  is_fault : {fault : Fault} → IsFirstFault f text fault → IsPackageOutcome f text (Err (if lacks_at text then NoAt else fault))
+  is_fault : {fault : Fault} → IsFirstFault f text fault
+      → IsPackageOutcome f text (Err (if lacks_at text then NoAt else fault))
 
 -- ---- answers
 
@@ -75,7 +78,8 @@ path_failure path = Some (codes "Unexpected character '/'", Some (slash ∷ path
 abbrev pub Tells : Flavour → Fault → PackageReqPartsParseError → Type 0
 Tells f NoName e = e ≡ parts.NoPackageName
 Tells f BadName e = e ≡ parts.InvalidPackageName
-Tells f (BadVersion version) e = (failure : Failure) × (failure ≡ None → ⊥) × IsRefusalOf f version failure × (e ≡ refused_by f failure)
+Tells f (BadVersion version) e =
+    (failure : Failure) × (failure ≡ None → ⊥) × IsRefusalOf f version failure × (e ≡ refused_by f failure)
 Tells f (HasPath path) e = e ≡ parts.SpecifierVersionReq (record { source = path_failure path })
 Tells f NoAt e = e ≡ parts.MissingAtSymbol
 
@@ -91,9 +95,11 @@ pub record TellsFault (f : Flavour) (fault : Fault) (text : List ℕ) (e : Packa
 
 -- the error is want of memory, or tells the fault that the text has as its outcome
 abbrev pub IsPackageRefusal : Flavour → List ℕ → PackageReqParseError → Type 0
-IsPackageRefusal f text e = IsWantOfMemory e ⊎ ((fault : Fault) × IsPackageOutcome f text (Err fault) × TellsFault f fault text e)
+IsPackageRefusal f text e =
+    IsWantOfMemory e ⊎ ((fault : Fault) × IsPackageOutcome f text (Err fault) × TellsFault f fault text e)
 
 -- the answer to a text with this outcome, want of memory aside
-abbrev pub IsPackageAnswer : Flavour → List ℕ → Result PackageReq Fault → Result PackageReq PackageReqParseError → Type 0
+abbrev pub IsPackageAnswer : Flavour → List ℕ → Result PackageReq Fault → Result PackageReq PackageReqParseError
+    → Type 0
 IsPackageAnswer f text (Ok req) result = MatchResult result (λ answer. answer ≡ req) IsWantOfMemory
 IsPackageAnswer f text (Err fault) result = IsErrAnd result (λ e. IsWantOfMemory e ⊎ TellsFault f fault text e)

@@ -24,7 +24,9 @@ IsPartsRefusal f (Some version) e = IsVersionRefusal f version e
 
 -- the error shows the path with the `/` before it, unless memory was wanting
 abbrev pub IsPathError : List ℕ → PackageReqPartsParseError → Type 0
-IsPathError tail e = (e ≡ parts.Memory) ⊎ (e ≡ parts.SpecifierVersionReq (record { source = Some (codes "Unexpected character '/'", Some tail) }))
+IsPathError tail e =
+    (e ≡ parts.Memory)
+    ⊎ (e ≡ parts.SpecifierVersionReq (record { source = Some (codes "Unexpected character '/'", Some tail) }))
 
 -- the error tells the first fault of the text, unless memory was wanting
 abbrev pub IsFaultError : Flavour → List ℕ → PackageReqPartsParseError → Type 0

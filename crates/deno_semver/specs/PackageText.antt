@@ -1,6 +1,6 @@
--- How the text of a package is cut: a `/` that import maps may leave in front, a scope with `/` after it, the last part of
--- the name, `@` and the version's text, and a `/` with the path. Sources: npm's package specifiers; for the `/` in front and
--- the path the crate `deno_semver`.
+-- How the text of a package is cut: a `/` that import maps may leave in front, a scope with `/` after it, the last part
+-- of the name, `@` and the version's text, and a `/` with the path. Sources: npm's package specifiers; for the `/` in
+-- front and the path the crate `deno_semver`.
 use Rattle.std.specs.Prelude.{◌≡◌, ◌<◌, ◌++◌, ◌∷◌, ◌&&◌, ◌==◌, [], ℕ, List, Bool, true, false, not, length, Option, Some, None, if◌then◌else◌}
 use Rattle.std.specs.List.{list_all, list_any}
 use Rattle.semver_base.specs.Characters.{at_sign, slash}

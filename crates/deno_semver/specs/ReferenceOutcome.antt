@@ -1,5 +1,5 @@
--- What the text of a reference to a package stands for, and why it is refused. Sources: npm's and JSR's specifiers; which
--- fault is told is the crate `deno_semver`'s choice.
+-- What the text of a reference to a package stands for, and why it is refused. Sources: npm's and JSR's specifiers;
+-- which fault is told is the crate `deno_semver`'s choice.
 use Rattle.std.specs.Prelude.{◌≡◌, ◌++◌, ◌∷◌, ◌⊎◌, [], ℕ, List, drop, true, Some, Result, Ok, Err, MatchResult, IsErrAnd, codes}
 use Rattle.std.specs.List.{list_all}
 use Rattle.semver_base.specs.Characters.{at_sign, slash}
@@ -48,14 +48,19 @@ IsOfReference (HasPath path) = ⊥
 IsOfReference fault = Unit {0}
 
 -- what a text stands for: a reference without a version in its path, or its first fault
-pub data IsReferenceOutcome (kind : PackageKind) (text : List ℕ) : Result PackageReqReference ReferenceFault → Type 0 where
+pub data IsReferenceOutcome (kind : PackageKind)
+    (text : List ℕ) : Result PackageReqReference ReferenceFault → Type 0 where
   other_scheme : LacksScheme kind text → IsReferenceOutcome kind text (Err OtherScheme)
-  is_reference : {body : List ℕ} {reference : PackageReqReference} → text ≡ scheme_of kind ++ body → IsReadReference body reference → HasNoVersionInPath reference
+  is_reference : {body : List ℕ} {reference : PackageReqReference} → text ≡ scheme_of kind ++ body
+      → IsReadReference body reference → HasNoVersionInPath reference
       → IsReferenceOutcome kind text (Ok reference)
-  bad_text : {body : List ℕ} {fault : Fault} → text ≡ scheme_of kind ++ body → IsFirstFault Specifier body fault → IsOfReference fault
+  bad_text : {body : List ℕ} {fault : Fault} → text ≡ scheme_of kind ++ body → IsFirstFault Specifier body fault
+      → IsOfReference fault
       → IsReferenceOutcome kind text (Err (BadText fault))
-  version_in_path : {body before version : List ℕ} {reference : PackageReqReference} → text ≡ scheme_of kind ++ body → IsReadReference body reference → HasVersionInPath reference before version
-      → IsReferenceOutcome kind text (Err (VersionInPath (reference_text reference) (text_with_version reference.req version before)))
+  version_in_path : {body before version : List ℕ} {reference : PackageReqReference} → text ≡ scheme_of kind ++ body
+      → IsReadReference body reference → HasVersionInPath reference before version
+      → IsReferenceOutcome kind text
+      (Err (VersionInPath (reference_text reference) (text_with_version reference.req version before)))
 
 -- ---- answers
 
@@ -75,17 +80,25 @@ unboxed boxed.Memory = Memory
 -- the error tells of the fault
 abbrev pub TellsReference : PackageKind → List ℕ → ReferenceFault → PackageReqReferenceParseError → Type 0
 TellsReference kind text OtherScheme e = unboxed e ≡ NotExpectedScheme kind
-TellsReference kind text (BadText fault) e = (source : PackageReqPartsParseError) × Tells Specifier fault source × (unboxed e ≡ Invalid (record { specifier = text; source = source }))
-TellsReference kind text (VersionInPath current suggested) e = unboxed e ≡ InvalidPathWithVersion (record { kind = kind; current = current; suggested = suggested })
+TellsReference kind text (BadText fault) e =
+    (source : PackageReqPartsParseError) × Tells Specifier fault source
+    × (unboxed e ≡ Invalid (record { specifier = text; source = source }))
+TellsReference kind text (VersionInPath current suggested) e =
+    unboxed e ≡ InvalidPathWithVersion (record { kind = kind; current = current; suggested = suggested })
 
 -- the error is want of memory, or tells the fault that the text has as its outcome
 abbrev pub IsReferenceRefusal : PackageKind → List ℕ → PackageReqReferenceParseError → Type 0
-IsReferenceRefusal kind text e = (unboxed e ≡ Memory) ⊎ ((fault : ReferenceFault) × IsReferenceOutcome kind text (Err fault) × TellsReference kind text fault e)
+IsReferenceRefusal kind text e =
+    (unboxed e ≡ Memory)
+    ⊎ ((fault : ReferenceFault) × IsReferenceOutcome kind text (Err fault) × TellsReference kind text fault e)
 
 -- the answer to a text with this outcome, want of memory aside
-abbrev pub IsReferenceAnswer : PackageKind → List ℕ → Result PackageReqReference ReferenceFault → Result PackageReqReference PackageReqReferenceParseError → Type 0
-IsReferenceAnswer kind text (Ok reference) result = MatchResult result (λ answer. answer ≡ reference) (λ e. unboxed e ≡ Memory)
-IsReferenceAnswer kind text (Err fault) result = IsErrAnd result (λ e. (unboxed e ≡ Memory) ⊎ TellsReference kind text fault e)
+abbrev pub IsReferenceAnswer : PackageKind → List ℕ → Result PackageReqReference ReferenceFault
+    → Result PackageReqReference PackageReqReferenceParseError → Type 0
+IsReferenceAnswer kind text (Ok reference) result =
+    MatchResult result (λ answer. answer ≡ reference) (λ e. unboxed e ≡ Memory)
+IsReferenceAnswer kind text (Err fault) result =
+    IsErrAnd result (λ e. (unboxed e ≡ Memory) ⊎ TellsReference kind text fault e)
 
 -- ---- rereading
 
@@ -94,8 +107,8 @@ pub record IsPlainName (name : List ℕ) : Type 0 where
   pub no_at : list_all (is_not at_sign) (drop 1 name) ≡ true
   pub no_slash : (front : List ℕ) → name ≡ front ++ (slash ∷ []) → ⊥
 
--- with the scheme in front the text of a reference stands for it again, where the text of its version isn't `*` or its name
--- is plain
+-- with the scheme in front the text of a reference stands for it again, where the text of its version isn't `*` or its
+-- name is plain
 abbrev pub ReferenceReadsBack : PackageKind → PackageReqReference → Type 0
 ReferenceReadsBack kind reference = (reference.req.version_req.raw_text ≡ codes "*" → IsPlainName reference.req.name)
     → IsReferenceOutcome kind (scheme_of kind ++ reference_text reference) (Ok reference)

@@ -30,20 +30,29 @@ pub record IsReadWithPath (f : Flavour) (text : List ℕ) (req : PackageReq) (ta
 
 -- the error tells the first fault of a text that may have a path, unless memory was wanting
 abbrev pub IsFrontError : Flavour → List ℕ → PackageReqPartsParseError → Type 0
-IsFrontError f text e = (e ≡ parts.Memory) ⊎ ((fault : Fault) × IsFirstFault f text fault × IsOfReference fault × Tells f fault e)
+IsFrontError f text e =
+    (e ≡ parts.Memory) ⊎ ((fault : Fault) × IsFirstFault f text fault × IsOfReference fault × Tells f fault e)
 
 abbrev pub IsReferenceRead : List ℕ → Result PackageReqReference PackageReqPartsParseError → Type 0
 IsReferenceRead body result = MatchResult result (IsReadReference body) (IsFrontError Specifier body)
 
 -- the version in the path, and what stands before it
 abbrev pub FindsVersion : PackageReqReference → Option (Bor (List ℕ) × Bor (List ℕ)) → Type 0
-FindsVersion reference r = MatchOption r (HasNoVersionInPath reference) (λ p. HasVersionInPath reference p.0.now p.1.now)
+FindsVersion reference r =
+    MatchOption r (HasNoVersionInPath reference) (λ p. HasVersionInPath reference p.0.now p.1.now)
 
 -- the error shows the whole text and what is wrong in it, unless memory was wanting
 abbrev pub IsToldInvalid : List ℕ → PackageReqPartsParseError → PackageReqReferenceParseError → Type 0
-IsToldInvalid text source e = (unboxed e ≡ Memory) ⊎ ((source ≡ parts.Memory → ⊥) × (unboxed e ≡ Invalid (record { specifier = text; source = source })))
+IsToldInvalid text source e =
+    (unboxed e ≡ Memory)
+    ⊎ ((source ≡ parts.Memory → ⊥) × (unboxed e ≡ Invalid (record { specifier = text; source = source })))
 
 -- the error shows the reference as it is written and as it is suggested, unless memory was wanting
 abbrev pub IsToldVersion : PackageKind → PackageReqReference → List ℕ → List ℕ → PackageReqReferenceParseError → Type 0
 IsToldVersion kind reference before version e = (unboxed e ≡ Memory)
-    ⊎ (unboxed e ≡ InvalidPathWithVersion (record { kind = kind; current = reference_text reference; suggested = text_with_version reference.req version before }))
+    ⊎ (unboxed e ≡ InvalidPathWithVersion
+    (record {
+      kind = kind;
+      current = reference_text reference;
+      suggested = text_with_version reference.req version before;
+    }))

@@ -1,5 +1,5 @@
--- The order of requirements of packages. Source: the crate `deno_semver`, whose version after 0.10.1 puts requirements that
--- meet fewer versions first; the builds, which it leaves out, come last here, so that only equal requirements tie.
+-- The order of requirements of packages. Source: the crate `deno_semver`, whose version after 0.10.1 puts requirements
+-- that meet fewer versions first; the builds, which it leaves out, come last here, so that only equal requirements tie.
 use Rattle.std.specs.Prelude.{ℕ, List, [], Option, Some, None}
 use Rattle.std.specs.Cmp.Lexicographic.{slice_cmp}
 use Rattle.std.specs.Option.{option_cmp}
@@ -49,7 +49,9 @@ start_cmp = then_cmp (on bound_place nat_cmp) (on version_bound_of (flip_args (o
 
 -- ends: an absent one last, the lower version first, and then an exclusive one
 abbrev pub end_cmp : RangeBound → RangeBound → Ordering
-end_cmp = then_cmp (on bound_place nat_cmp) (on version_bound_of (option_cmp (then_cmp bound_versions_cmp (flip_args bound_cmp))))
+end_cmp =
+    then_cmp (on bound_place nat_cmp)
+    (on version_bound_of (option_cmp (then_cmp bound_versions_cmp (flip_args bound_cmp))))
 
 -- the starts, and then the ends
 abbrev pub range_cmp : VersionRange → VersionRange → Ordering
@@ -63,7 +65,9 @@ build_of bound.Unbounded = []
 
 -- the start's build, and then the end's, as lists of texts
 abbrev pub builds_cmp : VersionRange → VersionRange → Ordering
-builds_cmp = then_cmp (on (λ (r : VersionRange). build_of r.start) (slice_cmp text_cmp)) (on (λ (r : VersionRange). build_of r.end) (slice_cmp text_cmp))
+builds_cmp =
+    then_cmp (on (λ (r : VersionRange). build_of r.start) (slice_cmp text_cmp))
+    (on (λ (r : VersionRange). build_of r.end) (slice_cmp text_cmp))
 
 -- ---- requirements
 
@@ -73,7 +77,9 @@ ranges_of (inner.Tag text) = []
 
 -- a tag before ranges, and of two tags the greater one; the ranges one by one, and their builds last
 abbrev pub inner_cmp : RangeSetOrTag → RangeSetOrTag → Ordering
-inner_cmp = then_cmp (on tag_of (flip_args (option_cmp text_cmp))) (then_cmp (on ranges_of (slice_cmp range_cmp)) (on ranges_of (slice_cmp builds_cmp)))
+inner_cmp =
+    then_cmp (on tag_of (flip_args (option_cmp text_cmp)))
+    (then_cmp (on ranges_of (slice_cmp range_cmp)) (on ranges_of (slice_cmp builds_cmp)))
 
 -- the name, and then what the requirement stands for
 abbrev pub req_cmp : PackageReq → PackageReq → Ordering

@@ -1,4 +1,5 @@
--- The order of requirements is total, and ties only where the names are the same and the requirements stand for the same.
+-- The order of requirements is total, and ties only where the names are the same and the requirements stand for the
+-- same.
 use Rattle.std.proofs.Common.{◌≡◌, ◌&&◌, ℕ, List, [], ◌∷◌, Bool, Some, nat_eq, refl, sym, ap}
 use Rattle.std.proofs.lemmas.Cmp.{back_total, lists_total, nat_list_cmp_total, tied_itself}
 use Rattle.std.specs.Cmp.{Equal-is, IsPartialOrder, IsTotalOrder, both_ways, nat_cmp_total, on_total, po, then_total}
@@ -33,22 +34,32 @@ bound_total : IsTotalOrder bound_cmp
 bound_total = then_total bound_versions_total (on_total (λ (b : VersionBound). kind_place b.kind) nat_cmp_total)
 
 start_total : IsTotalOrder start_cmp
-start_total = then_total (on_total bound_place nat_cmp_total) (on_total version_bound_of (back_total (options_total bound_total)))
+start_total =
+    then_total (on_total bound_place nat_cmp_total) (on_total version_bound_of (back_total (options_total bound_total)))
 
 end_total : IsTotalOrder end_cmp
-end_total = then_total (on_total bound_place nat_cmp_total) (on_total version_bound_of (options_total (then_total bound_versions_total (back_total bound_total))))
+end_total =
+    then_total (on_total bound_place nat_cmp_total)
+    (on_total version_bound_of (options_total (then_total bound_versions_total (back_total bound_total))))
 
 range_total : IsTotalOrder range_cmp
-range_total = then_total (on_total (λ (r : VersionRange). r.start) start_total) (on_total (λ (r : VersionRange). r.end) end_total)
+range_total =
+    then_total (on_total (λ (r : VersionRange). r.start) start_total) (on_total (λ (r : VersionRange). r.end) end_total)
 
 builds_total : IsTotalOrder builds_cmp
-builds_total = then_total (on_total (λ (r : VersionRange). build_of r.start) (lists_total nat_list_cmp_total)) (on_total (λ (r : VersionRange). build_of r.end) (lists_total nat_list_cmp_total))
+builds_total =
+    then_total (on_total (λ (r : VersionRange). build_of r.start) (lists_total nat_list_cmp_total))
+    (on_total (λ (r : VersionRange). build_of r.end) (lists_total nat_list_cmp_total))
 
 inner_total : IsTotalOrder inner_cmp
-inner_total = then_total (on_total tag_of (back_total (options_total nat_list_cmp_total))) (then_total (on_total ranges_of (lists_total range_total)) (on_total ranges_of (lists_total builds_total)))
+inner_total =
+    then_total (on_total tag_of (back_total (options_total nat_list_cmp_total)))
+    (then_total (on_total ranges_of (lists_total range_total)) (on_total ranges_of (lists_total builds_total)))
 
 pub req_total : IsTotalOrder req_cmp
-req_total = then_total (on_total (λ (r : PackageReq). r.name) nat_list_cmp_total) (on_total (λ (r : PackageReq). r.version_req.inner) inner_total)
+req_total =
+    then_total (on_total (λ (r : PackageReq). r.name) nat_list_cmp_total)
+    (on_total (λ (r : PackageReq). r.version_req.inner) inner_total)
 
 -- ---- what ties is the same
 
@@ -69,11 +80,13 @@ kind_same kind.Exclusive kind.Inclusive e = cc e
 kind_same kind.Exclusive kind.Exclusive e = refl
 
 abbrev version_of : ℕ → ℕ → ℕ → List (List ℕ) → List (List ℕ) → Version
-version_of major minor patch pre build = record { major = major; minor = minor; patch = patch; pre = pre; build = build }
+version_of major minor patch pre build =
+    record { major = major; minor = minor; patch = patch; pre = pre; build = build }
 
 version_same : (x y : Version) → SamePrecedence x y → x.build ≡ y.build → x ≡ y
 version_same x y h b =
-    let same : version_of x.major x.minor x.patch x.pre x.build ≡ version_of y.major y.minor y.patch y.pre y.build = rw (h.major, h.minor, h.patch, h.pre, b) refl in
+    let same : version_of x.major x.minor x.patch x.pre x.build
+    ≡ version_of y.major y.minor y.patch y.pre y.build = rw (h.major, h.minor, h.patch, h.pre, b) refl in
     same
 
 abbrev bound_of : VersionBoundKind → Version → VersionBound
@@ -90,13 +103,15 @@ builds_same : (xs ys : List (List ℕ)) → slice_cmp text_cmp xs ys ≡ Equal �
 builds_same xs ys e = slice_cmp-IsAntisymmetric (slice_cmp-IsAntisymmetric nat_cmp-IsAntisymmetric) xs ys e
 
 start_same : (a b : RangeBound) → start_cmp a b ≡ Equal → build_of a ≡ build_of b → a ≡ b
-start_same (bound.Version x) (bound.Version y) e b = ap (λ (v : VersionBound). bound.Version v) (sym (bound_same y x e (sym b)))
+start_same (bound.Version x) (bound.Version y) e b =
+    ap (λ (v : VersionBound). bound.Version v) (sym (bound_same y x e (sym b)))
 start_same (bound.Version x) bound.Unbounded e b = cc e
 start_same bound.Unbounded (bound.Version y) e b = cc e
 start_same bound.Unbounded bound.Unbounded e b = refl
 
 end_same : (a b : RangeBound) → end_cmp a b ≡ Equal → build_of a ≡ build_of b → a ≡ b
-end_same (bound.Version x) (bound.Version y) e b = ap (λ (v : VersionBound). bound.Version v) (sym (bound_same y x (then_second _ _ e) (sym b)))
+end_same (bound.Version x) (bound.Version y) e b =
+    ap (λ (v : VersionBound). bound.Version v) (sym (bound_same y x (then_second _ _ e) (sym b)))
 end_same (bound.Version x) bound.Unbounded e b = cc e
 end_same bound.Unbounded (bound.Version y) e b = cc e
 end_same bound.Unbounded bound.Unbounded e b = refl
@@ -111,7 +126,8 @@ range_same x y e b =
     let same : range_of x.start x.end ≡ range_of y.start y.end = rw (s, t) refl in
     same
 
-ranges_same : (xs ys : List VersionRange) → slice_cmp range_cmp xs ys ≡ Equal → slice_cmp builds_cmp xs ys ≡ Equal → xs ≡ ys
+ranges_same : (xs ys : List VersionRange) → slice_cmp range_cmp xs ys ≡ Equal → slice_cmp builds_cmp xs ys ≡ Equal
+    → xs ≡ ys
 ranges_same [] [] e b = refl
 ranges_same [] (y ∷ ys) e b = cc e
 ranges_same (x ∷ xs) [] e b = cc e
@@ -124,13 +140,19 @@ abbrev set_of : List VersionRange → RangeSetOrTag
 set_of ranges = inner.RangeSet (record { 0 = ranges })
 
 inner_same : (x y : RangeSetOrTag) → inner_cmp x y ≡ Equal → x ≡ y
-inner_same (inner.Tag x) (inner.Tag y) e = ap (λ (t : List ℕ). inner.Tag t) (sym (slice_cmp-IsAntisymmetric nat_cmp-IsAntisymmetric y x (then_first _ _ e)))
+inner_same (inner.Tag x) (inner.Tag y) e =
+    ap (λ (t : List ℕ). inner.Tag t) (sym (slice_cmp-IsAntisymmetric nat_cmp-IsAntisymmetric y x (then_first _ _ e)))
 inner_same (inner.Tag x) (inner.RangeSet y) e = cc e
 inner_same (inner.RangeSet x) (inner.Tag y) e = cc e
-inner_same (inner.RangeSet x) (inner.RangeSet y) e = ap set_of (ranges_same x.0 y.0 (then_first _ _ e) (then_second _ _ e))
+inner_same (inner.RangeSet x) (inner.RangeSet y) e =
+    ap set_of (ranges_same x.0 y.0 (then_first _ _ e) (then_second _ _ e))
 
 pub req_same : (x y : PackageReq) → req_cmp x y ≡ Equal → AreEqualReqs x y
-req_same x y e = (slice_cmp-IsAntisymmetric nat_cmp-IsAntisymmetric x.name y.name (then_first _ _ e), inner_same x.version_req.inner y.version_req.inner (then_second _ _ e))
+req_same x y e = (
+  slice_cmp-IsAntisymmetric nat_cmp-IsAntisymmetric x.name y.name
+      (then_first _ _ e),
+  inner_same x.version_req.inner y.version_req.inner (then_second _ _ e),
+)
 
 pub same_req : (x y : PackageReq) → AreEqualReqs x y → req_cmp x y ≡ Equal
 same_req x y h = rw (h.0, h.1) (tied_itself req_total y)
@@ -147,7 +169,9 @@ abbrev pub req_eq : PackageReq → PackageReq → Bool
 req_eq x y = pointwise nat_eq x.name y.name && inner_eq x.version_req.inner y.version_req.inner
 
 pub req_ties : (x y : PackageReq) → req_eq x y ≡ eq_by_cmp req_cmp x y
-req_ties x y = then_ties _ _ (text_cmp x.name y.name) (inner_cmp x.version_req.inner y.version_req.inner) (texts_ties x.name y.name) (inner_ties x.version_req.inner y.version_req.inner)
+req_ties x y =
+    then_ties _ _ (text_cmp x.name y.name) (inner_cmp x.version_req.inner y.version_req.inner)
+    (texts_ties x.name y.name) (inner_ties x.version_req.inner y.version_req.inner)
 
 pub req_po : IsPartialOrder req_eq (λ x y. Some (req_cmp x y))
 req_po = po req_total req_ties

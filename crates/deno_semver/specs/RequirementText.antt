@@ -7,7 +7,9 @@ use Rattle.deno_semver.specs.declared.package.values.PackageReq.{PackageReq}
 
 -- `name@text`, or the name alone where the requirement's text is `*`
 abbrev pub req_text : PackageReq → List ℕ
-req_text req = req.name ++ (if pointwise nat_eq req.version_req.raw_text (codes "*") then [] else at_sign ∷ req.version_req.raw_text)
+req_text req =
+    req.name ++ (if pointwise nat_eq req.version_req.raw_text (codes "*") then [] else at_sign
+    ∷ req.version_req.raw_text)
 
 -- `name@` and the normal text of what the requirement stands for
 abbrev pub normal_req_text : PackageReq → List ℕ

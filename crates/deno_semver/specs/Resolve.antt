@@ -1,5 +1,5 @@
--- Which of several versions is taken: of those that match, the first of the greatest or of the least by precedence. Sources:
--- node-semver's `maxSatisfying` and `minSatisfying`.
+-- Which of several versions is taken: of those that match, the first of the greatest or of the least by precedence.
+-- Sources: node-semver's `maxSatisfying` and `minSatisfying`.
 use Rattle.std.specs.Prelude.{◌≡◌, ◌++◌, ◌∷◌, ◌&&◌, ℕ, List, Bool, true, false, not, length, Option, Some, None}
 use Rattle.std.specs.List.{list_any}
 use Rattle.std.specs.Ordering.{is_lt}
@@ -15,7 +15,8 @@ abbrev pub greater : Version → Version → Bool
 greater one other = lower other one
 
 -- the version stands at the place and matches; no match is better, and none before it is as good
-pub record IsBestAt (better : Version → Version → Bool) (means : Version → Bool) (versions : List Version) (place : ℕ) (version : Version) : Type 0 where
+pub record IsBestAt (better : Version → Version → Bool) (means : Version → Bool) (versions : List Version) (place : ℕ)
+    (version : Version) : Type 0 where
   pub before : List Version
   pub after : List Version
   pub stands : versions ≡ before ++ version ∷ after

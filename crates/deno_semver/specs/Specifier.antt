@@ -1,5 +1,5 @@
--- The URL of a reference to a version: the crate `url` says what its text is parsed as, by the URL Standard. Source: the
--- crate `deno_semver`.
+-- The URL of a reference to a version: the crate `url` says what its text is parsed as, by the URL Standard. Source:
+-- the crate `deno_semver`.
 use Rattle.std.specs.Prelude.{◌≡◌, ◌∷◌, ℕ, List, None, Result, Ok, Err, MatchResult}
 use Rattle.url.specs.Parser.{parse_url}
 use Rattle.url.specs.Parts.{Parts}

@@ -1,5 +1,5 @@
--- What is read again of a requirement of a package, or a dependency, that was stored as its normal text. Source: the crate `deno_semver`,
--- whose text of a requirement is meant to be read back.
+-- What is read again of a requirement of a package, or a dependency, that was stored as its normal text. Source: the
+-- crate `deno_semver`, whose text of a requirement is meant to be read back.
 use Rattle.std.specs.Prelude.{◌≡◌, ℕ, List, true, Ok, IsUtf8}
 use Rattle.std.specs.List.{list_all}
 use Rattle.serde_json.specs.Data.{Data, string}
@@ -21,7 +21,8 @@ use Rattle.deno_semver.specs.declared.package.values.PackageReq.{PackageReq}
 -- ranges that are read in place of these
 pub record AreReadFor (ranges again : List VersionRange) : Type 0 where
   -- they match the same versions where each of these keeps its meaning
-  pub means : list_all keeps_meaning ranges ≡ true → (v : Version) → tree_means (alternatives again) v ≡ tree_means (alternatives ranges) v
+  pub means : list_all keeps_meaning ranges ≡ true → (v : Version)
+      → tree_means (alternatives again) v ≡ tree_means (alternatives ranges) v
   -- they are the same where each of these is orderly too
   pub equal : list_all is_orderly ranges ≡ true → list_all keeps_meaning ranges ≡ true → again ≡ ranges
 

@@ -1,5 +1,6 @@
--- Lists of requirements of packages as JSON: what an array stands for, the order in which it is read, and what is read again of
--- a list that was stored. Source: the crate `deno_semver`, which keeps lists of requirements in the order of requirements.
+-- Lists of requirements of packages as JSON: what an array stands for, the order in which it is read, and what is read
+-- again of a list that was stored. Source: the crate `deno_semver`, which keeps lists of requirements in the order of
+-- requirements.
 use Rattle.std.specs.Prelude.{◌≡◌, ℕ, List, [], ◌∷◌, Ok, IsPermutation, IsSorted, IsUtf8, map}
 use Rattle.serde_json.specs.Data.{Data, array, string, Items}
 use Rattle.serde_json.specs.View.{items_of}

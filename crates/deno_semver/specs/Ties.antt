@@ -12,7 +12,8 @@ then_ties a b Equal s e f = rw (e, f) refl
 then_ties a b Greater s e f = rw e refl
 
 -- `==` of two optional values, where that of the values says that they tie
-pub option_ties : {T : Type 0} (eq : T → T → Bool) (R : T → T → Ordering) → ((x y : T) → eq x y ≡ is_eq (R x y)) → (x y : Option T) → option_eq eq x y ≡ is_eq (option_cmp R x y)
+pub option_ties : {T : Type 0} (eq : T → T → Bool) (R : T → T → Ordering) → ((x y : T) → eq x y ≡ is_eq (R x y))
+    → (x y : Option T) → option_eq eq x y ≡ is_eq (option_cmp R x y)
 option_ties eq R tie None None = refl
 option_ties eq R tie None (Some y) = refl
 option_ties eq R tie (Some x) None = refl

@@ -88,7 +88,8 @@ pub record IsVersionsRefusal (texts : List (List ℕ)) (problem : Problem) : Typ
 
 -- the text of the greatest version that matches, of those that are equal the first; or that there is none
 pub data IsChoice (means : Version → Bool) (versions : List Version) : Told → Type 0 where
-  chosen : {place : ℕ} {v : Version} → IsBestAt greater means versions place v → IsChoice means versions (Text (version_text v))
+  chosen : {place : ℕ} {v : Version} → IsBestAt greater means versions place v
+      → IsChoice means versions (Text (version_text v))
   none_chosen : list_any means versions ≡ false → IsChoice means versions NoMatch
 
 -- it is told, and nothing else is the choice
@@ -98,25 +99,31 @@ pub record IsOnlyChoice (means : Version → Bool) (versions : List Version) (to
 
 -- of ranges the choice is answered; a tag as it is
 abbrev pub IsChosen : RangeSetOrTag → List Version → Answer → Type 0
-IsChosen (inner.RangeSet set) versions given = IsOnlyChoice (λ v. inner_means (inner.RangeSet set) v) versions (told_answer given)
+IsChosen (inner.RangeSet set) versions given =
+    IsOnlyChoice (λ v. inner_means (inner.RangeSet set) v) versions (told_answer given)
 IsChosen (inner.Tag tag) versions given = given ≡ answer.Tag tag
 
 -- ---- what each question is told
 
--- does the version fit the requirement, with pre-releases restricted or admitted: yes exactly where its comparators mean the
--- version, or that it is a tag
+-- does the version fit the requirement, with pre-releases restricted or admitted: yes exactly where its comparators
+-- mean the version, or that it is a tag
 pub data IsFit (flag : PreRelease) (f : Flavour) (requirement version : List ℕ) : Told → Type 0 where
-  ranges : (tree : List (List Comparator)) (v : Version) → IsOutcome f requirement (Ranges tree) → IsVersionOutcome (trim version) (Ok v)
+  ranges : (tree : List (List Comparator)) (v : Version) → IsOutcome f requirement (Ranges tree)
+      → IsVersionOutcome (trim version) (Ok v)
       → IsFit flag f requirement version (told_answer (answer_whether (tree_means_with flag (tree_ranges tree) v)))
-  a_tag : {name : List ℕ} {v : Version} → IsOutcome f requirement (Tag name) → IsVersionOutcome (trim version) (Ok v) → IsFit flag f requirement version (ATag name)
+  a_tag : {name : List ℕ} {v : Version} → IsOutcome f requirement (Tag name) → IsVersionOutcome (trim version) (Ok v)
+      → IsFit flag f requirement version (ATag name)
   no_requirement : IsOutcome f requirement outcome.Refused → IsFit flag f requirement version Refused
-  no_version : {fault : Refusal} → IsVersionOutcome (trim version) (Err fault) → IsFit flag f requirement version Refused
+  no_version : {fault : Refusal} → IsVersionOutcome (trim version) (Err fault)
+      → IsFit flag f requirement version Refused
 
 -- which is the greatest of the versions that the requirement's comparators mean, or that it is a tag
 pub data IsBest (f : Flavour) (requirement : List ℕ) (versions : List (List ℕ)) : Told → Type 0 where
-  best_of : {told : Told} (tree : List (List Comparator)) (vs : List Version) → IsOutcome f requirement (Ranges tree) → AreVersions versions vs
+  best_of : {told : Told} (tree : List (List Comparator)) (vs : List Version) → IsOutcome f requirement (Ranges tree)
+      → AreVersions versions vs
       → IsChoice (λ v. tree_means (tree_ranges tree) v) vs told → IsBest f requirement versions told
-  best_tag : {name : List ℕ} (vs : List Version) → IsOutcome f requirement (Tag name) → AreVersions versions vs → IsBest f requirement versions (ATag name)
+  best_tag : {name : List ℕ} (vs : List Version) → IsOutcome f requirement (Tag name) → AreVersions versions vs
+      → IsBest f requirement versions (ATag name)
   best_no_requirement : IsOutcome f requirement outcome.Refused → IsBest f requirement versions Refused
   best_no_version : HasRefused versions → IsBest f requirement versions Refused
 
@@ -127,7 +134,8 @@ pub data IsNormal (f : Flavour) (requirement : List ℕ) : Told → Type 0 where
 
 -- do the two requirements overlap, as npm reads them
 pub data IsMeeting (one other : List ℕ) : Told → Type 0 where
-  overlap : (read others : RangeSetOrTag) → IsReading Npm one read → IsReading Npm other others → IsMeeting one other (told_answer (answer_whether (inner_overlap read others)))
+  overlap : (read others : RangeSetOrTag) → IsReading Npm one read → IsReading Npm other others
+      → IsMeeting one other (told_answer (answer_whether (inner_overlap read others)))
   no_one : IsOutcome Npm one outcome.Refused → IsMeeting one other Refused
   no_other : IsOutcome Npm other outcome.Refused → IsMeeting one other Refused
 
@@ -135,7 +143,8 @@ pub data IsMeeting (one other : List ℕ) : Told → Type 0 where
 pub data IsFirstRefused (one other : List ℕ) : Failure → Type 0 where
   memory_wanting : IsFirstRefused one other None
   first_refused : {failure : Failure} → IsCutRefusal Npm (trim one) failure → IsFirstRefused one other failure
-  other_refused : {failure : Failure} (read : RangeSetOrTag) → IsReading Npm one read → IsCutRefusal Npm (trim other) failure → IsFirstRefused one other failure
+  other_refused : {failure : Failure} (read : RangeSetOrTag) → IsReading Npm one read
+      → IsCutRefusal Npm (trim other) failure → IsFirstRefused one other failure
 
 -- what is asked of the reader of a name; of no reader, the usage
 pub data ByReader (name : List ℕ) (Asked : Flavour → Told → Type 0) : Told → Type 0 where
@@ -146,23 +155,30 @@ pub data ByReader (name : List ℕ) (Asked : Flavour → Told → Type 0) : Told
 
 -- the forms of questions
 pub data IsForm (words : List (List ℕ)) : Type 0 where
-  form_fits : {reader requirement version : List ℕ} → words ≡ codes "fits" ∷ reader ∷ requirement ∷ version ∷ [] → IsForm words
-  form_fits_pre : {reader requirement version : List ℕ} → words ≡ codes "fits-pre" ∷ reader ∷ requirement ∷ version ∷ [] → IsForm words
-  form_best : {reader requirement version : List ℕ} {versions : List (List ℕ)} → words ≡ codes "best" ∷ reader ∷ requirement ∷ version ∷ versions → IsForm words
+  form_fits : {reader requirement version : List ℕ} → words ≡ codes "fits" ∷ reader ∷ requirement ∷ version ∷ []
+      → IsForm words
+  form_fits_pre : {reader requirement version : List ℕ} → words ≡ codes "fits-pre" ∷ reader ∷ requirement ∷ version ∷ []
+      → IsForm words
+  form_best : {reader requirement version : List ℕ} {versions : List (List ℕ)}
+      → words ≡ codes "best" ∷ reader ∷ requirement ∷ version ∷ versions → IsForm words
   form_normal : {reader requirement : List ℕ} → words ≡ codes "normal" ∷ reader ∷ requirement ∷ [] → IsForm words
   form_meet : {one other : List ℕ} → words ≡ codes "meet" ∷ one ∷ other ∷ [] → IsForm words
 
 -- what the words are told
 pub data IsAsked (words : List (List ℕ)) : Told → Type 0 where
-  asks_fits : {reader requirement version : List ℕ} {told : Told} → words ≡ codes "fits" ∷ reader ∷ requirement ∷ version ∷ []
+  asks_fits : {reader requirement version : List ℕ} {told : Told}
+      → words ≡ codes "fits" ∷ reader ∷ requirement ∷ version ∷ []
       → ByReader reader (λ f. IsFit Restricted f requirement version) told → IsAsked words told
-  asks_fits_pre : {reader requirement version : List ℕ} {told : Told} → words ≡ codes "fits-pre" ∷ reader ∷ requirement ∷ version ∷ []
+  asks_fits_pre : {reader requirement version : List ℕ} {told : Told}
+      → words ≡ codes "fits-pre" ∷ reader ∷ requirement ∷ version ∷ []
       → ByReader reader (λ f. IsFit Admitted f requirement version) told → IsAsked words told
-  asks_best : {reader requirement version : List ℕ} {versions : List (List ℕ)} {told : Told} → words ≡ codes "best" ∷ reader ∷ requirement ∷ version ∷ versions
+  asks_best : {reader requirement version : List ℕ} {versions : List (List ℕ)} {told : Told}
+      → words ≡ codes "best" ∷ reader ∷ requirement ∷ version ∷ versions
       → ByReader reader (λ f. IsBest f requirement (version ∷ versions)) told → IsAsked words told
   asks_normal : {reader requirement : List ℕ} {told : Told} → words ≡ codes "normal" ∷ reader ∷ requirement ∷ []
       → ByReader reader (λ f. IsNormal f requirement) told → IsAsked words told
-  asks_meet : {one other : List ℕ} {told : Told} → words ≡ codes "meet" ∷ one ∷ other ∷ [] → IsMeeting one other told → IsAsked words told
+  asks_meet : {one other : List ℕ} {told : Told} → words ≡ codes "meet" ∷ one ∷ other ∷ [] → IsMeeting one other told
+      → IsAsked words told
   asks_nothing : (IsForm words → ⊥) → IsAsked words Usage
 
 -- the result tells what is asked, and whatever is asked is what it tells, want of memory aside; the usage is told
@@ -172,8 +188,8 @@ pub record IsAnswer (Asked : Told → Type 0) (result : Result Answer Problem) :
   pub every : (told : Told) → Asked told → (told_by result ≡ OutOfMemory) ⊎ (told_by result ≡ told)
   pub usage : Asked Usage → told_by result ≡ Usage
 
--- the exit status of these words: that of what they are told, or of want of memory, or 6 where an answer to them can't be
--- written
+-- the exit status of these words: that of what they are told, or of want of memory, or 6 where an answer to them can't
+-- be written
 pub data IsStatus (words : List (List ℕ)) : ℕ → Type 0 where
   of_told : (told : Told) → IsAsked words told → IsStatus words (status_of told)
   of_wanting : IsStatus words (status_of OutOfMemory)

@@ -82,7 +82,8 @@ MeansBoth a b range = (flag : PreRelease) (v : Version)
 -- where pre-releases are admitted, a version matches it where it matches both
 abbrev pub AdmitsBoth : VersionRange → VersionRange → VersionRange → Type 0
 AdmitsBoth a b range = (v : Version)
-    → alternative_means_with Admitted (range ∷ []) v ≡ (alternative_means_with Admitted (a ∷ []) v && alternative_means_with Admitted (b ∷ []) v)
+    → alternative_means_with Admitted (range ∷ []) v
+    ≡ (alternative_means_with Admitted (a ∷ []) v && alternative_means_with Admitted (b ∷ []) v)
 
 -- a release matches it where it matches both
 abbrev pub MatchesBoth : VersionRange → VersionRange → VersionRange → Type 0

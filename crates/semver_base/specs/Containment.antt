@@ -1,5 +1,5 @@
--- Whether each version that passes one test passes another, and whether both pass the same. Source: node-semver's `subset`,
--- here exactly, of all versions that a text stands for.
+-- Whether each version that passes one test passes another, and whether both pass the same. Source: node-semver's
+-- `subset`, here exactly, of all versions that a text stands for.
 use Rattle.std.specs.Prelude.{◌≡◌, Bool, true, false, not}
 use Rattle.semver_base.specs.LeastVersion.{IsReadable}
 use Rattle.semver_base.specs.declared.version.Version.{Version}

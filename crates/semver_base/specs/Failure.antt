@@ -17,7 +17,9 @@ snippet_of (Some texts) = texts.1
 abbrev pub refusal_message : Refusal → List ℕ
 refusal_message UnexpectedCharacter = codes "Unexpected character."
 refusal_message EmptyConstraint = codes "Empty version constraint."
-refusal_message MissingMinor = codes "Missing minor version. Versions must be in the form MAJOR.MINOR.PATCH (ex. 1.0.0)."
-refusal_message MissingPatch = codes "Missing patch version. Versions must be in the form MAJOR.MINOR.PATCH (ex. 1.0.0)."
+refusal_message MissingMinor =
+    codes "Missing minor version. Versions must be in the form MAJOR.MINOR.PATCH (ex. 1.0.0)."
+refusal_message MissingPatch =
+    codes "Missing patch version. Versions must be in the form MAJOR.MINOR.PATCH (ex. 1.0.0)."
 refusal_message NumberTooLarge = codes "Number is too large."
 refusal_message BoundTooLarge = codes "Version bound is too large."

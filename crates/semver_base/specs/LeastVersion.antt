@@ -1,5 +1,5 @@
--- The least version of those that pass a test. Source: node-semver's `minVersion`, here of any test, and of two ranges or
--- sets of ranges at once.
+-- The least version of those that pass a test. Source: node-semver's `minVersion`, here of any test, and of two ranges
+-- or sets of ranges at once.
 use Rattle.std.specs.Prelude.{◌≡◌, ℕ, List, [], Bool, not, ◌&&◌, IfSome, Option, Some, None, Ok, true, false}
 use Rattle.std.specs.List.{list_all}
 use Rattle.std.specs.Ordering.{is_le}
@@ -33,7 +33,8 @@ HasNoBuild v = v.build ≡ []
 
 -- no other version without a build whose text is read back, or none, is the least of the test
 abbrev pub IsOnlyLeast : (Version → Bool) → Option Version → Type 0
-IsOnlyLeast test least = (other : Option Version) → IsLeast test other → IfSome other HasNoBuild → IfSome other ReadsBack → other ≡ least
+IsOnlyLeast test least =
+    (other : Option Version) → IsLeast test other → IfSome other HasNoBuild → IfSome other ReadsBack → other ≡ least
 
 -- ---- what two or more mean
 

@@ -53,11 +53,13 @@ or_zero (Val n) = n
 
 -- `M.m.p-pre+build`, with wildcards as 0
 abbrev pub lowest : Partial → Version
-lowest p = record { major = or_zero p.major; minor = or_zero p.minor; patch = or_zero p.patch; pre = p.pre; build = p.build }
+lowest p =
+    record { major = or_zero p.major; minor = or_zero p.minor; patch = or_zero p.patch; pre = p.pre; build = p.build }
 
 -- `M.m.p-pre`, with wildcards as 0
 abbrev pub without_build : Partial → Version
-without_build p = record { major = or_zero p.major; minor = or_zero p.minor; patch = or_zero p.patch; pre = p.pre; build = [] }
+without_build p =
+    record { major = or_zero p.major; minor = or_zero p.minor; patch = or_zero p.patch; pre = p.pre; build = [] }
 
 -- the end at a version that holds it
 abbrev pub up_to : Version → RangeBound
@@ -119,8 +121,10 @@ caret p = caret_by p p.major p.minor p.patch
 
 abbrev pub upper_by : Partial → XRange → XRange → XRange → EndLine
 upper_by p Wildcard minor patch = record { end = bound.Unbounded; sums = [] }
-upper_by p (Val major) Wildcard patch = record { end = to_below (release (major + 1) 0 (or_zero patch)); sums = (major + 1) ∷ [] }
-upper_by p (Val major) (Val minor) Wildcard = record { end = to_below (release major (minor + 1) 0); sums = (minor + 1) ∷ [] }
+upper_by p (Val major) Wildcard patch =
+    record { end = to_below (release (major + 1) 0 (or_zero patch)); sums = (major + 1) ∷ [] }
+upper_by p (Val major) (Val minor) Wildcard =
+    record { end = to_below (release major (minor + 1) 0); sums = (minor + 1) ∷ [] }
 upper_by p (Val major) (Val minor) (Val patch) = record { end = up_to (without_build p); sums = [] }
 
 abbrev pub upper : Partial → EndLine
@@ -149,7 +153,8 @@ greater_range k p = greater_range_by k p.major p.minor p.patch
 -- ---- equal: the one version, or what the wildcards leave open
 
 abbrev pub equal_by : Partial → XRange → XRange → XRange → Line
-equal_by p (Val major) (Val minor) (Val patch) = record { range = between (from (lowest p)) (up_to (lowest p)); sums = [] }
+equal_by p (Val major) (Val minor) (Val patch) =
+    record { range = between (from (lowest p)) (up_to (lowest p)); sums = [] }
 equal_by p major minor patch = greater_range kind.Inclusive p
 
 abbrev pub equal : Partial → Line
@@ -163,9 +168,12 @@ at_least_by p (Val major) = record { range = between (from (without_build p)) bo
 
 abbrev pub above_by : Partial → XRange → XRange → XRange → Line
 above_by p Wildcard minor patch = record { range = nothing; sums = [] }
-above_by p (Val major) Wildcard patch = record { range = between (from (release (major + 1) 0 (or_zero patch))) bound.Unbounded; sums = (major + 1) ∷ [] }
-above_by p (Val major) (Val minor) Wildcard = record { range = between (from (release major (minor + 1) 0)) bound.Unbounded; sums = (minor + 1) ∷ [] }
-above_by p (Val major) (Val minor) (Val patch) = record { range = between (bound_at kind.Exclusive (without_build p)) bound.Unbounded; sums = [] }
+above_by p (Val major) Wildcard patch =
+    record { range = between (from (release (major + 1) 0 (or_zero patch))) bound.Unbounded; sums = (major + 1) ∷ [] }
+above_by p (Val major) (Val minor) Wildcard =
+    record { range = between (from (release major (minor + 1) 0)) bound.Unbounded; sums = (minor + 1) ∷ [] }
+above_by p (Val major) (Val minor) (Val patch) =
+    record { range = between (bound_at kind.Exclusive (without_build p)) bound.Unbounded; sums = [] }
 
 abbrev pub greater_than : VersionBoundKind → Partial → Line
 greater_than kind.Inclusive p = at_least_by p p.major
@@ -183,7 +191,8 @@ version_with_pre p major minor patch = record { major = major; minor = minor; pa
 abbrev pub at_most_by : Partial → XRange → XRange → XRange → Line
 at_most_by p Wildcard minor patch = any
 at_most_by p (Val major) Wildcard Wildcard = from_zero (to_below (release (major + 1) 0 0)) ((major + 1) ∷ [])
-at_most_by p (Val major) Wildcard (Val patch) = from_zero (to_below (version_with_pre p (major + 1) 0 patch)) ((major + 1) ∷ [])
+at_most_by p (Val major) Wildcard (Val patch) =
+    from_zero (to_below (version_with_pre p (major + 1) 0 patch)) ((major + 1) ∷ [])
 at_most_by p (Val major) (Val minor) Wildcard = from_zero (to_below (release major (minor + 1) 0)) ((minor + 1) ∷ [])
 at_most_by p (Val major) (Val minor) (Val patch) = from_zero (up_to (without_build p)) []
 

@@ -1,5 +1,5 @@
--- The shortest usual form of a range, as comparators. Source: node-semver's range grammar, whose tilde, caret and partial
--- versions are short for two bounds.
+-- The shortest usual form of a range, as comparators. Source: node-semver's range grammar, whose tilde, caret and
+-- partial versions are short for two bounds.
 use Rattle.std.specs.Prelude.{ℕ, List, [], ◌∷◌, length, map, ◌+◌, Bool, ◌==◌, ◌&&◌, ◌||◌, nat_lt, if◌then◌else◌}
 use Rattle.semver_base.specs.Comparators.{Comparator, Caret, Plain, Signed, Tilde}
 use Rattle.semver_base.specs.Meaning.{release}
@@ -36,7 +36,8 @@ ending kind.Exclusive e = Signed sign.LessThan (whole e)
 
 -- the version has these numbers, neither a pre-release nor a build
 abbrev pub is_plain : Version → ℕ → ℕ → ℕ → Bool
-is_plain v major minor patch = (v.major == major) && ((v.minor == minor) && ((v.patch == patch) && ((length v.pre == 0) && (length v.build == 0))))
+is_plain v major minor patch =
+    (v.major == major) && ((v.minor == minor) && ((v.patch == patch) && ((length v.pre == 0) && (length v.build == 0))))
 
 abbrev pub is_major : Version → Version → Bool
 is_major s e = is_plain s s.major 0 0 && is_plain e (s.major + 1) 0 0

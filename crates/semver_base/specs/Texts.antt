@@ -1,4 +1,5 @@
--- Texts that stand in the value itself where they are short, lists whose copies share their items, and what replacing is.
+-- Texts that stand in the value itself where they are short, lists whose copies share their items, and what replacing
+-- is.
 use Rattle.std.specs.Prelude.{◌≡◌, ℕ, List, [], ◌++◌, ◌<◌, ◌≤◌, ◌==◌, length, take, drop, slice_get, string_bytes, encode_utf8, Option, Some, None}
 use Rattle.std.specs.List.{take_while}
 use Rattle.std.specs.Str.{chars}
@@ -49,6 +50,7 @@ pub data IsReplaced (from to : List ℕ) : List ℕ → List ℕ → Type 0 wher
   no_more : {text : List ℕ} → FindsText from text None → IsReplaced from to text text
   one_more : {text replaced : List ℕ} {start end : ℕ} → FindsText from text (Some (start, end)) → 0 < length from
       → IsReplaced from to (drop end text) replaced → IsReplaced from to text (take start text ++ (to ++ replaced))
-  before_character : {text rest replaced : List ℕ} (c : ℕ) → length from ≡ 0 → IsFirstCharacter c text → text ≡ encode_utf8 c ++ rest
+  before_character : {text rest replaced : List ℕ} (c : ℕ) → length from ≡ 0 → IsFirstCharacter c text
+      → text ≡ encode_utf8 c ++ rest
       → IsReplaced from to rest replaced → IsReplaced from to text (to ++ (encode_utf8 c ++ replaced))
   at_end : length from ≡ 0 → IsReplaced from to [] to

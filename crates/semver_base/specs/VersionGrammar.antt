@@ -45,9 +45,14 @@ LacksDot text = (rest : List ℕ) → text ≡ 46 ∷ rest → ⊥
 -- the first fault of numbers with dots between, each number as long as it goes; missing has the refusal for each dot
 -- that has to come
 pub data IsNumberFault : List Refusal → List ℕ → Refusal → Type 0 where
-  too_large : {missing : List Refusal} {text rest : List ℕ} {n : ℕ} → IsLongest IsLooseNumber text n rest → 2 ^ 64 ≤ n → IsNumberFault missing text NumberTooLarge
-  no_dot : {refusal : Refusal} {missing : List Refusal} {text rest : List ℕ} {n : ℕ} → IsLongest IsLooseNumber text n rest → n < 2 ^ 64 → LacksDot rest → IsNumberFault (refusal ∷ missing) text refusal
-  later : {refusal fault : Refusal} {missing : List Refusal} {text rest : List ℕ} {n : ℕ} → IsLongest IsLooseNumber text n (46 ∷ rest) → n < 2 ^ 64 → IsNumberFault missing rest fault → IsNumberFault (refusal ∷ missing) text fault
+  too_large : {missing : List Refusal} {text rest : List ℕ} {n : ℕ} → IsLongest IsLooseNumber text n rest → 2 ^ 64 ≤ n
+      → IsNumberFault missing text NumberTooLarge
+  no_dot : {refusal : Refusal} {missing : List Refusal} {text rest : List ℕ} {n : ℕ}
+      → IsLongest IsLooseNumber text n rest → n < 2 ^ 64 → LacksDot rest
+      → IsNumberFault (refusal ∷ missing) text refusal
+  later : {refusal fault : Refusal} {missing : List Refusal} {text rest : List ℕ} {n : ℕ}
+      → IsLongest IsLooseNumber text n (46 ∷ rest) → n < 2 ^ 64 → IsNumberFault missing rest fault
+      → IsNumberFault (refusal ∷ missing) text fault
 
 -- a number that is too large or a component that is missing is the first fault of the text
 pub record IsFirstFault (text : List ℕ) (fault : Refusal) : Type 0 where
@@ -59,7 +64,8 @@ pub record IsFirstFault (text : List ℕ) (fault : Refusal) : Type 0 where
 pub data IsVersionOutcome (text : List ℕ) : Result Version Refusal → Type 0 where
   is_version : {v : Version} → IsVersion text v → AllNumbersFit v → IsVersionOutcome text (Ok v)
   is_fault : {fault : Refusal} → IsFirstFault text fault → IsVersionOutcome text (Err fault)
-  is_outside : ((v : Version) → IsVersion text v → ⊥) → ((fault : Refusal) → IsFirstFault text fault → ⊥) → IsVersionOutcome text (Err UnexpectedCharacter)
+  is_outside : ((v : Version) → IsVersion text v → ⊥) → ((fault : Refusal) → IsFirstFault text fault → ⊥)
+      → IsVersionOutcome text (Err UnexpectedCharacter)
 
 -- ---- answers
 
@@ -78,9 +84,12 @@ version_failure fault text = Some (refusal_message fault, version_snippet fault 
 
 -- the failure is want of memory, or shows the refusal that the text has as its outcome
 abbrev pub IsVersionRefusal : List ℕ → Option (List ℕ × Option (List ℕ)) → Type 0
-IsVersionRefusal text failure = (failure ≡ None) ⊎ ((fault : Refusal) × IsVersionOutcome text (Err fault) × (failure ≡ version_failure fault text))
+IsVersionRefusal text failure =
+    (failure ≡ None) ⊎ ((fault : Refusal) × IsVersionOutcome text (Err fault) × (failure ≡ version_failure fault text))
 
 -- the answer to a text with this outcome, want of memory aside; source is the failure in the error
-abbrev pub IsVersionAnswer : {E : Type 0} → (E → Option (List ℕ × Option (List ℕ))) → List ℕ → Result Version Refusal → Result Version E → Type 0
+abbrev pub IsVersionAnswer : {E : Type 0} → (E → Option (List ℕ × Option (List ℕ))) → List ℕ → Result Version Refusal
+    → Result Version E → Type 0
 IsVersionAnswer source text (Ok v) result = MatchResult result (λ version. version ≡ v) (λ e. source e ≡ None)
-IsVersionAnswer source text (Err fault) result = IsErrAnd result (λ e. (source e ≡ None) ⊎ (source e ≡ version_failure fault text))
+IsVersionAnswer source text (Err fault) result =
+    IsErrAnd result (λ e. (source e ≡ None) ⊎ (source e ≡ version_failure fault text))

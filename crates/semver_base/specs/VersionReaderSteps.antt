@@ -21,7 +21,8 @@ pub record HasLargeNumber (text : List ℕ) : Type 0 where
   pub large : 2 ^ 64 ≤ n
 
 abbrev pub IsNumberRefusal : List ℕ → Refusal → Type 0
-IsNumberRefusal text refusal = ((refusal ≡ NumberTooLarge) × HasLargeNumber text) ⊎ ((refusal ≡ UnexpectedCharacter) × HasNone IsLooseNumber text)
+IsNumberRefusal text refusal =
+    ((refusal ≡ NumberTooLarge) × HasLargeNumber text) ⊎ ((refusal ≡ UnexpectedCharacter) × HasNone IsLooseNumber text)
 
 -- the longest three numbers at the front, which fit
 pub record IsFittingTriple (text : List ℕ) (v : ℕ × (ℕ × ℕ)) (rest : List ℕ) : Type 0 where

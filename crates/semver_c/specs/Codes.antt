@@ -67,13 +67,15 @@ abbrev pub Tells : {X : Type 0} → (X → ℕ) → (X → List ℕ) → Result 
 Tells number words outcome code text = (code ≡ 6) ⊎ ((code ≡ code_of number outcome) × IsTextOf words outcome text)
 
 -- a text is placed that tells the outcome with the code
-pub record IsTold {X : Type 0} (number : X → ℕ) (words : X → List ℕ) (outcome : Result X ℕ) (old new : List ℕ) (needed code : ℕ) : Type 0 where
+pub record IsTold {X : Type 0} (number : X → ℕ) (words : X → List ℕ) (outcome : Result X ℕ) (old new : List ℕ)
+    (needed code : ℕ) : Type 0 where
   pub text : List ℕ
   pub placed_is : IsPlaced text old new needed
   pub tells : Tells number words outcome code text
 
 -- a text is placed that tells the outcome of the question with the code, and whatever is its outcome is told
-pub record IsReply {X : Type 0} (Asked : Result X ℕ → Type 0) (number : X → ℕ) (words : X → List ℕ) (old new : List ℕ) (needed code : ℕ) : Type 0 where
+pub record IsReply {X : Type 0} (Asked : Result X ℕ → Type 0) (number : X → ℕ) (words : X → List ℕ) (old new : List ℕ)
+    (needed code : ℕ) : Type 0 where
   pub text : List ℕ
   pub placed_is : IsPlaced text old new needed
   pub is : (code ≡ 6) ⊎ ((outcome : Result X ℕ) × Asked outcome × Tells number words outcome code text)

@@ -15,9 +15,11 @@ kept_outcome value (Some x) code = Ok (value x)
 kept_outcome value None code = Err code
 
 -- what is kept is the outcome of the question, with the code 1, and the question has no other; want of memory aside
-pub record IsKept {V X : Type 0} (Asked : Result X ℕ → Type 0) (value : V → X) (kept : Option V) (code : ℕ) : Type 0 where
+pub record IsKept {V X : Type 0} (Asked : Result X ℕ → Type 0) (value : V → X) (kept : Option V)
+    (code : ℕ) : Type 0 where
   pub is : (kept_outcome value kept code ≡ wanting) ⊎ Asked (kept_outcome value kept code)
-  pub only : (outcome : Result X ℕ) → Asked outcome → (kept_outcome value kept code ≡ wanting) ⊎ (kept_outcome value kept code ≡ outcome)
+  pub only : (outcome : Result X ℕ) → Asked outcome → (kept_outcome value kept code ≡ wanting)
+      ⊎ (kept_outcome value kept code ≡ outcome)
   pub one : IfSome kept (λ x. code ≡ 1)
 
 -- does a version fit a requirement that is kept
@@ -40,5 +42,6 @@ IsKeptOrder cmp one other code = Unit {0}
 
 -- 1 is told exactly where both stand for the same, and else 0
 abbrev pub IsKeptEqual : Option Requirement → Option Requirement → ℕ → Type 0
-IsKeptEqual (Some req) (Some other) code = (told : Bool) × (IsTrue told ↔ (req.inner ≡ other.inner)) × (code ≡ bool_code told)
+IsKeptEqual (Some req) (Some other) code =
+    (told : Bool) × (IsTrue told ↔ (req.inner ≡ other.inner)) × (code ≡ bool_code told)
 IsKeptEqual one other code = Unit {0}

@@ -18,7 +18,8 @@ use Rattle.semver_c.specs.declared.lists.Best.TheVariants as best
 
 -- the code of a line: whether its version fits, or 4 where that is refused
 pub data FitsLine (flag : PreRelease) (read : RangeSetOrTag) (text : List ℕ) : Result ℕ ℕ → Type 0 where
-  line_fits : {v : Version} → IsVersionOutcome (trim text) (Ok v) → FitsLine flag read text (Ok (fit_code (fit_of flag read v)))
+  line_fits : {v : Version} → IsVersionOutcome (trim text) (Ok v)
+      → FitsLine flag read text (Ok (fit_code (fit_of flag read v)))
   line_refused : {fault : Refusal} → IsVersionOutcome (trim text) (Err fault) → FitsLine flag read text (Ok 4)
 
 -- each text has the value in its place
@@ -29,14 +30,16 @@ AreEach Asked (text ∷ texts) [] = ⊥
 AreEach Asked (text ∷ texts) (x ∷ xs) = Asked text (Ok x) × AreEach Asked texts xs
 
 -- the same question of each text: its values in their places, or the problem of one of them
-pub data Each {A : Type 0} (Asked : List ℕ → Result A ℕ → Type 0) (texts : List (List ℕ)) : Result (List A) ℕ → Type 0 where
+pub data Each {A : Type 0} (Asked : List ℕ → Result A ℕ → Type 0)
+    (texts : List (List ℕ)) : Result (List A) ℕ → Type 0 where
   each_value : {xs : List A} → AreEach Asked texts xs → Each Asked texts (Ok xs)
   one_problem : {text : List ℕ} {code : ℕ} → Contains texts text → Asked text (Err code) → Each Asked texts (Err code)
 
 -- the code of line n is answer n
 abbrev pub FitsLines : ℕ → ℕ → List ℕ → List ℕ → Result (List ℕ) ℕ → Type 0
 FitsLines number reader requirement versions =
-    Of (Requirement reader requirement) (λ read. Of (IsText versions) (λ text. Each (FitsLine (pre_release_of number) read) (lines text)))
+    Of (Requirement reader requirement)
+    (λ read. Of (IsText versions) (λ text. Each (FitsLine (pre_release_of number) read) (lines text)))
 
 -- ---- the best of several versions
 
@@ -48,11 +51,14 @@ best_of (Some place) = best.At place
 abbrev pub BestOf : PreRelease → RangeSetOrTag → List Version → Result Best ℕ → Type 0
 BestOf flag (inner.Tag tag) versions outcome = outcome ≡ Ok best.Tag
 BestOf flag (inner.RangeSet set) versions outcome =
-    (found : Option ℕ) × IsBestMatch greater (λ v. inner_means_with flag (inner.RangeSet set) v) versions found × (outcome ≡ Ok (best_of found))
+    (found : Option ℕ) × IsBestMatch greater (λ v. inner_means_with flag (inner.RangeSet set) v) versions found
+    × (outcome ≡ Ok (best_of found))
 
 abbrev pub BestLine : ℕ → ℕ → List ℕ → List ℕ → Result Best ℕ → Type 0
 BestLine number reader requirement versions =
-    Of (Requirement reader requirement) (λ read. Of (Of (IsText versions) (λ text. Each IsVersion (lines text))) (λ vs. BestOf (pre_release_of number) read vs))
+    Of (Requirement reader requirement)
+    (λ read. Of (Of (IsText versions) (λ text. Each IsVersion (lines text)))
+    (λ vs. BestOf (pre_release_of number) read vs))
 
 -- the code, and the place where there is one; else that is as it was
 abbrev pub TellsPlace : Result Best ℕ → ℕ → ℕ → ℕ → Type 0

@@ -33,7 +33,9 @@ fit_of flag (inner.RangeSet set) v = fit_whether (inner_means_with flag (inner.R
 fit_of flag (inner.Tag tag) v = fit.Tag
 
 abbrev pub Fits : ℕ → ℕ → List ℕ → List ℕ → Result Fit ℕ → Type 0
-Fits number reader requirement version = Of (Requirement reader requirement) (λ read. Of (VersionOf version) (λ v. Is (fit_of (pre_release_of number) read v)))
+Fits number reader requirement version =
+    Of (Requirement reader requirement)
+    (λ read. Of (VersionOf version) (λ v. Is (fit_of (pre_release_of number) read v)))
 
 -- ---- of two versions, which is before the other
 
@@ -43,7 +45,8 @@ Orders one other = Of (VersionOf one) (λ v. Of (VersionOf other) (λ w. Is (pre
 -- ---- do two requirements overlap
 
 abbrev pub Overlaps : ℕ → List ℕ → List ℕ → Result Bool ℕ → Type 0
-Overlaps reader one other = Of (Requirement reader one) (λ read. Of (Requirement reader other) (λ others. Is (inner_overlap read others)))
+Overlaps reader one other =
+    Of (Requirement reader one) (λ read. Of (Requirement reader other) (λ others. Is (inner_overlap read others)))
 
 -- ---- texts: the normal text of a requirement, and how a version is displayed
 
@@ -61,7 +64,8 @@ MayBeTag bytes = Of (IsText bytes) (λ text. Is (is_valid_tag text))
 -- ---- the least version of a test, without a build and with a text that is read back; or that there is none
 
 pub data IsLeastOf (means : Version → Bool) : Result Least ℕ → Type 0 where
-  is_least : {v : Version} → IsLeast means (Some v) → HasNoBuild v → ReadsBack v → IsLeastOf means (Ok (least.Version v))
+  is_least : {v : Version} → IsLeast means (Some v) → HasNoBuild v → ReadsBack v
+      → IsLeastOf means (Ok (least.Version v))
   is_none : IsLeast means None → IsLeastOf means (Ok least.Nothing)
 
 abbrev pub least_of : Option Version → Least
@@ -74,8 +78,10 @@ LeastOf (inner.RangeSet set) outcome = IsLeastOf (inner_means (inner.RangeSet se
 LeastOf (inner.Tag tag) outcome = outcome ≡ Ok least.Tag
 
 -- of two, by what is meant of both
-abbrev pub LeastOfBoth : (RangeSetOrTag → RangeSetOrTag → Version → Bool) → RangeSetOrTag → RangeSetOrTag → Result Least ℕ → Type 0
-LeastOfBoth means (inner.RangeSet set) (inner.RangeSet other) outcome = IsLeastOf (means (inner.RangeSet set) (inner.RangeSet other)) outcome
+abbrev pub LeastOfBoth : (RangeSetOrTag → RangeSetOrTag → Version → Bool) → RangeSetOrTag → RangeSetOrTag
+    → Result Least ℕ → Type 0
+LeastOfBoth means (inner.RangeSet set) (inner.RangeSet other) outcome =
+    IsLeastOf (means (inner.RangeSet set) (inner.RangeSet other)) outcome
 LeastOfBoth means (inner.Tag tag) other outcome = outcome ≡ Ok least.Tag
 LeastOfBoth means (inner.RangeSet set) (inner.Tag tag) outcome = outcome ≡ Ok least.Tag
 
@@ -84,8 +90,11 @@ LeastMatch reader requirement = Of (Requirement reader requirement) LeastOf
 
 -- both match it
 abbrev pub LeastCommon : ℕ → List ℕ → List ℕ → Result Least ℕ → Type 0
-LeastCommon reader one other = Of (Requirement reader one) (λ read. Of (Requirement reader other) (λ others. LeastOfBoth inners_mean read others))
+LeastCommon reader one other =
+    Of (Requirement reader one) (λ read. Of (Requirement reader other) (λ others. LeastOfBoth inners_mean read others))
 
 -- the first matches it, and the other doesn't
 abbrev pub LeastOutside : ℕ → List ℕ → List ℕ → Result Least ℕ → Type 0
-LeastOutside reader one other = Of (Requirement reader one) (λ read. Of (Requirement reader other) (λ others. LeastOfBoth inner_means_alone read others))
+LeastOutside reader one other =
+    Of (Requirement reader one)
+    (λ read. Of (Requirement reader other) (λ others. LeastOfBoth inner_means_alone read others))

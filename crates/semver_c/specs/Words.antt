@@ -46,9 +46,11 @@ abbrev pub wanting : {X : Type 0} → Result X ℕ
 wanting = Err 6
 
 -- the result is the outcome of the question, which has no other; want of memory aside
-pub record IsAnswer {E X : Type 0} (Asked : Result X ℕ → Type 0) (value : E → X) (result : Result E Problem) : Type 0 where
+pub record IsAnswer {E X : Type 0} (Asked : Result X ℕ → Type 0) (value : E → X)
+    (result : Result E Problem) : Type 0 where
   pub is : (outcome_of value result ≡ wanting) ⊎ Asked (outcome_of value result)
-  pub only : (outcome : Result X ℕ) → Asked outcome → (outcome_of value result ≡ wanting) ⊎ (outcome_of value result ≡ outcome)
+  pub only : (outcome : Result X ℕ) → Asked outcome → (outcome_of value result ≡ wanting)
+      ⊎ (outcome_of value result ≡ outcome)
 
 -- the answer is this value
 abbrev pub Is : {X : Type 0} → X → Result X ℕ → Type 0

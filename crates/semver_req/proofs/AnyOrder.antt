@@ -3,7 +3,7 @@ use Rattle.std.proofs.Common.{◌≡◌, ◌&&◌, Bool, true, false, List, [], 
 use Rattle.std.specs.List.{list_all, list_any}
 use Rattle.std.specs.Prelude.{◌||◌, IfOk, IfSome, IsPermutation}
 use Rattle.std.proofs.lemmas.List.Sorted.{list_any-IsPermutation}
-use Rattle.semver_base.specs.LeastVersion.{HasNoBuild, IsLeast, IsOnlyLeast}
+use Rattle.semver_base.specs.LeastVersion.{HasNoBuild, IsLeast}
 use Rattle.semver_base.specs.Meaning.{range_means_with, set_means_with}
 use Rattle.semver_base.specs.NormalText.{AreWritableRanges}
 use Rattle.semver_base.specs.VersionText.{ReadsBack}

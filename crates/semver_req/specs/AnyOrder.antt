@@ -1,5 +1,5 @@
 -- Requirements with the same ranges in any order, and that they have one least version.
-use Rattle.std.specs.Prelude.{◌≡◌, ℕ, List, [], ◌∷◌, Bool, Option, IsPermutation, map}
+use Rattle.std.specs.Prelude.{◌≡◌, List, [], ◌∷◌, Bool, Option, IsPermutation, map}
 use Rattle.semver_base.specs.LeastVersion.{IsOnlyLeast}
 use Rattle.semver_base.specs.declared.range.PreRelease.{PreRelease}
 use Rattle.semver_base.specs.declared.range.PreRelease.TheVariants.{Restricted}
@@ -30,13 +30,17 @@ abbrev pub InAnyOrder : (RangeSetOrTag → Version → Bool) → RangeSetOrTag �
 InAnyOrder test one least = (same : RangeSetOrTag) → IsReordered one same → IsOnlyLeast (test same) least
 
 -- of two requirements
-abbrev pub BothInAnyOrder : (RangeSetOrTag → RangeSetOrTag → Version → Bool) → RangeSetOrTag → RangeSetOrTag → Option Version → Type 0
-BothInAnyOrder test one other least = (same others : RangeSetOrTag) → IsReordered one same → IsReordered other others → IsOnlyLeast (test same others) least
+abbrev pub BothInAnyOrder : (RangeSetOrTag → RangeSetOrTag → Version → Bool) → RangeSetOrTag → RangeSetOrTag
+    → Option Version → Type 0
+BothInAnyOrder test one other least =
+    (same others : RangeSetOrTag) → IsReordered one same → IsReordered other others
+    → IsOnlyLeast (test same others) least
 
 -- of a requirement and others, which stand in any order too
 abbrev pub AllInAnyOrderWith : PreRelease → RangeSetOrTag → List Requirement → Option Version → Type 0
 AllInAnyOrderWith flag own others least = (same : RangeSetOrTag) (rest : List Requirement)
-    → AreReordered (own ∷ map (λ (req : Requirement). req.inner) others) (same ∷ map (λ (req : Requirement). req.inner) rest)
+    → AreReordered (own ∷ map (λ (req : Requirement). req.inner) others)
+    (same ∷ map (λ (req : Requirement). req.inner) rest)
     → IsOnlyLeast (all_inners_mean_with flag same rest) least
 
 abbrev pub AllInAnyOrder : RangeSetOrTag → List Requirement → Option Version → Type 0

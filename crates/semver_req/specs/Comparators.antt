@@ -1,5 +1,5 @@
--- Comparators as they are written. Source: node-semver's range grammar (`primitive`, `tilde`, `caret`), with the ignored
--- signs and the leading `v` that npm accepts.
+-- Comparators as they are written. Source: node-semver's range grammar (`primitive`, `tilde`, `caret`), with the
+-- ignored signs and the leading `v` that npm accepts.
 use Rattle.std.specs.Prelude.{◌≡◌, ◌⊎◌, ℕ, List, [], ◌∷◌, ◌++◌, Bool, ◌&&◌, Option, codes, if◌then◌else◌}
 use Rattle.semver_base.specs.Characters.{equals_sign, letter_v}
 use Rattle.semver_base.specs.Comparators.{Caret, Comparator, Hyphen, Plain, Signed, Tilde, comparator_line, sign_text, signed}
@@ -25,7 +25,9 @@ IsSign text sign = text ≡ sign_text sign
 -- the sign is with_equal, which a `=` at the front of text ends, or where there is none the sign alone; rest is what
 -- follows
 abbrev pub IsMaybeEqual : List ℕ → PrimitiveKind → PrimitiveKind → PrimitiveKind → List ℕ → Type 0
-IsMaybeEqual text alone with_equal sign rest = ((sign ≡ with_equal) × (text ≡ equals_sign ∷ rest)) ⊎ ((sign ≡ alone) × (rest ≡ text) × ((more : List ℕ) → text ≡ equals_sign ∷ more → ⊥))
+IsMaybeEqual text alone with_equal sign rest =
+    ((sign ≡ with_equal) × (text ≡ equals_sign ∷ rest))
+    ⊎ ((sign ≡ alone) × (rest ≡ text) × ((more : List ℕ) → text ≡ equals_sign ∷ more → ⊥))
 
 -- a sign, blanks and a partial version
 abbrev pub IsPrimitive : Flavour → List ℕ → PrimitiveKind × Partial → Type 0

@@ -1,5 +1,5 @@
--- The ranges that a reader keeps of the comparators of a text. Source: node-semver's description of ranges, in which the
--- comparators of an alternative are joined by "and", and alternatives by "or".
+-- The ranges that a reader keeps of the comparators of a text. Source: node-semver's description of ranges, in which
+-- the comparators of an alternative are joined by "and", and alternatives by "or".
 use Rattle.std.specs.Prelude.{◌≡◌, ℕ, List, [], ◌∷◌, map, not}
 use Rattle.std.specs.List.{filter, fold}
 use Rattle.semver_base.specs.Clamp.{clamped}

@@ -32,7 +32,8 @@ pub data IsTagOr : List ℕ → Outcome → Type 0 where
 
 -- the piece is in the grammar, as comparators that all fit, or it is blanks before a `||`, which is everything
 abbrev pub IsGood : Flavour → Bool → List ℕ → List Comparator → Type 0
-IsGood f followed piece cs = (IsPiece f piece cs × (list_all fits cs ≡ true)) ⊎ ((followed ≡ true) × IsBlanks piece tt × (cs ≡ []))
+IsGood f followed piece cs =
+    (IsPiece f piece cs × (list_all fits cs ≡ true)) ⊎ ((followed ≡ true) × IsBlanks piece tt × (cs ≡ []))
 
 abbrev pub IsBad : Flavour → Bool → List ℕ → Type 0
 IsBad f followed piece = (cs : List Comparator) → IsGood f followed piece cs → ⊥
@@ -40,18 +41,28 @@ IsBad f followed piece = (cs : List Comparator) → IsGood f followed piece cs �
 -- the good ones of these pieces, in order
 pub data AreGoodOnes (f : Flavour) : Bool → List (List ℕ) → List (List Comparator) → Type 0 where
   none_left : {b : Bool} → AreGoodOnes f b [] []
-  good : {b : Bool} {piece : List ℕ} {pieces : List (List ℕ)} {cs : List Comparator} {tree : List (List Comparator)} → IsGood f b piece cs → AreGoodOnes f false pieces tree → AreGoodOnes f b (piece ∷ pieces) (cs ∷ tree)
-  bad : {b : Bool} {piece : List ℕ} {pieces : List (List ℕ)} {tree : List (List Comparator)} → IsBad f b piece → AreGoodOnes f false pieces tree → AreGoodOnes f b (piece ∷ pieces) tree
+  good : {b : Bool} {piece : List ℕ} {pieces : List (List ℕ)} {cs : List Comparator} {tree : List (List Comparator)}
+      → IsGood f b piece cs → AreGoodOnes f false pieces tree → AreGoodOnes f b (piece ∷ pieces) (cs ∷ tree)
+  bad : {b : Bool} {piece : List ℕ} {pieces : List (List ℕ)} {tree : List (List Comparator)} → IsBad f b piece
+      → AreGoodOnes f false pieces tree → AreGoodOnes f b (piece ∷ pieces) tree
 
 -- what is made of a text that is cut at its `||`
 pub data IsCutOutcome : Flavour → List ℕ → Outcome → Type 0 where
   -- exactly one piece
-  one_good : {f : Flavour} {text piece : List ℕ} {b : Bool} {cs : List Comparator} → ArePieces text b (piece ∷ []) → IsGood f b piece cs → IsCutOutcome f text (Ranges (cs ∷ []))
-  one_bad : {f : Flavour} {text piece : List ℕ} {b : Bool} {o : Outcome} → ArePieces text b (piece ∷ []) → IsBad f b piece → IsTagOr (trim piece) o → IsCutOutcome f text o
+  one_good : {f : Flavour} {text piece : List ℕ} {b : Bool} {cs : List Comparator} → ArePieces text b (piece ∷ [])
+      → IsGood f b piece cs → IsCutOutcome f text (Ranges (cs ∷ []))
+  one_bad : {f : Flavour} {text piece : List ℕ} {b : Bool} {o : Outcome} → ArePieces text b (piece ∷ [])
+      → IsBad f b piece → IsTagOr (trim piece) o → IsCutOutcome f text o
   -- two or more: npm ignores bad ones, the normalized reader refuses the whole text for one
-  npm_many : {text one two : List ℕ} {more : List (List ℕ)} {b : Bool} {tree : List (List Comparator)} → ArePieces text b (one ∷ two ∷ more) → AreGoodOnes Npm b (one ∷ two ∷ more) tree → IsCutOutcome Npm text (Ranges tree)
-  normal_many : {text one two : List ℕ} {more : List (List ℕ)} {b : Bool} {tree : List (List Comparator)} → ArePieces text b (one ∷ two ∷ more) → AreGoodOnes Normal b (one ∷ two ∷ more) tree → length tree ≡ length (one ∷ two ∷ more) → IsCutOutcome Normal text (Ranges tree)
-  normal_refused : {text one two : List ℕ} {more : List (List ℕ)} {b : Bool} {tree : List (List Comparator)} → ArePieces text b (one ∷ two ∷ more) → AreGoodOnes Normal b (one ∷ two ∷ more) tree → length tree < length (one ∷ two ∷ more) → IsCutOutcome Normal text Refused
+  npm_many : {text one two : List ℕ} {more : List (List ℕ)} {b : Bool} {tree : List (List Comparator)}
+      → ArePieces text b (one ∷ two ∷ more) → AreGoodOnes Npm b (one ∷ two ∷ more) tree
+      → IsCutOutcome Npm text (Ranges tree)
+  normal_many : {text one two : List ℕ} {more : List (List ℕ)} {b : Bool} {tree : List (List Comparator)}
+      → ArePieces text b (one ∷ two ∷ more) → AreGoodOnes Normal b (one ∷ two ∷ more) tree
+      → length tree ≡ length (one ∷ two ∷ more) → IsCutOutcome Normal text (Ranges tree)
+  normal_refused : {text one two : List ℕ} {more : List (List ℕ)} {b : Bool} {tree : List (List Comparator)}
+      → ArePieces text b (one ∷ two ∷ more) → AreGoodOnes Normal b (one ∷ two ∷ more) tree
+      → length tree < length (one ∷ two ∷ more) → IsCutOutcome Normal text Refused
 
 -- ---- the strict reader
 
@@ -62,10 +73,13 @@ IsStrictRange = IsComparator Specifier
 -- the longest front that is a strict range, where it fits, is the whole text or makes it refused; where there is no
 -- such front, or something in it doesn't fit, the whole text is a tag or refused
 pub data IsStrictOutcome : List ℕ → Outcome → Type 0 where
-  whole : {text : List ℕ} {c : Comparator} → IsLongest IsStrictRange text c [] → fits c ≡ true → IsStrictOutcome text (Ranges ((c ∷ []) ∷ []))
-  left_over : {text rest : List ℕ} {c : Comparator} → IsLongest IsStrictRange text c rest → fits c ≡ true → 0 < length rest → IsStrictOutcome text Refused
+  whole : {text : List ℕ} {c : Comparator} → IsLongest IsStrictRange text c [] → fits c ≡ true
+      → IsStrictOutcome text (Ranges ((c ∷ []) ∷ []))
+  left_over : {text rest : List ℕ} {c : Comparator} → IsLongest IsStrictRange text c rest → fits c ≡ true
+      → 0 < length rest → IsStrictOutcome text Refused
   no_front : {text : List ℕ} {o : Outcome} → HasNone IsStrictRange text → IsTagOr text o → IsStrictOutcome text o
-  no_fit : {text rest : List ℕ} {c : Comparator} {o : Outcome} → IsLongest IsStrictRange text c rest → fits c ≡ false → IsTagOr text o → IsStrictOutcome text o
+  no_fit : {text rest : List ℕ} {c : Comparator} {o : Outcome} → IsLongest IsStrictRange text c rest → fits c ≡ false
+      → IsTagOr text o → IsStrictOutcome text o
 
 -- ---- the three readers
 

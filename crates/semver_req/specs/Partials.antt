@@ -96,14 +96,17 @@ third_or_none (Some v) = sized_third v
 
 -- the minor component, and the third part
 abbrev pub sized_second : XRange × Option (XRange × Qualifier) → FromMinor
-sized_second v = record { minor = sized_component v.0; patch = (third_or_none v.1).patch; qualifier = (third_or_none v.1).qualifier }
+sized_second v =
+    record { minor = sized_component v.0; patch = (third_or_none v.1).patch; qualifier = (third_or_none v.1).qualifier }
 
 abbrev pub second_or_none : Option (XRange × Option (XRange × Qualifier)) → FromMinor
-second_or_none None = record { minor = Fits Wildcard; patch = Fits Wildcard; qualifier = record { pre = []; build = [] } }
+second_or_none None =
+    record { minor = Fits Wildcard; patch = Fits Wildcard; qualifier = record { pre = []; build = [] } }
 second_or_none (Some v) = sized_second v
 
 abbrev pub assembled_by : Measured XRange → Measured XRange → Measured XRange → Qualifier → Measured Partial
-assembled_by (Fits m) (Fits n) (Fits p) q = Fits (record { major = m; minor = n; patch = p; pre = q.pre; build = q.build })
+assembled_by (Fits m) (Fits n) (Fits p) q =
+    Fits (record { major = m; minor = n; patch = p; pre = q.pre; build = q.build })
 assembled_by TooLarge n p q = TooLarge
 assembled_by (Fits m) TooLarge p q = TooLarge
 assembled_by (Fits m) (Fits n) TooLarge q = TooLarge
@@ -117,8 +120,8 @@ abbrev pub answer_at : {X : Type 0} → List ℕ → Option (X × ℕ) → Optio
 answer_at text None = None
 answer_at text (Some p) = Some (p.0, drop p.1 text)
 
--- what a reader answers over a text and a place: the value of the longest front of what follows the place, and the place
--- that it reaches
+-- what a reader answers over a text and a place: the value of the longest front of what follows the place, and the
+-- place that it reaches
 abbrev pub ReadsAt : {V X : Type 0} → (V → X) → (List ℕ → V → Type 0) → List ℕ → ℕ → Option (X × ℕ) → Type 0
 ReadsAt see R text place answer = ReadsAs see R (drop place text) (answer_at text answer)
 

@@ -44,12 +44,15 @@ as_kept cs = read_as cs (kept_range cs)
 -- why the piece is bad: it is outside the grammar, or a number in it is too large, or else a bound
 pub data IsPieceRefusal (f : Flavour) (piece : List ℕ) : Refusal → Type 0 where
   outside : ((cs : List Comparator) → IsPiece f piece cs → ⊥) → IsPieceRefusal f piece UnexpectedCharacter
-  large_number : (cs : List Comparator) → IsPiece f piece cs → list_all numbers_fit cs ≡ false → IsPieceRefusal f piece NumberTooLarge
-  large_bound : (cs : List Comparator) → IsPiece f piece cs → list_all numbers_fit cs ≡ true → list_all sums_fit cs ≡ false → IsPieceRefusal f piece BoundTooLarge
+  large_number : (cs : List Comparator) → IsPiece f piece cs → list_all numbers_fit cs ≡ false
+      → IsPieceRefusal f piece NumberTooLarge
+  large_bound : (cs : List Comparator) → IsPiece f piece cs → list_all numbers_fit cs ≡ true
+      → list_all sums_fit cs ≡ false → IsPieceRefusal f piece BoundTooLarge
 
 -- what is read of a piece, which is followed by `||` or not
 abbrev pub IsPieceRead : Flavour → Bool → List ℕ → RangeOrInvalid → Type 0
-IsPieceRead f followed piece (read.Range range) = (cs : List Comparator) × IsGood f followed piece cs × (range ≡ kept_range cs)
+IsPieceRead f followed piece (read.Range range) =
+    (cs : List Comparator) × IsGood f followed piece cs × (range ≡ kept_range cs)
 IsPieceRead f followed piece (read.Invalid refusal) = IsBad f followed piece × IsPieceRefusal f piece refusal
 
 -- the range that a set keeps of a piece: none of a bad one, nor one that ends below 0.0.0
@@ -61,8 +64,10 @@ kept_of (read.Invalid refusal) = None
 
 -- the first bad piece is bad for this reason; true where the first piece is followed by `||`
 pub data IsFirstBad (f : Flavour) : Bool → List (List ℕ) → Refusal → Type 0 where
-  this_bad : {b : Bool} {piece : List ℕ} {pieces : List (List ℕ)} {refusal : Refusal} → IsBad f b piece → IsPieceRefusal f piece refusal → IsFirstBad f b (piece ∷ pieces) refusal
-  later_bad : {b : Bool} {piece : List ℕ} {pieces : List (List ℕ)} {refusal : Refusal} (cs : List Comparator) → IsGood f b piece cs → IsFirstBad f false pieces refusal → IsFirstBad f b (piece ∷ pieces) refusal
+  this_bad : {b : Bool} {piece : List ℕ} {pieces : List (List ℕ)} {refusal : Refusal} → IsBad f b piece
+      → IsPieceRefusal f piece refusal → IsFirstBad f b (piece ∷ pieces) refusal
+  later_bad : {b : Bool} {piece : List ℕ} {pieces : List (List ℕ)} {refusal : Refusal} (cs : List Comparator)
+      → IsGood f b piece cs → IsFirstBad f false pieces refusal → IsFirstBad f b (piece ∷ pieces) refusal
 
 -- the failure that tells a refusal, and names no part of the text
 abbrev pub refusal_failure : Refusal → Failure
@@ -71,4 +76,5 @@ refusal_failure refusal = Some (refusal_message refusal, None)
 -- why a reader refuses a text that is cut at its `||`, and the failure that tells it
 pub data IsCutRefusal (f : Flavour) (text : List ℕ) : Failure → Type 0 where
   memory_wanting : IsCutRefusal f text None
-  bad_piece : {b : Bool} {pieces : List (List ℕ)} {refusal : Refusal} → ArePieces text b pieces → IsFirstBad f b pieces refusal → IsCutRefusal f text (refusal_failure refusal)
+  bad_piece : {b : Bool} {pieces : List (List ℕ)} {refusal : Refusal} → ArePieces text b pieces
+      → IsFirstBad f b pieces refusal → IsCutRefusal f text (refusal_failure refusal)

@@ -21,12 +21,15 @@ use Rattle.semver_req.specs.declared.range_set_or_tag.pieces.RangeOrInvalid.TheV
 
 -- the first piece of a text, and what follows its `||`; nothing follows the only one
 abbrev pub IsFirstPiece : List ℕ → List ℕ → Bool → List ℕ → Type 0
-IsFirstPiece text piece followed rest = (pieces : List (List ℕ)) → AreMorePieces rest pieces → ArePieces text followed (piece ∷ pieces)
+IsFirstPiece text piece followed rest =
+    (pieces : List (List ℕ)) → AreMorePieces rest pieces → ArePieces text followed (piece ∷ pieces)
 
 -- the next piece of what follows a `||`, and what follows it in turn
 abbrev pub IsNextPiece : List ℕ → Option (List ℕ × List ℕ) → Type 0
 IsNextPiece rest None = AreMorePieces rest []
-IsNextPiece rest (Some p) = ((pieces : List (List ℕ)) → AreMorePieces p.1 pieces → AreMorePieces rest (p.0 ∷ pieces)) × (length p.1 < length rest)
+IsNextPiece rest (Some p) =
+    ((pieces : List (List ℕ)) → AreMorePieces p.1 pieces → AreMorePieces rest (p.0 ∷ pieces))
+    × (length p.1 < length rest)
 
 -- two texts behind references
 abbrev pub both_now : Option (Bor (List ℕ) × Bor (List ℕ)) → Option (List ℕ × List ℕ)

@@ -97,11 +97,14 @@ pub record IsTrimmed (text rest : List ℕ) : Type 0 where
 -- the pieces of what follows a `||`: blanks that follow it belong to no piece, and what is then empty is no piece
 pub data AreMorePieces : List ℕ → List (List ℕ) → Type 0 where
   no_piece : {text : List ℕ} → IsTrimmed text [] → AreMorePieces text []
-  last_piece : {text piece : List ℕ} → IsTrimmed text piece → 0 < length piece → HasNoBar piece → AreMorePieces text (piece ∷ [])
-  cut_piece : {text start piece rest : List ℕ} {pieces : List (List ℕ)} → IsTrimmed text start → IsCutAt start piece rest → AreMorePieces rest pieces → AreMorePieces text (piece ∷ pieces)
+  last_piece : {text piece : List ℕ} → IsTrimmed text piece → 0 < length piece → HasNoBar piece
+      → AreMorePieces text (piece ∷ [])
+  cut_piece : {text start piece rest : List ℕ} {pieces : List (List ℕ)} → IsTrimmed text start
+      → IsCutAt start piece rest → AreMorePieces rest pieces → AreMorePieces text (piece ∷ pieces)
 
 -- the pieces of a text, cut at its leftmost `||`, the rest again, and so on; true where the first piece is followed by
 -- `||`
 pub data ArePieces : List ℕ → Bool → List (List ℕ) → Type 0 where
   one_piece : {text : List ℕ} → HasNoBar text → ArePieces text false (text ∷ [])
-  first_cut : {text piece rest : List ℕ} {pieces : List (List ℕ)} → IsCutAt text piece rest → AreMorePieces rest pieces → ArePieces text true (piece ∷ pieces)
+  first_cut : {text piece rest : List ℕ} {pieces : List (List ℕ)} → IsCutAt text piece rest → AreMorePieces rest pieces
+      → ArePieces text true (piece ∷ pieces)

@@ -32,19 +32,21 @@ pub record IsReading (f : Flavour) (text : List ℕ) (answer : RangeSetOrTag) : 
 
 -- the answer to a text with this outcome, want of memory aside; source is the failure in the error
 abbrev pub IsAnswer : {E : Type 0} → (E → Failure) → Flavour → Outcome → Result Requirement E → Type 0
-IsAnswer source f (Ranges tree) result = MatchResult result (λ req. IsRead f (Ranges tree) req.inner) (λ e. source e ≡ None)
+IsAnswer source f (Ranges tree) result =
+    MatchResult result (λ req. IsRead f (Ranges tree) req.inner) (λ e. source e ≡ None)
 IsAnswer source f (Tag text) result = MatchResult result (λ req. IsRead f (Tag text) req.inner) (λ e. source e ≡ None)
 IsAnswer source f Refused result = IsErr result
 
--- for every tree that the grammar gives the text, the answer means the versions that the tree means, with npm's rule about
--- pre-releases and without
+-- for every tree that the grammar gives the text, the answer means the versions that the tree means, with npm's rule
+-- about pre-releases and without
 abbrev pub MeansTrees : Flavour → List ℕ → RangeSetOrTag → Type 0
 MeansTrees f text answer = (tree : List (List Comparator)) → IsOutcome f text (Ranges tree)
     → (flag : PreRelease) (v : Version) → inner_means_with flag answer v ≡ tree_means_with flag (tree_ranges tree) v
 
 -- an answer that is no tag is what is kept of a tree that the grammar gives the text
 abbrev pub HasTree : Flavour → List ℕ → RangeSetOrTag → Type 0
-HasTree f text (inner.RangeSet set) = (tree : List (List Comparator)) × IsOutcome f text (Ranges tree) × (set.0 ≡ kept f tree)
+HasTree f text (inner.RangeSet set) =
+    (tree : List (List Comparator)) × IsOutcome f text (Ranges tree) × (set.0 ≡ kept f tree)
 HasTree f text (inner.Tag tag) = Unit {0}
 
 -- ranges that are answered are what some reader keeps
@@ -72,7 +74,8 @@ pub record IsReadFrom (f : Flavour) (text : List ℕ) (req : Requirement) : Type
   pub raw_text : req.raw_text ≡ worked_on f text
 
 -- what the reader of a flavour answers to a text
-pub record IsReaderAnswer {E : Type 0} (source : E → Failure) (f : Flavour) (text : List ℕ) (result : Result Requirement E) : Type 0 where
+pub record IsReaderAnswer {E : Type 0} (source : E → Failure) (f : Flavour) (text : List ℕ)
+    (result : Result Requirement E) : Type 0 where
   -- what is read is what some outcome of the text stands for
   pub outcome : IfOk result (λ req. IsReading f text req.inner)
   -- a refusal comes only where that is the outcome, or memory was wanting

@@ -47,7 +47,8 @@ inner_overlap (inner.Tag text) (inner.RangeSet set) = false
 
 -- no version matches both, with npm's rule about pre-releases and without
 abbrev pub MatchNoVersion : RangeSetOrTag → RangeSetOrTag → Type 0
-MatchNoVersion one other = (flag : PreRelease) (v : Version) → (inner_means_with flag one v && inner_means_with flag other v) ≡ false
+MatchNoVersion one other =
+    (flag : PreRelease) (v : Version) → (inner_means_with flag one v && inner_means_with flag other v) ≡ false
 
 -- both requirements match the version
 abbrev pub inners_mean_with : PreRelease → RangeSetOrTag → RangeSetOrTag → Version → Bool

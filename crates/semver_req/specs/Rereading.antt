@@ -43,7 +43,8 @@ has_own_form kind.Inclusive kind.Exclusive s e = is_plain e 0 0 1 || is_plain e 
 has_own_form kind.Exclusive k s e = false
 
 abbrev pub keeps_start : RangeBound → RangeBound → Bool
-keeps_start (bound.Version s) (bound.Version e) = not (is_pre_of_zero s.version) || has_own_form s.kind e.kind s.version e.version
+keeps_start (bound.Version s) (bound.Version e) =
+    not (is_pre_of_zero s.version) || has_own_form s.kind e.kind s.version e.version
 keeps_start start end = true
 
 -- a range with an end keeps its meaning unless it starts at a pre-release of 0.0.0 and has no form of its own
@@ -71,22 +72,25 @@ abbrev pub IsReadAsForms : List ℕ → List VersionRange → Type 0
 IsReadAsForms text ranges = (f : Flavour) → IsCutting f
     → IsTree f text (shortest_tree ranges) × ((o : Outcome) → IsOutcome f text o → o ≡ Ranges (shortest_tree ranges))
 
--- where every range keeps its meaning, each tree of the text means what the ranges mean, with npm's rule about pre-releases
--- and without
+-- where every range keeps its meaning, each tree of the text means what the ranges mean, with npm's rule about
+-- pre-releases and without
 abbrev pub MeansTheSame : List ℕ → List VersionRange → Type 0
 MeansTheSame text ranges = list_all keeps_meaning ranges ≡ true → (f : Flavour) → IsCutting f
     → (tree : List (List Comparator)) → IsTree f text tree
-    → (flag : PreRelease) (v : Version) → tree_means_with flag (tree_ranges tree) v ≡ tree_means_with flag (alternatives ranges) v
+    → (flag : PreRelease) (v : Version)
+    → tree_means_with flag (tree_ranges tree) v ≡ tree_means_with flag (alternatives ranges) v
 
 -- so do the ranges that either reader keeps of it
 abbrev pub KeepsTheSame : List ℕ → List VersionRange → Type 0
 KeepsTheSame text ranges = list_all keeps_meaning ranges ≡ true → (f : Flavour) → IsCutting f
     → (tree : List (List Comparator)) → IsTree f text tree
-    → (flag : PreRelease) (v : Version) → tree_means_with flag (alternatives (kept f tree)) v ≡ tree_means_with flag (alternatives ranges) v
+    → (flag : PreRelease) (v : Version)
+    → tree_means_with flag (alternatives (kept f tree)) v ≡ tree_means_with flag (alternatives ranges) v
 
 -- they are the ranges themselves where these are orderly too
 abbrev pub KeepsEqual : List ℕ → List VersionRange → Type 0
-KeepsEqual text ranges = list_all is_orderly ranges ≡ true → list_all keeps_meaning ranges ≡ true → (f : Flavour) → IsCutting f
+KeepsEqual text ranges =
+    list_all is_orderly ranges ≡ true → list_all keeps_meaning ranges ≡ true → (f : Flavour) → IsCutting f
     → (tree : List (List Comparator)) → IsTree f text tree → kept f tree ≡ ranges
 
 -- ---- settling
@@ -103,7 +107,8 @@ IsSettledSet ranges = (f : Flavour) → IsCutting f → IsReadAsItself f ranges
 
 -- what either reader keeps of the text is settled
 abbrev pub KeepsSettled : List ℕ → List VersionRange → Type 0
-KeepsSettled text ranges = (f : Flavour) → IsCutting f → (tree : List (List Comparator)) → IsTree f text tree → IsSettledSet (kept f tree)
+KeepsSettled text ranges =
+    (f : Flavour) → IsCutting f → (tree : List (List Comparator)) → IsTree f text tree → IsSettledSet (kept f tree)
 
 -- said of a version that some text stands for
 abbrev pub OfReadVersion : Version → Type 0 → Type 0
@@ -137,8 +142,8 @@ abbrev pub SettledSetsAreTheirTexts : Type 0
 SettledSetsAreTheirTexts = (some others : List VersionRange) → IsSettledSet some → IsSettledSet others
     → (some ≡ others) ↔ (set_text some ≡ set_text others)
 
--- the normal text of a range is one piece without `||`, in npm's grammar and in the normalized one of the same one or two
--- comparators, which fit
+-- the normal text of a range is one piece without `||`, in npm's grammar and in the normalized one of the same one or
+-- two comparators, which fit
 pub record IsOnePiece (range : VersionRange) : Type 0 where
   pub no_bar : HasNoBar (range_text range)
   pub piece : (f : Flavour) → IsCutting f → IsPiece f (range_text range) (shortest range)
@@ -153,7 +158,9 @@ RangesAreWrittenAsPieces = (ranges : List VersionRange) → IsReadSet ranges →
 
 -- the normalized reader makes a tag of what some reader made a tag of; its own text begins with no blank
 abbrev pub TagsReadBack : Type 0
-TagsReadBack = (f : Flavour) (text t : List ℕ) → IsUtf8 text → StartsFit f text → IsOutcome f text (Tag t) → IsOutcome Normal t (Tag t)
+TagsReadBack =
+    (f : Flavour) (text t : List ℕ) → IsUtf8 text → StartsFit f text → IsOutcome f text (Tag t)
+    → IsOutcome Normal t (Tag t)
 
 -- ---- in texts of packages
 
@@ -167,7 +174,8 @@ abbrev pub NormalTextsHoldNoSeparator : Type 0
 NormalTextsHoldNoSeparator = (ranges : List VersionRange) → IsReadSet ranges → HoldsNoSeparator (set_text ranges)
 
 abbrev pub TagsHoldNoSeparator : Type 0
-TagsHoldNoSeparator = (f : Flavour) (text t : List ℕ) → IsUtf8 text → StartsFit f text → IsOutcome f text (Tag t) → HoldsNoSeparator t
+TagsHoldNoSeparator = (f : Flavour) (text t : List ℕ) → IsUtf8 text → StartsFit f text
+    → IsOutcome f text (Tag t) → HoldsNoSeparator t
 
 -- each reader takes `*` for any version
 abbrev pub StarIsAnyVersion : Type 0

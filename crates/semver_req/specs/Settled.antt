@@ -30,6 +30,8 @@ pub data IsSettled : VersionRange → Type 0 where
   -- the start may have a build
   short : {s e : Version} → has_short_form s e ≡ true → IsSettled (between (from s) (to_below e))
   -- the start is not below 0.0.0, and below the end
-  ordered : {k l : VersionBoundKind} {s e : Version} → s.build ≡ [] → e.build ≡ [] → is_ge (precedence_cmp s (release 0 0 0)) ≡ true
+  ordered : {k l : VersionBoundKind} {s e : Version} → s.build ≡ [] → e.build ≡ []
+      → is_ge (precedence_cmp s (release 0 0 0)) ≡ true
       → precedence_cmp s e ≡ Less → IsSettled (between (bound_at k s) (bound_at l e))
-  empty_at_end : {l : VersionBoundKind} {e : Version} → e.build ≡ [] → IsSettled (between (bound_at kind.Exclusive e) (bound_at l e))
+  empty_at_end : {l : VersionBoundKind} {e : Version} → e.build ≡ []
+      → IsSettled (between (bound_at kind.Exclusive e) (bound_at l e))

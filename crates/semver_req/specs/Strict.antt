@@ -25,18 +25,25 @@ number_too_large = Some (refusal_message NumberTooLarge, None)
 pub data IsNoTag (text : List ℕ) (refusal : Refusal) : Failure → Type 0 where
   no_memory_left : IsNoTag text refusal None
   blank_no_tag : is_valid_tag text ≡ false → IsBlanks text tt → IsNoTag text refusal empty_constraint
-  other_no_tag : is_valid_tag text ≡ false → (IsBlanks text tt → ⊥) → IsNoTag text refusal (Some (refusal_message refusal, None))
+  other_no_tag : is_valid_tag text ≡ false → (IsBlanks text tt → ⊥)
+      → IsNoTag text refusal (Some (refusal_message refusal, None))
 
 -- why the strict reader refuses a text, and the failure that tells it
 pub data IsStrictRefusal (text : List ℕ) : Failure → Type 0 where
   memory_wanting : IsStrictRefusal text None
   -- something follows a strict range that fits
-  something_follows : {rest : List ℕ} {c : Comparator} → IsLongest IsStrictRange text c rest → fits c ≡ true → 0 < length rest → IsStrictRefusal text unexpected_character
+  something_follows : {rest : List ℕ} {c : Comparator} → IsLongest IsStrictRange text c rest → fits c ≡ true
+      → 0 < length rest → IsStrictRefusal text unexpected_character
   -- the text is no tag, and blank
-  blank_text : HasNone IsStrictRange text → is_valid_tag text ≡ false → IsBlanks text tt → IsStrictRefusal text empty_constraint
+  blank_text : HasNone IsStrictRange text → is_valid_tag text ≡ false → IsBlanks text tt
+      → IsStrictRefusal text empty_constraint
   -- it is no tag and not blank, and begins with no strict range
-  no_range : HasNone IsStrictRange text → is_valid_tag text ≡ false → (IsBlanks text tt → ⊥) → IsStrictRefusal text unexpected_character
+  no_range : HasNone IsStrictRange text → is_valid_tag text ≡ false → (IsBlanks text tt → ⊥)
+      → IsStrictRefusal text unexpected_character
   -- it is no tag, and begins with a strict range that has a number that doesn't fit
-  large_number : {rest : List ℕ} {c : Comparator} → IsLongest IsStrictRange text c rest → all_fit (comparator_numbers c) ≡ false → is_valid_tag text ≡ false → IsStrictRefusal text number_too_large
+  large_number : {rest : List ℕ} {c : Comparator} → IsLongest IsStrictRange text c rest
+      → all_fit (comparator_numbers c) ≡ false → is_valid_tag text ≡ false → IsStrictRefusal text number_too_large
   -- it is no tag, and begins with a strict range whose numbers fit, but not a bound that it needs
-  large_bound : {rest : List ℕ} {c : Comparator} → IsLongest IsStrictRange text c rest → all_fit (comparator_numbers c) ≡ true → all_fit (comparator_line c).sums ≡ false → is_valid_tag text ≡ false → IsStrictRefusal text bound_too_large
+  large_bound : {rest : List ℕ} {c : Comparator} → IsLongest IsStrictRange text c rest
+      → all_fit (comparator_numbers c) ≡ true → all_fit (comparator_line c).sums ≡ false → is_valid_tag text ≡ false
+      → IsStrictRefusal text bound_too_large

@@ -23,7 +23,8 @@ abbrev pub IsMarkCut : List ℕ → Mark → List ℕ → Type 0
 IsMarkCut text mark.Tilde rest = text ≡ 126 ∷ rest
 IsMarkCut text mark.Caret rest = text ≡ 94 ∷ rest
 IsMarkCut text (mark.Sign sign) rest = ⊥
-IsMarkCut text mark.Absent rest = (rest ≡ text) × ((after : List ℕ) → text ≡ 126 ∷ after → ⊥) × ((after : List ℕ) → text ≡ 94 ∷ after → ⊥)
+IsMarkCut text mark.Absent rest =
+    (rest ≡ text) × ((after : List ℕ) → text ≡ 126 ∷ after → ⊥) × ((after : List ℕ) → text ≡ 94 ∷ after → ⊥)
 
 -- a comparator that has no sign in front
 abbrev pub IsUnsigned : Flavour → List ℕ → Comparator → Type 0
