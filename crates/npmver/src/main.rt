@@ -370,7 +370,8 @@ fn normal(alloc: Global, reader: &str, requirement: &str) -> Result<Answer, Prob
 // Whether two requirements overlap, both as npm reads them; where both are refused, the first one's refusal is told.
 fn meet(alloc: Global, one: &str, other: &str) -> Result<Answer, Problem>
     ensures answer { IsAnswer (IsMeeting one.now other.now) result }
-    ensures refusal { IfErr result (λ problem. IsFirstRefused one.now other.now (failure_of problem)) }
+    ensures refusal { IfErr result
+        (λ problem. IsFirstRefused one.now other.now (failure_of problem)) }
 {
     let one = Reader::Npm.read(alloc, one)?;
     let other = Reader::Npm.read(alloc, other)?;
