@@ -5,7 +5,7 @@ answer with ample memory. Run at the top of the project, after rt ci (or after r
     tools/refuse/sweep.py [ROWS]    ROWS: another table to choose rows from, or conformance's own
 
 The last line counts; the status is 1 where an answer is wrong."""
-import itertools, json, os, pathlib, subprocess, sys, tempfile
+import itertools, json, os, pathlib, re, subprocess, sys, tempfile
 from concurrent.futures import ThreadPoolExecutor
 
 TOP = pathlib.Path(__file__).resolve().parents[2]
@@ -14,7 +14,8 @@ PROGRAMS = {name: TOP / f"crates/{name}/out/{name}" for name in ("conformance", 
 # How many runs in a row meet no refusal before a sweep ends.
 QUIET = 3
 # Rows of each call: the first, the last, and those between in even steps.
-ROWS = 3
+ROWS = 6
+LONG_WORDS = re.compile(rb"[A-Za-z]{24}")
 # Texts that are always asked, by each call that takes one like them.
 TEXTS = (
     "^1.2.3-alpha.beta >=1.2.3-beta || foo || 2.x",
@@ -25,10 +26,10 @@ TEXTS = (
 ITEMS = 1000
 # Calls on texts that stand in the value, which never want memory.
 NEEDS_NONE = ("in-value",)
-# What a call says where it wants memory. One answers whether a reader wanted any; it is swept with the texts alone, with nothing
-# behind them.
-WANTING = b"out of memory"
-WANTS = {"ample": b"no"}
+# What a call says where it wants memory. One answers whether a reader wanted any, too; it is swept with the texts alone, with
+# nothing behind them.
+WANTING = (b"out of memory",)
+WANTS = {"ample": (*WANTING, b"no")}
 ALONE = b',"0"],'
 SHORT = 2955
 # How many bytes the longest argument has that npmver gets.
@@ -91,7 +92,7 @@ class Sweep:
 
 def row_is_right(line, may_want, wanting):
     """The right answer; or want of memory, of the call (the row differs, with that answer) or of the program (status 5)."""
-    wants = b"line 1: " + line + b"\n    answered [\"" + wanting + b"\"]\n"
+    wants = tuple(b"line 1: " + line + b"\n    answered [\"" + word + b"\"]\n" for word in wanting)
 
     def is_right(ample, ran):
         if ran.refused == 0 or (ran.status, ran.out) == (0, ample.out):
@@ -118,10 +119,11 @@ def rows_of(table):
 
 
 def chosen(lines):
-    """Rows of one call: some in even steps; for each of the texts the first one that holds it, by npm's reader where there is such
-    a row; and so the first one with alternatives."""
+    """Rows of one call: some in even steps; the first ones with a word that is too long to stand in a value; for each of the texts
+    the first one that holds it, by npm's reader where there is such a row; and so the first one with alternatives."""
     step = max(1, (len(lines) - 1) // (ROWS - 1))
     picked = [lines[at] for at in sorted({*range(0, len(lines), step)} | {len(lines) - 1})][: ROWS + 1]
+    picked += [line for line in lines if LONG_WORDS.search(line)][:ROWS]
     by_npm = sorted(lines, key=lambda line: b'"npm"' not in line)
     for words in (*(json.dumps(text, ensure_ascii=False).encode() for text in TEXTS), b"||"):
         picked += [line for line in by_npm if words in line][:1]
