@@ -3,5 +3,6 @@ pub mod LeastAnswers
 pub mod ListAnswers
 pub mod Replies
 pub mod RequirementHandleValues
+pub mod Sorted
 pub mod Values
 pub mod VersionHandleValues

@@ -14,6 +14,7 @@ ghost use Rattle.semver_c.specs.Handle.{Holds};
 ghost use Rattle.semver_c.specs.Kept.{FitsKept, IsKept, IsKeptEqual, IsKeptFit, IsKeptOrder, IsKeptOverlap};
 ghost use Rattle.semver_c.specs.Lists.{BestLine, FitsLines, IsPlaceReply};
 ghost use Rattle.semver_c.specs.Questions.{Displayed, Fits, LeastCommon, LeastMatch, LeastOutside, MayBeTag, NormalText, Orders, Overlaps};
+ghost use Rattle.semver_c.specs.Sorting.{Sorts};
 ghost use Rattle.semver_c.specs.Words.{Is, Requirement, VersionOf};
 
 mod kept;
@@ -21,6 +22,7 @@ mod lists;
 mod loose;
 mod questions;
 mod requirement_handle;
+mod sorting;
 mod telling;
 mod version_handle;
 mod words;
@@ -33,10 +35,11 @@ use questions::{
 };
 use requirement_handle::RequirementHandle;
 use semver_req::laws::equal_requirements;
+use sorting::sort;
 use std::alloc::Global;
 use telling::{
     code_of_bool, code_of_fit, code_of_order, fit_code, order_code, put, tell_codes, tell_fit,
-    tell_least, tell_problem, tell_text,
+    tell_least, tell_places, tell_problem, tell_text,
 };
 use version_handle::VersionHandle;
 
@@ -211,6 +214,22 @@ pub extern "C" fn semver_best(
         best_line(alloc, reader, requirement, versions, pre_releases),
         place,
     )
+}
+
+/// The places of several versions, a line each, in the order of precedence: 1, where the place of the lowest comes first, places are
+/// counted from 0, and versions that differ in the build alone keep their order. `needed` is how many lines there are; where there
+/// are more than places, these stay as they were.
+#[unsafe(no_mangle)]
+pub extern "C" fn semver_sort(
+    alloc: Global,
+    versions: &[u8],
+    places: &mut [usize],
+    needed: &mut usize,
+) -> u32
+    ensures { IsReply (Sorts versions.now) one_code (λ places. places)
+        places.old places.new needed.new result }
+{
+    tell_places(sort(alloc, versions), places, needed)
 }
 
 /// Reads a requirement into a handle that has none: 1.
