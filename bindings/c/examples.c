@@ -1,4 +1,4 @@
-/* Twenty examples; the status is how many fail. */
+/* The examples; the status is how many fail. */
 #include "semver.h"
 #include <stdio.h>
 #include <string.h>
@@ -97,6 +97,18 @@ static void buffers(void) {
     is("16 a list of versions, and the best of one", stay && best && four == SEMVER_YES && needed == 4 && memcmp(answers, "\1\0\4\1", 4) == 0);
 }
 
+static void sorting(void) {
+    const char *list = "1.10.0\n1.2.0-a\r\n1.2.0+b\n1.2.0\n1.2.0-b\n";
+    size_t places[5] = {9, 9, 9, 9, 9}, order[5] = {1, 4, 2, 3, 0};
+    uint32_t four = semver_sort(TEXT(list), places, 4, &needed);
+    int stay = four == SEMVER_YES && needed == 5 && places[0] == 9;
+    uint32_t refused = semver_sort(TEXT("1.0.0\nx\n"), places, 5, &needed);
+    stay = stay && refused == SEMVER_NO_VERSION && needed == 0 && places[0] == 9;
+    uint32_t five = semver_sort(TEXT(list), places, 5, &needed);
+    is("21 versions in their order, and as they came where the build alone differs",
+       stay && five == SEMVER_YES && needed == 5 && memcmp(places, order, sizeof order) == 0);
+}
+
 static void handles(void) {
     semver_req r = {0}, other = {0};
     semver_ver v = {0}, w = {0};
@@ -142,5 +154,6 @@ int main(void) {
     buffers();
     handles();
     want_of_memory();
+    sorting();
     return failed;
 }

@@ -2,7 +2,7 @@
  *
  * Texts are bytes and a length, and are UTF-8. Of every call:
  * - A pointer is never null, also where its length is 0. What it points to lives and stays as it is while the call runs.
- * - `out`, `answers`, `needed`, `place` and the handles overlap no other argument and one another in nothing.
+ * - `out`, `answers`, `places`, `needed`, `place` and the handles overlap no other argument and one another in nothing.
  * - No call keeps a pointer to what it is given. Several threads may call at once, each with memory and handles of its own;
  *   none may call from a signal handler, nor from a forked child of a program that has threads.
  * - `malloc`, `realloc` and `free` are those of one allocator, and a block is aligned to each power of two up to 16 that
@@ -64,6 +64,11 @@ uint32_t semver_filter(uint32_t reader, const uint8_t *requirement, size_t requi
  * code is NO_VERSION where one is refused. */
 uint32_t semver_best(uint32_t reader, const uint8_t *requirement, size_t requirement_len,
                      const uint8_t *versions, size_t versions_len, uint32_t pre_releases, size_t *place);
+
+/* The places of several versions, a line each, in the order of precedence: YES. `places[0]` is the line of the lowest, counted from 0,
+ * and versions that differ in the build alone keep their order; `*needed` is how many lines there are. Where there are more than
+ * `places_len`, `places` stays as it was. Each version is read, and the code is NO_VERSION where one is refused. */
+uint32_t semver_sort(const uint8_t *versions, size_t versions_len, size_t *places, size_t places_len, size_t *needed);
 
 /* The order of two versions, in which the build has no part: BEFORE, where the first is before the other, SAME or AFTER. */
 uint32_t semver_compare(const uint8_t *one, size_t one_len, const uint8_t *other, size_t other_len);

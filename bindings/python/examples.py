@@ -1,4 +1,4 @@
-"""The twenty examples. python3 examples.py LIBRARY; the status is how many fail."""
+"""The examples. python3 examples.py LIBRARY; the status is how many fail."""
 
 import sys
 
@@ -50,6 +50,8 @@ examples = [
     ("compared, and in an overlap", [v.compare(w), v.compare(v), r.overlaps(other), r.overlaps(r)], [-1, 0, False, True]),
     ("their texts", [r.normal(), str(v), s.displayed("=v1.2.3-a+b")], ["^1.2.0 || >=3.0.0", "1.3.0", "1.2.3-a+b"]),
     ("want of memory", want_of_memory(), True),
+    ("versions in their order", [s.sort("1.10.0\n1.2.0-a\r\n1.2.0+b\n1.2.0\n1.2.0-b\n"), refused(s.sort, "1.0.0\nx\n")[0]],
+     [[1, 4, 2, 3, 0], "version"]),
 ]
 failed = 0
 for number, (name, got, wanted) in enumerate(examples, 1):

@@ -124,6 +124,7 @@ class Library:
             "fits": (c_uint32, *text, *text, c_uint32, *buffer),
             "filter": (c_uint32, *text, *text, c_uint32, *buffer),
             "best": (c_uint32, *text, *text, c_uint32, POINTER(c_size_t)),
+            "sort": (*text, POINTER(c_size_t), c_size_t, POINTER(c_size_t)),
             "compare": (*text, *text),
             "overlap": (c_uint32, *text, *text),
             "within": (c_uint32, *text, *text, *buffer),
@@ -178,6 +179,13 @@ class Library:
         if code == TAG:
             raise IsTag
         return (place.value if code == YES else None) if code < TAG else _raise(code)
+
+    def sort(self, versions):
+        """The lines of the versions, from 0, in the order of precedence; those that differ in the build alone keep their order."""
+        v = _bytes(versions)
+        places, needed = (c_size_t * (v.count(b"\n") + 1))(), c_size_t()
+        code = self._sort(v, len(v), places, len(places), byref(needed))
+        return list(places[: needed.value]) if code == YES else _raise(code)
 
     def compare(self, one, other):
         """-1, 0 or 1: the build has no part."""

@@ -1,7 +1,7 @@
-//! The twenty examples.
+//! The examples.
 
 use deno_semver_proved::least::{common_by_npm, least_by_npm, outside_by_npm, Least};
-use deno_semver_proved::lists::{best_by_npm, filter_by_npm, Best, Fit, PreRelease};
+use deno_semver_proved::lists::{best_by_npm, filter_by_npm, sort_versions, Best, Fit, PreRelease};
 use deno_semver_proved::npm::{is_valid_npm_tag, parse_npm_version, parse_npm_version_req};
 use deno_semver_proved::{Version, VersionReq};
 use std::cmp::Ordering;
@@ -157,4 +157,10 @@ fn e20_want_of_memory() {
     let program = std::env::current_exe().unwrap();
     let ended = Command::new(program).args(["e20_want_of_memory", "--nocapture"]).env("LITTLE_MEMORY", "1").output().unwrap();
     assert!(!ended.status.success() && String::from_utf8_lossy(&ended.stderr).contains("memory allocation"));
+}
+
+#[test]
+fn e21_versions_in_their_order() {
+    assert_eq!(sort_versions("1.10.0\n1.2.0-a\r\n1.2.0+b\n1.2.0\n1.2.0-b\n"), Some(vec![1, 4, 2, 3, 0]));
+    assert_eq!(sort_versions("1.0.0\nx\n"), None);
 }
