@@ -6,7 +6,7 @@
 #define TEXT(s) (const uint8_t *)(s), strlen(s)
 
 static int failed;
-static uint8_t out[128];
+static uint8_t out[256];
 static size_t needed;
 static long requests_left = -1; /* no limit */
 
@@ -109,6 +109,24 @@ static void sorting(void) {
        stay && five == SEMVER_YES && needed == 5 && memcmp(places, order, sizeof order) == 0);
 }
 
+static void packages(void) {
+    is("22 the parts of a package",
+       semver_package(SEMVER_NPM, TEXT("@scope/name@1.x"), out, sizeof out, &needed) == SEMVER_YES
+           && told("{\"name\":\"name\",\"normal\":\"1\",\"requirement\":\"1.x\",\"scope\":\"scope\"}")
+           && semver_package(SEMVER_STRICT, TEXT("name"), out, sizeof out, &needed) == SEMVER_YES
+           && told("{\"name\":\"name\",\"normal\":\"*\",\"requirement\":\"*\",\"scope\":null}")
+           && semver_package(SEMVER_NPM, TEXT("@scope"), out, sizeof out, &needed) == SEMVER_NO_REQUIREMENT
+           && told("Did not contain a valid package name.") && semver_package(3, TEXT("name"), out, 0, &needed) == SEMVER_NO_READER);
+    is("23 the parts of a reference",
+       semver_reference(TEXT("jsr:@scope/name@1/mod.ts"), out, sizeof out, &needed) == SEMVER_YES
+           && told("{\"export\":\"./mod.ts\",\"kind\":\"jsr\",\"package\":{\"name\":\"name\",\"normal\":\"1\",\"requirement\":\"1\","
+                   "\"scope\":\"scope\"},\"path\":\"mod.ts\"}")
+           && semver_reference(TEXT("npm:preact"), out, sizeof out, &needed) == SEMVER_YES
+           && told("{\"export\":null,\"kind\":\"npm\",\"package\":{\"name\":\"preact\",\"normal\":\"*\",\"requirement\":\"*\",\"scope\":null},"
+                   "\"path\":null}")
+           && semver_reference(TEXT("preact"), out, sizeof out, &needed) == SEMVER_NO_REQUIREMENT);
+}
+
 static void handles(void) {
     semver_req r = {0}, other = {0};
     semver_ver v = {0}, w = {0};
@@ -155,5 +173,6 @@ int main(void) {
     handles();
     want_of_memory();
     sorting();
+    packages();
     return failed;
 }

@@ -99,6 +99,17 @@ uint32_t semver_version(const uint8_t *version, size_t version_len, uint8_t *out
 /* Whether the text may be the tag of a version, by npm's rules: NO or YES. */
 uint32_t semver_may_be_tag(const uint8_t *text, size_t text_len);
 
+/* The parts of the text of a requirement of a package, such as @scope/name@^1.2, as JSON: YES. The text is an object with the members
+ * "name", without its scope, "normal", the normal text of the requirement of versions, "requirement", the text it was read from, and
+ * "scope", without its @ and null where there is none, and has no blanks between these. The reader reads the requirement of versions.
+ * Where the text is refused the code is NO_REQUIREMENT. */
+uint32_t semver_package(uint32_t reader, const uint8_t *text, size_t text_len, uint8_t *out, size_t out_len, size_t *needed);
+
+/* The parts of the text of a reference to a package, such as jsr:@scope/name@1/mod.ts, as JSON: YES. The text is an object with the members
+ * "export", the export of a package of JSR and else null, "kind", "jsr" or "npm", "package", as semver_package tells it, and "path", null
+ * where there is none. Its reader is the strict one. Where the text is refused the code is NO_REQUIREMENT. */
+uint32_t semver_reference(const uint8_t *text, size_t text_len, uint8_t *out, size_t out_len, size_t *needed);
+
 /* Values that are kept across calls. `semver_req r = {0};` has none. Only the calls below write a handle; it is used by one thread
  * at a time, is given to a call as one argument only, and isn't copied while it has a value: a copy would be a second owner. */
 typedef struct {

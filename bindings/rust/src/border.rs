@@ -34,6 +34,8 @@ extern "C" {
         place: *mut usize,
     ) -> u32;
     fn semver_sort(versions: *const u8, versions_len: usize, places: *mut usize, places_len: usize, needed: *mut usize) -> u32;
+    fn semver_package(reader: u32, text: *const u8, text_len: usize, out: *mut u8, out_len: usize, needed: *mut usize) -> u32;
+    fn semver_reference(text: *const u8, text_len: usize, out: *mut u8, out_len: usize, needed: *mut usize) -> u32;
     fn semver_may_be_tag(text: *const u8, text_len: usize) -> u32;
     fn semver_overlap(reader: u32, one: *const u8, one_len: usize, other: *const u8, other_len: usize) -> u32;
     fn semver_least(reader: u32, text: *const u8, text_len: usize, out: *mut u8, out_len: usize, needed: *mut usize) -> u32;
@@ -229,6 +231,25 @@ pub(crate) fn sort(versions: &str) -> Option<Vec<usize>> {
         4 => None,
         _ => failed(code),
     }
+}
+
+// The parts, or the message of the refusal.
+fn parts_of((code, text): (u32, String)) -> Result<String, String> {
+    match code {
+        YES => Ok(text),
+        3 => Err(text),
+        _ => failed(code),
+    }
+}
+
+/// The parts of a requirement of a package, as JSON.
+pub(crate) fn package(reader: Reader, text: &str) -> Result<String, String> {
+    parts_of(text_of(|out, len, needed| unsafe { semver_package(reader as u32, text.as_ptr(), text.len(), out, len, needed) }))
+}
+
+/// The parts of a reference to a package, as JSON.
+pub(crate) fn reference(text: &str) -> Result<String, String> {
+    parts_of(text_of(|out, len, needed| unsafe { semver_reference(text.as_ptr(), text.len(), out, len, needed) }))
 }
 
 pub(crate) fn may_be_tag(text: &str) -> bool {
