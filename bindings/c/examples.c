@@ -1,4 +1,4 @@
-/* Twenty examples; the status is how many fail. */
+/* The examples; the status is how many fail. */
 #include "semver.h"
 #include <stdio.h>
 #include <string.h>
@@ -6,7 +6,7 @@
 #define TEXT(s) (const uint8_t *)(s), strlen(s)
 
 static int failed;
-static uint8_t out[128];
+static uint8_t out[256];
 static size_t needed;
 static long requests_left = -1; /* no limit */
 
@@ -97,6 +97,36 @@ static void buffers(void) {
     is("16 a list of versions, and the best of one", stay && best && four == SEMVER_YES && needed == 4 && memcmp(answers, "\1\0\4\1", 4) == 0);
 }
 
+static void sorting(void) {
+    const char *list = "1.10.0\n1.2.0-a\r\n1.2.0+b\n1.2.0\n1.2.0-b\n";
+    size_t places[5] = {9, 9, 9, 9, 9}, order[5] = {1, 4, 2, 3, 0};
+    uint32_t four = semver_sort(TEXT(list), places, 4, &needed);
+    int stay = four == SEMVER_YES && needed == 5 && places[0] == 9;
+    uint32_t refused = semver_sort(TEXT("1.0.0\nx\n"), places, 5, &needed);
+    stay = stay && refused == SEMVER_NO_VERSION && needed == 0 && places[0] == 9;
+    uint32_t five = semver_sort(TEXT(list), places, 5, &needed);
+    is("21 versions in their order, and as they came where the build alone differs",
+       stay && five == SEMVER_YES && needed == 5 && memcmp(places, order, sizeof order) == 0);
+}
+
+static void packages(void) {
+    is("22 the parts of a package",
+       semver_package(SEMVER_NPM, TEXT("@scope/name@1.x"), out, sizeof out, &needed) == SEMVER_YES
+           && told("{\"name\":\"name\",\"normal\":\"1\",\"requirement\":\"1.x\",\"scope\":\"scope\"}")
+           && semver_package(SEMVER_STRICT, TEXT("name"), out, sizeof out, &needed) == SEMVER_YES
+           && told("{\"name\":\"name\",\"normal\":\"*\",\"requirement\":\"*\",\"scope\":null}")
+           && semver_package(SEMVER_NPM, TEXT("@scope"), out, sizeof out, &needed) == SEMVER_NO_REQUIREMENT
+           && told("Did not contain a valid package name.") && semver_package(3, TEXT("name"), out, 0, &needed) == SEMVER_NO_READER);
+    is("23 the parts of a reference",
+       semver_reference(TEXT("jsr:@scope/name@1/mod.ts"), out, sizeof out, &needed) == SEMVER_YES
+           && told("{\"export\":\"./mod.ts\",\"kind\":\"jsr\",\"package\":{\"name\":\"name\",\"normal\":\"1\",\"requirement\":\"1\","
+                   "\"scope\":\"scope\"},\"path\":\"mod.ts\"}")
+           && semver_reference(TEXT("npm:preact"), out, sizeof out, &needed) == SEMVER_YES
+           && told("{\"export\":null,\"kind\":\"npm\",\"package\":{\"name\":\"preact\",\"normal\":\"*\",\"requirement\":\"*\",\"scope\":null},"
+                   "\"path\":null}")
+           && semver_reference(TEXT("preact"), out, sizeof out, &needed) == SEMVER_NO_REQUIREMENT);
+}
+
 static void handles(void) {
     semver_req r = {0}, other = {0};
     semver_ver v = {0}, w = {0};
@@ -142,5 +172,7 @@ int main(void) {
     buffers();
     handles();
     want_of_memory();
+    sorting();
+    packages();
     return failed;
 }

@@ -2,7 +2,7 @@
  *
  * Texts are bytes and a length, and are UTF-8. Of every call:
  * - A pointer is never null, also where its length is 0. What it points to lives and stays as it is while the call runs.
- * - `out`, `answers`, `needed`, `place` and the handles overlap no other argument and one another in nothing.
+ * - `out`, `answers`, `places`, `needed`, `place` and the handles overlap no other argument and one another in nothing.
  * - No call keeps a pointer to what it is given. Several threads may call at once, each with memory and handles of its own;
  *   none may call from a signal handler, nor from a forked child of a program that has threads.
  * - `malloc`, `realloc` and `free` are those of one allocator, and a block is aligned to each power of two up to 16 that
@@ -65,6 +65,11 @@ uint32_t semver_filter(uint32_t reader, const uint8_t *requirement, size_t requi
 uint32_t semver_best(uint32_t reader, const uint8_t *requirement, size_t requirement_len,
                      const uint8_t *versions, size_t versions_len, uint32_t pre_releases, size_t *place);
 
+/* The places of several versions, a line each, in the order of precedence: YES. `places[0]` is the line of the lowest, counted from 0,
+ * and versions that differ in the build alone keep their order; `*needed` is how many lines there are. Where there are more than
+ * `places_len`, `places` stays as it was. Each version is read, and the code is NO_VERSION where one is refused. */
+uint32_t semver_sort(const uint8_t *versions, size_t versions_len, size_t *places, size_t places_len, size_t *needed);
+
 /* The order of two versions, in which the build has no part: BEFORE, where the first is before the other, SAME or AFTER. */
 uint32_t semver_compare(const uint8_t *one, size_t one_len, const uint8_t *other, size_t other_len);
 
@@ -93,6 +98,17 @@ uint32_t semver_version(const uint8_t *version, size_t version_len, uint8_t *out
 
 /* Whether the text may be the tag of a version, by npm's rules: NO or YES. */
 uint32_t semver_may_be_tag(const uint8_t *text, size_t text_len);
+
+/* The parts of the text of a requirement of a package, such as @scope/name@^1.2, as JSON: YES. The text is an object with the members
+ * "name", without its scope, "normal", the normal text of the requirement of versions, "requirement", the text it was read from, and
+ * "scope", without its @ and null where there is none, and has no blanks between these. The reader reads the requirement of versions.
+ * Where the text is refused the code is NO_REQUIREMENT. */
+uint32_t semver_package(uint32_t reader, const uint8_t *text, size_t text_len, uint8_t *out, size_t out_len, size_t *needed);
+
+/* The parts of the text of a reference to a package, such as jsr:@scope/name@1/mod.ts, as JSON: YES. The text is an object with the members
+ * "export", the export of a package of JSR and else null, "kind", "jsr" or "npm", "package", as semver_package tells it, and "path", null
+ * where there is none. Its reader is the strict one. Where the text is refused the code is NO_REQUIREMENT. */
+uint32_t semver_reference(const uint8_t *text, size_t text_len, uint8_t *out, size_t out_len, size_t *needed);
 
 /* Values that are kept across calls. `semver_req r = {0};` has none. Only the calls below write a handle; it is used by one thread
  * at a time, is given to a call as one argument only, and isn't copied while it has a value: a copy would be a second owner. */

@@ -1,4 +1,4 @@
-"""The twenty examples. python3 examples.py LIBRARY; the status is how many fail."""
+"""The examples. python3 examples.py LIBRARY; the status is how many fail."""
 
 import sys
 
@@ -50,6 +50,14 @@ examples = [
     ("compared, and in an overlap", [v.compare(w), v.compare(v), r.overlaps(other), r.overlaps(r)], [-1, 0, False, True]),
     ("their texts", [r.normal(), str(v), s.displayed("=v1.2.3-a+b")], ["^1.2.0 || >=3.0.0", "1.3.0", "1.2.3-a+b"]),
     ("want of memory", want_of_memory(), True),
+    ("versions in their order", [s.sort("1.10.0\n1.2.0-a\r\n1.2.0+b\n1.2.0\n1.2.0-b\n"), refused(s.sort, "1.0.0\nx\n")[0]],
+     [[1, 4, 2, 3, 0], "version"]),
+    ("a package", [s.package("@scope/name@1.x"), s.package("name", semver.STRICT), refused(s.package, "@scope"), refused(s.package, "name", 3)[0]],
+     [{"name": "name", "normal": "1", "requirement": "1.x", "scope": "scope"}, {"name": "name", "normal": "*", "requirement": "*", "scope": None},
+      ("requirement", "Did not contain a valid package name."), "reader"]),
+    ("a reference", [s.reference("jsr:@scope/name@1/mod.ts"), s.reference("npm:preact"), refused(s.reference, "preact")[0]],
+     [{"export": "./mod.ts", "kind": "jsr", "package": {"name": "name", "normal": "1", "requirement": "1", "scope": "scope"}, "path": "mod.ts"},
+      {"export": None, "kind": "npm", "package": {"name": "preact", "normal": "*", "requirement": "*", "scope": None}, "path": None}, "requirement"]),
 ]
 failed = 0
 for number, (name, got, wanted) in enumerate(examples, 1):

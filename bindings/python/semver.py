@@ -4,6 +4,7 @@ A text is a `str` or UTF-8 `bytes`. A refusal is `Refused`, want of memory `Memo
 """
 
 import ctypes
+import json
 from ctypes import POINTER, byref, c_char_p, c_size_t, c_uint32
 
 NPM, NORMALIZED, STRICT = range(3)
@@ -124,6 +125,7 @@ class Library:
             "fits": (c_uint32, *text, *text, c_uint32, *buffer),
             "filter": (c_uint32, *text, *text, c_uint32, *buffer),
             "best": (c_uint32, *text, *text, c_uint32, POINTER(c_size_t)),
+            "sort": (*text, POINTER(c_size_t), c_size_t, POINTER(c_size_t)),
             "compare": (*text, *text),
             "overlap": (c_uint32, *text, *text),
             "within": (c_uint32, *text, *text, *buffer),
@@ -132,6 +134,8 @@ class Library:
             "normal": (c_uint32, *text, *buffer),
             "version": (*text, *buffer),
             "may_be_tag": text,
+            "package": (c_uint32, *text, *buffer),
+            "reference": (*text, *buffer),
         })
         # of handles: no other thread runs meanwhile
         kept = ctypes.PyDLL(path)
@@ -179,6 +183,13 @@ class Library:
             raise IsTag
         return (place.value if code == YES else None) if code < TAG else _raise(code)
 
+    def sort(self, versions):
+        """The lines of the versions, from 0, in the order of precedence; those that differ in the build alone keep their order."""
+        v = _bytes(versions)
+        places, needed = (c_size_t * (v.count(b"\n") + 1))(), c_size_t()
+        code = self._sort(v, len(v), places, len(places), byref(needed))
+        return list(places[: needed.value]) if code == YES else _raise(code)
+
     def compare(self, one, other):
         """-1, 0 or 1: the build has no part."""
         a, b = _bytes(one), _bytes(other)
@@ -220,6 +231,18 @@ class Library:
         """Whether the text may be the tag of a version, by npm's rules."""
         text = _bytes(text)
         return bool(_fit(self._may_be_tag(text, len(text))))
+
+    def package(self, text, reader=NPM):
+        """The parts of a requirement of a package: a dict of "name", "normal", "requirement" and "scope"."""
+        p = _bytes(text)
+        code, told = _read(self._package, reader, p, len(p))
+        return json.loads(told) if code == YES else _raise(code, told)
+
+    def reference(self, text):
+        """The parts of a reference to a package of JSR or npm: a dict of "export", "kind", "package" and "path"."""
+        p = _bytes(text)
+        code, told = _read(self._reference, p, len(p))
+        return json.loads(told) if code == YES else _raise(code, told)
 
     def displayed(self, version):
         """How the version is displayed."""

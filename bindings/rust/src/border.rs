@@ -33,6 +33,9 @@ extern "C" {
         pre_releases: u32,
         place: *mut usize,
     ) -> u32;
+    fn semver_sort(versions: *const u8, versions_len: usize, places: *mut usize, places_len: usize, needed: *mut usize) -> u32;
+    fn semver_package(reader: u32, text: *const u8, text_len: usize, out: *mut u8, out_len: usize, needed: *mut usize) -> u32;
+    fn semver_reference(text: *const u8, text_len: usize, out: *mut u8, out_len: usize, needed: *mut usize) -> u32;
     fn semver_may_be_tag(text: *const u8, text_len: usize) -> u32;
     fn semver_overlap(reader: u32, one: *const u8, one_len: usize, other: *const u8, other_len: usize) -> u32;
     fn semver_least(reader: u32, text: *const u8, text_len: usize, out: *mut u8, out_len: usize, needed: *mut usize) -> u32;
@@ -213,6 +216,40 @@ pub(crate) fn best(reader: Reader, requirement: &str, versions: &str, pre_releas
 // None where the requirement is refused.
 fn fit_or_refusal(code: u32) -> Option<Fit> {
     (code != 3).then(|| fit(code))
+}
+
+/// The places of the lines of the versions in the order of precedence; none where a version is refused.
+pub(crate) fn sort(versions: &str) -> Option<Vec<usize>> {
+    let mut places = vec![0; versions.lines().count()];
+    let mut needed = 0;
+    let code = unsafe { semver_sort(versions.as_ptr(), versions.len(), places.as_mut_ptr(), places.len(), &mut needed) };
+    match code {
+        YES => {
+            assert_eq!(needed, places.len());
+            Some(places)
+        }
+        4 => None,
+        _ => failed(code),
+    }
+}
+
+// The parts, or the message of the refusal.
+fn parts_of((code, text): (u32, String)) -> Result<String, String> {
+    match code {
+        YES => Ok(text),
+        3 => Err(text),
+        _ => failed(code),
+    }
+}
+
+/// The parts of a requirement of a package, as JSON.
+pub(crate) fn package(reader: Reader, text: &str) -> Result<String, String> {
+    parts_of(text_of(|out, len, needed| unsafe { semver_package(reader as u32, text.as_ptr(), text.len(), out, len, needed) }))
+}
+
+/// The parts of a reference to a package, as JSON.
+pub(crate) fn reference(text: &str) -> Result<String, String> {
+    parts_of(text_of(|out, len, needed| unsafe { semver_reference(text.as_ptr(), text.len(), out, len, needed) }))
 }
 
 pub(crate) fn may_be_tag(text: &str) -> bool {

@@ -6,6 +6,7 @@ mod border;
 pub mod least;
 pub mod lists;
 pub mod npm;
+pub mod package;
 mod version;
 mod version_req;
 

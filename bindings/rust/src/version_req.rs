@@ -29,7 +29,7 @@ impl VersionReq {
         VersionReq::read(Reader::Npm, text).map_err(NpmVersionReqParseError::new)
     }
 
-    fn read(reader: Reader, source: &str) -> Result<VersionReq, String> {
+    pub(crate) fn read(reader: Reader, source: &str) -> Result<VersionReq, String> {
         let kept = Requirement::read(reader, source)?;
         let tag = kept.is_tag().then(|| kept.normal_text());
         Ok(VersionReq { text: kept.text(), tag, kept, reader, source: source.to_string() })

@@ -1,8 +1,9 @@
-//! The twenty examples.
+//! The examples.
 
 use deno_semver_proved::least::{common_by_npm, least_by_npm, outside_by_npm, Least};
-use deno_semver_proved::lists::{best_by_npm, filter_by_npm, Best, Fit, PreRelease};
+use deno_semver_proved::lists::{best_by_npm, filter_by_npm, sort_versions, Best, Fit, PreRelease};
 use deno_semver_proved::npm::{is_valid_npm_tag, parse_npm_version, parse_npm_version_req};
+use deno_semver_proved::package::{reference_json, PackageReq};
 use deno_semver_proved::{Version, VersionReq};
 use std::cmp::Ordering;
 use std::process::Command;
@@ -157,4 +158,29 @@ fn e20_want_of_memory() {
     let program = std::env::current_exe().unwrap();
     let ended = Command::new(program).args(["e20_want_of_memory", "--nocapture"]).env("LITTLE_MEMORY", "1").output().unwrap();
     assert!(!ended.status.success() && String::from_utf8_lossy(&ended.stderr).contains("memory allocation"));
+}
+
+#[test]
+fn e21_versions_in_their_order() {
+    assert_eq!(sort_versions("1.10.0\n1.2.0-a\r\n1.2.0+b\n1.2.0\n1.2.0-b\n"), Some(vec![1, 4, 2, 3, 0]));
+    assert_eq!(sort_versions("1.0.0\nx\n"), None);
+}
+
+#[test]
+fn e22_a_package() {
+    let req = PackageReq::from_str_loose("@scope/name@1.x").unwrap();
+    assert_eq!((req.name.as_str(), req.to_string(), req.to_string_normalized()), ("@scope/name", "@scope/name@1.x".into(), "@scope/name@1".into()));
+    assert_eq!(PackageReq::from_str("name").unwrap().to_string(), "name");
+    assert_eq!(PackageReq::from_str_loose("@scope").unwrap_err().message(), "Did not contain a valid package name.");
+    let odd = PackageReq::from_str_loose("\u{1}\"a\\\n\u{e9}@1").unwrap();
+    assert_eq!((odd.name.as_str(), odd.version_req.version_text()), ("\u{1}\"a\\\n\u{e9}", "1"));
+}
+
+#[test]
+fn e23_a_reference() {
+    let jsr = r#"{"export":"./mod.ts","kind":"jsr","package":{"name":"name","normal":"1","requirement":"1","scope":"scope"},"path":"mod.ts"}"#;
+    let npm = r#"{"export":null,"kind":"npm","package":{"name":"preact","normal":"*","requirement":"*","scope":null},"path":null}"#;
+    assert_eq!(reference_json("jsr:@scope/name@1/mod.ts").as_deref(), Ok(jsr));
+    assert_eq!(reference_json("npm:preact").as_deref(), Ok(npm));
+    assert!(reference_json("preact").is_err());
 }

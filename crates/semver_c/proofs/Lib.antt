@@ -1,7 +1,10 @@
 pub mod Asking
 pub mod LeastAnswers
 pub mod ListAnswers
+pub mod ReferenceAnswers
 pub mod Replies
+pub mod PackageAnswers
 pub mod RequirementHandleValues
+pub mod Sorted
 pub mod Values
 pub mod VersionHandleValues

@@ -2,5 +2,8 @@ pub mod Codes
 pub mod Handle
 pub mod Kept
 pub mod Lists
+pub mod Packages
 pub mod Questions
+pub mod References
+pub mod Sorting
 pub mod Words

@@ -13,30 +13,39 @@ ghost use Rattle.semver_c.specs.Codes.{IsCode, IsPlaced, IsReply, bool_code, fit
 ghost use Rattle.semver_c.specs.Handle.{Holds};
 ghost use Rattle.semver_c.specs.Kept.{FitsKept, IsKept, IsKeptEqual, IsKeptFit, IsKeptOrder, IsKeptOverlap};
 ghost use Rattle.semver_c.specs.Lists.{BestLine, FitsLines, IsPlaceReply};
+ghost use Rattle.semver_c.specs.Packages.{PartsOfPackage};
 ghost use Rattle.semver_c.specs.Questions.{Displayed, Fits, LeastCommon, LeastMatch, LeastOutside, MayBeTag, NormalText, Orders, Overlaps};
+ghost use Rattle.semver_c.specs.References.{PartsOfReference};
+ghost use Rattle.semver_c.specs.Sorting.{Sorts};
 ghost use Rattle.semver_c.specs.Words.{Is, Requirement, VersionOf};
 
 mod kept;
 mod lists;
 mod loose;
+mod packages;
 mod questions;
+mod references;
 mod requirement_handle;
+mod sorting;
 mod telling;
 mod version_handle;
 mod words;
 
 use kept::{boxed_requirement, boxed_version, fits_kept, kept_text, kept_version_text};
 use lists::{best_line, filter, tell_place};
+use packages::package_parts;
 use questions::{
     common, displayed, fits, fitting, least_match, may_be_tag, normal_text, order, outside,
     overlap, pre_release_of, text_of_version,
 };
+use references::reference_parts;
 use requirement_handle::RequirementHandle;
 use semver_req::laws::equal_requirements;
+use sorting::sort;
 use std::alloc::Global;
 use telling::{
     code_of_bool, code_of_fit, code_of_order, fit_code, order_code, put, tell_codes, tell_fit,
-    tell_least, tell_problem, tell_text,
+    tell_least, tell_places, tell_problem, tell_text,
 };
 use version_handle::VersionHandle;
 
@@ -211,6 +220,53 @@ pub extern "C" fn semver_best(
         best_line(alloc, reader, requirement, versions, pre_releases),
         place,
     )
+}
+
+/// The places of several versions, a line each, in the order of precedence: 1, where the place of the lowest comes first, places are
+/// counted from 0, and versions that differ in the build alone keep their order. `needed` is how many lines there are; where there
+/// are more than places, these stay as they were.
+#[unsafe(no_mangle)]
+pub extern "C" fn semver_sort(
+    alloc: Global,
+    versions: &[u8],
+    places: &mut [usize],
+    needed: &mut usize,
+) -> u32
+    ensures { IsReply (Sorts versions.now) one_code (λ places. places)
+        places.old places.new needed.new result }
+{
+    tell_places(sort(alloc, versions), places, needed)
+}
+
+/// The parts of the text of a requirement of a package, as JSON: 1. The reader reads the text of the version; code 3 is that the text
+/// is refused.
+#[unsafe(no_mangle)]
+pub extern "C" fn semver_package(
+    alloc: Global,
+    reader: u32,
+    text: &[u8],
+    out: &mut [u8],
+    needed: &mut usize,
+) -> u32
+    ensures { IsReply (PartsOfPackage reader text.now) one_code (λ text. text)
+        out.old out.new needed.new result }
+{
+    tell_text(package_parts(alloc, reader, text), out, needed)
+}
+
+/// The parts of the text of a reference to a package of JSR or npm, as JSON: 1. The strict reader reads the text of the version; code 3
+/// is that the text is refused.
+#[unsafe(no_mangle)]
+pub extern "C" fn semver_reference(
+    alloc: Global,
+    text: &[u8],
+    out: &mut [u8],
+    needed: &mut usize,
+) -> u32
+    ensures { IsReply (PartsOfReference text.now) one_code (λ text. text)
+        out.old out.new needed.new result }
+{
+    tell_text(reference_parts(alloc, text), out, needed)
 }
 
 /// Reads a requirement into a handle that has none: 1.

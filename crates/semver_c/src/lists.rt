@@ -116,8 +116,8 @@ fn line_versions(alloc: Global, versions: &str) -> Result<Vec<Version>, Problem>
     Ok(read)
 }
 
-// The version of each line of the bytes of a text.
-fn versions_of(alloc: Global, bytes: &[u8]) -> Result<Vec<Version>, Problem>
+/// The version of each line of the bytes of a text.
+pub fn versions_of(alloc: Global, bytes: &[u8]) -> Result<Vec<Version>, Problem>
     ensures { IsAnswer (Of (IsText bytes.now) (λ text. Each IsVersion (lines text)))
         (λ read. read.items) result }
 {

@@ -22,6 +22,17 @@ fn put_bytes(bytes: &[u8], out: &mut [u8], needed: &mut usize)
     }
 }
 
+// Writes the places at the front of the list, where they fit, and how many they are.
+fn put_places(places: &[usize], out: &mut [usize], needed: &mut usize)
+    ensures { IsPlaced places.now out.old out.new needed.new }
+{
+    *needed = places.len();
+    if places.len() <= out.len() {
+        let (front, _) = out.split_at_mut(places.len());
+        front.copy_from_slice(places);
+    }
+}
+
 /// Writes the text at the front of the buffer, where it fits, and how long it is.
 pub fn put(text: &str, out: &mut [u8], needed: &mut usize)
     ensures { IsPlaced text.now out.old out.new needed.new }
@@ -194,6 +205,27 @@ pub fn tell_codes(answer: Result<Vec<u8>, Problem>, out: &mut [u8], needed: &mut
         }
         Err(problem) => {
             put("", out, needed);
+            problem.code()
+        }
+    }
+}
+
+/// Tells a list of places; of a problem the code alone.
+pub fn tell_places(
+    answer: Result<Vec<usize>, Problem>,
+    out: &mut [usize],
+    needed: &mut usize,
+) -> u32
+    ensures { IsTold one_code (λ places. places) (outcome_of (λ places. places.items) answer)
+        out.old out.new needed.new result }
+{
+    match answer {
+        Ok(places) => {
+            put_places(places.as_slice(), out, needed);
+            1
+        }
+        Err(problem) => {
+            put_places(&[], out, needed);
             problem.code()
         }
     }

@@ -67,8 +67,8 @@ impl Problem {
     }
 }
 
-// The reader of this number.
-fn reader_of(number: u32) -> Result<Flavour, Problem>
+/// The reader of this number.
+pub fn reader_of(number: u32) -> Result<Flavour, Problem>
     ensures { MatchResult result (λ reader. number ≡ reader_number reader)
         (λ error. (error ≡ problem.NoReader) × (2 < number)) }
 {
