@@ -21,7 +21,8 @@ scope_part (first ∷ more) = if first == at_sign then Some (take_while (is_not 
 -- what follows the scope and its `/`; without a scope the whole name
 abbrev pub last_part : List ℕ → List ℕ
 last_part [] = []
-last_part (first ∷ more) = if first == at_sign then drop (length (take_while (is_not slash) more) + 1) more else first ∷ more
+last_part (first ∷ more) =
+    if first == at_sign then drop (length (take_while (is_not slash) more) + 1) more else first ∷ more
 
 -- ---- the parts of a requirement of a package
 
@@ -31,8 +32,11 @@ text_or_null (Some text) = string text
 
 -- the name without its scope, the normal text of the requirement and the text it was read from, and the scope
 abbrev pub package_json : PackageReq → Data
-package_json req = object (member (codes "name") (string (last_part req.name)) (member (codes "normal") (string (inner_text req.version_req.inner))
-    (member (codes "requirement") (string req.version_req.raw_text) (member (codes "scope") (text_or_null (scope_part req.name)) no_members))))
+package_json req =
+    object (member (codes "name") (string (last_part req.name))
+    (member (codes "normal") (string (inner_text req.version_req.inner))
+    (member (codes "requirement") (string req.version_req.raw_text)
+    (member (codes "scope") (text_or_null (scope_part req.name)) no_members))))
 
 -- what a text is by a reader, which reads the text of the version in it
 pub data IsPackage (f : Flavour) (text : List ℕ) : Result PackageReq ℕ → Type 0 where

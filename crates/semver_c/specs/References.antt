@@ -25,8 +25,11 @@ export_json Jsr path = string (export_name path)
 export_json Npm path = null
 
 abbrev pub reference_json : Reference → Data
-reference_json told = object (member (codes "export") (export_json told.kind told.reference.sub_path) (member (codes "kind") (string (kind_text told.kind))
-    (member (codes "package") (package_json told.reference.req) (member (codes "path") (text_or_null told.reference.sub_path) no_members))))
+reference_json told =
+    object (member (codes "export") (export_json told.kind told.reference.sub_path)
+    (member (codes "kind") (string (kind_text told.kind))
+    (member (codes "package") (package_json told.reference.req)
+    (member (codes "path") (text_or_null told.reference.sub_path) no_members))))
 
 -- ---- questions
 
@@ -37,8 +40,10 @@ IsRegistryOf text Npm = LacksScheme Jsr text
 
 -- the reference that a text is to a package of that registry
 pub data IsReferenceTo (text : List ℕ) : Result Reference ℕ → Type 0 where
-  refers : {told : Reference} → IsRegistryOf text told.kind → IsReferenceOutcome told.kind text (Ok told.reference) → IsReferenceTo text (Ok told)
-  refers_not : {kind : PackageKind} {fault : ReferenceFault} → IsRegistryOf text kind → IsReferenceOutcome kind text (Err fault) → IsReferenceTo text (Err 3)
+  refers : {told : Reference} → IsRegistryOf text told.kind → IsReferenceOutcome told.kind text (Ok told.reference)
+      → IsReferenceTo text (Ok told)
+  refers_not : {kind : PackageKind} {fault : ReferenceFault} → IsRegistryOf text kind
+      → IsReferenceOutcome kind text (Err fault) → IsReferenceTo text (Err 3)
 
 -- a reference, of bytes
 abbrev pub ReferenceOf : List ℕ → Result Reference ℕ → Type 0
