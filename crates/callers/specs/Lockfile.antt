@@ -17,8 +17,8 @@ abbrev pub Locks : {T : Type 0} → (T → Type 0) → Result T JsonError → Ty
 Locks Says result = MatchResult result Says (λ e. e ≡ error.Memory)
 
 -- this is said of a requirement that npm's reader read of some text
-abbrev pub OfLoose : PackageReq → Type 0 → Type 0
-OfLoose req Says = (text : List ℕ) → IsUtf8 text → IsPackageOutcome Npm text (Ok req) → Says
+abbrev pub OfNpm : PackageReq → Type 0 → Type 0
+OfNpm req Says = (text : List ℕ) → IsUtf8 text → IsPackageOutcome Npm text (Ok req) → Says
 
 -- what is read again of a list: of each requirement one with the same name, which keeps what that one means, and is
 -- settled; all in ascending order

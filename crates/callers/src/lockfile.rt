@@ -4,9 +4,9 @@ ghost use Rattle.std.specs.Prelude.{◌≡◌, All, IsSorted};
 ghost use Rattle.deno_semver.specs.Equal.{AreEqualReqs};
 ghost use Rattle.deno_semver.specs.ReqOrder.{req_cmp};
 ghost use Rattle.deno_semver.specs.Stored.{IsKeptReq, IsSettledReq};
-ghost use Rattle.deno_semver.specs.StoredList.{AreEqualLists, IsLooseReq};
+ghost use Rattle.deno_semver.specs.StoredList.{AreEqualLists, IsNpmReq};
 ghost use Rattle.callers.specs.Allowance.{allowance_of};
-ghost use Rattle.callers.specs.Lockfile.{IsLockedList, KeepsMeaning, Locks, OfLoose};
+ghost use Rattle.callers.specs.Lockfile.{IsLockedList, KeepsMeaning, Locks, OfNpm};
 
 use crate::requirements::{Allowance, allowance_by};
 use deno_semver::Version;
@@ -18,7 +18,7 @@ use std::alloc::Global;
 /// the same name, and the same tag or ranges that mean the same where each keeps its meaning, which is settled. Of one
 /// that is settled an equal one.
 pub fn locked(alloc: Global, req: &PackageReq) -> Result<PackageReq, JsonError>
-    ensures loose { OfLoose req.now (Locks (IsKeptReq req.now) result) }
+    ensures npm { OfNpm req.now (Locks (IsKeptReq req.now) result) }
     ensures settled { IsSettledReq req.now → Locks (λ again. AreEqualReqs again req.now) result }
 {
     let entry = req.to_json(alloc)?;
@@ -28,8 +28,8 @@ pub fn locked(alloc: Global, req: &PackageReq) -> Result<PackageReq, JsonError>
 /// What is read of the entry of a requirement, and what is read of that once it is kept again? Of one that npm's reader read
 /// what [`locked`] tells, and then an equal one.
 pub fn locked_twice(alloc: Global, req: &PackageReq) -> Result<(PackageReq, PackageReq), JsonError>
-    ensures once { OfLoose req.now (Locks (λ reqs. IsKeptReq req.now reqs.0) result) }
-    ensures twice { OfLoose req.now (Locks (λ reqs. AreEqualReqs reqs.1 reqs.0) result) }
+    ensures once { OfNpm req.now (Locks (λ reqs. IsKeptReq req.now reqs.0) result) }
+    ensures twice { OfNpm req.now (Locks (λ reqs. AreEqualReqs reqs.1 reqs.0) result) }
 {
     let once = locked(alloc, req)?;
     let twice = locked(alloc, &once)?;
@@ -43,7 +43,7 @@ pub fn allows_when_locked(
     req: &PackageReq,
     version: &Version,
 ) -> Result<Allowance, JsonError>
-    ensures { OfLoose req.now (KeepsMeaning req.now.version_req.inner
+    ensures { OfNpm req.now (KeepsMeaning req.now.version_req.inner
         → Locks (λ allowance. allowance ≡ allowance_of req.now.version_req.inner version.now) result) }
 {
     let again = locked(alloc, req)?;
@@ -53,7 +53,7 @@ pub fn allows_when_locked(
 /// What is read of the entry that a lockfile keeps of a list of requirements? Of requirements that npm's reader read, those
 /// that [`locked`] tells of each, in ascending order. Of an ascending list of settled ones an equal list.
 pub fn locked_list(alloc: Global, reqs: &[PackageReq]) -> Result<Vec<PackageReq>, JsonError>
-    ensures loose { All IsLooseReq reqs.now
+    ensures npm { All IsNpmReq reqs.now
         → Locks (λ again. IsLockedList reqs.now again.items) result }
     ensures settled { All IsSettledReq reqs.now → IsSorted req_cmp reqs.now
         → Locks (λ again. AreEqualLists again.items reqs.now) result }
@@ -68,9 +68,9 @@ pub fn locked_list_twice(
     alloc: Global,
     reqs: &[PackageReq],
 ) -> Result<(Vec<PackageReq>, Vec<PackageReq>), JsonError>
-    ensures once { All IsLooseReq reqs.now
+    ensures once { All IsNpmReq reqs.now
         → Locks (λ lists. IsLockedList reqs.now lists.0.items) result }
-    ensures twice { All IsLooseReq reqs.now
+    ensures twice { All IsNpmReq reqs.now
         → Locks (λ lists. AreEqualLists lists.1.items lists.0.items) result }
 {
     let once = locked_list(alloc, reqs)?;

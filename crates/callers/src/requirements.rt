@@ -3,7 +3,7 @@
 ghost use Rattle.std.specs.Prelude.{◌≡◌, IfErr};
 ghost use Rattle.std.specs.Str.{trim};
 ghost use Rattle.semver_req.specs.PieceReading.{IsCutRefusal};
-ghost use Rattle.semver_req.specs.Strict.{IsStrictRefusal};
+ghost use Rattle.semver_req.specs.SpecifierRefusals.{IsSpecifierRefusal};
 ghost use Rattle.semver_req.specs.declared.common.values.Flavour.TheVariants.{Normal, Npm, Specifier};
 ghost use Rattle.callers.specs.Allowance.{AllowsText, IsAllowance, IsEitherRefusal, allowance_of, yes_or_no};
 
@@ -79,7 +79,7 @@ pub fn allowed_by_specifier(
     version: &Version,
 ) -> Result<Allowance, VersionReqSpecifierParseError>
     ensures answers { IsAllowance (λ e. e.source) Specifier text.now version.now result }
-    ensures refusal { IfErr result (λ e. IsStrictRefusal text.now e.source) }
+    ensures refusal { IfErr result (λ e. IsSpecifierRefusal text.now e.source) }
 {
     let requirement = VersionReq::parse_from_specifier(alloc, text)?;
     Ok(allowance_by(&requirement, version))

@@ -43,7 +43,7 @@ pub const NAMES: [&str; 92] = [
     "partial",
     "partial-at",
     "qualifier-at",
-    "sign-at",
+    "primitive-kind-at",
     "comparator-at",
     "operator-at",
     "made",

@@ -99,7 +99,7 @@ fn dependency_error(alloc: Global, words: &[Word<'_>]) -> Answer {
 }
 
 // The dependency that npm's reader reads.
-fn loose(alloc: Global, text: &str) -> Result<JsrDepPackageReq, Fault> {
+fn by_npm(alloc: Global, text: &str) -> Result<JsrDepPackageReq, Fault> {
     Ok(JsrDepPackageReq::from_str_loose(alloc, text)?)
 }
 
@@ -108,7 +108,7 @@ fn dependency_order(alloc: Global, words: &[Word<'_>]) -> Answer {
     let [Some(one), Some(other)] = words else {
         return Err(Fault::Unreadable);
     };
-    let word = match loose(alloc, one)?.cmp(&loose(alloc, other)?) {
+    let word = match by_npm(alloc, one)?.cmp(&by_npm(alloc, other)?) {
         Ordering::Less => "less",
         Ordering::Equal => "equal",
         Ordering::Greater => "greater",

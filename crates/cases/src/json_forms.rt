@@ -157,7 +157,7 @@ fn stored(alloc: Global, words: &[Word<'_>]) -> Answer {
 }
 
 // The requirements of packages that npm's reader makes of texts.
-fn all_loose(alloc: Global, words: &[Word<'_>]) -> Result<Vec<PackageReq>, Fault> {
+fn all_by_npm(alloc: Global, words: &[Word<'_>]) -> Result<Vec<PackageReq>, Fault> {
     let mut reqs = Vec::new(alloc);
     for word in words {
         let Some(text) = word else {
@@ -172,7 +172,7 @@ fn all_loose(alloc: Global, words: &[Word<'_>]) -> Result<Vec<PackageReq>, Fault
 
 // `reqs-json` and any number of texts of packages, by npm's reader: the JSON value of their list.
 fn reqs_json(alloc: Global, words: &[Word<'_>]) -> Answer {
-    let reqs = all_loose(alloc, words)?;
+    let reqs = all_by_npm(alloc, words)?;
     let text = reqs_to_json(alloc, reqs.as_slice())?.to_string(alloc)?;
     answer(alloc, &[Some(text.as_str())])
 }
@@ -213,7 +213,7 @@ fn read_again(alloc: Global, reqs: &[PackageReq]) -> Result<Vec<PackageReq>, Fau
 // `reqs-stored` and any number of texts of packages, by npm's reader: whether what is read of the JSON value of their list is
 // equal to what is read of the JSON value of that.
 fn reqs_stored(alloc: Global, words: &[Word<'_>]) -> Answer {
-    let once = read_again(alloc, all_loose(alloc, words)?.as_slice())?;
+    let once = read_again(alloc, all_by_npm(alloc, words)?.as_slice())?;
     let twice = read_again(alloc, once.as_slice())?;
     yes_or_no(alloc, once == twice)
 }

@@ -94,7 +94,7 @@ fn package_error(alloc: Global, words: &[Word<'_>]) -> Answer {
 }
 
 // The requirement of a package that npm's reader reads.
-fn loose(alloc: Global, text: &str) -> Result<PackageReq, Fault> {
+fn by_npm(alloc: Global, text: &str) -> Result<PackageReq, Fault> {
     Ok(PackageReq::from_str_loose(alloc, text)?)
 }
 
@@ -103,7 +103,7 @@ fn order(alloc: Global, words: &[Word<'_>]) -> Answer {
     let [Some(one), Some(other)] = words else {
         return Err(Fault::Unreadable);
     };
-    let word = match loose(alloc, one)?.cmp(&loose(alloc, other)?) {
+    let word = match by_npm(alloc, one)?.cmp(&by_npm(alloc, other)?) {
         Ordering::Less => "less",
         Ordering::Equal => "equal",
         Ordering::Greater => "greater",

@@ -14,8 +14,8 @@ pub fn ask(alloc: Global, name: &str, words: &[Word<'_>]) -> Option<Answer> {
     Some(answer)
 }
 
-// `partial`, a word or a sign, and a partial version: the bound or the range that a copy of the partial version stands
-// for there.
+// `partial`, a word or a primitive kind, and a partial version: the bound or the range that a copy of the partial version
+// stands for there.
 fn partial(alloc: Global, words: &[Word<'_>]) -> Answer {
     let [Some(asked), Some(text)] = words else {
         return Err(Fault::Unreadable);
@@ -29,7 +29,7 @@ fn partial(alloc: Global, words: &[Word<'_>]) -> Answer {
     answer(alloc, &[Some(text.as_str())])
 }
 
-// The range of a partial version after this word or sign.
+// The range of a partial version after this word or primitive kind.
 fn range(alloc: Global, asked: &str, partial: &Partial) -> Result<VersionRange, Fault> {
     Ok(match asked {
         "tilde" => partial.as_tilde_version_range(alloc)?,

@@ -15,7 +15,7 @@ pub fn ask(alloc: Global, name: &str, words: &[Word<'_>]) -> Option<Answer> {
     let answer = match name {
         "partial-at" => partial_at(alloc, words),
         "qualifier-at" => qualifier_at(alloc, words),
-        "sign-at" => sign_at(alloc, words),
+        "primitive-kind-at" => primitive_kind_at(alloc, words),
         "comparator-at" => comparator_at(alloc, words),
         "operator-at" => operator_at(alloc, words),
         _ => return None,
@@ -72,7 +72,7 @@ fn qualifier_at(alloc: Global, words: &[Word<'_>]) -> Answer {
     answer(alloc, &[Some(qualifier.as_str()), Some(&text[reached..])])
 }
 
-fn sign(kind: PrimitiveKind) -> &'static str {
+fn kind_text(kind: PrimitiveKind) -> &'static str {
     match kind {
         PrimitiveKind::GreaterThan => ">",
         PrimitiveKind::LessThan => "<",
@@ -82,20 +82,20 @@ fn sign(kind: PrimitiveKind) -> &'static str {
     }
 }
 
-// `sign-at`, a text and a place: the sign there and what follows it, or `none`.
-fn sign_at(alloc: Global, words: &[Word<'_>]) -> Answer {
+// `primitive-kind-at`, a text and a place: the primitive kind there and what follows it, or `none`.
+fn primitive_kind_at(alloc: Global, words: &[Word<'_>]) -> Answer {
     let [Some(text), Some(place)] = words else {
         return Err(Fault::Unreadable);
     };
     let place = place_in(text, place)?;
     match common::primitive_kind(text, place) {
         None => answer(alloc, &[Some("none")]),
-        Some((kind, reached)) => answer(alloc, &[Some(sign(kind)), Some(&text[reached..])]),
+        Some((kind, reached)) => answer(alloc, &[Some(kind_text(kind)), Some(&text[reached..])]),
     }
 }
 
-// `comparator-at`, a grammar, a text and a place: the range of the sign and the partial version there; `none`, or
-// `too large` where a number doesn't fit.
+// `comparator-at`, a grammar, a text and a place: the range of the primitive kind and the partial version there; `none`,
+// or `too large` where a number doesn't fit.
 fn comparator_at(alloc: Global, words: &[Word<'_>]) -> Answer {
     let [Some(flavour), Some(text), Some(place)] = words else {
         return Err(Fault::Unreadable);

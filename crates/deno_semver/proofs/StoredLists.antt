@@ -11,7 +11,7 @@ use Rattle.deno_semver.specs.ReqOrder.{req_cmp}
 use Rattle.deno_semver.specs.ReqOrderLaws.{req_same, req_total, same_req}
 use Rattle.deno_semver.specs.RequirementText.{normal_req_text}
 use Rattle.deno_semver.specs.Stored.{IsKeptReq, IsSettledReq, StoredRequirementsAreReadAgain}
-use Rattle.deno_semver.specs.StoredList.{AreEqualLists, IsLooseReq, IsSortedFrom, IsStoredList, OneByOne, StandsForEqualList, reqs_json}
+use Rattle.deno_semver.specs.StoredList.{AreEqualLists, IsNpmReq, IsSortedFrom, IsStoredList, OneByOne, StandsForEqualList, reqs_json}
 use Rattle.deno_semver.specs.declared.json.error.JsonError.{JsonError}
 use Rattle.deno_semver.specs.declared.json.error.JsonError.TheVariants as error
 use Rattle.deno_semver.specs.declared.package.values.PackageReq.{PackageReq}
@@ -45,12 +45,12 @@ each_read R Is one (req ∷ reqs) h =
     let others = each_read R Is one reqs (All-tail Is req reqs h) in
     record { again = first.again ∷ others.again; read = (first.read, others.read); related = (first.related, others.related) }
 
-loose_read : StoredRequirementsAreReadAgain → (req : PackageReq) → IsLooseReq req → IsReadAs IsKeptReq req
-loose_read stored req h = let s = stored req h.text h.is_text h.is_read in record { again = s.again; read = s.stands_for; related = s.is_kept }
+npm_read : StoredRequirementsAreReadAgain → (req : PackageReq) → IsNpmReq req → IsReadAs IsKeptReq req
+npm_read stored req h = let s = stored req h.text h.is_text h.is_read in record { again = s.again; read = s.stands_for; related = s.is_kept }
 
-pub loose_list : StoredRequirementsAreReadAgain → (reqs : List PackageReq) → All IsLooseReq reqs → IsStoredList reqs (reqs_json reqs)
-loose_list stored reqs h =
-    let r = each_read IsKeptReq IsLooseReq (loose_read stored) reqs h in
+pub npm_reqs : StoredRequirementsAreReadAgain → (reqs : List PackageReq) → All IsNpmReq reqs → IsStoredList reqs (reqs_json reqs)
+npm_reqs stored reqs h =
+    let r = each_read IsKeptReq IsNpmReq (npm_read stored) reqs h in
     record { again = r.again; stands_for = record { items = items_of (map (λ req. string (normal_req_text req)) reqs); is_array = refl; are_read = r.read }; are_kept = r.related }
 
 settled_read : (req : PackageReq) → IsSettledReq req → IsReadAs (λ x y. AreEqualReqs y x) req

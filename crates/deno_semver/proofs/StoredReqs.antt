@@ -207,5 +207,5 @@ module _ (rereads : NormalTextsKeepTheirMeaning) (settles : OneRereadingSettles)
       stored req (record { text = text; cut = h.cut; is_cut = h.is_cut; is_name = h.name }) (can_be_stored text h.cut req.version_req h.is_cut u h.cut.version refl h.version_req)
 
   -- what is stored of a requirement that npm's reader read of a text
-  pub stored_loose : StoredRequirementsAreReadAgain
-  stored_loose req text u (is_package h) = stored_read req text u h
+  pub stored_npm : StoredRequirementsAreReadAgain
+  stored_npm req text u (is_package h) = stored_read req text u h

@@ -7,7 +7,7 @@ use Rattle.semver_req.specs.Outcome.{IsOutcome, Refused}
 use Rattle.semver_req.specs.PieceReading.{IsCutRefusal}
 use Rattle.semver_req.specs.Readers.{Failure, IsReadFrom}
 use Rattle.semver_req.specs.Requirement.{Requirement, wildcard}
-use Rattle.semver_req.specs.Strict.{IsStrictRefusal}
+use Rattle.semver_req.specs.SpecifierRefusals.{IsSpecifierRefusal}
 use Rattle.semver_req.specs.declared.common.values.Flavour.{Flavour}
 use Rattle.semver_req.specs.declared.common.values.Flavour.TheVariants.{Npm, Normal, Specifier}
 use Rattle.deno_semver.specs.PackageText.{IsPackageText, IsScopeAlone, LacksPart, PackageParts, lacks_at, scoped_name, without_slash}
@@ -60,7 +60,7 @@ pub data IsPackageOutcome (f : Flavour) (text : List ℕ) : Result PackageReq Fa
 
 -- why the reader of a flavour refuses the text of a version
 abbrev pub IsRefusalOf : Flavour → List ℕ → Failure → Type 0
-IsRefusalOf Specifier text = IsStrictRefusal text
+IsRefusalOf Specifier text = IsSpecifierRefusal text
 IsRefusalOf Npm text = IsCutRefusal Npm (trim text)
 IsRefusalOf Normal text = IsCutRefusal Normal text
 

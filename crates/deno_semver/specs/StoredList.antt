@@ -47,7 +47,7 @@ abbrev pub AreEqualLists : List PackageReq → List PackageReq → Type 0
 AreEqualLists = OneByOne AreEqualReqs
 
 -- npm's reader read each of some text
-pub record IsLooseReq (req : PackageReq) : Type 0 where
+pub record IsNpmReq (req : PackageReq) : Type 0 where
   pub text : List ℕ
   pub is_text : IsUtf8 text
   pub is_read : IsPackageOutcome Npm text (Ok req)

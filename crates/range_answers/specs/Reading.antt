@@ -6,7 +6,7 @@ use Rattle.semver_req.specs.Outcome.{IsOutcome, Refused}
 use Rattle.semver_req.specs.PieceReading.{IsCutRefusal}
 use Rattle.semver_req.specs.Readers.{Failure, IsReading}
 use Rattle.semver_req.specs.Requirement.{Requirement}
-use Rattle.semver_req.specs.Strict.{IsStrictRefusal}
+use Rattle.semver_req.specs.SpecifierRefusals.{IsSpecifierRefusal}
 use Rattle.semver_req.specs.declared.common.values.Flavour.{Flavour}
 use Rattle.semver_req.specs.declared.common.values.Flavour.TheVariants.{Npm, Normal, Specifier}
 use Rattle.range_answers.specs.declared.reading.RefusedWord.{RefusedWord}
@@ -19,7 +19,7 @@ texts_of texts = map (λ text. text.now) texts
 abbrev pub IsTextRefusal : Flavour → List ℕ → Failure → Type 0
 IsTextRefusal Npm text failure = IsCutRefusal Npm (trim text) failure
 IsTextRefusal Normal text failure = IsCutRefusal Normal text failure
-IsTextRefusal Specifier text failure = IsStrictRefusal text failure
+IsTextRefusal Specifier text failure = IsSpecifierRefusal text failure
 
 -- the requirement stands for what some outcome of the text stands for
 abbrev pub IsReadingOf : Flavour → List ℕ → Requirement → Type 0

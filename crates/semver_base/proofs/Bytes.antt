@@ -26,7 +26,7 @@ begins_wider p q w b = record { begins = λ x m. w x (b.begins x m) }
 pub goes_wider : {V : Type 0} {A : List ℕ → V → Type 0} (p q : ℕ → Bool) → ((x : ℕ) → p x ≡ true → q x ≡ true) → GoesBy A p → GoesBy A q
 goes_wider p q w b = record { goes = λ x m. w x (b.goes x m) }
 
--- ---- a mark
+-- ---- a prefix
 
 module _ {V : Type 0} {A : List ℕ → V → Type 0} where
   pub prefixed_begins : (m : ℕ) → BeginsBy (Prefixed m A) (λ x. x == m)

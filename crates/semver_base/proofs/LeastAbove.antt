@@ -6,17 +6,17 @@ use Rattle.std.specs.Ordering.{is_ge, is_gt, is_le, ordering_then}
 use Rattle.std.specs.declared.cmp.Ordering.{Ordering}
 use Rattle.std.specs.declared.cmp.Ordering.TheVariants.{Less, Equal, Greater}
 use Rattle.semver_base.specs.LeastVersion.{IsLeast, IsReadable}
-use Rattle.semver_base.specs.LeastSteps.{least_version, next_release, numbers_cmp, version_from, with_pre, zero_of, zero_part}
+use Rattle.semver_base.specs.LeastSteps.{least_version, next_release, numbers_cmp, version_from, with_pre, zero_identifier, zero_of}
 use Rattle.semver_base.specs.Meaning.{bound_at, is_release, release, start_holds}
 use Rattle.semver_base.specs.Precedence.{precedence_cmp, pre_cmp}
 use Rattle.semver_base.specs.PrecedenceLaws.{precedence_total}
-use Rattle.semver_base.specs.VersionText.{AreParts}
+use Rattle.semver_base.specs.VersionText.{AreIdentifiers}
 use Rattle.semver_base.specs.declared.version.Version.{Version}
 use Rattle.semver_base.specs.declared.range.RangeBound.{RangeBound}
 use Rattle.semver_base.specs.declared.range.RangeBound.TheVariants as bound
 use Rattle.semver_base.specs.declared.range.VersionBoundKind.{VersionBoundKind}
 use Rattle.semver_base.specs.declared.range.VersionBoundKind.TheVariants as kind
-use Rattle.semver_base.proofs.LeastParts.{appended_next, le_then, zeros_least}
+use Rattle.semver_base.proofs.LeastIdentifiers.{appended_next, le_then, zeros_least}
 use Rattle.semver_base.proofs.LeastPres as pres
 use Rattle.semver_base.proofs.LeastReleases as releases
 use Rattle.semver_base.proofs.LeastReleases.{above_under, is_release_from, next_least, no_pre, not_none, under_above}
@@ -25,12 +25,12 @@ use Rattle.semver_base.proofs.Orders.{and_both, and_first, and_second, le_then_f
 
 -- ---- `0` below all of its numbers
 
-zero_least : (ids : List (List ℕ)) → AreParts ids → is_le (pre_cmp (zero_part ∷ []) ids) ≡ true
-zero_least [] parts = refl
-zero_least (x ∷ xs) parts = rw (not_none x xs) (zeros_least x xs parts)
+zero_least : (ids : List (List ℕ)) → AreIdentifiers ids → is_le (pre_cmp (zero_identifier ∷ []) ids) ≡ true
+zero_least [] identifiers = refl
+zero_least (x ∷ xs) identifiers = rw (not_none x xs) (zeros_least x xs identifiers)
 
-zero_le : (w v : Version) → is_le (numbers_cmp w v) ≡ true → AreParts v.pre → is_le (precedence_cmp (with_pre w (zero_part ∷ [])) v) ≡ true
-zero_le w v numbers parts = rw (by_numbers (with_pre w (zero_part ∷ [])) v) (le_then (numbers_cmp w v) _ numbers (λ _. zero_least v.pre parts))
+zero_le : (w v : Version) → is_le (numbers_cmp w v) ≡ true → AreIdentifiers v.pre → is_le (precedence_cmp (with_pre w (zero_identifier ∷ [])) v) ≡ true
+zero_le w v numbers identifiers = rw (by_numbers (with_pre w (zero_identifier ∷ [])) v) (le_then (numbers_cmp w v) _ numbers (λ _. zero_least v.pre identifiers))
 
 lowest : IsLeast (start_holds bound.Unbounded) (least_version bound.Unbounded)
 lowest = (
@@ -43,19 +43,19 @@ lowest = (
 own_least : (s : Version) → IsLeast (start_holds (bound_at kind.Inclusive s)) (Some (with_pre s s.pre))
 own_least s = (ap is_ge (tied_itself precedence_total s), λ v readable h. pres.start_le kind.Inclusive s v h)
 
-appended_ids : (some others : List (List ℕ)) → (length some == 0) ≡ false → AreParts others → pre_cmp some others ≡ Less → is_le (pre_cmp (some ++ zero_part ∷ []) others) ≡ true
-appended_ids some [] pre parts below = rw (pres.some_appended some) refl
-appended_ids some (x ∷ xs) pre parts below =
-    rw (pres.pre_slice (some ++ zero_part ∷ []) (x ∷ xs) (pres.some_appended some) (not_none x xs))
-    (appended_next some (x ∷ xs) parts (rw (pres.pre_slice some (x ∷ xs) pre (not_none x xs)) at below))
+appended_ids : (some others : List (List ℕ)) → (length some == 0) ≡ false → AreIdentifiers others → pre_cmp some others ≡ Less → is_le (pre_cmp (some ++ zero_identifier ∷ []) others) ≡ true
+appended_ids some [] pre identifiers below = rw (pres.some_appended some) refl
+appended_ids some (x ∷ xs) pre identifiers below =
+    rw (pres.pre_slice (some ++ zero_identifier ∷ []) (x ∷ xs) (pres.some_appended some) (not_none x xs))
+    (appended_next some (x ∷ xs) identifiers (rw (pres.pre_slice some (x ∷ xs) pre (not_none x xs)) at below))
 
-appended_le : (s v : Version) → is_release s ≡ false → AreParts v.pre → start_holds (bound_at kind.Exclusive s) v ≡ true → is_le (precedence_cmp (with_pre s (s.pre ++ zero_part ∷ [])) v) ≡ true
-appended_le s v pre parts held = rw (by_numbers (with_pre s (s.pre ++ zero_part ∷ [])) v) (le_then (numbers_cmp s v) _ (releases.start_le kind.Exclusive s v held) (λ tied.
+appended_le : (s v : Version) → is_release s ≡ false → AreIdentifiers v.pre → start_holds (bound_at kind.Exclusive s) v ≡ true → is_le (precedence_cmp (with_pre s (s.pre ++ zero_identifier ∷ [])) v) ≡ true
+appended_le s v pre identifiers held = rw (by_numbers (with_pre s (s.pre ++ zero_identifier ∷ [])) v) (le_then (numbers_cmp s v) _ (releases.start_le kind.Exclusive s v held) (λ tied.
     let below : precedence_cmp s v ≡ Less = turned precedence_total v s Greater (greater_from _ held) in
     let ids : pre_cmp s.pre v.pre ≡ Less = rw (by_numbers s v, tied) at below in
-    appended_ids s.pre v.pre pre parts ids))
+    appended_ids s.pre v.pre pre identifiers ids))
 
-appended_least : (s : Version) → is_release s ≡ false → IsLeast (start_holds (bound_at kind.Exclusive s)) (Some (with_pre s (s.pre ++ zero_part ∷ [])))
+appended_least : (s : Version) → is_release s ≡ false → IsLeast (start_holds (bound_at kind.Exclusive s)) (Some (with_pre s (s.pre ++ zero_identifier ∷ [])))
 appended_least s pre = (pres.next_holds s pre, λ v readable held. appended_le s v pre readable.pre held)
 
 -- ---- after a release
@@ -89,7 +89,7 @@ own_held s v plain held = and_both _ _ (under_above s (own v) (numbers_over s v 
 -- the least pre-release of the next release is the least of all
 zero_next : (s : Version) → is_release s ≡ true → (next : Option Version) → IsLeast (is_release_from (bound_at kind.Exclusive s)) next → IsLeast (start_holds (bound_at kind.Exclusive s)) (zero_of next)
 zero_next s plain (Some w) h = (
-  under_above s (with_pre w (zero_part ∷ [])) (above_under s w plain (and_second (start_holds (bound_at kind.Exclusive s) w) _ h.0) (and_first _ (is_release w) h.0)),
+  under_above s (with_pre w (zero_identifier ∷ [])) (above_under s w plain (and_second (start_holds (bound_at kind.Exclusive s) w) _ h.0) (and_first _ (is_release w) h.0)),
   λ v readable held.
       let le : is_le (precedence_cmp w (own v)) ≡ true = h.1 (own v) (own_readable v readable) (own_held s v plain held) in
       let numbers : is_le (numbers_cmp w v) ≡ true = le_then_first (numbers_cmp w v) (pre_cmp w.pre []) (rw (by_numbers w (own v)) at le) in

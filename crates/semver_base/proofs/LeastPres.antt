@@ -9,18 +9,18 @@ use Rattle.std.specs.Ordering.{is_ge, is_le, nat_cmp, ordering_then}
 use Rattle.std.specs.declared.cmp.Ordering.{Ordering}
 use Rattle.std.specs.declared.cmp.Ordering.TheVariants.{Less, Equal, Greater}
 use Rattle.semver_base.specs.LeastVersion.{IsLeast}
-use Rattle.semver_base.specs.LeastSteps.{least_pre, numbers_cmp, pre_above, pre_by, pre_from, with_pre, zero_part}
+use Rattle.semver_base.specs.LeastSteps.{least_pre, numbers_cmp, pre_above, pre_by, pre_from, with_pre, zero_identifier}
 use Rattle.semver_base.specs.Meaning.{bound_at, has_pre_of, is_release, start_holds}
 use Rattle.semver_base.specs.Precedence.{identifier_cmp, precedence_cmp, pre_cmp}
 use Rattle.semver_base.specs.PrecedenceLaws.{precedence_total}
-use Rattle.semver_base.specs.VersionText.{AreParts}
+use Rattle.semver_base.specs.VersionText.{AreIdentifiers}
 use Rattle.semver_base.specs.declared.version.Version.{Version}
 use Rattle.semver_base.specs.declared.range.RangeBound.{RangeBound}
 use Rattle.semver_base.specs.declared.range.RangeBound.TheVariants as bound
 use Rattle.semver_base.specs.declared.range.VersionBoundKind.{VersionBoundKind}
 use Rattle.semver_base.specs.declared.range.VersionBoundKind.TheVariants as kind
 use Rattle.semver_base.proofs.ClampLemmas.{above_from, above_ge}
-use Rattle.semver_base.proofs.LeastParts.{appended_above, appended_next, zeros_least}
+use Rattle.semver_base.proofs.LeastIdentifiers.{appended_above, appended_next, zeros_least}
 use Rattle.semver_base.proofs.LeastReleases.{not_none}
 use Rattle.semver_base.proofs.NumbersOrder.{by_numbers, greater_from, numbers_tied}
 use Rattle.semver_base.proofs.Orders.{and_both, and_false, and_first, and_second, le_turned, turned}
@@ -62,7 +62,7 @@ tied_numbers x y e =
 pub pre_slice : (xs ys : List (List ℕ)) → (length xs == 0) ≡ false → (length ys == 0) ≡ false → pre_cmp xs ys ≡ slice_cmp identifier_cmp xs ys
 pre_slice xs ys h k = rw (h, k) refl
 
-pub some_appended : (ids : List (List ℕ)) → (length (ids ++ zero_part ∷ []) == 0) ≡ false
+pub some_appended : (ids : List (List ℕ)) → (length (ids ++ zero_identifier ∷ []) == 0) ≡ false
 some_appended [] = refl
 some_appended (x ∷ xs) = not_none x _
 
@@ -95,17 +95,17 @@ tied_same t s tied ids = let same = tied_numbers s t tied in record { major = sy
 -- ---- from below the numbers
 
 -- `0` is the least pre-release of its numbers
-zero_le : (t v : Version) → SameNumbers t v → is_release v ≡ false → AreParts v.pre → is_le (precedence_cmp (with_pre t (zero_part ∷ [])) v) ≡ true
-zero_le t v same some parts = rw (by_numbers (with_pre t (zero_part ∷ [])) v, sym (same_right t t v same), numbers_tied t, pre_slice (zero_part ∷ []) v.pre refl some) (go v.pre some parts)
+zero_le : (t v : Version) → SameNumbers t v → is_release v ≡ false → AreIdentifiers v.pre → is_le (precedence_cmp (with_pre t (zero_identifier ∷ [])) v) ≡ true
+zero_le t v same some identifiers = rw (by_numbers (with_pre t (zero_identifier ∷ [])) v, sym (same_right t t v same), numbers_tied t, pre_slice (zero_identifier ∷ []) v.pre refl some) (go v.pre some identifiers)
   where
-    go : (ids : List (List ℕ)) → (length ids == 0) ≡ false → AreParts ids → is_le (slice_cmp identifier_cmp (zero_part ∷ []) ids) ≡ true
-    go [] some parts = cc some
-    go (x ∷ xs) some parts = zeros_least x xs parts
+    go : (ids : List (List ℕ)) → (length ids == 0) ≡ false → AreIdentifiers ids → is_le (slice_cmp identifier_cmp (zero_identifier ∷ []) ids) ≡ true
+    go [] some identifiers = cc some
+    go (x ∷ xs) some identifiers = zeros_least x xs identifiers
 
-zero_least : (start : RangeBound) (k : VersionBoundKind) (t : Version) → is_release t ≡ false → start_holds start (with_pre t (zero_part ∷ [])) ≡ true
-    → IsLeast (is_pre_above start (bound_at k t)) (Some (with_pre t (zero_part ∷ [])))
+zero_least : (start : RangeBound) (k : VersionBoundKind) (t : Version) → is_release t ≡ false → start_holds start (with_pre t (zero_identifier ∷ [])) ≡ true
+    → IsLeast (is_pre_above start (bound_at k t)) (Some (with_pre t (zero_identifier ∷ [])))
 zero_least start k t pre holds = (
-  is_pre_above-from start k t (with_pre t (zero_part ∷ [])) pre (record { held = holds; some = refl; same = itself t (zero_part ∷ []) }),
+  is_pre_above-from start k t (with_pre t (zero_identifier ∷ [])) pre (record { held = holds; some = refl; same = itself t (zero_identifier ∷ []) }),
   λ v readable h. let is = pre_above_is start k t v h in zero_le t v is.same is.some readable.pre,
 )
 
@@ -113,8 +113,8 @@ zero_least start k t pre holds = (
 held_above : (k : VersionBoundKind) (s v : Version) → numbers_cmp v s ≡ Greater → start_holds (bound_at k s) v ≡ true
 held_above k s v h = above_from k (precedence_cmp v s) (rw (by_numbers v s, h) refl)
 
-zero_above : (k : VersionBoundKind) (s t : Version) → numbers_cmp s t ≡ Less → start_holds (bound_at k s) (with_pre t (zero_part ∷ [])) ≡ true
-zero_above k s t less = held_above k s (with_pre t (zero_part ∷ [])) (turned numbers_total s t Less less)
+zero_above : (k : VersionBoundKind) (s t : Version) → numbers_cmp s t ≡ Less → start_holds (bound_at k s) (with_pre t (zero_identifier ∷ [])) ≡ true
+zero_above k s t less = held_above k s (with_pre t (zero_identifier ∷ [])) (turned numbers_total s t Less less)
 
 -- ---- from among the numbers
 
@@ -148,22 +148,22 @@ own_pre_least l s t tied pre some = (
   λ v readable h. start_le kind.Inclusive s v (pre_above_is (bound_at kind.Inclusive s) l t v h).held,
 )
 
-pub next_holds : (s : Version) → is_release s ≡ false → start_holds (bound_at kind.Exclusive s) (with_pre s (s.pre ++ zero_part ∷ [])) ≡ true
-next_holds s some = rw (by_numbers (with_pre s (s.pre ++ zero_part ∷ [])) s, numbers_tied s, pre_slice (s.pre ++ zero_part ∷ []) s.pre (some_appended s.pre) some, appended_above s.pre) refl
+pub next_holds : (s : Version) → is_release s ≡ false → start_holds (bound_at kind.Exclusive s) (with_pre s (s.pre ++ zero_identifier ∷ [])) ≡ true
+next_holds s some = rw (by_numbers (with_pre s (s.pre ++ zero_identifier ∷ [])) s, numbers_tied s, pre_slice (s.pre ++ zero_identifier ∷ []) s.pre (some_appended s.pre) some, appended_above s.pre) refl
 
-next_le : (s t v : Version) → numbers_cmp s t ≡ Equal → is_release s ≡ false → AreParts v.pre → IsPreAbove (bound_at kind.Exclusive s) t v
-    → is_le (precedence_cmp (with_pre s (s.pre ++ zero_part ∷ [])) v) ≡ true
-next_le s t v tied some parts h =
+next_le : (s t v : Version) → numbers_cmp s t ≡ Equal → is_release s ≡ false → AreIdentifiers v.pre → IsPreAbove (bound_at kind.Exclusive s) t v
+    → is_le (precedence_cmp (with_pre s (s.pre ++ zero_identifier ∷ [])) v) ≡ true
+next_le s t v tied some identifiers h =
     let same = numbers_same s t v tied h.same in
     let below : precedence_cmp s v ≡ Less = turned precedence_total v s Greater (greater_from _ h.held) in
     let ids : pre_cmp s.pre v.pre ≡ Less = rw (by_numbers s v, same) at below in
-    let least : is_le (slice_cmp identifier_cmp (s.pre ++ zero_part ∷ []) v.pre) ≡ true = appended_next s.pre v.pre parts (rw (pre_slice s.pre v.pre some h.some) at ids) in
-    rw (by_numbers (with_pre s (s.pre ++ zero_part ∷ [])) v, same, pre_slice (s.pre ++ zero_part ∷ []) v.pre (some_appended s.pre) h.some) least
+    let least : is_le (slice_cmp identifier_cmp (s.pre ++ zero_identifier ∷ []) v.pre) ≡ true = appended_next s.pre v.pre identifiers (rw (pre_slice s.pre v.pre some h.some) at ids) in
+    rw (by_numbers (with_pre s (s.pre ++ zero_identifier ∷ [])) v, same, pre_slice (s.pre ++ zero_identifier ∷ []) v.pre (some_appended s.pre) h.some) least
 
 next_pre_least : (l : VersionBoundKind) (s t : Version) → numbers_cmp s t ≡ Equal → is_release t ≡ false → is_release s ≡ false
-    → IsLeast (is_pre_above (bound_at kind.Exclusive s) (bound_at l t)) (Some (with_pre s (s.pre ++ zero_part ∷ [])))
+    → IsLeast (is_pre_above (bound_at kind.Exclusive s) (bound_at l t)) (Some (with_pre s (s.pre ++ zero_identifier ∷ [])))
 next_pre_least l s t tied pre some = (
-  is_pre_above-from (bound_at kind.Exclusive s) l t (with_pre s (s.pre ++ zero_part ∷ [])) pre (record { held = next_holds s some; some = some_appended s.pre; same = tied_same t s tied (s.pre ++ zero_part ∷ []) }),
+  is_pre_above-from (bound_at kind.Exclusive s) l t (with_pre s (s.pre ++ zero_identifier ∷ [])) pre (record { held = next_holds s some; some = some_appended s.pre; same = tied_same t s tied (s.pre ++ zero_identifier ∷ []) }),
   λ v readable h. next_le s t v tied some readable.pre (pre_above_is (bound_at kind.Exclusive s) l t v h),
 )
 

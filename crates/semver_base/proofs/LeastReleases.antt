@@ -19,7 +19,7 @@ use Rattle.semver_base.specs.declared.range.RangeBound.TheVariants as bound
 use Rattle.semver_base.specs.declared.range.VersionBoundKind.{VersionBoundKind}
 use Rattle.semver_base.specs.declared.range.VersionBoundKind.TheVariants as kind
 use Rattle.semver_base.proofs.ClampLemmas.{above_ge}
-use Rattle.semver_base.proofs.LeastParts.{le_then}
+use Rattle.semver_base.proofs.LeastIdentifiers.{le_then}
 use Rattle.semver_base.proofs.NumbersOrder.{by_numbers, greater_from, numbers_above, numbers_le, numbers_tied, numbers_under, Under}
 use Rattle.semver_base.proofs.Orders.{and_both, and_first, and_second, le_then_first, le_turned}
 

@@ -7,13 +7,13 @@ use Rattle.std.specs.declared.cmp.Ordering.TheVariants.{Less, Equal, Greater}
 use Rattle.std.proofs.lemmas.Bool.{ltb-true}
 use Rattle.semver_base.specs.Clamp.{clamped_start, greater_of, of_tied}
 use Rattle.semver_base.specs.LeastVersion.{HasNoBuild, IsLeast, both_mean_with, means_alone_with}
-use Rattle.semver_base.specs.LeastSteps.{after, found_after, least_admitted, least_common, least_free, least_from, least_outside, least_pre, least_release, least_version, next_release, numbers_cmp, pre_above, pre_by, pre_from, release_from, version_from, with_pre, zero_of, zero_part}
-use Rattle.semver_base.specs.Lexical.{IsPart}
+use Rattle.semver_base.specs.LeastSteps.{after, found_after, least_admitted, least_common, least_free, least_from, least_outside, least_pre, least_release, least_version, next_release, numbers_cmp, pre_above, pre_by, pre_from, release_from, version_from, with_pre, zero_identifier, zero_of}
+use Rattle.semver_base.specs.Lexical.{IsIdentifier}
 use Rattle.semver_base.specs.Meaning.{is_release, release}
 use Rattle.semver_base.specs.NormalText.{AreWritableRanges, IsWritableBound, IsWritableRange}
 use Rattle.semver_base.specs.PartialTable.{number_fits}
 use Rattle.semver_base.specs.Precedence.{precedence_cmp}
-use Rattle.semver_base.specs.VersionText.{AreParts, IsWritable, ReadsBack}
+use Rattle.semver_base.specs.VersionText.{AreIdentifiers, IsWritable, ReadsBack}
 use Rattle.semver_base.specs.declared.version.Version.{Version}
 use Rattle.semver_base.specs.declared.range.PreRelease.{PreRelease}
 use Rattle.semver_base.specs.declared.range.PreRelease.TheVariants.{Restricted, Admitted}
@@ -101,18 +101,18 @@ common_no_build flag a b = found_no_build flag (both_mean_with flag a b) a (clam
 small : (n : ℕ) → number_fits n ≡ true → n < 2 ^ 64
 small n h = ltb-true n (2 ^ 64) h
 
-zero_is_part : IsPart zero_part zero_part
-zero_is_part = record { some = omega arith; pass = refl; is = refl }
+zero_is_identifier : IsIdentifier zero_identifier zero_identifier
+zero_is_identifier = record { some = omega arith; pass = refl; is = refl }
 
-appended_parts : (ids : List (List ℕ)) → AreParts ids → AreParts (ids ++ zero_part ∷ [])
-appended_parts [] h = (zero_is_part, tt)
-appended_parts (x ∷ xs) h = (h.0, appended_parts xs h.1)
+appended_identifiers : (ids : List (List ℕ)) → AreIdentifiers ids → AreIdentifiers (ids ++ zero_identifier ∷ [])
+appended_identifiers [] h = (zero_is_identifier, tt)
+appended_identifiers (x ∷ xs) h = (h.0, appended_identifiers xs h.1)
 
 release_writable : (major minor patch : ℕ) → major < 2 ^ 64 → minor < 2 ^ 64 → patch < 2 ^ 64 → IsWritable (release major minor patch)
 release_writable major minor patch h k l = record { numbers = record { major = h; minor = k; patch = l }; pre = tt; build = tt }
 
-with_pre_writable : (v : Version) (ids : List (List ℕ)) → IsWritable v → AreParts ids → IsWritable (with_pre v ids)
-with_pre_writable v ids h parts = record { numbers = record { major = h.numbers.major; minor = h.numbers.minor; patch = h.numbers.patch }; pre = parts; build = tt }
+with_pre_writable : (v : Version) (ids : List (List ℕ)) → IsWritable v → AreIdentifiers ids → IsWritable (with_pre v ids)
+with_pre_writable v ids h identifiers = record { numbers = record { major = h.numbers.major; minor = h.numbers.minor; patch = h.numbers.patch }; pre = identifiers; build = tt }
 
 own_writable : (v : Version) → IsWritable v → IsWritable (release v.major v.minor v.patch)
 own_writable v h = release_writable v.major v.minor v.patch h.numbers.major h.numbers.minor h.numbers.patch
@@ -131,12 +131,12 @@ least_release_writable : (start : RangeBound) → IsWritableBound start → IfSo
 least_release_writable bound.Unbounded h = release_writable 0 0 0 (omega arith) (omega arith) (omega arith)
 least_release_writable (bound.Version s) h = release_from_writable s.kind s.version h
 
-zero_writable : (v : Version) → IsWritable v → IsWritable (with_pre v (zero_part ∷ []))
-zero_writable v h = with_pre_writable v (zero_part ∷ []) h (zero_is_part, tt)
+zero_writable : (v : Version) → IsWritable v → IsWritable (with_pre v (zero_identifier ∷ []))
+zero_writable v h = with_pre_writable v (zero_identifier ∷ []) h (zero_is_identifier, tt)
 
 pre_from_writable : (k : VersionBoundKind) (v : Version) → IsWritable v → IsWritable (pre_from k v)
 pre_from_writable kind.Inclusive v h = with_pre_writable v v.pre h h.pre
-pre_from_writable kind.Exclusive v h = with_pre_writable v _ h (appended_parts v.pre h.pre)
+pre_from_writable kind.Exclusive v h = with_pre_writable v _ h (appended_identifiers v.pre h.pre)
 
 pre_by_writable : (r : Ordering) (s : VersionBound) (v : Version) → IsWritable s.version → IsWritable v → IfSome (pre_by r s v) IsWritable
 pre_by_writable Less s v h k = zero_writable v k

@@ -5,12 +5,13 @@ pub mod ClampMeaning
 pub mod Containment
 pub mod Equality
 pub mod Fronts
+pub mod Identifiers
 pub mod LeastAbove
 pub mod LeastAll
 pub mod LeastCommon
 pub mod LeastFrom
+pub mod LeastIdentifiers
 pub mod LeastOutside
-pub mod LeastParts
 pub mod LeastPres
 pub mod LeastReleases
 pub mod LeastSets
@@ -23,7 +24,6 @@ pub mod NumbersOrder
 pub mod OnlyLeast
 pub mod Orders
 pub mod OverlapLemmas
-pub mod Parts
 pub mod PlainTexts
 pub mod PlainVersions
 pub mod PrecedenceLemmas

@@ -14,7 +14,7 @@ use Rattle.std.proofs.lemmas.Bool.{cases_Bool, cases_lt, lt-ltb, le-ltb}
 use Rattle.std.proofs.lemmas.Bool.Decides.{nat_tests}
 use Rattle.std.proofs.lemmas.List.{take-append-drop, nil_from_length}
 use Rattle.semver_base.specs.Grammar.{IsLongest, HasNone, ReadsAs, Run, Stops, CutsRun, answer_of}
-use Rattle.semver_base.specs.Lexical.{IsLooseNumber, IsNumber, IsStrictNumber, is_part_byte, measured_of, sized}
+use Rattle.semver_base.specs.Lexical.{IsLooseNumber, IsNumber, IsStrictNumber, is_identifier_byte, measured_of, sized}
 use Rattle.semver_base.specs.declared.lexical.values.Measured.{Measured}
 use Rattle.semver_base.specs.declared.lexical.values.Strictness.{Strictness}
 use Rattle.semver_base.specs.declared.lexical.values.Strictness.TheVariants.{Loose, Strict}
@@ -79,8 +79,8 @@ digit_ascii x h = grind (arith, nat_tests)
 pub zero_ascii : (x : ℕ) → (x == 48) ≡ true → x < 128
 zero_ascii x h = grind (arith, nat_tests)
 
-pub part_ascii : (x : ℕ) → is_part_byte x ≡ true → x < 128
-part_ascii x h = grind (arith, nat_tests)
+pub identifier_ascii : (x : ℕ) → is_identifier_byte x ≡ true → x < 128
+identifier_ascii x h = grind (arith, nat_tests)
 
 -- ---- what was cut off, as the longest front
 

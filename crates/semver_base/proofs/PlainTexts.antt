@@ -1,28 +1,37 @@
 -- Numbers that are read digit by digit, and texts that are three of them with dots between.
-use Rattle.std.proofs.Common.{◌≡◌, ◌≤◌, ◌<◌, ◌+◌, ◌*◌, ◌-◌, ◌^◌, ℕ, true, false, List, [], ◌∷◌, length, take, drop, get_or, refl, ap, ◌∙◌, arith, inl, inr, append-nil, length-append, length-drop, length-take-le, take-append-drop}
+use Rattle.std.proofs.Common.{◌≡◌, ◌≤◌, ◌<◌, ◌+◌, ◌*◌, ◌-◌, ◌^◌, ℕ, true, false, List, [], ◌∷◌, ◌++◌, length, take, drop, get_or, refl, ap, ◌∙◌, arith, inl, inr, append-nil, length-append, length-drop, length-take-le, take-append-drop}
 use Rattle.std.specs.Int.{IsInRange}
 use Rattle.std.specs.Prelude.{slice_index}
 use Rattle.std.specs.Char.{digit_value, is_ascii_digit}
 use Rattle.std.specs.List.{list_all}
-use Rattle.std.specs.Str.{trim}
+use Rattle.std.specs.Prelude.{IsUtf8}
+use Rattle.std.specs.Str.{IsAscii, IsCharBoundary, trim}
+use Rattle.std.proofs.lemmas.Str.{IsCharBoundary-from_take, IsUtf8-from_ascii}
 use Rattle.std.specs.Str.Parse.{digits_value}
 use Rattle.std.proofs.lemmas.Bool.{cases_lt}
 use Rattle.std.proofs.lemmas.Bool.Decides.{nat_tests}
 use Rattle.std.proofs.lemmas.Int.Digits.{digits_value_more}
 use Rattle.std.proofs.lemmas.Str.{digit_value_digit}
+use Rattle.std.proofs.Math.Seq.{drop-append_seam, take-append_seam}
 use Rattle.std.proofs.lemmas.List.{drop_more, get_or_append_left, nil_from_length, take_more}
 use Rattle.semver_base.specs.Grammar.{IsLongest, Stops}
 use Rattle.semver_base.specs.Lexical.{IsLooseNumber, IsStrictNumber}
 use Rattle.semver_base.specs.VersionGrammar.{IsTriple}
 use Rattle.semver_base.specs.Meaning.{release}
-use Rattle.semver_base.specs.PlainTexts.{IsPlainNumber, IsPlainTriple}
-use Rattle.semver_base.specs.VersionReaderSteps.{IsFittingNumber, IsFittingTriple, IsReadVersion}
+use Rattle.semver_base.specs.PlainTexts.{IsFewNumbers, IsPlainNumber, IsPlainTriple, IsTripleFront}
+use Rattle.semver_base.specs.VersionReaderSteps.{IsFittingNumber, IsFittingTriple, IsPlainVersion, IsQualified}
+use Rattle.semver_base.specs.declared.lexical.values.Strictness.TheVariants.{Loose}
+use Rattle.semver_base.specs.declared.plain.FewNumbers.{FewNumbers}
+use Rattle.semver_base.specs.declared.plain.FewNumbers.TheVariants as few
+use Rattle.semver_base.specs.declared.plain.Numbers.{Numbers}
+use Rattle.semver_base.specs.declared.version.Version.{Version}
 use Rattle.semver_base.proofs.Bytes.{MadeOf, joined_made, joined_some_text, list_all-append, prefixed_made}
 use Rattle.semver_base.proofs.Fronts.{mapped, narrowed}
 use Rattle.semver_base.proofs.Lists.{run_longest}
 use Rattle.semver_base.proofs.Numbers.{loose_some}
-use Rattle.semver_base.proofs.VersionReading.{plain_read, triple_read}
-use Rattle.semver_base.proofs.Solid.{ends_solid, is_solid_byte, number_made, solid_all_ascii, some_text, starts_solid, trim_same}
+use Rattle.semver_base.proofs.Qualifiers.{no_qualifier}
+use Rattle.semver_base.proofs.VersionReading.{all_read, no_lead, triple_read}
+use Rattle.semver_base.proofs.Solid.{all_ascii, ends_solid, is_solid_byte, number_made, qualifier_made, solid_all_ascii, some_text, starts_solid, trim_same}
 
 -- ---- a number, digit by digit
 
@@ -64,30 +73,88 @@ number_read bytes n number some no_zero inside pass stops is fits = record { loo
 
 -- ---- three numbers
 
+-- a text may be cut after its ASCII front
+cut_after : (front rest : List ℕ) → IsAscii front → IsUtf8 (front ++ rest) → IsCharBoundary (front ++ rest) (length (front ++ rest) - length rest)
+cut_after front rest low utf8 =
+    let place : length (front ++ rest) - length rest ≡ length front = omega (arith, length-append front rest) in
+    rw place (IsCharBoundary-from_take (front ++ rest) (length front) utf8 (omega (arith, length-append front rest)) (rw (take-append_seam front rest) (IsUtf8-from_ascii front low)))
+
+drop_after : (front rest : List ℕ) → drop (length (front ++ rest) - length rest) (front ++ rest) ≡ rest
+drop_after front rest =
+    let place : length (front ++ rest) - length rest ≡ length front = omega (arith, length-append front rest) in
+    rw place (drop-append_seam front rest)
+
 numbers_solid : MadeOf IsTriple is_solid_byte
 numbers_solid = joined_made number_made (prefixed_made (joined_made number_made (prefixed_made number_made 46 refl)) 46 refl)
 
 fits : {text rest : List ℕ} {n : ℕ} → IsPlainNumber text n rest → IsFittingNumber text n rest
 fits p = record { number = p.loose; fits = p.fits }
 
-plain_fits : {text : List ℕ} {major minor patch : ℕ} → IsPlainTriple text major minor patch → IsFittingTriple text (major, (minor, patch)) []
-plain_fits p = triple_read (fits p.major) refl (fits p.minor) refl (fits p.patch)
+front_fits : {text rest : List ℕ} {major minor patch : ℕ} → IsTripleFront text major minor patch rest → IsFittingTriple text (major, (minor, patch)) rest
+front_fits p = triple_read (fits p.major) refl (fits p.minor) refl (fits p.patch)
 
--- the version that such a text is
-pub plain_version : {text : List ℕ} {major minor patch : ℕ} → IsPlainTriple text major minor patch → IsReadVersion text (release major minor patch)
-plain_version p = plain_read (plain_fits p)
-
--- such a text is made of solid bytes
-pub plain_solid : {text : List ℕ} {major minor patch : ℕ} → IsPlainTriple text major minor patch → (list_all is_solid_byte text ≡ true) × (0 < length text)
-plain_solid {text} {major} {minor} {patch} plain =
-    let p = (plain_fits plain).triple in
-    let numbers : ℕ × (ℕ × ℕ) = (major, (minor, patch)) in
-    let whole : text ≡ p.front = p.text_is ∙ append-nil p.front in
-    (rw whole (numbers_solid.made p.front numbers p.stands), rw whole (some_text (joined_some_text loose_some) p.front p.stands))
+-- the text has bytes, and all are solid
+abbrev pub IsSolid : List ℕ → Type 0
+IsSolid text = (list_all is_solid_byte text ≡ true) × (0 < length text)
 
 -- solid bytes leave nothing to trim
-pub solid_trimmed : (text : List ℕ) → (list_all is_solid_byte text ≡ true) × (0 < length text) → trim text ≡ text
+pub solid_trimmed : (text : List ℕ) → IsSolid text → trim text ≡ text
 solid_trimmed text h = trim_same text (solid_all_ascii text h.0) (starts_solid text h.1 h.0) (ends_solid text h.1 h.0)
 
-pub plain_trimmed : {text : List ℕ} {major minor patch : ℕ} → IsPlainTriple text major minor patch → trim text ≡ text
-plain_trimmed {text} plain = solid_trimmed text (plain_solid plain)
+solid_some : (b : ℕ) (text : List ℕ) → is_solid_byte b ≡ true → list_all is_solid_byte text ≡ true → IsSolid (b ∷ text)
+solid_some b text h k = (rw (h, k) refl, omega arith)
+
+solid_joined : (a b : List ℕ) → IsSolid a → list_all is_solid_byte b ≡ true → IsSolid (a ++ b)
+solid_joined a b h k = (list_all-append is_solid_byte a b h.0 k, omega (arith, h.1, length-append a b))
+
+numbers_front : {text rest : List ℕ} {numbers : ℕ × (ℕ × ℕ)} (p : IsFittingTriple text numbers rest) → IsSolid p.triple.front
+numbers_front {numbers = numbers} p = (numbers_solid.made p.triple.front numbers p.triple.stands, some_text (joined_some_text loose_some) p.triple.front p.triple.stands)
+
+-- ---- versions with nothing before or behind them
+
+-- three numbers and a qualifier
+pub qualified_version : {text rest : List ℕ} {numbers : Numbers} {v : Version} → IsTripleFront text numbers.major numbers.minor numbers.patch rest → IsQualified numbers rest v → IsPlainVersion text v
+qualified_version {text} {rest} {numbers} front q =
+    let triple = front_fits front in
+    let qualifier = q.longest in
+    let front_is : rest ≡ qualifier.front = qualifier.text_is ∙ append-nil qualifier.front in
+    let behind : list_all is_solid_byte rest ≡ true = rw front_is (qualifier_made.made qualifier.front q.qualifier qualifier.stands) in
+    let solid : IsSolid text = rw triple.triple.text_is (solid_joined triple.triple.front rest (numbers_front triple) behind) in
+    record {
+      version = rw q.version_is (all_read (no_lead triple.triple) triple qualifier refl);
+      trimmed = solid_trimmed text solid;
+    }
+
+-- three numbers alone
+pub plain_version : {text : List ℕ} {numbers : Numbers} → IsPlainTriple text numbers.major numbers.minor numbers.patch → IsPlainVersion text (release numbers.major numbers.minor numbers.patch)
+plain_version plain = qualified_version plain (record {
+  qualifier = record { pre = []; build = [] };
+  longest = no_qualifier Loose;
+  version_is = refl;
+})
+
+-- where the numbers end a text may be cut
+pub numbers_boundary : {text rest : List ℕ} {major minor patch : ℕ} → IsTripleFront text major minor patch rest → IsUtf8 text → IsCharBoundary text (length text - length rest)
+numbers_boundary {text} {rest} front utf8 =
+    let p = front_fits front in
+    let solid = numbers_front p in
+    rw p.triple.text_is (cut_after p.triple.front rest (all_ascii p.triple.front (solid_all_ascii p.triple.front solid.0)) (rw p.triple.text_is at utf8))
+
+-- and go on with the rest
+pub numbers_rest : {text rest : List ℕ} {major minor patch : ℕ} → IsTripleFront text major minor patch rest → drop (length text - length rest) text ≡ rest
+numbers_rest {text} {rest} front =
+    let p = (front_fits front).triple in
+    rw p.text_is (drop_after p.front rest)
+
+-- ---- one to three numbers
+
+number_front_solid : {text rest : List ℕ} {n : ℕ} → IsPlainNumber text n rest → list_all is_solid_byte rest ≡ true → IsSolid text
+number_front_solid {text} {rest} {n} p h =
+    let number = p.loose in
+    rw number.text_is (solid_joined number.front rest (number_made.made number.front n number.stands, some_text loose_some number.front number.stands) h)
+
+-- such a text is made of solid bytes
+pub few_solid : (text : List ℕ) (numbers : FewNumbers) → IsFewNumbers text numbers → IsSolid text
+few_solid text (few.One m) p = number_front_solid p refl
+few_solid text (few.Two m n) p = number_front_solid p.major (solid_some 46 p.from_minor refl (number_front_solid p.minor refl).0).0
+few_solid text (few.Three n) p = number_front_solid p.major (solid_some 46 p.from_minor refl (number_front_solid p.minor (solid_some 46 p.from_patch refl (number_front_solid p.patch refl).0).0).0).0

@@ -6,18 +6,18 @@ use Rattle.std.specs.List.{list_all}
 use Rattle.std.proofs.lemmas.Bool.{and_from, or_left, or_right}
 use Rattle.std.proofs.lemmas.Bool.Decides.{nat_tests}
 use Rattle.semver_base.specs.Grammar.{IsLongest, IsSeen, HasNone, Optional, Reads}
-use Rattle.semver_base.specs.Lexical.{IsBuild, IsLoosePre, IsParts, IsPre, IsQualifier, or_none, qualifier_of}
+use Rattle.semver_base.specs.Lexical.{IsBuild, IsIdentifiers, IsLoosePre, IsPre, IsQualifier, or_none, qualifier_of}
 use Rattle.semver_base.specs.declared.lexical.values.Qualifier.{Qualifier}
 use Rattle.semver_base.specs.declared.lexical.values.Strictness.{Strictness}
 use Rattle.semver_base.specs.declared.lexical.values.Strictness.TheVariants.{Loose, Strict}
 use Rattle.semver_base.proofs.Fronts.{Apart, NonEmpty, followed, mapped, prefixed_none, prefixed_some, optional_none, optional_some}
 use Rattle.semver_base.proofs.Bytes.{BeginsBy, Disjoint, MadeOf, apart_by, begins_from_made, begins_wider, joined_begins_either, mapped_begins, goes_from_made, prefixed_begins, prefixed_made, optional_begins, optional_goes}
-use Rattle.semver_base.proofs.Parts.{is_parts_byte, parts_made, parts_some}
+use Rattle.semver_base.proofs.Identifiers.{identifiers_made, identifiers_some, is_identifiers_byte}
 
 -- ---- loose pre-releases
 
 module _ {text rest : List ℕ} (e : text ≡ 45 ∷ rest) where
-  loose_some_prefixed : (v : List (List ℕ)) (end : List ℕ) → IsLongest IsParts rest v end → IsLongest IsLoosePre text v end
+  loose_some_prefixed : (v : List (List ℕ)) (end : List ℕ) → IsLongest IsIdentifiers rest v end → IsLongest IsLoosePre text v end
   loose_some_prefixed v end p = record { front = 45 ∷ p.front; text_is = e ∙ ap (λ t. 45 ∷ t) p.text_is; stands = inl (refl, p.stands); longest = go }
     where
       go : (a b : List ℕ) (w : List (List ℕ)) → text ≡ a ++ b → IsLoosePre a w → (length a ≤ length (45 ∷ p.front)) × (length a ≡ length (45 ∷ p.front) → w ≡ v)
@@ -27,7 +27,7 @@ module _ {text rest : List ℕ} (e : text ≡ 45 ∷ rest) where
         | inr k ↦ absurd (k.0 (cc))
       ]
 
-  loose_none_prefixed : HasNone IsParts rest → HasNone IsLoosePre text
+  loose_none_prefixed : HasNone IsIdentifiers rest → HasNone IsLoosePre text
   loose_none_prefixed p = record { none = go }
     where
       go : (a b : List ℕ) (w : List (List ℕ)) → text ≡ a ++ b → IsLoosePre a w → ⊥
@@ -37,71 +37,71 @@ module _ {text rest : List ℕ} (e : text ≡ 45 ∷ rest) where
         | inr k ↦ k.0 (cc)
       ]
 
-  loose_prefixed : (r : Option (List (List ℕ) × List ℕ)) → Reads IsParts rest r → Reads IsLoosePre text r
+  loose_prefixed : (r : Option (List (List ℕ) × List ℕ)) → Reads IsIdentifiers rest r → Reads IsLoosePre text r
   loose_prefixed None h = loose_none_prefixed h
   loose_prefixed (Some p) h = loose_some_prefixed p.0 p.1 h
 
 module _ {text : List ℕ} (other : (rest : List ℕ) → text ≡ 45 ∷ rest → ⊥) where
-  loose_from_parts : (a b : List ℕ) (v : List (List ℕ)) → text ≡ a ++ b → IsParts a v → IsLoosePre a v
-  loose_from_parts [] b v e h = absurd (parts_some.some v h)
-  loose_from_parts (x ∷ a) b v e h = inr (λ same. other (a ++ b) (e ∙ ap (λ y. y ∷ (a ++ b)) same), h)
+  loose_from_identifiers : (a b : List ℕ) (v : List (List ℕ)) → text ≡ a ++ b → IsIdentifiers a v → IsLoosePre a v
+  loose_from_identifiers [] b v e h = absurd (identifiers_some.some v h)
+  loose_from_identifiers (x ∷ a) b v e h = inr (λ same. other (a ++ b) (e ∙ ap (λ y. y ∷ (a ++ b)) same), h)
 
-  parts_from_loose : (a b : List ℕ) (v : List (List ℕ)) → text ≡ a ++ b → IsLoosePre a v → IsParts a v
-  parts_from_loose [] b v e h = absurd h
-  parts_from_loose (x ∷ a) b v e h = elim h [
+  identifiers_from_loose : (a b : List ℕ) (v : List (List ℕ)) → text ≡ a ++ b → IsLoosePre a v → IsIdentifiers a v
+  identifiers_from_loose [] b v e h = absurd h
+  identifiers_from_loose (x ∷ a) b v e h = elim h [
     | inl k ↦ absurd (other (a ++ b) (e ∙ ap (λ y. y ∷ (a ++ b)) k.0))
     | inr k ↦ k.1
   ]
 
-  loose_plain : (r : Option (List (List ℕ) × List ℕ)) → Reads IsParts text r → Reads IsLoosePre text r
-  loose_plain None h = record { none = λ a b w e k. h.none a b w e (parts_from_loose a b w e k) }
+  loose_plain : (r : Option (List (List ℕ) × List ℕ)) → Reads IsIdentifiers text r → Reads IsLoosePre text r
+  loose_plain None h = record { none = λ a b w e k. h.none a b w e (identifiers_from_loose a b w e k) }
   loose_plain (Some p) h = record {
     front = h.front;
     text_is = h.text_is;
-    stands = loose_from_parts h.front p.1 p.0 h.text_is h.stands;
-    longest = λ a b w e k. h.longest a b w e (parts_from_loose a b w e k);
+    stands = loose_from_identifiers h.front p.1 p.0 h.text_is h.stands;
+    longest = λ a b w e k. h.longest a b w e (identifiers_from_loose a b w e k);
   }
 
 -- ---- what the readers answer
 
-pub pre_prefixed : (s : Strictness) (text rest : List ℕ) (r : Option (List (List ℕ) × List ℕ)) → text ≡ 45 ∷ rest → Reads IsParts rest r → Reads (IsPre s) text r
+pub pre_prefixed : (s : Strictness) (text rest : List ℕ) (r : Option (List (List ℕ) × List ℕ)) → text ≡ 45 ∷ rest → Reads IsIdentifiers rest r → Reads (IsPre s) text r
 pre_prefixed Loose text rest r e h = loose_prefixed e r h
 pre_prefixed Strict text rest None e h = prefixed_none e h
 pre_prefixed Strict text rest (Some p) e h = prefixed_some e h
 
-pub pre_plain : (s : Strictness) (text : List ℕ) (r : Option (List (List ℕ) × List ℕ)) → ((rest : List ℕ) → text ≡ 45 ∷ rest → ⊥) → (s ≡ Strict → ⊥) → Reads IsParts text r → Reads (IsPre s) text r
+pub pre_plain : (s : Strictness) (text : List ℕ) (r : Option (List (List ℕ) × List ℕ)) → ((rest : List ℕ) → text ≡ 45 ∷ rest → ⊥) → (s ≡ Strict → ⊥) → Reads IsIdentifiers text r → Reads (IsPre s) text r
 pre_plain Loose text r other not h = loose_plain other r h
 pre_plain Strict text r other not h = absurd (not refl)
 
-pub build_prefixed : (text rest : List ℕ) (r : Option (List (List ℕ) × List ℕ)) → text ≡ 43 ∷ rest → Reads IsParts rest r → Reads IsBuild text r
+pub build_prefixed : (text rest : List ℕ) (r : Option (List (List ℕ) × List ℕ)) → text ≡ 43 ∷ rest → Reads IsIdentifiers rest r → Reads IsBuild text r
 build_prefixed text rest None e h = prefixed_none e h
 build_prefixed text rest (Some p) e h = prefixed_some e h
 
 -- ---- with which bytes they begin and go on
 
-loose_made : MadeOf IsLoosePre is_parts_byte
+loose_made : MadeOf IsLoosePre is_identifiers_byte
 loose_made = record { made = go }
   where
-    go : (text : List ℕ) (v : List (List ℕ)) → IsLoosePre text v → list_all is_parts_byte text ≡ true
+    go : (text : List ℕ) (v : List (List ℕ)) → IsLoosePre text v → list_all is_identifiers_byte text ≡ true
     go [] v h = refl
     go (x ∷ rest) v h = elim h [
-      | inl k ↦ and_from (is_parts_byte x) (list_all is_parts_byte rest) (rw k.0 refl) (parts_made.made rest v k.1)
-      | inr k ↦ parts_made.made (x ∷ rest) v k.1
+      | inl k ↦ and_from (is_identifiers_byte x) (list_all is_identifiers_byte rest) (rw k.0 refl) (identifiers_made.made rest v k.1)
+      | inr k ↦ identifiers_made.made (x ∷ rest) v k.1
     ]
 
-pub pre_made : (s : Strictness) → MadeOf (IsPre s) is_parts_byte
+pub pre_made : (s : Strictness) → MadeOf (IsPre s) is_identifiers_byte
 pre_made Loose = loose_made
-pre_made Strict = prefixed_made parts_made 45 refl
+pre_made Strict = prefixed_made identifiers_made 45 refl
 
 pub pre_some : (s : Strictness) → NonEmpty (IsPre s)
 pre_some Loose = record { some = λ v h. h }
 pre_some Strict = record { some = λ v h. h }
 
-plus_apart : Disjoint is_parts_byte (λ x. x == 43)
+plus_apart : Disjoint is_identifiers_byte (λ x. x == 43)
 plus_apart x h k = grind (arith, nat_tests)
 
 pub pre_build_apart : (s : Strictness) → Apart (Optional (IsPre s)) (Optional IsBuild)
-pre_build_apart s = apart_by is_parts_byte (λ x. x == 43) plus_apart (optional_goes (begins_from_made (pre_made s)) (goes_from_made (pre_made s))) (optional_begins (prefixed_begins 43))
+pre_build_apart s = apart_by is_identifiers_byte (λ x. x == 43) plus_apart (optional_goes (begins_from_made (pre_made s)) (goes_from_made (pre_made s))) (optional_begins (prefixed_begins 43))
 
 pub optional_read : {A : List ℕ → List (List ℕ) → Type 0} {text rest : List ℕ} {v : List (List ℕ)} → NonEmpty A → IsLongest A text v rest → IsSeen or_none (Optional A) text v rest
 optional_read {v = v} some p = record { value = Some v; longest = optional_some some p; seen = refl }

@@ -1,9 +1,9 @@
--- The identifiers that were read are parts, so a version that was read has a text that reads back.
+-- The identifiers that were read are those of the grammar, so a version that was read has a text that reads back.
 use Rattle.std.proofs.Common.{ℕ, List, [], ◌∷◌, Option, Some, None, Ok, refl, sym, subst, inl, inr}
 use Rattle.semver_base.specs.Grammar.{After, last_item, closed_item, more_items, Mapped, Prefixed, Optional}
-use Rattle.semver_base.specs.Lexical.{IsBuild, IsPart, IsParts, IsPre, IsQualifier, or_none}
+use Rattle.semver_base.specs.Lexical.{IsBuild, IsIdentifier, IsIdentifiers, IsPre, IsQualifier, or_none}
 use Rattle.semver_base.specs.VersionGrammar.{AllNumbersFit, IsVersion, IsVersionOutcome, is_version}
-use Rattle.semver_base.specs.VersionText.{AreParts, IsWritable, ReadsBack}
+use Rattle.semver_base.specs.VersionText.{AreIdentifiers, IsWritable, ReadsBack}
 use Rattle.semver_base.specs.declared.lexical.values.Qualifier.{Qualifier}
 use Rattle.semver_base.specs.declared.lexical.values.Strictness.{Strictness}
 use Rattle.semver_base.specs.declared.lexical.values.Strictness.TheVariants.{Loose, Strict}
@@ -24,41 +24,41 @@ by_prefixed m A P inner (b ∷ rest) v h = inner rest v h.1
 
 -- ---- qualifiers
 
-part_itself : (text v : List ℕ) → IsPart text v → IsPart v v
-part_itself text v h = subst (λ (t : List ℕ). IsPart t t) (sym h.is) (record { some = h.some; pass = h.pass; is = refl })
+identifier_itself : (text v : List ℕ) → IsIdentifier text v → IsIdentifier v v
+identifier_itself text v h = subst (λ (t : List ℕ). IsIdentifier t t) (sym h.is) (record { some = h.some; pass = h.pass; is = refl })
 
-parts_are : {text : List ℕ} {ids : List (List ℕ)} → IsParts text ids → AreParts ids
-parts_are (last_item a) = (part_itself _ _ a, tt)
-parts_are (closed_item a s) = (part_itself _ _ a, tt)
-parts_are (more_items a s more) = (part_itself _ _ a, parts_are more)
+identifiers_are : {text : List ℕ} {ids : List (List ℕ)} → IsIdentifiers text ids → AreIdentifiers ids
+identifiers_are (last_item a) = (identifier_itself _ _ a, tt)
+identifiers_are (closed_item a s) = (identifier_itself _ _ a, tt)
+identifiers_are (more_items a s more) = (identifier_itself _ _ a, identifiers_are more)
 
-pre_are : (s : Strictness) (text : List ℕ) (ids : List (List ℕ)) → IsPre s text ids → AreParts ids
+pre_are : (s : Strictness) (text : List ℕ) (ids : List (List ℕ)) → IsPre s text ids → AreIdentifiers ids
 pre_are Loose [] ids h = absurd h
-pre_are Loose (b ∷ rest) ids (inl h) = parts_are h.1
-pre_are Loose (b ∷ rest) ids (inr h) = parts_are h.1
-pre_are Strict text ids h = by_prefixed 45 IsParts AreParts (λ t v k. parts_are k) text ids h
+pre_are Loose (b ∷ rest) ids (inl h) = identifiers_are h.1
+pre_are Loose (b ∷ rest) ids (inr h) = identifiers_are h.1
+pre_are Strict text ids h = by_prefixed 45 IsIdentifiers AreIdentifiers (λ t v k. identifiers_are k) text ids h
 
-maybe_pre : (s : Strictness) (text : List ℕ) (o : Option (List (List ℕ))) → Optional (IsPre s) text o → AreParts (or_none o)
+maybe_pre : (s : Strictness) (text : List ℕ) (o : Option (List (List ℕ))) → Optional (IsPre s) text o → AreIdentifiers (or_none o)
 maybe_pre s text None h = tt
 maybe_pre s text (Some ids) h = pre_are s text ids h
 
-maybe_build : (text : List ℕ) (o : Option (List (List ℕ))) → Optional IsBuild text o → AreParts (or_none o)
+maybe_build : (text : List ℕ) (o : Option (List (List ℕ))) → Optional IsBuild text o → AreIdentifiers (or_none o)
 maybe_build text None h = tt
-maybe_build text (Some ids) h = by_prefixed 43 IsParts AreParts (λ t v k. parts_are k) text ids h
+maybe_build text (Some ids) h = by_prefixed 43 IsIdentifiers AreIdentifiers (λ t v k. identifiers_are k) text ids h
 
 abbrev pub QualifierHas : Qualifier → Type 0
-QualifierHas q = AreParts q.pre × AreParts q.build
+QualifierHas q = AreIdentifiers q.pre × AreIdentifiers q.build
 
 pub qualifier_has : (s : Strictness) (text : List ℕ) (q : Qualifier) → IsQualifier s text q → QualifierHas q
 qualifier_has s text q h = by_mapped QualifierHas (λ t v k. (maybe_pre s k.first v.0 k.in_first, maybe_build k.second v.1 k.in_second)) h
 
 -- ---- versions
 
-version_has : (text : List ℕ) (v : Version) → IsVersion text v → AreParts v.pre × AreParts v.build
-version_has text v h = by_mapped (λ (w : Version). AreParts w.pre × AreParts w.build) (λ t x k. by_after (λ y. AreParts y.1.pre × AreParts y.1.build) (λ u y j. qualifier_has Loose j.second y.1 j.in_second) k) h
+version_has : (text : List ℕ) (v : Version) → IsVersion text v → AreIdentifiers v.pre × AreIdentifiers v.build
+version_has text v h = by_mapped (λ (w : Version). AreIdentifiers w.pre × AreIdentifiers w.build) (λ t x k. by_after (λ y. AreIdentifiers y.1.pre × AreIdentifiers y.1.build) (λ u y j. qualifier_has Loose j.second y.1 j.in_second) k) h
 
 pub read_writable : (text : List ℕ) (v : Version) → IsVersion text v → AllNumbersFit v → IsWritable v
-read_writable text v h fits = let parts = version_has text v h in record { numbers = fits; pre = parts.0; build = parts.1 }
+read_writable text v h fits = let identifiers = version_has text v h in record { numbers = fits; pre = identifiers.0; build = identifiers.1 }
 
 -- what a text stands for is read back from its own text
 pub read_back : (text : List ℕ) (v : Version) → IsVersionOutcome text (Ok v) → ReadsBack v

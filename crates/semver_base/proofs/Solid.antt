@@ -9,12 +9,12 @@ use Rattle.std.proofs.lemmas.Bool.Decides.{nat_tests}
 use Rattle.std.proofs.lemmas.List.Sums.{AllPass-from_list_all}
 use Rattle.std.proofs.lemmas.Str.{chars-IsAscii, encodes-IsAscii}
 use Rattle.std.proofs.lemmas.Str.Ascii.{IsAscii-from_all}
-use Rattle.semver_base.specs.Lexical.{IsLooseNumber, IsParts, IsQualifier}
+use Rattle.semver_base.specs.Lexical.{IsIdentifiers, IsLooseNumber, IsQualifier}
 use Rattle.semver_base.specs.declared.lexical.values.Strictness.TheVariants.{Loose}
 use Rattle.semver_base.proofs.Blanks.{is_blank_byte}
 use Rattle.semver_base.proofs.Bytes.{MadeOf, joined_made, list_all-wider, made_wider, mapped_made, prefixed_made, optional_made, run_made}
 use Rattle.semver_base.proofs.Fronts.{NonEmpty}
-use Rattle.semver_base.proofs.Parts.{is_parts_byte, parts_made}
+use Rattle.semver_base.proofs.Identifiers.{identifiers_made, is_identifiers_byte}
 use Rattle.semver_base.proofs.Qualifiers.{pre_made}
 
 -- a graphic byte of ASCII, so of no blank, and none of `|`, `@` and `/`
@@ -24,8 +24,8 @@ is_solid_byte b = is_ascii_graphic b && (not (b == 124) && (not (b == 64) && not
 digit_solid : (b : ℕ) → is_ascii_digit b ≡ true → is_solid_byte b ≡ true
 digit_solid b h = grind (arith, nat_tests)
 
-parts_solid : (b : ℕ) → is_parts_byte b ≡ true → is_solid_byte b ≡ true
-parts_solid b h = grind (arith, nat_tests)
+identifiers_solid : (b : ℕ) → is_identifiers_byte b ≡ true → is_solid_byte b ≡ true
+identifiers_solid b h = grind (arith, nat_tests)
 
 pub solid_ascii : (b : ℕ) → is_solid_byte b ≡ true → is_ascii b ≡ true
 solid_ascii b h = grind (arith, nat_tests)
@@ -41,11 +41,11 @@ solid_no_blank b h k = grind (arith, nat_tests)
 pub number_made : MadeOf IsLooseNumber is_solid_byte
 number_made = mapped_made (made_wider is_ascii_digit is_solid_byte digit_solid (run_made is_ascii_digit))
 
-solid_parts : MadeOf IsParts is_solid_byte
-solid_parts = made_wider is_parts_byte is_solid_byte parts_solid parts_made
+solid_identifiers : MadeOf IsIdentifiers is_solid_byte
+solid_identifiers = made_wider is_identifiers_byte is_solid_byte identifiers_solid identifiers_made
 
 pub qualifier_made : MadeOf (IsQualifier Loose) is_solid_byte
-qualifier_made = mapped_made (joined_made (optional_made (made_wider is_parts_byte is_solid_byte parts_solid (pre_made Loose))) (optional_made (prefixed_made solid_parts 43 refl)))
+qualifier_made = mapped_made (joined_made (optional_made (made_wider is_identifiers_byte is_solid_byte identifiers_solid (pre_made Loose))) (optional_made (prefixed_made solid_identifiers 43 refl)))
 
 pub some_text : {V : Type 0} {A : List ℕ → V → Type 0} {v : V} → NonEmpty A → (text : List ℕ) → A text v → 0 < length text
 some_text {v = v} never [] h = absurd (never.some v h)

@@ -9,7 +9,7 @@ use Rattle.semver_base.specs.VersionText.{IsWritable, VersionTextsArePlain, is_v
 use Rattle.semver_base.specs.declared.lexical.values.Strictness.TheVariants.{Loose}
 use Rattle.semver_base.specs.declared.version.Version.{Version}
 use Rattle.semver_base.proofs.Bytes.{MadeOf, joined_made, made_wider, mapped_made, prefixed_made, optional_made, run_made}
-use Rattle.semver_base.proofs.Parts.{is_parts_byte, parts_made}
+use Rattle.semver_base.proofs.Identifiers.{identifiers_made, is_identifiers_byte}
 use Rattle.semver_base.proofs.Qualifiers.{pre_made}
 use Rattle.semver_base.proofs.ReadVersions.{read_writable}
 use Rattle.semver_base.proofs.WrittenVersions.{version_joined}
@@ -17,15 +17,15 @@ use Rattle.semver_base.proofs.WrittenVersions.{version_joined}
 digit_passes : (b : ℕ) → is_ascii_digit b ≡ true → is_version_text_byte b ≡ true
 digit_passes b h = grind (arith, nat_tests)
 
-parts_pass : (b : ℕ) → is_parts_byte b ≡ true → is_version_text_byte b ≡ true
-parts_pass b h = grind (arith, nat_tests)
+identifiers_pass : (b : ℕ) → is_identifiers_byte b ≡ true → is_version_text_byte b ≡ true
+identifiers_pass b h = grind (arith, nat_tests)
 
 number_made : MadeOf IsLooseNumber is_version_text_byte
 number_made = mapped_made (made_wider is_ascii_digit is_version_text_byte digit_passes (run_made is_ascii_digit))
 
 qualifier_made : MadeOf (IsQualifier Loose) is_version_text_byte
-qualifier_made = mapped_made (joined_made (optional_made (made_wider is_parts_byte is_version_text_byte parts_pass (pre_made Loose)))
-    (optional_made (prefixed_made (made_wider is_parts_byte is_version_text_byte parts_pass parts_made) 43 refl)))
+qualifier_made = mapped_made (joined_made (optional_made (made_wider is_identifiers_byte is_version_text_byte identifiers_pass (pre_made Loose)))
+    (optional_made (prefixed_made (made_wider is_identifiers_byte is_version_text_byte identifiers_pass identifiers_made) 43 refl)))
 
 triple_made : MadeOf IsTriple is_version_text_byte
 triple_made = joined_made number_made (prefixed_made (joined_made number_made (prefixed_made number_made 46 refl)) 46 refl)

@@ -21,8 +21,7 @@ use Rattle.semver_base.proofs.Fronts.{Apart, NoClash, NonEmpty, followed, follow
 use Rattle.semver_base.proofs.Bytes.{BeginsBy, Disjoint, GoesBy, MadeOf, apart_by, begins_from_made, begins_wider, goes_from_made, goes_wider, joined_begins, joined_begins_either, joined_goes_second, joined_made, joined_some_text, made_wider, mapped_begins, mapped_made, prefixed_begins, prefixed_goes, prefixed_made, prefixed_some_text, optional_begins, optional_goes, optional_made}
 use Rattle.semver_base.proofs.Lists.{run_longest}
 use Rattle.semver_base.proofs.Numbers.{loose_begins, loose_end, loose_goes, loose_some}
-use Rattle.semver_base.proofs.Parts.{byte_begins, byte_goes}
-use Rattle.semver_base.proofs.Qualifiers.{no_qualifier}
+use Rattle.semver_base.proofs.Identifiers.{byte_begins, byte_goes}
 use Rattle.semver_base.proofs.Blanks.{blanks_made, is_blank_byte}
 
 -- ---- the lead
@@ -377,7 +376,3 @@ all_read {rest = rest} lead triple q empty = record {
   longest = let nil = nil_from_length rest empty in rw nil at (version_read lead triple q);
   fits = record { major = triple.major_fits; minor = triple.minor_fits; patch = triple.patch_fits };
 }
-
--- a text that is three numbers
-pub plain_read : {text : List ℕ} {numbers : ℕ × (ℕ × ℕ)} → IsFittingTriple text numbers [] → IsReadVersion text (version_of (numbers, record { pre = []; build = [] }))
-plain_read triple = all_read (no_lead triple.triple) triple (no_qualifier Loose) refl

@@ -9,9 +9,9 @@ use Rattle.std.proofs.lemmas.Fmt.{decimal_digit, decimal_is_IsNumeral, first_dec
 use Rattle.std.proofs.lemmas.Str.{NoCharPasses-nil}
 use Rattle.std.specs.Char.{is_not_whitespace}
 use Rattle.semver_base.specs.Grammar.{After, Followed, Joined, Optional, last_item, more_items}
-use Rattle.semver_base.specs.Lexical.{IsBlanks, IsBuild, IsLooseNumber, IsNumber, IsParts, IsPre, IsQualifier, NoDigitFollows, or_none}
+use Rattle.semver_base.specs.Lexical.{IsBlanks, IsBuild, IsIdentifiers, IsLooseNumber, IsNumber, IsPre, IsQualifier, NoDigitFollows, or_none}
 use Rattle.semver_base.specs.VersionGrammar.{IsLead, IsTriple, IsVersion, IsVersionOutcome, is_version}
-use Rattle.semver_base.specs.VersionText.{AreParts, IsWritable, prefixed, version_text}
+use Rattle.semver_base.specs.VersionText.{AreIdentifiers, IsWritable, prefixed, version_text}
 use Rattle.semver_base.specs.declared.lexical.values.Strictness.{Strictness}
 use Rattle.semver_base.specs.declared.lexical.values.Strictness.TheVariants.{Loose, Strict}
 use Rattle.semver_base.specs.declared.version.Version.{Version}
@@ -45,29 +45,29 @@ number_written Strict n fits = record { digits = loose_written n fits; no_leadin
 
 -- ---- identifiers
 
-parts_written : (id : List ℕ) (ids : List (List ℕ)) → AreParts (id ∷ ids) → IsParts (id ++ flat_map (λ other. 46 ∷ other) ids) (id ∷ ids)
-parts_written id [] h = rw append-nil (last_item h.0)
-parts_written id (other ∷ ids) h = more_items h.0 refl (parts_written other ids h.1)
+identifiers_written : (id : List ℕ) (ids : List (List ℕ)) → AreIdentifiers (id ∷ ids) → IsIdentifiers (id ++ flat_map (λ other. 46 ∷ other) ids) (id ∷ ids)
+identifiers_written id [] h = rw append-nil (last_item h.0)
+identifiers_written id (other ∷ ids) h = more_items h.0 refl (identifiers_written other ids h.1)
 
 -- the identifiers, where there are some
 abbrev some_ids : List (List ℕ) → Option (List (List ℕ))
 some_ids [] = None
 some_ids (id ∷ ids) = Some (id ∷ ids)
 
-pre_written : (s : Strictness) (ids : List (List ℕ)) → AreParts ids → Optional (IsPre s) (prefixed 45 ids) (some_ids ids)
+pre_written : (s : Strictness) (ids : List (List ℕ)) → AreIdentifiers ids → Optional (IsPre s) (prefixed 45 ids) (some_ids ids)
 pre_written s [] h = refl
-pre_written Loose (id ∷ ids) h = inl (refl, parts_written id ids h)
-pre_written Strict (id ∷ ids) h = (refl, parts_written id ids h)
+pre_written Loose (id ∷ ids) h = inl (refl, identifiers_written id ids h)
+pre_written Strict (id ∷ ids) h = (refl, identifiers_written id ids h)
 
-build_written : (ids : List (List ℕ)) → AreParts ids → Optional IsBuild (prefixed 43 ids) (some_ids ids)
+build_written : (ids : List (List ℕ)) → AreIdentifiers ids → Optional IsBuild (prefixed 43 ids) (some_ids ids)
 build_written [] h = refl
-build_written (id ∷ ids) h = (refl, parts_written id ids h)
+build_written (id ∷ ids) h = (refl, identifiers_written id ids h)
 
 back : (ids : List (List ℕ)) → ids ≡ or_none (some_ids ids)
 back [] = refl
 back (id ∷ ids) = refl
 
-pub qualifier_written : (s : Strictness) (pre build : List (List ℕ)) → AreParts pre → AreParts build → IsQualifier s (prefixed 45 pre ++ prefixed 43 build) (record { pre = pre; build = build })
+pub qualifier_written : (s : Strictness) (pre build : List (List ℕ)) → AreIdentifiers pre → AreIdentifiers build → IsQualifier s (prefixed 45 pre ++ prefixed 43 build) (record { pre = pre; build = build })
 qualifier_written s pre build h k = record {
   value = (some_ids pre, some_ids build);
   stands = follow _ _ (pre_written s pre h) (build_written build k);

@@ -9,38 +9,38 @@ use Rattle.semver_base.specs.declared.primitive.PrimitiveKind.TheVariants.{Great
 use Rattle.semver_base.specs.declared.range.VersionBoundKind.TheVariants as kind
 use Rattle.semver_base.specs.declared.range.VersionRange.{VersionRange}
 
--- a sign as it is written
-abbrev pub sign_text : PrimitiveKind → List ℕ
-sign_text GreaterThan = codes ">"
-sign_text LessThan = codes "<"
-sign_text GreaterThanOrEqual = codes ">="
-sign_text LessThanOrEqual = codes "<="
-sign_text Equal = codes "="
+-- a primitive kind as it is written
+abbrev pub primitive_kind_text : PrimitiveKind → List ℕ
+primitive_kind_text GreaterThan = codes ">"
+primitive_kind_text LessThan = codes "<"
+primitive_kind_text GreaterThanOrEqual = codes ">="
+primitive_kind_text LessThanOrEqual = codes "<="
+primitive_kind_text Equal = codes "="
 
 pub data Comparator : Type 0 where
   Tilde : Partial → Comparator
   Caret : Partial → Comparator
-  Signed : PrimitiveKind → Partial → Comparator
+  OfPrimitive : PrimitiveKind → Partial → Comparator
   Plain : Partial → Comparator
   Hyphen : Partial → Partial → Comparator
 
-abbrev pub signed : PrimitiveKind × Partial → Comparator
-signed v = Signed v.0 v.1
+abbrev pub of_primitive : PrimitiveKind × Partial → Comparator
+of_primitive v = OfPrimitive v.0 v.1
 
 -- ---- what they stand for
 
-abbrev pub signed_line : PrimitiveKind → Partial → Line
-signed_line GreaterThan p = greater_than kind.Exclusive p
-signed_line LessThan p = less_than kind.Exclusive p
-signed_line GreaterThanOrEqual p = greater_than kind.Inclusive p
-signed_line LessThanOrEqual p = less_than kind.Inclusive p
-signed_line Equal p = equal p
+abbrev pub primitive_line : PrimitiveKind → Partial → Line
+primitive_line GreaterThan p = greater_than kind.Exclusive p
+primitive_line LessThan p = less_than kind.Exclusive p
+primitive_line GreaterThanOrEqual p = greater_than kind.Inclusive p
+primitive_line LessThanOrEqual p = less_than kind.Inclusive p
+primitive_line Equal p = equal p
 
 -- the bounds of a comparator, and the sums that they need
 abbrev pub comparator_line : Comparator → Line
 comparator_line (Tilde p) = tilde p
 comparator_line (Caret p) = caret p
-comparator_line (Signed sign p) = signed_line sign p
+comparator_line (OfPrimitive primitive_kind p) = primitive_line primitive_kind p
 comparator_line (Plain p) = equal p
 comparator_line (Hyphen p q) = record { range = between (from (lowest p)) (upper q).end; sums = (upper q).sums }
 

@@ -55,9 +55,9 @@ least_release (bound.Version start) = release_from start.kind start.version
 
 -- ---- the least pre-release of three numbers above a start
 
--- the identifier `0`, which none that is a part is below
-abbrev pub zero_part : List ℕ
-zero_part = 48 ∷ []
+-- the identifier `0`, which none of the grammar is below
+abbrev pub zero_identifier : List ℕ
+zero_identifier = 48 ∷ []
 
 -- the version of the same three numbers with this pre-release, without a build
 abbrev pub with_pre : Version → List (List ℕ) → Version
@@ -66,7 +66,7 @@ with_pre v pre = record { major = v.major; minor = v.minor; patch = v.patch; pre
 -- the least pre-release of the same numbers from a pre-release on: itself, or after it the one with `0` appended
 abbrev pub pre_from : VersionBoundKind → Version → Version
 pre_from kind.Inclusive v = with_pre v v.pre
-pre_from kind.Exclusive v = with_pre v (v.pre ++ zero_part ∷ [])
+pre_from kind.Exclusive v = with_pre v (v.pre ++ zero_identifier ∷ [])
 
 -- versions by their three numbers alone
 abbrev pub numbers_cmp : Version → Version → Ordering
@@ -75,12 +75,12 @@ numbers_cmp = then_cmp (on (λ (v : Version). v.major) nat_cmp) (then_cmp (on (�
 
 -- of the numbers of v, where those of the start compare so to them
 abbrev pub pre_by : Ordering → VersionBound → Version → Option Version
-pre_by Less start v = Some (with_pre v (zero_part ∷ []))
+pre_by Less start v = Some (with_pre v (zero_identifier ∷ []))
 pre_by Equal start v = if is_release start.version then None else Some (pre_from start.kind start.version)
 pre_by Greater start v = None
 
 abbrev pub pre_above : RangeBound → Version → Option Version
-pre_above bound.Unbounded v = Some (with_pre v (zero_part ∷ []))
+pre_above bound.Unbounded v = Some (with_pre v (zero_identifier ∷ []))
 pre_above (bound.Version start) v = pre_by (numbers_cmp start.version v) start v
 
 -- of the numbers of a bound that is a pre-release
@@ -93,7 +93,7 @@ least_pre start (bound.Version b) = if is_release b.version then None else pre_a
 -- the least pre-release of the numbers of a version, where there is one
 abbrev pub zero_of : Option Version → Option Version
 zero_of None = None
-zero_of (Some v) = Some (with_pre v (zero_part ∷ []))
+zero_of (Some v) = Some (with_pre v (zero_identifier ∷ []))
 
 -- the start's own version, or what comes next: after a release the least pre-release of the next one
 abbrev pub version_from : VersionBoundKind → Version → Option Version
@@ -101,7 +101,7 @@ version_from kind.Inclusive v = Some (pre_from kind.Inclusive v)
 version_from kind.Exclusive v = if is_release v then zero_of (next_release v) else Some (pre_from kind.Exclusive v)
 
 abbrev pub least_version : RangeBound → Option Version
-least_version bound.Unbounded = Some (with_pre (release 0 0 0) (zero_part ∷ []))
+least_version bound.Unbounded = Some (with_pre (release 0 0 0) (zero_identifier ∷ []))
 least_version (bound.Version start) = version_from start.kind start.version
 
 -- ---- the least version from a start

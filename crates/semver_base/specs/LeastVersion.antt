@@ -6,17 +6,17 @@ use Rattle.std.specs.Ordering.{is_le}
 use Rattle.semver_base.specs.Meaning.{range_means_with, set_means_with}
 use Rattle.semver_base.specs.Precedence.{precedence_cmp}
 use Rattle.semver_base.specs.VersionGrammar.{AllNumbersFit, IsVersionOutcome}
-use Rattle.semver_base.specs.VersionText.{AreParts, ReadsBack}
+use Rattle.semver_base.specs.VersionText.{AreIdentifiers, ReadsBack}
 use Rattle.semver_base.specs.declared.version.Version.{Version}
 use Rattle.semver_base.specs.declared.range.PreRelease.{PreRelease}
 use Rattle.semver_base.specs.declared.range.PreRelease.TheVariants.{Restricted}
 use Rattle.semver_base.specs.declared.range.VersionRange.{VersionRange}
 use Rattle.semver_base.specs.declared.range.VersionRangeSet.{VersionRangeSet}
 
--- every number fits, and every identifier of the pre-release is a part
+-- every number fits, and every identifier of the pre-release is one of the grammar
 pub record IsReadable (v : Version) : Type 0 where
   pub numbers : AllNumbersFit v
-  pub pre : AreParts v.pre
+  pub pre : AreIdentifiers v.pre
 
 -- each version that a text stands for is readable
 abbrev pub ReadVersionsAreReadable : Type 0

@@ -1,5 +1,5 @@
--- The words of versions and requirements: blanks, numbers, parts, pre-releases, builds and qualifiers, as texts of
--- bytes. Sources: SemVer 2.0.0, sections 2, 9 and 10, for numbers and identifiers; node-semver's range grammar, with
+-- The words of versions and requirements: blanks, numbers, identifiers, pre-releases, builds and qualifiers, as texts
+-- of bytes. Sources: SemVer 2.0.0, sections 2, 9 and 10, for numbers and identifiers; node-semver's range grammar, with
 -- its loose forms, for numbers with leading zeros and pre-releases without `-`.
 use Rattle.std.specs.Prelude.{◌≡◌, ◌<◌, ℕ, List, [], ◌∷◌, length, Bool, true, ◌||◌, ◌==◌, Option, Some, None, ◌⊎◌, slice_index, if◌then◌else◌, nat_lt, ◌^◌}
 use Rattle.std.specs.Char.{is_ascii_digit, is_ascii_alphanumeric, is_not_whitespace}
@@ -58,39 +58,39 @@ abbrev pub measured_of : Option ℕ → Measured ℕ
 measured_of None = TooLarge
 measured_of (Some n) = Fits n
 
--- ---- parts
+-- ---- identifiers
 
 -- one of `0-9`, `A-Z`, `a-z` and `-`
-abbrev pub is_part_byte : ℕ → Bool
-is_part_byte b = is_ascii_alphanumeric b || (b == 45)
+abbrev pub is_identifier_byte : ℕ → Bool
+is_identifier_byte b = is_ascii_alphanumeric b || (b == 45)
 
-abbrev pub IsPart : List ℕ → List ℕ → Type 0
-IsPart = Run is_part_byte
+abbrev pub IsIdentifier : List ℕ → List ℕ → Type 0
+IsIdentifier = Run is_identifier_byte
 
--- parts with a dot between neighbours, and one at the end or none
-abbrev pub IsParts : List ℕ → List (List ℕ) → Type 0
-IsParts = Listed IsPart (IsByte 46)
+-- identifiers with a dot between neighbours, and one at the end or none
+abbrev pub IsIdentifiers : List ℕ → List (List ℕ) → Type 0
+IsIdentifiers = Listed IsIdentifier (IsByte 46)
 
 -- ---- qualifiers
 
--- what begins with `-` loses exactly that; what begins with no `-` is parts as it stands
+-- what begins with `-` loses exactly that; what begins with no `-` is identifiers as it stands
 abbrev pub IsLoosePre : List ℕ → List (List ℕ) → Type 0
 IsLoosePre [] ids = ⊥
-IsLoosePre (b ∷ rest) ids = ((b ≡ 45) × IsParts rest ids) ⊎ ((b ≡ 45 → ⊥) × IsParts (b ∷ rest) ids)
+IsLoosePre (b ∷ rest) ids = ((b ≡ 45) × IsIdentifiers rest ids) ⊎ ((b ≡ 45 → ⊥) × IsIdentifiers (b ∷ rest) ids)
 
--- `-`, and parts after it
+-- `-`, and identifiers after it
 abbrev pub IsStrictPre : List ℕ → List (List ℕ) → Type 0
-IsStrictPre = Prefixed 45 IsParts
+IsStrictPre = Prefixed 45 IsIdentifiers
 
 abbrev pub IsPre : Strictness → List ℕ → List (List ℕ) → Type 0
 IsPre Loose = IsLoosePre
 IsPre Strict = IsStrictPre
 
--- `+`, and parts after it
+-- `+`, and identifiers after it
 abbrev pub IsBuild : List ℕ → List (List ℕ) → Type 0
-IsBuild = Prefixed 43 IsParts
+IsBuild = Prefixed 43 IsIdentifiers
 
--- the identifiers, and none where there are no parts
+-- the identifiers, and none where nothing was read
 abbrev pub or_none : Option (List (List ℕ)) → List (List ℕ)
 or_none None = []
 or_none (Some ids) = ids

@@ -3,7 +3,7 @@
 use Rattle.std.specs.Prelude.{ℕ, List, [], ◌∷◌, ◌++◌, codes}
 use Rattle.std.specs.Fmt.{decimal}
 use Rattle.std.specs.List.{AllByRecursion, join_by}
-use Rattle.semver_base.specs.Comparators.{Comparator, Tilde, Caret, Signed, Plain, Hyphen, sign_text}
+use Rattle.semver_base.specs.Comparators.{Caret, Comparator, Hyphen, OfPrimitive, Plain, Tilde, primitive_kind_text}
 use Rattle.semver_base.specs.PartialTable.{lowest}
 use Rattle.semver_base.specs.Shortest.{shortest}
 use Rattle.semver_base.specs.VersionText.{IsWritable, version_text}
@@ -29,7 +29,7 @@ partial_text p = text_by p p.major p.minor p.patch
 abbrev pub comparator_text : Comparator → List ℕ
 comparator_text (Tilde p) = codes "~" ++ partial_text p
 comparator_text (Caret p) = codes "^" ++ partial_text p
-comparator_text (Signed sign p) = sign_text sign ++ partial_text p
+comparator_text (OfPrimitive kind p) = primitive_kind_text kind ++ partial_text p
 comparator_text (Plain p) = partial_text p
 comparator_text (Hyphen p q) = partial_text p ++ (codes " - " ++ partial_text q)
 

@@ -1,6 +1,6 @@
--- What a comparator is: the two bounds that a partial version stands for under `~`, `^`, a sign or alone, and the
--- sums that they need. Numbers are of any size. Source: node-semver's "Advanced Range Syntax" and its range grammar,
--- with the cases of wildcards before numbers that `deno_semver` has.
+-- What a comparator is: the two bounds that a partial version stands for under `~`, `^`, a primitive kind or alone, and
+-- the sums that they need. Numbers are of any size. Source: node-semver's "Advanced Range Syntax" and its range
+-- grammar, with the cases of wildcards before numbers that `deno_semver` has.
 use Rattle.std.specs.Prelude.{◌≡◌, ℕ, List, [], ◌∷◌, ◌+◌, ◌^◌, Bool, false, true, Option, Some, None, ◌⊎◌, nat_lt, if◌then◌else◌}
 use Rattle.std.specs.List.{list_all}
 use Rattle.semver_base.specs.Failure.{refusal_message}
@@ -9,6 +9,7 @@ use Rattle.semver_base.specs.Meaning.{bound_at, everything, from, nothing, relea
 use Rattle.semver_base.specs.declared.plain.FewNumbers.{FewNumbers}
 use Rattle.semver_base.specs.declared.plain.FewNumbers.TheVariants as few
 use Rattle.semver_base.specs.declared.plain.Numbers.{Numbers}
+use Rattle.semver_base.specs.declared.partial.numbers.ReleaseRange.{ReleaseRange}
 use Rattle.semver_base.specs.declared.version.Version.{Version}
 use Rattle.semver_base.specs.declared.range.RangeBound.{RangeBound}
 use Rattle.semver_base.specs.declared.range.RangeBound.TheVariants as bound
@@ -85,6 +86,14 @@ abbrev pub of_few : FewNumbers → Partial
 of_few (few.One m) = record { major = Val m; minor = Wildcard; patch = Wildcard; pre = []; build = [] }
 of_few (few.Two m n) = record { major = Val m; minor = Val n; patch = Wildcard; pre = []; build = [] }
 of_few (few.Three n) = of_numbers n
+
+-- three numbers, as a release
+abbrev pub release_of : Numbers → Version
+release_of n = release n.major n.minor n.patch
+
+-- the range from one release, which it holds, to another
+abbrev pub release_range : ReleaseRange → VersionRange
+release_range r = between (from (release_of r.start)) (bound_at r.end_kind (release_of r.end))
 
 -- ---- from the lower bound to below a release, with the sums in it
 abbrev pub lower_to_below : Partial → Version → List ℕ → Line

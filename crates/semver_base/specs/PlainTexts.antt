@@ -11,13 +11,17 @@ pub record IsPlainNumber (text : List ℕ) (n : ℕ) (rest : List ℕ) : Type 0 
   pub strict : IsLongest IsStrictNumber text n rest
   pub fits : n < 2 ^ 64
 
--- the whole text is these numbers with dots between
-pub record IsPlainTriple (text : List ℕ) (m n p : ℕ) : Type 0 where
+-- the text begins with these numbers with dots between, and goes on with rest
+pub record IsTripleFront (text : List ℕ) (m n p : ℕ) (rest : List ℕ) : Type 0 where
   pub from_minor : List ℕ
   pub from_patch : List ℕ
   pub major : IsPlainNumber text m (46 ∷ from_minor)
   pub minor : IsPlainNumber from_minor n (46 ∷ from_patch)
-  pub patch : IsPlainNumber from_patch p []
+  pub patch : IsPlainNumber from_patch p rest
+
+-- the whole text is these numbers with dots between
+abbrev pub IsPlainTriple : List ℕ → ℕ → ℕ → ℕ → Type 0
+IsPlainTriple text m n p = IsTripleFront text m n p []
 
 -- the whole text is these two numbers with a dot between
 pub record IsPlainPair (text : List ℕ) (m n : ℕ) : Type 0 where

@@ -1,11 +1,11 @@
 -- The shortest usual form of a range, as comparators. Source: node-semver's range grammar, whose tilde, caret and
 -- partial versions are short for two bounds.
 use Rattle.std.specs.Prelude.{ℕ, List, [], ◌∷◌, length, map, ◌+◌, Bool, ◌==◌, ◌&&◌, ◌||◌, nat_lt, if◌then◌else◌}
-use Rattle.semver_base.specs.Comparators.{Comparator, Caret, Plain, Signed, Tilde}
+use Rattle.semver_base.specs.Comparators.{Caret, Comparator, OfPrimitive, Plain, Tilde}
 use Rattle.semver_base.specs.Meaning.{release}
 use Rattle.semver_base.specs.PrecedenceLaws.{version_eq}
 use Rattle.semver_base.specs.declared.partial.Partial.{Partial}
-use Rattle.semver_base.specs.declared.primitive.PrimitiveKind.TheVariants as sign
+use Rattle.semver_base.specs.declared.primitive.PrimitiveKind.TheVariants as primitive
 use Rattle.semver_base.specs.declared.partial.XRange.{XRange}
 use Rattle.semver_base.specs.declared.partial.XRange.TheVariants.{Wildcard, Val}
 use Rattle.semver_base.specs.declared.range.RangeBound.{RangeBound}
@@ -25,12 +25,12 @@ abbrev pub numbered : XRange → XRange → Partial
 numbered major minor = record { major = major; minor = minor; patch = Wildcard; pre = []; build = [] }
 
 abbrev pub starting : VersionBoundKind → Version → Comparator
-starting kind.Inclusive s = Signed sign.GreaterThanOrEqual (whole s)
-starting kind.Exclusive s = Signed sign.GreaterThan (whole s)
+starting kind.Inclusive s = OfPrimitive primitive.GreaterThanOrEqual (whole s)
+starting kind.Exclusive s = OfPrimitive primitive.GreaterThan (whole s)
 
 abbrev pub ending : VersionBoundKind → Version → Comparator
-ending kind.Inclusive e = Signed sign.LessThanOrEqual (whole e)
-ending kind.Exclusive e = Signed sign.LessThan (whole e)
+ending kind.Inclusive e = OfPrimitive primitive.LessThanOrEqual (whole e)
+ending kind.Exclusive e = OfPrimitive primitive.LessThan (whole e)
 
 -- ---- the shortest form of a range: the first line that fits
 

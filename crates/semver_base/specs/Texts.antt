@@ -36,6 +36,11 @@ abbrev pub shared_items : {T : Type 0} → Option (Rc (Vec T Global) Global) →
 shared_items None = []
 shared_items (Some shared) = shared.value.items
 
+-- a list with a shared pointer has items
+abbrev pub IsFilledIfShared : {T : Type 0} → Option (Rc (Vec T Global) Global) → Type 0
+IsFilledIfShared None = Unit {0}
+IsFilledIfShared (Some shared) = 0 < length shared.value.items
+
 -- no memory is needed to take the text over: it is owned, or has at most limit bytes
 abbrev pub FitsOrIsOwned : {Z : Type 0} → ℕ → CowStr Z → Type 0
 FitsOrIsOwned limit (cow.Borrowed text) = length text.now ≤ limit

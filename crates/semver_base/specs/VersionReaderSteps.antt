@@ -2,8 +2,12 @@
 use Rattle.std.specs.Prelude.{◌≡◌, ◌≤◌, ◌<◌, ◌^◌, ℕ, List, [], ◌∷◌, true, ◌⊎◌, slice_index}
 use Rattle.std.specs.Char.{is_ascii_digit}
 use Rattle.semver_base.specs.Grammar.{HasNone, IsLongest}
-use Rattle.semver_base.specs.Lexical.{IsLooseNumber}
-use Rattle.semver_base.specs.VersionGrammar.{AllNumbersFit, IsNumberFault, IsTriple, IsVersion}
+use Rattle.std.specs.Str.{trim}
+use Rattle.semver_base.specs.Lexical.{IsLooseNumber, IsQualifier}
+use Rattle.semver_base.specs.VersionGrammar.{AllNumbersFit, IsNumberFault, IsTriple, IsVersion, version_of}
+use Rattle.semver_base.specs.declared.lexical.values.Qualifier.{Qualifier}
+use Rattle.semver_base.specs.declared.lexical.values.Strictness.TheVariants.{Loose}
+use Rattle.semver_base.specs.declared.plain.Numbers.{Numbers}
 use Rattle.semver_base.specs.declared.version.Version.{Version}
 use Rattle.semver_base.specs.declared.failure.Refusal.{Refusal}
 use Rattle.semver_base.specs.declared.failure.Refusal.TheVariants.{UnexpectedCharacter, MissingMinor, MissingPatch, NumberTooLarge}
@@ -48,3 +52,14 @@ IsTripleRefusal text refusal = IsFaultOfNumbers text refusal ⊎ ((refusal ≡ U
 pub record IsReadVersion (text : List ℕ) (v : Version) : Type 0 where
   pub longest : IsLongest IsVersion text v []
   pub fits : AllNumbersFit v
+
+-- the version of these numbers and of the qualifier that the whole text is
+pub record IsQualified (numbers : Numbers) (text : List ℕ) (v : Version) : Type 0 where
+  pub qualifier : Qualifier
+  pub longest : IsLongest (IsQualifier Loose) text qualifier []
+  pub version_is : v ≡ version_of ((numbers.major, (numbers.minor, numbers.patch)), qualifier)
+
+-- the whole text is read as the version, and there is nothing to trim
+pub record IsPlainVersion (text : List ℕ) (v : Version) : Type 0 where
+  pub version : IsReadVersion text v
+  pub trimmed : trim text ≡ text

@@ -139,7 +139,7 @@ pub fn same_components(one: &XRange, other: &XRange) -> bool
     one == other
 }
 
-/// Whether two signs are the same.
+/// Whether two primitive kinds are the same.
 pub fn same_signs(one: &PrimitiveKind, other: &PrimitiveKind) -> bool
     ensures { IsTrue result ↔ (one.now ≡ other.now) }
 {
@@ -160,7 +160,8 @@ pub fn version_texts_have_one_outcome()
     ensures { VersionTextsHaveOneOutcome }
 {}
 
-/// The text of a version whose identifiers are parts is read as that version, build included (SemVer 2.0.0, section 2).
+/// The text of a version whose identifiers are those of the grammar is read as that version, build included (SemVer 2.0.0,
+/// section 2).
 pub fn version_texts_read_back()
     ensures { VersionTextsReadBack }
 {}
@@ -171,7 +172,7 @@ pub fn normal_texts_follow_the_table()
 {}
 
 /// Each version that a text stands for is one of those among which `common_version` and `min_version` answer the least:
-/// its numbers fit, and the identifiers of its pre-release are parts (SemVer 2.0.0, sections 2 and 9).
+/// its numbers fit, and the identifiers of its pre-release are those of the grammar (SemVer 2.0.0, sections 2 and 9).
 pub fn read_versions_are_readable()
     ensures { ReadVersionsAreReadable }
 {}

@@ -7,7 +7,7 @@ ghost use Rattle.std.specs.Prelude.{◌≡◌, ◌↔◌, ◌<◌, ◌++◌, [],
 ghost use Rattle.std.specs.List.{take_while};
 ghost use Rattle.std.specs.Char.{is_ascii_digit};
 ghost use Rattle.semver_base.specs.Grammar.{CutsRun, IsAfter, IsLongest, IsSeen, Optional, Reads, ReadsAs, answer_of};
-ghost use Rattle.semver_base.specs.Lexical.{IsBlanks, IsBuild, IsLooseNumber, IsNumber, IsParts, IsPre, IsQualifier, IsStrictNumber, is_part_byte, measured_of, or_none, sized};
+ghost use Rattle.semver_base.specs.Lexical.{IsBlanks, IsBuild, IsIdentifiers, IsLooseNumber, IsNumber, IsPre, IsQualifier, IsStrictNumber, is_identifier_byte, measured_of, or_none, sized};
 
 pub mod values;
 
@@ -15,13 +15,13 @@ use crate::string::{CowVec, SmallStackString};
 use std::alloc::{AllocError, Global};
 use values::{Measured, Qualifier, Strictness};
 
-/// What follows the ASCII character `mark`, where the text begins with it.
+/// What follows the ASCII character `character`, where the text begins with it.
 #[inline(always)]
-pub fn after(text: &str, mark: char) -> Option<&str>
-    requires { mark < 128 }
-    ensures { IsAfter mark text.now result }
+pub fn after(text: &str, character: char) -> Option<&str>
+    requires { character < 128 }
+    ensures { IsAfter character text.now result }
 {
-    text.strip_prefix(mark)
+    text.strip_prefix(character)
 }
 
 /// What follows the blanks at the front; a blank is a character for which `char::is_whitespace` is true.
@@ -56,26 +56,26 @@ fn split_digits(text: &str) -> (&str, &str)
 }
 
 #[inline(always)]
-fn is_part_byte(byte: u8) -> bool
-    ensures { result ≡ is_part_byte byte }
+fn is_identifier_byte(byte: u8) -> bool
+    ensures { result ≡ is_identifier_byte byte }
 {
     byte.is_ascii_alphanumeric() || byte == b'-'
 }
 
-// How many bytes at the front belong to a part.
+// How many bytes at the front belong to an identifier.
 #[inline(always)]
-fn part_len(bytes: &[u8]) -> usize
-    ensures { result ≡ length (take_while is_part_byte bytes.now) }
+fn identifier_len(bytes: &[u8]) -> usize
+    ensures { result ≡ length (take_while is_identifier_byte bytes.now) }
 {
-    bytes.iter().take_while(|b| is_part_byte(**b)).count()
+    bytes.iter().take_while(|b| is_identifier_byte(**b)).count()
 }
 
-// The part at the front, which may be empty, and what follows it.
+// The identifier at the front, which may be empty, and what follows it.
 #[inline(always)]
 fn identifier_front(text: &str) -> (&str, &str)
-    ensures { CutsRun is_part_byte text.now result.0.now result.1.now }
+    ensures { CutsRun is_identifier_byte text.now result.0.now result.1.now }
 {
-    text.split_at(part_len(text.as_bytes()))
+    text.split_at(identifier_len(text.as_bytes()))
 }
 
 // What `parse` made of digits, as a number that fits or not.
@@ -125,40 +125,44 @@ pub fn number(text: &str, strictness: Strictness) -> Option<(Measured<u64>, &str
 
 // Adds an identifier at the end.
 #[inline(always)]
-fn push_part(
+fn push_identifier(
     alloc: Global,
-    parts: &mut CowVec<SmallStackString>,
-    part: &str,
+    identifiers: &mut Vec<SmallStackString>,
+    identifier: &str,
 ) -> Result<(), AllocError>
-    ensures { OnOk result (parts.new ≡ parts.old ++ part.now ∷ []) }
+    ensures { OnOk result (identifiers.new.items ≡ identifiers.old.items ++ identifier.now ∷ []) }
 {
-    parts.push(SmallStackString::from_str(alloc, part)?)
+    identifiers.push(SmallStackString::from_str(alloc, identifier)?)?;
+    Ok(())
 }
 
-// One or more parts, each one or more of `0-9`, `A-Z`, `a-z` and `-`, with a `.` between neighbours and at most one
-// `.` at the end, which adds no part.
+// One or more identifiers, each one or more of `0-9`, `A-Z`, `a-z` and `-`, with a `.` between neighbours and at most
+// one `.` at the end, which adds no identifier.
 #[inline(never)]
-fn parts(alloc: Global, text: &str) -> Result<Option<(CowVec<SmallStackString>, &str)>, AllocError>
-    ensures { IfOk result (λ r. Reads IsParts text.now (answer_of r)) }
+fn identifiers(
+    alloc: Global,
+    text: &str,
+) -> Result<Option<(CowVec<SmallStackString>, &str)>, AllocError>
+    ensures { IfOk result (λ r. Reads IsIdentifiers text.now (answer_of r)) }
 {
     let (first, mut rest) = identifier_front(text);
     if first.is_empty() {
         return Ok(None);
     }
-    let mut ids = CowVec::new(alloc);
-    push_part(alloc, &mut ids, first)?;
+    let mut ids = Vec::with_capacity(alloc, 2)?;
+    push_identifier(alloc, &mut ids, first)?;
     while let Some(next) = after(rest, '.') {
         let (id, more) = identifier_front(next);
         if id.is_empty() {
-            return Ok(Some((ids, next)));
+            return Ok(Some((CowVec::from_vec(alloc, ids)?, next)));
         }
-        push_part(alloc, &mut ids, id)?;
+        push_identifier(alloc, &mut ids, id)?;
         rest = more;
     }
-    Ok(Some((ids, rest)))
+    Ok(Some((CowVec::from_vec(alloc, ids)?, rest)))
 }
 
-// A pre-release: parts after a `-`, which the loose grammar lets be missing.
+// A pre-release: identifiers after a `-`, which the loose grammar lets be missing.
 #[inline(always)]
 fn pre(
     alloc: Global,
@@ -168,21 +172,21 @@ fn pre(
     ensures { IfOk result (λ r. Reads (IsPre strictness) text.now (answer_of r)) }
 {
     if let Some(rest) = after(text, '-') {
-        return parts(alloc, rest);
+        return identifiers(alloc, rest);
     }
     match strictness {
-        Strictness::Loose => parts(alloc, text),
+        Strictness::Loose => identifiers(alloc, text),
         Strictness::Strict => Ok(None),
     }
 }
 
-// A build: parts after a `+`.
+// A build: identifiers after a `+`.
 #[inline(always)]
 fn build(alloc: Global, text: &str) -> Result<Option<(CowVec<SmallStackString>, &str)>, AllocError>
     ensures { IfOk result (λ r. Reads IsBuild text.now (answer_of r)) }
 {
     match after(text, '+') {
-        Some(rest) => parts(alloc, rest),
+        Some(rest) => identifiers(alloc, rest),
         None => Ok(None),
     }
 }

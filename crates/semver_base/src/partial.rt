@@ -10,6 +10,7 @@ use crate::failure::{ParseFailure, Refusal};
 use crate::range::{RangeBound, VersionBoundKind, VersionRange};
 use crate::string::CowVec;
 use crate::version::{Version, VersionPreOrBuild, release};
+pub use numbers::ReleaseRange;
 use std::alloc::{AllocError, Global};
 
 /// A component of a partial version.

@@ -4,7 +4,7 @@
 //! grammar says, and where it answers `None` nothing is known.
 
 ghost use Rattle.std.specs.Prelude.{◌≡◌, ◌∷◌, IfSome};
-ghost use Rattle.semver_base.specs.PlainTexts.{IsFewNumbers, IsPlainNumber, IsPlainTriple};
+ghost use Rattle.semver_base.specs.PlainTexts.{IsFewNumbers, IsPlainNumber, IsTripleFront};
 
 // Ten times a number below this, and a digit, is a `u64`.
 const LIMIT: u64 = 1_000_000_000_000_000_000;
@@ -80,13 +80,30 @@ pub fn few_numbers(text: &[u8]) -> Option<FewNumbers>
     }))
 }
 
-/// The three numbers that the whole text is.
+// The three numbers at the front, and what follows them.
 #[inline(always)]
-pub fn plain_numbers(text: &str) -> Option<Numbers>
-    ensures { IfSome result (λ n. IsPlainTriple text.now n.major n.minor n.patch) }
+fn triple(text: &[u8]) -> Option<(Numbers, &[u8])>
+    ensures { IfSome result
+        (λ r. IsTripleFront text.now r.0.major r.0.minor r.0.patch r.1.now) }
 {
-    match few_numbers(text.as_bytes())? {
-        FewNumbers::Three(numbers) => Some(numbers),
-        FewNumbers::One(_) | FewNumbers::Two(_, _) => None,
-    }
+    let (major, rest) = number(text)?;
+    let (minor, rest) = number(after_dot(rest)?)?;
+    let (patch, rest) = number(after_dot(rest)?)?;
+    let numbers = Numbers {
+        major,
+        minor,
+        patch,
+    };
+    Some((numbers, rest))
+}
+
+/// The three numbers at the front of the text, and what follows them.
+#[inline(always)]
+pub(crate) fn split_numbers(text: &str) -> Option<(Numbers, &str)>
+    ensures { IfSome result
+        (λ r. IsTripleFront text.now r.0.major r.0.minor r.0.patch r.1.now) }
+{
+    let (numbers, rest) = triple(text.as_bytes())?;
+    let (_, rest) = text.split_at(text.len() - rest.len());
+    Some((numbers, rest))
 }

@@ -123,6 +123,9 @@ impl RangeBound {
         match self {
             RangeBound::Unbounded => true,
             RangeBound::Version(bound) => {
+                if let Some(is_above) = version.is_above_by_numbers(&bound.version) {
+                    return is_above;
+                }
                 let ordering = version.cmp_precedence(&bound.version);
                 match bound.kind {
                     VersionBoundKind::Inclusive => ordering.is_ge(),
@@ -140,6 +143,9 @@ impl RangeBound {
         match self {
             RangeBound::Unbounded => true,
             RangeBound::Version(bound) => {
+                if let Some(is_above) = version.is_above_by_numbers(&bound.version) {
+                    return !is_above;
+                }
                 let ordering = version.cmp_precedence(&bound.version);
                 match bound.kind {
                     VersionBoundKind::Inclusive => ordering.is_le(),
@@ -339,6 +345,9 @@ impl RangeBound {
     {
         match (self, end) {
             (RangeBound::Version(start), RangeBound::Version(stop)) => {
+                if let Some(is_above) = start.version.is_above_by_numbers(&stop.version) {
+                    return !is_above;
+                }
                 let ordering = start.version.cmp_precedence(&stop.version);
                 match (start.kind, stop.kind) {
                     (VersionBoundKind::Inclusive, VersionBoundKind::Inclusive) => ordering.is_le(),

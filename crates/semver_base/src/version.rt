@@ -1,6 +1,6 @@
 //! Versions: how they are read and written, and their precedence.
 
-ghost use Rattle.std.specs.Prelude.{◌≡◌, ◌<◌, ◌==◌, ◌&&◌, ◌∷◌, ◌↔◌, ◌⊎◌, length, refl, Result, Ok, Err, IfOk, IfErr, IsTrue, [], None, Some};
+ghost use Rattle.std.specs.Prelude.{◌≡◌, ◌<◌, ◌==◌, ◌&&◌, ◌∷◌, ◌↔◌, ◌⊎◌, length, refl, Result, Ok, Err, IfOk, IfErr, IfSome, IsTrue, [], None, Some, if◌then◌else◌};
 ghost use Rattle.std.specs.Fmt.{DisplaysOnOk};
 ghost use Rattle.std.specs.Str.{trim};
 ghost use Rattle.std.specs.Cmp.{IsTotalOrder};
@@ -11,7 +11,7 @@ ghost use Rattle.semver_base.specs.declared.failure.Refusal.{Refusal};
 ghost use Rattle.semver_base.specs.Grammar.{IsLongest, IsSeen, Optional, Prefixed};
 ghost use Rattle.semver_base.specs.Lexical.{IsBlanks, IsByte};
 ghost use Rattle.semver_base.specs.VersionGrammar.{IsLead, IsVersionAnswer, IsVersionOutcome, IsVersionRefusal, ignored, version_failure};
-ghost use Rattle.semver_base.specs.VersionReaderSteps.{IsFittingNumber, IsFittingTriple, IsNumberRefusal, IsReadVersion, IsTripleRefusal};
+ghost use Rattle.semver_base.specs.VersionReaderSteps.{IsFittingNumber, IsFittingTriple, IsNumberRefusal, IsQualified, IsReadVersion, IsTripleRefusal};
 ghost use Rattle.semver_base.specs.Meaning.{release};
 ghost use Rattle.semver_base.specs.Precedence.{identifier_cmp, number_of, numbers_cmp, pre_cmp, precedence_cmp, qualifiers_cmp, version_cmp};
 ghost use Rattle.semver_base.specs.PrecedenceLaws.{version_po, version_ties, version_total, SamePrecedence};
@@ -21,7 +21,7 @@ use crate::dotted::{DOTTED_ROOM, dotted};
 use crate::failure::{ParseFailure, Refusal};
 use crate::lexical;
 use crate::lexical::values::{Measured, Strictness};
-use crate::plain::{Numbers, plain_numbers};
+use crate::plain::{Numbers, split_numbers};
 use crate::string::{CowVec, SmallStackString, StringAppendable, StringType, append_displayed};
 use std::alloc::{AllocError, Global};
 use std::cmp::Ordering;
@@ -120,8 +120,14 @@ impl Version {
             → IsVersionOutcome (trim text.now) outcome
             → IsVersionAnswer (λ (error : VersionParseError). error.source) (trim text.now) outcome result }
     {
-        if let Some(numbers) = plain_numbers(text) {
-            return Ok(release(alloc, numbers.major, numbers.minor, numbers.patch));
+        if let Some((numbers, rest)) = split_numbers(text) {
+            if rest.is_empty() {
+                return Ok(release(alloc, numbers.major, numbers.minor, numbers.patch));
+            }
+            let plain = qualified(alloc, numbers, rest)?;
+            if let Some(version) = plain {
+                return Ok(version);
+            }
         }
         match read(alloc, text.trim()) {
             Ok(version) => Ok(version),
@@ -151,6 +157,25 @@ impl Version {
         ensures total { IsTotalOrder precedence_cmp }
     {
         precedence(self, other)
+    }
+
+    // Whether the first number that differs is above the other's; none where all three tie. Mostly one differs, and then the
+    // kind of a bound has no say.
+    #[inline(always)]
+    pub(crate) fn is_above_by_numbers(&self, other: &Version) -> Option<bool>
+        ensures { IfSome result (λ is_above. precedence_cmp self.now other.now
+            ≡ (if is_above then Ordering.Greater else Ordering.Less)) }
+    {
+        if self.major != other.major {
+            return Some(self.major > other.major);
+        }
+        if self.minor != other.minor {
+            return Some(self.minor > other.minor);
+        }
+        if self.patch != other.patch {
+            return Some(self.patch > other.patch);
+        }
+        None
     }
 }
 
@@ -246,7 +271,26 @@ fn failure(alloc: Global, refusal: Refusal, text: &str) -> ParseFailure
     ParseFailure::with_texts(alloc, refusal.message(), snippet)
 }
 
+// The version of these numbers and the qualifier that the whole text is. Where it answers `None` nothing is known.
+#[inline(never)]
+fn qualified(alloc: Global, numbers: Numbers, text: &str) -> Result<Option<Version>, AllocError>
+    ensures { IfOk result (λ r. IfSome r (IsQualified numbers text.now)) }
+{
+    let (qualifier, rest) = lexical::qualifier(alloc, text, Strictness::Loose)?;
+    if !rest.is_empty() {
+        return Ok(None);
+    }
+    Ok(Some(Version {
+        major: numbers.major,
+        minor: numbers.minor,
+        patch: numbers.patch,
+        pre: qualifier.pre,
+        build: qualifier.build,
+    }))
+}
+
 // The version that a trimmed text stands for.
+#[inline(never)]
 fn read(alloc: Global, text: &str) -> Result<Version, ParseFailure>
     ensures read { IfOk result (IsReadVersion text.now) }
     ensures refused { IfErr result (IsVersionRefusal text.now) }
@@ -353,7 +397,7 @@ fn cmp_numbers(a: &Version, b: &Version) -> Ordering
 pub(crate) fn is_unqualified(version: &Version) -> bool
     ensures { result ≡ ((length version.now.pre == 0) && (length version.now.build == 0)) }
 {
-    version.pre.is_empty() && version.build.is_empty()
+    version.pre.is_empty() & version.build.is_empty()
 }
 
 // The order of the pre-releases, and where they tie of the builds. Mostly there are none.
@@ -361,7 +405,7 @@ pub(crate) fn is_unqualified(version: &Version) -> bool
 fn cmp_qualifiers(a: &Version, b: &Version) -> Ordering
     ensures { result ≡ qualifiers_cmp a.now b.now }
 {
-    if is_unqualified(a) && is_unqualified(b) {
+    if is_unqualified(a) & is_unqualified(b) {
         return Ordering::Equal;
     }
     cmp_pre(a.pre.as_slice(), b.pre.as_slice()).then_with(|| a
@@ -371,26 +415,32 @@ fn cmp_qualifiers(a: &Version, b: &Version) -> Ordering
 }
 
 // Writes a separator and the identifier after it.
-fn write_part<W: fmt::Write>(f: &mut fmt::Formatter<W>, separator: char, part: &str) -> fmt::Result
+fn write_identifier<W: fmt::Write>(
+    f: &mut fmt::Formatter<W>,
+    separator: char,
+    identifier: &str,
+) -> fmt::Result
     requires { separator < 128 }
-    ensures { DisplaysOnOk W.write_str_gives f.old result (Some (separator ∷ part.now)) f.new }
+    ensures { DisplaysOnOk W.write_str_gives f.old result
+        (Some (separator ∷ identifier.now)) f.new }
 {
     f.write_char(separator)?;
-    f.write_str(part)
+    f.write_str(identifier)
 }
 
-// Writes the identifiers, the mark before the first and a `.` before each other one.
+// Writes the identifiers, the prefix before the first and a `.` before each other one.
 fn write_prefixed<W: fmt::Write>(
     f: &mut fmt::Formatter<W>,
-    mark: char,
-    parts: &[VersionPreOrBuild],
+    prefix: char,
+    identifiers: &[VersionPreOrBuild],
 ) -> fmt::Result
-    requires { mark < 128 }
-    ensures { DisplaysOnOk W.write_str_gives f.old result (Some (prefixed mark parts.now)) f.new }
+    requires { prefix < 128 }
+    ensures { DisplaysOnOk W.write_str_gives f.old result
+        (Some (prefixed prefix identifiers.now)) f.new }
 {
-    let mut separator = mark;
-    for part in parts {
-        write_part(f, separator, part.as_str())?;
+    let mut separator = prefix;
+    for identifier in identifiers {
+        write_identifier(f, separator, identifier.as_str())?;
         separator = '.';
     }
     Ok(())

@@ -4,7 +4,7 @@ use Rattle.std.specs.Prelude.{◌||◌, if◌then◌else◌, slice_index}
 use Rattle.std.specs.List.{list_all}
 use Rattle.std.proofs.lemmas.Bool.{and_from, or_left, or_right}
 use Rattle.std.proofs.lemmas.Bool.Decides.{nat_tests}
-use Rattle.semver_base.specs.Comparators.{Comparator, Tilde, Caret, sign_text}
+use Rattle.semver_base.specs.Comparators.{Caret, Comparator, Tilde, primitive_kind_text}
 use Rattle.semver_base.specs.Grammar.{After, Either, this, that, Mapped, Prefixed}
 use Rattle.semver_base.specs.Lexical.{IsBlanks, IsByte, IsSomeBlanks}
 use Rattle.semver_base.specs.declared.partial.Partial.{Partial}
@@ -14,7 +14,7 @@ use Rattle.semver_base.proofs.Blanks.{blanks_made, is_blank_byte}
 use Rattle.semver_base.proofs.Bytes.{BeginsBy, Disjoint, GoesBy, MadeOf, apart_by, begins_from_made, begins_wider, either_begins, either_made, goes_from_made, joined_begins, joined_begins_either, joined_goes_second, joined_made, joined_some_second, joined_some_text, list_all-append, made_wider, mapped_begins, mapped_goes, mapped_made, mapped_some_text, prefixed_made, optional_begins, optional_made}
 use Rattle.semver_base.proofs.Fronts.{Apart, NonEmpty, no_clash}
 use Rattle.semver_base.proofs.Readings.{EachByte, HasOther, Unambiguous, Within, after_one, each_made, either_one, either_other, followed_one, goes_within, joined_other_first, joined_other_second, mapped_one, mapped_other, prefixed_other_byte, narrowed_one, never_by, never_made, other_narrower, some_within}
-use Rattle.semver_req.specs.Comparators.{IsComparator, IsEquals, no_more, one_more, IsIgnored, IsLed, IsNpmCaret, IsNpmTilde, IsPlain, IsSign, IsSigned}
+use Rattle.semver_req.specs.Comparators.{IsComparator, IsEquals, IsIgnored, IsLed, IsNpmCaret, IsNpmTilde, IsOfPrimitive, IsPlain, IsPrimitiveKind, no_more, one_more}
 use Rattle.semver_req.specs.Partials.{IsPartial, IsPlainPartial}
 use Rattle.semver_req.specs.Written.{IsTildes}
 use Rattle.semver_req.specs.declared.common.values.Flavour.{Flavour}
@@ -22,46 +22,46 @@ use Rattle.semver_req.specs.declared.common.values.Flavour.TheVariants.{Npm, Nor
 use Rattle.semver_req.proofs.Components.{is_component_byte}
 use Rattle.semver_req.proofs.PartialReadings.{is_plain_byte, partial_one, plain_made, plain_one}
 use Rattle.semver_req.proofs.Partials.{partial_begins, partial_some}
-use Rattle.semver_req.proofs.Signs.{any_begins, blanks_apart, is_partial_byte, sign_apart}
+use Rattle.semver_req.proofs.PrimitiveKinds.{any_begins, blanks_apart, is_partial_byte, primitive_kind_apart}
 
--- ---- signs
+-- ---- primitive kinds
 
-sign_of : List ℕ → PrimitiveKind
-sign_of text =
+primitive_kind_of : List ℕ → PrimitiveKind
+primitive_kind_of text =
     if length text == 2 then (if slice_index text 0 == 62 then GreaterThanOrEqual else LessThanOrEqual)
     else (if slice_index text 0 == 62 then GreaterThan else (if slice_index text 0 == 60 then LessThan else Equal))
 
-sign_is : (s : PrimitiveKind) → s ≡ sign_of (sign_text s)
-unfolding sign_of
-sign_is GreaterThan = refl
-sign_is LessThan = refl
-sign_is GreaterThanOrEqual = refl
-sign_is LessThanOrEqual = refl
-sign_is Equal = refl
+primitive_kind_is : (s : PrimitiveKind) → s ≡ primitive_kind_of (primitive_kind_text s)
+unfolding primitive_kind_of
+primitive_kind_is GreaterThan = refl
+primitive_kind_is LessThan = refl
+primitive_kind_is GreaterThanOrEqual = refl
+primitive_kind_is LessThanOrEqual = refl
+primitive_kind_is Equal = refl
 
-pub sign_one : Unambiguous IsSign
-sign_one = record { one = λ text v w h k. sign_is v ∙ (ap sign_of (sym h ∙ k) ∙ sym (sign_is w)) }
+pub primitive_kind_one : Unambiguous IsPrimitiveKind
+primitive_kind_one = record { one = λ text v w h k. primitive_kind_is v ∙ (ap primitive_kind_of (sym h ∙ k) ∙ sym (primitive_kind_is w)) }
 
-abbrev pub is_sign_byte : ℕ → Bool
-is_sign_byte x = (x == 60) || (x == 61) || (x == 62)
+abbrev pub is_primitive_kind_byte : ℕ → Bool
+is_primitive_kind_byte x = (x == 60) || (x == 61) || (x == 62)
 
-sign_made : MadeOf IsSign is_sign_byte
-sign_made = record { made = λ text s h. rw h (go s) }
+primitive_kind_made : MadeOf IsPrimitiveKind is_primitive_kind_byte
+primitive_kind_made = record { made = λ text s h. rw h (go s) }
   where
-    go : (s : PrimitiveKind) → list_all is_sign_byte (sign_text s) ≡ true
+    go : (s : PrimitiveKind) → list_all is_primitive_kind_byte (primitive_kind_text s) ≡ true
     go GreaterThan = refl
     go LessThan = refl
     go GreaterThanOrEqual = refl
     go LessThanOrEqual = refl
     go Equal = refl
 
-pub sign_begins : BeginsBy IsSign is_sign_byte
-sign_begins = begins_from_made sign_made
+pub primitive_kind_begins : BeginsBy IsPrimitiveKind is_primitive_kind_byte
+primitive_kind_begins = begins_from_made primitive_kind_made
 
-pub sign_some : NonEmpty IsSign
-sign_some = record { some = λ s h. go s h }
+pub primitive_kind_some : NonEmpty IsPrimitiveKind
+primitive_kind_some = record { some = λ s h. go s h }
   where
-    go : (s : PrimitiveKind) → [] ≡ sign_text s → ⊥
+    go : (s : PrimitiveKind) → [] ≡ primitive_kind_text s → ⊥
     go GreaterThan h = cc h
     go LessThan h = cc h
     go GreaterThanOrEqual h = cc h
@@ -72,7 +72,7 @@ sign_some = record { some = λ s h. go s h }
 
 -- what may stand before it
 abbrev pub is_lead_byte : ℕ → Bool
-is_lead_byte x = is_sign_byte x || (x == 126) || (x == 94) || (x == 118) || is_blank_byte x
+is_lead_byte x = is_primitive_kind_byte x || (x == 126) || (x == 94) || (x == 118) || is_blank_byte x
 
 abbrev pub IsCore : Flavour → List ℕ → Partial → Type 0
 IsCore f = After (EachByte is_lead_byte) (IsPlainPartial f)
@@ -156,11 +156,11 @@ core_unambiguous f {B} b = narrowed_one B b.core (core_one f)
 
 -- ---- what leads, by its bytes
 
-equals_all : (text : List ℕ) (v : Unit {0}) → IsEquals text v → list_all is_sign_byte text ≡ true
+equals_all : (text : List ℕ) (v : Unit {0}) → IsEquals text v → list_all is_primitive_kind_byte text ≡ true
 equals_all text v no_more = refl
 equals_all text v (one_more {rest} h) = equals_all rest tt h
 
-pub equals_made : MadeOf IsEquals is_sign_byte
+pub equals_made : MadeOf IsEquals is_primitive_kind_byte
 equals_made = record { made = equals_all }
 
 pub some_blanks_made : MadeOf IsSomeBlanks is_blank_byte
@@ -169,8 +169,8 @@ some_blanks_made = record { made = λ text v h. blanks_made.made text v h.1 }
 v_made : MadeOf (IsByte 118) (λ x. x == 118)
 v_made = record { made = λ text v h. rw h refl }
 
-sign_lead : (x : ℕ) → is_sign_byte x ≡ true → is_lead_byte x ≡ true
-sign_lead x h = grind (arith, nat_tests)
+primitive_kind_lead : (x : ℕ) → is_primitive_kind_byte x ≡ true → is_lead_byte x ≡ true
+primitive_kind_lead x h = grind (arith, nat_tests)
 
 blank_lead : (x : ℕ) → is_blank_byte x ≡ true → is_lead_byte x ≡ true
 blank_lead x h = grind (arith, nat_tests)
@@ -181,17 +181,17 @@ v_lead x h = grind (arith, nat_tests)
 blanks_lead : MadeOf IsBlanks is_lead_byte
 blanks_lead = made_wider is_blank_byte is_lead_byte blank_lead blanks_made
 
-signs_lead : MadeOf IsSign is_lead_byte
-signs_lead = made_wider is_sign_byte is_lead_byte sign_lead sign_made
+primitive_kinds_lead : MadeOf IsPrimitiveKind is_lead_byte
+primitive_kinds_lead = made_wider is_primitive_kind_byte is_lead_byte primitive_kind_lead primitive_kind_made
 
 ignored_lead : MadeOf IsIgnored is_lead_byte
-ignored_lead = optional_made (joined_made signs_lead (made_wider is_blank_byte is_lead_byte blank_lead some_blanks_made))
+ignored_lead = optional_made (joined_made primitive_kinds_lead (made_wider is_blank_byte is_lead_byte blank_lead some_blanks_made))
 
 tildes_lead : MadeOf IsTildes is_lead_byte
 tildes_lead = either_made (record { made = λ text v h. rw h refl }) (record { made = λ text v h. rw h refl })
 
 led_core : HasCore Npm IsLed
-led_core = after_core Npm (made_wider is_sign_byte is_lead_byte sign_lead equals_made) (after_core Npm blanks_lead (after_core Npm (optional_made (made_wider (λ x. x == 118) is_lead_byte v_lead v_made)) (after_core Npm blanks_lead (partial_core Npm))))
+led_core = after_core Npm (made_wider is_primitive_kind_byte is_lead_byte primitive_kind_lead equals_made) (after_core Npm blanks_lead (after_core Npm (optional_made (made_wider (λ x. x == 118) is_lead_byte v_lead v_made)) (after_core Npm blanks_lead (partial_core Npm))))
 
 abbrev IsTildeLed : List ℕ → Partial → Type 0
 IsTildeLed = After IsIgnored (After IsTildes IsLed)
@@ -208,13 +208,13 @@ caret_core = after_core Npm ignored_lead (marked_core Npm 94 refl led_core)
 -- ---- which comparator: a tilde has a `~`, a caret a `^` and no `~`, the others have neither
 
 abbrev pub is_word_byte : ℕ → Bool
-is_word_byte x = is_sign_byte x || (x == 118) || is_blank_byte x || is_plain_byte x
+is_word_byte x = is_primitive_kind_byte x || (x == 118) || is_blank_byte x || is_plain_byte x
 
 abbrev is_caret_byte : ℕ → Bool
 is_caret_byte x = is_word_byte x || (x == 94)
 
-sign_word : (x : ℕ) → is_sign_byte x ≡ true → is_word_byte x ≡ true
-sign_word x h = grind (arith, nat_tests)
+primitive_kind_word : (x : ℕ) → is_primitive_kind_byte x ≡ true → is_word_byte x ≡ true
+primitive_kind_word x h = grind (arith, nat_tests)
 
 blank_word : (x : ℕ) → is_blank_byte x ≡ true → is_word_byte x ≡ true
 blank_word x h = grind (arith, nat_tests)
@@ -226,28 +226,28 @@ word_caret : (x : ℕ) → is_word_byte x ≡ true → is_caret_byte x ≡ true
 word_caret x h = or_left (is_word_byte x) (x == 94) h
 
 plain_word : (f : Flavour) → MadeOf (IsPlainPartial f) is_word_byte
-plain_word f = made_wider is_plain_byte is_word_byte (λ x h. or_right (is_sign_byte x || (x == 118) || is_blank_byte x) (is_plain_byte x) h) (plain_made f)
+plain_word f = made_wider is_plain_byte is_word_byte (λ x h. or_right (is_primitive_kind_byte x || (x == 118) || is_blank_byte x) (is_plain_byte x) h) (plain_made f)
 
 partial_word : (f : Flavour) → MadeOf (IsPartial f) is_word_byte
 partial_word Npm = either_made (prefixed_made (plain_word Npm) 118 refl) (plain_word Npm)
 partial_word Normal = plain_word Normal
 partial_word Specifier = plain_word Specifier
 
-signs_word : MadeOf IsSign is_word_byte
-signs_word = made_wider is_sign_byte is_word_byte sign_word sign_made
+primitive_kinds_word : MadeOf IsPrimitiveKind is_word_byte
+primitive_kinds_word = made_wider is_primitive_kind_byte is_word_byte primitive_kind_word primitive_kind_made
 
 blanks_word : MadeOf IsBlanks is_word_byte
 blanks_word = made_wider is_blank_byte is_word_byte blank_word blanks_made
 
 led_word : MadeOf IsLed is_word_byte
 led_word =
-    mapped_made (joined_made (made_wider is_sign_byte is_word_byte sign_word equals_made)
+    mapped_made (joined_made (made_wider is_primitive_kind_byte is_word_byte primitive_kind_word equals_made)
     (mapped_made (joined_made blanks_word
     (mapped_made (joined_made (optional_made (made_wider (λ x. x == 118) is_word_byte v_word v_made))
     (mapped_made (joined_made blanks_word (partial_word Npm))))))))
 
 pub ignored_word : MadeOf IsIgnored is_word_byte
-ignored_word = optional_made (joined_made signs_word (made_wider is_blank_byte is_word_byte blank_word some_blanks_made))
+ignored_word = optional_made (joined_made primitive_kinds_word (made_wider is_blank_byte is_word_byte blank_word some_blanks_made))
 
 tildes_other : HasOther IsTildes is_caret_byte
 tildes_other = either_other (record { other = λ text v h k. no_true (rw h at k) }) (record { other = λ text v h k. no_true (rw h at k) })
@@ -301,23 +301,23 @@ marks_one f = either_one (never_made is_caret_byte (tilde_other f) (caret_all f)
 marks_other : (f : Flavour) → HasOther (Either (IsTildeOf f) (IsCaretOf f)) is_word_byte
 marks_other f = either_other (other_narrower is_word_byte is_caret_byte word_caret (tilde_other f)) (caret_other f)
 
-signed_one : (f : Flavour) → Unambiguous (IsSigned f)
-signed_one f = mapped_one (followed_one (sign_apart f) sign_one (after_one (blanks_apart f) (partial_one f)))
+primitive_one : (f : Flavour) → Unambiguous (IsOfPrimitive f)
+primitive_one f = mapped_one (followed_one (primitive_kind_apart f) primitive_kind_one (after_one (blanks_apart f) (partial_one f)))
 
 plainly_one : (f : Flavour) → Unambiguous (IsPlain f)
 plainly_one f = mapped_one (partial_one f)
 
-sign_no_partial : Disjoint is_sign_byte is_partial_byte
-sign_no_partial x h k = grind (arith, nat_tests)
+primitive_kind_no_partial : Disjoint is_primitive_kind_byte is_partial_byte
+primitive_kind_no_partial x h k = grind (arith, nat_tests)
 
-others_one : (f : Flavour) → Unambiguous (Either (IsSigned f) (IsPlain f))
-others_one f = either_one (never_by is_sign_byte is_partial_byte sign_no_partial (mapped_some_text (joined_some_text sign_some)) (mapped_begins (joined_begins sign_some sign_begins)) (mapped_begins (any_begins f))) (signed_one f) (plainly_one f)
+others_one : (f : Flavour) → Unambiguous (Either (IsOfPrimitive f) (IsPlain f))
+others_one f = either_one (never_by is_primitive_kind_byte is_partial_byte primitive_kind_no_partial (mapped_some_text (joined_some_text primitive_kind_some)) (mapped_begins (joined_begins primitive_kind_some primitive_kind_begins)) (mapped_begins (any_begins f))) (primitive_one f) (plainly_one f)
 
 plainly_word : (f : Flavour) → MadeOf (IsPlain f) is_word_byte
 plainly_word f = mapped_made (partial_word f)
 
-others_word : (f : Flavour) → MadeOf (Either (IsSigned f) (IsPlain f)) is_word_byte
-others_word f = either_made (mapped_made (joined_made signs_word (mapped_made (joined_made blanks_word (partial_word f))))) (plainly_word f)
+others_word : (f : Flavour) → MadeOf (Either (IsOfPrimitive f) (IsPlain f)) is_word_byte
+others_word f = either_made (mapped_made (joined_made primitive_kinds_word (mapped_made (joined_made blanks_word (partial_word f))))) (plainly_word f)
 
 -- ---- comparators
 
@@ -341,17 +341,17 @@ either_within {V} {W} {A} {B} {C} a b = record { texts = go }
 pub partial_within : (f : Flavour) → Within (IsPartial f) (IsCore f)
 partial_within f = record { texts = λ text p h. (p, (partial_core f).core text p h) }
 
-signed_within : (f : Flavour) → Within (IsSigned f) (IsCore f)
-signed_within f = record { texts = go }
+primitive_within : (f : Flavour) → Within (IsOfPrimitive f) (IsCore f)
+primitive_within f = record { texts = go }
   where
-    go : (text : List ℕ) (c : Comparator) → IsSigned f text c → (p : Partial) × IsCore f text p
+    go : (text : List ℕ) (c : Comparator) → IsOfPrimitive f text c → (p : Partial) × IsCore f text p
     go text c h =
-        let led : After IsSign (After IsBlanks (IsPartial f)) text h.value.1 = record { value = h.value; stands = h.stands; is = refl } in
-        (h.value.1, (after_core f signs_lead (after_core f blanks_lead (partial_core f))).core text h.value.1 led)
+        let led : After IsPrimitiveKind (After IsBlanks (IsPartial f)) text h.value.1 = record { value = h.value; stands = h.stands; is = refl } in
+        (h.value.1, (after_core f primitive_kinds_lead (after_core f blanks_lead (partial_core f))).core text h.value.1 led)
 
 pub comparator_within : (f : Flavour) → Within (IsComparator f) (IsCore f)
-comparator_within Npm = either_within (either_within (mapped_core Npm tilde_core) (mapped_core Npm caret_core)) (either_within (signed_within Npm) (mapped_core Npm (partial_core Npm)))
-comparator_within Normal = either_within (either_within (mapped_core Normal (marked_core Normal 126 refl (partial_core Normal))) (mapped_core Normal (marked_core Normal 94 refl (partial_core Normal)))) (either_within (signed_within Normal) (mapped_core Normal (partial_core Normal)))
+comparator_within Npm = either_within (either_within (mapped_core Npm tilde_core) (mapped_core Npm caret_core)) (either_within (primitive_within Npm) (mapped_core Npm (partial_core Npm)))
+comparator_within Normal = either_within (either_within (mapped_core Normal (marked_core Normal 126 refl (partial_core Normal))) (mapped_core Normal (marked_core Normal 94 refl (partial_core Normal)))) (either_within (primitive_within Normal) (mapped_core Normal (partial_core Normal)))
 comparator_within Specifier = either_within (either_within (mapped_core Specifier (marked_core Specifier 126 refl (partial_core Specifier))) (mapped_core Specifier (marked_core Specifier 94 refl (partial_core Specifier)))) (mapped_core Specifier (partial_core Specifier))
 
 pub comparator_goes : (f : Flavour) → GoesBy (IsComparator f) is_plain_byte
@@ -361,19 +361,19 @@ pub comparator_some : (f : Flavour) → NonEmpty (IsComparator f)
 comparator_some f = some_within (comparator_within f) (core_some f)
 
 abbrev pub is_start_byte : ℕ → Bool
-is_start_byte x = is_sign_byte x || (x == 126) || (x == 94) || is_partial_byte x
+is_start_byte x = is_primitive_kind_byte x || (x == 126) || (x == 94) || is_partial_byte x
 
-sign_start : (x : ℕ) → is_sign_byte x ≡ true → is_start_byte x ≡ true
-sign_start x h = grind (arith, nat_tests)
+primitive_kind_start : (x : ℕ) → is_primitive_kind_byte x ≡ true → is_start_byte x ≡ true
+primitive_kind_start x h = grind (arith, nat_tests)
 
 partial_start : (f : Flavour) → BeginsBy (IsPartial f) is_start_byte
-partial_start f = begins_wider is_partial_byte is_start_byte (λ x h. or_right (is_sign_byte x || (x == 126) || (x == 94)) (is_partial_byte x) h) (any_begins f)
+partial_start f = begins_wider is_partial_byte is_start_byte (λ x h. or_right (is_primitive_kind_byte x || (x == 126) || (x == 94)) (is_partial_byte x) h) (any_begins f)
 
-signs_start : BeginsBy IsSign is_start_byte
-signs_start = begins_wider is_sign_byte is_start_byte sign_start sign_begins
+primitive_kinds_start : BeginsBy IsPrimitiveKind is_start_byte
+primitive_kinds_start = begins_wider is_primitive_kind_byte is_start_byte primitive_kind_start primitive_kind_begins
 
 ignored_start : BeginsBy IsIgnored is_start_byte
-ignored_start = optional_begins (joined_begins sign_some signs_start)
+ignored_start = optional_begins (joined_begins primitive_kind_some primitive_kinds_start)
 
 tildes_begin : BeginsBy IsTildes is_start_byte
 tildes_begin = begins_from_made (either_made (record { made = λ text v h. rw h refl }) (record { made = λ text v h. rw h refl }))
@@ -388,8 +388,8 @@ tildes_some = record { some = go }
 mark_start : {V : Type 0} {A : List ℕ → V → Type 0} (m : ℕ) → is_start_byte m ≡ true → BeginsBy (Prefixed m A) is_start_byte
 mark_start m h = record { begins = λ x b. rw b.stands.0 h }
 
-others_start : (f : Flavour) → BeginsBy (Either (IsSigned f) (IsPlain f)) is_start_byte
-others_start f = either_begins (mapped_begins (joined_begins sign_some signs_start)) (mapped_begins (partial_start f))
+others_start : (f : Flavour) → BeginsBy (Either (IsOfPrimitive f) (IsPlain f)) is_start_byte
+others_start f = either_begins (mapped_begins (joined_begins primitive_kind_some primitive_kinds_start)) (mapped_begins (partial_start f))
 
 npm_marks_start : BeginsBy (Either IsNpmTilde IsNpmCaret) is_start_byte
 npm_marks_start = either_begins

@@ -30,7 +30,7 @@ numbers_all p =
 pub comparator_all : (m : Mark) (p : Partial) → all_fit (comparator_numbers (comparator_of m p)) ≡ partial_fits p
 comparator_all mark.Tilde p = numbers_all p
 comparator_all mark.Caret p = numbers_all p
-comparator_all (mark.Sign sign) p = numbers_all p
+comparator_all (mark.Primitive kind) p = numbers_all p
 comparator_all mark.Absent p = numbers_all p
 
 -- a front whose numbers fit

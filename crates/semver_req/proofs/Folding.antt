@@ -7,7 +7,7 @@ use Rattle.std.specs.Prelude.{◌⊎◌, if◌then◌else◌, nat_lt}
 use Rattle.std.specs.declared.cmp.Ordering.{Ordering}
 use Rattle.std.specs.declared.cmp.Ordering.TheVariants.{Less, Equal, Greater}
 use Rattle.semver_base.specs.Clamp.{clamped, clamped_end, lesser_of, of_tied, HoldsNothing}
-use Rattle.semver_base.specs.Comparators.{Caret, Comparator, Hyphen, Plain, Signed, Tilde, comparator_range, signed_line}
+use Rattle.semver_base.specs.Comparators.{Caret, Comparator, Hyphen, OfPrimitive, Plain, Tilde, comparator_range, primitive_line}
 use Rattle.semver_base.specs.Meaning.{alternative_means_with, alternatives, bounds_hold, everything, from, is_below, release, to_below, tree_means_with}
 use Rattle.semver_base.specs.Overlap.{ends_at_zero, is_exclusive}
 use Rattle.semver_base.specs.PartialTable.{above_by, at_least_by, up_to, at_most_by, below_by, between, caret_by, caret_patch, equal_by, greater_range_by, lower_to_below, version_with_pre, tilde_by, upper_by, without_build}
@@ -15,7 +15,7 @@ use Rattle.semver_base.specs.Precedence.{precedence_cmp}
 use Rattle.semver_base.specs.PrecedenceLaws.{precedence_total}
 use Rattle.semver_base.specs.declared.partial.Partial.{Partial}
 use Rattle.semver_base.specs.declared.primitive.PrimitiveKind.{PrimitiveKind}
-use Rattle.semver_base.specs.declared.primitive.PrimitiveKind.TheVariants as sign
+use Rattle.semver_base.specs.declared.primitive.PrimitiveKind.TheVariants as primitive
 use Rattle.semver_base.specs.declared.partial.XRange.{XRange}
 use Rattle.semver_base.specs.declared.partial.XRange.TheVariants.{Wildcard, Val}
 use Rattle.semver_base.specs.declared.range.PreRelease.{PreRelease}
@@ -187,18 +187,18 @@ below_empty p (Val major) Wildcard (Val patch) h = from_zero_empty (to_below (ve
 below_empty p (Val major) (Val minor) Wildcard h = from_zero_empty (to_below (release major minor 0)) h
 below_empty p (Val major) (Val minor) (Val patch) h = from_zero_empty (to_below (without_build p)) h
 
-signed_empty : (sign : PrimitiveKind) (p : Partial) → IsEmptyAtZero (signed_line sign p).range
-signed_empty sign.GreaterThan p h = above_empty p p.major p.minor p.patch h
-signed_empty sign.LessThan p h = below_empty p p.major p.minor p.patch h
-signed_empty sign.GreaterThanOrEqual p h = at_least_empty p p.major h
-signed_empty sign.LessThanOrEqual p h = at_most_empty p p.major p.minor p.patch h
-signed_empty sign.Equal p h = not_at_zero (equal_by p p.major p.minor p.patch).range (equal_ends p p.major p.minor p.patch) h
+primitive_empty : (primitive_kind : PrimitiveKind) (p : Partial) → IsEmptyAtZero (primitive_line primitive_kind p).range
+primitive_empty primitive.GreaterThan p h = above_empty p p.major p.minor p.patch h
+primitive_empty primitive.LessThan p h = below_empty p p.major p.minor p.patch h
+primitive_empty primitive.GreaterThanOrEqual p h = at_least_empty p p.major h
+primitive_empty primitive.LessThanOrEqual p h = at_most_empty p p.major p.minor p.patch h
+primitive_empty primitive.Equal p h = not_at_zero (equal_by p p.major p.minor p.patch).range (equal_ends p p.major p.minor p.patch) h
 
 -- a comparator that ends at 0.0.0 holds nothing
 pub comparator_empty : (c : Comparator) → ends_at_zero (comparator_range c).end ≡ true → HoldsNothing (comparator_range c)
 comparator_empty (Tilde p) h = not_at_zero (comparator_range (Tilde p)) (tilde_ends p p.major p.minor) h
 comparator_empty (Caret p) h = not_at_zero (comparator_range (Caret p)) (caret_ends p p.major p.minor p.patch) h
-comparator_empty (Signed sign p) h = signed_empty sign p h
+comparator_empty (OfPrimitive primitive_kind p) h = primitive_empty primitive_kind p h
 comparator_empty (Plain p) h = not_at_zero (comparator_range (Plain p)) (equal_ends p p.major p.minor p.patch) h
 comparator_empty (Hyphen p q) h = not_at_zero (comparator_range (Hyphen p q)) (upper_ends q q.major q.minor q.patch) h
 

@@ -7,11 +7,11 @@ use Rattle.semver_base.specs.Overlap.{ends_at_zero}
 use Rattle.semver_base.specs.declared.range.VersionRange.{VersionRange}
 use Rattle.semver_base.proofs.Orders.{and_both}
 use Rattle.semver_req.specs.KeptSet.{kept, kept_range}
-use Rattle.semver_req.specs.Outcome.{IsOutcome, IsStrictOutcome, whole, left_over, no_front, no_fit, IsTagOr, tag, no_tag, Outcome, Ranges, Tag, Refused}
+use Rattle.semver_req.specs.Outcome.{IsOutcome, IsSpecifierOutcome, IsTagOr, Outcome, Ranges, Refused, Tag, left_over, no_fit, no_front, no_tag, tag, whole}
 use Rattle.semver_req.specs.declared.common.values.Flavour.{Flavour}
 use Rattle.semver_req.specs.declared.common.values.Flavour.TheVariants.{Npm, Normal, Specifier}
 use Rattle.semver_req.proofs.Starts.{has_start, kept_range_starts}
-use Rattle.semver_req.proofs.StrictKept.{strict_ends}
+use Rattle.semver_req.proofs.SpecifierKept.{specifier_ends}
 
 -- what is true of every range that a reader keeps: it has a start or no bounds, and doesn't end below 0.0.0
 abbrev pub is_kept : VersionRange → Bool
@@ -38,14 +38,14 @@ tag_or_kept : {text : List ℕ} {o : Outcome} → IsTagOr text o → AreKept o
 tag_or_kept (tag e) = tt
 tag_or_kept (no_tag e) = tt
 
-strict_is_kept : {text : List ℕ} {o : Outcome} → IsStrictOutcome text o → AreKept o
-strict_is_kept (whole {c = c} s fit) = and_both _ _ (and_both _ _ (kept_range_starts (c ∷ [])) (ap not (strict_ends s.stands))) refl
-strict_is_kept (left_over s fit more) = tt
-strict_is_kept (no_front n t) = tag_or_kept t
-strict_is_kept (no_fit s e t) = tag_or_kept t
+specifier_is_kept : {text : List ℕ} {o : Outcome} → IsSpecifierOutcome text o → AreKept o
+specifier_is_kept (whole {c = c} s fit) = and_both _ _ (and_both _ _ (kept_range_starts (c ∷ [])) (ap not (specifier_ends s.stands))) refl
+specifier_is_kept (left_over s fit more) = tt
+specifier_is_kept (no_front n t) = tag_or_kept t
+specifier_is_kept (no_fit s e t) = tag_or_kept t
 
 -- what a reader keeps
 pub outcome_is_kept : (f : Flavour) (text : List ℕ) (tree : List (List Comparator)) → IsOutcome f text (Ranges tree) → list_all is_kept (kept f tree) ≡ true
 outcome_is_kept Npm text tree o = rest_is_kept tree
 outcome_is_kept Normal text tree o = rest_is_kept tree
-outcome_is_kept Specifier text tree o = strict_is_kept o
+outcome_is_kept Specifier text tree o = specifier_is_kept o

@@ -15,10 +15,10 @@ use Rattle.semver_base.proofs.Readings.{after_maps, after_of, after_parts}
 use Rattle.semver_req.specs.Comparators.{IsEquals, one_more, IsLed}
 use Rattle.semver_req.specs.Partials.{IsPartial, IsPlainPartial}
 use Rattle.semver_req.specs.declared.common.values.Flavour.TheVariants.{Npm}
-use Rattle.semver_req.proofs.ComparatorReadings.{equals_made, is_sign_byte}
+use Rattle.semver_req.proofs.ComparatorReadings.{equals_made, is_primitive_kind_byte}
 use Rattle.semver_req.proofs.Components.{is_component_byte}
 use Rattle.semver_req.proofs.Partials.{no_v, partial_begins, partial_some}
-use Rattle.semver_req.proofs.Signs.{blanks_apart}
+use Rattle.semver_req.proofs.PrimitiveKinds.{blanks_apart}
 
 -- after the blanks: a `v`, blanks and a partial version, which may have its own `v`, or a plain one
 abbrev pub IsAfterBlanks : List ℕ → Partial → Type 0
@@ -95,8 +95,8 @@ blanks_after = apart_by is_blank_byte is_after_byte blank_no_after (goes_from_ma
 abbrev is_led_byte : ℕ → Bool
 is_led_byte x = is_blank_byte x || is_after_byte x
 
-sign_no_led : Disjoint is_sign_byte is_led_byte
-sign_no_led x h k = grind (arith, nat_tests)
+primitive_kind_no_led : Disjoint is_primitive_kind_byte is_led_byte
+primitive_kind_no_led x h k = grind (arith, nat_tests)
 
 blanks_led : BeginsBy (After IsBlanks IsAfterBlanks) is_led_byte
 blanks_led = mapped_begins (joined_begins_either
@@ -104,7 +104,7 @@ blanks_led = mapped_begins (joined_begins_either
     (begins_wider is_after_byte is_led_byte (λ x h. or_right (is_blank_byte x) (is_after_byte x) h) after_begins))
 
 equals_led : Apart IsEquals (After IsBlanks IsAfterBlanks)
-equals_led = apart_by is_sign_byte is_led_byte sign_no_led (goes_from_made equals_made) blanks_led
+equals_led = apart_by is_primitive_kind_byte is_led_byte primitive_kind_no_led (goes_from_made equals_made) blanks_led
 
 -- with which byte all of it begins
 abbrev pub is_ordered_byte : ℕ → Bool

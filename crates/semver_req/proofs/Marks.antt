@@ -10,7 +10,7 @@ use Rattle.semver_base.specs.declared.primitive.PrimitiveKind.{PrimitiveKind}
 use Rattle.semver_base.proofs.Bytes.{Disjoint, none_by_byte}
 use Rattle.semver_base.proofs.Fronts.{NonEmpty, either_none, either_that, either_this, followed, joined_none_first, mapped, mapped_none, prefixed_none, prefixed_other, prefixed_some}
 use Rattle.semver_base.proofs.Readings.{some_within}
-use Rattle.semver_req.specs.Comparators.{IsComparator, IsMarked, IsPlain, IsSign}
+use Rattle.semver_req.specs.Comparators.{IsComparator, IsMarked, IsPlain, IsPrimitiveKind}
 use Rattle.semver_req.specs.Partials.{IsPartial, sized_partial}
 use Rattle.semver_req.specs.Written.{IsFront, IsMarkCut, IsUnsigned, ReadsComparator}
 use Rattle.semver_req.specs.declared.common.comparator.Mark.{Mark}
@@ -18,8 +18,8 @@ use Rattle.semver_req.specs.declared.common.comparator.Mark.TheVariants as mark
 use Rattle.semver_req.specs.declared.common.comparator.Written.{Written}
 use Rattle.semver_req.specs.declared.common.values.Flavour.{Flavour}
 use Rattle.semver_req.specs.declared.common.values.Flavour.TheVariants.{Normal}
-use Rattle.semver_req.proofs.ComparatorReadings.{core_some, is_sign_byte, partial_within, sign_begins, sign_some}
-use Rattle.semver_req.proofs.Signs.{any_begins, blanks_apart, is_partial_byte, primitive_none, sign_apart}
+use Rattle.semver_req.proofs.ComparatorReadings.{core_some, is_primitive_kind_byte, partial_within, primitive_kind_begins, primitive_kind_some}
+use Rattle.semver_req.proofs.PrimitiveKinds.{any_begins, blanks_apart, is_partial_byte, primitive_kind_apart, primitive_none}
 
 partial_some : (f : Flavour) → NonEmpty (IsPartial f)
 partial_some f = some_within (partial_within f) (core_some f)
@@ -53,7 +53,7 @@ unsigned_some f mark.Caret e s = record {
   longest = either_this (either_that (mapped_none (prefixed_other (λ r g. absurd (omega (arith, first_byte e g))))) (mapped (prefixed_some e s.longest))) (mapped_none (after_caret f e));
   seen = s.seen;
 }
-unsigned_some f (mark.Sign sign) e s = absurd e
+unsigned_some f (mark.Primitive kind) e s = absurd e
 unsigned_some f mark.Absent e s = record {
   partial = s.value;
   longest = either_that (either_none (mapped_none (prefixed_other e.1)) (mapped_none (prefixed_other e.2))) (mapped (rw e.0 at s.longest));
@@ -63,10 +63,10 @@ unsigned_some f mark.Absent e s = record {
 pub unsigned_none : (f : Flavour) (m : Mark) {text rest : List ℕ} → IsMarkCut text m rest → HasNone (IsPartial f) rest → HasNone (IsUnsigned f) text
 unsigned_none f mark.Tilde e n = either_none (either_none (mapped_none (prefixed_none e n)) (mapped_none (prefixed_other (λ r g. absurd (omega (arith, first_byte e g)))))) (mapped_none (after_tilde f e))
 unsigned_none f mark.Caret e n = either_none (either_none (mapped_none (prefixed_other (λ r g. absurd (omega (arith, first_byte e g))))) (mapped_none (prefixed_none e n))) (mapped_none (after_caret f e))
-unsigned_none f (mark.Sign sign) e n = absurd e
+unsigned_none f (mark.Primitive kind) e n = absurd e
 unsigned_none f mark.Absent e n = either_none (either_none (mapped_none (prefixed_other e.1)) (mapped_none (prefixed_other e.2))) (mapped_none (rw e.0 at n))
 
--- ---- a sign, or none
+-- ---- a primitive kind, or none
 
 -- a text of three grammars where the second has no front
 module _ {V : Type 0} {A B C : List ℕ → V → Type 0} where
@@ -90,41 +90,41 @@ module _ {V : Type 0} {A B C : List ℕ → V → Type 0} where
       go a b w e (that (this h)) = n.none a b w e h
       go a b w e (that (that h)) = p.none a b w e (that h)
 
-pub no_sign : (r : Option (Written × List ℕ)) {text : List ℕ} → HasNone IsSign text → ReadsComparator (IsUnsigned Normal) text r → ReadsComparator (IsComparator Normal) text r
-no_sign None n h = none_but (mapped_none (joined_none_first n)) h
-no_sign (Some p) n h = record { partial = h.partial; longest = longest_but (mapped_none (joined_none_first n)) h.longest; seen = h.seen }
+pub no_primitive_kind : (r : Option (Written × List ℕ)) {text : List ℕ} → HasNone IsPrimitiveKind text → ReadsComparator (IsUnsigned Normal) text r → ReadsComparator (IsComparator Normal) text r
+no_primitive_kind None n h = none_but (mapped_none (joined_none_first n)) h
+no_primitive_kind (Some p) n h = record { partial = h.partial; longest = longest_but (mapped_none (joined_none_first n)) h.longest; seen = h.seen }
 
-pub tilde_no_sign : (x : ℕ) → x ≡ 126 → is_sign_byte x ≡ true → ⊥
-tilde_no_sign x e h = grind (arith, nat_tests)
+pub tilde_no_primitive_kind : (x : ℕ) → x ≡ 126 → is_primitive_kind_byte x ≡ true → ⊥
+tilde_no_primitive_kind x e h = grind (arith, nat_tests)
 
-pub caret_no_sign : (x : ℕ) → x ≡ 94 → is_sign_byte x ≡ true → ⊥
-caret_no_sign x e h = grind (arith, nat_tests)
+pub caret_no_primitive_kind : (x : ℕ) → x ≡ 94 → is_primitive_kind_byte x ≡ true → ⊥
+caret_no_primitive_kind x e h = grind (arith, nat_tests)
 
-partial_no_sign : Disjoint is_partial_byte is_sign_byte
-partial_no_sign x h k = grind (arith, nat_tests)
+partial_no_primitive_kind : Disjoint is_partial_byte is_primitive_kind_byte
+partial_no_primitive_kind x h k = grind (arith, nat_tests)
 
--- a text that begins with a sign has no other comparator
-module _ {text middle : List ℕ} {sign : PrimitiveKind} (s : IsLongest IsSign text sign middle) where
-  pub signed_byte : (x : ℕ) (t : List ℕ) → text ≡ x ∷ t → is_sign_byte x ≡ true
-  signed_byte x t e = go s.front s.text_is s.stands
+-- a text that begins with a primitive kind has no other comparator
+module _ {text middle : List ℕ} {kind : PrimitiveKind} (s : IsLongest IsPrimitiveKind text kind middle) where
+  pub primitive_byte : (x : ℕ) (t : List ℕ) → text ≡ x ∷ t → is_primitive_kind_byte x ≡ true
+  primitive_byte x t e = go s.front s.text_is s.stands
     where
-      go : (front : List ℕ) → text ≡ front ++ middle → IsSign front sign → is_sign_byte x ≡ true
-      go [] f h = absurd (sign_some.some sign h)
-      go (y ∷ more) f h = rw (first_byte e f) (sign_begins.begins y (record { more = more; value = sign; stands = h }))
+      go : (front : List ℕ) → text ≡ front ++ middle → IsPrimitiveKind front kind → is_primitive_kind_byte x ≡ true
+      go [] f h = absurd (primitive_kind_some.some kind h)
+      go (y ∷ more) f h = rw (first_byte e f) (primitive_kind_begins.begins y (record { more = more; value = kind; stands = h }))
 
   no_marked : HasNone (IsMarked Normal) text
-  no_marked = either_none (mapped_none (prefixed_other (λ r e. tilde_no_sign 126 refl (signed_byte 126 r e)))) (mapped_none (prefixed_other (λ r e. caret_no_sign 94 refl (signed_byte 94 r e))))
+  no_marked = either_none (mapped_none (prefixed_other (λ r e. tilde_no_primitive_kind 126 refl (primitive_byte 126 r e)))) (mapped_none (prefixed_other (λ r e. caret_no_primitive_kind 94 refl (primitive_byte 94 r e))))
 
   pub no_plain : (f : Flavour) → HasNone (IsPlain f) text
-  no_plain f = mapped_none (none_by_byte (partial_some f) (any_begins f) text (λ x t e k. partial_no_sign x k (signed_byte x t e)))
+  no_plain f = mapped_none (none_by_byte (partial_some f) (any_begins f) text (λ x t e k. partial_no_primitive_kind x k (primitive_byte x t e)))
 
-  pub sign_some_front : {start rest : List ℕ} {answer : Measured Partial} → IsLongest IsBlanks middle tt start → IsSeen sized_partial (IsPartial Normal) start answer rest
-      → IsFront (IsComparator Normal) text (record { mark = mark.Sign sign; partial = answer }) rest
-  sign_some_front b p = record {
+  pub primitive_kind_some_front : {start rest : List ℕ} {answer : Measured Partial} → IsLongest IsBlanks middle tt start → IsSeen sized_partial (IsPartial Normal) start answer rest
+      → IsFront (IsComparator Normal) text (record { mark = mark.Primitive kind; partial = answer }) rest
+  primitive_kind_some_front b p = record {
     partial = p.value;
-    longest = either_that no_marked (either_this (mapped (followed (sign_apart Normal) s (mapped (followed (blanks_apart Normal) b p.longest)))) (no_plain Normal));
+    longest = either_that no_marked (either_this (mapped (followed (primitive_kind_apart Normal) s (mapped (followed (blanks_apart Normal) b p.longest)))) (no_plain Normal));
     seen = p.seen;
   }
 
-  pub sign_no_front : {start : List ℕ} → IsLongest IsBlanks middle tt start → HasNone (IsPartial Normal) start → HasNone (IsComparator Normal) text
-  sign_no_front b n = either_none no_marked (either_none (mapped_none (primitive_none Normal s b n)) (no_plain Normal))
+  pub primitive_kind_no_front : {start : List ℕ} → IsLongest IsBlanks middle tt start → HasNone (IsPartial Normal) start → HasNone (IsComparator Normal) text
+  primitive_kind_no_front b n = either_none no_marked (either_none (mapped_none (primitive_none Normal s b n)) (no_plain Normal))

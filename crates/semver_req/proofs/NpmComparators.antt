@@ -1,4 +1,5 @@
--- npm's comparators at the front of a text: a sign that says nothing, a mark, and what leads the partial version.
+-- npm's comparators at the front of a text: a primitive kind that says nothing, a mark, and what leads the partial
+-- version.
 use Rattle.std.proofs.Common.{◌≡◌, ◌≤◌, ℕ, true, List, [], ◌∷◌, ◌++◌, length, get_or, Option, Some, None, refl, sym, ap, ◌∙◌, arith, length-append, ◌==◌}
 use Rattle.std.specs.Char.{is_not_whitespace}
 use Rattle.std.specs.Borrow.{Bor}
@@ -15,18 +16,18 @@ use Rattle.semver_base.specs.declared.primitive.PrimitiveKind.{PrimitiveKind}
 use Rattle.semver_base.proofs.Blanks.{is_blank_byte}
 use Rattle.semver_base.proofs.Bytes.{BeginsBy, Disjoint, GoesBy, apart_by, begins_from_made, goes_from_made, joined_begins, joined_some_text, mapped_begins, prefixed_begins}
 use Rattle.semver_base.proofs.Fronts.{Apart, either_longer, either_none, either_that, either_this, followed, followed_none_second, joined_none_first, mapped, mapped_none, prefixed_none, prefixed_other, prefixed_some, optional_none, optional_some}
-use Rattle.semver_req.specs.Comparators.{IsComparator, IsEquals, no_more, one_more, IsIgnored, IsLed, IsNpmCaret, IsNpmTilde, IsPlain, IsSign, IsSigned}
+use Rattle.semver_req.specs.Comparators.{IsComparator, IsEquals, IsIgnored, IsLed, IsNpmCaret, IsNpmTilde, IsOfPrimitive, IsPlain, IsPrimitiveKind, no_more, one_more}
 use Rattle.semver_req.specs.Partials.{IsPartial, sized_partial}
 use Rattle.semver_req.specs.Written.{IsNpmFront, IsNpmMarkCut, IsTildes, ReadsByMark, ReadsComparator, ReadsMarked, comparator_of, with_mark}
 use Rattle.semver_req.specs.declared.common.comparator.Mark.{Mark}
 use Rattle.semver_req.specs.declared.common.comparator.Mark.TheVariants as mark
 use Rattle.semver_req.specs.declared.common.comparator.Written.{Written}
 use Rattle.semver_req.specs.declared.common.values.Flavour.TheVariants.{Npm}
-use Rattle.semver_req.proofs.ComparatorReadings.{ignored_word, is_word_byte, sign_some, some_blanks_made, tildes_some}
+use Rattle.semver_req.proofs.ComparatorReadings.{ignored_word, is_word_byte, primitive_kind_some, some_blanks_made, tildes_some}
 use Rattle.semver_req.proofs.LedReadings.{is_ordered_byte, led_begins}
-use Rattle.semver_req.proofs.Marks.{after_caret, after_tilde, caret_no_sign, no_plain, signed_byte, tilde_no_sign}
+use Rattle.semver_req.proofs.Marks.{after_caret, after_tilde, caret_no_primitive_kind, no_plain, primitive_byte, tilde_no_primitive_kind}
 use Rattle.semver_req.proofs.Separators.{text_longest, text_none}
-use Rattle.semver_req.proofs.Signs.{blanks_apart, primitive_none, sign_apart, sign_goes}
+use Rattle.semver_req.proofs.PrimitiveKinds.{blanks_apart, primitive_kind_apart, primitive_kind_goes, primitive_none}
 
 -- ---- any number of `=`
 
@@ -91,13 +92,13 @@ tildes_byte {text} {rest} p = go p.stands
     go (this h) = (62 ∷ rest, p.text_is ∙ ap (λ t. t ++ rest) h)
     go (that h) = (rest, p.text_is ∙ ap (λ t. t ++ rest) h)
 
--- ---- a sign that says nothing, and a mark
+-- ---- a primitive kind that says nothing, and a mark
 
 equal_no_blank : Disjoint (λ x. x == 61) is_blank_byte
 equal_no_blank x h k = grind (arith, nat_tests)
 
-sign_blanks : Apart IsSign IsSomeBlanks
-sign_blanks = apart_by (λ x. x == 61) is_blank_byte equal_no_blank sign_goes (begins_from_made some_blanks_made)
+primitive_kind_blanks : Apart IsPrimitiveKind IsSomeBlanks
+primitive_kind_blanks = apart_by (λ x. x == 61) is_blank_byte equal_no_blank primitive_kind_goes (begins_from_made some_blanks_made)
 
 greater_no_led : Disjoint (λ x. x == 62) is_ordered_byte
 greater_no_led x h k = grind (arith, nat_tests)
@@ -146,7 +147,7 @@ abbrev IsNpmMarked : List ℕ → Comparator → Type 0
 IsNpmMarked = Either IsNpmTilde IsNpmCaret
 
 abbrev IsNpmOther : List ℕ → Comparator → Type 0
-IsNpmOther = Either (IsSigned Npm) (IsPlain Npm)
+IsNpmOther = Either (IsOfPrimitive Npm) (IsPlain Npm)
 
 -- where no mark follows, the partial version after the mark m is read
 record ReadsOther (m : Mark) (text start : List ℕ) : Type 0 where
@@ -168,7 +169,7 @@ module _ {text start : List ℕ} {o : Option (PrimitiveKind × Unit {0})} {other
   by_mark mark.Caret rest None e h = either_none (either_none (tilde_none i (λ more f. tilde_no_caret f rest e)) (caret_unled i e h)) (others.none (after_caret Npm e))
   by_mark mark.Caret rest (Some p) e h =
       record { partial = h.1.value; longest = rw h.0 (either_this (either_that (tilde_none i (λ more f. tilde_no_caret f rest e)) (caret_some i e h.1.longest)) (others.none (after_caret Npm e))); seen = h.1.seen }
-  by_mark (mark.Sign sign) rest r t h = absurd t
+  by_mark (mark.Primitive kind) rest r t h = absurd t
   by_mark mark.Absent rest r t h = other_front others (either_none (tilde_none i t.1) (caret_none i t.2)) r (rw t.0 at h)
 
   npm_front : {r : Option (Written × List ℕ)} → IsNpmFront other start r → ReadsComparator (IsComparator Npm) text r
@@ -180,9 +181,9 @@ pub marked_read : (m : Mark) (B : List ℕ → Partial → Type 0) (text : List 
 marked_read m B text None h = h
 marked_read m B text (Some p) h = (refl, h)
 
--- ---- no sign
+-- ---- no primitive kind
 
-pub unsigned_npm : {text : List ℕ} (r : Option (Written × List ℕ)) → HasNone IsSign text → IsNpmFront mark.Absent text r → ReadsComparator (IsComparator Npm) text r
+pub unsigned_npm : {text : List ℕ} (r : Option (Written × List ℕ)) → HasNone IsPrimitiveKind text → IsNpmFront mark.Absent text r → ReadsComparator (IsComparator Npm) text r
 unsigned_npm {text} r n h = npm_front (optional_none (joined_none_first n)) others h
   where
     others : ReadsOther mark.Absent text text
@@ -191,7 +192,7 @@ unsigned_npm {text} r n h = npm_front (optional_none (joined_none_first n)) othe
       some = λ p. either_that (mapped_none (joined_none_first n)) (mapped p);
     }
 
--- ---- a sign, with blanks after it or without
+-- ---- a primitive kind, with blanks after it or without
 
 blanks_of_some : {text rest : List ℕ} → IsLongest IsSomeBlanks text tt rest → IsLongest IsBlanks text tt rest
 blanks_of_some {text} p = record { front = p.front; text_is = p.text_is; stands = p.stands.1; longest = λ a b w e h. (go a b e h, λ _. refl) }
@@ -207,21 +208,21 @@ blanks_of_none {text} n = record { front = []; text_is = refl; stands = NoCharPa
     go [] b e h = omega arith
     go (x ∷ a) b e h = absurd (n.none (x ∷ a) b tt e (omega arith, h))
 
-module _ {text middle : List ℕ} {sign : PrimitiveKind} (s : IsLongest IsSign text sign middle) where
-  signed_others : {start : List ℕ} → IsLongest IsBlanks middle tt start → ReadsOther (mark.Sign sign) text start
-  signed_others b = record {
+module _ {text middle : List ℕ} {kind : PrimitiveKind} (s : IsLongest IsPrimitiveKind text kind middle) where
+  primitive_others : {start : List ℕ} → IsLongest IsBlanks middle tt start → ReadsOther (mark.Primitive kind) text start
+  primitive_others b = record {
     none = λ p. either_none (mapped_none (primitive_none Npm s b p)) (no_plain s Npm);
-    some = λ p. either_this (mapped (followed (sign_apart Npm) s (mapped (followed (blanks_apart Npm) b p)))) (no_plain s Npm);
+    some = λ p. either_this (mapped (followed (primitive_kind_apart Npm) s (mapped (followed (blanks_apart Npm) b p)))) (no_plain s Npm);
   }
 
-  pub spaced_npm : {start : List ℕ} (r : Option (Written × List ℕ)) → IsLongest IsSomeBlanks middle tt start → IsNpmFront (mark.Sign sign) start r → ReadsComparator (IsComparator Npm) text r
-  spaced_npm r b h = npm_front (optional_some (joined_some_text sign_some) (followed sign_blanks s b)) (signed_others (blanks_of_some b)) h
+  pub spaced_npm : {start : List ℕ} (r : Option (Written × List ℕ)) → IsLongest IsSomeBlanks middle tt start → IsNpmFront (mark.Primitive kind) start r → ReadsComparator (IsComparator Npm) text r
+  spaced_npm r b h = npm_front (optional_some (joined_some_text primitive_kind_some) (followed primitive_kind_blanks s b)) (primitive_others (blanks_of_some b)) h
 
-  pub unspaced_npm : (r : Option (Written × List ℕ)) → HasNone IsSomeBlanks middle → ReadsMarked (mark.Sign sign) (IsPartial Npm) middle r → ReadsComparator (IsComparator Npm) text r
-  unspaced_npm r n h = other_front (signed_others (blanks_of_none n)) unmarked r h
+  pub unspaced_npm : (r : Option (Written × List ℕ)) → HasNone IsSomeBlanks middle → ReadsMarked (mark.Primitive kind) (IsPartial Npm) middle r → ReadsComparator (IsComparator Npm) text r
+  unspaced_npm r n h = other_front (primitive_others (blanks_of_none n)) unmarked r h
     where
       ignored : IsLongest IsIgnored text None text
-      ignored = optional_none (followed_none_second sign_blanks s n)
+      ignored = optional_none (followed_none_second primitive_kind_blanks s n)
 
       unmarked : HasNone IsNpmMarked text
-      unmarked = either_none (tilde_none ignored (λ r e. tilde_no_sign 126 refl (signed_byte s 126 r e))) (caret_none ignored (λ r e. caret_no_sign 94 refl (signed_byte s 94 r e)))
+      unmarked = either_none (tilde_none ignored (λ r e. tilde_no_primitive_kind 126 refl (primitive_byte s 126 r e))) (caret_none ignored (λ r e. caret_no_primitive_kind 94 refl (primitive_byte s 94 r e)))

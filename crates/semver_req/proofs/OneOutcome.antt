@@ -5,7 +5,7 @@ use Rattle.semver_base.specs.Comparators.{Comparator}
 use Rattle.semver_base.specs.Grammar.{HasNone, IsLongest}
 use Rattle.semver_base.proofs.Fronts.{one_front, same_fronts}
 use Rattle.semver_req.specs.Comparators.{fits}
-use Rattle.semver_req.specs.Outcome.{AreGoodOnes, none_left, good, bad, IsBad, IsGood, IsCutOutcome, one_good, one_bad, npm_many, normal_many, normal_refused, IsStrictOutcome, whole, left_over, no_front, no_fit, IsStrictRange, IsTagOr, tag, no_tag, Outcome, Ranges, TextsHaveOneOutcome}
+use Rattle.semver_req.specs.Outcome.{AreGoodOnes, IsBad, IsCutOutcome, IsGood, IsSpecifierOutcome, IsSpecifierRange, IsTagOr, Outcome, Ranges, TextsHaveOneOutcome, bad, good, left_over, no_fit, no_front, no_tag, none_left, normal_many, normal_refused, npm_many, one_bad, one_good, tag, whole}
 use Rattle.semver_req.specs.Pieces.{AreMorePieces, no_piece, last_piece, cut_piece, ArePieces, one_piece, first_cut, HasNoBar, IsCutAt, IsTrimmed}
 use Rattle.semver_req.specs.declared.common.values.Flavour.{Flavour}
 use Rattle.semver_req.specs.declared.common.values.Flavour.TheVariants.{Npm, Normal, Specifier}
@@ -128,33 +128,33 @@ cut_one_outcome (normal_refused h m less) (normal_refused k n fewer) = refl
 pub some_or_none : {V T : Type 0} {R : List ℕ → V → Type 0} {text rest : List ℕ} {v : V} → IsLongest R text v rest → HasNone R text → T
 some_or_none {rest = rest} p n = absurd (n.none p.front rest _ p.text_is p.stands)
 
-fits_or_not : {T : Type 0} {text rest more : List ℕ} {c d : Comparator} → IsLongest IsStrictRange text c rest → IsLongest IsStrictRange text d more → fits c ≡ true → fits d ≡ false → T
+fits_or_not : {T : Type 0} {text rest more : List ℕ} {c d : Comparator} → IsLongest IsSpecifierRange text c rest → IsLongest IsSpecifierRange text d more → fits c ≡ true → fits d ≡ false → T
 fits_or_not p q f g = absurd (let same = (one_front p q).0 in let h : true ≡ false = sym f ∙ (ap fits same ∙ g) in cc h)
 
-whole_or_not : {T : Type 0} {text rest : List ℕ} {c d : Comparator} → IsLongest IsStrictRange text c [] → IsLongest IsStrictRange text d rest → 0 < length rest → T
+whole_or_not : {T : Type 0} {text rest : List ℕ} {c d : Comparator} → IsLongest IsSpecifierRange text c [] → IsLongest IsSpecifierRange text d rest → 0 < length rest → T
 whole_or_not p q some = absurd (omega (arith, some, ap length (one_front p q).1))
 
-strict_one_outcome : {text : List ℕ} {o u : Outcome} → IsStrictOutcome text o → IsStrictOutcome text u → o ≡ u
-strict_one_outcome (whole p f) (whole q g) = ap (λ c. Ranges ((c ∷ []) ∷ [])) (one_front p q).0
-strict_one_outcome (whole p f) (left_over q g some) = whole_or_not p q some
-strict_one_outcome (whole p f) (no_front n t) = some_or_none p n
-strict_one_outcome (whole p f) (no_fit q g t) = fits_or_not p q f g
-strict_one_outcome (left_over p f some) (whole q g) = whole_or_not q p some
-strict_one_outcome (left_over p f some) (left_over q g more) = refl
-strict_one_outcome (left_over p f some) (no_front n t) = some_or_none p n
-strict_one_outcome (left_over p f some) (no_fit q g t) = fits_or_not p q f g
-strict_one_outcome (no_front n t) (whole q g) = some_or_none q n
-strict_one_outcome (no_front n t) (left_over q g some) = some_or_none q n
-strict_one_outcome (no_front n t) (no_front m s) = one_tag t s
-strict_one_outcome (no_front n t) (no_fit q g s) = some_or_none q n
-strict_one_outcome (no_fit p f t) (whole q g) = fits_or_not q p g f
-strict_one_outcome (no_fit p f t) (left_over q g some) = fits_or_not q p g f
-strict_one_outcome (no_fit p f t) (no_front n s) = some_or_none p n
-strict_one_outcome (no_fit p f t) (no_fit q g s) = one_tag t s
+specifier_one_outcome : {text : List ℕ} {o u : Outcome} → IsSpecifierOutcome text o → IsSpecifierOutcome text u → o ≡ u
+specifier_one_outcome (whole p f) (whole q g) = ap (λ c. Ranges ((c ∷ []) ∷ [])) (one_front p q).0
+specifier_one_outcome (whole p f) (left_over q g some) = whole_or_not p q some
+specifier_one_outcome (whole p f) (no_front n t) = some_or_none p n
+specifier_one_outcome (whole p f) (no_fit q g t) = fits_or_not p q f g
+specifier_one_outcome (left_over p f some) (whole q g) = whole_or_not q p some
+specifier_one_outcome (left_over p f some) (left_over q g more) = refl
+specifier_one_outcome (left_over p f some) (no_front n t) = some_or_none p n
+specifier_one_outcome (left_over p f some) (no_fit q g t) = fits_or_not p q f g
+specifier_one_outcome (no_front n t) (whole q g) = some_or_none q n
+specifier_one_outcome (no_front n t) (left_over q g some) = some_or_none q n
+specifier_one_outcome (no_front n t) (no_front m s) = one_tag t s
+specifier_one_outcome (no_front n t) (no_fit q g s) = some_or_none q n
+specifier_one_outcome (no_fit p f t) (whole q g) = fits_or_not q p g f
+specifier_one_outcome (no_fit p f t) (left_over q g some) = fits_or_not q p g f
+specifier_one_outcome (no_fit p f t) (no_front n s) = some_or_none p n
+specifier_one_outcome (no_fit p f t) (no_fit q g s) = one_tag t s
 
 -- ---- the three readers
 
 pub one_outcome : TextsHaveOneOutcome
 one_outcome Npm text o p h k = cut_one_outcome h k
 one_outcome Normal text o p h k = cut_one_outcome h k
-one_outcome Specifier text o p h k = strict_one_outcome h k
+one_outcome Specifier text o p h k = specifier_one_outcome h k

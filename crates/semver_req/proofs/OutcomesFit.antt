@@ -4,7 +4,7 @@ use Rattle.std.specs.List.{list_all}
 use Rattle.semver_base.specs.Comparators.{Comparator}
 use Rattle.semver_base.proofs.Orders.{and_both}
 use Rattle.semver_req.specs.Comparators.{fits}
-use Rattle.semver_req.specs.Outcome.{AreGoodOnes, none_left, good, bad, IsGood, IsCutOutcome, IsOutcome, one_good, one_bad, npm_many, normal_many, normal_refused, IsStrictOutcome, whole, left_over, no_front, no_fit, IsTagOr, tag, no_tag, Outcome, Ranges, Tag, Refused}
+use Rattle.semver_req.specs.Outcome.{AreGoodOnes, IsCutOutcome, IsGood, IsOutcome, IsSpecifierOutcome, IsTagOr, Outcome, Ranges, Refused, Tag, bad, good, left_over, no_fit, no_front, no_tag, none_left, normal_many, normal_refused, npm_many, one_bad, one_good, tag, whole}
 use Rattle.semver_req.specs.declared.common.values.Flavour.{Flavour}
 use Rattle.semver_req.specs.declared.common.values.Flavour.TheVariants.{Npm, Normal, Specifier}
 use Rattle.semver_req.proofs.WritableRanges.{all_trees_fit}
@@ -34,14 +34,14 @@ cut_outcome_fits (npm_many pieces g) = good_ones_fit g
 cut_outcome_fits (normal_many pieces g all) = good_ones_fit g
 cut_outcome_fits (normal_refused pieces g some) = tt
 
-strict_outcome_fits : {text : List ℕ} {o : Outcome} → IsStrictOutcome text o → Fits o
-strict_outcome_fits (whole s fit) = and_both _ _ (and_both _ _ fit refl) refl
-strict_outcome_fits (left_over s fit more) = tt
-strict_outcome_fits (no_front n t) = tag_or_fits t
-strict_outcome_fits (no_fit s e t) = tag_or_fits t
+specifier_outcome_fits : {text : List ℕ} {o : Outcome} → IsSpecifierOutcome text o → Fits o
+specifier_outcome_fits (whole s fit) = and_both _ _ (and_both _ _ fit refl) refl
+specifier_outcome_fits (left_over s fit more) = tt
+specifier_outcome_fits (no_front n t) = tag_or_fits t
+specifier_outcome_fits (no_fit s e t) = tag_or_fits t
 
 -- the comparators of every tree of a reader fit
 pub outcome_fits : (f : Flavour) (text : List ℕ) (tree : List (List Comparator)) → IsOutcome f text (Ranges tree) → all_trees_fit tree ≡ true
 outcome_fits Npm text tree o = cut_outcome_fits o
 outcome_fits Normal text tree o = cut_outcome_fits o
-outcome_fits Specifier text tree o = strict_outcome_fits o
+outcome_fits Specifier text tree o = specifier_outcome_fits o

@@ -20,7 +20,7 @@ use Rattle.semver_req.specs.declared.common.values.Flavour.{Flavour}
 use Rattle.semver_req.specs.declared.common.values.Flavour.TheVariants.{Npm, Normal, Specifier}
 use Rattle.semver_req.proofs.ComparatorReadings.{IsCore, comparator_begins, comparator_goes, comparator_one, comparator_some, comparator_within, core_goes, core_one, core_some, is_start_byte, partial_core, partial_within, some_blanks_made}
 use Rattle.semver_req.proofs.PartialReadings.{is_plain_byte, partial_one}
-use Rattle.semver_req.proofs.Signs.{any_begins, is_partial_byte}
+use Rattle.semver_req.proofs.PrimitiveKinds.{any_begins, is_partial_byte}
 
 -- ---- lists
 

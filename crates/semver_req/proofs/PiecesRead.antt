@@ -8,7 +8,7 @@ use Rattle.std.specs.Char.{is_not_whitespace}
 use Rattle.std.specs.Prelude.{◌⊎◌, ◌↔◌, IsTrue, if◌then◌else◌}
 use Rattle.std.proofs.lemmas.Str.{NoCharPasses-nil}
 use Rattle.std.specs.Str.{trim}
-use Rattle.semver_base.specs.Comparators.{Caret, Comparator, Hyphen, Plain, Signed, Tilde, comparator_range}
+use Rattle.semver_base.specs.Comparators.{Caret, Comparator, Hyphen, OfPrimitive, Plain, Tilde, comparator_range}
 use Rattle.semver_base.specs.Grammar.{this, that, HasNone, IsLongest, Listed, last_item, closed_item, more_items}
 use Rattle.semver_base.specs.Lexical.{IsBlanks}
 use Rattle.semver_base.specs.Overlap.{ends_at_zero}
@@ -93,14 +93,14 @@ module _ (f : Flavour) where
   one_kept : (text : List ℕ) (c : Comparator) → IsComparator f text c → kept_range (c ∷ []) ≡ folded (map comparator_range (c ∷ []))
   one_kept text (Tilde p) h = refl
   one_kept text (Caret p) h = refl
-  one_kept text (Signed sign p) h = refl
+  one_kept text (OfPrimitive kind p) h = refl
   one_kept text (Plain p) h = refl
   one_kept text (Hyphen p q) h = absurd (no_hyphen f text p q h)
 
   many_kept : (text : List ℕ) (c : Comparator) (cs : List Comparator) → IsComparators f text cs → kept_range (c ∷ cs) ≡ folded (map comparator_range (c ∷ cs))
   many_kept text (Tilde p) cs h = refl
   many_kept text (Caret p) cs h = refl
-  many_kept text (Signed sign p) cs h = refl
+  many_kept text (OfPrimitive kind p) cs h = refl
   many_kept text (Plain p) cs h = refl
   many_kept text (Hyphen p q) cs (last_item a) = refl
   many_kept text (Hyphen p q) cs (closed_item a s) = refl

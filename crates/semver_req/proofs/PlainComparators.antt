@@ -8,11 +8,11 @@ use Rattle.std.proofs.lemmas.Str.{NoCharPasses-nil}
 use Rattle.std.proofs.lemmas.Str.Pattern.{IsSplitOnceResult, split_parts}
 use Rattle.std.specs.Borrow.{Bor}
 use Rattle.std.specs.Prelude.{IfSome}
-use Rattle.semver_base.specs.Comparators.{Comparator, sign_text}
+use Rattle.semver_base.specs.Comparators.{Comparator, primitive_kind_text}
 use Rattle.semver_base.specs.Grammar.{this, that, After, HasNone, IsLongest, IsSeen, Prefixed, closed_item, last_item, more_items}
 use Rattle.semver_base.specs.Overlap.{ends_at_zero}
 use Rattle.semver_base.specs.Lexical.{IsBlanks, IsLooseNumber, IsNumber}
-use Rattle.semver_base.specs.PartialTable.{of_few, of_numbers}
+use Rattle.semver_base.specs.PartialTable.{of_few}
 use Rattle.semver_base.specs.PlainTexts.{IsFewNumbers, IsPlainNumber, IsPlainTriple}
 use Rattle.semver_base.specs.declared.lexical.values.Measured.TheVariants.{Fits}
 use Rattle.semver_base.specs.declared.partial.XRange.TheVariants.{Val}
@@ -24,7 +24,7 @@ use Rattle.semver_base.specs.declared.range.VersionRange.{VersionRange}
 use Rattle.semver_base.proofs.Bytes.{list_all-wider, prefixed_some_text}
 use Rattle.semver_base.proofs.Fronts.{prefixed_other}
 use Rattle.semver_base.proofs.Numbers.{loose_begins, loose_some}
-use Rattle.semver_base.proofs.PlainTexts.{plain_solid, solid_trimmed}
+use Rattle.semver_base.proofs.PlainTexts.{few_solid, solid_trimmed, IsSolid}
 use Rattle.semver_base.proofs.Qualifiers.{no_qualifier}
 use Rattle.semver_base.proofs.Solid.{is_solid_byte}
 use Rattle.semver_req.specs.Comparators.{IsComparator, IsPrimitive, fits}
@@ -34,7 +34,7 @@ use Rattle.semver_req.specs.Partials.{IsComponent, IsPartial, IsPlainPartial, se
 use Rattle.semver_req.specs.Pieces.{HasNoBar, IsComparators, IsFilled, IsPiece, one_piece}
 use Rattle.semver_req.specs.PieceReading.{as_kept, joined, read_as}
 use Rattle.semver_req.specs.PieceSteps.{IsWholeRead}
-use Rattle.semver_req.specs.PlainComparators.{IsFewAlone, IsFewMarked, IsFewPair, IsFewUnsigned, IsPlainComparator, IsPlainReading, IsUnclosed, mark_text}
+use Rattle.semver_req.specs.PlainComparators.{IsFewAlone, IsFewMarked, IsFewPair, IsPlainComparator, IsPlainReading, IsUnclosed, mark_text}
 use Rattle.semver_req.specs.Written.{IsFront, IsMarkCut, IsUnsigned, comparator_of}
 use Rattle.semver_req.specs.declared.common.comparator.Mark.{Mark}
 use Rattle.semver_req.specs.declared.common.comparator.Mark.TheVariants as mark
@@ -50,8 +50,8 @@ use Rattle.semver_req.proofs.Fitting.{fitting}
 use Rattle.semver_req.proofs.Marks.{unsigned_some}
 use Rattle.semver_req.proofs.Partials.{not_led, optional_seen, optional_unseen, partial_read, second_read}
 use Rattle.semver_req.proofs.PiecesRead.{list_kept}
-use Rattle.semver_req.proofs.StrictKept.{strict_ends, strict_kept}
-use Rattle.semver_req.proofs.StrictRanges.{whole_reading}
+use Rattle.semver_req.proofs.SpecifierKept.{specifier_ends, specifier_kept}
+use Rattle.semver_req.proofs.SpecifierRanges.{whole_reading}
 use Rattle.semver_req.proofs.Wider.{pieces_wider}
 use Rattle.semver_req.proofs.WrittenSets.{is_no_bar, no_bar, one_blank}
 
@@ -78,7 +78,7 @@ number_seen f {text} {rest} {n} p = component_read f text (λ b more wild e. wil
 
 -- ---- partial versions
 
-plain_seen : (f : Flavour) {text : List ℕ} (n : Numbers) → IsPlainTriple text n.major n.minor n.patch → IsSeen sized_partial (IsPlainPartial f) text (Fits (of_numbers n)) []
+plain_seen : (f : Flavour) {text : List ℕ} (n : Numbers) → IsPlainTriple text n.major n.minor n.patch → IsSeen sized_partial (IsPlainPartial f) text (Fits (of_few (few.Three n))) []
 plain_seen f n t =
     let third = optional_seen third_or_none (λ v. refl) (prefixed_some_text 46) (third_read f refl (number_seen f t.patch) (no_qualifier (strictness_of f))) in
     let second = optional_seen second_or_none (λ v. refl) (prefixed_some_text 46) (second_read f refl (number_seen f t.minor) third) in
@@ -107,21 +107,17 @@ few_seen Specifier n t = few_plain Specifier n t
 
 -- ---- comparators
 
-pub plain_front : (f : Flavour) {text : List ℕ} {range : VersionRange} (p : IsPlainComparator text range) → IsFront (IsUnsigned f) text (record { mark = p.mark; partial = Fits (of_numbers p.numbers) }) []
-plain_front f p = unsigned_some f p.mark p.cut (few_seen f (few.Three p.numbers) p.three)
-
--- a comparator of one to three numbers at the front, where it is the whole text
-pub few_front : (f : Flavour) {text : List ℕ} {written : Written} → IsFewUnsigned text written → IsFront (IsUnsigned f) text written []
-few_front f {written = written} p = unsigned_some f written.mark p.cut (rw p.partial_is (few_seen f p.numbers p.few))
+pub plain_front : (f : Flavour) {text : List ℕ} {range : VersionRange} (p : IsPlainComparator text range) → IsFront (IsUnsigned f) text (record { mark = p.mark; partial = Fits (of_few p.numbers) }) []
+plain_front f p = unsigned_some f p.mark p.cut (few_seen f p.numbers p.few)
 
 -- the strict reader's ranges
-pub strict_reading : {text : List ℕ} {range : VersionRange} (answer : RangeSetOrTag) → IsPlainComparator text range → answer ≡ inner.RangeSet (record { 0 = range ∷ [] }) → IsReading Specifier text answer
-strict_reading {range = range} answer p answered = whole_reading (fitting (plain_front Specifier p)) range answer p.line.fits refl p.line.is answered
+pub specifier_reading : {text : List ℕ} {range : VersionRange} (answer : RangeSetOrTag) → IsPlainComparator text range → answer ≡ inner.RangeSet (record { 0 = range ∷ [] }) → IsReading Specifier text answer
+specifier_reading {range = range} answer p answered = whole_reading (fitting (plain_front Specifier p)) range answer p.line.fits refl p.line.is answered
 
 -- ---- pieces
 
 abbrev comparator : {text : List ℕ} {range : VersionRange} → IsPlainComparator text range → Comparator
-comparator p = comparator_of p.mark (of_numbers p.numbers)
+comparator p = comparator_of p.mark (of_few p.numbers)
 
 whole_front : {V : Type 0} {A : List ℕ → V → Type 0} {text : List ℕ} {c : V} → IsLongest A text c [] → A text c
 whole_front p = let whole = p.text_is ∙ append-nil p.front in rw whole p.stands
@@ -136,17 +132,14 @@ normal_piece {text} p = last_item (is_normal text (comparator p) (whole_front (f
 all_fits : {text : List ℕ} {range : VersionRange} (p : IsPlainComparator text range) → list_all fits (comparator p ∷ []) ≡ true
 all_fits p = rw ((fitting (plain_front Normal p)).numbers_fit, p.line.fits) refl
 
-abbrev IsSolid : List ℕ → Type 0
-IsSolid text = (list_all is_solid_byte text ≡ true) × (0 < length text)
-
 solid_by : (m : Mark) (text rest : List ℕ) → IsMarkCut text m rest → IsSolid rest → IsSolid text
 solid_by mark.Tilde text rest e h = rw e (h.0, omega arith)
 solid_by mark.Caret text rest e h = rw e (h.0, omega arith)
-solid_by (mark.Sign sign) text rest e h = absurd e
+solid_by (mark.Primitive kind) text rest e h = absurd e
 solid_by mark.Absent text rest e h = rw e.0 at h
 
 text_solid : {text : List ℕ} {range : VersionRange} → IsPlainComparator text range → IsSolid text
-text_solid {text} p = solid_by p.mark text p.rest p.cut (plain_solid p.three)
+text_solid {text} p = solid_by p.mark text p.rest p.cut (few_solid p.rest p.numbers p.few)
 
 solid_no_bar : (x : ℕ) → is_solid_byte x ≡ true → is_no_bar x ≡ true
 solid_no_bar x h = grind (arith, nat_tests)
@@ -162,14 +155,14 @@ only_kept found range e ends = rw ends (ap (λ (r : VersionRange). r ∷ []) e)
 kept_alone : {text : List ℕ} {range : VersionRange} (p : IsPlainComparator text range) → without_none (kept_range (comparator p ∷ []) ∷ []) ≡ range ∷ []
 kept_alone p =
     let strict = whole_front (fitting (plain_front Specifier p)).longest in
-    only_kept _ _ (strict_kept strict ∙ sym p.line.is) (strict_ends strict)
+    only_kept _ _ (specifier_kept strict ∙ sym p.line.is) (specifier_ends strict)
 
 cut_outcome : (f : Flavour) {text : List ℕ} {range : VersionRange} (p : IsPlainComparator text range) → IsPiece f text (comparator p ∷ []) → IsCutOutcome f text (Ranges ((comparator p ∷ []) ∷ []))
 cut_outcome f p piece = one_good (one_piece (text_no_bar p)) (inl (piece, all_fits p))
 
 -- each reader's ranges
 pub plain_reading : {text : List ℕ} {range : VersionRange} (answer : RangeSetOrTag) → IsPlainComparator text range → answer ≡ inner.RangeSet (record { 0 = range ∷ [] }) → IsPlainReading text answer
-plain_reading answer p answered Specifier = strict_reading answer p answered
+plain_reading answer p answered Specifier = specifier_reading answer p answered
 plain_reading answer p answered Normal = record {
   outcome = Ranges ((comparator p ∷ []) ∷ []);
   is_outcome = cut_outcome Normal p (normal_piece p);
@@ -192,7 +185,7 @@ by_mark mark.Caret text rest p e h = rw e (this (that (record { value = p; stand
   where
     caret : Prefixed 94 (IsPartial Normal) (94 ∷ rest) p
     caret = (refl, h)
-by_mark (mark.Sign sign) text rest p e h = that (this (record { value = (sign, p); stands = both; is = refl }))
+by_mark (mark.Primitive kind) text rest p e h = that (this (record { value = (kind, p); stands = both; is = refl }))
   where
     unspaced : After IsBlanks (IsPartial Normal) rest p
     unspaced = record {
@@ -201,8 +194,8 @@ by_mark (mark.Sign sign) text rest p e h = that (this (record { value = (sign, p
       is = refl;
     }
 
-    both : IsPrimitive Normal text (sign, p)
-    both = record { first = sign_text sign; second = rest; text_is = e; in_first = refl; in_second = unspaced; seam = tt }
+    both : IsPrimitive Normal text (kind, p)
+    both = record { first = primitive_kind_text kind; second = rest; text_is = e; in_first = refl; in_second = unspaced; seam = tt }
 by_mark mark.Absent text rest p e h = that (that (record { value = p; stands = rw e h; is = refl }))
 
 -- the text is a comparator of the normalized grammar, whose partial version is answered so

@@ -13,7 +13,7 @@ use Rattle.semver_req.specs.Outcome.{tree_ranges}
 use Rattle.semver_req.specs.Rereading.{is_orderly, keeps_meaning}
 use Rattle.semver_req.specs.Settled.{reread_set}
 use Rattle.semver_req.proofs.KeptRanges.{is_kept, outcome_is_kept}
-use Rattle.semver_req.proofs.OutcomesHaveParts.{outcome_writable}
+use Rattle.semver_req.proofs.OutcomesHaveIdentifiers.{outcome_writable}
 use Rattle.semver_req.proofs.SettledSets.{orderly_reread, reread_set_means, set_settles, tree_form_means}
 use Rattle.semver_req.proofs.Starts.{has_start}
 

@@ -7,7 +7,7 @@ use Rattle.std.specs.Prelude.{nat_lt}
 use Rattle.std.specs.declared.cmp.Ordering.{Ordering}
 use Rattle.std.specs.declared.cmp.Ordering.TheVariants.{Less, Equal, Greater}
 use Rattle.semver_base.specs.Clamp.{clamped, greater_of, of_tied, stopped_at, stopped_by}
-use Rattle.semver_base.specs.Comparators.{Caret, Comparator, Hyphen, Plain, Signed, Tilde, comparator_range}
+use Rattle.semver_base.specs.Comparators.{Caret, Comparator, Hyphen, OfPrimitive, Plain, Tilde, comparator_range}
 use Rattle.semver_base.specs.Meaning.{bound_at, everything, from, release, to_below}
 use Rattle.semver_base.specs.PartialTable.{up_to, between, without_build}
 use Rattle.semver_base.specs.Precedence.{precedence_cmp}
@@ -78,7 +78,7 @@ short_less s e h = elim (or_cases (is_major s e) _ h) [
 alone_kept : (c : Comparator) (range : VersionRange) → comparator_range c ≡ range → clamped everything range ≡ range → kept_range (c ∷ []) ≡ range
 alone_kept (Tilde p) range own same = ap (λ (r : VersionRange). clamped everything r) own ∙ same
 alone_kept (Caret p) range own same = ap (λ (r : VersionRange). clamped everything r) own ∙ same
-alone_kept (Signed sign p) range own same = ap (λ (r : VersionRange). clamped everything r) own ∙ same
+alone_kept (OfPrimitive primitive_kind p) range own same = ap (λ (r : VersionRange). clamped everything r) own ∙ same
 alone_kept (Plain p) range own same = ap (λ (r : VersionRange). clamped everything r) own ∙ same
 alone_kept (Hyphen p q) range own same = own
 

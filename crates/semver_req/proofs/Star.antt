@@ -10,7 +10,7 @@ use Rattle.semver_base.specs.declared.partial.Partial.{Partial}
 use Rattle.semver_base.specs.declared.partial.XRange.TheVariants.{Wildcard}
 use Rattle.semver_base.specs.declared.range.VersionRange.{VersionRange}
 use Rattle.semver_base.proofs.Readings.{in_place}
-use Rattle.semver_req.specs.Outcome.{IsStrictRange, Ranges, whole}
+use Rattle.semver_req.specs.Outcome.{IsSpecifierRange, Ranges, whole}
 use Rattle.semver_req.specs.Pieces.{npm, normal}
 use Rattle.semver_req.specs.Rereading.{StarIsAnyVersion}
 use Rattle.semver_req.specs.declared.common.values.Flavour.TheVariants.{Npm, Normal, Specifier}
@@ -30,7 +30,7 @@ writable = (record { start = tt; end = tt }, tt)
 abbrev any_partial : Partial
 any_partial = record { major = Wildcard; minor = Wildcard; patch = Wildcard; pre = []; build = [] }
 
-star_read : IsStrictRange (codes "*") (Plain any_partial)
+star_read : IsSpecifierRange (codes "*") (Plain any_partial)
 star_read = that (record {
   value = any_partial;
   stands = record {
@@ -41,7 +41,7 @@ star_read = that (record {
   is = refl;
 })
 
-star_longest : IsLongest IsStrictRange (codes "*") (Plain any_partial) []
+star_longest : IsLongest IsSpecifierRange (codes "*") (Plain any_partial) []
 star_longest = in_place (comparator_one Specifier) (comparator_goes Specifier) (codes "*") [] star_read tt
 
 pub star_any : StarIsAnyVersion

@@ -5,13 +5,13 @@ use Rattle.std.specs.Prelude.{if◌then◌else◌, nat_lt}
 use Rattle.std.specs.declared.cmp.Ordering.{Ordering}
 use Rattle.std.specs.declared.cmp.Ordering.TheVariants.{Less, Equal, Greater}
 use Rattle.semver_base.specs.Clamp.{clamped, clamped_end, clamped_start, greater_of, of_tied, stopped_at, stopped_by}
-use Rattle.semver_base.specs.Comparators.{Caret, Comparator, Hyphen, Plain, Signed, Tilde, comparator_range, signed_line}
+use Rattle.semver_base.specs.Comparators.{Caret, Comparator, Hyphen, OfPrimitive, Plain, Tilde, comparator_range, primitive_line}
 use Rattle.semver_base.specs.Meaning.{everything, release}
 use Rattle.semver_base.specs.PartialTable.{above_by, at_least_by, at_most_by, below_by, caret_by, caret_patch, equal_by, greater_range_by, lower_to_below, tilde_by}
 use Rattle.semver_base.specs.Precedence.{precedence_cmp}
 use Rattle.semver_base.specs.declared.partial.Partial.{Partial}
 use Rattle.semver_base.specs.declared.primitive.PrimitiveKind.{PrimitiveKind}
-use Rattle.semver_base.specs.declared.primitive.PrimitiveKind.TheVariants as sign
+use Rattle.semver_base.specs.declared.primitive.PrimitiveKind.TheVariants as primitive
 use Rattle.semver_base.specs.declared.partial.XRange.{XRange}
 use Rattle.semver_base.specs.declared.partial.XRange.TheVariants.{Wildcard, Val}
 use Rattle.semver_base.specs.declared.range.RangeBound.{RangeBound}
@@ -89,18 +89,18 @@ below_starts p (Val major) Wildcard (Val patch) = refl
 below_starts p (Val major) (Val minor) Wildcard = refl
 below_starts p (Val major) (Val minor) (Val patch) = refl
 
-signed_starts : (sign : PrimitiveKind) (p : Partial) → has_start (signed_line sign p).range ≡ true
-signed_starts sign.GreaterThan p = above_starts p p.major p.minor p.patch
-signed_starts sign.LessThan p = below_starts p p.major p.minor p.patch
-signed_starts sign.GreaterThanOrEqual p = at_least_starts p p.major
-signed_starts sign.LessThanOrEqual p = at_most_starts p p.major p.minor p.patch
-signed_starts sign.Equal p = equal_starts p p.major p.minor p.patch
+primitive_starts : (primitive_kind : PrimitiveKind) (p : Partial) → has_start (primitive_line primitive_kind p).range ≡ true
+primitive_starts primitive.GreaterThan p = above_starts p p.major p.minor p.patch
+primitive_starts primitive.LessThan p = below_starts p p.major p.minor p.patch
+primitive_starts primitive.GreaterThanOrEqual p = at_least_starts p p.major
+primitive_starts primitive.LessThanOrEqual p = at_most_starts p p.major p.minor p.patch
+primitive_starts primitive.Equal p = equal_starts p p.major p.minor p.patch
 
 -- an absent start of a comparator comes with an absent end
 pub comparator_starts : (c : Comparator) → has_start (comparator_range c) ≡ true
 comparator_starts (Tilde p) = tilde_starts p p.major p.minor
 comparator_starts (Caret p) = caret_starts p p.major p.minor p.patch
-comparator_starts (Signed sign p) = signed_starts sign p
+comparator_starts (OfPrimitive primitive_kind p) = primitive_starts primitive_kind p
 comparator_starts (Plain p) = equal_starts p p.major p.minor p.patch
 comparator_starts (Hyphen p q) = refl
 

@@ -12,7 +12,7 @@ use Rattle.std.proofs.lemmas.Str.{encodes-chars, inside_one}
 use Rattle.semver_base.proofs.Bytes.{list_all-append}
 use Rattle.semver_req.specs.Pieces.{HasNoBar}
 use Rattle.semver_req.specs.Tag.{is_tag_character, is_valid_tag}
-use Rattle.semver_req.proofs.SignsNoTag.{are_tag_characters}
+use Rattle.semver_req.proofs.PrimitiveKindsNoTag.{are_tag_characters}
 use Rattle.semver_req.proofs.TagCharacters.{bar_no_tag, white_no_tag}
 use Rattle.semver_req.proofs.WrittenSets.{no_bar}
 

@@ -1,4 +1,5 @@
--- The bounds of what is kept of comparators that fit, whose identifiers are parts, have a text that reads back.
+-- The bounds of what is kept of comparators that fit, whose identifiers are those of the grammar, have a text that reads
+-- back.
 use Rattle.std.proofs.Common.{◌≡◌, ◌<◌, ◌+◌, ℕ, List, [], ◌∷◌, Bool, true, false, map, not, refl, sym, ◌∙◌}
 use Rattle.std.specs.List.{fold, list_all}
 use Rattle.std.proofs.lemmas.Bool.{ltb-true}
@@ -7,16 +8,16 @@ use Rattle.std.specs.Prelude.{if◌then◌else◌, nat_lt, ◌++◌, ◌^◌}
 use Rattle.std.specs.declared.cmp.Ordering.{Ordering}
 use Rattle.std.specs.declared.cmp.Ordering.TheVariants.{Less, Equal, Greater}
 use Rattle.semver_base.specs.Clamp.{clamped, clamped_end, clamped_start, greater_of, lesser_of, of_tied, stopped_at, stopped_by}
-use Rattle.semver_base.specs.Comparators.{Caret, Comparator, Hyphen, Plain, Signed, Tilde, comparator_range, signed_line}
+use Rattle.semver_base.specs.Comparators.{Caret, Comparator, Hyphen, OfPrimitive, Plain, Tilde, comparator_range, primitive_line}
 use Rattle.semver_base.specs.Meaning.{everything, release}
 use Rattle.semver_base.specs.NormalText.{AreWritableRanges, IsWritableBound, IsWritableRange}
 use Rattle.semver_base.specs.Overlap.{ends_at_zero}
 use Rattle.semver_base.specs.PartialTable.{above_by, all_fit, at_least_by, at_most_by, below_by, caret_by, caret_patch, equal_by, greater_range_by, lower_to_below, lowest, number_fits, or_zero, version_with_pre, tilde_by, upper_by, without_build, Line}
 use Rattle.semver_base.specs.Precedence.{precedence_cmp}
-use Rattle.semver_base.specs.VersionText.{AreParts, IsWritable}
+use Rattle.semver_base.specs.VersionText.{AreIdentifiers, IsWritable}
 use Rattle.semver_base.specs.declared.partial.Partial.{Partial}
 use Rattle.semver_base.specs.declared.primitive.PrimitiveKind.{PrimitiveKind}
-use Rattle.semver_base.specs.declared.primitive.PrimitiveKind.TheVariants as sign
+use Rattle.semver_base.specs.declared.primitive.PrimitiveKind.TheVariants as primitive
 use Rattle.semver_base.specs.declared.partial.XRange.{XRange}
 use Rattle.semver_base.specs.declared.partial.XRange.TheVariants.{Wildcard, Val}
 use Rattle.semver_base.specs.declared.range.RangeBound.{RangeBound}
@@ -31,26 +32,26 @@ use Rattle.semver_req.specs.KeptSet.{kept, kept_range}
 use Rattle.semver_req.specs.declared.common.values.Flavour.{Flavour}
 use Rattle.semver_req.specs.declared.common.values.Flavour.TheVariants.{Npm, Normal, Specifier}
 
--- ---- identifiers that are parts
+-- ---- identifiers of the grammar
 
-abbrev pub PartialHasParts : Partial → Type 0
-PartialHasParts p = AreParts p.pre × AreParts p.build
+abbrev pub PartialHasIdentifiers : Partial → Type 0
+PartialHasIdentifiers p = AreIdentifiers p.pre × AreIdentifiers p.build
 
 -- the identifiers of its partial versions
-abbrev pub ComparatorHasParts : Comparator → Type 0
-ComparatorHasParts (Tilde p) = PartialHasParts p
-ComparatorHasParts (Caret p) = PartialHasParts p
-ComparatorHasParts (Signed sign p) = PartialHasParts p
-ComparatorHasParts (Plain p) = PartialHasParts p
-ComparatorHasParts (Hyphen p q) = PartialHasParts p × PartialHasParts q
+abbrev pub ComparatorHasIdentifiers : Comparator → Type 0
+ComparatorHasIdentifiers (Tilde p) = PartialHasIdentifiers p
+ComparatorHasIdentifiers (Caret p) = PartialHasIdentifiers p
+ComparatorHasIdentifiers (OfPrimitive primitive_kind p) = PartialHasIdentifiers p
+ComparatorHasIdentifiers (Plain p) = PartialHasIdentifiers p
+ComparatorHasIdentifiers (Hyphen p q) = PartialHasIdentifiers p × PartialHasIdentifiers q
 
-abbrev pub AllHaveParts : List Comparator → Type 0
-AllHaveParts [] = Unit {0}
-AllHaveParts (c ∷ cs) = ComparatorHasParts c × AllHaveParts cs
+abbrev pub AllHaveIdentifiers : List Comparator → Type 0
+AllHaveIdentifiers [] = Unit {0}
+AllHaveIdentifiers (c ∷ cs) = ComparatorHasIdentifiers c × AllHaveIdentifiers cs
 
-abbrev pub TreeHasParts : List (List Comparator) → Type 0
-TreeHasParts [] = Unit {0}
-TreeHasParts (comparators ∷ tree) = AllHaveParts comparators × TreeHasParts tree
+abbrev pub TreeHasIdentifiers : List (List Comparator) → Type 0
+TreeHasIdentifiers [] = Unit {0}
+TreeHasIdentifiers (comparators ∷ tree) = AllHaveIdentifiers comparators × TreeHasIdentifiers tree
 
 -- ---- what `clamp` keeps
 
@@ -181,12 +182,12 @@ below_writable p low (Val major) Wildcard (Val patch) h j k = record { start = z
 below_writable p low (Val major) (Val minor) Wildcard h j k = record { start = zero_writable; end = release_writable major minor 0 h j refl }
 below_writable p low (Val major) (Val minor) (Val patch) h j k = record { start = zero_writable; end = bare p low }
 
-signed_writable : (sign : PrimitiveKind) (p : Partial) → IsWritable (lowest p) → NumbersFit p → all_fit (signed_line sign p).sums ≡ true → IsWritableRange (signed_line sign p).range
-signed_writable sign.GreaterThan p low n sums = above_writable p low p.major p.minor p.patch n.0 n.2 sums
-signed_writable sign.LessThan p low n sums = below_writable p low p.major p.minor p.patch n.0 n.1 n.2
-signed_writable sign.GreaterThanOrEqual p low n sums = at_least_writable p low p.major
-signed_writable sign.LessThanOrEqual p low n sums = at_most_writable p low p.major p.minor p.patch n.0 n.2 sums
-signed_writable sign.Equal p low n sums = equal_writable p low n p.major p.minor p.patch sums
+primitive_writable : (primitive_kind : PrimitiveKind) (p : Partial) → IsWritable (lowest p) → NumbersFit p → all_fit (primitive_line primitive_kind p).sums ≡ true → IsWritableRange (primitive_line primitive_kind p).range
+primitive_writable primitive.GreaterThan p low n sums = above_writable p low p.major p.minor p.patch n.0 n.2 sums
+primitive_writable primitive.LessThan p low n sums = below_writable p low p.major p.minor p.patch n.0 n.1 n.2
+primitive_writable primitive.GreaterThanOrEqual p low n sums = at_least_writable p low p.major
+primitive_writable primitive.LessThanOrEqual p low n sums = at_most_writable p low p.major p.minor p.patch n.0 n.2 sums
+primitive_writable primitive.Equal p low n sums = equal_writable p low n p.major p.minor p.patch sums
 
 upper_writable : (p : Partial) → IsWritable (lowest p) → (major minor patch : XRange) → number_fits (or_zero major) ≡ true → number_fits (or_zero patch) ≡ true
     → all_fit (upper_by p major minor patch).sums ≡ true → IsWritableBound (upper_by p major minor patch).end
@@ -206,14 +207,14 @@ partial_fit p h =
     let patch = and_second (all_fit (component_numbers p.major ++ component_numbers p.minor)) _ both in
     (component_fit p.major (and_first _ _ first), component_fit p.minor (and_second (all_fit (component_numbers p.major)) _ first), component_fit p.patch patch)
 
-lowest_writable : (p : Partial) → NumbersFit p → PartialHasParts p → IsWritable (lowest p)
+lowest_writable : (p : Partial) → NumbersFit p → PartialHasIdentifiers p → IsWritable (lowest p)
 lowest_writable p n has = record { numbers = record { major = small (or_zero p.major) n.0; minor = small (or_zero p.minor) n.1; patch = small (or_zero p.patch) n.2 }; pre = has.0; build = has.1 }
 
 -- the bounds of a comparator that fits
-comparator_writable : (c : Comparator) → fits c ≡ true → ComparatorHasParts c → IsWritableRange (comparator_range c)
+comparator_writable : (c : Comparator) → fits c ≡ true → ComparatorHasIdentifiers c → IsWritableRange (comparator_range c)
 comparator_writable (Tilde p) h has = let n = partial_fit p (and_first _ _ h) in tilde_writable p (lowest_writable p n has) p.major p.minor n.0 (and_second (all_fit (numbers p)) _ h)
 comparator_writable (Caret p) h has = let n = partial_fit p (and_first _ _ h) in caret_writable p (lowest_writable p n has) p.major p.minor p.patch (and_second (all_fit (numbers p)) _ h)
-comparator_writable (Signed sign p) h has = let n = partial_fit p (and_first _ _ h) in signed_writable sign p (lowest_writable p n has) n (and_second (all_fit (numbers p)) _ h)
+comparator_writable (OfPrimitive primitive_kind p) h has = let n = partial_fit p (and_first _ _ h) in primitive_writable primitive_kind p (lowest_writable p n has) n (and_second (all_fit (numbers p)) _ h)
 comparator_writable (Plain p) h has = let n = partial_fit p (and_first _ _ h) in equal_writable p (lowest_writable p n has) n p.major p.minor p.patch (and_second (all_fit (numbers p)) _ h)
 comparator_writable (Hyphen p q) h has =
     let both = sym (list_all-append number_fits (numbers p) (numbers q)) ∙ and_first _ _ h in
@@ -221,26 +222,26 @@ comparator_writable (Hyphen p q) h has =
     let m = partial_fit q (and_second (all_fit (numbers p)) _ both) in
     record { start = lowest_writable p n has.0; end = upper_writable q (lowest_writable q m has.1) q.major q.minor q.patch m.0 m.2 (and_second (all_fit (numbers p ++ numbers q)) _ h) }
 
-folded_writable : (start : VersionRange) (comparators : List Comparator) → IsWritableRange start → list_all fits comparators ≡ true → AllHaveParts comparators
+folded_writable : (start : VersionRange) (comparators : List Comparator) → IsWritableRange start → list_all fits comparators ≡ true → AllHaveIdentifiers comparators
     → IsWritableRange (fold clamped start (map comparator_range comparators))
 folded_writable start [] h fit has = h
 folded_writable start (c ∷ cs) h fit has =
     folded_writable (clamped start (comparator_range c)) cs (clamped_writable start (comparator_range c) h (comparator_writable c (and_first _ _ fit) has.0)) (and_second (fits c) _ fit) has.1
 
 -- the range of an alternative whose comparators fit
-kept_range_writable : (comparators : List Comparator) → list_all fits comparators ≡ true → AllHaveParts comparators → IsWritableRange (kept_range comparators)
+kept_range_writable : (comparators : List Comparator) → list_all fits comparators ≡ true → AllHaveIdentifiers comparators → IsWritableRange (kept_range comparators)
 kept_range_writable (Hyphen p q ∷ []) fit has = comparator_writable (Hyphen p q) (and_first _ _ fit) has.0
 kept_range_writable comparators fit has = folded_writable everything comparators (record { start = tt; end = tt }) fit has
 
 abbrev pub all_trees_fit : List (List Comparator) → Bool
 all_trees_fit tree = list_all (λ cs. list_all fits cs) tree
 
-all_writable : (tree : List (List Comparator)) → all_trees_fit tree ≡ true → TreeHasParts tree → AreWritableRanges (map kept_range tree)
+all_writable : (tree : List (List Comparator)) → all_trees_fit tree ≡ true → TreeHasIdentifiers tree → AreWritableRanges (map kept_range tree)
 all_writable [] fit has = tt
 all_writable (comparators ∷ tree) fit has =
     (kept_range_writable comparators (and_first _ _ fit) has.0, all_writable tree (and_second (list_all fits comparators) _ fit) has.1)
 
-rest_writable : (tree : List (List Comparator)) → all_trees_fit tree ≡ true → TreeHasParts tree → AreWritableRanges (kept Normal tree)
+rest_writable : (tree : List (List Comparator)) → all_trees_fit tree ≡ true → TreeHasIdentifiers tree → AreWritableRanges (kept Normal tree)
 rest_writable [] fit has = tt
 rest_writable (comparators ∷ tree) fit has = go (ends_at_zero (kept_range comparators).end) (rest_writable tree (and_second (list_all fits comparators) _ fit) has.1)
   where
@@ -249,7 +250,7 @@ rest_writable (comparators ∷ tree) fit has = go (ends_at_zero (kept_range comp
     go false rest = (kept_range_writable comparators (and_first _ _ fit) has.0, rest)
 
 -- what is kept of a tree whose comparators fit
-pub kept_writable : (f : Flavour) (tree : List (List Comparator)) → all_trees_fit tree ≡ true → TreeHasParts tree → AreWritableRanges (kept f tree)
+pub kept_writable : (f : Flavour) (tree : List (List Comparator)) → all_trees_fit tree ≡ true → TreeHasIdentifiers tree → AreWritableRanges (kept f tree)
 kept_writable Npm tree fit has = rest_writable tree fit has
 kept_writable Normal tree fit has = rest_writable tree fit has
 kept_writable Specifier tree fit has = all_writable tree fit has

@@ -7,7 +7,7 @@ use Rattle.std.specs.List.{list_all}
 use Rattle.std.proofs.lemmas.Bool.{and_from, and_parts, eqb-true, lt-ltb}
 use Rattle.std.proofs.lemmas.Bool.Decides.{nat_tests}
 use Rattle.std.proofs.lemmas.Str.{NoCharPasses-nil}
-use Rattle.semver_base.specs.Comparators.{Comparator, Tilde, Caret, Signed, Plain, comparator_line, sign_text}
+use Rattle.semver_base.specs.Comparators.{Caret, Comparator, OfPrimitive, Plain, Tilde, comparator_line, primitive_kind_text}
 use Rattle.semver_base.specs.Grammar.{Followed, Optional, this, that}
 use Rattle.semver_base.specs.Lexical.{IsBlanks}
 use Rattle.semver_base.specs.Meaning.{release}
@@ -186,13 +186,13 @@ module _ {p : Partial} (w : IsWrittenPartial p) where
     fit = fit_with (equal p).sums fit;
   }
 
-  signed_written : (sign : PrimitiveKind) → list_all is_solid_byte (sign_text sign) ≡ true → all_fit (comparator_line (Signed sign p)).sums ≡ true → IsWritten (Signed sign p)
-  signed_written sign solid fit = record {
-    npm = that (this (record { value = (sign, p); stands = follow (sign_text sign) _ refl (after [] _ tt no_blank npm_partial); is = refl }));
-    normal = that (this (record { value = (sign, p); stands = follow (sign_text sign) _ refl (after [] _ tt no_blank (w.reads Normal)); is = refl }));
-    solid = list_all-append is_solid_byte (sign_text sign) (partial_text p) solid solid_partial;
-    some = omega (arith, some_partial, length-append (sign_text sign) (partial_text p));
-    fit = fit_with (comparator_line (Signed sign p)).sums fit;
+  primitive_written : (primitive_kind : PrimitiveKind) → list_all is_solid_byte (primitive_kind_text primitive_kind) ≡ true → all_fit (comparator_line (OfPrimitive primitive_kind p)).sums ≡ true → IsWritten (OfPrimitive primitive_kind p)
+  primitive_written primitive_kind solid fit = record {
+    npm = that (this (record { value = (primitive_kind, p); stands = follow (primitive_kind_text primitive_kind) _ refl (after [] _ tt no_blank npm_partial); is = refl }));
+    normal = that (this (record { value = (primitive_kind, p); stands = follow (primitive_kind_text primitive_kind) _ refl (after [] _ tt no_blank (w.reads Normal)); is = refl }));
+    solid = list_all-append is_solid_byte (primitive_kind_text primitive_kind) (partial_text p) solid solid_partial;
+    some = omega (arith, some_partial, length-append (primitive_kind_text primitive_kind) (partial_text p));
+    fit = fit_with (comparator_line (OfPrimitive primitive_kind p)).sums fit;
   }
 
 -- ---- the rows of the table
@@ -217,12 +217,12 @@ pub caret_major : (p : Partial) (major minor patch : ℕ) → nat_lt 0 major ≡
 caret_major p major minor patch some = rw some refl
 
 starting_written : (k : VersionBoundKind) (v : Version) → IsWritable v → IsWritten (starting k v)
-starting_written kind.Inclusive v h = signed_written (whole_written v h) GreaterThanOrEqual refl refl
-starting_written kind.Exclusive v h = signed_written (whole_written v h) GreaterThan refl refl
+starting_written kind.Inclusive v h = primitive_written (whole_written v h) GreaterThanOrEqual refl refl
+starting_written kind.Exclusive v h = primitive_written (whole_written v h) GreaterThan refl refl
 
 pub ending_written : (k : VersionBoundKind) (v : Version) → IsWritable v → IsWritten (ending k v)
-ending_written kind.Inclusive v h = signed_written (whole_written v h) LessThanOrEqual refl refl
-ending_written kind.Exclusive v h = signed_written (whole_written v h) LessThan refl refl
+ending_written kind.Inclusive v h = primitive_written (whole_written v h) LessThanOrEqual refl refl
+ending_written kind.Exclusive v h = primitive_written (whole_written v h) LessThan refl refl
 
 module _ (s e : Version) (h : IsWritable s) (k : IsWritable e) where
   both_written : (i j : VersionBoundKind) → AreWritten (starting i s ∷ ending j e ∷ [])

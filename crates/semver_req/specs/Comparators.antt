@@ -1,8 +1,8 @@
 -- Comparators as they are written. Source: node-semver's range grammar (`primitive`, `tilde`, `caret`), with the
--- ignored signs and the leading `v` that npm accepts.
+-- ignored primitive kinds and the leading `v` that npm accepts.
 use Rattle.std.specs.Prelude.{◌≡◌, ◌⊎◌, ℕ, List, [], ◌∷◌, ◌++◌, Bool, ◌&&◌, Option, codes, if◌then◌else◌}
 use Rattle.semver_base.specs.Characters.{equals_sign, letter_v}
-use Rattle.semver_base.specs.Comparators.{Caret, Comparator, Hyphen, Plain, Signed, Tilde, comparator_line, sign_text, signed}
+use Rattle.semver_base.specs.Comparators.{Caret, Comparator, Hyphen, OfPrimitive, Plain, Tilde, comparator_line, of_primitive, primitive_kind_text}
 use Rattle.semver_base.specs.Grammar.{After, Either, Followed, IsText, Mapped, Prefixed, Optional}
 use Rattle.semver_base.specs.Lexical.{IsBlanks, IsByte, IsSomeBlanks}
 use Rattle.semver_base.specs.PartialTable.{all_fit}
@@ -17,23 +17,23 @@ use Rattle.semver_req.specs.declared.common.values.Flavour.{Flavour}
 use Rattle.semver_req.specs.declared.common.values.Flavour.TheVariants.{Npm, Normal, Specifier}
 use Rattle.semver_req.specs.declared.common.values.Primitive.{Primitive}
 
--- ---- signs
+-- ---- primitive kinds
 
-abbrev pub IsSign : List ℕ → PrimitiveKind → Type 0
-IsSign text sign = text ≡ sign_text sign
+abbrev pub IsPrimitiveKind : List ℕ → PrimitiveKind → Type 0
+IsPrimitiveKind text kind = text ≡ primitive_kind_text kind
 
--- the sign is with_equal, which a `=` at the front of text ends, or where there is none the sign alone; rest is what
--- follows
+-- the primitive kind is with_equal, which a `=` at the front of text ends, or where there is none the kind alone; rest
+-- is what follows
 abbrev pub IsMaybeEqual : List ℕ → PrimitiveKind → PrimitiveKind → PrimitiveKind → List ℕ → Type 0
-IsMaybeEqual text alone with_equal sign rest =
-    ((sign ≡ with_equal) × (text ≡ equals_sign ∷ rest))
-    ⊎ ((sign ≡ alone) × (rest ≡ text) × ((more : List ℕ) → text ≡ equals_sign ∷ more → ⊥))
+IsMaybeEqual text alone with_equal kind rest =
+    ((kind ≡ with_equal) × (text ≡ equals_sign ∷ rest))
+    ⊎ ((kind ≡ alone) × (rest ≡ text) × ((more : List ℕ) → text ≡ equals_sign ∷ more → ⊥))
 
--- a sign, blanks and a partial version
+-- a primitive kind, blanks and a partial version
 abbrev pub IsPrimitive : Flavour → List ℕ → PrimitiveKind × Partial → Type 0
-IsPrimitive f = Followed IsSign (After IsBlanks (IsPartial f))
+IsPrimitive f = Followed IsPrimitiveKind (After IsBlanks (IsPartial f))
 
--- a sign and a partial version, unless a number in it is too large
+-- a primitive kind and a partial version, unless a number in it is too large
 abbrev pub sized_primitive : PrimitiveKind × Partial → Measured Primitive
 sized_primitive v = if partial_fits v.1 then Fits (record { kind = v.0; partial = v.1 }) else TooLarge
 
@@ -53,9 +53,9 @@ pub data IsEquals : List ℕ → Unit {0} → Type 0 where
 abbrev pub IsLed : List ℕ → Partial → Type 0
 IsLed = After IsEquals (After IsBlanks (After (Optional (IsByte letter_v)) (After IsBlanks (IsPartial Npm))))
 
--- a sign that says nothing, with one or more blanks after it, or nothing
+-- a primitive kind that says nothing, with one or more blanks after it, or nothing
 abbrev pub IsIgnored : List ℕ → Option (PrimitiveKind × Unit {0}) → Type 0
-IsIgnored = Optional (Followed IsSign IsSomeBlanks)
+IsIgnored = Optional (Followed IsPrimitiveKind IsSomeBlanks)
 
 abbrev pub IsNpmTilde : List ℕ → Comparator → Type 0
 IsNpmTilde = Mapped Tilde (After IsIgnored (After (Either (IsText (codes "~>")) (IsText (codes "~"))) IsLed))
@@ -63,9 +63,9 @@ IsNpmTilde = Mapped Tilde (After IsIgnored (After (Either (IsText (codes "~>")) 
 abbrev pub IsNpmCaret : List ℕ → Comparator → Type 0
 IsNpmCaret = Mapped Caret (After IsIgnored (Prefixed 94 IsLed))
 
--- a sign, blanks and a partial
-abbrev pub IsSigned : Flavour → List ℕ → Comparator → Type 0
-IsSigned f = Mapped signed (IsPrimitive f)
+-- a primitive kind, blanks and a partial
+abbrev pub IsOfPrimitive : Flavour → List ℕ → Comparator → Type 0
+IsOfPrimitive f = Mapped of_primitive (IsPrimitive f)
 
 abbrev pub IsPlain : Flavour → List ℕ → Comparator → Type 0
 IsPlain f = Mapped Plain (IsPartial f)
@@ -75,8 +75,8 @@ abbrev pub IsMarked : Flavour → List ℕ → Comparator → Type 0
 IsMarked f = Either (Mapped Tilde (Prefixed 126 (IsPartial f))) (Mapped Caret (Prefixed 94 (IsPartial f)))
 
 abbrev pub IsComparator : Flavour → List ℕ → Comparator → Type 0
-IsComparator Npm = Either (Either IsNpmTilde IsNpmCaret) (Either (IsSigned Npm) (IsPlain Npm))
-IsComparator Normal = Either (IsMarked Normal) (Either (IsSigned Normal) (IsPlain Normal))
+IsComparator Npm = Either (Either IsNpmTilde IsNpmCaret) (Either (IsOfPrimitive Npm) (IsPlain Npm))
+IsComparator Normal = Either (IsMarked Normal) (Either (IsOfPrimitive Normal) (IsPlain Normal))
 IsComparator Specifier = Either (IsMarked Specifier) (IsPlain Specifier)
 
 -- ---- which fit
@@ -92,7 +92,7 @@ numbers p = component_numbers p.major ++ component_numbers p.minor ++ component_
 abbrev pub comparator_numbers : Comparator → List ℕ
 comparator_numbers (Tilde p) = numbers p
 comparator_numbers (Caret p) = numbers p
-comparator_numbers (Signed sign p) = numbers p
+comparator_numbers (OfPrimitive kind p) = numbers p
 comparator_numbers (Plain p) = numbers p
 comparator_numbers (Hyphen p q) = numbers p ++ numbers q
 

@@ -11,6 +11,6 @@ pub mod Readers
 pub mod Requirement
 pub mod Rereading
 pub mod Settled
-pub mod Strict
+pub mod SpecifierRefusals
 pub mod Tag
 pub mod Written

@@ -67,19 +67,19 @@ pub data IsCutOutcome : Flavour → List ℕ → Outcome → Type 0 where
 -- ---- the strict reader
 
 -- the front of a text that the strict reader takes
-abbrev pub IsStrictRange : List ℕ → Comparator → Type 0
-IsStrictRange = IsComparator Specifier
+abbrev pub IsSpecifierRange : List ℕ → Comparator → Type 0
+IsSpecifierRange = IsComparator Specifier
 
--- the longest front that is a strict range, where it fits, is the whole text or makes it refused; where there is no
--- such front, or something in it doesn't fit, the whole text is a tag or refused
-pub data IsStrictOutcome : List ℕ → Outcome → Type 0 where
-  whole : {text : List ℕ} {c : Comparator} → IsLongest IsStrictRange text c [] → fits c ≡ true
-      → IsStrictOutcome text (Ranges ((c ∷ []) ∷ []))
-  left_over : {text rest : List ℕ} {c : Comparator} → IsLongest IsStrictRange text c rest → fits c ≡ true
-      → 0 < length rest → IsStrictOutcome text Refused
-  no_front : {text : List ℕ} {o : Outcome} → HasNone IsStrictRange text → IsTagOr text o → IsStrictOutcome text o
-  no_fit : {text rest : List ℕ} {c : Comparator} {o : Outcome} → IsLongest IsStrictRange text c rest → fits c ≡ false
-      → IsTagOr text o → IsStrictOutcome text o
+-- the longest front that is a range of a specifier, where it fits, is the whole text or makes it refused; where there is
+-- no such front, or something in it doesn't fit, the whole text is a tag or refused
+pub data IsSpecifierOutcome : List ℕ → Outcome → Type 0 where
+  whole : {text : List ℕ} {c : Comparator} → IsLongest IsSpecifierRange text c [] → fits c ≡ true
+      → IsSpecifierOutcome text (Ranges ((c ∷ []) ∷ []))
+  left_over : {text rest : List ℕ} {c : Comparator} → IsLongest IsSpecifierRange text c rest → fits c ≡ true
+      → 0 < length rest → IsSpecifierOutcome text Refused
+  no_front : {text : List ℕ} {o : Outcome} → HasNone IsSpecifierRange text → IsTagOr text o → IsSpecifierOutcome text o
+  no_fit : {text rest : List ℕ} {c : Comparator} {o : Outcome} → IsLongest IsSpecifierRange text c rest → fits c ≡ false
+      → IsTagOr text o → IsSpecifierOutcome text o
 
 -- ---- the three readers
 
@@ -93,7 +93,7 @@ worked_on Specifier text = text
 abbrev pub IsOutcome : Flavour → List ℕ → Outcome → Type 0
 IsOutcome Npm text o = IsCutOutcome Npm (trim text) o
 IsOutcome Normal text o = IsCutOutcome Normal text o
-IsOutcome Specifier text o = IsStrictOutcome text o
+IsOutcome Specifier text o = IsSpecifierOutcome text o
 
 -- no text has two outcomes
 abbrev pub TextsHaveOneOutcome : Type 0

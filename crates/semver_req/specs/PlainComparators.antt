@@ -1,11 +1,10 @@
 -- Comparators of plain texts, which each grammar reads alike, or each that has them.
 use Rattle.std.specs.Prelude.{◌≡◌, ◌⊎◌, ℕ, List, [], ◌∷◌, ◌++◌}
-use Rattle.semver_base.specs.Comparators.{comparator_line, sign_text}
-use Rattle.semver_base.specs.PartialTable.{IsLineRange, of_few, of_numbers}
-use Rattle.semver_base.specs.PlainTexts.{IsFewNumbers, IsPlainTriple}
+use Rattle.semver_base.specs.Comparators.{comparator_line, primitive_kind_text}
+use Rattle.semver_base.specs.PartialTable.{IsLineRange, of_few}
+use Rattle.semver_base.specs.PlainTexts.{IsFewNumbers}
 use Rattle.semver_base.specs.declared.lexical.values.Measured.TheVariants.{Fits}
 use Rattle.semver_base.specs.declared.plain.FewNumbers.{FewNumbers}
-use Rattle.semver_base.specs.declared.plain.Numbers.{Numbers}
 use Rattle.semver_base.specs.declared.range.VersionRange.{VersionRange}
 use Rattle.semver_req.specs.Readers.{IsReading}
 use Rattle.semver_req.specs.Written.{IsMarkCut, comparator_of}
@@ -15,14 +14,14 @@ use Rattle.semver_req.specs.declared.common.comparator.Written.{Written}
 use Rattle.semver_req.specs.declared.common.values.Flavour.{Flavour}
 use Rattle.semver_req.specs.declared.range_set_or_tag.RangeSetOrTag.{RangeSetOrTag}
 
--- the whole text is a mark and three numbers, of which this is the range
+-- the whole text is `~`, `^` or nothing and one to three numbers, of which this is the range
 pub record IsPlainComparator (text : List ℕ) (range : VersionRange) : Type 0 where
   pub mark : Mark
   pub rest : List ℕ
-  pub numbers : Numbers
+  pub numbers : FewNumbers
   pub cut : IsMarkCut text mark rest
-  pub three : IsPlainTriple rest numbers.major numbers.minor numbers.patch
-  pub line : IsLineRange (comparator_line (comparator_of mark (of_numbers numbers))) range
+  pub few : IsFewNumbers rest numbers
+  pub line : IsLineRange (comparator_line (comparator_of mark (of_few numbers))) range
 
 -- each reader answers the text so
 abbrev pub IsPlainReading : List ℕ → RangeSetOrTag → Type 0
@@ -30,19 +29,11 @@ IsPlainReading text answer = (f : Flavour) → IsReading f text answer
 
 -- ---- comparators of one to three numbers
 
--- the whole text is `~`, `^` or nothing and one to three numbers
-pub record IsFewUnsigned (text : List ℕ) (written : Written) : Type 0 where
-  pub rest : List ℕ
-  pub numbers : FewNumbers
-  pub cut : IsMarkCut text written.mark rest
-  pub few : IsFewNumbers rest numbers
-  pub partial_is : written.partial ≡ Fits (of_few numbers)
-
 -- how a mark is written
 abbrev pub mark_text : Mark → List ℕ
 mark_text mark.Tilde = 126 ∷ []
 mark_text mark.Caret = 94 ∷ []
-mark_text (mark.Sign sign) = sign_text sign
+mark_text (mark.Primitive kind) = primitive_kind_text kind
 mark_text mark.Absent = []
 
 -- the whole text is a mark or none and one to three numbers

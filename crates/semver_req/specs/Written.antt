@@ -1,6 +1,6 @@
 -- Comparators as the readers answer them: a mark, and the partial version after it.
 use Rattle.std.specs.Prelude.{◌≡◌, ℕ, List, ◌∷◌, Option, Some, None, codes}
-use Rattle.semver_base.specs.Comparators.{Caret, Comparator, Plain, Signed, Tilde}
+use Rattle.semver_base.specs.Comparators.{Caret, Comparator, OfPrimitive, Plain, Tilde}
 use Rattle.semver_base.specs.Grammar.{Either, HasNone, IsLongest, IsSeen, IsText}
 use Rattle.semver_base.specs.declared.lexical.values.Measured.{Measured}
 use Rattle.semver_base.specs.declared.partial.Partial.{Partial}
@@ -15,18 +15,18 @@ use Rattle.semver_req.specs.declared.common.values.Flavour.TheVariants.{Npm}
 abbrev pub comparator_of : Mark → Partial → Comparator
 comparator_of mark.Tilde p = Tilde p
 comparator_of mark.Caret p = Caret p
-comparator_of (mark.Sign sign) p = Signed sign p
+comparator_of (mark.Primitive kind) p = OfPrimitive kind p
 comparator_of mark.Absent p = Plain p
 
 -- rest is what follows a `~` or a `^`, or the whole text where it begins with neither
 abbrev pub IsMarkCut : List ℕ → Mark → List ℕ → Type 0
 IsMarkCut text mark.Tilde rest = text ≡ 126 ∷ rest
 IsMarkCut text mark.Caret rest = text ≡ 94 ∷ rest
-IsMarkCut text (mark.Sign sign) rest = ⊥
+IsMarkCut text (mark.Primitive kind) rest = ⊥
 IsMarkCut text mark.Absent rest =
     (rest ≡ text) × ((after : List ℕ) → text ≡ 126 ∷ after → ⊥) × ((after : List ℕ) → text ≡ 94 ∷ after → ⊥)
 
--- a comparator that has no sign in front
+-- a comparator that has no primitive kind in front
 abbrev pub IsUnsigned : Flavour → List ℕ → Comparator → Type 0
 IsUnsigned f = Either (IsMarked f) (IsPlain f)
 
@@ -52,7 +52,7 @@ IsTildes = Either (IsText (codes "~>")) (IsText (codes "~"))
 abbrev pub IsNpmMarkCut : List ℕ → Mark → List ℕ → Type 0
 IsNpmMarkCut text mark.Tilde rest = IsLongest IsTildes text tt rest
 IsNpmMarkCut text mark.Caret rest = IsMarkCut text mark.Caret rest
-IsNpmMarkCut text (mark.Sign sign) rest = ⊥
+IsNpmMarkCut text (mark.Primitive kind) rest = ⊥
 IsNpmMarkCut text mark.Absent rest = IsMarkCut text mark.Absent rest
 
 -- a partial version that was read, with a mark
@@ -69,7 +69,7 @@ ReadsMarked m B text (Some p) = (p.0.mark ≡ m) × IsSeen sized_partial B text 
 abbrev pub ReadsByMark : Mark → Mark → List ℕ → Option (Written × List ℕ) → Type 0
 ReadsByMark mark.Tilde other = ReadsMarked mark.Tilde IsLed
 ReadsByMark mark.Caret other = ReadsMarked mark.Caret IsLed
-ReadsByMark (mark.Sign sign) other = ReadsMarked other (IsPartial Npm)
+ReadsByMark (mark.Primitive kind) other = ReadsMarked other (IsPartial Npm)
 ReadsByMark mark.Absent other = ReadsMarked other (IsPartial Npm)
 
 -- the text is cut at its mark, and what follows is answered so

@@ -1,4 +1,4 @@
-//! Partial versions and signs, read from the front of a text or at a place in it.
+//! Partial versions and primitive kinds, read from the front of a text or at a place in it.
 //!
 //! Each reader takes the longest front that its grammar has, and answers what that front stands for and what follows
 //! it; it answers `None` where no front is in the grammar. A number that is too large is read to its end, so the rest
@@ -9,7 +9,7 @@ ghost use Rattle.std.specs.Str.{IsCharBoundary};
 ghost use Rattle.semver_base.specs.Characters.{ampersand, bar};
 ghost use Rattle.semver_base.specs.Grammar.{IsAfterOne, IsSeen, Optional, Reads, ReadsAs, answer_of};
 ghost use Rattle.semver_base.specs.Lexical.{IsQualifier};
-ghost use Rattle.semver_req.specs.Comparators.{IsMaybeEqual, IsPrimitive, IsSign, primitive_of, sized_primitive};
+ghost use Rattle.semver_req.specs.Comparators.{IsMaybeEqual, IsPrimitive, IsPrimitiveKind, primitive_of, sized_primitive};
 ghost use Rattle.semver_req.specs.Partials.{IsComponent, IsLongestAt, IsPartial, IsPlainPartial, IsSecond, IsThird, ReadsAt, answer_at, assembled, component_of, is_wildcard, second_or_none, sized_component, sized_partial, sized_second, sized_third, strictness_of, third_or_none};
 ghost use Rattle.semver_req.specs.Pieces.{IsOperator, place_answer};
 
@@ -240,7 +240,7 @@ pub fn partial_front(
     }
 }
 
-// The sign `with_equal` where a `=` comes next, else the sign `alone`; and what follows it.
+// The primitive kind `with_equal` where a `=` comes next, else the primitive kind `alone`; and what follows it.
 fn with_equal(rest: &str, alone: PrimitiveKind, with_equal: PrimitiveKind) -> (PrimitiveKind, &str)
     ensures { IsMaybeEqual rest.now alone with_equal result.0 result.1.now }
 {
@@ -250,9 +250,9 @@ fn with_equal(rest: &str, alone: PrimitiveKind, with_equal: PrimitiveKind) -> (P
     }
 }
 
-/// The sign at the front, and what follows it.
-pub fn sign_front(text: &str) -> Option<(PrimitiveKind, &str)>
-    ensures { Reads IsSign text.now (answer_of result) }
+/// The primitive kind at the front, and what follows it.
+pub fn primitive_kind_front(text: &str) -> Option<(PrimitiveKind, &str)>
+    ensures { Reads IsPrimitiveKind text.now (answer_of result) }
 {
     if let Some(rest) = after(text, '>') {
         return Some(with_equal(
@@ -281,7 +281,7 @@ fn primitive_of(kind: PrimitiveKind, partial: Measured<Partial>) -> Measured<Pri
     }
 }
 
-// The sign and the partial version at the front, and what follows them.
+// The primitive kind and the partial version at the front, and what follows them.
 fn primitive_front(
     alloc: Global,
     text: &str,
@@ -290,7 +290,7 @@ fn primitive_front(
     ensures { IfOk result
         (λ r. ReadsAs sized_primitive (IsPrimitive flavour) text.now (answer_of r)) }
 {
-    let Some((kind, rest)) = sign_front(text) else {
+    let Some((kind, rest)) = primitive_kind_front(text) else {
         return Ok(None);
     };
     let Some((partial, rest)) = partial_front(alloc, after_blanks(rest), flavour)? else {
@@ -338,18 +338,18 @@ pub fn qualifier(
     Ok((qualifier, text.len() - rest.len()))
 }
 
-/// The sign at the place in the text, and the place that it reaches.
+/// The primitive kind at the place in the text, and the place that it reaches.
 pub fn primitive_kind(text: &str, place: usize) -> Option<(PrimitiveKind, usize)>
     requires { IsCharBoundary text.now place }
-    ensures value { Reads IsSign (drop place text.now) (answer_at text.now result) }
+    ensures value { Reads IsPrimitiveKind (drop place text.now) (answer_at text.now result) }
     ensures reached { IfSome result (λ p. IsCharBoundary text.now p.1) }
 {
-    let (kind, rest) = sign_front(&text[place..])?;
+    let (kind, rest) = primitive_kind_front(&text[place..])?;
     Some((kind, text.len() - rest.len()))
 }
 
-/// The sign and the partial version at the place in the text, with blanks between them or none, and the place that
-/// they reach (node-semver's range grammar, `primitive`).
+/// The primitive kind and the partial version at the place in the text, with blanks between them or none, and the place
+/// that they reach (node-semver's range grammar, `primitive`).
 ///
 /// The value is `Measured::TooLarge` exactly where a number among the components is larger than
 /// 18446744073709551615. It is an error only where no memory is left.

@@ -56,10 +56,10 @@ fn tag_or(alloc: Global, text: &str, refusal: Refusal) -> Result<RangeSetOrTag, 
 fn plain_set(alloc: Global, text: &str) -> Result<Option<RangeSetOrTag>, AllocError>
     ensures { IfOk result (λ r. IfSome r (IsPlainReading text.now)) }
 {
-    let Some(range) = plain_range(alloc, text) else {
+    let Some(range) = plain_range(text) else {
         return Ok(None);
     };
-    let ranges = CowVec::of_one(alloc, range)?;
+    let ranges = CowVec::of_one(alloc, range.into_range(alloc))?;
     Ok(Some(RangeSetOrTag::RangeSet(VersionRangeSet(ranges))))
 }
 
@@ -84,6 +84,7 @@ impl RangeSetOrTag {
     }
 
     // What the normalized grammar makes of a text, piece by piece.
+    #[inline(never)]
     fn parse_pieces(alloc: Global, text: &str) -> Result<RangeSetOrTag, ParseFailure>
         ensures reading { IfOk result (IsReading Normal text.now) }
         ensures refused { IfErr result
@@ -119,6 +120,7 @@ impl RangeSetOrTag {
     }
 
     // What npm's grammar makes of a text, piece by piece.
+    #[inline(never)]
     fn parse_npm_pieces(alloc: Global, text: &str) -> Result<RangeSetOrTag, ParseFailure>
         ensures reading { IfOk result (IsReading Npm text.now) }
         ensures refused { IfErr result

@@ -121,8 +121,8 @@ impl VersionReq {
         ensures reads { IsReaderAnswer (λ e. e.source) Normal text.now result }
         ensures refusal { IfErr result (λ e. IsCutRefusal Normal text.now e.source) }
     {
-        let inner = RangeSetOrTag::parse(alloc, text)?;
         let raw_text = SmallStackString::from_str(alloc, text)?;
+        let inner = RangeSetOrTag::parse(alloc, text)?;
         Ok(VersionReq::from_raw_text_and_inner(raw_text, inner))
     }
 

@@ -1,15 +1,13 @@
 //! The strict reader, of the requirements in package specifiers.
 
 ghost use Rattle.std.specs.Prelude.{◌≡◌, ◌↔◌, ◌⊎◌, ◌∷◌, [], IfErr, IfOk, IsTrue, None, true};
-ghost use Rattle.semver_base.specs.Grammar.{answer_of};
 ghost use Rattle.semver_base.specs.Lexical.{IsBlanks};
 ghost use Rattle.semver_req.specs.Readers.{IsReaderAnswer, IsReading};
-ghost use Rattle.semver_req.specs.Strict.{IsNoTag, IsStrictRefusal, empty_constraint};
+ghost use Rattle.semver_req.specs.SpecifierRefusals.{IsNoTag, IsSpecifierRefusal, empty_constraint};
 ghost use Rattle.semver_req.specs.Tag.{is_valid_tag};
-ghost use Rattle.semver_req.specs.Written.{IsUnsigned, ReadsComparator};
 
 use crate::common::comparator::{Written, unsigned_front};
-use crate::common::plain::{few_unsigned, plain_range};
+use crate::common::plain::plain_range;
 use crate::common::values::Flavour;
 use crate::range_set_or_tag::RangeSetOrTag;
 use crate::req::VersionReq;
@@ -101,24 +99,13 @@ fn only(alloc: Global, range: VersionRange) -> Result<VersionRangeSet, AllocErro
     Ok(VersionRangeSet(CowVec::of_one(alloc, range)?))
 }
 
-// The comparator at the front, and what follows it; in the short way where the text is one of few numbers.
-#[inline(always)]
-fn front(alloc: Global, text: &str) -> Result<Option<(Written, &str)>, AllocError>
-    ensures { IfOk result
-        (λ r. ReadsComparator (IsUnsigned Flavour.Specifier) text.now (answer_of r)) }
-{
-    match few_unsigned(alloc, text) {
-        Some(written) => Ok(Some((written, ""))),
-        None => unsigned_front(alloc, text, Flavour::Specifier),
-    }
-}
-
 // What the text stands for, by the grammar from its front on.
+#[inline(never)]
 fn read_long(alloc: Global, text: &str) -> Result<RangeSetOrTag, ParseFailure>
     ensures reading { IfOk result (IsReading Flavour.Specifier text.now) }
-    ensures refusal { IfErr result (IsStrictRefusal text.now) }
+    ensures refusal { IfErr result (IsSpecifierRefusal text.now) }
 {
-    let Some((written, rest)) = front(alloc, text)? else {
+    let Some((written, rest)) = unsigned_front(alloc, text, Flavour::Specifier)? else {
         return whole_text_as_tag(alloc, text, Refusal::UnexpectedCharacter);
     };
     let Written { mark, partial } = written;
@@ -137,10 +124,10 @@ fn read_long(alloc: Global, text: &str) -> Result<RangeSetOrTag, ParseFailure>
 #[inline(always)]
 fn read(alloc: Global, text: &str) -> Result<RangeSetOrTag, ParseFailure>
     ensures reading { IfOk result (IsReading Flavour.Specifier text.now) }
-    ensures refusal { IfErr result (IsStrictRefusal text.now) }
+    ensures refusal { IfErr result (IsSpecifierRefusal text.now) }
 {
-    match plain_range(alloc, text) {
-        Some(range) => Ok(RangeSetOrTag::RangeSet(only(alloc, range)?)),
+    match plain_range(text) {
+        Some(range) => Ok(RangeSetOrTag::RangeSet(only(alloc, range.into_range(alloc))?)),
         None => read_long(alloc, text),
     }
 }
@@ -149,7 +136,7 @@ fn read(alloc: Global, text: &str) -> Result<RangeSetOrTag, ParseFailure>
 /// alone, or else a tag.
 ///
 /// Numbers have no leading zeros, a missing component or `x`, `X` or `*` stands for every number, and a pre-release
-/// begins with `-`; the ranges are node-semver's for the same signs. A text that begins with such a range, whose
+/// begins with `-`; the ranges are node-semver's for the same marks. A text that begins with such a range, whose
 /// numbers and bounds fit, is refused with "Unexpected character." where something follows it. Any other text is a tag
 /// where it is a valid one, and is refused otherwise: with "Empty version constraint." where it is blank, with "Number
 /// is too large." or "Version bound is too large." where it begins with a range in which that is so, and else with
@@ -159,13 +146,13 @@ pub fn parse_version_req_from_specifier(
     text: &str,
 ) -> Result<VersionReq, VersionReqSpecifierParseError>
     ensures reads { IsReaderAnswer (λ e. e.source) Flavour.Specifier text.now result }
-    ensures refusal { IfErr result (λ e. IsStrictRefusal text.now e.source) }
+    ensures refusal { IfErr result (λ e. IsSpecifierRefusal text.now e.source) }
     ensures empty { IsBlanks text.now tt
         → IfErr result (λ e. (e.source ≡ None) ⊎ (e.source ≡ empty_constraint)) }
     ensures empty_only { IfErr result (λ e. e.source ≡ empty_constraint → IsBlanks text.now tt) }
 {
-    let inner = read(alloc, text)?;
     let raw_text = SmallStackString::from_str(alloc, text)?;
+    let inner = read(alloc, text)?;
     Ok(VersionReq::from_raw_text_and_inner(raw_text, inner))
 }
 
@@ -177,7 +164,7 @@ impl VersionReq {
         text: &str,
     ) -> Result<VersionReq, VersionReqSpecifierParseError>
         ensures reads { IsReaderAnswer (λ e. e.source) Flavour.Specifier text.now result }
-        ensures refusal { IfErr result (λ e. IsStrictRefusal text.now e.source) }
+        ensures refusal { IfErr result (λ e. IsSpecifierRefusal text.now e.source) }
         ensures empty { IsBlanks text.now tt
             → IfErr result (λ e. (e.source ≡ None) ⊎ (e.source ≡ empty_constraint)) }
         ensures empty_only { IfErr result

@@ -6,7 +6,7 @@ ghost use Rattle.deno_semver.specs.Json.{AreItemsOf, IsStringOf, IsTextOfReq};
 ghost use Rattle.deno_semver.specs.JsonAnswers.{IsJsonRefusal};
 ghost use Rattle.deno_semver.specs.ReqOrder.{req_cmp};
 ghost use Rattle.deno_semver.specs.Stored.{IsSettledReq};
-ghost use Rattle.deno_semver.specs.StoredList.{AreEqualLists, IsJsonOfReqs, IsLooseReq, IsReadList, IsSortedFrom, IsStoredList, StandsForEqualList, reqs_json};
+ghost use Rattle.deno_semver.specs.StoredList.{AreEqualLists, IsJsonOfReqs, IsNpmReq, IsReadList, IsSortedFrom, IsStoredList, StandsForEqualList, reqs_json};
 
 use super::JsonForm;
 use super::error::JsonError;
@@ -30,7 +30,7 @@ fn stored(alloc: Global, reqs: &[PackageReq]) -> Result<Value, AllocError>
 /// as [`PackageReq`]'s JSON says; and of the JSON of what was read again so, equal ones.
 pub fn reqs_to_json(alloc: Global, reqs: &[PackageReq]) -> Result<Value, AllocError>
     ensures value { IfOk result (λ json. view json ≡ reqs_json reqs.now) }
-    ensures read_again { IfOk result (λ json. All IsLooseReq reqs.now
+    ensures read_again { IfOk result (λ json. All IsNpmReq reqs.now
         → IsStoredList reqs.now (view json)) }
     ensures settled { IfOk result (λ json. All IsSettledReq reqs.now
         → StandsForEqualList (view json) reqs.now) }

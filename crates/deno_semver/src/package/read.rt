@@ -21,7 +21,7 @@ use semver_req::specifier::VersionReqSpecifierParseError;
 use std::alloc::{AllocError, Global};
 
 // The requirement that the strict reader reads.
-fn strict(alloc: Global, text: &str) -> Result<VersionReq, PackageReqPartsParseError>
+fn specifier(alloc: Global, text: &str) -> Result<VersionReq, PackageReqPartsParseError>
     ensures read { IfOk result (IsVersionReq Specifier (Some text.now)) }
     ensures refused { IfErr result (IsVersionRefusal Specifier text.now) }
 {
@@ -33,7 +33,7 @@ fn strict(alloc: Global, text: &str) -> Result<VersionReq, PackageReqPartsParseE
 }
 
 // The requirement that npm's reader reads.
-fn loose(alloc: Global, text: &str) -> Result<VersionReq, PackageReqPartsParseError>
+fn npm(alloc: Global, text: &str) -> Result<VersionReq, PackageReqPartsParseError>
     ensures read { IfOk result (IsVersionReq Npm (Some text.now)) }
     ensures refused { IfErr result (IsVersionRefusal Npm text.now) }
 {
@@ -66,9 +66,9 @@ fn version_req(
     ensures refused { IfErr result (IsVersionRefusal flavour text.now) }
 {
     match flavour {
-        Flavour::Npm => loose(alloc, text),
+        Flavour::Npm => npm(alloc, text),
         Flavour::Normal => normalized(alloc, text),
-        Flavour::Specifier => strict(alloc, text),
+        Flavour::Specifier => specifier(alloc, text),
     }
 }
 

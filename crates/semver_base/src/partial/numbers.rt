@@ -1,68 +1,130 @@
-//! The ranges of three numbers, as the table has them for a partial version with no wildcard and nothing behind; and the
-//! partial versions of one to three numbers.
+//! The ranges of one to three numbers, as the table has them for a partial version with nothing behind it, and the partial
+//! versions of such numbers.
+//!
+//! A range is made as numbers first, which are cheap to move, and put together where it stays.
 
 ghost use Rattle.std.specs.Prelude.{◌≡◌, [], IfSome};
 ghost use Rattle.semver_base.specs.Meaning.{release};
-ghost use Rattle.semver_base.specs.PartialTable.{IsLineRange, caret, equal, lower_to_below, of_few, of_numbers, tilde};
+ghost use Rattle.semver_base.specs.PartialTable.{IsLineRange, caret, equal, lower_to_below, lowest, of_few, release_of, release_range, tilde};
 
 use crate::partial::{Partial, XRange};
 use crate::plain::{FewNumbers, Numbers};
-use crate::range::{RangeBound, VersionRange};
+use crate::range::{RangeBound, VersionBoundKind, VersionRange};
 use crate::string::CowVec;
 use crate::version::release;
 use std::alloc::Global;
 
-impl Numbers {
-    // From these numbers to below others.
+/// A range from one release, which it holds, to another.
+#[derive(Clone, Copy, Debug)]
+pub struct ReleaseRange {
+    pub start: Numbers,
+    pub end: Numbers,
+    pub end_kind: VersionBoundKind,
+}
+
+impl ReleaseRange {
+    /// The range itself.
     #[inline(always)]
-    fn to_below(self, alloc: Global, major: u64, minor: u64, patch: u64) -> VersionRange
-        ensures { result ≡ (lower_to_below (of_numbers self) (release major minor patch) []).range }
+    pub fn into_range(self, alloc: Global) -> VersionRange
+        ensures { result ≡ release_range self }
     {
+        let ReleaseRange {
+            start,
+            end,
+            end_kind,
+        } = self;
         VersionRange {
-            start: RangeBound::inclusive(release(alloc, self.major, self.minor, self.patch)),
-            end: RangeBound::exclusive(release(alloc, major, minor, patch)),
-        }
-    }
-
-    /// The range of `~` and these numbers, as [`Partial::as_tilde_version_range`] has it; none where a bound is too large.
-    #[inline(always)]
-    pub fn tilde_range(self, alloc: Global) -> Option<VersionRange>
-        ensures { IfSome result (IsLineRange (tilde (of_numbers self))) }
-    {
-        let next = self.minor.checked_add(1)?;
-        Some(self.to_below(alloc, self.major, next, 0))
-    }
-
-    /// The range of `^` and these numbers, as [`Partial::as_caret_version_range`] has it; none where a bound is too large.
-    #[inline(always)]
-    pub fn caret_range(self, alloc: Global) -> Option<VersionRange>
-        ensures { IfSome result (IsLineRange (caret (of_numbers self))) }
-    {
-        if self.major > 0 {
-            let next = self.major.checked_add(1)?;
-            return Some(self.to_below(alloc, next, 0, 0));
-        }
-        if self.minor > 0 {
-            let next = self.minor.checked_add(1)?;
-            return Some(self.to_below(alloc, 0, next, 0));
-        }
-        let next = self.patch.checked_add(1)?;
-        Some(self.to_below(alloc, 0, 0, next))
-    }
-
-    /// The range of these numbers alone, as [`Partial::as_equal_range`] has it.
-    #[inline(always)]
-    pub fn equal_range(self, alloc: Global) -> VersionRange
-        ensures { IsLineRange (equal (of_numbers self)) result }
-    {
-        VersionRange {
-            start: RangeBound::inclusive(release(alloc, self.major, self.minor, self.patch)),
-            end: RangeBound::inclusive(release(alloc, self.major, self.minor, self.patch)),
+            start: RangeBound::inclusive(release(alloc, start.major, start.minor, start.patch)),
+            end: RangeBound::version(end_kind, release(alloc, end.major, end.minor, end.patch)),
         }
     }
 }
 
 impl FewNumbers {
+    // Three numbers, zeros for those that are missing.
+    #[inline(always)]
+    fn lowest(self) -> Numbers
+        ensures { release_of result ≡ lowest (of_few self) }
+    {
+        match self {
+            FewNumbers::One(major) => Numbers {
+                major,
+                minor: 0,
+                patch: 0,
+            },
+            FewNumbers::Two(major, minor) => Numbers {
+                major,
+                minor,
+                patch: 0,
+            },
+            FewNumbers::Three(numbers) => numbers,
+        }
+    }
+
+    // From these numbers to below others.
+    #[inline(always)]
+    fn to_below(self, major: u64, minor: u64, patch: u64) -> ReleaseRange
+        ensures { release_range result
+            ≡ (lower_to_below (of_few self) (release major minor patch) []).range }
+    {
+        ReleaseRange {
+            start: self.lowest(),
+            end: Numbers {
+                major,
+                minor,
+                patch,
+            },
+            end_kind: VersionBoundKind::Exclusive,
+        }
+    }
+
+    /// The range of `~` and these numbers, as [`Partial::as_tilde_version_range`] has it; none where a bound is too large.
+    #[inline(always)]
+    pub fn tilde_range(self) -> Option<ReleaseRange>
+        ensures { IfSome result (λ range. IsLineRange (tilde (of_few self)) (release_range range)) }
+    {
+        match self {
+            FewNumbers::One(major) => Some(self.to_below(major.checked_add(1)?, 0, 0)),
+            FewNumbers::Two(major, minor) => Some(self.to_below(major, minor.checked_add(1)?, 0)),
+            FewNumbers::Three(n) => Some(self.to_below(n.major, n.minor.checked_add(1)?, 0)),
+        }
+    }
+
+    /// The range of `^` and these numbers, as [`Partial::as_caret_version_range`] has it; none where a bound is too large.
+    #[inline(always)]
+    pub fn caret_range(self) -> Option<ReleaseRange>
+        ensures { IfSome result (λ range. IsLineRange (caret (of_few self)) (release_range range)) }
+    {
+        match self {
+            FewNumbers::One(major) => Some(self.to_below(major.checked_add(1)?, 0, 0)),
+            FewNumbers::Two(0, minor) => Some(self.to_below(0, minor.checked_add(1)?, 0)),
+            FewNumbers::Two(major, _) => Some(self.to_below(major.checked_add(1)?, 0, 0)),
+            FewNumbers::Three(n) if n.major > 0 => {
+                Some(self.to_below(n.major.checked_add(1)?, 0, 0))
+            }
+            FewNumbers::Three(n) if n.minor > 0 => {
+                Some(self.to_below(0, n.minor.checked_add(1)?, 0))
+            }
+            FewNumbers::Three(n) => Some(self.to_below(0, 0, n.patch.checked_add(1)?)),
+        }
+    }
+
+    /// The range of these numbers alone, as [`Partial::as_equal_range`] has it; none where a bound is too large.
+    #[inline(always)]
+    pub fn equal_range(self) -> Option<ReleaseRange>
+        ensures { IfSome result (λ range. IsLineRange (equal (of_few self)) (release_range range)) }
+    {
+        match self {
+            FewNumbers::One(major) => Some(self.to_below(major.checked_add(1)?, 0, 0)),
+            FewNumbers::Two(major, minor) => Some(self.to_below(major, minor.checked_add(1)?, 0)),
+            FewNumbers::Three(numbers) => Some(ReleaseRange {
+                start: numbers,
+                end: numbers,
+                end_kind: VersionBoundKind::Inclusive,
+            }),
+        }
+    }
+
     /// The partial version of these numbers.
     #[inline(always)]
     pub fn into_partial(self, alloc: Global) -> Partial

@@ -28,9 +28,9 @@ enum Form {
     Tilde,
     // `^` and the start.
     Caret,
-    // The end with its sign.
+    // The end with its primitive kind.
     End,
-    // Both bounds with their signs.
+    // Both bounds with their primitive kinds.
     Both,
 }
 

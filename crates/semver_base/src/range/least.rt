@@ -8,7 +8,7 @@
 ghost use Rattle.std.specs.Prelude.{◌≡◌, ◌∷◌, ◌++◌, ◌&&◌, [], IfOk, IfSome};
 ghost use Rattle.std.specs.List.{list_any};
 ghost use Rattle.semver_base.specs.LeastVersion.{HasNoBuild, IsLeast, both_mean, both_mean_with, sets_mean, sets_mean_with};
-ghost use Rattle.semver_base.specs.LeastSteps.{kept_if, least_admitted, least_free, least_pre, least_release, least_version, lesser, next_release, numbers_cmp, pre_above, pre_from, with_pre, zero_of, zero_part};
+ghost use Rattle.semver_base.specs.LeastSteps.{kept_if, least_admitted, least_free, least_pre, least_release, least_version, lesser, next_release, numbers_cmp, pre_above, pre_from, with_pre, zero_identifier, zero_of};
 ghost use Rattle.semver_base.specs.Meaning.{range_means, range_means_with, release, set_means, set_means_with};
 ghost use Rattle.semver_base.specs.NormalText.{AreWritableRanges, IsWritableRange};
 ghost use Rattle.semver_base.specs.VersionText.{ReadsBack};
@@ -90,7 +90,7 @@ fn cmp_numbers(a: &Version, b: &Version) -> Ordering
 
 // The least pre-release of the version's numbers.
 fn zero_pre(alloc: Global, version: &Version) -> Result<Version, AllocError>
-    ensures { IfOk result (λ v. v ≡ with_pre version.now (zero_part ∷ [])) }
+    ensures { IfOk result (λ v. v ≡ with_pre version.now (zero_identifier ∷ [])) }
 {
     let mut pre = CowVec::new(alloc);
     pre.push(VersionPreOrBuild::from_static(alloc, "0")?)?;

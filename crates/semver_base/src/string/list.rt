@@ -28,16 +28,19 @@ pub trait CowItem {
 #[derive(Drop)]
 pub struct CowVec<T> {
     alloc: Global,
+    // None of an empty list, so that whether it is empty is known without following the pointer.
     items: Option<Rc<Vec<T>>>,
 }
 
 impl<T> Model for CowVec<T> {
     ghost use Rattle.std.specs.Prelude.{List};
-    ghost use Rattle.semver_base.specs.Texts.{shared_items};
+    ghost use Rattle.semver_base.specs.Texts.{shared_items, IsFilledIfShared};
 
     ghost Value = { List T };
 
     ghost view = { λ v. shared_items v.items };
+
+    ghost invariant = { λ v. IsFilledIfShared v.items };
 }
 
 impl<T> CowVec<T> {
@@ -72,7 +75,7 @@ impl<T> CowVec<T> {
     pub fn is_empty(&self) -> bool
         ensures { IsTrue result ↔ (self.now ≡ []) }
     {
-        self.as_slice().is_empty()
+        self.items.is_none()
     }
 
     /// The item at `index`, if there is one.
@@ -152,6 +155,20 @@ impl<T: CowItem + Drop> CowVec<T> {
     {
         let mut items = Vec::with_capacity(alloc, 1)?;
         items.push_reserved(item);
+        Ok(CowVec {
+            alloc,
+            items: Some(Rc::new(alloc, items)?),
+        })
+    }
+
+    // The list of these items, which stay in their memory.
+    #[inline(always)]
+    pub(crate) fn from_vec(alloc: Global, items: Vec<T>) -> Result<Self, AllocError>
+        ensures { IfOk result (λ v. v ≡ items.items) }
+    {
+        if items.is_empty() {
+            return Ok(CowVec::new(alloc));
+        }
         Ok(CowVec {
             alloc,
             items: Some(Rc::new(alloc, items)?),

@@ -11,7 +11,7 @@ ghost use Rattle.semver_req.specs.declared.common.values.Flavour.TheVariants.{No
 
 use crate::common::separators::after_some_blanks;
 use crate::common::values::{Flavour, PrimitiveKind};
-use crate::common::{partial_front, plain_partial, sign_front};
+use crate::common::{partial_front, plain_partial, primitive_kind_front};
 use semver_base::failure::ParseFailure;
 use semver_base::lexical::values::Measured;
 use semver_base::lexical::{after, after_blanks};
@@ -26,8 +26,8 @@ pub enum Mark {
     Tilde,
     /// `^`
     Caret,
-    /// One of the five signs.
-    Sign(PrimitiveKind),
+    /// `<`, `<=`, `>`, `>=` or `=`
+    Primitive(PrimitiveKind),
     /// Nothing, which is the range of the partial version itself.
     Absent,
 }
@@ -49,7 +49,7 @@ impl Mark {
         match self {
             Mark::Tilde => partial.as_tilde_version_range(alloc),
             Mark::Caret => partial.as_caret_version_range(alloc),
-            Mark::Sign(sign) => sign.range(alloc, partial),
+            Mark::Primitive(kind) => kind.range(alloc, partial),
             Mark::Absent => partial.as_equal_range(alloc),
         }
     }
@@ -77,8 +77,8 @@ pub(crate) fn split_mark(text: &str) -> (Mark, &str)
     (Mark::Absent, text)
 }
 
-/// The comparator without a sign at the front, and what follows it: `~`, `^` or nothing, and a partial version
-/// (node-semver's range grammar, `simple` without `primitive`). It is an error only where no memory is left.
+/// The comparator without a primitive kind at the front, and what follows it: `~`, `^` or nothing, and a partial
+/// version (node-semver's range grammar, `simple` without `primitive`). It is an error only where no memory is left.
 #[inline(always)]
 pub fn unsigned_front(
     alloc: Global,
@@ -99,12 +99,12 @@ pub fn unsigned_front(
 pub fn normal_front(alloc: Global, text: &str) -> Result<Option<(Written, &str)>, AllocError>
     ensures { IfOk result (λ r. ReadsComparator (IsComparator Normal) text.now (answer_of r)) }
 {
-    let Some((sign, rest)) = sign_front(text) else {
+    let Some((kind, rest)) = primitive_kind_front(text) else {
         return unsigned_front(alloc, text, Flavour::Normal);
     };
     match partial_front(alloc, after_blanks(rest), Flavour::Normal)? {
         Some((partial, rest)) => {
-            let mark = Mark::Sign(sign);
+            let mark = Mark::Primitive(kind);
             Ok(Some((Written { mark, partial }, rest)))
         }
         None => Ok(None),
@@ -169,23 +169,23 @@ fn npm_by_mark(
     let (mark, rest) = split_npm_mark(text);
     match mark {
         Mark::Tilde | Mark::Caret => Ok(with_mark(mark, led_partial(alloc, rest)?)),
-        Mark::Sign(_) | Mark::Absent => {
+        Mark::Primitive(_) | Mark::Absent => {
             Ok(with_mark(other, partial_front(alloc, rest, Flavour::Npm)?))
         }
     }
 }
 
 /// The npm comparator at the front, and what follows it (node-semver's range grammar, `simple`, with `~>`, with what npm
-/// ignores before a partial version, and with a sign that is ignored before a `~` or a `^`). It is an error only where no
-/// memory is left.
+/// ignores before a partial version, and with a primitive kind that is ignored before a `~` or a `^`). It is an error
+/// only where no memory is left.
 #[inline(always)]
 pub fn npm_front(alloc: Global, text: &str) -> Result<Option<(Written, &str)>, AllocError>
     ensures { IfOk result (λ r. ReadsComparator (IsComparator Npm) text.now (answer_of r)) }
 {
-    let Some((sign, rest)) = sign_front(text) else {
+    let Some((kind, rest)) = primitive_kind_front(text) else {
         return npm_by_mark(alloc, text, Mark::Absent);
     };
-    let mark = Mark::Sign(sign);
+    let mark = Mark::Primitive(kind);
     match after_some_blanks(rest) {
         Some(start) => npm_by_mark(alloc, start, mark),
         None => Ok(with_mark(mark, partial_front(alloc, rest, Flavour::Npm)?)),

@@ -1,56 +1,44 @@
-//! Comparators of plain texts, which are a mark and three numbers, or fewer, and nothing else.
+//! Comparators of plain texts, which are a mark and one to three numbers, and nothing else.
 //!
 //! Most comparators are such texts. What is read so is a comparator by the grammar, and a text stands for one thing alone;
 //! so each reader asks here first, and takes the long way where it is told nothing.
 
 ghost use Rattle.std.specs.Prelude.{◌≡◌, ◌++◌, ◌∷◌, IfSome};
 ghost use Rattle.semver_base.specs.Comparators.{comparator_line};
-ghost use Rattle.semver_base.specs.PartialTable.{IsLineRange, of_numbers};
-ghost use Rattle.semver_req.specs.PlainComparators.{IsFewAlone, IsFewMarked, IsFewPair, IsFewUnsigned, IsPlainComparator, IsUnclosed, mark_text};
+ghost use Rattle.semver_base.specs.PartialTable.{IsLineRange, of_few, release_range};
+ghost use Rattle.semver_req.specs.PlainComparators.{IsFewAlone, IsFewMarked, IsFewPair, IsPlainComparator, IsUnclosed, mark_text};
 ghost use Rattle.semver_req.specs.Written.{comparator_of};
 
 use crate::common::comparator::{Mark, Written, split_mark};
 use crate::common::values::PrimitiveKind;
 use semver_base::lexical::values::Measured;
-use semver_base::plain::{Numbers, few_numbers, plain_numbers};
-use semver_base::range::VersionRange;
+use semver_base::partial::ReleaseRange;
+use semver_base::plain::{FewNumbers, few_numbers};
 use std::alloc::Global;
 
-// The range of the mark and three numbers, where its bounds fit; none of a sign.
+// The range of the mark and the numbers, where its bounds fit; none of a primitive kind.
 #[inline(always)]
-fn numbers_range(alloc: Global, mark: Mark, numbers: Numbers) -> Option<VersionRange>
-    ensures { IfSome result
-        (IsLineRange (comparator_line (comparator_of mark (of_numbers numbers)))) }
+fn numbers_range(mark: Mark, numbers: FewNumbers) -> Option<ReleaseRange>
+    ensures { IfSome result (λ range. IsLineRange
+        (comparator_line (comparator_of mark (of_few numbers))) (release_range range)) }
 {
     match mark {
-        Mark::Tilde => numbers.tilde_range(alloc),
-        Mark::Caret => numbers.caret_range(alloc),
-        Mark::Absent => Some(numbers.equal_range(alloc)),
-        Mark::Sign(_) => None,
+        Mark::Tilde => numbers.tilde_range(),
+        Mark::Caret => numbers.caret_range(),
+        Mark::Absent => numbers.equal_range(),
+        Mark::Primitive(_) => None,
     }
 }
 
-/// The range of `~`, `^` or nothing before three numbers, where that is the whole text and its bounds fit. Where it
+/// The range of `~`, `^` or nothing before one to three numbers, where that is the whole text and its bounds fit. Where it
 /// answers `None` nothing is known of the text.
 #[inline(always)]
-pub fn plain_range(alloc: Global, text: &str) -> Option<VersionRange>
-    ensures { IfSome result (IsPlainComparator text.now) }
-{
-    let (mark, rest) = split_mark(text);
-    let numbers = plain_numbers(rest)?;
-    numbers_range(alloc, mark, numbers)
-}
-
-/// The comparator that is `~`, `^` or nothing before one to three numbers, where that is the whole text. Where it answers
-/// `None` nothing is known of the text.
-#[inline(always)]
-pub fn few_unsigned(alloc: Global, text: &str) -> Option<Written>
-    ensures { IfSome result (IsFewUnsigned text.now) }
+pub fn plain_range(text: &str) -> Option<ReleaseRange>
+    ensures { IfSome result (λ range. IsPlainComparator text.now (release_range range)) }
 {
     let (mark, rest) = split_mark(text);
     let numbers = few_numbers(rest.as_bytes())?;
-    let partial = Measured::Fits(numbers.into_partial(alloc));
-    Some(Written { mark, partial })
+    numbers_range(mark, numbers)
 }
 
 // The mark at the front, and what follows it.
@@ -61,11 +49,11 @@ fn after_any_mark(text: &[u8]) -> (Mark, &[u8])
     match text {
         [b'~', rest @ ..] => (Mark::Tilde, rest),
         [b'^', rest @ ..] => (Mark::Caret, rest),
-        [b'>', b'=', rest @ ..] => (Mark::Sign(PrimitiveKind::GreaterThanOrEqual), rest),
-        [b'>', rest @ ..] => (Mark::Sign(PrimitiveKind::GreaterThan), rest),
-        [b'<', b'=', rest @ ..] => (Mark::Sign(PrimitiveKind::LessThanOrEqual), rest),
-        [b'<', rest @ ..] => (Mark::Sign(PrimitiveKind::LessThan), rest),
-        [b'=', rest @ ..] => (Mark::Sign(PrimitiveKind::Equal), rest),
+        [b'>', b'=', rest @ ..] => (Mark::Primitive(PrimitiveKind::GreaterThanOrEqual), rest),
+        [b'>', rest @ ..] => (Mark::Primitive(PrimitiveKind::GreaterThan), rest),
+        [b'<', b'=', rest @ ..] => (Mark::Primitive(PrimitiveKind::LessThanOrEqual), rest),
+        [b'<', rest @ ..] => (Mark::Primitive(PrimitiveKind::LessThan), rest),
+        [b'=', rest @ ..] => (Mark::Primitive(PrimitiveKind::Equal), rest),
         _ => (Mark::Absent, text),
     }
 }

@@ -1,7 +1,7 @@
-//! The three grammars of requirements, and the signs of comparators.
+//! The three grammars of requirements, and the primitive kinds of comparators.
 
 ghost use Rattle.std.specs.Prelude.{◌≡◌, IfErr, IfOk, OnOk, true};
-ghost use Rattle.semver_base.specs.Comparators.{signed_line};
+ghost use Rattle.semver_base.specs.Comparators.{primitive_line};
 ghost use Rattle.semver_base.specs.PartialTable.{IsBoundRefusal, all_fit};
 ghost use Rattle.semver_req.specs.Partials.{strictness_of};
 
@@ -37,7 +37,7 @@ impl Flavour {
     }
 }
 
-/// A sign and the partial version after it.
+/// A primitive kind and the partial version after it.
 #[derive(Debug, Drop)]
 pub struct Primitive {
     pub kind: PrimitiveKind,
@@ -45,7 +45,7 @@ pub struct Primitive {
 }
 
 impl Primitive {
-    /// The same sign and partial version again. It is an error only where no memory is left.
+    /// The same primitive kind and partial version again. It is an error only where no memory is left.
     pub fn copy(&self) -> Result<Self, AllocError>
         ensures { IfOk result (λ primitive. primitive ≡ self.now) }
     {
@@ -60,9 +60,11 @@ impl Primitive {
     /// The refusal "Version bound is too large." comes exactly where a number that the range raises is past
     /// 18446744073709551615; any other failure is want of memory.
     pub fn into_version_range(self, alloc: Global) -> Result<VersionRange, ParseFailure>
-        ensures range { IfOk result (λ range. range ≡ (signed_line self.kind self.partial).range) }
-        ensures fits { OnOk result (all_fit (signed_line self.kind self.partial).sums ≡ true) }
-        ensures refused { IfErr result (IsBoundRefusal (signed_line self.kind self.partial).sums) }
+        ensures range { IfOk result
+            (λ range. range ≡ (primitive_line self.kind self.partial).range) }
+        ensures fits { OnOk result (all_fit (primitive_line self.kind self.partial).sums ≡ true) }
+        ensures refused { IfErr result
+            (IsBoundRefusal (primitive_line self.kind self.partial).sums) }
     {
         self.kind.range(alloc, &self.partial)
     }

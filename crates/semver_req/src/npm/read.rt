@@ -66,7 +66,7 @@ impl From<NpmVersionReqParseError> for ParseFailure {
 }
 
 /// The requirement that a text is in npm's grammar of ranges (node-semver, "Range Grammar", with the separators `&&` and
-/// `,` and the ignored signs that npm accepts): alternatives with `||` between, or a tag.
+/// `,` and the ignored primitive kinds that npm accepts): alternatives with `||` between, or a tag.
 ///
 /// The text is trimmed, and the requirement keeps the trimmed text. A text without `||` that is outside the grammar, or
 /// has a number or a bound past 18446744073709551615, is a tag where it is a valid one; else it is refused, with
@@ -80,8 +80,8 @@ pub fn parse_npm_version_req(
     ensures reads { IsReaderAnswer (λ e. e.source) Npm text.now result }
     ensures refusal { IfErr result (λ e. IsCutRefusal Npm (trim text.now) e.source) }
 {
-    let inner = RangeSetOrTag::parse_npm(alloc, text)?;
     let raw_text = SmallStackString::from_str(alloc, text.trim())?;
+    let inner = RangeSetOrTag::parse_npm(alloc, text)?;
     Ok(VersionReq::from_raw_text_and_inner(raw_text, inner))
 }
 

@@ -5,8 +5,8 @@ use Rattle.deno_semver.specs.Stored.{IsKeptReq}
 use Rattle.callers.proofs.Locking.{answered}
 use Rattle.callers.proofs.lockfile.locked.Goals as goal
 
-pub returns-clause-loose : goal.returns-clause-loose
-returns-clause-loose c text u h =
+pub returns-clause-npm : goal.returns-clause-npm
+returns-clause-npm c text u h =
     let s = c.in_ok-entry.ensures.read_again text u h in
     answered (IsKeptReq c.args.req.now) s.again c.from_json.result (c.from_json.ensures.answer s.again s.stands_for) s.is_kept
 

@@ -3,8 +3,8 @@ use Rattle.deno_semver.specs.StoredList.{IsSortedFrom}
 use Rattle.callers.proofs.Locking.{locked_of, locks_more}
 use Rattle.callers.proofs.lockfile.locked_list.Goals as goal
 
-pub returns-clause-loose : goal.returns-clause-loose
-returns-clause-loose c h =
+pub returns-clause-npm : goal.returns-clause-npm
+returns-clause-npm c h =
     let reqs = c.args.reqs.now in
     let s = c.in_ok-entry.ensures.read_again h in
     locks_more (λ read. IsSortedFrom s.again read.items) (λ read. IsLockedList reqs read.items) (λ read sorted. locked_of reqs s.again read.items s.are_kept sorted) c.reqs_from_json.result (c.reqs_from_json.ensures.answer s.again s.stands_for)

@@ -4,4 +4,4 @@ use Rattle.semver_base.proofs.Qualifiers.{build_prefixed}
 use Rattle.semver_base.proofs.lexical.build.Goals as goal
 
 pub returns-in-Some : goal.returns-in-Some
-returns-in-Some c = IfOk-weaker c.parts.result _ _ (λ r h. build_prefixed c.args.text.now c.in-Some.rest.now (answer_of r) c.in-Some.ensures h) c.parts.ensures
+returns-in-Some c = IfOk-weaker c.identifiers.result _ _ (λ r h. build_prefixed c.args.text.now c.in-Some.rest.now (answer_of r) c.in-Some.ensures h) c.identifiers.ensures

@@ -1,6 +1,6 @@
 use Rattle.std.proofs.Common.{Some, refl}
 use Rattle.semver_base.proofs.Fronts.{optional_some}
-use Rattle.semver_base.proofs.Parts.{byte_longest, byte_some}
+use Rattle.semver_base.proofs.Identifiers.{byte_longest, byte_some}
 use Rattle.semver_base.proofs.version.after_optional_equals.Goals as goal
 
 pub returns-in-Some : goal.returns-in-Some

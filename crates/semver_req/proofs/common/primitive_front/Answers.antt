@@ -1,5 +1,5 @@
 use Rattle.semver_base.proofs.Fronts.{joined_none_first}
-use Rattle.semver_req.proofs.Signs.{primitive_none, primitive_read}
+use Rattle.semver_req.proofs.PrimitiveKinds.{primitive_none, primitive_read}
 use Rattle.semver_req.proofs.common.primitive_front.Goals as goal
 
 pub returns-in_default : goal.returns-in_default

@@ -1,9 +1,9 @@
 use Rattle.std.proofs.Common.{refl, sym, ap}
 use Rattle.std.proofs.lemmas.Result.{IfErr-weaker, IfOk-weaker}
-use Rattle.semver_req.specs.Strict.{memory_wanting}
+use Rattle.semver_req.specs.SpecifierRefusals.{memory_wanting}
 use Rattle.semver_req.specs.declared.range_set_or_tag.RangeSetOrTag.TheVariants as inner
 use Rattle.semver_req.proofs.Fitting.{fitting, too_large}
-use Rattle.semver_req.proofs.StrictRanges.{bound_reading, bound_refusal, follows_refusal, memory_err, none_reading, none_refusal, number_reading, number_refusal, whole_reading}
+use Rattle.semver_req.proofs.SpecifierRanges.{bound_reading, bound_refusal, follows_refusal, memory_err, none_reading, none_refusal, number_reading, number_refusal, whole_reading}
 use Rattle.semver_req.proofs.specifier.read_long.Goals as goal
 
 pub returns-in_err-written-clause-refusal : goal.returns-in_err-written-clause-refusal

@@ -1,6 +1,6 @@
 use Rattle.std.proofs.Common.{refl, sym}
-use Rattle.semver_req.specs.Strict.{no_memory_left}
-use Rattle.semver_req.proofs.StrictRanges.{blank_of, memory_err, no_tag_of}
+use Rattle.semver_req.specs.SpecifierRefusals.{no_memory_left}
+use Rattle.semver_req.proofs.SpecifierRanges.{blank_of, memory_err, no_tag_of}
 use Rattle.semver_req.proofs.specifier.whole_text_as_tag.Goals as goal
 
 pub returns-in_err-from_str-clause-no_tag : goal.returns-in_err-from_str-clause-no_tag

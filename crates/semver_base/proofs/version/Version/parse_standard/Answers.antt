@@ -1,6 +1,11 @@
+use Rattle.std.proofs.Common.{◌≡◌, [], List, ℕ, arith}
+use Rattle.std.proofs.lemmas.Bool.Decides.{nat_tests}
+use Rattle.std.proofs.lemmas.List.{nil_from_length}
+use Rattle.semver_base.specs.VersionReaderSteps.{IsPlainVersion}
+use Rattle.semver_base.specs.declared.version.Version.{Version}
+use Rattle.semver_base.proofs.PlainTexts.{plain_version, qualified_version}
 use Rattle.semver_base.specs.declared.version.VersionParseError.{VersionParseError}
 use Rattle.semver_base.proofs.ReadVersions.{read_back}
-use Rattle.semver_base.proofs.PlainTexts.{plain_trimmed, plain_version}
 use Rattle.semver_base.proofs.VersionReading.{read_answer, read_outcome, refused_answer}
 use Rattle.semver_base.proofs.version.Version.parse_standard.Goals as goal
 
@@ -16,11 +21,37 @@ returns-in-Ok-clause-answer c = rw c.trim.ensures.trim at (read_answer (λ (erro
 pub returns-in-Err-clause-answer : goal.returns-in-Err-clause-answer
 returns-in-Err-clause-answer c = rw c.trim.ensures.trim at (refused_answer (λ (error : VersionParseError). error.source) c.trim.result.now (record { source = c.in-Err.source }) c.in-Err.ensures.refused)
 
-pub returns-in-Some-clause-read : goal.returns-in-Some-clause-read
-returns-in-Some-clause-read c = rw (plain_trimmed c.in-Some.ensures, c.release.ensures) (read_outcome (plain_version c.in-Some.ensures))
+-- three numbers alone
+pub returns-then-is_empty-clause-read : goal.returns-then-is_empty-clause-read
+returns-then-is_empty-clause-read c =
+    let nil : c.in-Some.rest.now ≡ [] = nil_from_length c.in-Some.rest.now (grind (arith, nat_tests)) in
+    let plain = plain_version {numbers = c.in-Some.numbers} (rw nil at c.in-Some.ensures) in
+    rw (plain.trimmed, c.release.ensures) (read_outcome plain.version)
 
-pub returns-in-Some-clause-reads_back : goal.returns-in-Some-clause-reads_back
-returns-in-Some-clause-reads_back c = read_back c.args.text.now c.release.result (rw c.release.ensures (read_outcome (plain_version c.in-Some.ensures)))
+pub returns-then-is_empty-clause-reads_back : goal.returns-then-is_empty-clause-reads_back
+returns-then-is_empty-clause-reads_back c =
+    let nil : c.in-Some.rest.now ≡ [] = nil_from_length c.in-Some.rest.now (grind (arith, nat_tests)) in
+    let plain = plain_version {numbers = c.in-Some.numbers} (rw nil at c.in-Some.ensures) in
+    read_back c.args.text.now c.release.result (rw c.release.ensures (read_outcome plain.version))
 
-pub returns-in-Some-clause-answer : goal.returns-in-Some-clause-answer
-returns-in-Some-clause-answer c = rw (plain_trimmed c.in-Some.ensures) (read_answer (λ (error : VersionParseError). error.source) c.args.text.now c.release.result (rw c.release.ensures (plain_version c.in-Some.ensures)))
+pub returns-then-is_empty-clause-answer : goal.returns-then-is_empty-clause-answer
+returns-then-is_empty-clause-answer c =
+    let nil : c.in-Some.rest.now ≡ [] = nil_from_length c.in-Some.rest.now (grind (arith, nat_tests)) in
+    let plain = plain_version {numbers = c.in-Some.numbers} (rw nil at c.in-Some.ensures) in
+    rw plain.trimmed (read_answer (λ (error : VersionParseError). error.source) c.args.text.now c.release.result (rw c.release.ensures plain.version))
+
+-- three numbers and a qualifier
+pub returns-in-Some-plain-clause-read : goal.returns-in-Some-plain-clause-read
+returns-in-Some-plain-clause-read c =
+    let plain = qualified_version c.in-Some.ensures (rw c.in-Some-plain.is at c.in_ok-plain.ensures) in
+    rw plain.trimmed (read_outcome plain.version)
+
+pub returns-in-Some-plain-clause-reads_back : goal.returns-in-Some-plain-clause-reads_back
+returns-in-Some-plain-clause-reads_back c =
+    let plain = qualified_version c.in-Some.ensures (rw c.in-Some-plain.is at c.in_ok-plain.ensures) in
+    read_back c.args.text.now c.in-Some-plain.version (read_outcome plain.version)
+
+pub returns-in-Some-plain-clause-answer : goal.returns-in-Some-plain-clause-answer
+returns-in-Some-plain-clause-answer c =
+    let plain = qualified_version c.in-Some.ensures (rw c.in-Some-plain.is at c.in_ok-plain.ensures) in
+    rw plain.trimmed (read_answer (λ (error : VersionParseError). error.source) c.args.text.now c.in-Some-plain.version plain.version)

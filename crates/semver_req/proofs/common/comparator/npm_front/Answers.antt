@@ -17,4 +17,4 @@ pub returns-in_ok-partial_front-in-None : goal.returns-in_ok-partial_front-in-No
 returns-in_ok-partial_front-in-None c =
     let read = answer_of c.in_ok-partial_front-in-None.field-0 in
     unspaced_npm c.in-Some.ensures (answer_of c.with_mark.result) c.in-None.ensures
-    (rw c.with_mark.ensures (marked_read (mark.Sign c.in-Some.sign) (IsPartial Npm) c.in-Some.rest.now read c.in_ok-partial_front-in-None.ensures))
+    (rw c.with_mark.ensures (marked_read (mark.Primitive c.in-Some.kind) (IsPartial Npm) c.in-Some.rest.now read c.in_ok-partial_front-in-None.ensures))

@@ -6,15 +6,15 @@ use Rattle.semver_req.proofs.req.VersionReq.parse_from_normalized.Goals as goal
 
 pub returns-in_err-inner-clause-reads : goal.returns-in_err-inner-clause-reads
 returns-in_err-inner-clause-reads c =
-    answers_err Normal c.args.text.now (λ e. e.source) c.from_residual.result c.in_err-inner.field-0.0 c.from_residual.ensures.1 c.in_err-inner.ensures.refused
+    answers_err Normal c.args.text.now (λ e. e.source) c.from_residual-in_err-inner.result c.in_err-inner.field-0.0 c.from_residual-in_err-inner.ensures.1 c.in_err-inner.ensures.refused
 
 pub returns-in_err-raw_text-clause-reads : goal.returns-in_err-raw_text-clause-reads
 returns-in_err-raw_text-clause-reads c =
-    answers_err Normal c.args.text.now (λ e. e.source) c.from_residual-in_err-raw_text.result None c.from_residual-in_err-raw_text.ensures.1 (inl refl)
+    answers_err Normal c.args.text.now (λ e. e.source) c.from_residual.result None c.from_residual.ensures.1 (inl refl)
 
 pub returns-in_err-raw_text-clause-refusal : goal.returns-in_err-raw_text-clause-refusal
 returns-in_err-raw_text-clause-refusal c =
-    err_tells (λ e. e.source) c.from_residual-in_err-raw_text.result None (IsCutRefusal Normal c.args.text.now) c.from_residual-in_err-raw_text.ensures.1 memory_wanting
+    err_tells (λ e. e.source) c.from_residual.result None (IsCutRefusal Normal c.args.text.now) c.from_residual.ensures.1 memory_wanting
 
 pub returns-clause-reads : goal.returns-clause-reads
 returns-clause-reads c = rw c.from_raw_text_and_inner.ensures (answers_read Normal c.args.text.now (λ e. e.source) (record { raw_text = c.in_ok-raw_text.raw_text; inner = c.in_ok-inner.inner }) c.utf8.text c.in_ok-inner.ensures.reading c.in_ok-raw_text.ensures.value)

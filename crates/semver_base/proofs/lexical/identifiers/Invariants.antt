@@ -1,0 +1,12 @@
+use Rattle.std.proofs.Common.{length}
+use denote.Text.{Utf8}
+use denote.Shadow.{shadow}
+use Rattle.semver_base.specs.Lexical.{IsByte, IsIdentifier}
+use Rattle.semver_base.proofs.Lists.{SoFar}
+use Rattle.semver_base.proofs.lexical.identifiers.Given as goal
+
+abbrev pub invariant-loop-next : goal.invariant-loop-next
+invariant-loop-next l = record { is_text : shadow (Utf8 l.rest); so_far : SoFar IsIdentifier (IsByte 46) l.text l.ids.items l.rest }
+
+abbrev pub decreases-loop-next : goal.decreases-loop-next
+decreases-loop-next l = length l.rest

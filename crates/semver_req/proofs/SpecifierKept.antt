@@ -1,0 +1,104 @@
+-- What is kept of one comparator of the strict reader is the comparator's own range, which is no empty one at 0.0.0.
+use Rattle.std.proofs.Common.{◌≡◌, ◌+◌, ℕ, List, [], ◌∷◌, Bool, true, false, refl, ap, ◌∙◌, arith}
+use Rattle.std.proofs.lemmas.Bool.Decides.{nat_tests}
+use Rattle.std.specs.Prelude.{if◌then◌else◌, nat_lt}
+use Rattle.std.specs.declared.cmp.Ordering.TheVariants.{Less}
+use Rattle.semver_base.specs.Clamp.{clamped}
+use Rattle.semver_base.specs.Comparators.{Caret, Comparator, Hyphen, OfPrimitive, Plain, Tilde, comparator_range}
+use Rattle.semver_base.specs.Grammar.{that, this}
+use Rattle.semver_base.specs.Meaning.{everything, from, release, to_below}
+use Rattle.semver_base.specs.Overlap.{ends_at_zero}
+use Rattle.semver_base.specs.PartialTable.{between, caret, caret_patch, equal, lower_to_below, lowest, or_zero, tilde}
+use Rattle.semver_base.specs.Precedence.{precedence_cmp}
+use Rattle.semver_base.specs.declared.partial.Partial.{Partial}
+use Rattle.semver_base.specs.declared.partial.XRange.{XRange}
+use Rattle.semver_base.specs.declared.partial.XRange.TheVariants.{Val, Wildcard}
+use Rattle.semver_base.specs.declared.range.VersionBoundKind.TheVariants as kind
+use Rattle.semver_base.specs.declared.range.VersionRange.{VersionRange}
+use Rattle.semver_base.specs.declared.version.Version.{Version}
+use Rattle.semver_req.specs.KeptSet.{kept_range}
+use Rattle.semver_req.specs.Outcome.{IsSpecifierRange}
+use Rattle.semver_req.proofs.Folding.{caret_ends, equal_ends, tilde_ends, upper_ends}
+use Rattle.semver_req.proofs.Settling.{below_major, below_minor, below_patch, less_stays, number_below, version_stays}
+
+-- stopping leaves the range alone
+abbrev Stays : VersionRange → Type 0
+Stays range = clamped everything range ≡ range
+
+abbrev partial : XRange → XRange → XRange → List (List ℕ) → List (List ℕ) → Partial
+partial major minor patch pre build = record { major = major; minor = minor; patch = patch; pre = pre; build = build }
+
+below_stays : (s e : Version) → precedence_cmp s e ≡ Less → Stays (between (from s) (to_below e))
+below_stays s e less = less_stays kind.Inclusive kind.Exclusive s e less
+
+tilde_stays : (major minor patch : XRange) (pre build : List (List ℕ)) → Stays (tilde (partial major minor patch pre build)).range
+tilde_stays Wildcard minor patch pre build = refl
+tilde_stays (Val major) Wildcard patch pre build = below_stays _ _ (below_major (lowest (partial (Val major) Wildcard patch pre build)))
+tilde_stays (Val major) (Val minor) patch pre build = below_stays _ _ (below_minor (lowest (partial (Val major) (Val minor) patch pre build)))
+
+zero_from : (n : ℕ) → nat_lt 0 n ≡ false → n ≡ 0
+zero_from n e = grind (arith, nat_tests)
+
+caret_patch_stays : (major minor : ℕ) (patch : XRange) (pre build : List (List ℕ)) → major ≡ 0 → minor ≡ 0 → Stays (caret_patch (partial (Val major) (Val minor) patch pre build) patch).range
+caret_patch_stays major minor Wildcard pre build h k = below_stays _ _ (rw (h, k) (below_minor (lowest (partial (Val 0) (Val 0) Wildcard pre build))))
+caret_patch_stays major minor (Val patch) pre build h k = below_stays _ _ (rw (h, k) (below_patch (lowest (partial (Val 0) (Val 0) (Val patch) pre build)) refl refl))
+
+caret_stays : (major minor patch : XRange) (pre build : List (List ℕ)) → Stays (caret (partial major minor patch pre build)).range
+caret_stays Wildcard minor patch pre build = refl
+caret_stays (Val major) Wildcard patch pre build = below_stays _ _ (below_major (lowest (partial (Val major) Wildcard patch pre build)))
+caret_stays (Val major) (Val minor) patch pre build = go (nat_lt 0 major) (nat_lt 0 minor) refl refl
+  where
+    p : Partial
+    p = partial (Val major) (Val minor) patch pre build
+
+    go : (a b : Bool) → nat_lt 0 major ≡ a → nat_lt 0 minor ≡ b → Stays (
+        if a then lower_to_below p (release (major + 1) 0 0) ((major + 1) ∷ [])
+        else if b then lower_to_below p (release 0 (minor + 1) 0) ((minor + 1) ∷ [])
+        else caret_patch p patch
+        ).range
+    go true b h k = below_stays _ _ (below_major (lowest p))
+    go false true h k = below_stays _ _ (rw (zero_from major h) (below_minor (lowest (partial (Val 0) (Val minor) patch pre build))))
+    go false false h k = caret_patch_stays major minor patch pre build (zero_from major h) (zero_from minor k)
+
+next_major : (major patch : ℕ) → precedence_cmp (release major 0 patch) (release (major + 1) 0 patch) ≡ Less
+next_major major patch = rw (number_below major (major + 1) (omega arith)) refl
+
+equal_stays : (major minor patch : XRange) (pre build : List (List ℕ)) → Stays (equal (partial major minor patch pre build)).range
+equal_stays Wildcard minor patch pre build = refl
+equal_stays (Val major) Wildcard patch pre build = below_stays _ _ (next_major major (or_zero patch))
+equal_stays (Val major) (Val minor) Wildcard pre build = below_stays _ _ (below_minor (release major minor 0))
+equal_stays (Val major) (Val minor) (Val patch) pre build = version_stays (lowest (partial (Val major) (Val minor) (Val patch) pre build))
+
+-- ---- comparators of the strict reader
+
+-- without a primitive kind in front
+abbrev is_unsigned : Comparator → Bool
+is_unsigned (OfPrimitive primitive_kind p) = false
+is_unsigned c = true
+
+unsigned : {text : List ℕ} {c : Comparator} → IsSpecifierRange text c → is_unsigned c ≡ true
+unsigned (this (this m)) = ap is_unsigned m.is
+unsigned (this (that m)) = ap is_unsigned m.is
+unsigned (that m) = ap is_unsigned m.is
+
+unsigned_kept : (c : Comparator) → is_unsigned c ≡ true → kept_range (c ∷ []) ≡ comparator_range c
+unsigned_kept (Tilde p) h = tilde_stays p.major p.minor p.patch p.pre p.build
+unsigned_kept (Caret p) h = caret_stays p.major p.minor p.patch p.pre p.build
+unsigned_kept (OfPrimitive primitive_kind p) h = cc h
+unsigned_kept (Plain p) h = equal_stays p.major p.minor p.patch p.pre p.build
+unsigned_kept (Hyphen p q) h = refl
+
+unsigned_ends : (c : Comparator) → is_unsigned c ≡ true → ends_at_zero (comparator_range c).end ≡ false
+unsigned_ends (Tilde p) h = tilde_ends p p.major p.minor
+unsigned_ends (Caret p) h = caret_ends p p.major p.minor p.patch
+unsigned_ends (OfPrimitive primitive_kind p) h = cc h
+unsigned_ends (Plain p) h = equal_ends p p.major p.minor p.patch
+unsigned_ends (Hyphen p q) h = upper_ends q q.major q.minor q.patch
+
+-- what is kept of it is its own range
+pub specifier_kept : {text : List ℕ} {c : Comparator} → IsSpecifierRange text c → kept_range (c ∷ []) ≡ comparator_range c
+specifier_kept {c = c} s = unsigned_kept c (unsigned s)
+
+-- which doesn't end below 0.0.0
+pub specifier_ends : {text : List ℕ} {c : Comparator} → IsSpecifierRange text c → ends_at_zero (kept_range (c ∷ [])).end ≡ false
+specifier_ends {c = c} s = ap (λ (range : VersionRange). ends_at_zero range.end) (specifier_kept s) ∙ unsigned_ends c (unsigned s)
