@@ -1,15 +1,19 @@
 -- What is read again of a requirement that a lockfile kept, from the contracts of its JSON.
-use Rattle.std.proofs.Common.{◌≡◌, List, [], ◌∷◌, All, Result, Ok, Err, sym, subst, ◌∙◌}
+use Rattle.std.proofs.Common.{◌≡◌, List, [], ◌∷◌, All, Result, Ok, Err, refl, sym, ap, subst, ◌∙◌}
 use Rattle.std.proofs.lemmas.List.Elements.{All-cons, All-nil}
 use Rattle.std.proofs.lemmas.List.Sorted.{All-permutation}
 use Rattle.std.specs.Result.{IsErrAnd}
-use Rattle.callers.specs.Lockfile.{IsLockedList, Locks}
+use Rattle.callers.specs.Allowance.{allowance_of, yes_or_no}
+use Rattle.callers.specs.Lockfile.{IsLockedList, KeepsMeaning, Locks}
 use Rattle.deno_semver.specs.JsonAnswers.{IsJsonAnswer}
-use Rattle.deno_semver.specs.Stored.{IsKeptReq, IsSettledReq}
+use Rattle.deno_semver.specs.Stored.{IsKeptReq, IsReadFor, IsSettledReq}
 use Rattle.deno_semver.specs.StoredList.{IsSortedFrom, OneByOne}
 use Rattle.deno_semver.specs.declared.json.error.JsonError.{JsonError}
 use Rattle.deno_semver.specs.declared.json.error.JsonError.TheVariants as error
 use Rattle.deno_semver.specs.declared.package.values.PackageReq.{PackageReq}
+use Rattle.semver_base.specs.declared.version.Version.{Version}
+use Rattle.semver_req.specs.declared.range_set_or_tag.RangeSetOrTag.{RangeSetOrTag}
+use Rattle.semver_req.specs.declared.range_set_or_tag.RangeSetOrTag.TheVariants as inner
 
 -- what is true of the value that is answered
 pub answered : {T : Type 0} (Says : T → Type 0) (x : T) (r : Result T JsonError) → IsJsonAnswer x r → Says x → Locks Says r
@@ -25,6 +29,13 @@ locks_more P Q more (Err e) h = h
 pub exit_locks : {T : Type 0} (Says : T → Type 0) (r : Result T JsonError) (e : JsonError) → IsErrAnd r (λ f. f ≡ e) → e ≡ error.Memory → Locks Says r
 exit_locks Says (Ok x) e is m = absurd is
 exit_locks Says (Err f) e is m = is ∙ m
+
+-- what is read for a requirement that keeps its meaning allows the same versions
+pub allowed_as_kept : (stored again : RangeSetOrTag) (v : Version) → IsReadFor stored again → KeepsMeaning stored → allowance_of again v ≡ allowance_of stored v
+allowed_as_kept (inner.RangeSet set) (inner.RangeSet other) v read keeps = ap yes_or_no (read.means keeps v)
+allowed_as_kept (inner.RangeSet set) (inner.Tag other) v read keeps = absurd read
+allowed_as_kept (inner.Tag tag) (inner.RangeSet other) v read keeps = absurd read
+allowed_as_kept (inner.Tag tag) (inner.Tag other) v read keeps = refl
 
 all_settled : (reqs kept : List PackageReq) → OneByOne IsKeptReq reqs kept → All IsSettledReq kept
 all_settled [] [] h = All-nil IsSettledReq
