@@ -1,6 +1,6 @@
 //! Ranges of versions: what their bounds hold, which versions they match, and how they are written (`display`).
 
-ghost use Rattle.std.specs.Prelude.{◌≡◌, ◌∷◌, ◌⊎◌, [], IfOk};
+ghost use Rattle.std.specs.Prelude.{◌≡◌, ◌∷◌, ◌⊎◌, [], IfOk, IfSome};
 ghost use Rattle.std.specs.Bool.{OnFalse, OnTrue};
 ghost use Rattle.std.specs.List.{list_any};
 ghost use Rattle.semver_base.specs.Clamp.{clamped, clamped_end, clamped_start, of_tied, stopped_at, AdmitsBoth, HaveCrossed, HoldsBoth, HoldsNothing, MatchesBoth, MeansBoth};
@@ -113,6 +113,31 @@ impl RangeBound {
         ensures { result ≡ RangeBound.Version (record { kind = kind; version = version }) }
     {
         RangeBound::Version(VersionBound::new(kind, version))
+    }
+
+    // Whether the version stands above this start, where the three numbers tell.
+    #[inline(always)]
+    fn numbers_hold_as_start(&self, version: &Version) -> Option<bool>
+        ensures { IfSome result (λ is_held. is_held ≡ start_holds self.now version.now) }
+    {
+        match self {
+            RangeBound::Unbounded => Some(true),
+            RangeBound::Version(bound) => version.is_above_by_numbers(&bound.version),
+        }
+    }
+
+    // Whether the version stands below this end, where the three numbers tell.
+    #[inline(always)]
+    fn numbers_hold_as_end(&self, version: &Version) -> Option<bool>
+        ensures { IfSome result (λ is_held. is_held ≡ end_holds self.now version.now) }
+    {
+        match self {
+            RangeBound::Unbounded => Some(true),
+            RangeBound::Version(bound) => {
+                let is_above = version.is_above_by_numbers(&bound.version)?;
+                Some(!is_above)
+            }
+        }
     }
 
     // Whether the version stands above this start.
@@ -380,6 +405,24 @@ impl VersionRange {
         }
     }
 
+    // Whether the version matches, where the three numbers of it and of both bounds tell.
+    #[inline(always)]
+    fn satisfies_by_numbers(&self, version: &Version, pre_release: PreRelease) -> Option<bool>
+        ensures { IfSome result (λ is_match.
+            is_match ≡ alternative_means_with pre_release (self.now ∷ []) version.now) }
+    {
+        let is_above = self.start.numbers_hold_as_start(version)?;
+        let is_below = self.end.numbers_hold_as_end(version)?;
+        if !(is_above & is_below) {
+            return Some(false);
+        }
+        if pre_release.is_unrestricted(version) {
+            Some(true)
+        } else {
+            None
+        }
+    }
+
     /// Whether the version matches: it stands between both bounds, and, unless pre-releases are admitted, it is a release
     /// or one of the two bounds is a pre-release of its three numbers (node-semver's rule about pre-releases).
     #[inline(always)]
@@ -519,7 +562,7 @@ impl CowItem for VersionRange {
 
 impl VersionRangeSet {
     // Whether some range alone matches the version.
-    #[inline(always)]
+    #[inline(never)]
     fn has_match(&self, version: &Version, pre_release: PreRelease) -> bool
         ensures { result ≡ list_any
             (λ range. alternative_means_with pre_release (range ∷ []) version.now) self.now.0 }
@@ -534,6 +577,12 @@ impl VersionRangeSet {
     pub fn satisfies_with(&self, version: &Version, pre_release: PreRelease) -> bool
         ensures { result ≡ tree_means_with pre_release (alternatives self.now.0) version.now }
     {
+        // Mostly there is one range, and the numbers tell; then nothing is called.
+        if let [range] = self.0.as_slice()
+            && let Some(is_match) = range.satisfies_by_numbers(version, pre_release)
+        {
+            return is_match;
+        }
         self.has_match(version, pre_release)
     }
 

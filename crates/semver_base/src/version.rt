@@ -4,6 +4,7 @@ ghost use Rattle.std.specs.Prelude.{◌≡◌, ◌<◌, ◌==◌, ◌&&◌, ◌�
 ghost use Rattle.std.specs.Fmt.{DisplaysOnOk};
 ghost use Rattle.std.specs.Str.{trim};
 ghost use Rattle.std.specs.Cmp.{IsTotalOrder};
+ghost use Rattle.std.specs.Ordering.{is_gt, is_lt};
 ghost use Rattle.std.specs.Cmp.Lexicographic.{slice_cmp};
 ghost use Rattle.std.specs.Ordering.{as_partial_cmp};
 ghost use Rattle.semver_base.specs.Characters.{equals_sign, letter_v};
@@ -381,15 +382,32 @@ fn precedence(a: &Version, b: &Version) -> Ordering
     cmp_pre(a.pre.as_slice(), b.pre.as_slice())
 }
 
-// The order of the three numbers. It takes no branch, since what sorts versions can't foresee which way it goes.
+// Whether the numbers of `a` are below those of `b`. It takes no branch, since what sorts versions can't foresee which way
+// it goes.
+#[inline(always)]
+fn is_below_by_numbers(a: &Version, b: &Version) -> bool
+    ensures below { result ≡ is_lt (numbers_cmp a.now b.now) }
+    ensures above { result ≡ is_gt (numbers_cmp b.now a.now) }
+{
+    (a.major < b.major)
+        | ((a.major == b.major)
+            & ((a.minor < b.minor) | ((a.minor == b.minor) & (a.patch < b.patch))))
+}
+
+// The order of the three numbers.
 #[inline(always)]
 fn cmp_numbers(a: &Version, b: &Version) -> Ordering
     ensures { result ≡ numbers_cmp a.now b.now }
 {
-    a.major
-        .cmp(&b.major)
-        .then(a.minor.cmp(&b.minor))
-        .then(a.patch.cmp(&b.patch))
+    let is_below = is_below_by_numbers(a, b);
+    let is_above = is_below_by_numbers(b, a);
+    if is_below == is_above {
+        Ordering::Equal
+    } else if is_below {
+        Ordering::Less
+    } else {
+        Ordering::Greater
+    }
 }
 
 // Whether the version has neither a pre-release nor a build.
@@ -400,7 +418,18 @@ pub(crate) fn is_unqualified(version: &Version) -> bool
     version.pre.is_empty() & version.build.is_empty()
 }
 
-// The order of the pre-releases, and where they tie of the builds. Mostly there are none.
+// The order of the pre-releases, and where they tie of the builds.
+#[inline(never)]
+fn cmp_lists(a: &Version, b: &Version) -> Ordering
+    ensures { result ≡ qualifiers_cmp a.now b.now }
+{
+    cmp_pre(a.pre.as_slice(), b.pre.as_slice()).then_with(|| a
+        .build
+        .as_slice()
+        .cmp(b.build.as_slice()))
+}
+
+// The same order. Mostly there are none, and then nothing is called.
 #[inline(never)]
 fn cmp_qualifiers(a: &Version, b: &Version) -> Ordering
     ensures { result ≡ qualifiers_cmp a.now b.now }
@@ -408,10 +437,7 @@ fn cmp_qualifiers(a: &Version, b: &Version) -> Ordering
     if is_unqualified(a) & is_unqualified(b) {
         return Ordering::Equal;
     }
-    cmp_pre(a.pre.as_slice(), b.pre.as_slice()).then_with(|| a
-        .build
-        .as_slice()
-        .cmp(b.build.as_slice()))
+    cmp_lists(a, b)
 }
 
 // Writes a separator and the identifier after it.
