@@ -1,10 +1,8 @@
 //! The calls that a row can ask, by their names.
 
-use crate::words::{Answer, Word};
-use crate::{
-    dependencies, json_forms, least, packages, partials, places, ranges, references, requirements,
-    texts, values, versions,
-};
+use crate::{dependencies, json_forms, memory, packages, references, resolve, written};
+use requirement_cases::call;
+use requirement_cases::words::{Answer, Word};
 use std::alloc::Global;
 
 /// The names of all calls, in the order in which they are counted.
@@ -108,18 +106,15 @@ pub fn is_named(name: &str) -> bool {
     NAMES.contains(&name)
 }
 
-/// What the call of this name answers to a question's words after its name. Each name is of one module.
+/// What the call of this name answers to a question's words after its name. Each name is of one module, or of
+/// `requirement_cases`.
 pub fn ask(alloc: Global, name: &str, words: &[Word<'_>]) -> Option<Answer> {
-    values::ask(alloc, name, words)
-        .or(versions::ask(alloc, name, words))
-        .or(requirements::ask(alloc, name, words))
-        .or(ranges::ask(alloc, name, words))
-        .or(partials::ask(alloc, name, words))
-        .or(places::ask(alloc, name, words))
-        .or(texts::ask(alloc, name, words))
+    call::ask(alloc, name, words)
+        .or(written::ask(alloc, name, words))
+        .or(resolve::ask(alloc, name, words))
+        .or(memory::ask(alloc, name, words))
         .or(packages::ask(alloc, name, words))
         .or(references::ask(alloc, name, words))
         .or(dependencies::ask(alloc, name, words))
         .or(json_forms::ask(alloc, name, words))
-        .or(least::ask(alloc, name, words))
 }

@@ -1,9 +1,10 @@
 //! Dependencies of either kind.
 
+use crate::packages;
 use crate::packages::kind;
-use crate::words::{Answer, Fault, Word, answer};
 use deno_semver::jsr::{JsrDepPackageReq, JsrDepPackageReqParseError};
 use deno_semver::package::{PackageKind, PackageReq};
+use requirement_cases::words::{Answer, Fault, Word, answer};
 use std::alloc::Global;
 use std::cmp::Ordering;
 
@@ -17,6 +18,11 @@ pub fn ask(alloc: Global, name: &str, words: &[Word<'_>]) -> Option<Answer> {
         _ => return None,
     };
     Some(answer)
+}
+
+/// Why a call has no answer whose text of a dependency was refused.
+pub fn fault(error: JsrDepPackageReqParseError) -> Fault {
+    Fault::unless_memory(error.is_memory())
 }
 
 // What the reader of this name makes of a text.
@@ -98,9 +104,9 @@ fn dependency_error(alloc: Global, words: &[Word<'_>]) -> Answer {
     answer(alloc, &[Some(line.as_str())])
 }
 
-// The dependency that npm's reader reads.
-fn by_npm(alloc: Global, text: &str) -> Result<JsrDepPackageReq, Fault> {
-    Ok(JsrDepPackageReq::from_str_loose(alloc, text)?)
+/// The dependency that npm's reader reads.
+pub fn by_npm(alloc: Global, text: &str) -> Result<JsrDepPackageReq, Fault> {
+    JsrDepPackageReq::from_str_loose(alloc, text).map_err(fault)
 }
 
 // `dependency-order`, two texts of dependencies, by npm's reader: how the first compares to the second.
@@ -121,7 +127,7 @@ fn dependency_made(alloc: Global, words: &[Word<'_>]) -> Answer {
     let [Some(registry), Some(text)] = words else {
         return Err(Fault::Unreadable);
     };
-    let req = PackageReq::from_str(alloc, text)?;
+    let req = PackageReq::from_str(alloc, text).map_err(packages::fault)?;
     let dependency = match *registry {
         "jsr" => JsrDepPackageReq::jsr(req),
         "npm" => JsrDepPackageReq::npm(req),

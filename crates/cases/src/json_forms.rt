@@ -1,6 +1,6 @@
 //! The JSON forms of values.
 
-use crate::words::{Answer, Fault, Word, answer, yes_or_no};
+use crate::{dependencies, packages};
 use deno_semver::json::{JsonError, JsonForm, reqs_from_json, reqs_to_json};
 use deno_semver::jsr::{JsrDepPackageReq, JsrPackageNvReference};
 use deno_semver::npm::NpmPackageNvReference;
@@ -9,6 +9,7 @@ use deno_semver::{
     RangeBound, RangeSetOrTag, SmallStackString, StackString, Version, VersionBound,
     VersionBoundKind, VersionRange, VersionRangeSet, VersionReq,
 };
+use requirement_cases::words::{Answer, Fault, Word, answer, yes_or_no};
 use serde_json::{Category, Value};
 use std::alloc::Global;
 
@@ -96,7 +97,7 @@ fn package(alloc: Global, reader: &str, text: &str) -> Result<PackageReq, Fault>
         "loose" => PackageReq::from_str_loose(alloc, text),
         _ => return Err(Fault::Unreadable),
     };
-    Ok(read?)
+    read.map_err(packages::fault)
 }
 
 // The dependency that the reader of this name makes of a text.
@@ -106,7 +107,7 @@ fn dependency(alloc: Global, reader: &str, text: &str) -> Result<JsrDepPackageRe
         "loose" => JsrDepPackageReq::from_str_loose(alloc, text),
         _ => return Err(Fault::Unreadable),
     };
-    Ok(read?)
+    read.map_err(dependencies::fault)
 }
 
 // The JSON value of the ranges of a requirement.

@@ -1,24 +1,19 @@
 //! A table of cases: what each public call of `deno_semver` answers to a row, and how a table is gone through.
 //!
-//! `words` has the words of questions and answers, `shown` the texts of values. Above them stand the calls by subject, from
-//! `values` to `least`; `call`, all of them; `row` and `tally`; and `table`, which the program `conformance` calls.
+//! The crate `requirement_cases` has the words of questions and answers, and the calls of versions and requirements. Above it
+//! stand the calls by subject, from `packages` to `json_forms`; `call`, all of them; `row`, `met` and `tally`; and `table`,
+//! which the program `conformance` calls.
 #![tactic(auto)]
 
 mod call;
 mod dependencies;
 mod json_forms;
-mod least;
+mod memory;
+mod met;
 mod packages;
-mod partials;
-mod places;
-mod ranges;
 mod references;
-mod requirements;
+mod resolve;
 mod row;
-mod shown;
 pub mod table;
 mod tally;
-mod texts;
-mod values;
-mod versions;
-mod words;
+mod written;

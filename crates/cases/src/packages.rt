@@ -1,9 +1,9 @@
 //! Packages: requirements of them, and names with versions.
 
-use crate::words::{Answer, Fault, Word, answer};
 use deno_semver::package::{
     PackageNv, PackageReq, PackageReqParseError, PackageReqPartsParseError,
 };
+use requirement_cases::words::{Answer, Fault, Word, answer};
 use std::alloc::Global;
 use std::cmp::Ordering;
 
@@ -32,6 +32,11 @@ fn read(
         "normalized" => Ok(PackageReq::from_str_normalized(alloc, text)),
         _ => Err(Fault::Unreadable),
     }
+}
+
+/// Why a call has no answer whose text of a package was refused.
+pub fn fault(error: PackageReqParseError) -> Fault {
+    Fault::unless_memory(error.is_memory())
 }
 
 /// The kind of an error.
@@ -93,9 +98,14 @@ fn package_error(alloc: Global, words: &[Word<'_>]) -> Answer {
     answer(alloc, &[Some(line.as_str()), Some(inner.as_str())])
 }
 
-// The requirement of a package that npm's reader reads.
-fn by_npm(alloc: Global, text: &str) -> Result<PackageReq, Fault> {
-    Ok(PackageReq::from_str_loose(alloc, text)?)
+/// The requirement of a package that npm's reader reads.
+pub fn by_npm(alloc: Global, text: &str) -> Result<PackageReq, Fault> {
+    PackageReq::from_str_loose(alloc, text).map_err(fault)
+}
+
+/// The name with a version that a text is.
+pub fn name_with_version(alloc: Global, text: &str) -> Result<PackageNv, Fault> {
+    PackageNv::from_str(alloc, text).map_err(|error| Fault::unless_memory(error.is_memory()))
 }
 
 // `order`, two texts of packages, by npm's reader: how the first requirement compares to the second.

@@ -1,13 +1,13 @@
 //! References to packages, and the names of exports.
 
 use crate::packages::kind;
-use crate::words::{Answer, Fault, Word, answer};
 use deno_semver::jsr::{JsrPackageNvReference, JsrPackageReqReference, normalized_export_name};
 use deno_semver::npm::{NpmPackageNvReference, NpmPackageReqReference};
 use deno_semver::package::{
     PackageNv, PackageNvReferenceParseError, PackageReq, PackageReqReferenceParseError,
     SpecifierError,
 };
+use requirement_cases::words::{Answer, Fault, Word, answer};
 use std::alloc::Global;
 use url::{ParseError, Url};
 
@@ -24,6 +24,16 @@ pub fn ask(alloc: Global, name: &str, words: &[Word<'_>]) -> Option<Answer> {
         _ => return None,
     };
     Some(answer)
+}
+
+/// Why a call has no answer whose text of a reference was refused.
+pub fn fault(error: PackageReqReferenceParseError) -> Fault {
+    Fault::unless_memory(error.is_memory())
+}
+
+/// Why a call has no answer whose text of a reference with a version was refused.
+pub fn version_fault(error: PackageNvReferenceParseError) -> Fault {
+    Fault::unless_memory(error.is_memory())
 }
 
 // The two texts that the words are.

@@ -1,7 +1,7 @@
 //! Rows of a table.
 
 use crate::call;
-use crate::words::{Fault, Word, Words, out_of_memory, refused};
+use requirement_cases::words::{Fault, Word, Words, out_of_memory, refused};
 use serde_json::Category;
 use std::alloc::{AllocError, Global};
 

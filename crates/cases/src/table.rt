@@ -1,8 +1,9 @@
 //! How a table is gone through.
 
+use crate::met::is_met;
 use crate::row::{Row, Unreadable};
 use crate::tally::{Count, Tally};
-use crate::words::{Words, is_met};
+use requirement_cases::words::Words;
 use std::alloc::{AllocError, Global};
 use std::io;
 use std::io::{ErrorKind, Write};

@@ -2,8 +2,8 @@
 
 use crate::shown;
 use crate::words::{Answer, Fault, Word, answer, yes_or_no};
-use deno_semver::npm::parse_npm_version;
-use deno_semver::{Version, VersionPreOrBuild};
+use semver_base::version::{Version, VersionPreOrBuild};
+use semver_req::npm::parse_npm_version;
 use std::alloc::{AllocError, Global};
 use std::cmp::Ordering;
 

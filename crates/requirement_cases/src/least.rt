@@ -3,7 +3,9 @@
 use crate::requirements::read;
 use crate::shown;
 use crate::words::{Answer, Fault, Word, answer, yes_or_no};
-use deno_semver::{PreRelease, Version, VersionReq};
+use semver_base::range::PreRelease;
+use semver_base::version::Version;
+use semver_req::req::VersionReq;
 use std::alloc::{AllocError, Global};
 
 /// What a call on least versions and containment answers to a question's words after its name, where the name is of one.

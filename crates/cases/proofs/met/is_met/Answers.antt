@@ -1,6 +1,6 @@
 use Rattle.std.proofs.Common.{inl, inr, sym, ◌∙◌}
 use Rattle.cases.proofs.WordTexts.{words_told}
-use Rattle.cases.proofs.words.is_met.Goals as goal
+use Rattle.cases.proofs.met.is_met.Goals as goal
 
 pub returns-then-eq : goal.returns-then-eq
 returns-then-eq c = (λ e. inl ((words_told c.args.expected.now c.args.answer.now).0 (sym c.eq.ensures ∙ e)), λ _. c.if-eq.true)

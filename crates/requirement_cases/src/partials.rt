@@ -2,7 +2,8 @@
 
 use crate::shown;
 use crate::words::{Answer, Fault, Word, answer};
-use deno_semver::{Partial, VersionBoundKind, VersionRange};
+use semver_base::partial::Partial;
+use semver_base::range::{VersionBoundKind, VersionRange};
 use std::alloc::Global;
 
 /// What a call on partial versions answers to a question's words after its name, where the name is of one.

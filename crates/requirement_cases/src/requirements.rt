@@ -2,11 +2,11 @@
 
 use crate::shown;
 use crate::words::{Answer, Fault, Word, answer, yes_or_no};
-use deno_semver::npm::{is_valid_npm_tag, parse_npm_version, parse_npm_version_req};
-use deno_semver::package::PackageReq;
-use deno_semver::{
-    IntoVersionReq, ParseFailure, PreRelease, RangeSetOrTag, Version, VersionReq, resolve,
-};
+use semver_base::failure::ParseFailure;
+use semver_base::version::Version;
+use semver_req::npm::{is_valid_npm_tag, parse_npm_version, parse_npm_version_req};
+use semver_req::range_set_or_tag::RangeSetOrTag;
+use semver_req::req::{IntoVersionReq, VersionReq};
 use std::alloc::Global;
 
 /// What a call on requirements answers to a question's words after its name, where the name is of one.
@@ -23,11 +23,6 @@ pub fn ask(alloc: Global, name: &str, words: &[Word<'_>]) -> Option<Answer> {
         "reread" => reread(alloc, words),
         "pinned" => pinned(alloc, words),
         "matches-with" => matches_with(alloc, words),
-        "max-satisfying" => max_satisfying(alloc, words),
-        "min-satisfying" => min_satisfying(alloc, words),
-        "max-satisfying-with" => max_satisfying_with(alloc, words),
-        "min-satisfying-with" => min_satisfying_with(alloc, words),
-        "ample" => ample(alloc, words),
         _ => return None,
     };
     Some(answer)
@@ -177,135 +172,6 @@ fn matches_with(alloc: Global, words: &[Word<'_>]) -> Answer {
         None => yes_or_no(alloc, requirement.matches_with(&version, pre_release)),
         Some(tag) => answer(alloc, &[Some("tag"), Some(tag)]),
     }
-}
-
-// The versions that the words are.
-fn versions_of(alloc: Global, words: &[Word<'_>]) -> Result<Vec<Version>, Fault> {
-    let mut versions = Vec::new(alloc);
-    for word in words {
-        let text = (*word).ok_or(Fault::Unreadable)?;
-        let version = Version::parse_standard(alloc, text)?;
-        if versions.push(version).is_err() {
-            return Err(Fault::OutOfMemory);
-        }
-    }
-    Ok(versions)
-}
-
-// A reader, a requirement and versions: the requirement and the versions.
-fn requirement_and_versions(
-    alloc: Global,
-    words: &[Word<'_>],
-) -> Result<(VersionReq, Vec<Version>), Fault> {
-    let [Some(reader), Some(requirement), versions @ ..] = words else {
-        return Err(Fault::Unreadable);
-    };
-    let requirement = read(alloc, reader, requirement)?;
-    let versions = versions_of(alloc, versions)?;
-    Ok((requirement, versions))
-}
-
-// A reader, a requirement, `restricted` or `admitted` and versions: the requirement and the others.
-fn choice_of(
-    alloc: Global,
-    words: &[Word<'_>],
-) -> Result<(VersionReq, PreRelease, Vec<Version>), Fault> {
-    let [Some(reader), Some(requirement), Some(word), versions @ ..] = words else {
-        return Err(Fault::Unreadable);
-    };
-    let requirement = read(alloc, reader, requirement)?;
-    let pre_release = shown::pre_release_of(word)?;
-    let versions = versions_of(alloc, versions)?;
-    Ok((requirement, pre_release, versions))
-}
-
-// The place, or `none`.
-fn place(alloc: Global, place: Option<usize>) -> Answer {
-    match place {
-        None => answer(alloc, &[Some("none")]),
-        Some(place) => answer(alloc, &[Some(format!(in alloc; "{place}")?.as_str())]),
-    }
-}
-
-// `max-satisfying`, a reader, a requirement and versions: the place of the greatest one that matches, from 0, or `none`; or
-// `tag` and the tag.
-fn max_satisfying(alloc: Global, words: &[Word<'_>]) -> Answer {
-    let (requirement, versions) = requirement_and_versions(alloc, words)?;
-    match requirement.tag() {
-        None => place(
-            alloc,
-            resolve::max_satisfying(versions.as_slice(), &requirement),
-        ),
-        Some(tag) => answer(alloc, &[Some("tag"), Some(tag)]),
-    }
-}
-
-// `min-satisfying`, a reader, a requirement and versions: the place of the least one that matches, from 0, or `none`; or
-// `tag` and the tag.
-fn min_satisfying(alloc: Global, words: &[Word<'_>]) -> Answer {
-    let (requirement, versions) = requirement_and_versions(alloc, words)?;
-    match requirement.tag() {
-        None => place(
-            alloc,
-            resolve::min_satisfying(versions.as_slice(), &requirement),
-        ),
-        Some(tag) => answer(alloc, &[Some("tag"), Some(tag)]),
-    }
-}
-
-// `max-satisfying-with`, a reader, a requirement, `restricted` or `admitted` and versions: the place of the greatest one
-// that matches, from 0, or `none`; or `tag` and the tag.
-fn max_satisfying_with(alloc: Global, words: &[Word<'_>]) -> Answer {
-    let (requirement, pre_release, versions) = choice_of(alloc, words)?;
-    match requirement.tag() {
-        None => place(
-            alloc,
-            resolve::max_satisfying_with(versions.as_slice(), &requirement, pre_release),
-        ),
-        Some(tag) => answer(alloc, &[Some("tag"), Some(tag)]),
-    }
-}
-
-// `min-satisfying-with`, a reader, a requirement, `restricted` or `admitted` and versions: the place of the least one that
-// matches, from 0, or `none`; or `tag` and the tag.
-fn min_satisfying_with(alloc: Global, words: &[Word<'_>]) -> Answer {
-    let (requirement, pre_release, versions) = choice_of(alloc, words)?;
-    match requirement.tag() {
-        None => place(
-            alloc,
-            resolve::min_satisfying_with(versions.as_slice(), &requirement, pre_release),
-        ),
-        Some(tag) => answer(alloc, &[Some("tag"), Some(tag)]),
-    }
-}
-
-// Whether the three readers, that of versions and that of packages answer the text, each otherwise than for want of memory.
-fn is_answered(alloc: Global, text: &str) -> bool {
-    !VersionReq::parse_from_npm(alloc, text).is_err_and(|error| error.source.is_memory())
-        && !VersionReq::parse_from_normalized(alloc, text).is_err_and(|error| error
-            .source
-            .is_memory())
-        && !VersionReq::parse_from_specifier(alloc, text).is_err_and(|error| error
-            .source
-            .is_memory())
-        && !Version::parse_standard(alloc, text).is_err_and(|error| error.source.is_memory())
-        && !PackageReq::from_str(alloc, text).is_err_and(|error| error.is_memory())
-}
-
-// `ample`, a text and a number: whether the readers answer the text, alone and with up to so many `1` behind it, none of them
-// that it wants memory.
-fn ample(alloc: Global, words: &[Word<'_>]) -> Answer {
-    let [Some(text), Some(count)] = words else {
-        return Err(Fault::Unreadable);
-    };
-    let count = count.parse::<usize>().map_err(|_| Fault::Unreadable)?;
-    let mut longer = String::from_str(alloc, text)?;
-    let mut answered = is_answered(alloc, longer.as_str());
-    for _ in 0..count {
-        longer.push('1')?;
-        answered = answered && is_answered(alloc, longer.as_str());
-    }
-    yes_or_no(alloc, answered)
 }
 
 // The first line of the error, and that of its source.

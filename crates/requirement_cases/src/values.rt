@@ -2,15 +2,11 @@
 
 use crate::shown;
 use crate::words::{Answer, Fault, Word, answer, yes_or_no};
-use deno_semver::json::JsonError;
-use deno_semver::jsr::JsrDepPackageReqParseError;
-use deno_semver::package::{
-    PackageReqPartsParseError, PackageReqReferenceParseError, SpecifierError,
-};
-use deno_semver::{
-    CowItem, PackageTag, ParseFailure, RangeSetOrTag, SmallStackString, VersionRange, VersionReq,
-};
-use semver_base::failure::Refusal;
+use semver_base::failure::{ParseFailure, Refusal};
+use semver_base::range::VersionRange;
+use semver_base::string::{CowItem, SmallStackString};
+use semver_req::range_set_or_tag::{PackageTag, RangeSetOrTag};
+use semver_req::req::VersionReq;
 use std::alloc::Global;
 
 /// What a call on values, failures and requirements that are made by hand answers to a question's words after its name, where the name is of one.
@@ -24,7 +20,6 @@ pub fn ask(alloc: Global, name: &str, words: &[Word<'_>]) -> Option<Answer> {
         "range" => range(alloc, words),
         "same-range" => same_range(alloc, words),
         "tag-requirement" => tag_requirement(alloc, words),
-        "memory-error" => memory_error(alloc, words),
         _ => return None,
     };
     Some(answer)
@@ -133,28 +128,6 @@ fn refusal(alloc: Global, words: &[Word<'_>]) -> Answer {
         _ => return Err(Fault::Unreadable),
     };
     Err(Fault::from(ParseFailure::of_refusal(alloc, refusal)))
-}
-
-// `memory-error`, the name of a type of errors: the line of the error that tells of want of memory.
-fn memory_error(alloc: Global, words: &[Word<'_>]) -> Answer {
-    let [Some(of_type)] = words else {
-        return Err(Fault::Unreadable);
-    };
-    let line = match *of_type {
-        "ParseFailure" => format!(in alloc; "{}", ParseFailure::memory())?,
-        "PackageReqPartsParseError" => format!(in alloc; "{}", PackageReqPartsParseError::Memory)?,
-        "PackageReqReferenceParseError" => {
-            format!(in alloc; "{}", PackageReqReferenceParseError::Memory)?
-        }
-        "JsrDepPackageReqParseError" => format!(in alloc;
-            "{}",
-            JsrDepPackageReqParseError::Memory
-        )?,
-        "SpecifierError" => format!(in alloc; "{}", SpecifierError::Memory)?,
-        "JsonError" => format!(in alloc; "{}", JsonError::Memory)?,
-        _ => return Err(Fault::Unreadable),
-    };
-    answer(alloc, &[Some(line.as_str())])
 }
 
 // `range`, `all`, `none` or a range: that range, copied.

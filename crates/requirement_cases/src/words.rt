@@ -1,17 +1,10 @@
 //! The words of questions and answers.
 
-ghost use Rattle.std.specs.Prelude.{◌≡◌, ◌↔◌, ◌∷◌, [], IsTrue, map};
-ghost use Rattle.cases.specs.RowAnswer.{IsMet, first_word, refused_word, word_text};
-
-use deno_semver::jsr::JsrDepPackageReqParseError;
-use deno_semver::npm::{NpmVersionParseError, NpmVersionReqParseError};
-use deno_semver::package::{
-    PackageNvParseError, PackageNvReferenceParseError, PackageReqParseError,
-    PackageReqReferenceParseError,
-};
-use deno_semver::{
-    ParseFailure, VersionParseError, VersionReqNormalizedParseError, VersionReqSpecifierParseError,
-};
+use semver_base::failure::ParseFailure;
+use semver_base::version::VersionParseError;
+use semver_req::npm::{NpmVersionParseError, NpmVersionReqParseError};
+use semver_req::req::VersionReqNormalizedParseError;
+use semver_req::specifier::VersionReqSpecifierParseError;
 use std::alloc::{AllocError, AllocFailed, Global};
 
 /// A word of a question: a text or null.
@@ -87,36 +80,6 @@ impl From<VersionReqNormalizedParseError> for Fault {
     }
 }
 
-impl From<PackageReqParseError> for Fault {
-    fn from(error: PackageReqParseError) -> Fault {
-        Fault::unless_memory(error.is_memory())
-    }
-}
-
-impl From<PackageNvParseError> for Fault {
-    fn from(error: PackageNvParseError) -> Fault {
-        Fault::unless_memory(error.is_memory())
-    }
-}
-
-impl From<PackageReqReferenceParseError> for Fault {
-    fn from(error: PackageReqReferenceParseError) -> Fault {
-        Fault::unless_memory(error.is_memory())
-    }
-}
-
-impl From<PackageNvReferenceParseError> for Fault {
-    fn from(error: PackageNvReferenceParseError) -> Fault {
-        Fault::unless_memory(error.is_memory())
-    }
-}
-
-impl From<JsrDepPackageReqParseError> for Fault {
-    fn from(error: JsrDepPackageReqParseError) -> Fault {
-        Fault::unless_memory(error.is_memory())
-    }
-}
-
 impl From<AllocError> for Fault {
     fn from(_error: AllocError) -> Fault {
         Fault::OutOfMemory
@@ -163,41 +126,4 @@ pub fn refused(alloc: Global, failure: &ParseFailure) -> Result<Words, AllocErro
 /// The word that tells that a call wanted memory.
 pub fn out_of_memory(alloc: Global) -> Result<Words, AllocError> {
     all_owned(alloc, &[Some("out of memory")])
-}
-
-// Whether the word is `refused`.
-fn is_refused_word(word: &Option<String>) -> bool
-    ensures { IsTrue result ↔ (word_text word.now ≡ refused_word) }
-{
-    match word {
-        Some(word) => word.as_str() == "refused",
-        None => false,
-    }
-}
-
-// Whether the first word is `refused`.
-fn is_refused(words: &[Option<String>]) -> bool
-    ensures { IsTrue result ↔ (first_word (map word_text words.now) ≡ refused_word) }
-{
-    match words {
-        [word, ..] => is_refused_word(word),
-        [] => false,
-    }
-}
-
-// Whether the word `refused` is all.
-fn is_refused_alone(words: &[Option<String>]) -> bool
-    ensures { IsTrue result ↔ (map word_text words.now ≡ refused_word ∷ []) }
-{
-    match words {
-        [word] => is_refused_word(word),
-        _ => false,
-    }
-}
-
-/// Whether an answer is the one that a row expects. A row that expects `refused` alone leaves open which refusal it is.
-pub fn is_met(expected: &[Option<String>], answer: &[Option<String>]) -> bool
-    ensures { IsTrue result ↔ IsMet (map word_text expected.now) (map word_text answer.now) }
-{
-    expected == answer || (is_refused_alone(expected) && is_refused(answer))
 }

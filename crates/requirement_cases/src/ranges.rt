@@ -2,7 +2,7 @@
 
 use crate::shown;
 use crate::words::{Answer, Fault, Word, answer, yes_or_no};
-use deno_semver::Version;
+use semver_base::version::Version;
 use std::alloc::Global;
 
 /// What a call on ranges and bounds answers to a question's words after its name, where the name is of one.

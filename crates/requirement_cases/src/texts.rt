@@ -1,17 +1,10 @@
-//! Texts that are made and grow, and what is appended to them.
+//! Texts that are made and grow, and lists that are copied and grow.
 
 use crate::shown;
 use crate::words::{Answer, Fault, Word, answer, yes_or_no};
-use deno_semver::jsr::{JsrDepPackageReq, JsrPackageNvReference, JsrPackageReqReference};
-use deno_semver::npm::{NpmPackageNvReference, NpmPackageReqReference};
-use deno_semver::package::{PackageNv, PackageReq};
-use deno_semver::{
-    CowItem, CowVec, SmallStackString, StackString, StringAppendable, StringType, Version,
-    VersionReq,
-};
+use semver_base::string::{CowItem, CowVec, SmallStackString, StackString, StringType};
 use std::alloc::{AllocError, Global};
 use std::borrow::CowStr;
-use std::fmt;
 
 /// What a call on the two text types answers to a question's words after its name, where the name is of one.
 pub fn ask(alloc: Global, name: &str, words: &[Word<'_>]) -> Option<Answer> {
@@ -20,7 +13,6 @@ pub fn ask(alloc: Global, name: &str, words: &[Word<'_>]) -> Option<Answer> {
         "pushed" => pushed(alloc, words),
         "replaced" => replaced(alloc, words),
         "grown" => grown(alloc, words),
-        "written" => written_as(alloc, words),
         "in-value" => in_value(alloc, words),
         _ => return None,
     };
@@ -177,104 +169,4 @@ fn grown(alloc: Global, words: &[Word<'_>]) -> Answer {
     let copy = shown::identifiers(alloc, &copy)?;
     let list = shown::identifiers(alloc, &list)?;
     answer(alloc, &[Some(copy.as_str()), Some(list.as_str())])
-}
-
-// The start with the value's text appended to it, in a text of one of the types.
-fn appended_to<T: StringType, A: StringAppendable>(
-    alloc: Global,
-    start: &str,
-    value: &A,
-) -> Result<T, Fault> {
-    let mut text = T::with_capacity(alloc, start.len())?;
-    text.push_str(start)?;
-    value.append_to(alloc, &mut text)?;
-    Ok(text)
-}
-
-// How the value is displayed, and the start with its text appended to it, in a text of each type.
-fn written<A: StringAppendable + fmt::Display>(alloc: Global, start: &str, value: &A) -> Answer {
-    let displayed = format!(in alloc; "{value}")?;
-    let string: String = appended_to(alloc, start, value)?;
-    let small: SmallStackString = appended_to(alloc, start, value)?;
-    let stack: StackString = appended_to(alloc, start, value)?;
-    answer(
-        alloc,
-        &[
-            Some(displayed.as_str()),
-            Some(string.as_str()),
-            Some(small.as_str()),
-            Some(stack.as_str()),
-        ],
-    )
-}
-
-// `written`, the kind of a value, the value and a start: how the value is displayed, and the start with the value's text
-// appended to it as a `String`, a `SmallStackString` and a `StackString`. An `inner` is what npm's reader makes of a text; a `package` and a
-// `dependency` are npm's too; `jsr`, `npm`, `jsr-version` and `npm-version` are references of these registries, `reference` and
-// `version-reference` what stands in npm's.
-fn written_as(alloc: Global, words: &[Word<'_>]) -> Answer {
-    let [Some(kind), Some(value), Some(start)] = words else {
-        return Err(Fault::Unreadable);
-    };
-    match *kind {
-        "text" => written(alloc, start, &SmallStackString::from_str(alloc, value)?),
-        "version" => written(alloc, start, &Version::parse_standard(alloc, value)?),
-        "range" => written(alloc, start, &shown::range_of(alloc, value)?),
-        "set" => written(alloc, start, &shown::set_of(alloc, value)?),
-        "inner" => written(
-            alloc,
-            start,
-            VersionReq::parse_from_npm(alloc, value)?.inner(),
-        ),
-        _ => written_of_package(alloc, kind, value, start),
-    }
-}
-
-// The same of packages, dependencies and references, as npm's reader makes them of a text.
-fn written_of_package(alloc: Global, kind: &str, value: &str, start: &str) -> Answer {
-    match kind {
-        "package" => written(alloc, start, &PackageReq::from_str_loose(alloc, value)?),
-        "name-version" => written(alloc, start, &PackageNv::from_str(alloc, value)?),
-        "dependency" => written(
-            alloc,
-            start,
-            &JsrDepPackageReq::from_str_loose(alloc, value)?,
-        ),
-        _ => written_of_reference(alloc, kind, value, start),
-    }
-}
-
-// The same of references of a registry, and of what stands in them.
-fn written_of_reference(alloc: Global, kind: &str, value: &str, start: &str) -> Answer {
-    match kind {
-        "jsr" => written(
-            alloc,
-            start,
-            &JsrPackageReqReference::from_str(alloc, value)?,
-        ),
-        "npm" => written(
-            alloc,
-            start,
-            &NpmPackageReqReference::from_str(alloc, value)?,
-        ),
-        "jsr-version" => written(
-            alloc,
-            start,
-            &JsrPackageNvReference::from_str(alloc, value)?,
-        ),
-        "npm-version" => written(
-            alloc,
-            start,
-            &NpmPackageNvReference::from_str(alloc, value)?,
-        ),
-        "reference" => {
-            let reference = NpmPackageReqReference::from_str(alloc, value)?;
-            written(alloc, start, &reference.into_inner())
-        }
-        "version-reference" => {
-            let reference = NpmPackageNvReference::from_str(alloc, value)?;
-            written(alloc, start, &reference.into_inner())
-        }
-        _ => Err(Fault::Unreadable),
-    }
 }

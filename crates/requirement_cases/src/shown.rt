@@ -6,10 +6,10 @@
 //! `-` and `+` as in a version: `1.*.3-a+b`.
 
 use crate::words::Fault;
-use deno_semver::{
-    CowVec, Partial, PreRelease, RangeBound, SmallStackString, Version, VersionBoundKind,
-    VersionRange, VersionRangeSet, XRange,
-};
+use semver_base::partial::{Partial, XRange};
+use semver_base::range::{PreRelease, RangeBound, VersionBoundKind, VersionRange, VersionRangeSet};
+use semver_base::string::{CowVec, SmallStackString};
+use semver_base::version::Version;
 use std::alloc::{AllocError, Global};
 
 /// The identifiers with a `.` between neighbours.
