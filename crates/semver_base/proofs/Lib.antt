@@ -32,6 +32,7 @@ pub mod ReadVersions
 pub mod Readings
 pub mod Replaced
 pub mod Solid
+pub mod Tokens
 pub mod Triples
 pub mod VersionBytes
 pub mod VersionReading

@@ -12,6 +12,7 @@ pub mod Meaning
 pub mod NormalTable
 pub mod NormalText
 pub mod Overlap
+pub mod Ownership
 pub mod PartialTable
 pub mod PlainTexts
 pub mod Precedence

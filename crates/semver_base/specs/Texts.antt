@@ -1,6 +1,6 @@
 -- Texts that stand in the value itself where they are short, lists whose copies share their items, and what replacing
 -- is.
-use Rattle.std.specs.Prelude.{◌≡◌, ℕ, List, [], ◌++◌, ◌<◌, ◌≤◌, ◌==◌, length, take, drop, slice_get, string_bytes, encode_utf8, Option, Some, None}
+use Rattle.std.specs.Prelude.{◌≡◌, ℕ, List, [], ◌∷◌, ◌++◌, ◌<◌, ◌≤◌, ◌==◌, length, take, drop, slice_get, string_bytes, encode_utf8, Option, Some, None}
 use Rattle.std.specs.List.{take_while}
 use Rattle.std.specs.Str.{chars}
 use Rattle.std.specs.Str.Pattern.{FindsText}
@@ -8,9 +8,10 @@ use Rattle.std.specs.declared.alloc.Global.{Global}
 use Rattle.std.specs.declared.borrow.CowStr.{CowStr}
 use Rattle.std.specs.declared.borrow.CowStr.TheVariants as cow
 use Rattle.std.specs.declared.rc.Rc.{Rc}
-use Rattle.std.specs.declared.vec.Vec.{Vec}
 use Rattle.semver_base.specs.declared.string.Kept.{Kept}
 use Rattle.semver_base.specs.declared.string.Kept.TheVariants as kept
+use Rattle.semver_base.specs.declared.string.list.Items.{Items}
+use Rattle.semver_base.specs.declared.string.list.Items.TheVariants as items
 
 -- the bytes of a text, however it is kept
 abbrev pub kept_bytes : {limit : ℕ} → Kept limit → List ℕ
@@ -31,15 +32,20 @@ pub record IsKept {limit : ℕ} (text : Kept limit) (zeros : ℕ) : Type 0 where
   pub inline : IsInlineIfShort text
   pub zeros_are : zeros ≡ zeros_in_front (kept_bytes text)
 
+-- one item, or those of a `Vec`
+abbrev pub items_of : {T : Type 0} → Items T → List T
+items_of (items.One one) = one.item ∷ []
+items_of (items.Many many) = many.items
+
 -- the items behind a shared pointer, which an empty list lacks
-abbrev pub shared_items : {T : Type 0} → Option (Rc (Vec T Global) Global) → List T
+abbrev pub shared_items : {T : Type 0} → Option (Rc (Items T) Global) → List T
 shared_items None = []
-shared_items (Some shared) = shared.value.items
+shared_items (Some shared) = items_of shared.value
 
 -- a list with a shared pointer has items
-abbrev pub IsFilledIfShared : {T : Type 0} → Option (Rc (Vec T Global) Global) → Type 0
+abbrev pub IsFilledIfShared : {T : Type 0} → Option (Rc (Items T) Global) → Type 0
 IsFilledIfShared None = Unit {0}
-IsFilledIfShared (Some shared) = 0 < length shared.value.items
+IsFilledIfShared (Some shared) = 0 < length (items_of shared.value)
 
 -- no memory is needed to take the text over: it is owned, or has at most limit bytes
 abbrev pub FitsOrIsOwned : {Z : Type 0} → ℕ → CowStr Z → Type 0

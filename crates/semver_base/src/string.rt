@@ -15,6 +15,7 @@ ghost use Rattle.semver_base.specs.Texts.{FitsOrIsOwned, IsInlineIfShort, IsRepl
 
 mod append;
 mod list;
+mod one;
 
 pub use append::{StringAppendable, StringType, append_displayed, displayed};
 use arrayvec::ArrayString;

@@ -6,9 +6,11 @@ ghost use Rattle.std.specs.Hash as fed;
 ghost use Rattle.std.specs.Hash.{items_Alike};
 ghost use Rattle.std.specs.Option.{option_copied};
 ghost use Rattle.std.specs.Slice.{IsItemAt};
+ghost use Rattle.semver_base.specs.Texts.{items_of};
 ghost use Rattle.std.specs.Iterator.Adapters.{IterYieldsInOrder};
 ghost use Rattle.std.specs.Slice.Iter.{iter_rest};
 
+use super::one::One;
 use std::alloc::{AllocError, Global};
 use std::hash::{Hash, Hasher};
 use std::marker::Model;
@@ -22,6 +24,25 @@ pub trait CowItem {
         ensures { IfOk result (λ x. x ≡ self.now) };
 }
 
+// The items of a list that isn't empty. One item stands in the memory of the shared pointer itself.
+#[derive(Drop)]
+enum Items<T> {
+    One(One<T>),
+    Many(Vec<T>),
+}
+
+impl<T> Items<T> {
+    #[inline(always)]
+    fn as_slice(&self) -> &[T]
+        ensures { result.now ≡ items_of self.now }
+    {
+        match self {
+            Items::One(one) => one.as_slice(),
+            Items::Many(items) => items.as_slice(),
+        }
+    }
+}
+
 /// A list, seen in contracts as its items.
 ///
 /// Two lists are equal where they have equal items in the same order.
@@ -29,7 +50,7 @@ pub trait CowItem {
 pub struct CowVec<T> {
     alloc: Global,
     // None of an empty list, so that whether it is empty is known without following the pointer.
-    items: Option<Rc<Vec<T>>>,
+    items: Option<Rc<Items<T>>>,
 }
 
 impl<T> Model for CowVec<T> {
@@ -122,6 +143,24 @@ fn copied<T: CowItem + Drop>(alloc: Global, items: &[T]) -> Result<Vec<T>, Alloc
     Ok(all)
 }
 
+impl<T: CowItem + Drop> Items<T> {
+    // Appends `item`. Where no memory is left the items are unchanged and the item is dropped.
+    fn push(&mut self, alloc: Global, item: T) -> Result<(), AllocError>
+        ensures ok { OnOk result (items_of self.new ≡ items_of self.old ++ item ∷ []) }
+        ensures err { OnErr result (items_of self.new ≡ items_of self.old) }
+    {
+        match self {
+            Items::Many(items) => items.push(item)?,
+            Items::One(_) => {
+                let mut items = copied(alloc, self.as_slice())?;
+                items.push(item)?;
+                *self = Items::Many(items);
+            }
+        }
+        Ok(())
+    }
+}
+
 impl<T: CowItem + Drop> CowVec<T> {
     /// Appends `item`. Where no memory is left the list is unchanged and the item is dropped.
     pub fn push(&mut self, item: T) -> Result<(), AllocError>
@@ -133,31 +172,30 @@ impl<T: CowItem + Drop> CowVec<T> {
             None => {
                 let mut items = Vec::new(alloc);
                 items.push(item)?;
-                self.items = Some(Rc::new(alloc, items)?);
+                self.items = Some(Rc::new(alloc, Items::Many(items))?);
             }
             Some(shared) => {
                 if let Some(items) = Rc::get_mut(shared) {
-                    items.push(item)?;
+                    items.push(alloc, item)?;
                 } else {
                     let mut items = copied(alloc, shared.as_slice())?;
                     items.push(item)?;
-                    *shared = Rc::new(alloc, items)?;
+                    *shared = Rc::new(alloc, Items::Many(items))?;
                 }
             }
         }
         Ok(())
     }
 
-    /// The list of one item, with room for no more. It is an error only where no memory is left.
+    /// The list of one item, in one request for memory. It is an error only where no memory is left.
     #[inline(always)]
     pub fn of_one(alloc: Global, item: T) -> Result<Self, AllocError>
         ensures { IfOk result (λ v. v ≡ item ∷ []) }
     {
-        let mut items = Vec::with_capacity(alloc, 1)?;
-        items.push_reserved(item);
+        let one = One::new(item)?;
         Ok(CowVec {
             alloc,
-            items: Some(Rc::new(alloc, items)?),
+            items: Some(Rc::new(alloc, Items::One(one))?),
         })
     }
 
@@ -171,7 +209,7 @@ impl<T: CowItem + Drop> CowVec<T> {
         }
         Ok(CowVec {
             alloc,
-            items: Some(Rc::new(alloc, items)?),
+            items: Some(Rc::new(alloc, Items::Many(items))?),
         })
     }
 
