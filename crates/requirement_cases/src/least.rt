@@ -1,30 +1,30 @@
 //! The least version that requirements match, and whether each version that one matches another does too.
 
-use crate::requirements::read;
+use crate::asked::{of_both, of_one, of_pair, of_pair_with, of_requirement, read, read_all};
 use crate::shown;
 use crate::words::{Answer, Fault, Word, answer, yes_or_no};
 use semver_base::range::PreRelease;
 use semver_base::version::Version;
 use semver_req::req::VersionReq;
-use std::alloc::{AllocError, Global};
+use std::alloc::Global;
 
 /// What a call on least versions and containment answers to a question's words after its name, where the name is of one.
 pub fn ask(alloc: Global, name: &str, words: &[Word<'_>]) -> Option<Answer> {
     let answer = match name {
-        "min-version" => min_version(alloc, words),
-        "common-version" => common_version(alloc, words),
+        "min-version" => of_requirement(alloc, words, min_version),
+        "common-version" => of_pair(alloc, words, common_version),
         "common-with-all" => common_with_all(alloc, words),
-        "version-outside" => version_outside(alloc, words),
-        "is-subset" => is_subset(alloc, words),
-        "is-equivalent" => is_equivalent(alloc, words),
+        "version-outside" => of_pair(alloc, words, version_outside),
+        "is-subset" => of_pair(alloc, words, is_subset),
+        "is-equivalent" => of_pair(alloc, words, is_equivalent),
         "set-is-subset" => set_is_subset(alloc, words),
         "set-is-equivalent" => set_is_equivalent(alloc, words),
         "min-version-with" => min_version_with(alloc, words),
-        "common-version-with" => common_version_with(alloc, words),
+        "common-version-with" => of_pair_with(alloc, words, common_version_with),
         "common-of-all-with" => common_of_all_with(alloc, words),
-        "version-outside-with" => version_outside_with(alloc, words),
-        "is-subset-with" => is_subset_with(alloc, words),
-        "is-equivalent-with" => is_equivalent_with(alloc, words),
+        "version-outside-with" => of_pair_with(alloc, words, version_outside_with),
+        "is-subset-with" => of_pair_with(alloc, words, is_subset_with),
+        "is-equivalent-with" => of_pair_with(alloc, words, is_equivalent_with),
         _ => return None,
     };
     Some(answer)
@@ -39,45 +39,24 @@ fn version_or_none(alloc: Global, version: Option<Version>) -> Answer {
     answer(alloc, &[Some(text.as_str())])
 }
 
-// The two requirements that the words are, by the reader that the first word names.
-fn pair(alloc: Global, words: &[Word<'_>]) -> Result<(VersionReq, VersionReq), Fault> {
-    let [Some(reader), Some(left), Some(right)] = words else {
-        return Err(Fault::Unreadable);
-    };
-    let left = read(alloc, reader, left)?;
-    Ok((left, read(alloc, reader, right)?))
+fn tag(alloc: Global) -> Answer {
+    answer(alloc, &[Some("tag")])
 }
 
 // `min-version`, a reader and a text: the least version that the requirement matches, or `none`; or `tag`.
-fn min_version(alloc: Global, words: &[Word<'_>]) -> Answer {
-    let [Some(reader), Some(text)] = words else {
-        return Err(Fault::Unreadable);
-    };
-    let requirement = read(alloc, reader, text)?;
+fn min_version(alloc: Global, requirement: &VersionReq) -> Answer {
     match requirement.tag() {
         None => version_or_none(alloc, requirement.min_version(alloc)?),
-        Some(_) => answer(alloc, &[Some("tag")]),
+        Some(_) => tag(alloc),
     }
 }
 
 // `common-version`, a reader and two texts: the least version that both match, or `none`; or `tag`.
-fn common_version(alloc: Global, words: &[Word<'_>]) -> Answer {
-    let (left, right) = pair(alloc, words)?;
+fn common_version(alloc: Global, left: &VersionReq, right: &VersionReq) -> Answer {
     match (left.tag(), right.tag()) {
-        (None, None) => version_or_none(alloc, left.common_version(alloc, &right)?),
-        (_, _) => answer(alloc, &[Some("tag")]),
+        (None, None) => version_or_none(alloc, left.common_version(alloc, right)?),
+        (_, _) => tag(alloc),
     }
-}
-
-// The requirements that the words are, by the reader of this name.
-fn read_all(alloc: Global, reader: &str, texts: &[Word<'_>]) -> Result<Vec<VersionReq>, Fault> {
-    let mut requirements = Vec::new(alloc);
-    for text in texts {
-        let text = text.ok_or(Fault::Unreadable)?;
-        let requirement = read(alloc, reader, text)?;
-        requirements.push(requirement).map_err(AllocError::from)?;
-    }
-    Ok(requirements)
 }
 
 // `common-with-all`, a reader, a text and any number of others: the least version that all match, or `none`; or `tag`.
@@ -85,42 +64,43 @@ fn common_with_all(alloc: Global, words: &[Word<'_>]) -> Answer {
     let [Some(reader), Some(text), others @ ..] = words else {
         return Err(Fault::Unreadable);
     };
-    let own = read(alloc, reader, text)?;
-    let others = read_all(alloc, reader, others)?;
-    if own.tag().is_some() || !VersionReq::have_no_tag(others.as_slice()) {
-        return answer(alloc, &[Some("tag")]);
-    }
-    version_or_none(
+    of_both(
         alloc,
-        own.common_version_with_all(alloc, others.as_slice())?,
+        read(alloc, reader, text),
+        read_all(alloc, reader, others),
+        |alloc, own, others| common_of_all(alloc, own, others.as_slice()),
     )
+}
+
+fn common_of_all(alloc: Global, own: &VersionReq, others: &[VersionReq]) -> Answer {
+    if own.tag().is_some() || !VersionReq::have_no_tag(others) {
+        return tag(alloc);
+    }
+    version_or_none(alloc, own.common_version_with_all(alloc, others)?)
 }
 
 // `version-outside`, a reader and two texts: the least version that the first matches and the second doesn't, or `none`;
 // or `tag`.
-fn version_outside(alloc: Global, words: &[Word<'_>]) -> Answer {
-    let (left, right) = pair(alloc, words)?;
+fn version_outside(alloc: Global, left: &VersionReq, right: &VersionReq) -> Answer {
     match (left.tag(), right.tag()) {
-        (None, None) => version_or_none(alloc, left.version_outside(alloc, &right)?),
-        (_, _) => answer(alloc, &[Some("tag")]),
+        (None, None) => version_or_none(alloc, left.version_outside(alloc, right)?),
+        (_, _) => tag(alloc),
     }
 }
 
 // `is-subset`, a reader and two texts: whether the second matches each version that the first matches; or `tag`.
-fn is_subset(alloc: Global, words: &[Word<'_>]) -> Answer {
-    let (left, right) = pair(alloc, words)?;
+fn is_subset(alloc: Global, left: &VersionReq, right: &VersionReq) -> Answer {
     match (left.tag(), right.tag()) {
-        (None, None) => yes_or_no(alloc, left.is_subset(alloc, &right)?),
-        (_, _) => answer(alloc, &[Some("tag")]),
+        (None, None) => yes_or_no(alloc, left.is_subset(alloc, right)?),
+        (_, _) => tag(alloc),
     }
 }
 
 // `is-equivalent`, a reader and two texts: whether both match the same versions; or `tag`.
-fn is_equivalent(alloc: Global, words: &[Word<'_>]) -> Answer {
-    let (left, right) = pair(alloc, words)?;
+fn is_equivalent(alloc: Global, left: &VersionReq, right: &VersionReq) -> Answer {
     match (left.tag(), right.tag()) {
-        (None, None) => yes_or_no(alloc, left.is_equivalent(alloc, &right)?),
-        (_, _) => answer(alloc, &[Some("tag")]),
+        (None, None) => yes_or_no(alloc, left.is_equivalent(alloc, right)?),
+        (_, _) => tag(alloc),
     }
 }
 
@@ -129,8 +109,12 @@ fn set_is_subset(alloc: Global, words: &[Word<'_>]) -> Answer {
     let [Some(set), Some(other)] = words else {
         return Err(Fault::Unreadable);
     };
-    let other = shown::set_of(alloc, other)?;
-    yes_or_no(alloc, shown::set_of(alloc, set)?.is_subset(alloc, &other)?)
+    of_both(
+        alloc,
+        shown::set_of(alloc, set),
+        shown::set_of(alloc, other),
+        |alloc, set, other| yes_or_no(alloc, set.is_subset(alloc, other)?),
+    )
 }
 
 // `set-is-equivalent`, two sets of ranges: whether both match the same versions.
@@ -138,24 +122,12 @@ fn set_is_equivalent(alloc: Global, words: &[Word<'_>]) -> Answer {
     let [Some(set), Some(other)] = words else {
         return Err(Fault::Unreadable);
     };
-    let other = shown::set_of(alloc, other)?;
-    yes_or_no(
+    of_both(
         alloc,
-        shown::set_of(alloc, set)?.is_equivalent(alloc, &other)?,
+        shown::set_of(alloc, set),
+        shown::set_of(alloc, other),
+        |alloc, set, other| yes_or_no(alloc, set.is_equivalent(alloc, other)?),
     )
-}
-
-// What the words say of pre-releases, and the two requirements that they are, by the reader that the first word names.
-fn pair_with(
-    alloc: Global,
-    words: &[Word<'_>],
-) -> Result<(PreRelease, VersionReq, VersionReq), Fault> {
-    let [Some(reader), Some(word), Some(left), Some(right)] = words else {
-        return Err(Fault::Unreadable);
-    };
-    let pre_release = shown::pre_release_of(word)?;
-    let left = read(alloc, reader, left)?;
-    Ok((pre_release, left, read(alloc, reader, right)?))
 }
 
 // `min-version-with`, a reader, `restricted` or `admitted` and a text: the least version that the requirement matches, or
@@ -165,23 +137,31 @@ fn min_version_with(alloc: Global, words: &[Word<'_>]) -> Answer {
         return Err(Fault::Unreadable);
     };
     let pre_release = shown::pre_release_of(word)?;
-    let requirement = read(alloc, reader, text)?;
+    of_one(alloc, read(alloc, reader, text), |alloc, requirement| {
+        least_with(alloc, requirement, pre_release)
+    })
+}
+
+fn least_with(alloc: Global, requirement: &VersionReq, pre_release: PreRelease) -> Answer {
     match requirement.tag() {
         None => version_or_none(alloc, requirement.min_version_with(alloc, pre_release)?),
-        Some(_) => answer(alloc, &[Some("tag")]),
+        Some(_) => tag(alloc),
     }
 }
 
 // `common-version-with`, a reader, `restricted` or `admitted` and two texts: the least version that both match, or `none`;
 // or `tag`.
-fn common_version_with(alloc: Global, words: &[Word<'_>]) -> Answer {
-    let (pre_release, left, right) = pair_with(alloc, words)?;
+fn common_version_with(
+    alloc: Global,
+    left: &VersionReq,
+    right: &VersionReq,
+    pre_release: PreRelease,
+) -> Answer {
     match (left.tag(), right.tag()) {
-        (None, None) => version_or_none(
-            alloc,
-            left.common_version_with(alloc, &right, pre_release)?,
-        ),
-        (_, _) => answer(alloc, &[Some("tag")]),
+        (None, None) => {
+            version_or_none(alloc, left.common_version_with(alloc, right, pre_release)?)
+        }
+        (_, _) => tag(alloc),
     }
 }
 
@@ -192,45 +172,68 @@ fn common_of_all_with(alloc: Global, words: &[Word<'_>]) -> Answer {
         return Err(Fault::Unreadable);
     };
     let pre_release = shown::pre_release_of(word)?;
-    let own = read(alloc, reader, text)?;
-    let others = read_all(alloc, reader, others)?;
-    if own.tag().is_some() || !VersionReq::have_no_tag(others.as_slice()) {
-        return answer(alloc, &[Some("tag")]);
+    of_both(
+        alloc,
+        read(alloc, reader, text),
+        read_all(alloc, reader, others),
+        |alloc, own, others| all_with(alloc, own, others.as_slice(), pre_release),
+    )
+}
+
+fn all_with(
+    alloc: Global,
+    own: &VersionReq,
+    others: &[VersionReq],
+    pre_release: PreRelease,
+) -> Answer {
+    if own.tag().is_some() || !VersionReq::have_no_tag(others) {
+        return tag(alloc);
     }
     version_or_none(
         alloc,
-        own.common_version_of_all_with(alloc, others.as_slice(), pre_release)?,
+        own.common_version_of_all_with(alloc, others, pre_release)?,
     )
 }
 
 // `version-outside-with`, a reader, `restricted` or `admitted` and two texts: the least version that the first matches and
 // the second doesn't, or `none`; or `tag`.
-fn version_outside_with(alloc: Global, words: &[Word<'_>]) -> Answer {
-    let (pre_release, left, right) = pair_with(alloc, words)?;
+fn version_outside_with(
+    alloc: Global,
+    left: &VersionReq,
+    right: &VersionReq,
+    pre_release: PreRelease,
+) -> Answer {
     match (left.tag(), right.tag()) {
-        (None, None) => version_or_none(
-            alloc,
-            left.version_outside_with(alloc, &right, pre_release)?,
-        ),
-        (_, _) => answer(alloc, &[Some("tag")]),
+        (None, None) => {
+            version_or_none(alloc, left.version_outside_with(alloc, right, pre_release)?)
+        }
+        (_, _) => tag(alloc),
     }
 }
 
 // `is-subset-with`, a reader, `restricted` or `admitted` and two texts: whether the second matches each version that the
 // first matches; or `tag`.
-fn is_subset_with(alloc: Global, words: &[Word<'_>]) -> Answer {
-    let (pre_release, left, right) = pair_with(alloc, words)?;
+fn is_subset_with(
+    alloc: Global,
+    left: &VersionReq,
+    right: &VersionReq,
+    pre_release: PreRelease,
+) -> Answer {
     match (left.tag(), right.tag()) {
-        (None, None) => yes_or_no(alloc, left.is_subset_with(alloc, &right, pre_release)?),
-        (_, _) => answer(alloc, &[Some("tag")]),
+        (None, None) => yes_or_no(alloc, left.is_subset_with(alloc, right, pre_release)?),
+        (_, _) => tag(alloc),
     }
 }
 
 // `is-equivalent-with`, a reader, `restricted` or `admitted` and two texts: whether both match the same versions; or `tag`.
-fn is_equivalent_with(alloc: Global, words: &[Word<'_>]) -> Answer {
-    let (pre_release, left, right) = pair_with(alloc, words)?;
+fn is_equivalent_with(
+    alloc: Global,
+    left: &VersionReq,
+    right: &VersionReq,
+    pre_release: PreRelease,
+) -> Answer {
     match (left.tag(), right.tag()) {
-        (None, None) => yes_or_no(alloc, left.is_equivalent_with(alloc, &right, pre_release)?),
-        (_, _) => answer(alloc, &[Some("tag")]),
+        (None, None) => yes_or_no(alloc, left.is_equivalent_with(alloc, right, pre_release)?),
+        (_, _) => tag(alloc),
     }
 }

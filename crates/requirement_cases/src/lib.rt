@@ -1,15 +1,16 @@
 //! Cases of versions and requirements: what each public call of `semver_base` and `semver_req` answers to a row's question.
 //!
-//! `words` has the words of questions and answers, `shown` the texts of values. Above them stand the calls by subject, from
+//! `words` has the words of questions and answers, `shown` the texts of values, `asked` what words stand for. Above them stand the calls by subject, from
 //! `values` to `least`; and `call`, all of them. The crate `cases` has the calls of `deno_semver`, and how a table is gone through.
 #![tactic(auto)]
 
+pub mod asked;
 pub mod call;
 mod least;
 mod partials;
 mod places;
 mod ranges;
-pub mod requirements;
+mod requirements;
 pub mod shown;
 mod texts;
 mod values;

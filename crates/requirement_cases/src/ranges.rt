@@ -1,8 +1,9 @@
 //! What ranges match, and how they are clamped and overlap.
 
+use crate::asked::{of_both, of_one, version_of};
 use crate::shown;
 use crate::words::{Answer, Fault, Word, answer, yes_or_no};
-use semver_base::version::Version;
+use semver_base::range::{RangeBound, VersionRange};
 use std::alloc::Global;
 
 /// What a call on ranges and bounds answers to a question's words after its name, where the name is of one.
@@ -36,47 +37,81 @@ fn pair<'a>(words: &[Word<'a>]) -> Result<(&'a str, &'a str), Fault> {
 // `satisfies`, a range and a version: whether the version matches.
 fn satisfies(alloc: Global, words: &[Word<'_>]) -> Answer {
     let (range, version) = pair(words)?;
-    let version = Version::parse_standard(alloc, version)?;
-    yes_or_no(alloc, shown::range_of(alloc, range)?.satisfies(&version))
+    of_both(
+        alloc,
+        shown::range_of(alloc, range),
+        version_of(alloc, version),
+        |alloc, range, version| yes_or_no(alloc, range.satisfies(version)),
+    )
 }
 
 // `set-satisfies`, a set of ranges and a version: whether the version matches some range.
 fn set_satisfies(alloc: Global, words: &[Word<'_>]) -> Answer {
     let (set, version) = pair(words)?;
-    let version = Version::parse_standard(alloc, version)?;
-    yes_or_no(alloc, shown::set_of(alloc, set)?.satisfies(&version))
+    of_both(
+        alloc,
+        shown::set_of(alloc, set),
+        version_of(alloc, version),
+        |alloc, set, version| yes_or_no(alloc, set.satisfies(version)),
+    )
 }
 
 // `admits`, a start and a version: whether the start is a pre-release of the version's three numbers.
 fn admits(alloc: Global, words: &[Word<'_>]) -> Answer {
     let (start, version) = pair(words)?;
-    let start = shown::start_of(alloc, start)?;
-    let version = Version::parse_standard(alloc, version)?;
-    yes_or_no(alloc, start.has_pre_with_exact_major_minor_patch(&version))
+    of_both(
+        alloc,
+        shown::start_of(alloc, start),
+        version_of(alloc, version),
+        |alloc, start, version| {
+            yes_or_no(alloc, start.has_pre_with_exact_major_minor_patch(version))
+        },
+    )
 }
 
 // `clamp`, two ranges: the range that the first is clamped to by the second.
 fn clamp(alloc: Global, words: &[Word<'_>]) -> Answer {
     let (range, other) = pair(words)?;
-    let other = shown::range_of(alloc, other)?;
-    let clamped = shown::range_of(alloc, range)?.clamp(alloc, &other)?;
-    answer(alloc, &[Some(shown::range(alloc, &clamped)?.as_str())])
+    of_both(
+        alloc,
+        shown::range_of(alloc, range),
+        shown::range_of(alloc, other),
+        |alloc, range, other| told(alloc, &range.clamp(alloc, other)?),
+    )
+}
+
+fn told(alloc: Global, range: &VersionRange) -> Answer {
+    answer(alloc, &[Some(shown::range(alloc, range)?.as_str())])
 }
 
 // `clamp-start`, two starts: the start that the first is clamped to by the second.
 fn clamp_start(alloc: Global, words: &[Word<'_>]) -> Answer {
     let (start, other) = pair(words)?;
-    let other = shown::start_of(alloc, other)?;
-    let clamped = shown::start_of(alloc, start)?.clamp_start(alloc, &other)?;
-    answer(alloc, &[Some(shown::start(alloc, &clamped)?.as_str())])
+    of_both(
+        alloc,
+        shown::start_of(alloc, start),
+        shown::start_of(alloc, other),
+        |alloc, start, other| told_start(alloc, &start.clamp_start(alloc, other)?),
+    )
+}
+
+fn told_start(alloc: Global, start: &RangeBound) -> Answer {
+    answer(alloc, &[Some(shown::start(alloc, start)?.as_str())])
 }
 
 // `clamp-end`, two ends: the end that the first is clamped to by the second.
 fn clamp_end(alloc: Global, words: &[Word<'_>]) -> Answer {
     let (end, other) = pair(words)?;
-    let other = shown::end_of(alloc, other)?;
-    let clamped = shown::end_of(alloc, end)?.clamp_end(alloc, &other)?;
-    answer(alloc, &[Some(shown::end(alloc, &clamped)?.as_str())])
+    of_both(
+        alloc,
+        shown::end_of(alloc, end),
+        shown::end_of(alloc, other),
+        |alloc, end, other| told_end(alloc, &end.clamp_end(alloc, other)?),
+    )
+}
+
+fn told_end(alloc: Global, end: &RangeBound) -> Answer {
+    answer(alloc, &[Some(shown::end(alloc, end)?.as_str())])
 }
 
 // `is-none`, a range: whether its end is exclusive and at the numbers 0.0.0.
@@ -84,34 +119,42 @@ fn is_none(alloc: Global, words: &[Word<'_>]) -> Answer {
     let [Some(range)] = words else {
         return Err(Fault::Unreadable);
     };
-    yes_or_no(alloc, shown::range_of(alloc, range)?.is_none())
+    of_one(alloc, shown::range_of(alloc, range), |alloc, range| {
+        yes_or_no(alloc, range.is_none())
+    })
 }
 
 // `intersects-version`, a range and a version: whether the version stands between the bounds.
 fn intersects_version(alloc: Global, words: &[Word<'_>]) -> Answer {
     let (range, version) = pair(words)?;
-    let version = Version::parse_standard(alloc, version)?;
-    yes_or_no(
+    of_both(
         alloc,
-        shown::range_of(alloc, range)?.intersects_version(&version),
+        shown::range_of(alloc, range),
+        version_of(alloc, version),
+        |alloc, range, version| yes_or_no(alloc, range.intersects_version(version)),
     )
 }
 
 // `intersects-range`, two ranges: whether they overlap.
 fn intersects_range(alloc: Global, words: &[Word<'_>]) -> Answer {
     let (range, other) = pair(words)?;
-    let other = shown::range_of(alloc, other)?;
-    yes_or_no(
+    of_both(
         alloc,
-        shown::range_of(alloc, range)?.intersects_range(&other),
+        shown::range_of(alloc, range),
+        shown::range_of(alloc, other),
+        |alloc, range, other| yes_or_no(alloc, range.intersects_range(other)),
     )
 }
 
 // `intersects-set`, two sets of ranges: whether a range of the one overlaps a range of the other.
 fn intersects_set(alloc: Global, words: &[Word<'_>]) -> Answer {
     let (set, other) = pair(words)?;
-    let other = shown::set_of(alloc, other)?;
-    yes_or_no(alloc, shown::set_of(alloc, set)?.intersects_set(&other))
+    of_both(
+        alloc,
+        shown::set_of(alloc, set),
+        shown::set_of(alloc, other),
+        |alloc, set, other| yes_or_no(alloc, set.intersects_set(other)),
+    )
 }
 
 // `satisfies-with`, a range, a version and `restricted` or `admitted`: whether the version matches.
@@ -120,9 +163,12 @@ fn satisfies_with(alloc: Global, words: &[Word<'_>]) -> Answer {
         return Err(Fault::Unreadable);
     };
     let pre_release = shown::pre_release_of(word)?;
-    let version = Version::parse_standard(alloc, version)?;
-    let range = shown::range_of(alloc, range)?;
-    yes_or_no(alloc, range.satisfies_with(&version, pre_release))
+    of_both(
+        alloc,
+        shown::range_of(alloc, range),
+        version_of(alloc, version),
+        |alloc, range, version| yes_or_no(alloc, range.satisfies_with(version, pre_release)),
+    )
 }
 
 // `set-satisfies-with`, a set of ranges, a version and `restricted` or `admitted`: whether the version matches some range.
@@ -131,7 +177,10 @@ fn set_satisfies_with(alloc: Global, words: &[Word<'_>]) -> Answer {
         return Err(Fault::Unreadable);
     };
     let pre_release = shown::pre_release_of(word)?;
-    let version = Version::parse_standard(alloc, version)?;
-    let set = shown::set_of(alloc, set)?;
-    yes_or_no(alloc, set.satisfies_with(&version, pre_release))
+    of_both(
+        alloc,
+        shown::set_of(alloc, set),
+        version_of(alloc, version),
+        |alloc, set, version| yes_or_no(alloc, set.satisfies_with(version, pre_release)),
+    )
 }

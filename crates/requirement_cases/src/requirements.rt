@@ -1,5 +1,6 @@
 //! How requirements are read, and what they match.
 
+use crate::asked::{of_both, of_one, of_pair, of_requirement, read, version_of};
 use crate::shown;
 use crate::words::{Answer, Fault, Word, answer, yes_or_no};
 use semver_base::failure::ParseFailure;
@@ -13,29 +14,19 @@ use std::alloc::Global;
 pub fn ask(alloc: Global, name: &str, words: &[Word<'_>]) -> Option<Answer> {
     let answer = match name {
         "tag" => tag(alloc, words),
-        "requirement" => requirement(alloc, words),
-        "same-requirement" => same_requirement(alloc, words),
-        "ranges" => ranges(alloc, words),
+        "requirement" => of_requirement(alloc, words, requirement),
+        "same-requirement" => of_pair(alloc, words, same_requirement),
+        "ranges" => of_requirement(alloc, words, ranges),
         "fits" => fits(alloc, words),
-        "overlap" => overlap(alloc, words),
+        "overlap" => of_pair(alloc, words, overlap),
         "error" => error(alloc, words),
-        "normal" => normal(alloc, words),
+        "normal" => of_requirement(alloc, words, normal),
         "reread" => reread(alloc, words),
         "pinned" => pinned(alloc, words),
         "matches-with" => matches_with(alloc, words),
         _ => return None,
     };
     Some(answer)
-}
-
-/// The requirement that the reader of this name makes of a text.
-pub fn read(alloc: Global, reader: &str, text: &str) -> Result<VersionReq, Fault> {
-    match reader {
-        "npm" => Ok(VersionReq::parse_from_npm(alloc, text)?),
-        "normal" => Ok(VersionReq::parse_from_normalized(alloc, text)?),
-        "strict" => Ok(VersionReq::parse_from_specifier(alloc, text)?),
-        _ => Err(Fault::Unreadable),
-    }
 }
 
 // `tag`, a text: whether it is a valid tag.
@@ -47,11 +38,7 @@ fn tag(alloc: Global, words: &[Word<'_>]) -> Answer {
 }
 
 // `requirement`, a reader and a text: `ranges`, or `tag` and the tag; and the text that the requirement keeps.
-fn requirement(alloc: Global, words: &[Word<'_>]) -> Answer {
-    let [Some(reader), Some(text)] = words else {
-        return Err(Fault::Unreadable);
-    };
-    let requirement = read(alloc, reader, text)?;
+fn requirement(alloc: Global, requirement: &VersionReq) -> Answer {
     let text = requirement.version_text();
     match requirement.inner() {
         RangeSetOrTag::RangeSet(_) => answer(alloc, &[Some("ranges"), Some(text)]),
@@ -61,33 +48,23 @@ fn requirement(alloc: Global, words: &[Word<'_>]) -> Answer {
 
 // `ranges`, a reader and a text that is no tag: the ranges of a copy of the requirement, and the text that the copy
 // keeps.
-fn ranges(alloc: Global, words: &[Word<'_>]) -> Answer {
-    let [Some(reader), Some(text)] = words else {
-        return Err(Fault::Unreadable);
-    };
-    let copy = read(alloc, reader, text)?.copy()?;
+fn ranges(alloc: Global, requirement: &VersionReq) -> Answer {
+    copied_ranges(alloc, &requirement.copy()?)
+}
+
+fn copied_ranges(alloc: Global, copy: &VersionReq) -> Answer {
     let set = copy.range().ok_or(Fault::Unreadable)?;
     let ranges = shown::set(alloc, set)?;
     answer(alloc, &[Some(ranges.as_str()), Some(copy.version_text())])
 }
 
 // `overlap`, a reader and two texts: whether the requirements overlap.
-fn overlap(alloc: Global, words: &[Word<'_>]) -> Answer {
-    let [Some(reader), Some(left), Some(right)] = words else {
-        return Err(Fault::Unreadable);
-    };
-    let left = read(alloc, reader, left)?;
-    let right = read(alloc, reader, right)?;
-    yes_or_no(alloc, left.intersects(&right))
+fn overlap(alloc: Global, left: &VersionReq, right: &VersionReq) -> Answer {
+    yes_or_no(alloc, left.intersects(right))
 }
 
 // `same-requirement`, a reader and two texts: whether the requirements stand for the same.
-fn same_requirement(alloc: Global, words: &[Word<'_>]) -> Answer {
-    let [Some(reader), Some(left), Some(right)] = words else {
-        return Err(Fault::Unreadable);
-    };
-    let left = read(alloc, reader, left)?;
-    let right = read(alloc, reader, right)?;
+fn same_requirement(alloc: Global, left: &VersionReq, right: &VersionReq) -> Answer {
     yes_or_no(alloc, left == right)
 }
 
@@ -96,20 +73,19 @@ fn fits(alloc: Global, words: &[Word<'_>]) -> Answer {
     let [Some(reader), Some(requirement), Some(version)] = words else {
         return Err(Fault::Unreadable);
     };
-    let requirement = read(alloc, reader, requirement)?;
-    let version = Version::parse_standard(alloc, version)?;
-    match requirement.tag() {
-        None => yes_or_no(alloc, requirement.matches(&version)),
-        Some(tag) => answer(alloc, &[Some("tag"), Some(tag)]),
-    }
+    of_both(
+        alloc,
+        read(alloc, reader, requirement),
+        version_of(alloc, version),
+        |alloc, requirement, version| match requirement.tag() {
+            None => yes_or_no(alloc, requirement.matches(version)),
+            Some(tag) => answer(alloc, &[Some("tag"), Some(tag)]),
+        },
+    )
 }
 
 // `normal`, a reader and a text: `ranges` or `tag`, and the normal text of the requirement.
-fn normal(alloc: Global, words: &[Word<'_>]) -> Answer {
-    let [Some(reader), Some(text)] = words else {
-        return Err(Fault::Unreadable);
-    };
-    let requirement = read(alloc, reader, text)?;
+fn normal(alloc: Global, requirement: &VersionReq) -> Answer {
     let kind = match requirement.tag() {
         None => "ranges",
         Some(_) => "tag",
@@ -124,9 +100,22 @@ fn reread(alloc: Global, words: &[Word<'_>]) -> Answer {
     let [Some(reader), Some(text), Some(other)] = words else {
         return Err(Fault::Unreadable);
     };
-    let requirement = read(alloc, reader, text)?;
+    of_one(alloc, read(alloc, reader, text), |alloc, requirement| {
+        of_one(
+            alloc,
+            read_normal(alloc, other, requirement),
+            |alloc, again| told_again(alloc, requirement, again),
+        )
+    })
+}
+
+// What the reader of this name makes of the requirement's normal text.
+fn read_normal(alloc: Global, reader: &str, requirement: &VersionReq) -> Result<VersionReq, Fault> {
     let normal = requirement.to_string_normalized(alloc)?;
-    let again = read(alloc, other, normal.as_str())?;
+    read(alloc, reader, normal.as_str())
+}
+
+fn told_again(alloc: Global, requirement: &VersionReq, again: &VersionReq) -> Answer {
     let word = if again == requirement {
         "equal"
     } else {
@@ -142,21 +131,30 @@ fn pinned(alloc: Global, words: &[Word<'_>]) -> Answer {
     let [Some(version), Some(other)] = words else {
         return Err(Fault::Unreadable);
     };
-    let requirement = Version::parse_standard(alloc, version)?.into_req(alloc)?;
-    let other = Version::parse_standard(alloc, other)?;
+    of_both(
+        alloc,
+        pinned_to(alloc, version),
+        version_of(alloc, other),
+        told_pinned,
+    )
+}
+
+// The requirement that the version is turned into.
+fn pinned_to(alloc: Global, version: &str) -> Result<VersionReq, Fault> {
+    Ok(version_of(alloc, version)?.into_req(alloc)?)
+}
+
+fn told_pinned(alloc: Global, requirement: &VersionReq, version: &Version) -> Answer {
     let normal = requirement.to_string_normalized(alloc)?;
     let matches = match requirement.tag() {
-        None if requirement.matches(&other) => "yes",
+        None if requirement.matches(version) => "yes",
         _ => "no",
     };
-    answer(
-        alloc,
-        &[
-            Some(requirement.version_text()),
-            Some(normal.as_str()),
-            Some(matches),
-        ],
-    )
+    three(alloc, requirement.version_text(), normal.as_str(), matches)
+}
+
+fn three(alloc: Global, first: &str, second: &str, third: &str) -> Answer {
+    answer(alloc, &[Some(first), Some(second), Some(third)])
 }
 
 // `matches-with`, a reader, a requirement, a version and `restricted` or `admitted`: whether the version matches, or `tag`
@@ -165,13 +163,16 @@ fn matches_with(alloc: Global, words: &[Word<'_>]) -> Answer {
     let [Some(reader), Some(requirement), Some(version), Some(word)] = words else {
         return Err(Fault::Unreadable);
     };
-    let requirement = read(alloc, reader, requirement)?;
-    let version = Version::parse_standard(alloc, version)?;
     let pre_release = shown::pre_release_of(word)?;
-    match requirement.tag() {
-        None => yes_or_no(alloc, requirement.matches_with(&version, pre_release)),
-        Some(tag) => answer(alloc, &[Some("tag"), Some(tag)]),
-    }
+    of_both(
+        alloc,
+        read(alloc, reader, requirement),
+        version_of(alloc, version),
+        |alloc, requirement, version| match requirement.tag() {
+            None => yes_or_no(alloc, requirement.matches_with(version, pre_release)),
+            Some(tag) => answer(alloc, &[Some("tag"), Some(tag)]),
+        },
+    )
 }
 
 // The first line of the error, and that of its source.

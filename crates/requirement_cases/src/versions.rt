@@ -1,10 +1,11 @@
 //! How versions are read and compared.
 
+use crate::asked::{of_both, version_of};
 use crate::shown;
 use crate::words::{Answer, Fault, Word, answer, yes_or_no};
 use semver_base::version::{Version, VersionPreOrBuild};
 use semver_req::npm::parse_npm_version;
-use std::alloc::{AllocError, Global};
+use std::alloc::Global;
 use std::cmp::Ordering;
 
 /// What a call on versions answers to a question's words after its name, where the name is of one.
@@ -12,9 +13,9 @@ pub fn ask(alloc: Global, name: &str, words: &[Word<'_>]) -> Option<Answer> {
     let answer = match name {
         "version" => version(alloc, words),
         "npm-version" => npm_version(alloc, words),
-        "equal" => equal(alloc, words),
-        "compare" => compare(alloc, words),
-        "precedence" => precedence(alloc, words),
+        "equal" => of_versions(alloc, words, equal),
+        "compare" => of_versions(alloc, words, compare),
+        "precedence" => of_versions(alloc, words, precedence),
         "identifiers" => identifiers(alloc, words),
         _ => return None,
     };
@@ -41,14 +42,23 @@ fn npm_version(alloc: Global, words: &[Word<'_>]) -> Answer {
     answer(alloc, &[Some("read"), Some(text.as_str())])
 }
 
-// The two versions that the words are.
-fn pair(alloc: Global, words: &[Word<'_>]) -> Result<(Version, Version), Fault> {
+// Two versions: what is told of them.
+fn of_versions<F: Fn(Global, &Version, &Version) -> Answer>(
+    alloc: Global,
+    words: &[Word<'_>],
+    tell: F,
+) -> Answer
+    requires { F.IsAlwaysCallable tell }
+{
     let [Some(left), Some(right)] = words else {
         return Err(Fault::Unreadable);
     };
-    let left = Version::parse_standard(alloc, left)?;
-    let right = Version::parse_standard(alloc, right)?;
-    Ok((left, right))
+    of_both(
+        alloc,
+        version_of(alloc, left),
+        version_of(alloc, right),
+        tell,
+    )
 }
 
 // How the left one of two compares to the right one.
@@ -62,25 +72,22 @@ fn order(alloc: Global, ordering: Ordering) -> Answer {
 }
 
 // `equal`, two versions: whether they are the same, build included.
-fn equal(alloc: Global, words: &[Word<'_>]) -> Answer {
-    let (left, right) = pair(alloc, words)?;
+fn equal(alloc: Global, left: &Version, right: &Version) -> Answer {
     yes_or_no(alloc, left == right)
 }
 
 // `compare`, two versions: their order, in which the build has a part.
-fn compare(alloc: Global, words: &[Word<'_>]) -> Answer {
-    let (left, right) = pair(alloc, words)?;
-    order(alloc, left.cmp(&right))
+fn compare(alloc: Global, left: &Version, right: &Version) -> Answer {
+    order(alloc, left.cmp(right))
 }
 
 // `precedence`, two versions: their precedence.
-fn precedence(alloc: Global, words: &[Word<'_>]) -> Answer {
-    let (left, right) = pair(alloc, words)?;
-    order(alloc, left.cmp_precedence(&right))
+fn precedence(alloc: Global, left: &Version, right: &Version) -> Answer {
+    order(alloc, left.cmp_precedence(right))
 }
 
 // 0.0.0 with one pre-release identifier, made by hand.
-fn pre_release(alloc: Global, identifier: &str) -> Result<Version, AllocError> {
+fn pre_release(alloc: Global, identifier: &str) -> Result<Version, Fault> {
     let mut version = Version::new(alloc);
     version
         .pre
@@ -94,7 +101,10 @@ fn identifiers(alloc: Global, words: &[Word<'_>]) -> Answer {
     let [Some(left), Some(right)] = words else {
         return Err(Fault::Unreadable);
     };
-    let left = pre_release(alloc, left)?;
-    let right = pre_release(alloc, right)?;
-    order(alloc, left.cmp_precedence(&right))
+    of_both(
+        alloc,
+        pre_release(alloc, left),
+        pre_release(alloc, right),
+        precedence,
+    )
 }
