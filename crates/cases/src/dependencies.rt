@@ -1,12 +1,12 @@
 //! Dependencies of either kind.
 
 use crate::packages;
-use crate::packages::kind;
+use crate::packages::{kind, told_order};
 use deno_semver::jsr::{JsrDepPackageReq, JsrDepPackageReqParseError};
 use deno_semver::package::{PackageKind, PackageReq};
+use requirement_cases::asked::{of_both, of_one, of_outcome};
 use requirement_cases::words::{Answer, Fault, Word, answer};
 use std::alloc::Global;
-use std::cmp::Ordering;
 
 /// What a call on dependencies answers to a question's words after its name, where the name is of one.
 pub fn ask(alloc: Global, name: &str, words: &[Word<'_>]) -> Option<Answer> {
@@ -46,10 +46,12 @@ fn dependency(alloc: Global, words: &[Word<'_>]) -> Answer {
     let [Some(reader), Some(text)] = words else {
         return Err(Fault::Unreadable);
     };
-    match read(alloc, reader, text)? {
-        Ok(dependency) => told(alloc, &dependency.copy()?),
-        Err(error) => refused(alloc, &error.copy()?),
-    }
+    of_outcome(
+        alloc,
+        read(alloc, reader, text)?,
+        |alloc, dependency| told(alloc, &dependency.copy()?),
+        |alloc, error| refused(alloc, &error.copy()?),
+    )
 }
 
 // What is told of a dependency that was read.
@@ -96,12 +98,19 @@ fn dependency_error(alloc: Global, words: &[Word<'_>]) -> Answer {
     let [Some(reader), Some(text)] = words else {
         return Err(Fault::Unreadable);
     };
-    let error = read(alloc, reader, text)?.err().ok_or(Fault::Unreadable)?;
+    of_outcome(
+        alloc,
+        read(alloc, reader, text)?,
+        |_, _| Err(Fault::Unreadable),
+        line,
+    )
+}
+
+fn line(alloc: Global, error: &JsrDepPackageReqParseError) -> Answer {
     if error.is_memory() {
         return Err(Fault::OutOfMemory);
     }
-    let line = format!(in alloc; "{error}")?;
-    answer(alloc, &[Some(line.as_str())])
+    answer(alloc, &[Some(format!(in alloc; "{error}")?.as_str())])
 }
 
 /// The dependency that npm's reader reads.
@@ -114,12 +123,12 @@ fn dependency_order(alloc: Global, words: &[Word<'_>]) -> Answer {
     let [Some(one), Some(other)] = words else {
         return Err(Fault::Unreadable);
     };
-    let word = match by_npm(alloc, one)?.cmp(&by_npm(alloc, other)?) {
-        Ordering::Less => "less",
-        Ordering::Equal => "equal",
-        Ordering::Greater => "greater",
-    };
-    answer(alloc, &[Some(word)])
+    of_both(
+        alloc,
+        by_npm(alloc, one),
+        by_npm(alloc, other),
+        |alloc, one, other| told_order(alloc, one.cmp(other)),
+    )
 }
 
 // `dependency-made`, `jsr` or `npm`, and the text of a package: how the dependency of that registry is displayed.
@@ -127,12 +136,22 @@ fn dependency_made(alloc: Global, words: &[Word<'_>]) -> Answer {
     let [Some(registry), Some(text)] = words else {
         return Err(Fault::Unreadable);
     };
-    let req = PackageReq::from_str(alloc, text).map_err(packages::fault)?;
-    let dependency = match *registry {
-        "jsr" => JsrDepPackageReq::jsr(req),
-        "npm" => JsrDepPackageReq::npm(req),
+    of_one(
+        alloc,
+        made(alloc, registry, text),
+        |alloc, dependency| answer(alloc, &[Some(format!(in alloc; "{dependency}")?.as_str())]),
+    )
+}
+
+fn made(alloc: Global, registry: &str, text: &str) -> Result<JsrDepPackageReq, Fault> {
+    let kind = match registry {
+        "jsr" => PackageKind::Jsr,
+        "npm" => PackageKind::Npm,
         _ => return Err(Fault::Unreadable),
     };
-    let displayed = format!(in alloc; "{dependency}")?;
-    answer(alloc, &[Some(displayed.as_str())])
+    let req = PackageReq::from_str(alloc, text).map_err(packages::fault)?;
+    Ok(match kind {
+        PackageKind::Jsr => JsrDepPackageReq::jsr(req),
+        PackageKind::Npm => JsrDepPackageReq::npm(req),
+    })
 }

@@ -9,6 +9,7 @@ use deno_semver::{
     RangeBound, RangeSetOrTag, SmallStackString, StackString, Version, VersionBound,
     VersionBoundKind, VersionRange, VersionRangeSet, VersionReq,
 };
+use requirement_cases::asked::{of_one, of_outcome, read};
 use requirement_cases::words::{Answer, Fault, Word, answer, yes_or_no};
 use serde_json::{Category, Value};
 use std::alloc::Global;
@@ -39,13 +40,23 @@ fn value_of(alloc: Global, text: &str) -> Result<Value, Fault> {
 
 // `read` and the JSON value of the value of this type that a JSON value stands for; or `refused` and the line of the error.
 fn form<T: JsonForm + Drop>(alloc: Global, json: &Value) -> Answer {
-    match T::from_json(alloc, json) {
-        Ok(read) => {
-            let text = read.to_json(alloc)?.to_string(alloc)?;
-            answer(alloc, &[Some("read"), Some(text.as_str())])
-        }
-        Err(JsonError::Json) => answer(alloc, &[Some("refused"), Some("Invalid JSON value")]),
-        Err(JsonError::Memory) => Err(Fault::OutOfMemory),
+    of_outcome(
+        alloc,
+        T::from_json(alloc, json),
+        |alloc, read| told_read(alloc, &read.to_json(alloc)?),
+        refused,
+    )
+}
+
+fn told_read(alloc: Global, json: &Value) -> Answer {
+    let text = json.to_string(alloc)?;
+    answer(alloc, &[Some("read"), Some(text.as_str())])
+}
+
+fn refused(alloc: Global, error: &JsonError) -> Answer {
+    match error {
+        JsonError::Json => answer(alloc, &[Some("refused"), Some("Invalid JSON value")]),
+        JsonError::Memory => Err(Fault::OutOfMemory),
     }
 }
 
@@ -54,23 +65,28 @@ fn json(alloc: Global, words: &[Word<'_>]) -> Answer {
     let [Some(of_type), Some(text)] = words else {
         return Err(Fault::Unreadable);
     };
-    let json = value_of(alloc, text)?;
-    match *of_type {
-        "SmallStackString" => form::<SmallStackString>(alloc, &json),
-        "StackString" => form::<StackString>(alloc, &json),
-        "Version" => form::<Version>(alloc, &json),
-        "VersionBoundKind" => form::<VersionBoundKind>(alloc, &json),
-        "VersionBound" => form::<VersionBound>(alloc, &json),
-        "RangeBound" => form::<RangeBound>(alloc, &json),
-        "VersionRange" => form::<VersionRange>(alloc, &json),
-        "VersionRangeSet" => form::<VersionRangeSet>(alloc, &json),
-        "RangeSetOrTag" => form::<RangeSetOrTag>(alloc, &json),
-        "VersionReq" => form::<VersionReq>(alloc, &json),
-        "PackageReq" => form::<PackageReq>(alloc, &json),
-        "PackageNv" => form::<PackageNv>(alloc, &json),
-        "JsrPackageNvReference" => form::<JsrPackageNvReference>(alloc, &json),
-        "NpmPackageNvReference" => form::<NpmPackageNvReference>(alloc, &json),
-        "JsrDepPackageReq" => form::<JsrDepPackageReq>(alloc, &json),
+    of_one(alloc, value_of(alloc, text), |alloc, json| {
+        form_of(alloc, of_type, json)
+    })
+}
+
+fn form_of(alloc: Global, of_type: &str, json: &Value) -> Answer {
+    match of_type {
+        "SmallStackString" => form::<SmallStackString>(alloc, json),
+        "StackString" => form::<StackString>(alloc, json),
+        "Version" => form::<Version>(alloc, json),
+        "VersionBoundKind" => form::<VersionBoundKind>(alloc, json),
+        "VersionBound" => form::<VersionBound>(alloc, json),
+        "RangeBound" => form::<RangeBound>(alloc, json),
+        "VersionRange" => form::<VersionRange>(alloc, json),
+        "VersionRangeSet" => form::<VersionRangeSet>(alloc, json),
+        "RangeSetOrTag" => form::<RangeSetOrTag>(alloc, json),
+        "VersionReq" => form::<VersionReq>(alloc, json),
+        "PackageReq" => form::<PackageReq>(alloc, json),
+        "PackageNv" => form::<PackageNv>(alloc, json),
+        "JsrPackageNvReference" => form::<JsrPackageNvReference>(alloc, json),
+        "NpmPackageNvReference" => form::<NpmPackageNvReference>(alloc, json),
+        "JsrDepPackageReq" => form::<JsrDepPackageReq>(alloc, json),
         _ => Err(Fault::Unreadable),
     }
 }
@@ -80,14 +96,22 @@ fn json_error(alloc: Global, words: &[Word<'_>]) -> Answer {
     let [Some(text)] = words else {
         return Err(Fault::Unreadable);
     };
-    match Version::from_json(alloc, &value_of(alloc, text)?) {
-        Ok(_) => Err(Fault::Unreadable),
-        Err(JsonError::Memory) => Err(Fault::OutOfMemory),
-        Err(error) => {
-            let copy = error.copy()?;
-            answer(alloc, &[Some(format!(in alloc; "{copy}")?.as_str())])
-        }
+    of_one(alloc, value_of(alloc, text), |alloc, json| {
+        of_outcome(
+            alloc,
+            Version::from_json(alloc, json),
+            |_, _| Err(Fault::Unreadable),
+            line,
+        )
+    })
+}
+
+fn line(alloc: Global, error: &JsonError) -> Answer {
+    if *error == JsonError::Memory {
+        return Err(Fault::OutOfMemory);
     }
+    let copy = error.copy()?;
+    answer(alloc, &[Some(format!(in alloc; "{copy}")?.as_str())])
 }
 
 // The requirement of a package that the reader of this name makes of a text.
@@ -110,12 +134,13 @@ fn dependency(alloc: Global, reader: &str, text: &str) -> Result<JsrDepPackageRe
     read.map_err(dependencies::fault)
 }
 
-// The JSON value of the ranges of a requirement.
-fn json_of_ranges(alloc: Global, requirement: &VersionReq) -> Result<Value, Fault> {
-    match requirement.range() {
-        Some(ranges) => Ok(ranges.to_json(alloc)?),
-        None => Err(Fault::Unreadable),
-    }
+fn told(alloc: Global, json: &Value) -> Answer {
+    let text = json.to_string(alloc)?;
+    answer(alloc, &[Some(text.as_str())])
+}
+
+fn told_form<T: JsonForm>(alloc: Global, value: &T) -> Answer {
+    told(alloc, &value.to_json(alloc)?)
 }
 
 // `json-of`, the name of a type, a reader, and a text: the JSON value of what the reader makes of it, of the ranges of a
@@ -124,24 +149,39 @@ fn json_of(alloc: Global, words: &[Word<'_>]) -> Answer {
     let [Some(of_type), Some(reader), Some(text)] = words else {
         return Err(Fault::Unreadable);
     };
-    let json = match *of_type {
-        "VersionReq" => VersionReq::parse_from_npm(alloc, text)?.to_json(alloc)?,
-        "VersionRangeSet" => json_of_ranges(alloc, &VersionReq::parse_from_npm(alloc, text)?)?,
-        "PackageReq" => package(alloc, reader, text)?.to_json(alloc)?,
-        "JsrDepPackageReq" => dependency(alloc, reader, text)?.to_json(alloc)?,
-        _ => return Err(Fault::Unreadable),
-    };
-    let text = json.to_string(alloc)?;
-    answer(alloc, &[Some(text.as_str())])
+    match *of_type {
+        "VersionReq" => of_one(alloc, read(alloc, "npm", text), told_form),
+        "VersionRangeSet" => of_one(
+            alloc,
+            read(alloc, "npm", text),
+            |alloc, requirement| match requirement.range() {
+                Some(ranges) => told_form(alloc, ranges),
+                None => Err(Fault::Unreadable),
+            },
+        ),
+        "PackageReq" => of_one(alloc, package(alloc, reader, text), told_form),
+        "JsrDepPackageReq" => of_one(alloc, dependency(alloc, reader, text), told_form),
+        _ => Err(Fault::Unreadable),
+    }
 }
 
 // Whether a value is read back equal from its JSON value.
 fn is_read_back<T: JsonForm + PartialEq + Drop>(alloc: Global, value: &T) -> Answer {
-    match T::from_json(alloc, &value.to_json(alloc)?) {
-        Ok(again) => yes_or_no(alloc, again == *value),
-        Err(JsonError::Json) => answer(alloc, &[Some("refused")]),
-        Err(JsonError::Memory) => Err(Fault::OutOfMemory),
-    }
+    of_one(alloc, json_value(alloc, value), |alloc, json| {
+        of_outcome(
+            alloc,
+            T::from_json(alloc, json),
+            |alloc, again| yes_or_no(alloc, again == value),
+            |alloc, error| match error {
+                JsonError::Json => answer(alloc, &[Some("refused")]),
+                JsonError::Memory => Err(Fault::OutOfMemory),
+            },
+        )
+    })
+}
+
+fn json_value<T: JsonForm>(alloc: Global, value: &T) -> Result<Value, Fault> {
+    Ok(value.to_json(alloc)?)
 }
 
 // `stored`, the name of a type, a reader, and a text: whether what the reader makes of it is read back equal from its JSON
@@ -151,8 +191,8 @@ fn stored(alloc: Global, words: &[Word<'_>]) -> Answer {
         return Err(Fault::Unreadable);
     };
     match *of_type {
-        "PackageReq" => is_read_back(alloc, &package(alloc, reader, text)?),
-        "JsrDepPackageReq" => is_read_back(alloc, &dependency(alloc, reader, text)?),
+        "PackageReq" => of_one(alloc, package(alloc, reader, text), is_read_back),
+        "JsrDepPackageReq" => of_one(alloc, dependency(alloc, reader, text), is_read_back),
         _ => Err(Fault::Unreadable),
     }
 }
@@ -173,9 +213,9 @@ fn all_by_npm(alloc: Global, words: &[Word<'_>]) -> Result<Vec<PackageReq>, Faul
 
 // `reqs-json` and any number of texts of packages, by npm's reader: the JSON value of their list.
 fn reqs_json(alloc: Global, words: &[Word<'_>]) -> Answer {
-    let reqs = all_by_npm(alloc, words)?;
-    let text = reqs_to_json(alloc, reqs.as_slice())?.to_string(alloc)?;
-    answer(alloc, &[Some(text.as_str())])
+    of_one(alloc, all_by_npm(alloc, words), |alloc, reqs| {
+        told(alloc, &reqs_to_json(alloc, reqs.as_slice())?)
+    })
 }
 
 // `read`, and how each requirement is displayed.
@@ -195,11 +235,14 @@ fn reqs_of_json(alloc: Global, words: &[Word<'_>]) -> Answer {
     let [Some(text)] = words else {
         return Err(Fault::Unreadable);
     };
-    match reqs_from_json(alloc, &value_of(alloc, text)?) {
-        Ok(reqs) => read_list(alloc, reqs.as_slice()),
-        Err(JsonError::Json) => answer(alloc, &[Some("refused"), Some("Invalid JSON value")]),
-        Err(JsonError::Memory) => Err(Fault::OutOfMemory),
-    }
+    of_one(alloc, value_of(alloc, text), |alloc, json| {
+        of_outcome(
+            alloc,
+            reqs_from_json(alloc, json),
+            |alloc, reqs| read_list(alloc, reqs.as_slice()),
+            refused,
+        )
+    })
 }
 
 // What is read of the JSON value of a list.
@@ -214,7 +257,11 @@ fn read_again(alloc: Global, reqs: &[PackageReq]) -> Result<Vec<PackageReq>, Fau
 // `reqs-stored` and any number of texts of packages, by npm's reader: whether what is read of the JSON value of their list is
 // equal to what is read of the JSON value of that.
 fn reqs_stored(alloc: Global, words: &[Word<'_>]) -> Answer {
-    let once = read_again(alloc, all_by_npm(alloc, words)?.as_slice())?;
-    let twice = read_again(alloc, once.as_slice())?;
-    yes_or_no(alloc, once == twice)
+    of_one(alloc, all_by_npm(alloc, words), |alloc, reqs| {
+        of_one(alloc, read_again(alloc, reqs.as_slice()), |alloc, once| {
+            of_one(alloc, read_again(alloc, once.as_slice()), |alloc, twice| {
+                yes_or_no(alloc, once == twice)
+            })
+        })
+    })
 }

@@ -1,10 +1,11 @@
 //! Packages: requirements of them, and names with versions.
 
 use deno_semver::package::{
-    PackageNv, PackageReq, PackageReqParseError, PackageReqPartsParseError,
+    PackageNv, PackageNvParseError, PackageReq, PackageReqParseError, PackageReqPartsParseError,
 };
+use requirement_cases::asked::{of_both, of_outcome};
 use requirement_cases::words::{Answer, Fault, Word, answer};
-use std::alloc::Global;
+use std::alloc::{AllocError, Global};
 use std::cmp::Ordering;
 
 /// What a call on packages answers to a question's words after its name, where the name is of one.
@@ -74,13 +75,16 @@ fn package(alloc: Global, words: &[Word<'_>]) -> Answer {
     let [Some(reader), Some(text)] = words else {
         return Err(Fault::Unreadable);
     };
-    match read(alloc, reader, text)? {
-        Ok(req) => told(alloc, &req.copy()?),
-        Err(error) => answer(
-            alloc,
-            &[Some("refused"), Some(kind(&error.copy()?.source)?)],
-        ),
-    }
+    of_outcome(
+        alloc,
+        read(alloc, reader, text)?,
+        |alloc, req| told(alloc, &req.copy()?),
+        |alloc, error| refused(alloc, &error.copy()?),
+    )
+}
+
+fn refused(alloc: Global, error: &PackageReqParseError) -> Answer {
+    answer(alloc, &[Some("refused"), Some(kind(&error.source)?)])
 }
 
 // `package-error`, a reader as above, and the text of a package that is refused: the lines of the error and of its source.
@@ -88,7 +92,16 @@ fn package_error(alloc: Global, words: &[Word<'_>]) -> Answer {
     let [Some(reader), Some(text)] = words else {
         return Err(Fault::Unreadable);
     };
-    let error = read(alloc, reader, text)?.err().ok_or(Fault::Unreadable)?;
+    of_outcome(
+        alloc,
+        read(alloc, reader, text)?,
+        |_, _| Err(Fault::Unreadable),
+        lines,
+    )
+}
+
+// The lines of the error and of its source.
+fn lines(alloc: Global, error: &PackageReqParseError) -> Answer {
     if error.is_memory() {
         return Err(Fault::OutOfMemory);
     }
@@ -113,7 +126,17 @@ fn order(alloc: Global, words: &[Word<'_>]) -> Answer {
     let [Some(one), Some(other)] = words else {
         return Err(Fault::Unreadable);
     };
-    let word = match by_npm(alloc, one)?.cmp(&by_npm(alloc, other)?) {
+    of_both(
+        alloc,
+        by_npm(alloc, one),
+        by_npm(alloc, other),
+        |alloc, one, other| told_order(alloc, one.cmp(other)),
+    )
+}
+
+/// The word of an order.
+pub fn told_order(alloc: Global, order: Ordering) -> Answer {
+    let word = match order {
         Ordering::Less => "less",
         Ordering::Equal => "equal",
         Ordering::Greater => "greater",
@@ -127,11 +150,17 @@ fn name_version(alloc: Global, words: &[Word<'_>]) -> Answer {
     let [Some(text)] = words else {
         return Err(Fault::Unreadable);
     };
-    match PackageNv::from_str(alloc, text) {
-        Ok(nv) => named_version(alloc, &nv),
-        Err(error) if error.is_memory() => Err(Fault::OutOfMemory),
-        Err(error) => answer(alloc, &[Some("refused"), Some(error.message.as_str())]),
-    }
+    of_outcome(
+        alloc,
+        PackageNv::from_str(alloc, text),
+        named_version,
+        |alloc, error| {
+            if error.is_memory() {
+                return Err(Fault::OutOfMemory);
+            }
+            answer(alloc, &[Some("refused"), Some(error.message.as_str())])
+        },
+    )
 }
 
 // `name-version-error`, a text that is no name and version: the line of a copy of the error.
@@ -139,22 +168,26 @@ fn name_version_error(alloc: Global, words: &[Word<'_>]) -> Answer {
     let [Some(text)] = words else {
         return Err(Fault::Unreadable);
     };
-    let refused = PackageNv::from_str(alloc, text).err();
-    let error = refused.ok_or(Fault::Unreadable)?.copy()?;
+    of_outcome(
+        alloc,
+        PackageNv::from_str(alloc, text),
+        |_, _| Err(Fault::Unreadable),
+        |alloc, error| version_line(alloc, &error.copy()?),
+    )
+}
+
+fn version_line(alloc: Global, error: &PackageNvParseError) -> Answer {
     if error.is_memory() {
         return Err(Fault::OutOfMemory);
     }
-    let line = format!(in alloc; "{error}")?;
-    answer(alloc, &[Some(line.as_str())])
+    answer(alloc, &[Some(format!(in alloc; "{error}")?.as_str())])
 }
 
 // What is told of a name and version that was read.
 fn named_version(alloc: Global, nv: &PackageNv) -> Answer {
     let version = format!(in alloc; "{}", nv.version)?;
     let displayed = format!(in alloc; "{nv}")?;
-    let req = nv.copy()?.into_req(alloc)?;
-    let normal = req.version_req.to_string_normalized(alloc)?;
-    let turned = format!(in alloc; "{}@{normal}", req.name)?;
+    let turned = turned(alloc, nv)?;
     answer(
         alloc,
         &[
@@ -166,4 +199,14 @@ fn named_version(alloc: Global, nv: &PackageNv) -> Answer {
             Some(turned.as_str()),
         ],
     )
+}
+
+// The name with the normal text of the requirement that a copy is turned into.
+fn turned(alloc: Global, nv: &PackageNv) -> Result<String, AllocError> {
+    named_normal(alloc, &nv.copy()?.into_req(alloc)?)
+}
+
+fn named_normal(alloc: Global, req: &PackageReq) -> Result<String, AllocError> {
+    let normal = req.version_req.to_string_normalized(alloc)?;
+    format!(in alloc; "{}@{normal}", req.name)
 }

@@ -7,6 +7,7 @@ use deno_semver::package::{
     PackageNv, PackageNvReferenceParseError, PackageReq, PackageReqReferenceParseError,
     SpecifierError,
 };
+use requirement_cases::asked::{of_one, of_outcome};
 use requirement_cases::words::{Answer, Fault, Word, answer};
 use std::alloc::Global;
 use url::{ParseError, Url};
@@ -26,14 +27,32 @@ pub fn ask(alloc: Global, name: &str, words: &[Word<'_>]) -> Option<Answer> {
     Some(answer)
 }
 
-/// Why a call has no answer whose text of a reference was refused.
-pub fn fault(error: PackageReqReferenceParseError) -> Fault {
+fn fault(error: PackageReqReferenceParseError) -> Fault {
     Fault::unless_memory(error.is_memory())
 }
 
-/// Why a call has no answer whose text of a reference with a version was refused.
-pub fn version_fault(error: PackageNvReferenceParseError) -> Fault {
+fn version_fault(error: PackageNvReferenceParseError) -> Fault {
     Fault::unless_memory(error.is_memory())
+}
+
+/// The reference to a JSR package that a text is.
+pub fn jsr(alloc: Global, text: &str) -> Result<JsrPackageReqReference, Fault> {
+    JsrPackageReqReference::from_str(alloc, text).map_err(fault)
+}
+
+/// The reference to an npm package that a text is.
+pub fn npm(alloc: Global, text: &str) -> Result<NpmPackageReqReference, Fault> {
+    NpmPackageReqReference::from_str(alloc, text).map_err(fault)
+}
+
+/// The reference to a version of a JSR package that a text is.
+pub fn jsr_version(alloc: Global, text: &str) -> Result<JsrPackageNvReference, Fault> {
+    JsrPackageNvReference::from_str(alloc, text).map_err(version_fault)
+}
+
+/// The reference to a version of an npm package that a text is.
+pub fn npm_version(alloc: Global, text: &str) -> Result<NpmPackageNvReference, Fault> {
+    NpmPackageNvReference::from_str(alloc, text).map_err(version_fault)
 }
 
 // The two texts that the words are.
@@ -50,14 +69,18 @@ fn pair<'a>(words: &[Word<'a>]) -> Result<(&'a str, &'a str), Fault> {
 fn reference(alloc: Global, words: &[Word<'_>]) -> Answer {
     let (registry, text) = pair(words)?;
     match registry {
-        "jsr" => match JsrPackageReqReference::from_str(alloc, text) {
-            Ok(reference) => jsr_reference(alloc, &reference.copy()?),
-            Err(error) => refused_reference(alloc, &error.copy()?),
-        },
-        "npm" => match NpmPackageReqReference::from_str(alloc, text) {
-            Ok(reference) => npm_reference(alloc, &reference.copy()?),
-            Err(error) => refused_reference(alloc, &error.copy()?),
-        },
+        "jsr" => of_outcome(
+            alloc,
+            JsrPackageReqReference::from_str(alloc, text),
+            |alloc, reference| jsr_reference(alloc, &reference.copy()?),
+            |alloc, error| refused_reference(alloc, &error.copy()?),
+        ),
+        "npm" => of_outcome(
+            alloc,
+            NpmPackageReqReference::from_str(alloc, text),
+            |alloc, reference| npm_reference(alloc, &reference.copy()?),
+            |alloc, error| refused_reference(alloc, &error.copy()?),
+        ),
         _ => Err(Fault::Unreadable),
     }
 }
@@ -149,9 +172,11 @@ fn reference_refusal(
 // `reference-error`, a registry, and a text that is no reference: the line of the error.
 fn reference_error(alloc: Global, words: &[Word<'_>]) -> Answer {
     let (registry, text) = pair(words)?;
-    let error = reference_refusal(alloc, registry, text)?;
-    let line = format!(in alloc; "{error}")?;
-    answer(alloc, &[Some(line.as_str())])
+    of_one(
+        alloc,
+        reference_refusal(alloc, registry, text),
+        |alloc, error| single(alloc, format!(in alloc; "{error}")?.as_str()),
+    )
 }
 
 // `version-reference`, a registry, and a text: `read`, the name, the version, the path or null, how the reference is
@@ -159,14 +184,18 @@ fn reference_error(alloc: Global, words: &[Word<'_>]) -> Answer {
 fn version_reference(alloc: Global, words: &[Word<'_>]) -> Answer {
     let (registry, text) = pair(words)?;
     match registry {
-        "jsr" => match JsrPackageNvReference::from_str(alloc, text) {
-            Ok(reference) => jsr_version_reference(alloc, &reference.copy()?),
-            Err(error) => refused_version_reference(alloc, &error),
-        },
-        "npm" => match NpmPackageNvReference::from_str(alloc, text) {
-            Ok(reference) => npm_version_reference(alloc, &reference.copy()?),
-            Err(error) => refused_version_reference(alloc, &error),
-        },
+        "jsr" => of_outcome(
+            alloc,
+            JsrPackageNvReference::from_str(alloc, text),
+            |alloc, reference| jsr_version_reference(alloc, &reference.copy()?),
+            refused_version_reference,
+        ),
+        "npm" => of_outcome(
+            alloc,
+            NpmPackageNvReference::from_str(alloc, text),
+            |alloc, reference| npm_version_reference(alloc, &reference.copy()?),
+            refused_version_reference,
+        ),
         _ => Err(Fault::Unreadable),
     }
 }
@@ -244,9 +273,15 @@ fn version_reference_refusal(
 // `version-reference-error`, a registry, and a text that is no version reference: the line of a copy of the error.
 fn version_reference_error(alloc: Global, words: &[Word<'_>]) -> Answer {
     let (registry, text) = pair(words)?;
-    let error = version_reference_refusal(alloc, registry, text)?.copy()?;
-    let line = format!(in alloc; "{error}")?;
-    answer(alloc, &[Some(line.as_str())])
+    of_one(
+        alloc,
+        version_reference_refusal(alloc, registry, text),
+        |alloc, error| version_line(alloc, &error.copy()?),
+    )
+}
+
+fn version_line(alloc: Global, error: &PackageNvReferenceParseError) -> Answer {
+    single(alloc, format!(in alloc; "{error}")?.as_str())
 }
 
 // `specifier`, a registry, and the text of a version reference: `read` and the URL that it is; or `refused` where it is
@@ -254,27 +289,37 @@ fn version_reference_error(alloc: Global, words: &[Word<'_>]) -> Answer {
 fn specifier(alloc: Global, words: &[Word<'_>]) -> Answer {
     let (registry, text) = pair(words)?;
     match registry {
-        "jsr" => match JsrPackageNvReference::from_str(alloc, text) {
-            Ok(reference) => told_specifier(alloc, reference.as_specifier(alloc)),
-            Err(error) => refused_version_reference(alloc, &error),
-        },
-        "npm" => match NpmPackageNvReference::from_str(alloc, text) {
-            Ok(reference) => told_specifier(alloc, reference.as_specifier(alloc)),
-            Err(error) => refused_version_reference(alloc, &error),
-        },
+        "jsr" => of_outcome(
+            alloc,
+            JsrPackageNvReference::from_str(alloc, text),
+            |alloc, reference| told_specifier(alloc, reference.as_specifier(alloc)),
+            refused_version_reference,
+        ),
+        "npm" => of_outcome(
+            alloc,
+            NpmPackageNvReference::from_str(alloc, text),
+            |alloc, reference| told_specifier(alloc, reference.as_specifier(alloc)),
+            refused_version_reference,
+        ),
         _ => Err(Fault::Unreadable),
     }
 }
 
 fn told_specifier(alloc: Global, specifier: Result<Url, SpecifierError>) -> Answer {
-    match specifier {
-        Ok(url) => answer(alloc, &[Some("read"), Some(url.as_str())]),
-        Err(error) if error.is_memory() => Err(Fault::OutOfMemory),
-        Err(error) => {
-            let line = format!(in alloc; "{error}")?;
-            answer(alloc, &[Some("refused"), Some(line.as_str())])
-        }
+    of_outcome(
+        alloc,
+        specifier,
+        |alloc, url| answer(alloc, &[Some("read"), Some(url.as_str())]),
+        refused_specifier,
+    )
+}
+
+fn refused_specifier(alloc: Global, error: &SpecifierError) -> Answer {
+    if error.is_memory() {
+        return Err(Fault::OutOfMemory);
     }
+    let line = format!(in alloc; "{error}")?;
+    answer(alloc, &[Some("refused"), Some(line.as_str())])
 }
 
 // The URL that a text is.
@@ -286,24 +331,37 @@ fn url_of(alloc: Global, text: &str) -> Result<Url, Fault> {
 // `version-reference` tells where it is a version reference.
 fn of_specifier(alloc: Global, words: &[Word<'_>]) -> Answer {
     let (registry, text) = pair(words)?;
-    let url = url_of(alloc, text)?;
+    of_one(alloc, url_of(alloc, text), |alloc, url| {
+        of_url(alloc, registry, url)
+    })
+}
+
+fn of_url(alloc: Global, registry: &str, url: &Url) -> Answer {
     match registry {
-        "jsr" => match JsrPackageReqReference::from_specifier(alloc, &url) {
-            Ok(reference) => jsr_reference(alloc, &reference),
-            Err(error) => refused_reference(alloc, &error),
-        },
-        "npm" => match NpmPackageReqReference::from_specifier(alloc, &url) {
-            Ok(reference) => npm_reference(alloc, &reference),
-            Err(error) => refused_reference(alloc, &error),
-        },
-        "jsr-version" => match JsrPackageNvReference::from_specifier(alloc, &url) {
-            Ok(reference) => jsr_version_reference(alloc, &reference),
-            Err(error) => refused_version_reference(alloc, &error),
-        },
-        "npm-version" => match NpmPackageNvReference::from_specifier(alloc, &url) {
-            Ok(reference) => npm_version_reference(alloc, &reference),
-            Err(error) => refused_version_reference(alloc, &error),
-        },
+        "jsr" => of_outcome(
+            alloc,
+            JsrPackageReqReference::from_specifier(alloc, url),
+            jsr_reference,
+            refused_reference,
+        ),
+        "npm" => of_outcome(
+            alloc,
+            NpmPackageReqReference::from_specifier(alloc, url),
+            npm_reference,
+            refused_reference,
+        ),
+        "jsr-version" => of_outcome(
+            alloc,
+            JsrPackageNvReference::from_specifier(alloc, url),
+            jsr_version_reference,
+            refused_version_reference,
+        ),
+        "npm-version" => of_outcome(
+            alloc,
+            NpmPackageNvReference::from_specifier(alloc, url),
+            npm_version_reference,
+            refused_version_reference,
+        ),
         _ => Err(Fault::Unreadable),
     }
 }

@@ -1,7 +1,7 @@
 //! Which one of several versions a requirement chooses.
 
 use deno_semver::{PreRelease, Version, VersionReq, resolve};
-use requirement_cases::requirements::read;
+use requirement_cases::asked::{of_both, read};
 use requirement_cases::shown;
 use requirement_cases::words::{Answer, Fault, Word, answer};
 use std::alloc::Global;
@@ -9,8 +9,8 @@ use std::alloc::Global;
 /// What a call on versions to choose from answers to a question's words after its name, where the name is of one.
 pub fn ask(alloc: Global, name: &str, words: &[Word<'_>]) -> Option<Answer> {
     let answer = match name {
-        "max-satisfying" => max_satisfying(alloc, words),
-        "min-satisfying" => min_satisfying(alloc, words),
+        "max-satisfying" => of_versions(alloc, words, max_satisfying),
+        "min-satisfying" => of_versions(alloc, words, min_satisfying),
         "max-satisfying-with" => max_satisfying_with(alloc, words),
         "min-satisfying-with" => min_satisfying_with(alloc, words),
         _ => return None,
@@ -31,31 +31,23 @@ fn versions_of(alloc: Global, words: &[Word<'_>]) -> Result<Vec<Version>, Fault>
     Ok(versions)
 }
 
-// A reader, a requirement and versions: the requirement and the versions.
-fn requirement_and_versions(
+// A reader, a requirement and versions: what is told of the requirement and the versions.
+fn of_versions<F: Fn(Global, &VersionReq, &Vec<Version>) -> Answer>(
     alloc: Global,
     words: &[Word<'_>],
-) -> Result<(VersionReq, Vec<Version>), Fault> {
+    tell: F,
+) -> Answer
+    requires { F.IsAlwaysCallable tell }
+{
     let [Some(reader), Some(requirement), versions @ ..] = words else {
         return Err(Fault::Unreadable);
     };
-    let requirement = read(alloc, reader, requirement)?;
-    let versions = versions_of(alloc, versions)?;
-    Ok((requirement, versions))
-}
-
-// A reader, a requirement, `restricted` or `admitted` and versions: the requirement and the others.
-fn choice_of(
-    alloc: Global,
-    words: &[Word<'_>],
-) -> Result<(VersionReq, PreRelease, Vec<Version>), Fault> {
-    let [Some(reader), Some(requirement), Some(word), versions @ ..] = words else {
-        return Err(Fault::Unreadable);
-    };
-    let requirement = read(alloc, reader, requirement)?;
-    let pre_release = shown::pre_release_of(word)?;
-    let versions = versions_of(alloc, versions)?;
-    Ok((requirement, pre_release, versions))
+    of_both(
+        alloc,
+        read(alloc, reader, requirement),
+        versions_of(alloc, versions),
+        tell,
+    )
 }
 
 // The place, or `none`.
@@ -68,12 +60,11 @@ fn place(alloc: Global, place: Option<usize>) -> Answer {
 
 // `max-satisfying`, a reader, a requirement and versions: the place of the greatest one that matches, from 0, or `none`; or
 // `tag` and the tag.
-fn max_satisfying(alloc: Global, words: &[Word<'_>]) -> Answer {
-    let (requirement, versions) = requirement_and_versions(alloc, words)?;
+fn max_satisfying(alloc: Global, requirement: &VersionReq, versions: &Vec<Version>) -> Answer {
     match requirement.tag() {
         None => place(
             alloc,
-            resolve::max_satisfying(versions.as_slice(), &requirement),
+            resolve::max_satisfying(versions.as_slice(), requirement),
         ),
         Some(tag) => answer(alloc, &[Some("tag"), Some(tag)]),
     }
@@ -81,12 +72,11 @@ fn max_satisfying(alloc: Global, words: &[Word<'_>]) -> Answer {
 
 // `min-satisfying`, a reader, a requirement and versions: the place of the least one that matches, from 0, or `none`; or
 // `tag` and the tag.
-fn min_satisfying(alloc: Global, words: &[Word<'_>]) -> Answer {
-    let (requirement, versions) = requirement_and_versions(alloc, words)?;
+fn min_satisfying(alloc: Global, requirement: &VersionReq, versions: &Vec<Version>) -> Answer {
     match requirement.tag() {
         None => place(
             alloc,
-            resolve::min_satisfying(versions.as_slice(), &requirement),
+            resolve::min_satisfying(versions.as_slice(), requirement),
         ),
         Some(tag) => answer(alloc, &[Some("tag"), Some(tag)]),
     }
@@ -95,11 +85,28 @@ fn min_satisfying(alloc: Global, words: &[Word<'_>]) -> Answer {
 // `max-satisfying-with`, a reader, a requirement, `restricted` or `admitted` and versions: the place of the greatest one
 // that matches, from 0, or `none`; or `tag` and the tag.
 fn max_satisfying_with(alloc: Global, words: &[Word<'_>]) -> Answer {
-    let (requirement, pre_release, versions) = choice_of(alloc, words)?;
+    let [Some(reader), Some(requirement), Some(word), versions @ ..] = words else {
+        return Err(Fault::Unreadable);
+    };
+    let pre_release = shown::pre_release_of(word)?;
+    of_both(
+        alloc,
+        read(alloc, reader, requirement),
+        versions_of(alloc, versions),
+        |alloc, requirement, versions| greatest_with(alloc, requirement, versions, pre_release),
+    )
+}
+
+fn greatest_with(
+    alloc: Global,
+    requirement: &VersionReq,
+    versions: &Vec<Version>,
+    pre_release: PreRelease,
+) -> Answer {
     match requirement.tag() {
         None => place(
             alloc,
-            resolve::max_satisfying_with(versions.as_slice(), &requirement, pre_release),
+            resolve::max_satisfying_with(versions.as_slice(), requirement, pre_release),
         ),
         Some(tag) => answer(alloc, &[Some("tag"), Some(tag)]),
     }
@@ -108,11 +115,28 @@ fn max_satisfying_with(alloc: Global, words: &[Word<'_>]) -> Answer {
 // `min-satisfying-with`, a reader, a requirement, `restricted` or `admitted` and versions: the place of the least one that
 // matches, from 0, or `none`; or `tag` and the tag.
 fn min_satisfying_with(alloc: Global, words: &[Word<'_>]) -> Answer {
-    let (requirement, pre_release, versions) = choice_of(alloc, words)?;
+    let [Some(reader), Some(requirement), Some(word), versions @ ..] = words else {
+        return Err(Fault::Unreadable);
+    };
+    let pre_release = shown::pre_release_of(word)?;
+    of_both(
+        alloc,
+        read(alloc, reader, requirement),
+        versions_of(alloc, versions),
+        |alloc, requirement, versions| least_with(alloc, requirement, versions, pre_release),
+    )
+}
+
+fn least_with(
+    alloc: Global,
+    requirement: &VersionReq,
+    versions: &Vec<Version>,
+    pre_release: PreRelease,
+) -> Answer {
     match requirement.tag() {
         None => place(
             alloc,
-            resolve::min_satisfying_with(versions.as_slice(), &requirement, pre_release),
+            resolve::min_satisfying_with(versions.as_slice(), requirement, pre_release),
         ),
         Some(tag) => answer(alloc, &[Some("tag"), Some(tag)]),
     }

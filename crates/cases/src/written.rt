@@ -1,11 +1,8 @@
 //! Values as they are displayed, and what is appended to a text.
 
 use crate::{dependencies, packages, references};
-use deno_semver::jsr::{JsrPackageNvReference, JsrPackageReqReference};
-use deno_semver::npm::{NpmPackageNvReference, NpmPackageReqReference};
-use deno_semver::{
-    SmallStackString, StackString, StringAppendable, StringType, Version, VersionReq,
-};
+use deno_semver::{SmallStackString, StackString, StringAppendable, StringType};
+use requirement_cases::asked::{of_one, read, version_of};
 use requirement_cases::shown;
 use requirement_cases::words::{Answer, Fault, Word, answer};
 use std::alloc::Global;
@@ -32,8 +29,16 @@ fn appended_to<T: StringType, A: StringAppendable>(
     Ok(text)
 }
 
-// How the value is displayed, and the start with its text appended to it, in a text of each type.
-fn written<A: StringAppendable + fmt::Display>(alloc: Global, start: &str, value: &A) -> Answer {
+// How the value is displayed, and the start with its text appended to it, in a text of each type; or why there is no value.
+fn written<A: StringAppendable + fmt::Display + Drop>(
+    alloc: Global,
+    start: &str,
+    value: Result<A, Fault>,
+) -> Answer {
+    of_one(alloc, value, |alloc, value| told(alloc, start, value))
+}
+
+fn told<A: StringAppendable + fmt::Display>(alloc: Global, start: &str, value: &A) -> Answer {
     let displayed = format!(in alloc; "{value}")?;
     let string: String = appended_to(alloc, start, value)?;
     let small: SmallStackString = appended_to(alloc, start, value)?;
@@ -58,25 +63,27 @@ fn written_as(alloc: Global, words: &[Word<'_>]) -> Answer {
         return Err(Fault::Unreadable);
     };
     match *kind {
-        "text" => written(alloc, start, &SmallStackString::from_str(alloc, value)?),
-        "version" => written(alloc, start, &Version::parse_standard(alloc, value)?),
-        "range" => written(alloc, start, &shown::range_of(alloc, value)?),
-        "set" => written(alloc, start, &shown::set_of(alloc, value)?),
-        "inner" => written(
-            alloc,
-            start,
-            VersionReq::parse_from_npm(alloc, value)?.inner(),
-        ),
+        "text" => written(alloc, start, text_of(alloc, value)),
+        "version" => written(alloc, start, version_of(alloc, value)),
+        "range" => written(alloc, start, shown::range_of(alloc, value)),
+        "set" => written(alloc, start, shown::set_of(alloc, value)),
+        "inner" => of_one(alloc, read(alloc, "npm", value), |alloc, requirement| {
+            told(alloc, start, requirement.inner())
+        }),
         _ => written_of_package(alloc, kind, value, start),
     }
+}
+
+fn text_of(alloc: Global, text: &str) -> Result<SmallStackString, Fault> {
+    Ok(SmallStackString::from_str(alloc, text)?)
 }
 
 // The same of packages, dependencies and references, as npm's reader makes them of a text.
 fn written_of_package(alloc: Global, kind: &str, value: &str, start: &str) -> Answer {
     match kind {
-        "package" => written(alloc, start, &packages::by_npm(alloc, value)?),
-        "name-version" => written(alloc, start, &packages::name_with_version(alloc, value)?),
-        "dependency" => written(alloc, start, &dependencies::by_npm(alloc, value)?),
+        "package" => written(alloc, start, packages::by_npm(alloc, value)),
+        "name-version" => written(alloc, start, packages::name_with_version(alloc, value)),
+        "dependency" => written(alloc, start, dependencies::by_npm(alloc, value)),
         _ => written_of_reference(alloc, kind, value, start),
     }
 }
@@ -84,38 +91,20 @@ fn written_of_package(alloc: Global, kind: &str, value: &str, start: &str) -> An
 // The same of references of a registry, and of what stands in them.
 fn written_of_reference(alloc: Global, kind: &str, value: &str, start: &str) -> Answer {
     match kind {
-        "jsr" => written(
+        "jsr" => written(alloc, start, references::jsr(alloc, value)),
+        "npm" => written(alloc, start, references::npm(alloc, value)),
+        "jsr-version" => written(alloc, start, references::jsr_version(alloc, value)),
+        "npm-version" => written(alloc, start, references::npm_version(alloc, value)),
+        "reference" => written(
             alloc,
             start,
-            &JsrPackageReqReference::from_str(alloc, value).map_err(references::fault)?,
+            references::npm(alloc, value).map(|reference| reference.into_inner()),
         ),
-        "npm" => written(
+        "version-reference" => written(
             alloc,
             start,
-            &NpmPackageReqReference::from_str(alloc, value).map_err(references::fault)?,
+            references::npm_version(alloc, value).map(|reference| reference.into_inner()),
         ),
-        "jsr-version" => written(
-            alloc,
-            start,
-            &JsrPackageNvReference::from_str(alloc, value).map_err(references::version_fault)?,
-        ),
-        "npm-version" => written(
-            alloc,
-            start,
-            &NpmPackageNvReference::from_str(alloc, value).map_err(references::version_fault)?,
-        ),
-        "reference" => {
-            let reference = NpmPackageReqReference::from_str(alloc, value).map_err(
-                references::fault,
-            )?;
-            written(alloc, start, &reference.into_inner())
-        }
-        "version-reference" => {
-            let reference = NpmPackageNvReference::from_str(alloc, value).map_err(
-                references::version_fault,
-            )?;
-            written(alloc, start, &reference.into_inner())
-        }
         _ => Err(Fault::Unreadable),
     }
 }

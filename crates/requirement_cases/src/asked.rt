@@ -35,6 +35,22 @@ pub fn of_one<A: Drop, F: Fn(Global, &A) -> Answer>(
     tell(alloc, &value?)
 }
 
+/// What is told of a value that was read, or of why there is none.
+pub fn of_outcome<A: Drop, E: Drop, F: Fn(Global, &A) -> Answer, G: Fn(Global, &E) -> Answer>(
+    alloc: Global,
+    outcome: Result<A, E>,
+    tell: F,
+    refuse: G,
+) -> Answer
+    requires tells { F.IsAlwaysCallable tell }
+    requires refuses { G.IsAlwaysCallable refuse }
+{
+    match outcome {
+        Ok(value) => tell(alloc, &value),
+        Err(error) => refuse(alloc, &error),
+    }
+}
+
 /// What is told of two values, or why there is not the one or the other.
 pub fn of_both<A: Drop, B: Drop, F: Fn(Global, &A, &B) -> Answer>(
     alloc: Global,
