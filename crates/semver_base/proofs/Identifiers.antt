@@ -1,9 +1,9 @@
 -- Identifiers at the front of a text.
-use Rattle.std.proofs.Common.{◌≡◌, ℕ, Bool, true, false, List, [], ◌∷◌, ◌++◌, length, refl, ap, arith, ◌==◌}
+use Rattle.std.proofs.Common.{◌≡◌, ℕ, Bool, true, false, List, [], ◌∷◌, ◌++◌, length, refl, ap, arith, ◌==◌, Bor, Option, Some, None, is_some}
 use Rattle.std.specs.Prelude.{◌||◌}
 use Rattle.std.proofs.lemmas.Bool.{eq-eqb, or_left}
 use Rattle.std.proofs.lemmas.Bool.Decides.{nat_tests}
-use Rattle.semver_base.specs.Grammar.{IsLongest}
+use Rattle.semver_base.specs.Grammar.{HasNone, IsAfter, IsLongest}
 use Rattle.semver_base.specs.Lexical.{IsByte, IsIdentifier, IsIdentifiers, is_identifier_byte}
 use Rattle.semver_base.proofs.Fronts.{NonEmpty}
 use Rattle.semver_base.proofs.Bytes.{BeginsBy, GoesBy, MadeOf, listed_made, made_wider, run_made}
@@ -11,6 +11,10 @@ use Rattle.semver_base.proofs.Lists.{IsListing, listed_some, run_begins, run_goe
 
 pub byte_longest : (m : ℕ) (text rest : List ℕ) → text ≡ m ∷ rest → IsLongest (IsByte m) text tt rest
 byte_longest m text rest e = record { front = m ∷ []; text_is = e; stands = refl; longest = λ a b w f h. (omega (arith, ap length h), λ _. refl) }
+
+pub byte_none : (m : ℕ) (text : List ℕ) (r : Option (Bor (List ℕ))) → is_some r ≡ false → IsAfter m text r → HasNone (IsByte m) text
+byte_none m text None e n = record { none = λ a b w t h. n b (cc (t, h)) }
+byte_none m text (Some x) e n = absurd (cc e)
 
 pub byte_begins : (m : ℕ) → BeginsBy (IsByte m) (λ x. x == m)
 byte_begins m = record { begins = λ x b. eq-eqb x m (cc b.stands) }

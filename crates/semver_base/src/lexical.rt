@@ -149,6 +149,10 @@ fn identifiers(
     if first.is_empty() {
         return Ok(None);
     }
+    if after(rest, '.').is_none() {
+        let only = SmallStackString::from_str(alloc, first)?;
+        return Ok(Some((CowVec::of_one(alloc, only)?, rest)));
+    }
     let mut ids = Vec::with_capacity(alloc, 2)?;
     push_identifier(alloc, &mut ids, first)?;
     while let Some(next) = after(rest, '.') {

@@ -1,11 +1,15 @@
 use Rattle.std.proofs.Common.{rules}
 use Rattle.semver_base.proofs.Lists.{listed_none, so_far_more, so_far_one}
-use Rattle.semver_base.proofs.Identifiers.{byte_longest, identifiers_listing}
+use Rattle.semver_base.proofs.Identifiers.{byte_longest, byte_none, identifiers_listing}
 use Rattle.semver_base.proofs.Numbers.{run_seen, run_unseen}
 use Rattle.semver_base.proofs.lexical.identifiers.Goals as goal
 
 pub returns-then-is_empty : goal.returns-then-is_empty
 returns-then-is_empty c = listed_none (run_unseen c.identifier_front.ensures (search rules))
+
+pub returns-then-is_none : goal.returns-then-is_none
+returns-then-is_none c =
+    rw (c.in_ok-of_one.ensures, c.in_ok-only.ensures.value) ((so_far_one identifiers_listing (run_seen c.identifier_front.ensures (search rules))).at_end (byte_none 46 _ _ (search rules) c.after.ensures))
 
 pub loop-next-init : goal.loop-next-init
 loop-next-init c = record {
