@@ -1,9 +1,8 @@
 -- The machine value of a struct of one field without bytes, and how a walk over it ends. Assumes `Logic`.
-use Rattle.std.proofs.Common.{List, [], ◌∷◌, refl}
+use Rattle.std.proofs.Common.{[], ◌∷◌, refl}
 use seplogic.Ra.Ura.{Ura}
 use mir.Val.{Val, vstruct, vcons, vnil}
 use base.Logic.{ent, sep, emp}
-use contract.Monad.{fact_i}
 use types.Logic.{Logic, sem}
 use types.Kit.{‵, raw, ◌$◌, ◌∵◌, !, qed, by, move, use0}
 use denote.RattleType.{RattleType}

@@ -26,12 +26,14 @@ impl<T> Model for Small<T> {
 }
 
 impl<T> Small<T> {
+    // Of a type of which that is known.
     fn new() -> Small<T>
         requires { FitsInMemory T.row }
     {
         Small { of: PhantomData }
     }
 
+    // What it keeps.
     fn tell(&self)
         ensures { FitsInMemory T.row }
     {}

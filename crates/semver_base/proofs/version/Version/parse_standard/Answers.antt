@@ -1,8 +1,6 @@
-use Rattle.std.proofs.Common.{◌≡◌, [], List, ℕ, arith}
+use Rattle.std.proofs.Common.{◌≡◌, [], arith}
 use Rattle.std.proofs.lemmas.Bool.Decides.{nat_tests}
 use Rattle.std.proofs.lemmas.List.{nil_from_length}
-use Rattle.semver_base.specs.VersionReaderSteps.{IsPlainVersion}
-use Rattle.semver_base.specs.declared.version.Version.{Version}
 use Rattle.semver_base.proofs.PlainTexts.{plain_version, qualified_version}
 use Rattle.semver_base.specs.declared.version.VersionParseError.{VersionParseError}
 use Rattle.semver_base.proofs.ReadVersions.{read_back}

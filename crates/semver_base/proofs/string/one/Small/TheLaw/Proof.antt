@@ -1,5 +1,4 @@
 -- A `&` to a `Small` tells the same of the type.
-use mathlib.Core.List.{[], ◌∷◌}
 use denote.RattleType.{RattleType}
 use denote.Param.Laws.{Laws}
 use denote.Param.Shared.{copy_shared}

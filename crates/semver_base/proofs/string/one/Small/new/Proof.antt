@@ -1,18 +1,16 @@
 -- `new` holds what it asks for.
-use Rattle.std.proofs.Common.{◌≡◌, List, [], ◌∷◌, ◌++◌, ◌^◌, refl}
+use Rattle.std.proofs.Common.{[], ◌∷◌, ◌^◌, refl}
 use mir.Syntax.{a_type, dnil}
-use mir.Val.{Val, vstruct, vcons, vnil}
+use mir.Val.{Val}
 use mir.MapTy.{inst_fn}
-use base.Logic.{SProp, ent, emp, id⊢}
-use base.Fml.{ftrue, flft, flt}
-use prog.Wp.{WpFn}
+use base.Logic.{SProp, id⊢}
+use base.Fml.{ftrue, flft}
 use prog.Memory.{size}
-use types.Logic.{sem}
 use types.Kit.{‵, raw, ◌⊛◌, ◌$◌, ◌∵◌, !, qed, by, move, keep, drop, split, fjoin, use0, use1, flt_i}
 use types.Run.{no_more, and_then, returns, enter}
 use types.ByLocal.{alloc_all, pass_all, free_all, look_at, get, sets}
 use types.Part.{agg}
-use contract.Monad.{fact, fact_i}
+use contract.Monad.{fact}
 use contract.BorrowLft.{◌⊑◌}
 use contract.Running.{tables}
 use denote.RattleType.{RattleType, owns}
@@ -20,13 +18,9 @@ use denote.Signature.{types_at}
 use denote.Steps.{nothing, heard}
 use denote.Param.{param, layout, bounded}
 use denote.Triple.Walked.{Stays, walk_of}
-use denote.Struct.Struct.{Struct}
-use Rattle.std.specs.contracts.marker.PhantomData as marker
 use Rattle.std.specs.Mem.{FitsInMemory}
 use Rattle.std.proofs.raw_atomic.Walks.{proved_at}
 use Rattle.semver_base.proofs.Tokens.{token, Token, token_made, ends}
-use Rattle.semver_base.specs.Ownership.{fits_in_memory}
-use Rattle.semver_base.specs.contracts.string.one.Small as small
 use Rattle.semver_base.specs.contracts.string.one.Small.new.{ended, clauses}
 use Rattle.semver_base.specs.contracts.string.one.Small.new.Key.{name as #self}
 use Rattle.semver_base.proofs.string.one.Small.new.Statement.{statement}

@@ -1,18 +1,14 @@
 -- `tell` reads what a `&` holds.
-use Rattle.std.proofs.Common.{List, [], ◌∷◌, ◌^◌, ◌<◌, refl}
+use Rattle.std.proofs.Common.{List, [], ◌∷◌, refl}
 use mir.Syntax.{a_type, dnil, named}
 use mir.Val.{Val, vptr, vunit}
 use mir.MapTy.{inst_fn}
-use base.Logic.{SProp, ent, emp, id⊢}
+use base.Logic.{SProp, emp}
 use base.Fml.{Fml, ftrue, fsep, fhide, flft}
-use prog.Wp.{WpFn}
-use prog.Memory.{size}
-use types.Logic.{sem}
 use types.Kit.{‵, raw, ◌⊛◌, ◌$◌, ◌∵◌, !, qed, by, move, keep, drop, split, fsplit, fjoin, use1, feq_i, flt_l}
-use types.Run.{no_more, and_then, returns, enter, unit_lit, of_opd}
-use types.ByLocal.{alloc_all, pass_all, free_all, look_at, get, sets}
-use types.Part.{agg}
-use contract.Monad.{fact, fact_i}
+use types.Run.{returns, enter, unit_lit, of_opd}
+use types.ByLocal.{alloc_all, pass_all, free_all, look_at, sets}
+use contract.Monad.{fact_i}
 use contract.Running.{tables}
 use denote.Exit.{yes}
 use denote.RattleType.{RattleType, owns}
@@ -22,12 +18,10 @@ use denote.Memory.{hidden_shr}
 use denote.Opens.{unhide}
 use denote.Ref.{shr_vals, shr_Tells}
 use denote.Steps.{nothing}
-use denote.Param.{param, layout, bounded}
+use denote.Param.{param, bounded}
 use denote.Struct.Lending.{lent_out}
 use denote.Triple.Walked.{Stays, stay_dropped, walk_of, Goes-dropped}
-use Rattle.std.specs.contracts.marker.PhantomData as marker
 use Rattle.std.specs.Mem.{FitsInMemory}
-use Rattle.std.proofs.alloc.Calls.{Goes-blank}
 use Rattle.std.proofs.raw_atomic.Walks.{proved}
 use Rattle.semver_base.proofs.Tokens.{Token, ends}
 use Rattle.semver_base.specs.Ownership.{fits_in_memory}
