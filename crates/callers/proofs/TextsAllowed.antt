@@ -1,7 +1,7 @@
 -- What is answered of the text of a requirement and the text of a version, from what their readers answer.
 use Rattle.std.proofs.Common.{◌≡◌, ℕ, true, false, List, Ok, Err, inl, inr, refl, subst, ap}
 use Rattle.std.specs.Str.{trim}
-use Rattle.callers.specs.Allowance.{AllowsText, EitherIsRefused, IsTold, allowance_of, yes_or_no}
+use Rattle.callers.specs.Allowance.{AllowsText, EitherIsRefused, IsAllowance, IsTold, allowance_of, yes_or_no}
 use Rattle.semver_base.specs.Meaning.{tree_means}
 use Rattle.semver_base.specs.VersionGrammar.{IsVersionOutcome}
 use Rattle.semver_base.specs.declared.failure.Refusal.{Refusal}
@@ -21,6 +21,17 @@ told_of f text (Ranges tree) (inner.Tag tag) v is read means = cc read
 told_of f text (Tag name) (inner.RangeSet set) v is read means = cc read
 told_of f text (Tag name) (inner.Tag tag) v is read means = refl
 told_of f text Refused req v is read means = read
+
+-- the requirement was read, beside a version
+pub alone_read : {E : Type 0} (source : E → Failure) (f : Flavour) (text : List ℕ) (req : Requirement) (v : Version) → IsReaderAnswer source f text (Ok req)
+    → IsAllowance source f text v (Ok (allowance_of req.inner v))
+alone_read source f text req v h = record {
+  told = (h.outcome.outcome, h.outcome.is_outcome, told_of f text h.outcome.outcome req.inner v h.outcome.is_outcome h.outcome.is_read h.means);
+  ranges = λ tree t. told_of f text (Ranges tree) req.inner v t (h.answer (Ranges tree) t) h.means;
+  tag = λ name t. told_of f text (Tag name) req.inner v t (h.answer (Tag name) t) h.means;
+  refused = λ t. h.answer Refused t;
+  refused_only = tt;
+}
 
 module _ {E : Type 0} (source : E → Failure) (f : Flavour) (text version : List ℕ) where
   -- both were read
