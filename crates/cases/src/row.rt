@@ -81,13 +81,21 @@ impl Row {
     /// What the call answers, or why it can't be asked. A refusal is an answer too, and so is that the call wanted memory.
     /// It is an error only where no memory is left to ask with, or to tell the answer.
     pub fn ask(&self, alloc: Global) -> Result<Result<Words, Unreadable>, AllocError> {
-        match call::ask(alloc, self.name(), self.words(alloc)?.as_slice()) {
+        let words = self.words(alloc)?;
+        match call::ask(alloc, self.name(), words.as_slice()) {
             None => Ok(Err(Unreadable::NoCall)),
             Some(Ok(answer)) => Ok(Ok(answer)),
-            Some(Err(Fault::Refused(failure))) => Ok(Ok(refused(alloc, &failure)?)),
-            Some(Err(Fault::Unreadable)) => Ok(Err(Unreadable::OtherWords)),
-            Some(Err(Fault::OutOfMemory)) => Ok(Ok(out_of_memory(alloc)?)),
-            Some(Err(Fault::Untold)) => Err(AllocError),
+            Some(Err(fault)) => told(alloc, &fault),
         }
+    }
+}
+
+// What is told of a call that has no answer.
+fn told(alloc: Global, fault: &Fault) -> Result<Result<Words, Unreadable>, AllocError> {
+    match fault {
+        Fault::Refused(failure) => Ok(Ok(refused(alloc, failure)?)),
+        Fault::Unreadable => Ok(Err(Unreadable::OtherWords)),
+        Fault::OutOfMemory => Ok(Ok(out_of_memory(alloc)?)),
+        Fault::Untold => Err(AllocError),
     }
 }

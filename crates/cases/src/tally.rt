@@ -31,9 +31,9 @@ impl Tally {
     /// No rows yet.
     pub fn new(alloc: Global) -> Result<Tally, AllocError> {
         let mut counts = Vec::new(alloc);
-        for name in NAMES {
+        for name in &NAMES {
             counts.push(Count {
-                name,
+                name: *name,
                 asked: 0,
                 differ: 0,
             })?;

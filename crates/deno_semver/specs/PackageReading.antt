@@ -35,8 +35,12 @@ IsFaultError f text e = (e ≡ parts.Memory) ⊎ ((fault : Fault) × IsFirstFaul
 abbrev pub IsReadPackage : Flavour → List ℕ → Result PackageReq PackageReqPartsParseError → Type 0
 IsReadPackage f text result = MatchResult result (IsReadReq f text) (IsFaultError f text)
 
--- the error shows the whole text and its source, which lacks an `@` instead where the text does
+-- the source that is told: that an `@` lacks goes before any other
+abbrev pub told_source : List ℕ → PackageReqPartsParseError → PackageReqPartsParseError
+told_source text source = if lacks_at text then parts.MissingAtSymbol else source
+
+-- the error shows the whole text, and the source that is told
 pub record TellsSource (text : List ℕ) (source : PackageReqPartsParseError) (e : PackageReqParseError) : Type 0 where
   pub no_memory : source ≡ parts.Memory → ⊥
-  pub source_is : e.source ≡ (if lacks_at text then parts.MissingAtSymbol else source)
+  pub source_is : e.source ≡ told_source text source
   pub text_is : e.text ≡ text

@@ -2,11 +2,13 @@
 
 use crate::args::Options;
 use crate::console::{Console, Status, Stop};
+use crate::object::Object;
 use clap::ArgMatches;
 use deno_semver::ParseFailure;
-use range_answers::reading::{RefusedWord, requirement};
+use range_answers::reading::RefusedWord;
 use range_answers::together::{Common, Within, common_version, containment};
-use serde_json::{Value, json};
+use serde_json::Value;
+use std::alloc::{AllocError, Global};
 use std::io::Write;
 
 impl<O: Write, E: Write> Console<O, E> {
@@ -27,21 +29,60 @@ impl<O: Write, E: Write> Console<O, E> {
         self.refuse_requirement(word, &refused.failure)
     }
 
-    /// Prints a line, or the JSON of it.
-    pub fn answer(&mut self, options: Options, line: &str, json: &Value) -> Result<(), Stop> {
-        if options.json {
-            return self.json(json);
-        }
-        Ok(writeln!(self.out, "{line}")?)
-    }
-
     /// Prints the tag that a requirement is.
     pub fn tag(&mut self, options: Options, tag: &str) -> Result<Status, Stop> {
-        let line = format!(in self.alloc; "tag {tag}")?;
-        let json = json!(in self.alloc; {"tag": tag})?;
-        self.answer(options, line.as_str(), &json)?;
+        if options.json {
+            self.json(&field_json(self.alloc, "tag", Some(tag))?)?;
+        } else {
+            writeln!(self.out, "tag {tag}")?;
+        }
         Ok(Status::Tag)
     }
+
+    /// Prints the version that was asked for, or that there is none.
+    pub fn version(&mut self, options: Options, version: Option<&str>) -> Result<Status, Stop> {
+        if options.json {
+            self.json(&field_json(self.alloc, "version", version)?)?;
+        } else {
+            let line = version.unwrap_or("none");
+            writeln!(self.out, "{line}")?;
+        }
+        match version {
+            Some(_) => Ok(Status::Answered),
+            None => Ok(Status::Nothing),
+        }
+    }
+
+    // Prints whether a requirement allows no more than another one: the least version that it alone allows, where it does.
+    fn within(&mut self, options: Options, first: Option<&str>) -> Result<Status, Stop> {
+        if options.json {
+            self.json(&within_json(self.alloc, first)?)?;
+        } else if let Some(version) = first {
+            writeln!(self.out, "no {version}")?;
+        } else {
+            writeln!(self.out, "yes")?;
+        }
+        match first {
+            Some(_) => Ok(Status::Nothing),
+            None => Ok(Status::Answered),
+        }
+    }
+}
+
+// The JSON of one field.
+fn field_json(alloc: Global, name: &str, text: Option<&str>) -> Result<Value, AllocError> {
+    let mut json = Object::new(alloc);
+    json.put_text(name, text)?;
+    Ok(json.into_json())
+}
+
+fn within_json(alloc: Global, first: Option<&str>) -> Result<Value, AllocError> {
+    let mut json = Object::new(alloc);
+    json.put("within", Value::Bool(first.is_none()))?;
+    if first.is_some() {
+        json.put_text("version", first)?;
+    }
+    Ok(json.into_json())
 }
 
 /// `ranges common REQ REQ..`: the least version that suits all, or `none`.
@@ -50,22 +91,25 @@ pub fn common<O: Write, E: Write>(
     matches: &ArgMatches<'_>,
     options: Options,
 ) -> Result<Status, Stop> {
-    let alloc = console.alloc;
     let words = matches.get_strs("REQ").unwrap_or(&[]);
-    match common_version(alloc, options.flavour, options.pre_release, words) {
-        Ok(Common::Least(version)) => {
-            let line = format!(in alloc; "{version}")?;
-            let json = json!(in alloc; {"version": line.as_str()})?;
-            console.answer(options, line.as_str(), &json)?;
-            Ok(Status::Answered)
-        }
-        Ok(Common::Nothing) => {
-            let json = json!(in alloc; {"version": null})?;
-            console.answer(options, "none", &json)?;
-            Ok(Status::Nothing)
-        }
-        Ok(Common::Tag(tag)) => console.tag(options, tag.as_str()),
+    match common_version(console.alloc, options.flavour, options.pre_release, words) {
+        Ok(common) => tell_common(console, options, &common),
         Err(refused) => console.refuse_one_of(words, &refused),
+    }
+}
+
+fn tell_common<O: Write, E: Write>(
+    console: &mut Console<O, E>,
+    options: Options,
+    common: &Common,
+) -> Result<Status, Stop> {
+    match common {
+        Common::Least(version) => {
+            let version = format!(in console.alloc; "{version}")?;
+            console.version(options, Some(version.as_str()))
+        }
+        Common::Nothing => console.version(options, None),
+        Common::Tag(tag) => console.tag(options, tag.as_str()),
     }
 }
 
@@ -75,23 +119,31 @@ pub fn within<O: Write, E: Write>(
     matches: &ArgMatches<'_>,
     options: Options,
 ) -> Result<Status, Stop> {
-    let alloc = console.alloc;
     let new = matches.get_str("NEW").unwrap_or("");
     let old = matches.get_str("OLD").unwrap_or("");
-    match containment(alloc, options.flavour, options.pre_release, new, old) {
-        Ok(Within::Yes) => {
-            let json = json!(in alloc; {"within": true})?;
-            console.answer(options, "yes", &json)?;
-            Ok(Status::Answered)
-        }
-        Ok(Within::No(first)) => {
-            let version = format!(in alloc; "{first}")?;
-            let line = format!(in alloc; "no {version}")?;
-            let json = json!(in alloc; {"within": false, "version": version.as_str()})?;
-            console.answer(options, line.as_str(), &json)?;
-            Ok(Status::Nothing)
-        }
-        Ok(Within::Tag(tag)) => console.tag(options, tag.as_str()),
+    match containment(
+        console.alloc,
+        options.flavour,
+        options.pre_release,
+        new,
+        old,
+    ) {
+        Ok(within) => tell_within(console, options, &within),
         Err(refused) => console.refuse_one_of(&[new, old], &refused),
+    }
+}
+
+fn tell_within<O: Write, E: Write>(
+    console: &mut Console<O, E>,
+    options: Options,
+    within: &Within,
+) -> Result<Status, Stop> {
+    match within {
+        Within::Yes => console.within(options, None),
+        Within::No(first) => {
+            let first = format!(in console.alloc; "{first}")?;
+            console.within(options, Some(first.as_str()))
+        }
+        Within::Tag(tag) => console.tag(options, tag.as_str()),
     }
 }

@@ -148,23 +148,35 @@ fn reference<'a>(alloc: Global) -> Result<Command<'a>, AllocError> {
     .arg(word(alloc, "TEXT", "The text, as in jsr:@scope/name@1/mod.ts"))
 }
 
-/// The program's commands.
-pub fn program<'a>(alloc: Global) -> Result<Command<'a>, AllocError> {
-    Command::new(alloc, "ranges")
-        .about("What requirements of npm and JSR packages mean, and which versions suit them")
-        .version(VERSION)
-        .subcommand_required(true)
-        .arg_required_else_help(true)
-        .subcommand(explain(alloc)?)?
+// With the commands over lists of versions.
+fn with_lists<'a>(alloc: Global, program: Command<'a>) -> Result<Command<'a>, AllocError> {
+    program
         .subcommand(matching(
             alloc,
             "filter",
             "Print the versions that match, in the order given",
         )?)?
         .subcommand(matching(alloc, "best", "Print the greatest version that matches")?)?
-        .subcommand(sort(alloc)?)?
-        .subcommand(common(alloc)?)?
-        .subcommand(within(alloc)?)?
+        .subcommand(sort(alloc)?)
+}
+
+// With the commands over texts of packages.
+fn with_packages<'a>(alloc: Global, program: Command<'a>) -> Result<Command<'a>, AllocError> {
+    program
         .subcommand(package(alloc)?)?
         .subcommand(reference(alloc)?)
+}
+
+/// The program's commands.
+pub fn program<'a>(alloc: Global) -> Result<Command<'a>, AllocError> {
+    let program = Command::new(alloc, "ranges")
+        .about("What requirements of npm and JSR packages mean, and which versions suit them")
+        .version(VERSION)
+        .subcommand_required(true)
+        .arg_required_else_help(true)
+        .subcommand(explain(alloc)?)?;
+    let program = with_lists(alloc, program)?
+        .subcommand(common(alloc)?)?
+        .subcommand(within(alloc)?)?;
+    with_packages(alloc, program)
 }

@@ -2,10 +2,11 @@
 
 use crate::args::Options;
 use crate::console::{Console, Status, Stop};
+use crate::object::Object;
 use clap::ArgMatches;
 use deno_semver::{PreRelease, RangeBound, Version, VersionBound, VersionBoundKind, VersionRange};
 use range_answers::explained::{Explanation, Meaning, Piece, explain};
-use serde_json::{Value, json};
+use serde_json::Value;
 use std::alloc::{AllocError, Global};
 use std::fmt;
 use std::io::Write;
@@ -157,8 +158,11 @@ fn bound_json(alloc: Global, bound: &RangeBound) -> Result<Value, AllocError> {
         return Ok(Value::Null);
     };
     let version = format!(in alloc; "{}", bound.version)?;
+    let mut json = Object::new(alloc);
+    json.put("version", Value::String(version))?;
     let inclusive = bound.kind == VersionBoundKind::Inclusive;
-    json!(in alloc; {"version": version, "inclusive": inclusive})
+    json.put("inclusive", Value::Bool(inclusive))?;
+    Ok(json.into_json())
 }
 
 // Of which three numbers pre-releases match, or `all`.
@@ -185,20 +189,40 @@ fn least_json(alloc: Global, least: &Option<Version>) -> Result<Value, AllocErro
     }
 }
 
+// Puts the range that a piece means.
+fn put_range(
+    alloc: Global,
+    json: &mut Object,
+    range: &VersionRange,
+    least: &Option<Version>,
+    pre_release: PreRelease,
+) -> Result<(), AllocError> {
+    json.put("start", bound_json(alloc, &range.start)?)?;
+    json.put("end", bound_json(alloc, &range.end)?)?;
+    json.put("pre-releases", admitted_json(alloc, range, pre_release)?)?;
+    json.put("least", least_json(alloc, least)?)
+}
+
 fn piece_json(alloc: Global, piece: &Piece, pre_release: PreRelease) -> Result<Value, AllocError> {
-    let text = piece.text.as_str().trim();
+    let mut json = Object::new(alloc);
+    json.put_text("text", Some(piece.text.as_str().trim()))?;
     match &piece.meaning {
-        Meaning::Range { range, least } => {
-            let start = bound_json(alloc, &range.start)?;
-            let end = bound_json(alloc, &range.end)?;
-            let admitted = admitted_json(alloc, range, pre_release)?;
-            let least = least_json(alloc, least)?;
-            json!(in alloc; {
-                "text": text, "start": start, "end": end, "pre-releases": admitted, "least": least
-            })
-        }
-        Meaning::LeftOut(refusal) => json!(in alloc; {"text": text, "refused": refusal.message()}),
+        Meaning::Range { range, least } => put_range(alloc, &mut json, range, least, pre_release)?,
+        Meaning::LeftOut(refusal) => json.put_text("refused", Some(refusal.message()))?,
     }
+    Ok(json.into_json())
+}
+
+fn alternatives_json(
+    alloc: Global,
+    pieces: &[Piece],
+    pre_release: PreRelease,
+) -> Result<Value, AllocError> {
+    let mut items = Vec::new(alloc);
+    for piece in pieces {
+        items.push(piece_json(alloc, piece, pre_release)?)?;
+    }
+    Ok(Value::Array(items))
 }
 
 fn pieces_json(
@@ -207,12 +231,13 @@ fn pieces_json(
     pre_release: PreRelease,
     normal: &str,
 ) -> Result<Value, AllocError> {
-    let mut items = Vec::new(alloc);
-    for piece in pieces {
-        items.push(piece_json(alloc, piece, pre_release)?)?;
-    }
-    let items = Value::Array(items);
-    json!(in alloc; {"alternatives": items, "normal": normal})
+    let mut json = Object::new(alloc);
+    json.put(
+        "alternatives",
+        alternatives_json(alloc, pieces, pre_release)?,
+    )?;
+    json.put_text("normal", Some(normal))?;
+    Ok(json.into_json())
 }
 
 // Tells that a requirement is a tag.
@@ -231,6 +256,39 @@ fn tell_tag<O: Write, E: Write>(
     console.tag(options, tag)
 }
 
+// Prints each piece on a line, and the normal text; or the JSON of them.
+fn tell_pieces<O: Write, E: Write>(
+    console: &mut Console<O, E>,
+    options: Options,
+    pieces: &[Piece],
+    normal: &str,
+) -> Result<Status, Stop> {
+    let pre_release = options.pre_release;
+    if options.json {
+        console.json(&pieces_json(console.alloc, pieces, pre_release, normal)?)?;
+        return Ok(Status::Answered);
+    }
+    for piece in pieces {
+        let line = Line { piece, pre_release };
+        writeln!(console.out, "{line}")?;
+    }
+    writeln!(console.out, "normal text: {normal}")?;
+    Ok(Status::Answered)
+}
+
+fn tell_explanation<O: Write, E: Write>(
+    console: &mut Console<O, E>,
+    options: Options,
+    explanation: &Explanation,
+) -> Result<Status, Stop> {
+    match explanation {
+        Explanation::Tag(tag) => tell_tag(console, options, tag.as_str()),
+        Explanation::Ranges { pieces, normal } => {
+            tell_pieces(console, options, pieces.as_slice(), normal.as_str())
+        }
+    }
+}
+
 /// `ranges explain REQ`: the tag that a requirement is; or each alternative on a line, and the normal text.
 pub fn tell<O: Write, E: Write>(
     console: &mut Console<O, E>,
@@ -238,26 +296,8 @@ pub fn tell<O: Write, E: Write>(
     options: Options,
 ) -> Result<Status, Stop> {
     let word = matches.get_str("REQ").unwrap_or("");
-    let pre_release = options.pre_release;
-    let (pieces, normal) = match explain(console.alloc, options.flavour, pre_release, word) {
-        Ok(Explanation::Tag(tag)) => return tell_tag(console, options, tag.as_str()),
-        Ok(Explanation::Ranges { pieces, normal }) => (pieces, normal),
-        Err(failure) => return console.refuse_requirement(word, &failure),
-    };
-    if options.json {
-        let json = pieces_json(
-            console.alloc,
-            pieces.as_slice(),
-            pre_release,
-            normal.as_str(),
-        )?;
-        console.json(&json)?;
-        return Ok(Status::Answered);
+    match explain(console.alloc, options.flavour, options.pre_release, word) {
+        Ok(explanation) => tell_explanation(console, options, &explanation),
+        Err(failure) => console.refuse_requirement(word, &failure),
     }
-    for piece in &pieces {
-        let line = Line { piece, pre_release };
-        writeln!(console.out, "{line}")?;
-    }
-    writeln!(console.out, "normal text: {normal}")?;
-    Ok(Status::Answered)
 }

@@ -52,6 +52,21 @@ fn take_one<O: Write, E: Write, T: Take>(
     }
 }
 
+// Takes a line of standard input, and tells whether it is a version.
+fn take_line<O: Write, E: Write, T: Take>(
+    console: &mut Console<O, E>,
+    taker: &mut T,
+    number: u64,
+    line: &[u8],
+) -> Result<bool, Stop> {
+    let Ok(text) = str::from_utf8(line) else {
+        console.refuse_line(number, "", "The line is no UTF-8.");
+        return Ok(false);
+    };
+    let text = text.trim_end_matches(['\n', '\r'].as_slice());
+    take_one(console, taker, text, Place::Line(number))
+}
+
 // Takes the lines of standard input, which are read through a buffer, and tells whether each is a version.
 fn take_lines<R: Input, O: Write, E: Write, T: Take>(
     rt: &R,
@@ -69,16 +84,7 @@ fn take_lines<R: Input, O: Write, E: Write, T: Take>(
         if taken == 0 {
             break;
         }
-        match str::from_utf8(line.as_slice()) {
-            Ok(text) => {
-                let text = text.trim_end_matches(['\n', '\r'].as_slice());
-                all &= take_one(console, taker, text, Place::Line(number))?;
-            }
-            Err(_) => {
-                console.refuse_line(number, "", "The line is no UTF-8.");
-                all = false;
-            }
-        }
+        all &= take_line(console, taker, number, line.as_slice())?;
     }
     Ok(all)
 }

@@ -8,7 +8,7 @@ use deno_semver::resolve::max_satisfying_with;
 use deno_semver::{ParseFailure, PreRelease, Version, VersionReq};
 use range_answers::reading::requirement;
 use range_answers::versions::{Entry, Order, fits};
-use serde_json::{Value, json};
+use serde_json::Value;
 use std::io::Write;
 
 // How many of the texts that match were printed, and how.
@@ -139,15 +139,24 @@ pub fn filter<R: Input, O: Write, E: Write>(
     options: Options,
 ) -> Result<Status, Stop> {
     let word = matches.get_str("REQ").unwrap_or("");
-    let requirement = match requirement(console.alloc, options.flavour, word) {
-        Ok(requirement) => requirement,
-        Err(failure) => return console.refuse_requirement(word, &failure),
-    };
+    match requirement(console.alloc, options.flavour, word) {
+        Ok(requirement) => filter_by(rt, console, matches, options, &requirement),
+        Err(failure) => console.refuse_requirement(word, &failure),
+    }
+}
+
+fn filter_by<R: Input, O: Write, E: Write>(
+    rt: &R,
+    console: &mut Console<O, E>,
+    matches: &ArgMatches<'_>,
+    options: Options,
+    requirement: &VersionReq,
+) -> Result<Status, Stop> {
     if let Some(tag) = requirement.tag() {
         return console.tag(options, tag);
     }
     let mut filter = Filtering {
-        requirement: &requirement,
+        requirement,
         pre_release: options.pre_release,
         printed: Printed::new(options),
     };
@@ -168,33 +177,32 @@ pub fn best<R: Input, O: Write, E: Write>(
     matches: &ArgMatches<'_>,
     options: Options,
 ) -> Result<Status, Stop> {
-    let alloc = console.alloc;
     let word = matches.get_str("REQ").unwrap_or("");
-    let requirement = match requirement(alloc, options.flavour, word) {
-        Ok(requirement) => requirement,
-        Err(failure) => return console.refuse_requirement(word, &failure),
-    };
+    match requirement(console.alloc, options.flavour, word) {
+        Ok(requirement) => best_by(rt, console, matches, options, &requirement),
+        Err(failure) => console.refuse_requirement(word, &failure),
+    }
+}
+
+fn best_by<R: Input, O: Write, E: Write>(
+    rt: &R,
+    console: &mut Console<O, E>,
+    matches: &ArgMatches<'_>,
+    options: Options,
+    requirement: &VersionReq,
+) -> Result<Status, Stop> {
     if let Some(tag) = requirement.tag() {
         return console.tag(options, tag);
     }
     let mut kept = Kept {
-        texts: Vec::new(alloc),
-        versions: Vec::new(alloc),
+        texts: Vec::new(console.alloc),
+        versions: Vec::new(console.alloc),
     };
     let all = take_all(rt, console, matches.get_strs("VERSION"), &mut kept)?;
-    let place = max_satisfying_with(kept.versions.as_slice(), &requirement, options.pre_release);
-    match place.and_then(|place| kept.texts.get(place)) {
-        Some(text) => {
-            let json = json!(in alloc; {"version": text.as_str()})?;
-            console.answer(options, text.as_str(), &json)?;
-            Ok(ended(all, Status::Answered))
-        }
-        None => {
-            let json = json!(in alloc; {"version": null})?;
-            console.answer(options, "none", &json)?;
-            Ok(ended(all, Status::Nothing))
-        }
-    }
+    let place = max_satisfying_with(kept.versions.as_slice(), requirement, options.pre_release);
+    let best = place.and_then(|place| kept.texts.get(place));
+    let status = console.version(options, best.map(|text| text.as_str()))?;
+    Ok(ended(all, status))
 }
 
 /// `ranges sort [VERSION..]`: the versions in the order of precedence; those that are equal keep theirs.

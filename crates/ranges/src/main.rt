@@ -14,6 +14,7 @@ mod console;
 mod explaining;
 mod input;
 mod listed;
+mod object;
 mod packaged;
 
 use args::{Options, program};
@@ -71,22 +72,30 @@ fn words<R: Env + AllocGlobal>(rt: &R) -> io::Result<Vec<String>> {
     Ok(words)
 }
 
-// Answers the words, and writes out what is still in the buffer.
+// Answers the command that was given, and writes out what is still in the buffer.
+fn write_answer<R: Runtime + AllocGlobal, E: Write + Drop>(
+    rt: &R,
+    err: E,
+    matches: &ArgMatches<'_>,
+) -> Result<Status, Stop> {
+    let alloc = rt.alloc();
+    let out = BufWriter::new(alloc, io::writer(rt))?;
+    let mut console = Console { alloc, out, err };
+    let status = answer(rt, &mut console, matches)?;
+    console.out.flush()?;
+    Ok(status)
+}
+
+// Answers the words.
 fn run<R: Runtime + AllocGlobal, E: Write + Drop>(
     rt: &R,
     err: E,
     words: &[String],
 ) -> Result<Status, Stop> {
-    let alloc = rt.alloc();
-    let matches = match program(alloc)?.try_get_matches_from(words) {
-        Ok(matches) => matches,
-        Err(mistake) => return Ok(print_mistake(rt, &mistake)),
-    };
-    let out = BufWriter::new(alloc, io::writer(rt))?;
-    let mut console = Console { alloc, out, err };
-    let status = answer(rt, &mut console, &matches)?;
-    console.out.flush()?;
-    Ok(status)
+    match program(rt.alloc())?.try_get_matches_from(words) {
+        Ok(matches) => write_answer(rt, err, &matches),
+        Err(mistake) => Ok(print_mistake(rt, &mistake)),
+    }
 }
 
 // Tells why the program stops early.

@@ -2,13 +2,15 @@
 
 use crate::args::Options;
 use crate::console::{Console, Status, Stop};
+use crate::object::Object;
 use clap::ArgMatches;
 use deno_semver::jsr::normalized_export_name;
 use deno_semver::package::{
-    PackageKind, PackageReq, PackageReqPartsParseError, PackageReqReferenceParseError,
+    PackageKind, PackageReq, PackageReqParseError, PackageReqPartsParseError,
+    PackageReqReferenceParseError,
 };
 use range_answers::packages::{Reference, read_package, read_reference};
-use serde_json::{Value, json};
+use serde_json::Value;
 use std::alloc::{AllocError, Global};
 use std::io::Write;
 
@@ -21,91 +23,81 @@ fn scope_and_name(name: &str) -> (Option<&str>, &str) {
 }
 
 // The parts of the text of a package; a text that has no such part has none.
-#[derive(Drop)]
-struct Parts {
+#[derive(Clone, Copy)]
+struct Parts<'a> {
     kind: Option<&'static str>,
-    scope: Option<String>,
-    name: String,
-    requirement: String,
-    normal: String,
-    path: Option<String>,
-    export: Option<String>,
+    scope: Option<&'a str>,
+    name: &'a str,
+    requirement: &'a str,
+    normal: &'a str,
+    path: Option<&'a str>,
+    export: Option<&'a str>,
 }
 
-impl Parts {
-    // The parts of a requirement of a package.
-    fn of(alloc: Global, req: &PackageReq) -> Result<Parts, AllocError> {
+impl<'a> Parts<'a> {
+    // The parts of a requirement of a package, which has this normal text.
+    fn of(req: &'a PackageReq, normal: &'a str) -> Parts<'a> {
         let (scope, name) = scope_and_name(req.name.as_str());
-        Ok(Parts {
+        Parts {
             kind: None,
-            scope: owned(alloc, scope)?,
-            name: String::from_str(alloc, name)?,
-            requirement: String::from_str(alloc, req.version_req.version_text())?,
-            normal: req.version_req.to_string_normalized(alloc)?,
+            scope,
+            name,
+            requirement: req.version_req.version_text(),
+            normal,
             path: None,
             export: None,
-        })
-    }
-
-    // The parts of a reference.
-    fn of_reference(alloc: Global, told: &Reference) -> Result<Parts, AllocError> {
-        let path = told.reference.sub_path.as_ref().map(|path| path.as_str());
-        let mut parts = Parts::of(alloc, &told.reference.req)?;
-        parts.path = owned(alloc, path)?;
-        match told.kind {
-            PackageKind::Jsr => {
-                let export = normalized_export_name(alloc, path)?;
-                parts.kind = Some("jsr");
-                parts.export = owned(alloc, Some(export.as_str()))?;
-            }
-            PackageKind::Npm => parts.kind = Some("npm"),
         }
-        Ok(parts)
     }
+}
 
+impl Parts<'_> {
     // Prints each part on a line.
     fn print<O: Write>(&self, out: &mut O) -> Result<(), Stop> {
         print_part(out, "kind", self.kind)?;
-        print_part(out, "scope", text_of(&self.scope))?;
-        print_part(out, "name", Some(self.name.as_str()))?;
-        print_part(out, "requirement", Some(self.requirement.as_str()))?;
-        print_part(out, "normal text", Some(self.normal.as_str()))?;
-        print_part(out, "path", text_of(&self.path))?;
-        print_part(out, "export", text_of(&self.export))
+        print_part(out, "scope", self.scope)?;
+        print_part(out, "name", Some(self.name))?;
+        print_part(out, "requirement", Some(self.requirement))?;
+        print_part(out, "normal text", Some(self.normal))?;
+        print_part(out, "path", self.path)?;
+        print_part(out, "export", self.export)
     }
 
     // The JSON of a requirement of a package.
     fn package_json(&self, alloc: Global) -> Result<Value, AllocError> {
-        let scope = text_json(alloc, text_of(&self.scope))?;
-        let name = text_json(alloc, Some(self.name.as_str()))?;
-        let requirement = text_json(alloc, Some(self.requirement.as_str()))?;
-        let normal = text_json(alloc, Some(self.normal.as_str()))?;
-        json!(in alloc; {
-            "scope": scope, "name": name, "requirement": requirement, "normal": normal
-        })
+        let mut json = Object::new(alloc);
+        json.put_text("scope", self.scope)?;
+        json.put_text("name", Some(self.name))?;
+        json.put_text("requirement", Some(self.requirement))?;
+        json.put_text("normal", Some(self.normal))?;
+        Ok(json.into_json())
     }
 
-    // The JSON of a reference.
-    fn reference_json(&self, alloc: Global) -> Result<Value, AllocError> {
-        let kind = text_json(alloc, self.kind)?;
-        let path = text_json(alloc, text_of(&self.path))?;
-        let export = text_json(alloc, text_of(&self.export))?;
+    // The JSON: of a reference where there is a kind, and else of a requirement.
+    fn json(&self, alloc: Global) -> Result<Value, AllocError> {
         let package = self.package_json(alloc)?;
-        json!(in alloc; {"kind": kind, "package": package, "path": path, "export": export})
+        if self.kind.is_none() {
+            return Ok(package);
+        }
+        let mut json = Object::new(alloc);
+        json.put_text("kind", self.kind)?;
+        json.put("package", package)?;
+        json.put_text("path", self.path)?;
+        json.put_text("export", self.export)?;
+        Ok(json.into_json())
     }
-}
 
-fn owned(alloc: Global, text: Option<&str>) -> Result<Option<String>, AllocError> {
-    match text {
-        Some(text) => Ok(Some(String::from_str(alloc, text)?)),
-        None => Ok(None),
-    }
-}
-
-fn text_of(text: &Option<String>) -> Option<&str> {
-    match text {
-        Some(text) => Some(text.as_str()),
-        None => None,
+    // Prints the parts, or the JSON of them.
+    fn tell<O: Write, E: Write>(
+        &self,
+        console: &mut Console<O, E>,
+        options: Options,
+    ) -> Result<Status, Stop> {
+        if options.json {
+            console.json(&self.json(console.alloc)?)?;
+        } else {
+            self.print(&mut console.out)?;
+        }
+        Ok(Status::Answered)
     }
 }
 
@@ -115,14 +107,6 @@ fn print_part<O: Write>(out: &mut O, part: &str, text: Option<&str>) -> Result<(
         writeln!(out, "{part}: {text}")?;
     }
     Ok(())
-}
-
-// The text, or null.
-fn text_json(alloc: Global, text: Option<&str>) -> Result<Value, AllocError> {
-    match text {
-        Some(text) => Ok(Value::String(String::from_str(alloc, text)?)),
-        None => Ok(Value::Null),
-    }
 }
 
 // What is wrong with the text of a package.
@@ -159,28 +143,91 @@ fn reference_message(
     }
 }
 
+fn tell_requirement<O: Write, E: Write>(
+    console: &mut Console<O, E>,
+    options: Options,
+    req: &PackageReq,
+) -> Result<Status, Stop> {
+    let normal = req.version_req.to_string_normalized(console.alloc)?;
+    Parts::of(req, normal.as_str()).tell(console, options)
+}
+
+fn refuse_package<O: Write, E: Write>(
+    console: &mut Console<O, E>,
+    word: &str,
+    error: &PackageReqParseError,
+) -> Result<Status, Stop> {
+    if error.is_memory() {
+        return Err(Stop::OutOfMemory);
+    }
+    let message = parts_message(console.alloc, &error.source)?;
+    Ok(console.refuse("package", word, message.as_str()))
+}
+
 /// `ranges package TEXT`: the parts of a requirement of a package.
 pub fn tell_package<O: Write, E: Write>(
     console: &mut Console<O, E>,
     matches: &ArgMatches<'_>,
     options: Options,
 ) -> Result<Status, Stop> {
-    let alloc = console.alloc;
     let word = matches.get_str("TEXT").unwrap_or("");
-    let parts = match read_package(alloc, options.flavour, word) {
-        Ok(req) => Parts::of(alloc, &req)?,
-        Err(error) if error.is_memory() => return Err(Stop::OutOfMemory),
-        Err(error) => {
-            let message = parts_message(alloc, &error.source)?;
-            return Ok(console.refuse("package", word, message.as_str()));
-        }
-    };
-    if options.json {
-        console.json(&parts.package_json(alloc)?)?;
-    } else {
-        parts.print(&mut console.out)?;
+    match read_package(console.alloc, options.flavour, word) {
+        Ok(req) => tell_requirement(console, options, &req),
+        Err(error) => refuse_package(console, word, &error),
     }
-    Ok(Status::Answered)
+}
+
+// Tells a reference whose requirement has these parts.
+fn tell_with_path<O: Write, E: Write>(
+    console: &mut Console<O, E>,
+    options: Options,
+    kind: PackageKind,
+    parts: Parts<'_>,
+) -> Result<Status, Stop> {
+    match kind {
+        PackageKind::Jsr => {
+            let export = normalized_export_name(console.alloc, parts.path)?;
+            let parts = Parts {
+                kind: Some("jsr"),
+                export: Some(export.as_str()),
+                ..parts
+            };
+            parts.tell(console, options)
+        }
+        PackageKind::Npm => {
+            let parts = Parts {
+                kind: Some("npm"),
+                ..parts
+            };
+            parts.tell(console, options)
+        }
+    }
+}
+
+fn tell_read_reference<O: Write, E: Write>(
+    console: &mut Console<O, E>,
+    options: Options,
+    told: &Reference,
+) -> Result<Status, Stop> {
+    let req = &told.reference.req;
+    let normal = req.version_req.to_string_normalized(console.alloc)?;
+    let parts = Parts {
+        path: told.reference.sub_path.as_ref().map(|path| path.as_str()),
+        ..Parts::of(req, normal.as_str())
+    };
+    tell_with_path(console, options, told.kind, parts)
+}
+
+fn refuse_reference<O: Write, E: Write>(
+    console: &mut Console<O, E>,
+    word: &str,
+    error: &PackageReqReferenceParseError,
+) -> Result<Status, Stop> {
+    if error.is_memory() {
+        return Err(Stop::OutOfMemory);
+    }
+    let message = reference_message(console.alloc, error)?;
+    Ok(console.refuse("reference", word, message.as_str()))
 }
 
 /// `ranges reference TEXT`: the parts of a reference to a package.
@@ -189,20 +236,9 @@ pub fn tell_reference<O: Write, E: Write>(
     matches: &ArgMatches<'_>,
     options: Options,
 ) -> Result<Status, Stop> {
-    let alloc = console.alloc;
     let word = matches.get_str("TEXT").unwrap_or("");
-    let parts = match read_reference(alloc, word) {
-        Ok(told) => Parts::of_reference(alloc, &told)?,
-        Err(error) if error.is_memory() => return Err(Stop::OutOfMemory),
-        Err(error) => {
-            let message = reference_message(alloc, &error)?;
-            return Ok(console.refuse("reference", word, message.as_str()));
-        }
-    };
-    if options.json {
-        console.json(&parts.reference_json(alloc)?)?;
-    } else {
-        parts.print(&mut console.out)?;
+    match read_reference(console.alloc, word) {
+        Ok(told) => tell_read_reference(console, options, &told),
+        Err(error) => refuse_reference(console, word, &error),
     }
-    Ok(Status::Answered)
 }

@@ -24,6 +24,42 @@ pub fn version_of(alloc: Global, text: &str) -> Result<Version, Fault> {
     Ok(Version::parse_standard(alloc, text)?)
 }
 
+/// The two texts that the words are.
+pub fn pair<'a>(words: &[Word<'a>]) -> Result<(&'a str, &'a str), Fault> {
+    match words {
+        [Some(one), Some(other)] => Ok((one, other)),
+        _ => Err(Fault::Unreadable),
+    }
+}
+
+/// The words before the last one, and which pre-releases that stands for.
+pub fn with_pre_release<'a, 'b>(
+    words: &'b [Word<'a>],
+) -> Result<(&'b [Word<'a>], PreRelease), Fault> {
+    match words {
+        [asked @ .., Some(word)] => Ok((asked, shown::pre_release_of(word)?)),
+        _ => Err(Fault::Unreadable),
+    }
+}
+
+/// Two values that a question is about.
+#[derive(Drop)]
+pub struct Two<A, B> {
+    pub one: A,
+    pub other: B,
+}
+
+/// Both values, or why there is not the one or the other.
+pub fn both<A: Drop, B: Drop>(
+    one: Result<A, Fault>,
+    other: Result<B, Fault>,
+) -> Result<Two<A, B>, Fault> {
+    Ok(Two {
+        one: one?,
+        other: other?,
+    })
+}
+
 /// What is told of a value, or why there is none.
 pub fn of_one<A: Drop, F: Fn(Global, &A) -> Answer>(
     alloc: Global,
@@ -65,54 +101,42 @@ pub fn of_both<A: Drop, B: Drop, F: Fn(Global, &A, &B) -> Answer>(
     tell(alloc, &one, &other)
 }
 
-/// A reader and a text: what is told of the requirement.
-pub fn of_requirement<F: Fn(Global, &VersionReq) -> Answer>(
-    alloc: Global,
-    words: &[Word<'_>],
-    tell: F,
-) -> Answer
-    requires { F.IsAlwaysCallable tell }
-{
-    let [Some(reader), Some(text)] = words else {
-        return Err(Fault::Unreadable);
-    };
-    of_one(alloc, read(alloc, reader, text), tell)
+/// The requirement that a reader and a text are.
+pub fn requirement_of(alloc: Global, words: &[Word<'_>]) -> Result<VersionReq, Fault> {
+    let (reader, text) = pair(words)?;
+    read(alloc, reader, text)
 }
 
-/// A reader and two texts: what is told of the two requirements.
-pub fn of_pair<F: Fn(Global, &VersionReq, &VersionReq) -> Answer>(
+/// The requirements that the reader of this name makes of two texts.
+pub fn read_both(
+    alloc: Global,
+    reader: &str,
+    left: &str,
+    right: &str,
+) -> Result<Two<VersionReq, VersionReq>, Fault> {
+    both(read(alloc, reader, left), read(alloc, reader, right))
+}
+
+/// The two requirements that a reader and two texts are.
+pub fn two_requirements(
     alloc: Global,
     words: &[Word<'_>],
-    tell: F,
-) -> Answer
-    requires { F.IsAlwaysCallable tell }
-{
+) -> Result<Two<VersionReq, VersionReq>, Fault> {
     let [Some(reader), Some(left), Some(right)] = words else {
         return Err(Fault::Unreadable);
     };
-    of_both(
-        alloc,
-        read(alloc, reader, left),
-        read(alloc, reader, right),
-        tell,
-    )
+    read_both(alloc, reader, left, right)
 }
 
-/// A reader, `restricted` or `admitted` and two texts: what is told of the two requirements.
-pub fn of_pair_with<F: Fn(Global, &VersionReq, &VersionReq, PreRelease) -> Answer>(
+/// The requirement and the version that a reader and two texts are.
+pub fn requirement_and_version(
     alloc: Global,
     words: &[Word<'_>],
-    tell: F,
-) -> Answer
-    requires { F.IsAlwaysCallable tell }
-{
-    let [Some(reader), Some(word), Some(left), Some(right)] = words else {
+) -> Result<Two<VersionReq, Version>, Fault> {
+    let [Some(reader), Some(requirement), Some(version)] = words else {
         return Err(Fault::Unreadable);
     };
-    let pre_release = shown::pre_release_of(word)?;
-    let left = read(alloc, reader, left)?;
-    let right = read(alloc, reader, right)?;
-    tell(alloc, &left, &right, pre_release)
+    both(read(alloc, reader, requirement), version_of(alloc, version))
 }
 
 /// The requirements that the words are, by the reader of this name.

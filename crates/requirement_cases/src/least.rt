@@ -1,9 +1,10 @@
 //! The least version that requirements match, and whether each version that one matches another does too.
 
-use crate::asked::{of_both, of_one, of_pair, of_pair_with, of_requirement, read, read_all};
+use crate::asked::{Two, both, read, read_all, read_both, requirement_of, two_requirements};
+use crate::ranges::two_sets;
 use crate::shown;
-use crate::words::{Answer, Fault, Word, answer, yes_or_no};
-use semver_base::range::PreRelease;
+use crate::words::{Answer, Fault, Word, displayed, single, yes_or_no};
+use semver_base::range::{PreRelease, VersionRangeSet};
 use semver_base::version::Version;
 use semver_req::req::VersionReq;
 use std::alloc::Global;
@@ -11,20 +12,20 @@ use std::alloc::Global;
 /// What a call on least versions and containment answers to a question's words after its name, where the name is of one.
 pub fn ask(alloc: Global, name: &str, words: &[Word<'_>]) -> Option<Answer> {
     let answer = match name {
-        "min-version" => of_requirement(alloc, words, min_version),
-        "common-version" => of_pair(alloc, words, common_version),
+        "min-version" => min_version(alloc, words),
+        "common-version" => of_pair(alloc, name, words),
         "common-with-all" => common_with_all(alloc, words),
-        "version-outside" => of_pair(alloc, words, version_outside),
-        "is-subset" => of_pair(alloc, words, is_subset),
-        "is-equivalent" => of_pair(alloc, words, is_equivalent),
-        "set-is-subset" => set_is_subset(alloc, words),
-        "set-is-equivalent" => set_is_equivalent(alloc, words),
+        "version-outside" => of_pair(alloc, name, words),
+        "is-subset" => of_pair(alloc, name, words),
+        "is-equivalent" => of_pair(alloc, name, words),
+        "set-is-subset" => of_sets(alloc, name, words),
+        "set-is-equivalent" => of_sets(alloc, name, words),
         "min-version-with" => min_version_with(alloc, words),
-        "common-version-with" => of_pair_with(alloc, words, common_version_with),
+        "common-version-with" => of_pair_with(alloc, name, words),
         "common-of-all-with" => common_of_all_with(alloc, words),
-        "version-outside-with" => of_pair_with(alloc, words, version_outside_with),
-        "is-subset-with" => of_pair_with(alloc, words, is_subset_with),
-        "is-equivalent-with" => of_pair_with(alloc, words, is_equivalent_with),
+        "version-outside-with" => of_pair_with(alloc, name, words),
+        "is-subset-with" => of_pair_with(alloc, name, words),
+        "is-equivalent-with" => of_pair_with(alloc, name, words),
         _ => return None,
     };
     Some(answer)
@@ -32,22 +33,41 @@ pub fn ask(alloc: Global, name: &str, words: &[Word<'_>]) -> Option<Answer> {
 
 // How the version is displayed, or `none`.
 fn version_or_none(alloc: Global, version: Option<Version>) -> Answer {
-    let Some(version) = version else {
-        return answer(alloc, &[Some("none")]);
-    };
-    let text = format!(in alloc; "{version}")?;
-    answer(alloc, &[Some(text.as_str())])
+    match &version {
+        None => single(alloc, "none"),
+        Some(version) => displayed(alloc, version),
+    }
 }
 
 fn tag(alloc: Global) -> Answer {
-    answer(alloc, &[Some("tag")])
+    single(alloc, "tag")
 }
 
 // `min-version`, a reader and a text: the least version that the requirement matches, or `none`; or `tag`.
-fn min_version(alloc: Global, requirement: &VersionReq) -> Answer {
+fn min_version(alloc: Global, words: &[Word<'_>]) -> Answer {
+    least(alloc, &requirement_of(alloc, words)?)
+}
+
+fn least(alloc: Global, requirement: &VersionReq) -> Answer {
     match requirement.tag() {
         None => version_or_none(alloc, requirement.min_version(alloc)?),
         Some(_) => tag(alloc),
+    }
+}
+
+// A call on a reader and two texts: what is told of the two requirements.
+fn of_pair(alloc: Global, name: &str, words: &[Word<'_>]) -> Answer {
+    told_of_pair(alloc, name, &two_requirements(alloc, words)?)
+}
+
+fn told_of_pair(alloc: Global, name: &str, asked: &Two<VersionReq, VersionReq>) -> Answer {
+    let (left, right) = (&asked.one, &asked.other);
+    match name {
+        "common-version" => common_version(alloc, left, right),
+        "version-outside" => version_outside(alloc, left, right),
+        "is-subset" => is_subset(alloc, left, right),
+        "is-equivalent" => is_equivalent(alloc, left, right),
+        _ => Err(Fault::Unreadable),
     }
 }
 
@@ -64,12 +84,21 @@ fn common_with_all(alloc: Global, words: &[Word<'_>]) -> Answer {
     let [Some(reader), Some(text), others @ ..] = words else {
         return Err(Fault::Unreadable);
     };
-    of_both(
-        alloc,
-        read(alloc, reader, text),
-        read_all(alloc, reader, others),
-        |alloc, own, others| common_of_all(alloc, own, others.as_slice()),
-    )
+    told_common(alloc, &read_more(alloc, reader, text, others)?)
+}
+
+// The requirement that a text is, and those that others are.
+fn read_more(
+    alloc: Global,
+    reader: &str,
+    text: &str,
+    others: &[Word<'_>],
+) -> Result<Two<VersionReq, Vec<VersionReq>>, Fault> {
+    both(read(alloc, reader, text), read_all(alloc, reader, others))
+}
+
+fn told_common(alloc: Global, asked: &Two<VersionReq, Vec<VersionReq>>) -> Answer {
+    common_of_all(alloc, &asked.one, asked.other.as_slice())
 }
 
 fn common_of_all(alloc: Global, own: &VersionReq, others: &[VersionReq]) -> Answer {
@@ -104,30 +133,22 @@ fn is_equivalent(alloc: Global, left: &VersionReq, right: &VersionReq) -> Answer
     }
 }
 
-// `set-is-subset`, two sets of ranges: whether the second matches each version that the first matches.
-fn set_is_subset(alloc: Global, words: &[Word<'_>]) -> Answer {
-    let [Some(set), Some(other)] = words else {
-        return Err(Fault::Unreadable);
-    };
-    of_both(
-        alloc,
-        shown::set_of(alloc, set),
-        shown::set_of(alloc, other),
-        |alloc, set, other| yes_or_no(alloc, set.is_subset(alloc, other)?),
-    )
+// `set-is-subset`, two sets of ranges: whether the second matches each version that the first matches. `set-is-equivalent`, the
+// same: whether both match the same versions.
+fn of_sets(alloc: Global, name: &str, words: &[Word<'_>]) -> Answer {
+    told_of_sets(alloc, name, &two_sets(alloc, words)?)
 }
 
-// `set-is-equivalent`, two sets of ranges: whether both match the same versions.
-fn set_is_equivalent(alloc: Global, words: &[Word<'_>]) -> Answer {
-    let [Some(set), Some(other)] = words else {
-        return Err(Fault::Unreadable);
+fn told_of_sets(
+    alloc: Global,
+    name: &str,
+    asked: &Two<VersionRangeSet, VersionRangeSet>,
+) -> Answer {
+    let holds = match name {
+        "set-is-subset" => asked.one.is_subset(alloc, &asked.other),
+        _ => asked.one.is_equivalent(alloc, &asked.other),
     };
-    of_both(
-        alloc,
-        shown::set_of(alloc, set),
-        shown::set_of(alloc, other),
-        |alloc, set, other| yes_or_no(alloc, set.is_equivalent(alloc, other)?),
-    )
+    yes_or_no(alloc, holds?)
 }
 
 // `min-version-with`, a reader, `restricted` or `admitted` and a text: the least version that the requirement matches, or
@@ -137,15 +158,39 @@ fn min_version_with(alloc: Global, words: &[Word<'_>]) -> Answer {
         return Err(Fault::Unreadable);
     };
     let pre_release = shown::pre_release_of(word)?;
-    of_one(alloc, read(alloc, reader, text), |alloc, requirement| {
-        least_with(alloc, requirement, pre_release)
-    })
+    least_with(alloc, &read(alloc, reader, text)?, pre_release)
 }
 
 fn least_with(alloc: Global, requirement: &VersionReq, pre_release: PreRelease) -> Answer {
     match requirement.tag() {
         None => version_or_none(alloc, requirement.min_version_with(alloc, pre_release)?),
         Some(_) => tag(alloc),
+    }
+}
+
+// A call on a reader, `restricted` or `admitted` and two texts: what is told of the two requirements.
+fn of_pair_with(alloc: Global, name: &str, words: &[Word<'_>]) -> Answer {
+    let [Some(reader), Some(word), Some(left), Some(right)] = words else {
+        return Err(Fault::Unreadable);
+    };
+    let pre_release = shown::pre_release_of(word)?;
+    let asked = read_both(alloc, reader, left, right)?;
+    told_of_pair_with(alloc, name, &asked, pre_release)
+}
+
+fn told_of_pair_with(
+    alloc: Global,
+    name: &str,
+    asked: &Two<VersionReq, VersionReq>,
+    pre_release: PreRelease,
+) -> Answer {
+    let (left, right) = (&asked.one, &asked.other);
+    match name {
+        "common-version-with" => common_version_with(alloc, left, right, pre_release),
+        "version-outside-with" => version_outside_with(alloc, left, right, pre_release),
+        "is-subset-with" => is_subset_with(alloc, left, right, pre_release),
+        "is-equivalent-with" => is_equivalent_with(alloc, left, right, pre_release),
+        _ => Err(Fault::Unreadable),
     }
 }
 
@@ -172,12 +217,16 @@ fn common_of_all_with(alloc: Global, words: &[Word<'_>]) -> Answer {
         return Err(Fault::Unreadable);
     };
     let pre_release = shown::pre_release_of(word)?;
-    of_both(
-        alloc,
-        read(alloc, reader, text),
-        read_all(alloc, reader, others),
-        |alloc, own, others| all_with(alloc, own, others.as_slice(), pre_release),
-    )
+    let asked = read_more(alloc, reader, text, others)?;
+    told_common_with(alloc, &asked, pre_release)
+}
+
+fn told_common_with(
+    alloc: Global,
+    asked: &Two<VersionReq, Vec<VersionReq>>,
+    pre_release: PreRelease,
+) -> Answer {
+    all_with(alloc, &asked.one, asked.other.as_slice(), pre_release)
 }
 
 fn all_with(

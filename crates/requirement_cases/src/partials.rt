@@ -1,7 +1,9 @@
 //! The ranges and bounds that partial versions stand for.
 
+use crate::asked::pair;
+use crate::ranges::{told, told_end, told_start};
 use crate::shown;
-use crate::words::{Answer, Fault, Word, answer};
+use crate::words::{Answer, Fault, Word};
 use semver_base::partial::Partial;
 use semver_base::range::{VersionBoundKind, VersionRange};
 use std::alloc::Global;
@@ -18,30 +20,43 @@ pub fn ask(alloc: Global, name: &str, words: &[Word<'_>]) -> Option<Answer> {
 // `partial`, a word or a primitive kind, and a partial version: the bound or the range that a copy of the partial version
 // stands for there.
 fn partial(alloc: Global, words: &[Word<'_>]) -> Answer {
-    let [Some(asked), Some(text)] = words else {
-        return Err(Fault::Unreadable);
-    };
-    let partial = shown::partial_of(alloc, text)?.copy()?;
-    let text = match *asked {
-        "lower" => shown::start(alloc, &partial.as_lower_bound(alloc)?)?,
-        "upper" => shown::end(alloc, &partial.as_upper_bound(alloc)?)?,
-        asked => shown::range(alloc, &range(alloc, asked, &partial)?)?,
-    };
-    answer(alloc, &[Some(text.as_str())])
+    let (asked, text) = pair(words)?;
+    told_partial(alloc, asked, &copied(alloc, text)?)
+}
+
+fn copied(alloc: Global, text: &str) -> Result<Partial, Fault> {
+    Ok(shown::partial_of(alloc, text)?.copy()?)
+}
+
+fn told_partial(alloc: Global, asked: &str, partial: &Partial) -> Answer {
+    match asked {
+        "lower" => lower(alloc, partial),
+        "upper" => upper(alloc, partial),
+        _ => told(alloc, &range(alloc, asked, partial)?),
+    }
+}
+
+fn lower(alloc: Global, partial: &Partial) -> Answer {
+    told_start(alloc, &partial.as_lower_bound(alloc)?)
+}
+
+fn upper(alloc: Global, partial: &Partial) -> Answer {
+    told_end(alloc, &partial.as_upper_bound(alloc)?)
 }
 
 // The range of a partial version after this word or primitive kind.
 fn range(alloc: Global, asked: &str, partial: &Partial) -> Result<VersionRange, Fault> {
-    Ok(match asked {
-        "tilde" => partial.as_tilde_version_range(alloc)?,
-        "caret" => partial.as_caret_version_range(alloc)?,
-        "equal" => partial.as_equal_range(alloc)?,
-        "from-inclusive" => partial.as_greater_range(alloc, VersionBoundKind::Inclusive)?,
-        "from-exclusive" => partial.as_greater_range(alloc, VersionBoundKind::Exclusive)?,
-        ">=" => partial.as_greater_than(alloc, VersionBoundKind::Inclusive)?,
-        ">" => partial.as_greater_than(alloc, VersionBoundKind::Exclusive)?,
-        "<=" => partial.as_less_than(alloc, VersionBoundKind::Inclusive)?,
-        "<" => partial.as_less_than(alloc, VersionBoundKind::Exclusive)?,
+    let range = match asked {
+        "tilde" => partial.as_tilde_version_range(alloc),
+        "caret" => partial.as_caret_version_range(alloc),
+        "equal" => partial.as_equal_range(alloc),
+        "from-inclusive" => partial.as_greater_range(alloc, VersionBoundKind::Inclusive),
+        "from-exclusive" => partial.as_greater_range(alloc, VersionBoundKind::Exclusive),
+        ">=" => partial.as_greater_than(alloc, VersionBoundKind::Inclusive),
+        ">" => partial.as_greater_than(alloc, VersionBoundKind::Exclusive),
+        "<=" => partial.as_less_than(alloc, VersionBoundKind::Inclusive),
+        "<" => partial.as_less_than(alloc, VersionBoundKind::Exclusive),
         _ => return Err(Fault::Unreadable),
-    })
+    };
+    Ok(range?)
 }

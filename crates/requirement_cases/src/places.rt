@@ -3,12 +3,16 @@
 ghost use Rattle.std.specs.Prelude.{IfOk};
 ghost use Rattle.std.specs.Str.{IsCharBoundary};
 
+use crate::asked::pair;
+use crate::ranges::told;
 use crate::shown;
-use crate::words::{Answer, Fault, Word, answer};
-use semver_base::lexical::values::Measured;
+use crate::words::{Answer, Fault, Word, single, two};
+use semver_base::lexical::values::{Measured, Qualifier};
+use semver_base::partial::Partial;
+use semver_base::range::VersionRange;
 use semver_req::common;
-use semver_req::common::values::{Flavour, PrimitiveKind};
-use std::alloc::Global;
+use semver_req::common::values::{Flavour, Primitive, PrimitiveKind};
+use std::alloc::{AllocError, Global};
 
 /// What a call on the parts of a requirement at a place of its text answers to a question's words after its name, where the name is of one.
 pub fn ask(alloc: Global, name: &str, words: &[Word<'_>]) -> Option<Answer> {
@@ -49,15 +53,17 @@ fn partial_at(alloc: Global, words: &[Word<'_>]) -> Answer {
         return Err(Fault::Unreadable);
     };
     let place = place_in(text, place)?;
-    let read = common::partial(alloc, text, place, flavour_of(flavour)?)?;
-    let Some((value, reached)) = read else {
-        return answer(alloc, &[Some("none")]);
-    };
-    let value = match value {
-        Measured::TooLarge => String::from_str(alloc, "too large")?,
-        Measured::Fits(partial) => shown::partial(alloc, &partial)?,
-    };
-    answer(alloc, &[Some(value.as_str()), Some(&text[reached..])])
+    match &common::partial(alloc, text, place, flavour_of(flavour)?)? {
+        None => single(alloc, "none"),
+        Some((value, reached)) => told_partial(alloc, value, &text[*reached..]),
+    }
+}
+
+fn told_partial(alloc: Global, partial: &Measured<Partial>, rest: &str) -> Answer {
+    match partial {
+        Measured::TooLarge => two(alloc, "too large", rest),
+        Measured::Fits(partial) => two(alloc, shown::partial(alloc, partial)?.as_str(), rest),
+    }
 }
 
 // `qualifier-at`, a grammar, a text and a place: the pre-release and the build there, and what follows them.
@@ -67,9 +73,16 @@ fn qualifier_at(alloc: Global, words: &[Word<'_>]) -> Answer {
     };
     let place = place_in(text, place)?;
     let (read, reached) = common::qualifier(alloc, text, place, flavour_of(flavour)?)?;
-    let read = read.copy()?;
-    let qualifier = shown::qualifier(alloc, &read.pre, &read.build)?;
-    answer(alloc, &[Some(qualifier.as_str()), Some(&text[reached..])])
+    told_qualifier(alloc, &read, &text[reached..])
+}
+
+fn told_qualifier(alloc: Global, qualifier: &Qualifier, rest: &str) -> Answer {
+    two(alloc, copied_text(alloc, qualifier)?.as_str(), rest)
+}
+
+fn copied_text(alloc: Global, qualifier: &Qualifier) -> Result<String, AllocError> {
+    let copy = qualifier.copy()?;
+    shown::qualifier(alloc, &copy.pre, &copy.build)
 }
 
 fn kind_text(kind: PrimitiveKind) -> &'static str {
@@ -84,13 +97,11 @@ fn kind_text(kind: PrimitiveKind) -> &'static str {
 
 // `primitive-kind-at`, a text and a place: the primitive kind there and what follows it, or `none`.
 fn primitive_kind_at(alloc: Global, words: &[Word<'_>]) -> Answer {
-    let [Some(text), Some(place)] = words else {
-        return Err(Fault::Unreadable);
-    };
+    let (text, place) = pair(words)?;
     let place = place_in(text, place)?;
     match common::primitive_kind(text, place) {
-        None => answer(alloc, &[Some("none")]),
-        Some((kind, reached)) => answer(alloc, &[Some(kind_text(kind)), Some(&text[reached..])]),
+        None => single(alloc, "none"),
+        Some((kind, reached)) => two(alloc, kind_text(kind), &text[reached..]),
     }
 }
 
@@ -101,14 +112,22 @@ fn comparator_at(alloc: Global, words: &[Word<'_>]) -> Answer {
         return Err(Fault::Unreadable);
     };
     let place = place_in(text, place)?;
-    match common::primitive(alloc, text, place, flavour_of(flavour)?)? {
-        None => answer(alloc, &[Some("none")]),
-        Some((Measured::TooLarge, _)) => answer(alloc, &[Some("too large")]),
-        Some((Measured::Fits(primitive), _)) => {
-            let range = primitive.copy()?.into_version_range(alloc)?;
-            answer(alloc, &[Some(shown::range(alloc, &range)?.as_str())])
-        }
+    match &common::primitive(alloc, text, place, flavour_of(flavour)?)? {
+        None => single(alloc, "none"),
+        Some((primitive, _)) => told_primitive(alloc, primitive),
     }
+}
+
+fn told_primitive(alloc: Global, primitive: &Measured<Primitive>) -> Answer {
+    match primitive {
+        Measured::TooLarge => single(alloc, "too large"),
+        Measured::Fits(primitive) => told(alloc, &range_of(alloc, primitive)?),
+    }
+}
+
+// The range of a copy.
+fn range_of(alloc: Global, primitive: &Primitive) -> Result<VersionRange, Fault> {
+    Ok(primitive.copy()?.into_version_range(alloc)?)
 }
 
 // `operator-at`, `or` or `and`, a text and a place: what follows the operator there and the blanks round it, or `none`.
@@ -123,7 +142,7 @@ fn operator_at(alloc: Global, words: &[Word<'_>]) -> Answer {
         _ => return Err(Fault::Unreadable),
     };
     match reached {
-        None => answer(alloc, &[Some("none")]),
-        Some(reached) => answer(alloc, &[Some("follows"), Some(&text[reached..])]),
+        None => single(alloc, "none"),
+        Some(reached) => two(alloc, "follows", &text[reached..]),
     }
 }

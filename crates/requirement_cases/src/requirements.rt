@@ -1,26 +1,35 @@
 //! How requirements are read, and what they match.
 
-use crate::asked::{of_both, of_one, of_pair, of_requirement, read, version_of};
+use crate::asked::{
+    Two, both, pair, read, requirement_and_version, requirement_of, two_requirements, version_of,
+    with_pre_release,
+};
 use crate::shown;
-use crate::words::{Answer, Fault, Word, answer, yes_or_no};
+use crate::words::{Answer, Fault, Word, answer, three, two, yes_or_no};
 use semver_base::failure::ParseFailure;
-use semver_base::version::Version;
-use semver_req::npm::{is_valid_npm_tag, parse_npm_version, parse_npm_version_req};
+use semver_base::range::PreRelease;
+use semver_base::version::{Version, VersionParseError};
+use semver_req::npm::{
+    NpmVersionParseError, NpmVersionReqParseError, is_valid_npm_tag, parse_npm_version,
+    parse_npm_version_req,
+};
 use semver_req::range_set_or_tag::RangeSetOrTag;
-use semver_req::req::{IntoVersionReq, VersionReq};
-use std::alloc::Global;
+use semver_req::req::{IntoVersionReq, VersionReq, VersionReqNormalizedParseError};
+use semver_req::specifier::VersionReqSpecifierParseError;
+use std::alloc::{AllocError, Global};
+use std::fmt::Display;
 
 /// What a call on requirements answers to a question's words after its name, where the name is of one.
 pub fn ask(alloc: Global, name: &str, words: &[Word<'_>]) -> Option<Answer> {
     let answer = match name {
         "tag" => tag(alloc, words),
-        "requirement" => of_requirement(alloc, words, requirement),
-        "same-requirement" => of_pair(alloc, words, same_requirement),
-        "ranges" => of_requirement(alloc, words, ranges),
+        "requirement" => of_requirement(alloc, name, words),
+        "same-requirement" => of_pair(alloc, name, words),
+        "ranges" => of_requirement(alloc, name, words),
         "fits" => fits(alloc, words),
-        "overlap" => of_pair(alloc, words, overlap),
+        "overlap" => of_pair(alloc, name, words),
         "error" => error(alloc, words),
-        "normal" => of_requirement(alloc, words, normal),
+        "normal" => of_requirement(alloc, name, words),
         "reread" => reread(alloc, words),
         "pinned" => pinned(alloc, words),
         "matches-with" => matches_with(alloc, words),
@@ -37,12 +46,25 @@ fn tag(alloc: Global, words: &[Word<'_>]) -> Answer {
     yes_or_no(alloc, is_valid_npm_tag(text))
 }
 
+// A call on a reader and a text: what is told of the requirement.
+fn of_requirement(alloc: Global, name: &str, words: &[Word<'_>]) -> Answer {
+    told_of_requirement(alloc, name, &requirement_of(alloc, words)?)
+}
+
+fn told_of_requirement(alloc: Global, name: &str, asked: &VersionReq) -> Answer {
+    match name {
+        "requirement" => requirement(alloc, asked),
+        "ranges" => ranges(alloc, asked),
+        _ => normal(alloc, asked),
+    }
+}
+
 // `requirement`, a reader and a text: `ranges`, or `tag` and the tag; and the text that the requirement keeps.
 fn requirement(alloc: Global, requirement: &VersionReq) -> Answer {
     let text = requirement.version_text();
     match requirement.inner() {
-        RangeSetOrTag::RangeSet(_) => answer(alloc, &[Some("ranges"), Some(text)]),
-        RangeSetOrTag::Tag(tag) => answer(alloc, &[Some("tag"), Some(tag.as_str()), Some(text)]),
+        RangeSetOrTag::RangeSet(_) => two(alloc, "ranges", text),
+        RangeSetOrTag::Tag(tag) => three(alloc, "tag", tag.as_str(), text),
     }
 }
 
@@ -55,33 +77,33 @@ fn ranges(alloc: Global, requirement: &VersionReq) -> Answer {
 fn copied_ranges(alloc: Global, copy: &VersionReq) -> Answer {
     let set = copy.range().ok_or(Fault::Unreadable)?;
     let ranges = shown::set(alloc, set)?;
-    answer(alloc, &[Some(ranges.as_str()), Some(copy.version_text())])
+    two(alloc, ranges.as_str(), copy.version_text())
 }
 
-// `overlap`, a reader and two texts: whether the requirements overlap.
-fn overlap(alloc: Global, left: &VersionReq, right: &VersionReq) -> Answer {
-    yes_or_no(alloc, left.intersects(right))
+// `same-requirement`, a reader and two texts: whether the requirements stand for the same. `overlap`, the same: whether the
+// requirements overlap.
+fn of_pair(alloc: Global, name: &str, words: &[Word<'_>]) -> Answer {
+    let holds = holds_of_pair(name, &two_requirements(alloc, words)?);
+    yes_or_no(alloc, holds)
 }
 
-// `same-requirement`, a reader and two texts: whether the requirements stand for the same.
-fn same_requirement(alloc: Global, left: &VersionReq, right: &VersionReq) -> Answer {
-    yes_or_no(alloc, left == right)
+fn holds_of_pair(name: &str, asked: &Two<VersionReq, VersionReq>) -> bool {
+    match name {
+        "same-requirement" => asked.one == asked.other,
+        _ => asked.one.intersects(&asked.other),
+    }
 }
 
 // `fits`, a reader, a requirement and a version: whether the version matches, or `tag` and the tag.
 fn fits(alloc: Global, words: &[Word<'_>]) -> Answer {
-    let [Some(reader), Some(requirement), Some(version)] = words else {
-        return Err(Fault::Unreadable);
-    };
-    of_both(
-        alloc,
-        read(alloc, reader, requirement),
-        version_of(alloc, version),
-        |alloc, requirement, version| match requirement.tag() {
-            None => yes_or_no(alloc, requirement.matches(version)),
-            Some(tag) => answer(alloc, &[Some("tag"), Some(tag)]),
-        },
-    )
+    told_fit(alloc, &requirement_and_version(alloc, words)?)
+}
+
+fn told_fit(alloc: Global, asked: &Two<VersionReq, Version>) -> Answer {
+    match asked.one.tag() {
+        None => yes_or_no(alloc, asked.one.matches(&asked.other)),
+        Some(tag) => two(alloc, "tag", tag),
+    }
 }
 
 // `normal`, a reader and a text: `ranges` or `tag`, and the normal text of the requirement.
@@ -91,7 +113,7 @@ fn normal(alloc: Global, requirement: &VersionReq) -> Answer {
         Some(_) => "tag",
     };
     let normal = requirement.to_string_normalized(alloc)?;
-    answer(alloc, &[Some(kind), Some(normal.as_str())])
+    two(alloc, kind, normal.as_str())
 }
 
 // `reread`, a reader, a text and another reader: `equal` where what the other reader makes of the requirement's normal
@@ -100,13 +122,15 @@ fn reread(alloc: Global, words: &[Word<'_>]) -> Answer {
     let [Some(reader), Some(text), Some(other)] = words else {
         return Err(Fault::Unreadable);
     };
-    of_one(alloc, read(alloc, reader, text), |alloc, requirement| {
-        of_one(
-            alloc,
-            read_normal(alloc, other, requirement),
-            |alloc, again| told_again(alloc, requirement, again),
-        )
-    })
+    told_reread(alloc, &read(alloc, reader, text)?, other)
+}
+
+fn told_reread(alloc: Global, requirement: &VersionReq, reader: &str) -> Answer {
+    told_again(
+        alloc,
+        requirement,
+        &read_normal(alloc, reader, requirement)?,
+    )
 }
 
 // What the reader of this name makes of the requirement's normal text.
@@ -122,21 +146,21 @@ fn told_again(alloc: Global, requirement: &VersionReq, again: &VersionReq) -> An
         "differs"
     };
     let settled = again.to_string_normalized(alloc)?;
-    answer(alloc, &[Some(word), Some(settled.as_str())])
+    two(alloc, word, settled.as_str())
 }
 
 // `pinned`, two versions: the text of the requirement that the first is turned into, its normal text, and whether the
 // second matches.
 fn pinned(alloc: Global, words: &[Word<'_>]) -> Answer {
-    let [Some(version), Some(other)] = words else {
-        return Err(Fault::Unreadable);
-    };
-    of_both(
-        alloc,
-        pinned_to(alloc, version),
-        version_of(alloc, other),
-        told_pinned,
-    )
+    told_pinned(alloc, &pinned_and_version(alloc, words)?)
+}
+
+fn pinned_and_version(
+    alloc: Global,
+    words: &[Word<'_>],
+) -> Result<Two<VersionReq, Version>, Fault> {
+    let (version, other) = pair(words)?;
+    both(pinned_to(alloc, version), version_of(alloc, other))
 }
 
 // The requirement that the version is turned into.
@@ -144,90 +168,123 @@ fn pinned_to(alloc: Global, version: &str) -> Result<VersionReq, Fault> {
     Ok(version_of(alloc, version)?.into_req(alloc)?)
 }
 
-fn told_pinned(alloc: Global, requirement: &VersionReq, version: &Version) -> Answer {
+fn told_pinned(alloc: Global, asked: &Two<VersionReq, Version>) -> Answer {
+    let requirement = &asked.one;
     let normal = requirement.to_string_normalized(alloc)?;
     let matches = match requirement.tag() {
-        None if requirement.matches(version) => "yes",
+        None if requirement.matches(&asked.other) => "yes",
         _ => "no",
     };
     three(alloc, requirement.version_text(), normal.as_str(), matches)
 }
 
-fn three(alloc: Global, first: &str, second: &str, third: &str) -> Answer {
-    answer(alloc, &[Some(first), Some(second), Some(third)])
-}
-
 // `matches-with`, a reader, a requirement, a version and `restricted` or `admitted`: whether the version matches, or `tag`
 // and the tag.
 fn matches_with(alloc: Global, words: &[Word<'_>]) -> Answer {
-    let [Some(reader), Some(requirement), Some(version), Some(word)] = words else {
-        return Err(Fault::Unreadable);
-    };
-    let pre_release = shown::pre_release_of(word)?;
-    of_both(
-        alloc,
-        read(alloc, reader, requirement),
-        version_of(alloc, version),
-        |alloc, requirement, version| match requirement.tag() {
-            None => yes_or_no(alloc, requirement.matches_with(version, pre_release)),
-            Some(tag) => answer(alloc, &[Some("tag"), Some(tag)]),
-        },
-    )
+    let (asked, pre_release) = with_pre_release(words)?;
+    told_match(alloc, &requirement_and_version(alloc, asked)?, pre_release)
+}
+
+fn told_match(alloc: Global, asked: &Two<VersionReq, Version>, pre_release: PreRelease) -> Answer {
+    match asked.one.tag() {
+        None => {
+            let matches = asked.one.matches_with(&asked.other, pre_release);
+            yes_or_no(alloc, matches)
+        }
+        Some(tag) => two(alloc, "tag", tag),
+    }
+}
+
+// An error of a reader.
+trait ReadError: Display + Drop {
+    fn copied(&self) -> Result<Self, AllocError>;
+
+    fn source(&self) -> &ParseFailure;
+}
+
+impl ReadError for VersionParseError {
+    fn copied(&self) -> Result<Self, AllocError> {
+        self.copy()
+    }
+
+    fn source(&self) -> &ParseFailure {
+        &self.source
+    }
+}
+
+impl ReadError for NpmVersionParseError {
+    fn copied(&self) -> Result<Self, AllocError> {
+        self.copy()
+    }
+
+    fn source(&self) -> &ParseFailure {
+        &self.source
+    }
+}
+
+impl ReadError for NpmVersionReqParseError {
+    fn copied(&self) -> Result<Self, AllocError> {
+        self.copy()
+    }
+
+    fn source(&self) -> &ParseFailure {
+        &self.source
+    }
+}
+
+impl ReadError for VersionReqNormalizedParseError {
+    fn copied(&self) -> Result<Self, AllocError> {
+        self.copy()
+    }
+
+    fn source(&self) -> &ParseFailure {
+        &self.source
+    }
+}
+
+impl ReadError for VersionReqSpecifierParseError {
+    fn copied(&self) -> Result<Self, AllocError> {
+        self.copy()
+    }
+
+    fn source(&self) -> &ParseFailure {
+        &self.source
+    }
+}
+
+// The lines of a copy of the error and of its source, where a text was refused.
+fn refusal_lines<A: Drop, E: ReadError>(alloc: Global, read: Result<A, E>) -> Answer {
+    match read {
+        Ok(_) => Err(Fault::Unreadable),
+        Err(error) => lines(alloc, &error.copied()?),
+    }
 }
 
 // The first line of the error, and that of its source.
+fn lines<E: ReadError>(alloc: Global, error: &E) -> Answer {
+    let line = format!(in alloc; "{error}")?;
+    told(alloc, line.as_str(), error.source())
+}
+
+// The line, and that of the source.
 fn told(alloc: Global, line: &str, source: &ParseFailure) -> Answer {
     if source.is_memory() {
         return Err(Fault::OutOfMemory);
     }
     let source = format!(in alloc; "{source}")?;
-    answer(alloc, &[Some(line), Some(source.as_str())])
-}
-
-// The lines of the error of a refused version, and of its source.
-fn version_error(alloc: Global, text: &str) -> Answer {
-    let refused = Version::parse_standard(alloc, text).err();
-    let error = refused.ok_or(Fault::Unreadable)?.copy()?;
-    told(alloc, format!(in alloc; "{error}")?.as_str(), &error.source)
-}
-
-fn specifier_error(alloc: Global, text: &str) -> Answer {
-    let refused = VersionReq::parse_from_specifier(alloc, text).err();
-    let error = refused.ok_or(Fault::Unreadable)?.copy()?;
-    told(alloc, format!(in alloc; "{error}")?.as_str(), &error.source)
-}
-
-fn normalized_error(alloc: Global, text: &str) -> Answer {
-    let refused = VersionReq::parse_from_normalized(alloc, text).err();
-    let error = refused.ok_or(Fault::Unreadable)?.copy()?;
-    told(alloc, format!(in alloc; "{error}")?.as_str(), &error.source)
-}
-
-fn npm_error(alloc: Global, text: &str) -> Answer {
-    let refused = parse_npm_version_req(alloc, text).err();
-    let error = refused.ok_or(Fault::Unreadable)?.copy()?;
-    told(alloc, format!(in alloc; "{error}")?.as_str(), &error.source)
-}
-
-// The lines of the error of a version that npm's reader refused, and of its source.
-fn npm_version_error(alloc: Global, text: &str) -> Answer {
-    let refused = parse_npm_version(alloc, text).err();
-    let error = refused.ok_or(Fault::Unreadable)?.copy()?;
-    told(alloc, format!(in alloc; "{error}")?.as_str(), &error.source)
+    two(alloc, line, source.as_str())
 }
 
 // `error`, `version`, `npm-version` or a reader, and a text that is refused: the lines of a copy of the error and of
 // its source.
 fn error(alloc: Global, words: &[Word<'_>]) -> Answer {
-    let [Some(reader), Some(text)] = words else {
-        return Err(Fault::Unreadable);
-    };
-    match *reader {
-        "version" => version_error(alloc, text),
-        "npm-version" => npm_version_error(alloc, text),
-        "npm" => npm_error(alloc, text),
-        "normal" => normalized_error(alloc, text),
-        "strict" => specifier_error(alloc, text),
+    let (reader, text) = pair(words)?;
+    match reader {
+        "version" => refusal_lines(alloc, Version::parse_standard(alloc, text)),
+        "npm-version" => refusal_lines(alloc, parse_npm_version(alloc, text)),
+        "npm" => refusal_lines(alloc, parse_npm_version_req(alloc, text)),
+        "normal" => refusal_lines(alloc, VersionReq::parse_from_normalized(alloc, text)),
+        "strict" => refusal_lines(alloc, VersionReq::parse_from_specifier(alloc, text)),
         _ => Err(Fault::Unreadable),
     }
 }

@@ -43,15 +43,23 @@ pub fn qualifier(
     build: &CowVec<SmallStackString>,
 ) -> Result<String, AllocError> {
     let mut text = String::new(alloc);
-    if !pre.is_empty() {
-        text.push('-')?;
-        text.push_str(identifiers(alloc, pre)?.as_str())?;
-    }
-    if !build.is_empty() {
-        text.push('+')?;
-        text.push_str(identifiers(alloc, build)?.as_str())?;
-    }
+    push_identifiers(alloc, &mut text, '-', pre)?;
+    push_identifiers(alloc, &mut text, '+', build)?;
     Ok(text)
+}
+
+// Pushes the identifiers after this sign, where there are any.
+fn push_identifiers(
+    alloc: Global,
+    text: &mut String,
+    sign: char,
+    parts: &CowVec<SmallStackString>,
+) -> Result<(), AllocError> {
+    if parts.is_empty() {
+        return Ok(());
+    }
+    text.push(sign)?;
+    text.push_str(identifiers(alloc, parts)?.as_str())
 }
 
 /// The text of a version, from its public fields.
@@ -90,16 +98,25 @@ fn component_of(text: &str) -> Result<XRange, Fault> {
 /// The partial version of a text with three components.
 pub fn partial_of(alloc: Global, text: &str) -> Result<Partial, Fault> {
     let (text, build) = text.split_once('+').unwrap_or((text, ""));
-    let (components, pre) = text.split_once('-').unwrap_or((text, ""));
-    let (major, rest) = components.split_once('.').ok_or(Fault::Unreadable)?;
-    let (minor, patch) = rest.split_once('.').ok_or(Fault::Unreadable)?;
+    let (text, pre) = text.split_once('-').unwrap_or((text, ""));
+    let (major, minor, patch) = components_of(text)?;
     Ok(Partial {
-        major: component_of(major)?,
-        minor: component_of(minor)?,
-        patch: component_of(patch)?,
+        major,
+        minor,
+        patch,
         pre: identifiers_of(alloc, pre)?,
         build: identifiers_of(alloc, build)?,
     })
+}
+
+fn components_of(text: &str) -> Result<(XRange, XRange, XRange), Fault> {
+    let (major, rest) = text.split_once('.').ok_or(Fault::Unreadable)?;
+    let (minor, patch) = rest.split_once('.').ok_or(Fault::Unreadable)?;
+    Ok((
+        component_of(major)?,
+        component_of(minor)?,
+        component_of(patch)?,
+    ))
 }
 
 // A bound after its sign: `>` for a start, `<` for an end.
@@ -137,13 +154,18 @@ pub fn range(alloc: Global, range: &VersionRange) -> Result<String, AllocError> 
 /// The text of a set of ranges.
 pub fn set(alloc: Global, set: &VersionRangeSet) -> Result<String, AllocError> {
     let mut text = String::new(alloc);
-    for each in set.0.iter() {
-        if !text.is_empty() {
-            text.push_str(" || ")?;
-        }
-        text.push_str(range(alloc, each)?.as_str())?;
+    for range in set.0.iter() {
+        push_range(alloc, &mut text, range)?;
     }
     Ok(text)
+}
+
+// Pushes the range, after what separates it from those before it.
+fn push_range(alloc: Global, text: &mut String, each: &VersionRange) -> Result<(), AllocError> {
+    if !text.is_empty() {
+        text.push_str(" || ")?;
+    }
+    text.push_str(range(alloc, each)?.as_str())
 }
 
 // The bound whose text begins with this sign, or an absent one.
@@ -152,9 +174,15 @@ fn bound_of(alloc: Global, sign: char, text: &str) -> Result<RangeBound, Fault> 
         return Ok(RangeBound::Unbounded);
     }
     let text = text.strip_prefix(sign).ok_or(Fault::Unreadable)?;
-    Ok(match text.strip_prefix('=') {
-        Some(version) => RangeBound::inclusive(Version::parse_standard(alloc, version)?),
-        None => RangeBound::exclusive(Version::parse_standard(alloc, text)?),
+    let (is_inclusive, version) = match text.strip_prefix('=') {
+        Some(version) => (true, version),
+        None => (false, text),
+    };
+    let version = Version::parse_standard(alloc, version)?;
+    Ok(if is_inclusive {
+        RangeBound::inclusive(version)
+    } else {
+        RangeBound::exclusive(version)
     })
 }
 

@@ -1,7 +1,8 @@
 //! Texts that are made and grow, and lists that are copied and grow.
 
+use crate::asked::pair;
 use crate::shown;
-use crate::words::{Answer, Fault, Word, answer, yes_or_no};
+use crate::words::{Answer, Fault, Word, single, three, two, yes_or_no};
 use semver_base::string::{CowItem, CowVec, SmallStackString, StackString, StringType};
 use std::alloc::{AllocError, Global};
 use std::borrow::CowStr;
@@ -21,19 +22,21 @@ pub fn ask(alloc: Global, name: &str, words: &[Word<'_>]) -> Option<Answer> {
 
 // The text as a text of this type, made in the way of this name. The only literal is `latest`.
 macro_rules! made_by {
-    ($kind:ident, $alloc:ident, $way:ident, $text:ident) => {
-        match $way {
-            "str" => Ok($kind::from_str($alloc, $text)?),
-            "string" => Ok($kind::from_string($alloc, String::from_str($alloc, $text)?)?),
-            "borrowed" => Ok($kind::from_cow($alloc, CowStr::Borrowed($text))?),
-            "owned" => {
-                let owned = String::from_str($alloc, $text)?;
-                Ok($kind::from_cow($alloc, CowStr::Owned(owned))?)
-            }
-            "static" if $text == "latest" => Ok($kind::from_static($alloc, "latest")?),
-            _ => Err(Fault::Unreadable),
-        }
-    };
+    ($kind:ident, $alloc:ident, $way:ident, $text:ident) => {{
+        let made = match $way {
+            "str" => $kind::from_str($alloc, $text),
+            "string" => $kind::from_string($alloc, String::from_str($alloc, $text)?),
+            "borrowed" => $kind::from_cow($alloc, CowStr::Borrowed($text)),
+            "owned" => $kind::from_cow($alloc, owned($alloc, $text)?),
+            "static" if $text == "latest" => $kind::from_static($alloc, "latest"),
+            _ => return Err(Fault::Unreadable),
+        };
+        Ok(made?)
+    }};
+}
+
+fn owned<'a>(alloc: Global, text: &str) -> Result<CowStr<'a, Global>, AllocError> {
+    Ok(CowStr::Owned(String::from_str(alloc, text)?))
 }
 
 fn small_by(alloc: Global, way: &str, text: &str) -> Result<SmallStackString, Fault> {
@@ -45,22 +48,36 @@ fn stack_by(alloc: Global, way: &str, text: &str) -> Result<StackString, Fault> 
 }
 
 // A text, and what a `String` is that is made of it and of a copy of it.
-fn told(alloc: Global, text: &str, lent: &str, given: &str) -> Answer {
-    answer(alloc, &[Some(text), Some(lent), Some(given)])
+macro_rules! told_by {
+    ($alloc:ident, $made:ident, $given:ident) => {{
+        let lent = $made.to_string($alloc)?;
+        let given = $given($alloc, $made)?;
+        three($alloc, $made.as_str(), lent.as_str(), given.as_str())
+    }};
+}
+
+fn told_small(alloc: Global, made: &SmallStackString) -> Answer {
+    told_by!(alloc, made, given_small)
+}
+
+fn told_stack(alloc: Global, made: &StackString) -> Answer {
+    told_by!(alloc, made, given_stack)
+}
+
+fn given_small(alloc: Global, made: &SmallStackString) -> Result<String, AllocError> {
+    made.copy()?.into_string(alloc)
+}
+
+fn given_stack(alloc: Global, made: &StackString) -> Result<String, AllocError> {
+    made.copy()?.into_string(alloc)
 }
 
 fn small(alloc: Global, way: &str, text: &str) -> Answer {
-    let made = small_by(alloc, way, text)?;
-    let lent = made.to_string(alloc)?;
-    let given = made.copy()?.into_string(alloc)?;
-    told(alloc, made.as_str(), lent.as_str(), given.as_str())
+    told_small(alloc, &small_by(alloc, way, text)?)
 }
 
 fn stack(alloc: Global, way: &str, text: &str) -> Answer {
-    let made = stack_by(alloc, way, text)?;
-    let lent = made.to_string(alloc)?;
-    let given = made.copy()?.into_string(alloc)?;
-    told(alloc, made.as_str(), lent.as_str(), given.as_str())
+    told_stack(alloc, &stack_by(alloc, way, text)?)
 }
 
 // `made`, `small` or `stack`, a way to make a text, and a text: the text that is made, and the two that a `String` is
@@ -74,21 +91,38 @@ fn made(alloc: Global, words: &[Word<'_>]) -> Answer {
 }
 
 // The start with the text pushed to it.
-fn at_once<T: StringType>(alloc: Global, start: &str, text: &str) -> Result<String, Fault> {
+fn at_once<T: StringType>(alloc: Global, start: &str, text: &str) -> Result<T, AllocError> {
     let mut pushed = T::with_capacity(alloc, start.len())?;
     pushed.push_str(start)?;
     pushed.push_str(text)?;
-    Ok(String::from_str(alloc, pushed.as_str())?)
+    Ok(pushed)
 }
 
-// The start with each character of the text pushed to it.
-fn by_character<T: StringType>(alloc: Global, start: &str, text: &str) -> Result<String, Fault> {
-    let mut pushed = T::with_capacity(alloc, 0)?;
+// The start with each character of the text pushed to it, in a text that begins with this room.
+fn by_character<T: StringType>(
+    alloc: Global,
+    room: usize,
+    start: &str,
+    text: &str,
+) -> Result<T, AllocError> {
+    let mut pushed = T::with_capacity(alloc, room)?;
     pushed.push_str(start)?;
+    push_each(&mut pushed, text)?;
+    Ok(pushed)
+}
+
+fn push_each<T: StringType>(pushed: &mut T, text: &str) -> Result<(), AllocError> {
     for character in text.chars() {
         pushed.push(character)?;
     }
-    Ok(String::from_str(alloc, pushed.as_str())?)
+    Ok(())
+}
+
+// The start with the text pushed to it, at once and character by character, in texts of one type.
+fn pushed_to<T: StringType>(alloc: Global, start: &str, text: &str) -> Answer {
+    let at_once: T = at_once(alloc, start, text)?;
+    let by_character: T = by_character(alloc, 0, start, text)?;
+    two(alloc, at_once.as_str(), by_character.as_str())
 }
 
 // `pushed`, `small`, `stack` or `string`, a start and a text: the start with the text pushed to it, at once and
@@ -97,25 +131,12 @@ fn pushed(alloc: Global, words: &[Word<'_>]) -> Answer {
     let [Some(kind), Some(start), Some(text)] = words else {
         return Err(Fault::Unreadable);
     };
-    let (at_once, by_character) = match *kind {
-        "small" => (
-            at_once::<SmallStackString>(alloc, start, text)?,
-            by_character::<SmallStackString>(alloc, start, text)?,
-        ),
-        "stack" => (
-            at_once::<StackString>(alloc, start, text)?,
-            by_character::<StackString>(alloc, start, text)?,
-        ),
-        "string" => (
-            at_once::<String>(alloc, start, text)?,
-            by_character::<String>(alloc, start, text)?,
-        ),
-        _ => return Err(Fault::Unreadable),
-    };
-    answer(
-        alloc,
-        &[Some(at_once.as_str()), Some(by_character.as_str())],
-    )
+    match *kind {
+        "small" => pushed_to::<SmallStackString>(alloc, start, text),
+        "stack" => pushed_to::<StackString>(alloc, start, text),
+        "string" => pushed_to::<String>(alloc, start, text),
+        _ => Err(Fault::Unreadable),
+    }
 }
 
 // `replaced`, a text, what to replace and what by: the text with it replaced.
@@ -123,8 +144,16 @@ fn replaced(alloc: Global, words: &[Word<'_>]) -> Answer {
     let [Some(text), Some(from), Some(to)] = words else {
         return Err(Fault::Unreadable);
     };
-    let replaced = SmallStackString::from_str(alloc, text)?.replace(alloc, from, to)?;
-    answer(alloc, &[Some(replaced.as_str())])
+    single(alloc, replaced_text(alloc, text, from, to)?.as_str())
+}
+
+fn replaced_text(
+    alloc: Global,
+    text: &str,
+    from: &str,
+    to: &str,
+) -> Result<SmallStackString, AllocError> {
+    SmallStackString::from_str(alloc, text)?.replace(alloc, from, to)
 }
 
 // The text with the other pushed to it at once and by character, copied and compared to what it was.
@@ -133,40 +162,55 @@ fn keeps<T: StringType + CowItem + PartialEq>(
     start: &str,
     text: &str,
 ) -> Result<bool, AllocError> {
-    let mut at_once = T::with_capacity(alloc, start.len())?;
-    at_once.push_str(start)?;
-    at_once.push_str(text)?;
-    let mut by_character = T::with_capacity(alloc, start.len())?;
-    by_character.push_str(start)?;
-    for character in text.chars() {
-        by_character.push(character)?;
-    }
-    Ok(at_once == by_character && at_once.copy()? == by_character)
+    let at_once: T = at_once(alloc, start, text)?;
+    is_kept(&at_once, &by_character(alloc, start.len(), start, text)?)
+}
+
+fn is_kept<T: CowItem + PartialEq + Drop>(
+    at_once: &T,
+    by_character: &T,
+) -> Result<bool, AllocError> {
+    Ok(at_once == by_character && at_once.copy()? == *by_character)
 }
 
 // `in-value`, `small` or `stack`, a start and a text: whether the start with the text pushed to it, at once and character by
 // character, is the same text, copied too. It is an answer for want of memory where one of these wants memory.
 fn in_value(alloc: Global, words: &[Word<'_>]) -> Answer {
-    match words {
-        [Some("small"), Some(start), Some(text)] => {
-            yes_or_no(alloc, keeps::<SmallStackString>(alloc, start, text)?)
-        }
-        [Some("stack"), Some(start), Some(text)] => {
-            yes_or_no(alloc, keeps::<StackString>(alloc, start, text)?)
-        }
-        _ => Err(Fault::Unreadable),
-    }
+    let keeps = match words {
+        [Some("small"), Some(start), Some(text)] => keeps::<SmallStackString>(alloc, start, text),
+        [Some("stack"), Some(start), Some(text)] => keeps::<StackString>(alloc, start, text),
+        _ => return Err(Fault::Unreadable),
+    };
+    yes_or_no(alloc, keeps?)
 }
 
 // `grown`, identifiers and one more: a copy of their list with that pushed to it, and the list that was copied.
 fn grown(alloc: Global, words: &[Word<'_>]) -> Answer {
-    let [Some(identifiers), Some(more)] = words else {
-        return Err(Fault::Unreadable);
-    };
-    let list: CowVec<SmallStackString> = shown::identifiers_of(alloc, identifiers)?;
+    let (identifiers, more) = pair(words)?;
+    told_grown(alloc, &shown::identifiers_of(alloc, identifiers)?, more)
+}
+
+fn told_grown(alloc: Global, list: &CowVec<SmallStackString>, more: &str) -> Answer {
+    told_lists(alloc, &longer(alloc, list, more)?, list)
+}
+
+// A copy of the list with one more identifier.
+fn longer(
+    alloc: Global,
+    list: &CowVec<SmallStackString>,
+    more: &str,
+) -> Result<CowVec<SmallStackString>, AllocError> {
     let mut copy = list.copy()?;
     copy.push(SmallStackString::from_str(alloc, more)?)?;
-    let copy = shown::identifiers(alloc, &copy)?;
-    let list = shown::identifiers(alloc, &list)?;
-    answer(alloc, &[Some(copy.as_str()), Some(list.as_str())])
+    Ok(copy)
+}
+
+fn told_lists(
+    alloc: Global,
+    copy: &CowVec<SmallStackString>,
+    list: &CowVec<SmallStackString>,
+) -> Answer {
+    let copy = shown::identifiers(alloc, copy)?;
+    let list = shown::identifiers(alloc, list)?;
+    two(alloc, copy.as_str(), list.as_str())
 }

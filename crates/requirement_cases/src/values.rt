@@ -1,13 +1,15 @@
 //! Texts, lists, failures, ranges and requirements that are made by hand.
 
+use crate::asked::{Two, both, pair};
+use crate::ranges::{told, two_ranges};
 use crate::shown;
-use crate::words::{Answer, Fault, Word, answer, yes_or_no};
+use crate::words::{Answer, Fault, Word, answer, three, yes_or_no};
 use semver_base::failure::{ParseFailure, Refusal};
 use semver_base::range::VersionRange;
-use semver_base::string::{CowItem, SmallStackString};
+use semver_base::string::{CowItem, CowVec, SmallStackString};
 use semver_req::range_set_or_tag::{PackageTag, RangeSetOrTag};
 use semver_req::req::VersionReq;
-use std::alloc::Global;
+use std::alloc::{AllocError, Global};
 
 /// What a call on values, failures and requirements that are made by hand answers to a question's words after its name, where the name is of one.
 pub fn ask(alloc: Global, name: &str, words: &[Word<'_>]) -> Option<Answer> {
@@ -27,39 +29,42 @@ pub fn ask(alloc: Global, name: &str, words: &[Word<'_>]) -> Option<Answer> {
 
 // `text`, two texts: the text of a copy of the first, how that is displayed, and whether it is the second.
 fn text(alloc: Global, words: &[Word<'_>]) -> Answer {
-    let [Some(text), Some(other)] = words else {
-        return Err(Fault::Unreadable);
-    };
-    let copy = SmallStackString::from_str(alloc, text)?.copy()?;
-    let displayed = format!(in alloc; "{copy}")?;
-    let is_other = if copy.eq_str(other) { "yes" } else { "no" };
-    answer(
-        alloc,
-        &[
-            Some(copy.as_str()),
-            Some(displayed.as_str()),
-            Some(is_other),
-        ],
-    )
+    let (text, other) = pair(words)?;
+    told_text(alloc, &copied_text(alloc, text)?, other)
+}
+
+fn copied_text(alloc: Global, text: &str) -> Result<SmallStackString, AllocError> {
+    SmallStackString::from_str(alloc, text)?.copy()
+}
+
+fn told_text(alloc: Global, text: &SmallStackString, other: &str) -> Answer {
+    let displayed = format!(in alloc; "{text}")?;
+    let is_other = if text.eq_str(other) { "yes" } else { "no" };
+    three(alloc, text.as_str(), displayed.as_str(), is_other)
 }
 
 // `items`, identifiers and a place among them: how many a copy of their list has, the one at the place or null, and
 // all of them.
 fn items(alloc: Global, words: &[Word<'_>]) -> Answer {
-    let [Some(identifiers), Some(place)] = words else {
-        return Err(Fault::Unreadable);
-    };
+    let (identifiers, place) = pair(words)?;
     let Ok(place) = place.parse::<usize>() else {
         return Err(Fault::Unreadable);
     };
-    let copy = shown::identifiers_of(alloc, identifiers)?.copy()?;
-    let count = format!(in alloc; "{}", copy.len())?;
-    let all = shown::identifiers(alloc, &copy)?;
+    told_items(alloc, &copied_items(alloc, identifiers)?, place)
+}
+
+fn copied_items(alloc: Global, text: &str) -> Result<CowVec<SmallStackString>, AllocError> {
+    shown::identifiers_of(alloc, text)?.copy()
+}
+
+fn told_items(alloc: Global, items: &CowVec<SmallStackString>, place: usize) -> Answer {
+    let count = format!(in alloc; "{}", items.len())?;
+    let all = shown::identifiers(alloc, items)?;
     answer(
         alloc,
         &[
             Some(count.as_str()),
-            copy.get(place).map(|item| item.as_str()),
+            items.get(place).map(|item| item.as_str()),
             Some(all.as_str()),
         ],
     )
@@ -100,17 +105,34 @@ fn failure(alloc: Global, words: &[Word<'_>]) -> Answer {
     let [message, code_snippet] = words else {
         return Err(Fault::Unreadable);
     };
-    let copy = failure_of(alloc, *message, *code_snippet)?.copy()?;
-    parts_of(alloc, &copy)
+    told_failure(alloc, &failure_of(alloc, *message, *code_snippet)?)
+}
+
+fn told_failure(alloc: Global, failure: &ParseFailure) -> Answer {
+    parts_of(alloc, &failure.copy()?)
 }
 
 // `same-failure`, the words of two failures: whether they are equal.
 fn same_failure(alloc: Global, words: &[Word<'_>]) -> Answer {
+    let holds = are_equal(&two_failures(alloc, words)?);
+    yes_or_no(alloc, holds)
+}
+
+fn two_failures(
+    alloc: Global,
+    words: &[Word<'_>],
+) -> Result<Two<ParseFailure, ParseFailure>, Fault> {
     let [message, code_snippet, other, others] = words else {
         return Err(Fault::Unreadable);
     };
-    let failure = failure_of(alloc, *message, *code_snippet)?;
-    yes_or_no(alloc, failure == failure_of(alloc, *other, *others)?)
+    both(
+        failure_of(alloc, *message, *code_snippet),
+        failure_of(alloc, *other, *others),
+    )
+}
+
+fn are_equal(asked: &Two<ParseFailure, ParseFailure>) -> bool {
+    asked.one == asked.other
 }
 
 // `refusal`, the kind of a refusal: that refusal.
@@ -135,35 +157,46 @@ fn range(alloc: Global, words: &[Word<'_>]) -> Answer {
     let [Some(text)] = words else {
         return Err(Fault::Unreadable);
     };
-    let range = match *text {
-        "all" => VersionRange::all(),
-        "none" => VersionRange::none(alloc),
-        text => shown::range_of(alloc, text)?,
-    };
-    let copy = CowItem::copy(&range)?;
-    answer(alloc, &[Some(shown::range(alloc, &copy)?.as_str())])
+    told_copy(alloc, &range_of(alloc, text)?)
+}
+
+fn range_of(alloc: Global, text: &str) -> Result<VersionRange, Fault> {
+    match text {
+        "all" => Ok(VersionRange::all()),
+        "none" => Ok(VersionRange::none(alloc)),
+        text => shown::range_of(alloc, text),
+    }
+}
+
+fn told_copy(alloc: Global, range: &VersionRange) -> Answer {
+    told(alloc, &CowItem::copy(range)?)
 }
 
 // `same-range`, two ranges: whether they are equal.
 fn same_range(alloc: Global, words: &[Word<'_>]) -> Answer {
-    let [Some(range), Some(other)] = words else {
-        return Err(Fault::Unreadable);
-    };
-    let range = shown::range_of(alloc, range)?;
-    yes_or_no(alloc, range == shown::range_of(alloc, other)?)
+    let holds = are_same(&two_ranges(alloc, words)?);
+    yes_or_no(alloc, holds)
+}
+
+fn are_same(asked: &Two<VersionRange, VersionRange>) -> bool {
+    asked.one == asked.other
 }
 
 // `tag-requirement`, a text and a tag: of the requirement that was read from the text and is the tag, the tag, the
 // text, and how a copy of it is displayed.
 fn tag_requirement(alloc: Global, words: &[Word<'_>]) -> Answer {
-    let [Some(text), Some(tag)] = words else {
-        return Err(Fault::Unreadable);
-    };
-    let inner = RangeSetOrTag::Tag(PackageTag::from_str(alloc, tag)?);
+    let (text, tag) = pair(words)?;
+    told_tag(alloc, &requirement_of(alloc, text, tag)?)
+}
+
+fn requirement_of(alloc: Global, text: &str, tag: &str) -> Result<VersionReq, AllocError> {
+    let tag = PackageTag::from_str(alloc, tag)?;
     let text = SmallStackString::from_str(alloc, text)?;
-    let requirement = VersionReq::from_raw_text_and_inner(text, inner);
-    let copy = requirement.copy()?;
-    let displayed = format!(in alloc; "{copy}")?;
+    Ok(VersionReq::from_raw_text_and_inner(text, RangeSetOrTag::Tag(tag)))
+}
+
+fn told_tag(alloc: Global, requirement: &VersionReq) -> Answer {
+    let displayed = displayed_copy(alloc, requirement)?;
     answer(
         alloc,
         &[
@@ -172,4 +205,9 @@ fn tag_requirement(alloc: Global, words: &[Word<'_>]) -> Answer {
             Some(displayed.as_str()),
         ],
     )
+}
+
+fn displayed_copy(alloc: Global, requirement: &VersionReq) -> Result<String, AllocError> {
+    let copy = requirement.copy()?;
+    format!(in alloc; "{copy}")
 }

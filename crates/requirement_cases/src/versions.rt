@@ -1,8 +1,8 @@
 //! How versions are read and compared.
 
-use crate::asked::{of_both, version_of};
+use crate::asked::{Two, both, pair, version_of};
 use crate::shown;
-use crate::words::{Answer, Fault, Word, answer, yes_or_no};
+use crate::words::{Answer, Fault, Word, single, two, yes_or_no};
 use semver_base::version::{Version, VersionPreOrBuild};
 use semver_req::npm::parse_npm_version;
 use std::alloc::Global;
@@ -13,9 +13,9 @@ pub fn ask(alloc: Global, name: &str, words: &[Word<'_>]) -> Option<Answer> {
     let answer = match name {
         "version" => version(alloc, words),
         "npm-version" => npm_version(alloc, words),
-        "equal" => of_versions(alloc, words, equal),
-        "compare" => of_versions(alloc, words, compare),
-        "precedence" => of_versions(alloc, words, precedence),
+        "equal" => of_versions(alloc, name, words),
+        "compare" => of_versions(alloc, name, words),
+        "precedence" => of_versions(alloc, name, words),
         "identifiers" => identifiers(alloc, words),
         _ => return None,
     };
@@ -27,9 +27,12 @@ fn version(alloc: Global, words: &[Word<'_>]) -> Answer {
     let [Some(text)] = words else {
         return Err(Fault::Unreadable);
     };
-    let version = Version::parse_standard(alloc, text)?;
+    told(alloc, &version_of(alloc, text)?)
+}
+
+fn told(alloc: Global, version: &Version) -> Answer {
     let text = format!(in alloc; "{version}")?;
-    answer(alloc, &[Some("read"), Some(text.as_str())])
+    two(alloc, "read", text.as_str())
 }
 
 // `npm-version`, a text: `read` and the text of the version's parts, as npm's reader has them.
@@ -37,28 +40,35 @@ fn npm_version(alloc: Global, words: &[Word<'_>]) -> Answer {
     let [Some(text)] = words else {
         return Err(Fault::Unreadable);
     };
-    let version = parse_npm_version(alloc, text)?;
-    let text = shown::version(alloc, &version)?;
-    answer(alloc, &[Some("read"), Some(text.as_str())])
+    told_parts(alloc, &npm_version_of(alloc, text)?)
 }
 
-// Two versions: what is told of them.
-fn of_versions<F: Fn(Global, &Version, &Version) -> Answer>(
-    alloc: Global,
-    words: &[Word<'_>],
-    tell: F,
-) -> Answer
-    requires { F.IsAlwaysCallable tell }
-{
-    let [Some(left), Some(right)] = words else {
-        return Err(Fault::Unreadable);
-    };
-    of_both(
-        alloc,
-        version_of(alloc, left),
-        version_of(alloc, right),
-        tell,
-    )
+fn npm_version_of(alloc: Global, text: &str) -> Result<Version, Fault> {
+    Ok(parse_npm_version(alloc, text)?)
+}
+
+fn told_parts(alloc: Global, version: &Version) -> Answer {
+    let text = shown::version(alloc, version)?;
+    two(alloc, "read", text.as_str())
+}
+
+// A call on two versions: what is told of them.
+fn of_versions(alloc: Global, name: &str, words: &[Word<'_>]) -> Answer {
+    told_of_versions(alloc, name, &two_versions(alloc, words)?)
+}
+
+fn two_versions(alloc: Global, words: &[Word<'_>]) -> Result<Two<Version, Version>, Fault> {
+    let (left, right) = pair(words)?;
+    both(version_of(alloc, left), version_of(alloc, right))
+}
+
+fn told_of_versions(alloc: Global, name: &str, asked: &Two<Version, Version>) -> Answer {
+    let (left, right) = (&asked.one, &asked.other);
+    match name {
+        "equal" => equal(alloc, left, right),
+        "compare" => compare(alloc, left, right),
+        _ => precedence(alloc, left, right),
+    }
 }
 
 // How the left one of two compares to the right one.
@@ -68,7 +78,7 @@ fn order(alloc: Global, ordering: Ordering) -> Answer {
         Ordering::Equal => "equal",
         Ordering::Greater => "greater",
     };
-    answer(alloc, &[Some(word)])
+    single(alloc, word)
 }
 
 // `equal`, two versions: whether they are the same, build included.
@@ -98,13 +108,10 @@ fn pre_release(alloc: Global, identifier: &str) -> Result<Version, Fault> {
 // `identifiers`, two texts: the precedence of 0.0.0 with the one and with the other as its only pre-release
 // identifier, which may be such as no version's text has.
 fn identifiers(alloc: Global, words: &[Word<'_>]) -> Answer {
-    let [Some(left), Some(right)] = words else {
-        return Err(Fault::Unreadable);
-    };
-    of_both(
-        alloc,
-        pre_release(alloc, left),
-        pre_release(alloc, right),
-        precedence,
-    )
+    told_of_versions(alloc, "precedence", &two_pre_releases(alloc, words)?)
+}
+
+fn two_pre_releases(alloc: Global, words: &[Word<'_>]) -> Result<Two<Version, Version>, Fault> {
+    let (left, right) = pair(words)?;
+    both(pre_release(alloc, left), pre_release(alloc, right))
 }

@@ -6,6 +6,7 @@ use semver_req::npm::{NpmVersionParseError, NpmVersionReqParseError};
 use semver_req::req::VersionReqNormalizedParseError;
 use semver_req::specifier::VersionReqSpecifierParseError;
 use std::alloc::{AllocError, AllocFailed, Global};
+use std::fmt::Display;
 
 /// A word of a question: a text or null.
 pub type Word<'a> = Option<&'a str>;
@@ -108,9 +109,29 @@ pub fn answer(alloc: Global, words: &[Word<'_>]) -> Answer {
     all_owned(alloc, words).map_err(|_| Fault::Untold)
 }
 
+/// The answer of one word.
+pub fn single(alloc: Global, word: &str) -> Answer {
+    answer(alloc, &[Some(word)])
+}
+
+/// The answer of two words.
+pub fn two(alloc: Global, first: &str, second: &str) -> Answer {
+    answer(alloc, &[Some(first), Some(second)])
+}
+
+/// The answer of three words.
+pub fn three(alloc: Global, first: &str, second: &str, third: &str) -> Answer {
+    answer(alloc, &[Some(first), Some(second), Some(third)])
+}
+
+/// The answer that is how the value is displayed.
+pub fn displayed<T: Display>(alloc: Global, value: &T) -> Answer {
+    single(alloc, format!(in alloc; "{value}")?.as_str())
+}
+
 /// The answer `yes` or `no`.
 pub fn yes_or_no(alloc: Global, holds: bool) -> Answer {
-    answer(alloc, &[Some(if holds { "yes" } else { "no" })])
+    single(alloc, if holds { "yes" } else { "no" })
 }
 
 /// The words that tell of a refusal: `refused`, its message, and the part of the text that it shows or null.

@@ -53,12 +53,11 @@ pub fn package_json(alloc: Global, req: &PackageReq) -> Result<Value, AllocError
     ensures { IfOk result (λ json. view json ≡ package_json req.now) }
 {
     let (scope, name) = scope_and_name(req.name.as_str());
+    let requirement = req.version_req.version_text();
+    let normal = req.version_req.to_string_normalized(alloc)?;
     let scope = text_or_null(alloc, scope)?;
-    let name = text_json(alloc, name)?;
-    let requirement = text_json(alloc, req.version_req.version_text())?;
-    let normal = Value::String(req.version_req.to_string_normalized(alloc)?);
     json!(in alloc; {
-        "scope": scope, "name": name, "requirement": requirement, "normal": normal
+        "scope": scope, "name": name, "requirement": requirement, "normal": normal.as_str()
     })
 }
 

@@ -39,12 +39,12 @@ impl Reference {
 }
 
 // The word for a registry.
-fn kind_json(alloc: Global, kind: PackageKind) -> Result<Value, AllocError>
-    ensures { IfOk result (λ json. view json ≡ string (kind_text kind)) }
+fn kind_word(kind: PackageKind) -> &'static str
+    ensures { result.now ≡ kind_text kind }
 {
     match kind {
-        PackageKind::Jsr => Value::try_from_str(alloc, "jsr"),
-        PackageKind::Npm => Value::try_from_str(alloc, "npm"),
+        PackageKind::Jsr => "jsr",
+        PackageKind::Npm => "npm",
     }
 }
 
@@ -65,11 +65,12 @@ fn export_json(alloc: Global, kind: PackageKind, path: Option<&str>) -> Result<V
 fn reference_json(alloc: Global, told: &Reference) -> Result<Value, AllocError>
     ensures { IfOk result (λ json. view json ≡ reference_json told.now) }
 {
-    let kind = kind_json(alloc, told.kind)?;
     let path = text_or_null(alloc, told.path())?;
     let export = export_json(alloc, told.kind, told.path())?;
     let package = package_json(alloc, &told.reference.req)?;
-    json!(in alloc; {"kind": kind, "package": package, "path": path, "export": export})
+    json!(in alloc; {
+        "kind": kind_word(told.kind), "package": package, "path": path, "export": export
+    })
 }
 
 // The JSON as a text.

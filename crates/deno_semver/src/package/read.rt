@@ -4,7 +4,7 @@ ghost use Rattle.std.specs.Prelude.{◌≡◌, ◌⊎◌, IfErr, IfOk, Ok, Resul
 ghost use Rattle.std.specs.Option.{option_copied};
 ghost use Rattle.semver_req.specs.declared.common.values.Flavour.TheVariants.{Normal, Npm, Specifier};
 ghost use Rattle.deno_semver.specs.PackageOutcome.{Fault, IsPackageAnswer, IsPackageOutcome, IsPackageRefusal, IsVersionReq, IsWantOfMemory};
-ghost use Rattle.deno_semver.specs.PackageReading.{IsPartsRefusal, IsPathError, IsReadPackage, IsVersionRefusal, TellsSource};
+ghost use Rattle.deno_semver.specs.PackageReading.{IsPartsRefusal, IsPathError, IsReadPackage, IsVersionRefusal, TellsSource, told_source};
 ghost use Rattle.deno_semver.specs.PackageText.{scoped_name};
 ghost use Rattle.deno_semver.specs.ReferenceReading.{IsFrontError, IsReadWithPath};
 ghost use Rattle.deno_semver.specs.declared.package.values.PackageReq.{PackageReq};
@@ -156,6 +156,17 @@ fn read(
     Ok(req)
 }
 
+// The source that is told: that an `@` lacks goes before any other.
+fn told_source(text: &str, source: PackageReqPartsParseError) -> PackageReqPartsParseError
+    ensures { result ≡ told_source text.now source }
+{
+    if lacks_at(text) {
+        PackageReqPartsParseError::MissingAtSymbol
+    } else {
+        source
+    }
+}
+
 // The error with the whole text, or want of memory where there is none for it.
 fn whole_error(alloc: Global, text: &str, source: PackageReqPartsParseError) -> PackageReqParseError
     ensures { IsWantOfMemory result ⊎ TellsSource text.now source result }
@@ -163,17 +174,10 @@ fn whole_error(alloc: Global, text: &str, source: PackageReqPartsParseError) -> 
     if source.is_memory() {
         return PackageReqParseError::memory(alloc);
     }
-    let Ok(whole) = StackString::from_str(alloc, text) else {
-        return PackageReqParseError::memory(alloc);
-    };
-    let source = if lacks_at(text) {
-        PackageReqPartsParseError::MissingAtSymbol
-    } else {
-        source
-    };
-    PackageReqParseError {
-        text: whole,
-        source,
+    let source = told_source(text, source);
+    match StackString::from_str(alloc, text) {
+        Ok(text) => PackageReqParseError { text, source },
+        Err(_) => PackageReqParseError::memory(alloc),
     }
 }
 

@@ -56,6 +56,20 @@ fn read(alloc: Global, body: &str) -> Result<PackageReqReference, PackageReqPart
     }
 }
 
+// The error with the whole text, in a box.
+fn boxed_invalid(
+    alloc: Global,
+    text: &str,
+    source: PackageReqPartsParseError,
+) -> Result<Box<PackageReqReferenceInvalidParseError>, AllocError>
+    ensures { IfOk result
+        (λ error. error.value ≡ record { specifier = text.now; source = source }) }
+{
+    let specifier = StackString::from_str(alloc, text)?;
+    let error = PackageReqReferenceInvalidParseError { specifier, source };
+    Ok(Box::new(alloc, error)?)
+}
+
 // The error with the whole text, or want of memory where there is none for it.
 fn invalid(
     alloc: Global,
@@ -67,13 +81,7 @@ fn invalid(
     if source.is_memory() {
         return PackageReqReferenceParseError::Memory;
     }
-    let Ok(specifier) = StackString::from_str(alloc, text) else {
-        return PackageReqReferenceParseError::Memory;
-    };
-    match Box::new(
-        alloc,
-        PackageReqReferenceInvalidParseError { specifier, source },
-    ) {
+    match boxed_invalid(alloc, text, source) {
         Ok(error) => PackageReqReferenceParseError::Invalid(error),
         Err(_) => PackageReqReferenceParseError::Memory,
     }

@@ -1,0 +1,125 @@
+#!/usr/bin/env python3
+"""Measures how the time of a call grows with texts that are made long on purpose, through conformance as rt ci (or rt run in
+its crate) built it. Run at the top of the project, by hand: the gate doesn't.
+
+    tools/growth/measure.py [WORD]    WORD: only the texts whose name holds it
+
+For each text, in sizes of which each doubles the one before: the bytes of the largest, and the processor time of each, the least
+of three runs, less that of a short text. The time includes reading the row. The status is 1 where a text that is told as linear
+takes much more than four times as long as one of a quarter of its size."""
+import json, os, pathlib, subprocess, sys, tempfile
+
+TOP = pathlib.Path(__file__).resolve().parents[2]
+PROGRAM = TOP / "crates/conformance/out/conformance"
+RUNS = 3
+# A time below this (in seconds) is noise; what grows by more than this where the text is four times as long isn't linear.
+LEAST, MOST = 0.02, 6.5
+BOTH = ("normal", "npm")
+COUNTS = (50_000, 100_000, 200_000)
+BYTES = (1 << 22, 1 << 23, 1 << 24)
+RANGES = (200, 400, 800, 1_600)
+
+
+def joined(piece, between):
+    return lambda size: between.join([piece] * size)
+
+
+def filled(letters, before="", after=""):
+    return lambda size: before + letters * (size // len(letters)) + after
+
+
+def identifiers(size):
+    """A pre-release as long as the comparators after it, each of which is compared to it."""
+    return ">=1.0.0-" + ".".join(["a"] * size) + " >=1.0.0" * (size // 4) + " <=0.9.0"
+
+
+def letters(size):
+    return ">=1.0.0-" + "a" * size + " >=0.0.0" * (size // 8)
+
+
+def zeros(size):
+    return ">=1.0.0-" + "0" * size + "2" + " >=1.0.0-1" * (size // 10)
+
+
+def alternatives(major):
+    return lambda size: " || ".join(f"{major}.{minor}.0" for minor in range(size)) + " || ^9"
+
+
+# What is told as linear: the text's name, its readers, what makes it, and its sizes.
+LINEAR = (
+    ("pieces `1`", BOTH, joined("1", " || "), COUNTS),
+    ("pieces `foo`", BOTH, joined("foo", " || "), COUNTS),
+    ("pieces of nothing", BOTH, joined("", "||"), COUNTS),
+    ("comparators, blanks between", BOTH, joined(">=1.0.0", " "), COUNTS),
+    ("comparators, commas between", BOTH, joined(">=1.0.0", ","), COUNTS),
+    ("blanks alone", BOTH, filled(" "), BYTES),
+    ("blanks after `1`", BOTH, filled(" ", "1"), BYTES),
+    ("blanks after `>`", BOTH, filled(" ", ">"), BYTES),
+    ("blanks after `||`", BOTH, filled(" ", "||"), BYTES),
+    ("`~` before a number", ("npm",), filled("~", "", "1"), BYTES),
+    ("`=` before `foo`", ("npm",), filled("=", "", "foo"), BYTES),
+    ("`~v` and blanks before a number", ("npm",), filled(" ", "~v", "1"), BYTES),
+    ("`> > ..`", ("npm",), filled("> "), BYTES),
+    ("`1 - 1 - ..`", ("npm",), filled("1 - "), BYTES),
+    ("blanks round a `,`", ("npm",), lambda size: "1" + " " * (size // 2) + "," + " " * (size // 2) + "2", BYTES),
+    ("blanks round a `-`", ("npm",), lambda size: "1" + " " * (size // 2) + "-" + " " * (size // 2) + "2", BYTES),
+    ("a pre-release of letters, comparators after it", BOTH, letters, COUNTS),
+    ("a pre-release of identifiers, comparators after it", BOTH, identifiers, COUNTS),
+    ("a pre-release with zeros in front, comparators after it", BOTH, zeros, (100_000, 200_000, 400_000)),
+)
+# Calls on one or two requirements, each of many ranges, which have `^9` alone in common.
+LEAST_VERSIONS = ("min-version", "common-version", "version-outside", "common-with-all")
+
+
+def seconds(row):
+    """The processor time of the row, of which only the question matters."""
+    with tempfile.TemporaryFile() as table:
+        table.write(json.dumps([row, ["refused"]]).encode() + b"\n")
+        found = []
+        for _ in range(RUNS):
+            table.seek(0)
+            child = subprocess.Popen([str(PROGRAM)], stdin=table, stdout=subprocess.DEVNULL)
+            _, status, used = os.wait4(child.pid, 0)
+            child.returncode = os.waitstatus_to_exitcode(status)
+            if child.returncode not in (0, 1):
+                sys.exit(f"{row[0]}: status {child.returncode}")
+            found.append(used.ru_utime + used.ru_stime)
+        return min(found)
+
+
+def told(name, times, size):
+    print(f"{name}: {size:,} bytes: " + ", ".join(f"{it:.3f}" for it in times), flush=True)
+
+
+def is_linear(times):
+    return times[-1] < LEAST or times[-1] <= MOST * times[0]
+
+
+def main(word=""):
+    if not PROGRAM.is_file():
+        sys.exit(f"{PROGRAM} isn't built: run rt ci first")
+    rows = [
+        (f"{name}, {reader}", [["fits", reader, make(size), "1.0.0"] for size in sizes])
+        for name, readers, make, sizes in LINEAR
+        for reader in readers
+    ]
+    for words, more in (["normal", "normal"], []), (["normal", "npm"], []), (["written", "inner"], [""]):
+        rows.append((" ".join(["pieces `1`,", *words]), [[*words, joined("1", " || ")(size), *more] for size in COUNTS]))
+    grown = []
+    for name, asked in rows:
+        if word in name:
+            least = seconds([*asked[0][:2], "1", *asked[0][3:]])
+            times = [seconds(row) - least for row in asked]
+            told(name, times, len(asked[-1][2].encode()))
+            grown += [name] * (not is_linear(times))
+    for call in LEAST_VERSIONS:
+        if word in call:
+            majors = (1,) if call == "min-version" else (1, 2)
+            asked = [[call, "npm", *[alternatives(it)(size) for it in majors]] for size in RANGES]
+            told(call, [seconds(row) for row in asked], len(asked[-1][2]))
+    print("grows faster than its text: " + ("; ".join(grown) or "none"))
+    return 1 if grown else 0
+
+
+if __name__ == "__main__":
+    sys.exit(main(*sys.argv[1:]))
