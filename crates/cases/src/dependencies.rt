@@ -4,7 +4,7 @@ use crate::packages;
 use crate::packages::{kind, told_order};
 use deno_semver::jsr::{JsrDepPackageReq, JsrDepPackageReqParseError};
 use deno_semver::package::{PackageKind, PackageReq};
-use requirement_cases::asked::{of_both, of_one, of_outcome};
+use requirement_cases::asked::{both, pair};
 use requirement_cases::words::{Answer, Fault, Word, answer};
 use std::alloc::Global;
 
@@ -43,15 +43,34 @@ fn read(
 // versions, and the dependency with its normal text and as it is displayed; or `refused`, the kind of the error, and the
 // scheme where that is another.
 fn dependency(alloc: Global, words: &[Word<'_>]) -> Answer {
-    let [Some(reader), Some(text)] = words else {
-        return Err(Fault::Unreadable);
-    };
-    of_outcome(
-        alloc,
-        read(alloc, reader, text)?,
-        |alloc, dependency| told(alloc, &dependency.copy()?),
-        |alloc, error| refused(alloc, &error.copy()?),
-    )
+    let (reader, text) = pair(words)?;
+    told_outcome(alloc, read(alloc, reader, text)?)
+}
+
+fn told_outcome(
+    alloc: Global,
+    read: Result<JsrDepPackageReq, JsrDepPackageReqParseError>,
+) -> Answer {
+    match read {
+        Ok(dependency) => {
+            let told = told_copy(alloc, &dependency);
+            drop(dependency);
+            told
+        }
+        Err(error) => {
+            let told = refused_copy(alloc, &error);
+            drop(error);
+            told
+        }
+    }
+}
+
+fn told_copy(alloc: Global, dependency: &JsrDepPackageReq) -> Answer {
+    told(alloc, &dependency.copy()?)
+}
+
+fn refused_copy(alloc: Global, error: &JsrDepPackageReqParseError) -> Answer {
+    refused(alloc, &error.copy()?)
 }
 
 // What is told of a dependency that was read.
@@ -95,15 +114,25 @@ fn refused(alloc: Global, error: &JsrDepPackageReqParseError) -> Answer {
 
 // `dependency-error`, a reader as above, and a text that is refused: the line of the error.
 fn dependency_error(alloc: Global, words: &[Word<'_>]) -> Answer {
-    let [Some(reader), Some(text)] = words else {
-        return Err(Fault::Unreadable);
-    };
-    of_outcome(
-        alloc,
-        read(alloc, reader, text)?,
-        |_, _| Err(Fault::Unreadable),
-        line,
-    )
+    let (reader, text) = pair(words)?;
+    line_of_refusal(alloc, read(alloc, reader, text)?)
+}
+
+fn line_of_refusal(
+    alloc: Global,
+    read: Result<JsrDepPackageReq, JsrDepPackageReqParseError>,
+) -> Answer {
+    match read {
+        Ok(dependency) => {
+            drop(dependency);
+            Err(Fault::Unreadable)
+        }
+        Err(error) => {
+            let line = line(alloc, &error);
+            drop(error);
+            line
+        }
+    }
 }
 
 fn line(alloc: Global, error: &JsrDepPackageReqParseError) -> Answer {
@@ -120,27 +149,21 @@ pub fn by_npm(alloc: Global, text: &str) -> Result<JsrDepPackageReq, Fault> {
 
 // `dependency-order`, two texts of dependencies, by npm's reader: how the first compares to the second.
 fn dependency_order(alloc: Global, words: &[Word<'_>]) -> Answer {
-    let [Some(one), Some(other)] = words else {
-        return Err(Fault::Unreadable);
-    };
-    of_both(
-        alloc,
-        by_npm(alloc, one),
-        by_npm(alloc, other),
-        |alloc, one, other| told_order(alloc, one.cmp(other)),
-    )
+    let (one, other) = pair(words)?;
+    let asked = both(by_npm(alloc, one), by_npm(alloc, other))?;
+    let order = asked.one.cmp(&asked.other);
+    drop(asked);
+    told_order(alloc, order)
 }
 
 // `dependency-made`, `jsr` or `npm`, and the text of a package: how the dependency of that registry is displayed.
 fn dependency_made(alloc: Global, words: &[Word<'_>]) -> Answer {
-    let [Some(registry), Some(text)] = words else {
-        return Err(Fault::Unreadable);
-    };
-    of_one(
-        alloc,
-        made(alloc, registry, text),
-        |alloc, dependency| answer(alloc, &[Some(format!(in alloc; "{dependency}")?.as_str())]),
-    )
+    let (registry, text) = pair(words)?;
+    displayed(alloc, &made(alloc, registry, text)?)
+}
+
+fn displayed(alloc: Global, dependency: &JsrDepPackageReq) -> Answer {
+    answer(alloc, &[Some(format!(in alloc; "{dependency}")?.as_str())])
 }
 
 fn made(alloc: Global, registry: &str, text: &str) -> Result<JsrDepPackageReq, Fault> {

@@ -9,7 +9,7 @@ use deno_semver::{
     RangeBound, RangeSetOrTag, SmallStackString, StackString, Version, VersionBound,
     VersionBoundKind, VersionRange, VersionRangeSet, VersionReq,
 };
-use requirement_cases::asked::{of_one, of_outcome, read};
+use requirement_cases::asked::{pair, read};
 use requirement_cases::words::{Answer, Fault, Word, answer, yes_or_no};
 use serde_json::{Category, Value};
 use std::alloc::Global;
@@ -40,12 +40,10 @@ fn value_of(alloc: Global, text: &str) -> Result<Value, Fault> {
 
 // `read` and the JSON value of the value of this type that a JSON value stands for; or `refused` and the line of the error.
 fn form<T: JsonForm + Drop>(alloc: Global, json: &Value) -> Answer {
-    of_outcome(
-        alloc,
-        T::from_json(alloc, json),
-        |alloc, read| told_read(alloc, &read.to_json(alloc)?),
-        refused,
-    )
+    match T::from_json(alloc, json) {
+        Ok(read) => told_read(alloc, &read.to_json(alloc)?),
+        Err(error) => refused(alloc, &error),
+    }
 }
 
 fn told_read(alloc: Global, json: &Value) -> Answer {
@@ -62,12 +60,8 @@ fn refused(alloc: Global, error: &JsonError) -> Answer {
 
 // `json`, the name of a type, and a JSON text: what its reader makes of it.
 fn json(alloc: Global, words: &[Word<'_>]) -> Answer {
-    let [Some(of_type), Some(text)] = words else {
-        return Err(Fault::Unreadable);
-    };
-    of_one(alloc, value_of(alloc, text), |alloc, json| {
-        form_of(alloc, of_type, json)
-    })
+    let (of_type, text) = pair(words)?;
+    form_of(alloc, of_type, &value_of(alloc, text)?)
 }
 
 fn form_of(alloc: Global, of_type: &str, json: &Value) -> Answer {
@@ -96,14 +90,14 @@ fn json_error(alloc: Global, words: &[Word<'_>]) -> Answer {
     let [Some(text)] = words else {
         return Err(Fault::Unreadable);
     };
-    of_one(alloc, value_of(alloc, text), |alloc, json| {
-        of_outcome(
-            alloc,
-            Version::from_json(alloc, json),
-            |_, _| Err(Fault::Unreadable),
-            line,
-        )
-    })
+    version_error(alloc, &value_of(alloc, text)?)
+}
+
+fn version_error(alloc: Global, json: &Value) -> Answer {
+    match Version::from_json(alloc, json) {
+        Ok(_) => Err(Fault::Unreadable),
+        Err(error) => line(alloc, &error),
+    }
 }
 
 fn line(alloc: Global, error: &JsonError) -> Answer {
@@ -143,6 +137,16 @@ fn told_form<T: JsonForm>(alloc: Global, value: &T) -> Answer {
     told(alloc, &value.to_json(alloc)?)
 }
 
+// What is told of a value, or why there is none.
+fn told_of<T: JsonForm + Drop>(alloc: Global, value: Result<T, Fault>) -> Answer {
+    told_form(alloc, &value?)
+}
+
+fn told_ranges(alloc: Global, requirement: &VersionReq) -> Answer {
+    let ranges = requirement.range().ok_or(Fault::Unreadable)?;
+    told_form(alloc, ranges)
+}
+
 // `json-of`, the name of a type, a reader, and a text: the JSON value of what the reader makes of it, of the ranges of a
 // requirement for `VersionRangeSet`. The texts of requirements of versions are npm's.
 fn json_of(alloc: Global, words: &[Word<'_>]) -> Answer {
@@ -150,34 +154,27 @@ fn json_of(alloc: Global, words: &[Word<'_>]) -> Answer {
         return Err(Fault::Unreadable);
     };
     match *of_type {
-        "VersionReq" => of_one(alloc, read(alloc, "npm", text), told_form),
-        "VersionRangeSet" => of_one(
-            alloc,
-            read(alloc, "npm", text),
-            |alloc, requirement| match requirement.range() {
-                Some(ranges) => told_form(alloc, ranges),
-                None => Err(Fault::Unreadable),
-            },
-        ),
-        "PackageReq" => of_one(alloc, package(alloc, reader, text), told_form),
-        "JsrDepPackageReq" => of_one(alloc, dependency(alloc, reader, text), told_form),
+        "VersionReq" => told_of(alloc, read(alloc, "npm", text)),
+        "VersionRangeSet" => told_ranges(alloc, &read(alloc, "npm", text)?),
+        "PackageReq" => told_of(alloc, package(alloc, reader, text)),
+        "JsrDepPackageReq" => told_of(alloc, dependency(alloc, reader, text)),
         _ => Err(Fault::Unreadable),
     }
 }
 
 // Whether a value is read back equal from its JSON value.
 fn is_read_back<T: JsonForm + PartialEq + Drop>(alloc: Global, value: &T) -> Answer {
-    of_one(alloc, json_value(alloc, value), |alloc, json| {
-        of_outcome(
-            alloc,
-            T::from_json(alloc, json),
-            |alloc, again| yes_or_no(alloc, again == value),
-            |alloc, error| match error {
-                JsonError::Json => answer(alloc, &[Some("refused")]),
-                JsonError::Memory => Err(Fault::OutOfMemory),
-            },
-        )
-    })
+    let json = json_value(alloc, value)?;
+    match T::from_json(alloc, &json) {
+        Ok(again) => yes_or_no(alloc, again == *value),
+        Err(JsonError::Json) => answer(alloc, &[Some("refused")]),
+        Err(JsonError::Memory) => Err(Fault::OutOfMemory),
+    }
+}
+
+// Whether a value is read back, or why there is none.
+fn told_back<T: JsonForm + PartialEq + Drop>(alloc: Global, value: Result<T, Fault>) -> Answer {
+    is_read_back(alloc, &value?)
 }
 
 fn json_value<T: JsonForm>(alloc: Global, value: &T) -> Result<Value, Fault> {
@@ -191,8 +188,8 @@ fn stored(alloc: Global, words: &[Word<'_>]) -> Answer {
         return Err(Fault::Unreadable);
     };
     match *of_type {
-        "PackageReq" => of_one(alloc, package(alloc, reader, text), is_read_back),
-        "JsrDepPackageReq" => of_one(alloc, dependency(alloc, reader, text), is_read_back),
+        "PackageReq" => told_back(alloc, package(alloc, reader, text)),
+        "JsrDepPackageReq" => told_back(alloc, dependency(alloc, reader, text)),
         _ => Err(Fault::Unreadable),
     }
 }
@@ -213,9 +210,11 @@ fn all_by_npm(alloc: Global, words: &[Word<'_>]) -> Result<Vec<PackageReq>, Faul
 
 // `reqs-json` and any number of texts of packages, by npm's reader: the JSON value of their list.
 fn reqs_json(alloc: Global, words: &[Word<'_>]) -> Answer {
-    of_one(alloc, all_by_npm(alloc, words), |alloc, reqs| {
-        told(alloc, &reqs_to_json(alloc, reqs.as_slice())?)
-    })
+    told_list(alloc, all_by_npm(alloc, words)?.as_slice())
+}
+
+fn told_list(alloc: Global, reqs: &[PackageReq]) -> Answer {
+    told(alloc, &reqs_to_json(alloc, reqs)?)
 }
 
 // `read`, and how each requirement is displayed.
@@ -235,14 +234,14 @@ fn reqs_of_json(alloc: Global, words: &[Word<'_>]) -> Answer {
     let [Some(text)] = words else {
         return Err(Fault::Unreadable);
     };
-    of_one(alloc, value_of(alloc, text), |alloc, json| {
-        of_outcome(
-            alloc,
-            reqs_from_json(alloc, json),
-            |alloc, reqs| read_list(alloc, reqs.as_slice()),
-            refused,
-        )
-    })
+    list_of_json(alloc, &value_of(alloc, text)?)
+}
+
+fn list_of_json(alloc: Global, json: &Value) -> Answer {
+    match reqs_from_json(alloc, json) {
+        Ok(reqs) => read_list(alloc, reqs.as_slice()),
+        Err(error) => refused(alloc, &error),
+    }
 }
 
 // What is read of the JSON value of a list.
@@ -257,11 +256,14 @@ fn read_again(alloc: Global, reqs: &[PackageReq]) -> Result<Vec<PackageReq>, Fau
 // `reqs-stored` and any number of texts of packages, by npm's reader: whether what is read of the JSON value of their list is
 // equal to what is read of the JSON value of that.
 fn reqs_stored(alloc: Global, words: &[Word<'_>]) -> Answer {
-    of_one(alloc, all_by_npm(alloc, words), |alloc, reqs| {
-        of_one(alloc, read_again(alloc, reqs.as_slice()), |alloc, once| {
-            of_one(alloc, read_again(alloc, once.as_slice()), |alloc, twice| {
-                yes_or_no(alloc, once == twice)
-            })
-        })
-    })
+    is_stored(alloc, all_by_npm(alloc, words)?.as_slice())
+}
+
+fn is_stored(alloc: Global, reqs: &[PackageReq]) -> Answer {
+    is_stored_again(alloc, read_again(alloc, reqs)?.as_slice())
+}
+
+fn is_stored_again(alloc: Global, once: &[PackageReq]) -> Answer {
+    let is_same = once == read_again(alloc, once)?.as_slice();
+    yes_or_no(alloc, is_same)
 }

@@ -3,7 +3,7 @@
 use deno_semver::package::{
     PackageNv, PackageNvParseError, PackageReq, PackageReqParseError, PackageReqPartsParseError,
 };
-use requirement_cases::asked::{of_both, of_outcome};
+use requirement_cases::asked::{both, pair};
 use requirement_cases::words::{Answer, Fault, Word, answer};
 use std::alloc::{AllocError, Global};
 use std::cmp::Ordering;
@@ -72,15 +72,31 @@ fn told(alloc: Global, req: &PackageReq) -> Answer {
 // `package`, `strict`, `loose` or `normalized`, and the text of a package: `read`, the name, the text of the requirement
 // of versions, and the requirement with its normal text and as it is displayed; or `refused` and the kind of the error.
 fn package(alloc: Global, words: &[Word<'_>]) -> Answer {
-    let [Some(reader), Some(text)] = words else {
-        return Err(Fault::Unreadable);
-    };
-    of_outcome(
-        alloc,
-        read(alloc, reader, text)?,
-        |alloc, req| told(alloc, &req.copy()?),
-        |alloc, error| refused(alloc, &error.copy()?),
-    )
+    let (reader, text) = pair(words)?;
+    told_outcome(alloc, read(alloc, reader, text)?)
+}
+
+fn told_outcome(alloc: Global, read: Result<PackageReq, PackageReqParseError>) -> Answer {
+    match read {
+        Ok(req) => {
+            let told = told_copy(alloc, &req);
+            drop(req);
+            told
+        }
+        Err(error) => {
+            let told = refused_copy(alloc, &error);
+            drop(error);
+            told
+        }
+    }
+}
+
+fn told_copy(alloc: Global, req: &PackageReq) -> Answer {
+    told(alloc, &req.copy()?)
+}
+
+fn refused_copy(alloc: Global, error: &PackageReqParseError) -> Answer {
+    refused(alloc, &error.copy()?)
 }
 
 fn refused(alloc: Global, error: &PackageReqParseError) -> Answer {
@@ -89,15 +105,22 @@ fn refused(alloc: Global, error: &PackageReqParseError) -> Answer {
 
 // `package-error`, a reader as above, and the text of a package that is refused: the lines of the error and of its source.
 fn package_error(alloc: Global, words: &[Word<'_>]) -> Answer {
-    let [Some(reader), Some(text)] = words else {
-        return Err(Fault::Unreadable);
-    };
-    of_outcome(
-        alloc,
-        read(alloc, reader, text)?,
-        |_, _| Err(Fault::Unreadable),
-        lines,
-    )
+    let (reader, text) = pair(words)?;
+    lines_of_refusal(alloc, read(alloc, reader, text)?)
+}
+
+fn lines_of_refusal(alloc: Global, read: Result<PackageReq, PackageReqParseError>) -> Answer {
+    match read {
+        Ok(req) => {
+            drop(req);
+            Err(Fault::Unreadable)
+        }
+        Err(error) => {
+            let lines = lines(alloc, &error);
+            drop(error);
+            lines
+        }
+    }
 }
 
 // The lines of the error and of its source.
@@ -123,15 +146,11 @@ pub fn name_with_version(alloc: Global, text: &str) -> Result<PackageNv, Fault> 
 
 // `order`, two texts of packages, by npm's reader: how the first requirement compares to the second.
 fn order(alloc: Global, words: &[Word<'_>]) -> Answer {
-    let [Some(one), Some(other)] = words else {
-        return Err(Fault::Unreadable);
-    };
-    of_both(
-        alloc,
-        by_npm(alloc, one),
-        by_npm(alloc, other),
-        |alloc, one, other| told_order(alloc, one.cmp(other)),
-    )
+    let (one, other) = pair(words)?;
+    let asked = both(by_npm(alloc, one), by_npm(alloc, other))?;
+    let order = asked.one.cmp(&asked.other);
+    drop(asked);
+    told_order(alloc, order)
 }
 
 /// The word of an order.
@@ -150,17 +169,17 @@ fn name_version(alloc: Global, words: &[Word<'_>]) -> Answer {
     let [Some(text)] = words else {
         return Err(Fault::Unreadable);
     };
-    of_outcome(
-        alloc,
-        PackageNv::from_str(alloc, text),
-        named_version,
-        |alloc, error| {
-            if error.is_memory() {
-                return Err(Fault::OutOfMemory);
-            }
-            answer(alloc, &[Some("refused"), Some(error.message.as_str())])
-        },
-    )
+    match PackageNv::from_str(alloc, text) {
+        Ok(nv) => named_version(alloc, &nv),
+        Err(error) => refused_version(alloc, &error),
+    }
+}
+
+fn refused_version(alloc: Global, error: &PackageNvParseError) -> Answer {
+    if error.is_memory() {
+        return Err(Fault::OutOfMemory);
+    }
+    answer(alloc, &[Some("refused"), Some(error.message.as_str())])
 }
 
 // `name-version-error`, a text that is no name and version: the line of a copy of the error.
@@ -168,12 +187,14 @@ fn name_version_error(alloc: Global, words: &[Word<'_>]) -> Answer {
     let [Some(text)] = words else {
         return Err(Fault::Unreadable);
     };
-    of_outcome(
-        alloc,
-        PackageNv::from_str(alloc, text),
-        |_, _| Err(Fault::Unreadable),
-        |alloc, error| version_line(alloc, &error.copy()?),
-    )
+    match PackageNv::from_str(alloc, text) {
+        Ok(_) => Err(Fault::Unreadable),
+        Err(error) => copied_version_line(alloc, &error),
+    }
+}
+
+fn copied_version_line(alloc: Global, error: &PackageNvParseError) -> Answer {
+    version_line(alloc, &error.copy()?)
 }
 
 fn version_line(alloc: Global, error: &PackageNvParseError) -> Answer {

@@ -7,7 +7,7 @@ use deno_semver::package::{
     PackageNv, PackageNvReferenceParseError, PackageReq, PackageReqReferenceParseError,
     SpecifierError,
 };
-use requirement_cases::asked::{of_one, of_outcome};
+use requirement_cases::asked::pair;
 use requirement_cases::words::{Answer, Fault, Word, answer};
 use std::alloc::Global;
 use url::{ParseError, Url};
@@ -55,34 +55,48 @@ pub fn npm_version(alloc: Global, text: &str) -> Result<NpmPackageNvReference, F
     NpmPackageNvReference::from_str(alloc, text).map_err(version_fault)
 }
 
-// The two texts that the words are.
-fn pair<'a>(words: &[Word<'a>]) -> Result<(&'a str, &'a str), Fault> {
-    match words {
-        [Some(one), Some(other)] => Ok((one, other)),
-        _ => Err(Fault::Unreadable),
-    }
-}
-
 // `reference`, `jsr` or `npm`, and a text: `read`, the name, the text of the requirement of versions, the path or null, how
 // the reference is displayed, and the name of the export of a JSR package or null; or `refused`, the kind of the error, and
 // of one that names another text the text without its scheme and the one that is suggested.
 fn reference(alloc: Global, words: &[Word<'_>]) -> Answer {
     let (registry, text) = pair(words)?;
     match registry {
-        "jsr" => of_outcome(
-            alloc,
-            JsrPackageReqReference::from_str(alloc, text),
-            |alloc, reference| jsr_reference(alloc, &reference.copy()?),
-            |alloc, error| refused_reference(alloc, &error.copy()?),
-        ),
-        "npm" => of_outcome(
-            alloc,
-            NpmPackageReqReference::from_str(alloc, text),
-            |alloc, reference| npm_reference(alloc, &reference.copy()?),
-            |alloc, error| refused_reference(alloc, &error.copy()?),
-        ),
+        "jsr" => jsr_copy(alloc, JsrPackageReqReference::from_str(alloc, text)),
+        "npm" => npm_copy(alloc, NpmPackageReqReference::from_str(alloc, text)),
         _ => Err(Fault::Unreadable),
     }
+}
+
+fn jsr_copy(
+    alloc: Global,
+    read: Result<JsrPackageReqReference, PackageReqReferenceParseError>,
+) -> Answer {
+    match read {
+        Ok(reference) => copied_jsr_reference(alloc, &reference),
+        Err(error) => refused_copy(alloc, &error),
+    }
+}
+
+fn copied_jsr_reference(alloc: Global, reference: &JsrPackageReqReference) -> Answer {
+    jsr_reference(alloc, &reference.copy()?)
+}
+
+fn npm_copy(
+    alloc: Global,
+    read: Result<NpmPackageReqReference, PackageReqReferenceParseError>,
+) -> Answer {
+    match read {
+        Ok(reference) => copied_npm_reference(alloc, &reference),
+        Err(error) => refused_copy(alloc, &error),
+    }
+}
+
+fn copied_npm_reference(alloc: Global, reference: &NpmPackageReqReference) -> Answer {
+    npm_reference(alloc, &reference.copy()?)
+}
+
+fn refused_copy(alloc: Global, error: &PackageReqReferenceParseError) -> Answer {
+    refused_reference(alloc, &error.copy()?)
 }
 
 fn jsr_reference(alloc: Global, reference: &JsrPackageReqReference) -> Answer {
@@ -172,11 +186,11 @@ fn reference_refusal(
 // `reference-error`, a registry, and a text that is no reference: the line of the error.
 fn reference_error(alloc: Global, words: &[Word<'_>]) -> Answer {
     let (registry, text) = pair(words)?;
-    of_one(
-        alloc,
-        reference_refusal(alloc, registry, text),
-        |alloc, error| single(alloc, format!(in alloc; "{error}")?.as_str()),
-    )
+    line(alloc, &reference_refusal(alloc, registry, text)?)
+}
+
+fn line(alloc: Global, error: &PackageReqReferenceParseError) -> Answer {
+    single(alloc, format!(in alloc; "{error}")?.as_str())
 }
 
 // `version-reference`, a registry, and a text: `read`, the name, the version, the path or null, how the reference is
@@ -184,20 +198,38 @@ fn reference_error(alloc: Global, words: &[Word<'_>]) -> Answer {
 fn version_reference(alloc: Global, words: &[Word<'_>]) -> Answer {
     let (registry, text) = pair(words)?;
     match registry {
-        "jsr" => of_outcome(
-            alloc,
-            JsrPackageNvReference::from_str(alloc, text),
-            |alloc, reference| jsr_version_reference(alloc, &reference.copy()?),
-            refused_version_reference,
-        ),
-        "npm" => of_outcome(
-            alloc,
-            NpmPackageNvReference::from_str(alloc, text),
-            |alloc, reference| npm_version_reference(alloc, &reference.copy()?),
-            refused_version_reference,
-        ),
+        "jsr" => jsr_version_copy(alloc, JsrPackageNvReference::from_str(alloc, text)),
+        "npm" => npm_version_copy(alloc, NpmPackageNvReference::from_str(alloc, text)),
         _ => Err(Fault::Unreadable),
     }
+}
+
+fn jsr_version_copy(
+    alloc: Global,
+    read: Result<JsrPackageNvReference, PackageNvReferenceParseError>,
+) -> Answer {
+    match read {
+        Ok(reference) => copied_jsr_version_reference(alloc, &reference),
+        Err(error) => refused_version_reference(alloc, &error),
+    }
+}
+
+fn copied_jsr_version_reference(alloc: Global, reference: &JsrPackageNvReference) -> Answer {
+    jsr_version_reference(alloc, &reference.copy()?)
+}
+
+fn npm_version_copy(
+    alloc: Global,
+    read: Result<NpmPackageNvReference, PackageNvReferenceParseError>,
+) -> Answer {
+    match read {
+        Ok(reference) => copied_npm_version_reference(alloc, &reference),
+        Err(error) => refused_version_reference(alloc, &error),
+    }
+}
+
+fn copied_npm_version_reference(alloc: Global, reference: &NpmPackageNvReference) -> Answer {
+    npm_version_reference(alloc, &reference.copy()?)
 }
 
 fn jsr_version_reference(alloc: Global, reference: &JsrPackageNvReference) -> Answer {
@@ -273,11 +305,11 @@ fn version_reference_refusal(
 // `version-reference-error`, a registry, and a text that is no version reference: the line of a copy of the error.
 fn version_reference_error(alloc: Global, words: &[Word<'_>]) -> Answer {
     let (registry, text) = pair(words)?;
-    of_one(
-        alloc,
-        version_reference_refusal(alloc, registry, text),
-        |alloc, error| version_line(alloc, &error.copy()?),
-    )
+    copied_version_line(alloc, &version_reference_refusal(alloc, registry, text)?)
+}
+
+fn copied_version_line(alloc: Global, error: &PackageNvReferenceParseError) -> Answer {
+    version_line(alloc, &error.copy()?)
 }
 
 fn version_line(alloc: Global, error: &PackageNvReferenceParseError) -> Answer {
@@ -289,29 +321,31 @@ fn version_line(alloc: Global, error: &PackageNvReferenceParseError) -> Answer {
 fn specifier(alloc: Global, words: &[Word<'_>]) -> Answer {
     let (registry, text) = pair(words)?;
     match registry {
-        "jsr" => of_outcome(
-            alloc,
-            JsrPackageNvReference::from_str(alloc, text),
-            |alloc, reference| told_specifier(alloc, reference.as_specifier(alloc)),
-            refused_version_reference,
-        ),
-        "npm" => of_outcome(
-            alloc,
-            NpmPackageNvReference::from_str(alloc, text),
-            |alloc, reference| told_specifier(alloc, reference.as_specifier(alloc)),
-            refused_version_reference,
-        ),
+        "jsr" => jsr_specifier(alloc, text),
+        "npm" => npm_specifier(alloc, text),
         _ => Err(Fault::Unreadable),
     }
 }
 
+fn jsr_specifier(alloc: Global, text: &str) -> Answer {
+    match JsrPackageNvReference::from_str(alloc, text) {
+        Ok(reference) => told_specifier(alloc, reference.as_specifier(alloc)),
+        Err(error) => refused_version_reference(alloc, &error),
+    }
+}
+
+fn npm_specifier(alloc: Global, text: &str) -> Answer {
+    match NpmPackageNvReference::from_str(alloc, text) {
+        Ok(reference) => told_specifier(alloc, reference.as_specifier(alloc)),
+        Err(error) => refused_version_reference(alloc, &error),
+    }
+}
+
 fn told_specifier(alloc: Global, specifier: Result<Url, SpecifierError>) -> Answer {
-    of_outcome(
-        alloc,
-        specifier,
-        |alloc, url| answer(alloc, &[Some("read"), Some(url.as_str())]),
-        refused_specifier,
-    )
+    match specifier {
+        Ok(url) => answer(alloc, &[Some("read"), Some(url.as_str())]),
+        Err(error) => refused_specifier(alloc, &error),
+    }
 }
 
 fn refused_specifier(alloc: Global, error: &SpecifierError) -> Answer {
@@ -331,38 +365,44 @@ fn url_of(alloc: Global, text: &str) -> Result<Url, Fault> {
 // `version-reference` tells where it is a version reference.
 fn of_specifier(alloc: Global, words: &[Word<'_>]) -> Answer {
     let (registry, text) = pair(words)?;
-    of_one(alloc, url_of(alloc, text), |alloc, url| {
-        of_url(alloc, registry, url)
-    })
+    of_url(alloc, registry, &url_of(alloc, text)?)
 }
 
 fn of_url(alloc: Global, registry: &str, url: &Url) -> Answer {
     match registry {
-        "jsr" => of_outcome(
-            alloc,
-            JsrPackageReqReference::from_specifier(alloc, url),
-            jsr_reference,
-            refused_reference,
-        ),
-        "npm" => of_outcome(
-            alloc,
-            NpmPackageReqReference::from_specifier(alloc, url),
-            npm_reference,
-            refused_reference,
-        ),
-        "jsr-version" => of_outcome(
-            alloc,
-            JsrPackageNvReference::from_specifier(alloc, url),
-            jsr_version_reference,
-            refused_version_reference,
-        ),
-        "npm-version" => of_outcome(
-            alloc,
-            NpmPackageNvReference::from_specifier(alloc, url),
-            npm_version_reference,
-            refused_version_reference,
-        ),
+        "jsr" => jsr_of_url(alloc, url),
+        "npm" => npm_of_url(alloc, url),
+        "jsr-version" => jsr_version_of_url(alloc, url),
+        "npm-version" => npm_version_of_url(alloc, url),
         _ => Err(Fault::Unreadable),
+    }
+}
+
+fn jsr_of_url(alloc: Global, url: &Url) -> Answer {
+    match JsrPackageReqReference::from_specifier(alloc, url) {
+        Ok(reference) => jsr_reference(alloc, &reference),
+        Err(error) => refused_reference(alloc, &error),
+    }
+}
+
+fn npm_of_url(alloc: Global, url: &Url) -> Answer {
+    match NpmPackageReqReference::from_specifier(alloc, url) {
+        Ok(reference) => npm_reference(alloc, &reference),
+        Err(error) => refused_reference(alloc, &error),
+    }
+}
+
+fn jsr_version_of_url(alloc: Global, url: &Url) -> Answer {
+    match JsrPackageNvReference::from_specifier(alloc, url) {
+        Ok(reference) => jsr_version_reference(alloc, &reference),
+        Err(error) => refused_version_reference(alloc, &error),
+    }
+}
+
+fn npm_version_of_url(alloc: Global, url: &Url) -> Answer {
+    match NpmPackageNvReference::from_specifier(alloc, url) {
+        Ok(reference) => npm_version_reference(alloc, &reference),
+        Err(error) => refused_version_reference(alloc, &error),
     }
 }
 

@@ -1,7 +1,7 @@
 //! Which one of several versions a requirement chooses.
 
 use deno_semver::{PreRelease, Version, VersionReq, resolve};
-use requirement_cases::asked::{of_both, read};
+use requirement_cases::asked::{Two, both, read};
 use requirement_cases::shown;
 use requirement_cases::words::{Answer, Fault, Word, answer};
 use std::alloc::Global;
@@ -9,10 +9,10 @@ use std::alloc::Global;
 /// What a call on versions to choose from answers to a question's words after its name, where the name is of one.
 pub fn ask(alloc: Global, name: &str, words: &[Word<'_>]) -> Option<Answer> {
     let answer = match name {
-        "max-satisfying" => of_versions(alloc, words, max_satisfying),
-        "min-satisfying" => of_versions(alloc, words, min_satisfying),
-        "max-satisfying-with" => max_satisfying_with(alloc, words),
-        "min-satisfying-with" => min_satisfying_with(alloc, words),
+        "max-satisfying" => satisfying(alloc, name, words),
+        "min-satisfying" => satisfying(alloc, name, words),
+        "max-satisfying-with" => satisfying_with(alloc, name, words),
+        "min-satisfying-with" => satisfying_with(alloc, name, words),
         _ => return None,
     };
     Some(answer)
@@ -31,25 +31,6 @@ fn versions_of(alloc: Global, words: &[Word<'_>]) -> Result<Vec<Version>, Fault>
     Ok(versions)
 }
 
-// A reader, a requirement and versions: what is told of the requirement and the versions.
-fn of_versions<F: Fn(Global, &VersionReq, &Vec<Version>) -> Answer>(
-    alloc: Global,
-    words: &[Word<'_>],
-    tell: F,
-) -> Answer
-    requires { F.IsAlwaysCallable tell }
-{
-    let [Some(reader), Some(requirement), versions @ ..] = words else {
-        return Err(Fault::Unreadable);
-    };
-    of_both(
-        alloc,
-        read(alloc, reader, requirement),
-        versions_of(alloc, versions),
-        tell,
-    )
-}
-
 // The place, or `none`.
 fn place(alloc: Global, place: Option<usize>) -> Answer {
     match place {
@@ -58,86 +39,54 @@ fn place(alloc: Global, place: Option<usize>) -> Answer {
     }
 }
 
-// `max-satisfying`, a reader, a requirement and versions: the place of the greatest one that matches, from 0, or `none`; or
-// `tag` and the tag.
-fn max_satisfying(alloc: Global, requirement: &VersionReq, versions: &Vec<Version>) -> Answer {
-    match requirement.tag() {
-        None => place(
-            alloc,
-            resolve::max_satisfying(versions.as_slice(), requirement),
-        ),
-        Some(tag) => answer(alloc, &[Some("tag"), Some(tag)]),
-    }
-}
-
-// `min-satisfying`, a reader, a requirement and versions: the place of the least one that matches, from 0, or `none`; or
-// `tag` and the tag.
-fn min_satisfying(alloc: Global, requirement: &VersionReq, versions: &Vec<Version>) -> Answer {
-    match requirement.tag() {
-        None => place(
-            alloc,
-            resolve::min_satisfying(versions.as_slice(), requirement),
-        ),
-        Some(tag) => answer(alloc, &[Some("tag"), Some(tag)]),
-    }
-}
-
-// `max-satisfying-with`, a reader, a requirement, `restricted` or `admitted` and versions: the place of the greatest one
-// that matches, from 0, or `none`; or `tag` and the tag.
-fn max_satisfying_with(alloc: Global, words: &[Word<'_>]) -> Answer {
-    let [Some(reader), Some(requirement), Some(word), versions @ ..] = words else {
-        return Err(Fault::Unreadable);
-    };
-    let pre_release = shown::pre_release_of(word)?;
-    of_both(
-        alloc,
-        read(alloc, reader, requirement),
-        versions_of(alloc, versions),
-        |alloc, requirement, versions| greatest_with(alloc, requirement, versions, pre_release),
-    )
-}
-
-fn greatest_with(
-    alloc: Global,
-    requirement: &VersionReq,
-    versions: &Vec<Version>,
-    pre_release: PreRelease,
-) -> Answer {
-    match requirement.tag() {
-        None => place(
-            alloc,
-            resolve::max_satisfying_with(versions.as_slice(), requirement, pre_release),
-        ),
-        Some(tag) => answer(alloc, &[Some("tag"), Some(tag)]),
-    }
-}
-
-// `min-satisfying-with`, a reader, a requirement, `restricted` or `admitted` and versions: the place of the least one that
+// `max-satisfying` or `min-satisfying`, a reader, a requirement and versions: the place of the greatest or least one that
 // matches, from 0, or `none`; or `tag` and the tag.
-fn min_satisfying_with(alloc: Global, words: &[Word<'_>]) -> Answer {
+fn satisfying(alloc: Global, name: &str, words: &[Word<'_>]) -> Answer {
+    let [Some(reader), Some(requirement), versions @ ..] = words else {
+        return Err(Fault::Unreadable);
+    };
+    let requirement = read(alloc, reader, requirement);
+    let versions = versions_of(alloc, versions);
+    chosen(alloc, name, &both(requirement, versions)?)
+}
+
+fn chosen(alloc: Global, name: &str, asked: &Two<VersionReq, Vec<Version>>) -> Answer {
+    if let Some(tag) = asked.one.tag() {
+        return answer(alloc, &[Some("tag"), Some(tag)]);
+    }
+    let versions = asked.other.as_slice();
+    let found = match name {
+        "max-satisfying" => resolve::max_satisfying(versions, &asked.one),
+        _ => resolve::min_satisfying(versions, &asked.one),
+    };
+    place(alloc, found)
+}
+
+// `max-satisfying-with` or `min-satisfying-with`, a reader, a requirement, `restricted` or `admitted` and versions: the place
+// of the greatest or least one that matches, from 0, or `none`; or `tag` and the tag.
+fn satisfying_with(alloc: Global, name: &str, words: &[Word<'_>]) -> Answer {
     let [Some(reader), Some(requirement), Some(word), versions @ ..] = words else {
         return Err(Fault::Unreadable);
     };
     let pre_release = shown::pre_release_of(word)?;
-    of_both(
-        alloc,
-        read(alloc, reader, requirement),
-        versions_of(alloc, versions),
-        |alloc, requirement, versions| least_with(alloc, requirement, versions, pre_release),
-    )
+    let requirement = read(alloc, reader, requirement);
+    let versions = versions_of(alloc, versions);
+    chosen_with(alloc, name, &both(requirement, versions)?, pre_release)
 }
 
-fn least_with(
+fn chosen_with(
     alloc: Global,
-    requirement: &VersionReq,
-    versions: &Vec<Version>,
+    name: &str,
+    asked: &Two<VersionReq, Vec<Version>>,
     pre_release: PreRelease,
 ) -> Answer {
-    match requirement.tag() {
-        None => place(
-            alloc,
-            resolve::min_satisfying_with(versions.as_slice(), requirement, pre_release),
-        ),
-        Some(tag) => answer(alloc, &[Some("tag"), Some(tag)]),
+    if let Some(tag) = asked.one.tag() {
+        return answer(alloc, &[Some("tag"), Some(tag)]);
     }
+    let versions = asked.other.as_slice();
+    let found = match name {
+        "max-satisfying-with" => resolve::max_satisfying_with(versions, &asked.one, pre_release),
+        _ => resolve::min_satisfying_with(versions, &asked.one, pre_release),
+    };
+    place(alloc, found)
 }

@@ -1,8 +1,8 @@
 //! Values as they are displayed, and what is appended to a text.
 
 use crate::{dependencies, packages, references};
-use deno_semver::{SmallStackString, StackString, StringAppendable, StringType};
-use requirement_cases::asked::{of_one, read, version_of};
+use deno_semver::{SmallStackString, StackString, StringAppendable, StringType, VersionReq};
+use requirement_cases::asked::{read, version_of};
 use requirement_cases::shown;
 use requirement_cases::words::{Answer, Fault, Word, answer};
 use std::alloc::Global;
@@ -35,7 +35,11 @@ fn written<A: StringAppendable + fmt::Display + Drop>(
     start: &str,
     value: Result<A, Fault>,
 ) -> Answer {
-    of_one(alloc, value, |alloc, value| told(alloc, start, value))
+    told(alloc, start, &value?)
+}
+
+fn told_inner(alloc: Global, start: &str, requirement: &VersionReq) -> Answer {
+    told(alloc, start, requirement.inner())
 }
 
 fn told<A: StringAppendable + fmt::Display>(alloc: Global, start: &str, value: &A) -> Answer {
@@ -67,9 +71,7 @@ fn written_as(alloc: Global, words: &[Word<'_>]) -> Answer {
         "version" => written(alloc, start, version_of(alloc, value)),
         "range" => written(alloc, start, shown::range_of(alloc, value)),
         "set" => written(alloc, start, shown::set_of(alloc, value)),
-        "inner" => of_one(alloc, read(alloc, "npm", value), |alloc, requirement| {
-            told(alloc, start, requirement.inner())
-        }),
+        "inner" => told_inner(alloc, start, &read(alloc, "npm", value)?),
         _ => written_of_package(alloc, kind, value, start),
     }
 }

@@ -61,25 +61,33 @@ fn versions<'a>(alloc: Global) -> Arg<'a> {
         .help("A version; where none is given they are read from standard input, one a line")
 }
 
-// A command, with the options of all: also those that have no part in what it answers.
-fn command<'a>(alloc: Global, name: &'a str, about: &'a str) -> Result<Command<'a>, AllocError> {
-    let reader = Arg::new(alloc, "reader")
+fn reader<'a>(alloc: Global) -> Arg<'a> {
+    Arg::new(alloc, "reader")
         .long("reader")
         .value_name("READER")
         .value_parser(READERS.as_slice())
         .default_value("npm")
-        .help("The reader of requirements");
-    let pre = flag(
-        alloc,
-        "pre",
-        "Let every pre-release between the bounds match",
-    );
+        .help("The reader of requirements")
+}
+
+fn requirements<'a>(alloc: Global) -> Arg<'a> {
+    word(alloc, "REQ", "The requirements, two or more")
+        .num_args(2..)
+        .action(ArgAction::Append)
+}
+
+// A command, with the options of all: also those that have no part in what it answers.
+fn command<'a>(alloc: Global, name: &'a str, about: &'a str) -> Result<Command<'a>, AllocError> {
     Command::new(alloc, name)
         .about(about)
         .version(VERSION)
         .arg(flag(alloc, "json", "Print JSON"))?
-        .arg(reader)?
-        .arg(pre)
+        .arg(reader(alloc))?
+        .arg(flag(
+            alloc,
+            "pre",
+            "Let every pre-release between the bounds match",
+        ))
 }
 
 // A command that matches versions with a requirement.
@@ -109,15 +117,12 @@ fn sort<'a>(alloc: Global) -> Result<Command<'a>, AllocError> {
 }
 
 fn common<'a>(alloc: Global) -> Result<Command<'a>, AllocError> {
-    let requirements = word(alloc, "REQ", "The requirements, two or more")
-        .num_args(2..)
-        .action(ArgAction::Append);
     command(
         alloc,
         "common",
         "Print the least version that suits all requirements",
     )?
-    .arg(requirements)
+    .arg(requirements(alloc))
 }
 
 fn within<'a>(alloc: Global) -> Result<Command<'a>, AllocError> {
@@ -148,23 +153,27 @@ fn reference<'a>(alloc: Global) -> Result<Command<'a>, AllocError> {
     .arg(word(alloc, "TEXT", "The text, as in jsr:@scope/name@1/mod.ts"))
 }
 
+// The program with one command more.
+fn with<'a>(
+    program: Command<'a>,
+    command: Result<Command<'a>, AllocError>,
+) -> Result<Command<'a>, AllocError> {
+    program.subcommand(command?)
+}
+
 // With the commands over lists of versions.
 fn with_lists<'a>(alloc: Global, program: Command<'a>) -> Result<Command<'a>, AllocError> {
-    program
-        .subcommand(matching(
-            alloc,
-            "filter",
-            "Print the versions that match, in the order given",
-        )?)?
-        .subcommand(matching(alloc, "best", "Print the greatest version that matches")?)?
-        .subcommand(sort(alloc)?)
+    let about = "Print the versions that match, in the order given";
+    let program = with(program, matching(alloc, "filter", about))?;
+    let about = "Print the greatest version that matches";
+    let program = with(program, matching(alloc, "best", about))?;
+    with(program, sort(alloc))
 }
 
 // With the commands over texts of packages.
 fn with_packages<'a>(alloc: Global, program: Command<'a>) -> Result<Command<'a>, AllocError> {
-    program
-        .subcommand(package(alloc)?)?
-        .subcommand(reference(alloc)?)
+    let program = with(program, package(alloc))?;
+    with(program, reference(alloc))
 }
 
 /// The program's commands.
@@ -173,10 +182,10 @@ pub fn program<'a>(alloc: Global) -> Result<Command<'a>, AllocError> {
         .about("What requirements of npm and JSR packages mean, and which versions suit them")
         .version(VERSION)
         .subcommand_required(true)
-        .arg_required_else_help(true)
-        .subcommand(explain(alloc)?)?;
-    let program = with_lists(alloc, program)?
-        .subcommand(common(alloc)?)?
-        .subcommand(within(alloc)?)?;
+        .arg_required_else_help(true);
+    let program = with(program, explain(alloc))?;
+    let program = with_lists(alloc, program)?;
+    let program = with(program, common(alloc))?;
+    let program = with(program, within(alloc))?;
     with_packages(alloc, program)
 }

@@ -93,8 +93,16 @@ fn run<R: Runtime + AllocGlobal, E: Write + Drop>(
     words: &[String],
 ) -> Result<Status, Stop> {
     match program(rt.alloc())?.try_get_matches_from(words) {
-        Ok(matches) => write_answer(rt, err, &matches),
-        Err(mistake) => Ok(print_mistake(rt, &mistake)),
+        Ok(matches) => {
+            let status = write_answer(rt, err, &matches);
+            drop(matches);
+            status
+        }
+        Err(mistake) => {
+            let status = print_mistake(rt, &mistake);
+            drop(mistake);
+            Ok(status)
+        }
     }
 }
 

@@ -1,9 +1,9 @@
-//! What words of a question stand for, handed to what tells the answer.
+//! What words of a question stand for.
 //!
-//! The functions that tell an answer borrow the values, so that what is owned is dropped here alone.
+//! The functions that tell an answer borrow the values, so that what is owned is dropped in few places.
 
 use crate::shown;
-use crate::words::{Answer, Fault, Word};
+use crate::words::{Fault, Word};
 use semver_base::range::PreRelease;
 use semver_base::version::Version;
 use semver_req::req::VersionReq;
@@ -58,47 +58,6 @@ pub fn both<A: Drop, B: Drop>(
         one: one?,
         other: other?,
     })
-}
-
-/// What is told of a value, or why there is none.
-pub fn of_one<A: Drop, F: Fn(Global, &A) -> Answer>(
-    alloc: Global,
-    value: Result<A, Fault>,
-    tell: F,
-) -> Answer
-    requires { F.IsAlwaysCallable tell }
-{
-    tell(alloc, &value?)
-}
-
-/// What is told of a value that was read, or of why there is none.
-pub fn of_outcome<A: Drop, E: Drop, F: Fn(Global, &A) -> Answer, G: Fn(Global, &E) -> Answer>(
-    alloc: Global,
-    outcome: Result<A, E>,
-    tell: F,
-    refuse: G,
-) -> Answer
-    requires tells { F.IsAlwaysCallable tell }
-    requires refuses { G.IsAlwaysCallable refuse }
-{
-    match outcome {
-        Ok(value) => tell(alloc, &value),
-        Err(error) => refuse(alloc, &error),
-    }
-}
-
-/// What is told of two values, or why there is not the one or the other.
-pub fn of_both<A: Drop, B: Drop, F: Fn(Global, &A, &B) -> Answer>(
-    alloc: Global,
-    one: Result<A, Fault>,
-    other: Result<B, Fault>,
-    tell: F,
-) -> Answer
-    requires { F.IsAlwaysCallable tell }
-{
-    let one = one?;
-    let other = other?;
-    tell(alloc, &one, &other)
 }
 
 /// The requirement that a reader and a text are.

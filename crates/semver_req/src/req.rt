@@ -280,8 +280,7 @@ fn pinned(alloc: Global, version: Version) -> Result<VersionReq, AllocError>
     let raw_text = SmallStackString::from_string(alloc, text)?;
     let start = RangeBound::inclusive(version.copy()?);
     let end = RangeBound::inclusive(version);
-    let mut ranges = CowVec::new(alloc);
-    ranges.push(VersionRange { start, end })?;
+    let ranges = CowVec::of_one(alloc, VersionRange { start, end })?;
     let inner = RangeSetOrTag::RangeSet(VersionRangeSet(ranges));
     Ok(VersionReq::from_raw_text_and_inner(raw_text, inner))
 }

@@ -112,9 +112,14 @@ fn read_long(alloc: Global, text: &str) -> Result<RangeSetOrTag, ParseFailure>
     let Measured::Fits(partial) = partial else {
         return whole_text_as_tag(alloc, text, Refusal::NumberTooLarge);
     };
-    match mark.range(alloc, &partial) {
+    let range = mark.range(alloc, &partial);
+    drop(partial);
+    match range {
         Ok(range) if rest.is_empty() => Ok(RangeSetOrTag::RangeSet(only(alloc, range)?)),
-        Ok(_) => Err(ParseFailure::of_refusal(alloc, Refusal::UnexpectedCharacter)),
+        Ok(range) => {
+            drop(range);
+            Err(ParseFailure::of_refusal(alloc, Refusal::UnexpectedCharacter))
+        }
         Err(failure) if failure.is_memory() => Err(failure),
         Err(_) => whole_text_as_tag(alloc, text, Refusal::BoundTooLarge),
     }

@@ -3,12 +3,15 @@
 ghost use Rattle.std.specs.Prelude.{◌≡◌, ◌↔◌, ◌++◌, ◌∷◌, [], IfErr, IfOk, IsTrue, List, MatchOption, None, OnOk};
 ghost use Rattle.semver_base.specs.Comparators.{Comparator};
 ghost use Rattle.semver_base.specs.Grammar.{ReadsAs, answer_of};
+ghost use Rattle.semver_base.specs.declared.failure.Refusal.TheVariants.{BoundTooLarge};
+ghost use Rattle.semver_base.specs.declared.lexical.values.Measured.TheVariants.{Fits};
 ghost use Rattle.semver_base.specs.declared.partial.Partial.{Partial};
 ghost use Rattle.semver_req.specs.Partials.{sized_partial};
-ghost use Rattle.semver_req.specs.PieceReading.{IsPieceRead, joined, kept_of};
+ghost use Rattle.semver_req.specs.PieceReading.{IsPieceRead, as_kept, joined, kept_of};
 ghost use Rattle.semver_req.specs.PieceSteps.{AreAllRead, IsEverything, IsFirstPiece, IsHyphenRead, IsNextPiece, IsOneMore, IsWholeRead, both_now};
-ghost use Rattle.semver_req.specs.Pieces.{HasNoBar, IsComparators, IsCutAt, IsCutting, IsFilled, IsHyphen};
+ghost use Rattle.semver_req.specs.Pieces.{HasNoBar, IsComparators, IsCutAt, IsCutting, IsFilled, IsHyphen, hyphen};
 ghost use Rattle.semver_req.specs.Written.{comparator_of};
+ghost use Rattle.semver_req.specs.declared.range_set_or_tag.pieces.RangeOrInvalid.TheVariants.{Invalid};
 
 use crate::common::comparator::{Written, comparator_front};
 use crate::common::hyphen::{HyphenRange, hyphen_front};
@@ -18,6 +21,7 @@ use crate::common::values::Flavour;
 use semver_base::failure::{ParseFailure, Refusal};
 use semver_base::lexical::after_blanks;
 use semver_base::lexical::values::Measured;
+use semver_base::partial::Partial;
 use semver_base::range::VersionRange;
 use semver_base::string::CowVec;
 use std::alloc::{AllocError, Global};
@@ -41,8 +45,20 @@ fn is_everything(piece: &str, is_followed: bool) -> bool
     piece.is_empty()
 }
 
+// Why a range couldn't be made: a bound is too large, or no memory is left.
+fn no_range(failure: ParseFailure) -> Result<RangeOrInvalid, ParseFailure>
+    ensures bound { IfOk result (λ read. (read ≡ Invalid BoundTooLarge) × (failure ≡ None → ⊥)) }
+    ensures memory { IfErr result (λ failure. failure ≡ None) }
+{
+    if failure.is_memory() {
+        return Err(failure);
+    }
+    Ok(RangeOrInvalid::Invalid(Refusal::BoundTooLarge))
+}
+
 impl RangeOrInvalid {
-    // The range of one comparator. It is taken over as it is, and only its start is looked at.
+    // The range of one comparator. It is taken over as it is, and only its start is looked at. (Here and below what is let go
+    // is dropped by name: to the prover that is one call, and else its steps at each way out.)
     #[inline(always)]
     fn of_one(alloc: Global, written: Written) -> Result<RangeOrInvalid, ParseFailure>
         ensures value { (p : Partial) → written.partial ≡ sized_partial p
@@ -53,10 +69,11 @@ impl RangeOrInvalid {
         let Measured::Fits(partial) = partial else {
             return Ok(RangeOrInvalid::Invalid(Refusal::NumberTooLarge));
         };
-        match mark.range(alloc, &partial) {
+        let range = mark.range(alloc, &partial);
+        drop(partial);
+        match range {
             Ok(range) => Ok(RangeOrInvalid::Range(range.into_stopped()?)),
-            Err(failure) if failure.is_memory() => Err(failure),
-            Err(_) => Ok(RangeOrInvalid::Invalid(Refusal::BoundTooLarge)),
+            Err(failure) => no_range(failure),
         }
     }
 
@@ -69,16 +86,24 @@ impl RangeOrInvalid {
     {
         let Written { mark, partial } = written;
         let Measured::Fits(partial) = partial else {
+            drop(self);
             return Ok(RangeOrInvalid::Invalid(Refusal::NumberTooLarge));
         };
         let range = match self {
             RangeOrInvalid::Range(range) => range,
-            RangeOrInvalid::Invalid(refusal) => return Ok(RangeOrInvalid::Invalid(refusal)),
+            RangeOrInvalid::Invalid(refusal) => {
+                drop(partial);
+                return Ok(RangeOrInvalid::Invalid(refusal));
+            }
         };
-        match mark.range(alloc, &partial) {
+        let next = mark.range(alloc, &partial);
+        drop(partial);
+        match next {
             Ok(next) => Ok(RangeOrInvalid::Range(range.clamp_into(next)?)),
-            Err(failure) if failure.is_memory() => Err(failure),
-            Err(_) => Ok(RangeOrInvalid::Invalid(Refusal::BoundTooLarge)),
+            Err(failure) => {
+                drop(range);
+                no_range(failure)
+            }
         }
     }
 
@@ -127,23 +152,44 @@ impl RangeOrInvalid {
     }
 
     // The range from the lower bound of the first to the upper bound of the second.
+    fn from_to(
+        alloc: Global,
+        lower: &Partial,
+        upper: &Partial,
+    ) -> Result<RangeOrInvalid, ParseFailure>
+        ensures value { (v : Partial × Partial) → Fits lower.now ≡ sized_partial v.0
+            → Fits upper.now ≡ sized_partial v.1
+            → IfOk result (λ read. read ≡ as_kept (hyphen v)) }
+        ensures memory { IfErr result (λ failure. failure ≡ None) }
+    {
+        let start = lower.as_lower_bound(alloc)?;
+        match upper.as_upper_bound(alloc) {
+            Ok(end) => Ok(RangeOrInvalid::Range(VersionRange { start, end })),
+            Err(failure) => {
+                drop(start);
+                no_range(failure)
+            }
+        }
+    }
+
+    // The same, of what was measured of both.
     fn between(alloc: Global, hyphen: HyphenRange) -> Result<RangeOrInvalid, ParseFailure>
         ensures value { IfOk result (IsHyphenRead hyphen) }
         ensures memory { IfErr result (λ failure. failure ≡ None) }
     {
         let HyphenRange { lower, upper } = hyphen;
         let Measured::Fits(lower) = lower else {
+            drop(upper);
             return Ok(RangeOrInvalid::Invalid(Refusal::NumberTooLarge));
         };
         let Measured::Fits(upper) = upper else {
+            drop(lower);
             return Ok(RangeOrInvalid::Invalid(Refusal::NumberTooLarge));
         };
-        let start = lower.as_lower_bound(alloc)?;
-        match upper.as_upper_bound(alloc) {
-            Ok(end) => Ok(RangeOrInvalid::Range(VersionRange { start, end })),
-            Err(failure) if failure.is_memory() => Err(failure),
-            Err(_) => Ok(RangeOrInvalid::Invalid(Refusal::BoundTooLarge)),
-        }
+        let read = RangeOrInvalid::from_to(alloc, &lower, &upper);
+        drop(lower);
+        drop(upper);
+        read
     }
 
     // The whole piece as a hyphen range.

@@ -26,8 +26,8 @@ returns-in_default-partial-clause-refusal c =
 pub returns-in_err-only-in-Ok-clause-refusal : goal.returns-in_err-only-in-Ok-clause-refusal
 returns-in_err-only-in-Ok-clause-refusal c = memory_err c.from_residual-in_err-only-in-Ok.result _ c.from_residual-in_err-only-in-Ok.ensures.1 memory_wanting
 
-pub returns-in-Ok-clause-reading : goal.returns-in-Ok-clause-reading
-returns-in-Ok-clause-reading c =
+pub returns-in_ok-only-in-Ok-clause-reading : goal.returns-in_ok-only-in-Ok-clause-reading
+returns-in_ok-only-in-Ok-clause-reading c =
     whole_reading (fitting (rw (c.in-Some.is, c.in-Fits.is) at c.in_ok-written.ensures)) c.in-Ok.range (inner.RangeSet c.in_ok-only-in-Ok.field-0) c.in-Ok.ensures.fits (sym c.if-is_empty.ensures) c.in-Ok.ensures.range (ap inner.RangeSet c.in_ok-only-in-Ok.ensures)
 
 pub returns-in-Ok-2-clause-refusal : goal.returns-in-Ok-2-clause-refusal
@@ -37,10 +37,10 @@ returns-in-Ok-2-clause-refusal c =
 pub returns-in-Err-clause-refusal : goal.returns-in-Err-clause-refusal
 returns-in-Err-clause-refusal c = rw (c.if-is_memory.ensures.0 refl) memory_wanting
 
-pub returns-clause-reading : goal.returns-clause-reading
-returns-clause-reading c =
+pub returns-in-Err-2-clause-reading : goal.returns-in-Err-2-clause-reading
+returns-in-Err-2-clause-reading c =
     IfOk-weaker c.whole_text_as_tag-in-Err-2.result _ _ (bound_reading (fitting (rw (c.in-Some.is, c.in-Fits.is) at c.in_ok-written.ensures)) c.in-Err.failure c.in-Err.ensures.refused (λ e. cc (c.if-is_memory.ensures.1 e))) c.whole_text_as_tag-in-Err-2.ensures.tag
 
-pub returns-clause-refusal : goal.returns-clause-refusal
-returns-clause-refusal c =
+pub returns-in-Err-2-clause-refusal : goal.returns-in-Err-2-clause-refusal
+returns-in-Err-2-clause-refusal c =
     IfErr-weaker c.whole_text_as_tag-in-Err-2.result _ _ (bound_refusal (fitting (rw (c.in-Some.is, c.in-Fits.is) at c.in_ok-written.ensures)) c.in-Err.failure c.in-Err.ensures.refused (λ e. cc (c.if-is_memory.ensures.1 e))) c.whole_text_as_tag-in-Err-2.ensures.no_tag

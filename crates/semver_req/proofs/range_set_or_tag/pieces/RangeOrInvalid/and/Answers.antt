@@ -1,10 +1,12 @@
+use Rattle.std.proofs.Common.{◌∙◌}
+use Rattle.std.proofs.lemmas.Result.{IfOk-weaker}
 use Rattle.semver_req.proofs.Joining.{and_bound, and_range}
 use Rattle.semver_req.proofs.range_set_or_tag.pieces.RangeOrInvalid.and.Goals as goal
 
-pub returns-in-Ok-clause-value : goal.returns-in-Ok-clause-value
-returns-in-Ok-clause-value c = λ cs p is seen.
+pub returns-in_ok-clamp_into-in-Ok-clause-value : goal.returns-in_ok-clamp_into-in-Ok-clause-value
+returns-in_ok-clamp_into-in-Ok-clause-value c = λ cs p is seen.
     and_range c.args.written.mark cs p (rw c.in-Range.is at is) (rw c.in-Fits.is at seen) c.in-Ok.ensures.range c.in-Ok.ensures.fits c.in_ok-clamp_into-in-Ok.ensures.value
 
-pub returns-clause-value : goal.returns-clause-value
-returns-clause-value c = λ cs p is seen.
-    and_bound c.args.written.mark cs p (rw c.in-Range.is at is) (rw c.in-Fits.is at seen) c.in-Err.ensures.refused (λ e. cc (c.if-is_memory.ensures.1 e))
+pub returns-in-Err-clause-value : goal.returns-in-Err-clause-value
+returns-in-Err-clause-value c = λ cs p is seen.
+    IfOk-weaker c.no_range.result _ _ (λ read bound. bound.0 ∙ and_bound c.args.written.mark cs p (rw c.in-Range.is at is) (rw c.in-Fits.is at seen) c.in-Err.ensures.refused bound.1) c.no_range.ensures.bound
