@@ -39,22 +39,21 @@ pub fn reqs_to_json(alloc: Global, reqs: &[PackageReq]) -> Result<Value, AllocEr
     stored(alloc, reqs)
 }
 
-// The requirements that the items stand for, in order.
-fn of_items(alloc: Global, items: &[Value]) -> Result<Vec<PackageReq>, JsonError>
+// The values that the items stand for, in order.
+fn of_items<T: JsonForm>(alloc: Global, items: &[Value]) -> Result<Vec<T>, JsonError>
     ensures read { IfOk result
-        (λ reqs. AreItemsOf (IsStringOf IsTextOfReq) (items_view items.now) reqs.items) }
-    ensures answer { (reqs : List PackageReq)
-        → AreItemsOf (IsStringOf IsTextOfReq) (items_view items.now) reqs
-        → MatchResult result (λ read. read.items ≡ reqs) (λ e. e ≡ JsonError.Memory) }
+        (λ values. AreItemsOf T.stands_for (items_view items.now) values.items) }
+    ensures answer { (values : List T) → AreItemsOf T.stands_for (items_view items.now) values
+        → MatchResult result (λ read. read.items ≡ values) (λ e. e ≡ JsonError.Memory) }
 {
-    let mut reqs = Vec::new(alloc);
+    let mut values = Vec::new(alloc);
     for item in items {
-        let req = PackageReq::from_json(alloc, item)?;
-        if reqs.push(req).is_err() {
+        let value = T::from_json(alloc, item)?;
+        if values.push(value).is_err() {
             return Err(JsonError::Memory);
         }
     }
-    Ok(reqs)
+    Ok(values)
 }
 
 // The same requirements in ascending order.

@@ -1,8 +1,8 @@
 //! Values whose JSON is an object or an array.
 
-ghost use Rattle.std.specs.Prelude.{◌≡◌, ◌↔◌, IfOk, IsTrue, List, MatchOption, codes, length, map};
-ghost use Rattle.serde_json.specs.Data.{Data, member, no_members, object, string};
-ghost use Rattle.serde_json.specs.View.{items_view, view};
+ghost use Rattle.std.specs.Prelude.{◌≡◌, ◌↔◌, IfOk, IsTrue, List, MatchOption, OnOk, codes, length, map};
+ghost use Rattle.serde_json.specs.Data.{Data, member, no_members, object, put as with_member, string};
+ghost use Rattle.serde_json.specs.View.{items_view, members_view, view};
 ghost use Rattle.semver_base.specs.declared.range.VersionRange.{VersionRange};
 ghost use Rattle.deno_semver.specs.Json.{AreItemsOf, IsJsonOfBound, IsJsonOfRange, IsJsonOfRangeBound, IsJsonOfSet, IsJsonOfVersionReq, IsMemberOf, bound_json, range_bound_json, range_json, set_json, version_req_json};
 ghost use Rattle.deno_semver.specs.JsonAnswers.{IsJsonAnswer};
@@ -16,7 +16,7 @@ use semver_base::string::{CowVec, SmallStackString};
 use semver_base::version::Version;
 use semver_req::range_set_or_tag::RangeSetOrTag;
 use semver_req::req::VersionReq;
-use serde_json::{Map, Value, json};
+use serde_json::{Map, Value, put};
 use std::alloc::{AllocError, Global};
 
 // The value that is read of the member of an object with this key.
@@ -48,6 +48,20 @@ fn of_members<A: JsonForm, B: JsonForm>(
     Ok((one, other))
 }
 
+// Puts the JSON of a value into an object, under this key.
+#[inline(always)]
+fn put_json<T: JsonForm>(
+    alloc: Global,
+    members: &mut Map<String, Value>,
+    key: &str,
+    value: &T,
+) -> Result<(), AllocError>
+    ensures { OnOk result (members_view members.new.entries
+        ≡ with_member key.now (T.json value.now) (members_view members.old.entries)) }
+{
+    put(members, alloc, key, value.to_json(alloc)?)
+}
+
 /// An object with the members `kind` and `version`.
 impl JsonForm for VersionBound {
     ghost json = { bound_json };
@@ -55,9 +69,10 @@ impl JsonForm for VersionBound {
     ghost stands_for = { IsJsonOfBound };
 
     fn to_json(&self, alloc: Global) -> Result<Value, AllocError> {
-        let kind = self.kind.to_json(alloc)?;
-        let version = self.version.to_json(alloc)?;
-        json!(in alloc; {"kind": kind, "version": version})
+        let mut members = Map::new(alloc);
+        put_json(alloc, &mut members, "kind", &self.kind)?;
+        put_json(alloc, &mut members, "version", &self.version)?;
+        Ok(Value::Object(members))
     }
 
     fn from_json(alloc: Global, value: &Value) -> Result<Self, JsonError> {
@@ -112,8 +127,9 @@ impl JsonForm for RangeBound {
         match self {
             RangeBound::Unbounded => unbounded(alloc),
             RangeBound::Version(bound) => {
-                let bound = bound.to_json(alloc)?;
-                json!(in alloc; {"Version": bound})
+                let mut members = Map::new(alloc);
+                put_json(alloc, &mut members, "Version", bound)?;
+                Ok(Value::Object(members))
             }
         }
     }
@@ -136,9 +152,10 @@ impl JsonForm for VersionRange {
     ghost stands_for = { IsJsonOfRange };
 
     fn to_json(&self, alloc: Global) -> Result<Value, AllocError> {
-        let start = self.start.to_json(alloc)?;
-        let end = self.end.to_json(alloc)?;
-        json!(in alloc; {"start": start, "end": end})
+        let mut members = Map::new(alloc);
+        put_json(alloc, &mut members, "start", &self.start)?;
+        put_json(alloc, &mut members, "end", &self.end)?;
+        Ok(Value::Object(members))
     }
 
     fn from_json(alloc: Global, value: &Value) -> Result<Self, JsonError> {
@@ -201,9 +218,11 @@ impl JsonForm for VersionReq {
     ghost stands_for = { IsJsonOfVersionReq };
 
     fn to_json(&self, alloc: Global) -> Result<Value, AllocError> {
-        let inner = self.inner().to_json(alloc)?;
-        let raw_text = self.version_text();
-        json!(in alloc; {"inner": inner, "raw_text": raw_text})
+        let mut members = Map::new(alloc);
+        put_json(alloc, &mut members, "inner", self.inner())?;
+        let raw_text = Value::try_from_str(alloc, self.version_text())?;
+        put(&mut members, alloc, "raw_text", raw_text)?;
+        Ok(Value::Object(members))
     }
 
     fn from_json(alloc: Global, value: &Value) -> Result<Self, JsonError> {

@@ -92,7 +92,11 @@ impl TextForm for Version {
     fn of_text(alloc: Global, text: &str) -> Result<Self, JsonError> {
         match Version::parse_standard(alloc, text) {
             Ok(version) => Ok(version),
-            Err(error) => Err(JsonError::of_reader(error.is_memory())),
+            Err(error) => {
+                let is_memory = error.is_memory();
+                drop(error);
+                Err(JsonError::of_reader(is_memory))
+            }
         }
     }
 }
@@ -103,7 +107,11 @@ impl TextForm for PackageNv {
     fn of_text(alloc: Global, text: &str) -> Result<Self, JsonError> {
         match PackageNv::from_str(alloc, text) {
             Ok(nv) => Ok(nv),
-            Err(error) => Err(JsonError::of_reader(error.is_memory())),
+            Err(error) => {
+                let is_memory = error.is_memory();
+                drop(error);
+                Err(JsonError::of_reader(is_memory))
+            }
         }
     }
 }
@@ -114,7 +122,11 @@ impl TextForm for PackageReq {
     fn of_text(alloc: Global, text: &str) -> Result<Self, JsonError> {
         match PackageReq::from_str_normalized(alloc, text) {
             Ok(req) => Ok(req),
-            Err(error) => Err(JsonError::of_reader(error.is_memory())),
+            Err(error) => {
+                let is_memory = error.is_memory();
+                drop(error);
+                Err(JsonError::of_reader(is_memory))
+            }
         }
     }
 }
@@ -125,7 +137,11 @@ impl TextForm for JsrPackageNvReference {
     fn of_text(alloc: Global, text: &str) -> Result<Self, JsonError> {
         match JsrPackageNvReference::from_str(alloc, text) {
             Ok(reference) => Ok(reference),
-            Err(error) => Err(JsonError::of_reader(error.is_memory())),
+            Err(error) => {
+                let is_memory = error.is_memory();
+                drop(error);
+                Err(JsonError::of_reader(is_memory))
+            }
         }
     }
 }
@@ -136,7 +152,11 @@ impl TextForm for NpmPackageNvReference {
     fn of_text(alloc: Global, text: &str) -> Result<Self, JsonError> {
         match NpmPackageNvReference::from_str(alloc, text) {
             Ok(reference) => Ok(reference),
-            Err(error) => Err(JsonError::of_reader(error.is_memory())),
+            Err(error) => {
+                let is_memory = error.is_memory();
+                drop(error);
+                Err(JsonError::of_reader(is_memory))
+            }
         }
     }
 }
@@ -147,7 +167,11 @@ impl TextForm for JsrDepPackageReq {
     fn of_text(alloc: Global, text: &str) -> Result<Self, JsonError> {
         match JsrDepPackageReq::from_str_normalized(alloc, text) {
             Ok(dependency) => Ok(dependency),
-            Err(error) => Err(JsonError::of_reader(error.is_memory())),
+            Err(error) => {
+                let is_memory = error.is_memory();
+                drop(error);
+                Err(JsonError::of_reader(is_memory))
+            }
         }
     }
 }
@@ -159,7 +183,11 @@ impl TextForm for RangeSetOrTag {
         texts_have_one_outcome();
         match RangeSetOrTag::parse(alloc, text) {
             Ok(inner) => Ok(inner),
-            Err(failure) => Err(JsonError::of_reader(failure.is_memory())),
+            Err(failure) => {
+                let is_memory = failure.is_memory();
+                drop(failure);
+                Err(JsonError::of_reader(is_memory))
+            }
         }
     }
 }

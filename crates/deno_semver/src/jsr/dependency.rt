@@ -9,7 +9,7 @@ ghost use Rattle.deno_semver.specs.declared.jsr.dependency.JsrDepPackageReq.{Jsr
 ghost use Rattle.deno_semver.specs.declared.package.kind.PackageKind.TheVariants as kind;
 
 use crate::package::{PackageKind, PackageReq, PackageReqParseError, package_req};
-use semver_base::string::{StackString, StringAppendable, StringType, append_displayed};
+use semver_base::string::{StackString, StringAppendable, StringType, append_displayed, displayed};
 use semver_req::common::values::Flavour;
 use std::alloc::{AllocError, Global};
 use std::cmp::Ordering;
@@ -35,6 +35,7 @@ impl From<PackageReqParseError> for JsrDepPackageReqParseError {
 
     fn from(error: PackageReqParseError) -> JsrDepPackageReqParseError {
         if error.is_memory() {
+            drop(error);
             return JsrDepPackageReqParseError::Memory;
         }
         JsrDepPackageReqParseError::PackageReqParse(error)
@@ -195,10 +196,10 @@ impl JsrDepPackageReq {
     pub fn to_string_normalized(&self, alloc: Global) -> Result<StackString, AllocError>
         ensures { IfOk result (λ text. text ≡ normal_dependency_text self.now) }
     {
-        let normal = self.req.to_string_normalized(alloc)?;
-        let mut text = StackString::from_static(alloc, self.kind.scheme_with_colon())?;
-        text.push_str(normal.as_str())?;
-        Ok(text)
+        let (scheme, req) = (self.kind.scheme_with_colon(), &self.req);
+        let (name, inner) = (&req.name, req.version_req.inner());
+        let text = displayed(alloc, &format_args!("{scheme}{name}@{inner}"))?;
+        StackString::from_string(alloc, text)
     }
 
     /// The same dependency again. It is an error only where no memory is left.
@@ -250,8 +251,9 @@ impl Ord for JsrDepPackageReq {
     ghost matches_eq = { dependency_ties };
 
     fn cmp(&self, other: &JsrDepPackageReq) -> Ordering {
-        self.kind
-            .cmp(&other.kind)
-            .then_with(|| self.req.cmp(&other.req))
+        match self.kind.cmp(&other.kind) {
+            Ordering::Equal => self.req.cmp(&other.req),
+            unequal => unequal,
+        }
     }
 }

@@ -34,18 +34,19 @@ pub(crate) fn without_slash(text: &str) -> &str
     }
 }
 
-// How many bytes stand before the first `/`.
-fn before_slash(bytes: &[u8]) -> usize
-    ensures { result ≡ length (take_while (is_not slash) bytes.now) }
+/// How many bytes stand before the first one that is `byte`.
+#[inline(always)]
+pub(super) fn count_before(byte: u8, bytes: &[u8]) -> usize
+    ensures { result ≡ length (take_while (is_not byte) bytes.now) }
 {
-    bytes.iter().take_while(|b| **b != b'/').count()
+    bytes.iter().take_while(|b| **b != byte).count()
 }
 
 // What stands before the first `/`, and what follows from that on.
 fn segment_and_rest(text: &str) -> (&str, &str)
     ensures { CutsRun (is_not slash) text.now result.0.now result.1.now }
 {
-    text.split_at(before_slash(text.as_bytes()))
+    text.split_at(count_before(b'/', text.as_bytes()))
 }
 
 // What follows the `/` at the front, or nothing.
@@ -114,7 +115,7 @@ pub(crate) fn parts_of(text: &str) -> Result<Cut<'_>, PackageReqPartsParseError>
 fn holds_slash(bytes: &[u8]) -> bool
     ensures { result ≡ list_any (λ b. b == slash) bytes.now }
 {
-    bytes.iter().any(|b| *b == b'/')
+    bytes.contains(&b'/')
 }
 
 /// Whether the text holds a `/` and doesn't begin with `@`.

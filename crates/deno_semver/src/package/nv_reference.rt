@@ -82,6 +82,7 @@ fn with_rest(
         return Ok(PackageNvReference { nv, sub_path: None });
     }
     let Some(path) = after(rest, '/') else {
+        drop(nv);
         return Err(unexpected(alloc, whole));
     };
     match PackageSubPath::from_str(alloc, path) {
@@ -89,7 +90,10 @@ fn with_rest(
             nv,
             sub_path: Some(path),
         }),
-        Err(_) => Err(memory(alloc)),
+        Err(_) => {
+            drop(nv);
+            Err(memory(alloc))
+        }
     }
 }
 
@@ -125,8 +129,8 @@ impl PackageNvReference {
         ensures { IfOk result (λ reference. reference ≡ self.now) }
     {
         Ok(PackageNvReference {
-            nv: self.nv.copy()?,
             sub_path: copied_sub_path(&self.sub_path)?,
+            nv: self.nv.copy()?,
         })
     }
 }
@@ -172,8 +176,9 @@ impl Ord for PackageNvReference {
     ghost matches_eq = { nv_reference_ties };
 
     fn cmp(&self, other: &PackageNvReference) -> Ordering {
-        self.nv
-            .cmp(&other.nv)
-            .then_with(|| self.sub_path.cmp(&other.sub_path))
+        match self.nv.cmp(&other.nv) {
+            Ordering::Equal => self.sub_path.cmp(&other.sub_path),
+            unequal => unequal,
+        }
     }
 }

@@ -31,7 +31,7 @@ fn cmp_version(a: &VersionBound, b: &VersionBound) -> Ordering
 fn cmp_bound(a: &VersionBound, b: &VersionBound) -> Ordering
     ensures { result ≡ bound_cmp a.now b.now }
 {
-    cmp_version(a, b).then_with(|| kind_place(a.kind).cmp(&kind_place(b.kind)))
+    cmp_version(a, b).then(kind_place(a.kind).cmp(&kind_place(b.kind)))
 }
 
 // The higher version first, then an exclusive bound, and no start last.
@@ -61,7 +61,10 @@ fn cmp_ends(a: &RangeBound, b: &RangeBound) -> Ordering
 fn cmp_range(a: &VersionRange, b: &VersionRange) -> Ordering
     ensures { result ≡ range_cmp a.now b.now }
 {
-    cmp_starts(&a.start, &b.start).then_with(|| cmp_ends(&a.end, &b.end))
+    match cmp_starts(&a.start, &b.start) {
+        Ordering::Equal => cmp_ends(&a.end, &b.end),
+        unequal => unequal,
+    }
 }
 
 fn cmp_ranges(a: &[VersionRange], b: &[VersionRange]) -> Ordering
@@ -95,7 +98,10 @@ fn cmp_build(a: &RangeBound, b: &RangeBound) -> Ordering
 fn cmp_range_builds(a: &VersionRange, b: &VersionRange) -> Ordering
     ensures { result ≡ builds_cmp a.now b.now }
 {
-    cmp_build(&a.start, &b.start).then_with(|| cmp_build(&a.end, &b.end))
+    match cmp_build(&a.start, &b.start) {
+        Ordering::Equal => cmp_build(&a.end, &b.end),
+        unequal => unequal,
+    }
 }
 
 fn cmp_builds(a: &[VersionRange], b: &[VersionRange]) -> Ordering
@@ -120,7 +126,10 @@ fn cmp_inner(a: &RangeSetOrTag, b: &RangeSetOrTag) -> Ordering
         (RangeSetOrTag::RangeSet(_), RangeSetOrTag::Tag(_)) => Ordering::Greater,
         (RangeSetOrTag::RangeSet(a), RangeSetOrTag::RangeSet(b)) => {
             let (a, b) = (a.0.iter().as_slice(), b.0.iter().as_slice());
-            cmp_ranges(a, b).then_with(|| cmp_builds(a, b))
+            match cmp_ranges(a, b) {
+                Ordering::Equal => cmp_builds(a, b),
+                unequal => unequal,
+            }
         }
     }
 }
@@ -145,9 +154,9 @@ impl Ord for PackageReq {
     ghost matches_eq = { req_ties };
 
     fn cmp(&self, other: &PackageReq) -> Ordering {
-        self.name.cmp(&other.name).then_with(|| cmp_inner(
-            self.version_req.inner(),
-            other.version_req.inner(),
-        ))
+        match self.name.cmp(&other.name) {
+            Ordering::Equal => cmp_inner(self.version_req.inner(), other.version_req.inner()),
+            unequal => unequal,
+        }
     }
 }

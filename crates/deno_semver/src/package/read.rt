@@ -27,7 +27,10 @@ fn specifier(alloc: Global, text: &str) -> Result<VersionReq, PackageReqPartsPar
 {
     match VersionReq::parse_from_specifier(alloc, text) {
         Ok(req) => Ok(req),
-        Err(error) if error.is_memory() => Err(PackageReqPartsParseError::Memory),
+        Err(error) if error.is_memory() => {
+            drop(error);
+            Err(PackageReqPartsParseError::Memory)
+        }
         Err(error) => Err(PackageReqPartsParseError::SpecifierVersionReq(error)),
     }
 }
@@ -39,7 +42,10 @@ fn npm(alloc: Global, text: &str) -> Result<VersionReq, PackageReqPartsParseErro
 {
     match VersionReq::parse_from_npm(alloc, text) {
         Ok(req) => Ok(req),
-        Err(error) if error.is_memory() => Err(PackageReqPartsParseError::Memory),
+        Err(error) if error.is_memory() => {
+            drop(error);
+            Err(PackageReqPartsParseError::Memory)
+        }
         Err(error) => Err(PackageReqPartsParseError::NpmVersionReq(error)),
     }
 }
@@ -51,7 +57,10 @@ fn normalized(alloc: Global, text: &str) -> Result<VersionReq, PackageReqPartsPa
 {
     match VersionReq::parse_from_normalized(alloc, text) {
         Ok(req) => Ok(req),
-        Err(error) if error.is_memory() => Err(PackageReqPartsParseError::Memory),
+        Err(error) if error.is_memory() => {
+            drop(error);
+            Err(PackageReqPartsParseError::Memory)
+        }
         Err(error) => Err(PackageReqPartsParseError::NormalizedVersionReq(error)),
     }
 }
@@ -109,6 +118,7 @@ fn path_error(alloc: Global, tail: &str) -> PackageReqPartsParseError
 {
     let source = ParseFailure::with_texts(alloc, "Unexpected character '/'", Some(tail));
     if source.is_memory() {
+        drop(source);
         return PackageReqPartsParseError::Memory;
     }
     PackageReqPartsParseError::SpecifierVersionReq(VersionReqSpecifierParseError { source })
@@ -134,7 +144,10 @@ pub(crate) fn read_with_path(
     };
     match full_name(alloc, cut.scope, cut.name) {
         Ok(name) => Ok((PackageReq { name, version_req }, cut.tail, cut.path)),
-        Err(_) => Err(PackageReqPartsParseError::Memory),
+        Err(_) => {
+            drop(version_req);
+            Err(PackageReqPartsParseError::Memory)
+        }
     }
 }
 
@@ -151,6 +164,7 @@ fn read(
         Err(error) => return Err(error),
     };
     if !path.is_empty() {
+        drop(req);
         return Err(path_error(alloc, tail));
     }
     Ok(req)
@@ -161,10 +175,10 @@ fn told_source(text: &str, source: PackageReqPartsParseError) -> PackageReqParts
     ensures { result ≡ told_source text.now source }
 {
     if lacks_at(text) {
-        PackageReqPartsParseError::MissingAtSymbol
-    } else {
-        source
+        drop(source);
+        return PackageReqPartsParseError::MissingAtSymbol;
     }
+    source
 }
 
 // The error with the whole text, or want of memory where there is none for it.
@@ -172,12 +186,16 @@ fn whole_error(alloc: Global, text: &str, source: PackageReqPartsParseError) -> 
     ensures { IsWantOfMemory result ⊎ TellsSource text.now source result }
 {
     if source.is_memory() {
+        drop(source);
         return PackageReqParseError::memory(alloc);
     }
     let source = told_source(text, source);
     match StackString::from_str(alloc, text) {
         Ok(text) => PackageReqParseError { text, source },
-        Err(_) => PackageReqParseError::memory(alloc),
+        Err(_) => {
+            drop(source);
+            PackageReqParseError::memory(alloc)
+        }
     }
 }
 

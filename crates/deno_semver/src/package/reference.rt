@@ -52,7 +52,10 @@ fn read(alloc: Global, body: &str) -> Result<PackageReqReference, PackageReqPart
     };
     match sub_path(alloc, path) {
         Ok(sub_path) => Ok(PackageReqReference { req, sub_path }),
-        Err(_) => Err(PackageReqPartsParseError::Memory),
+        Err(_) => {
+            drop(req);
+            Err(PackageReqPartsParseError::Memory)
+        }
     }
 }
 
@@ -65,9 +68,16 @@ fn boxed_invalid(
     ensures { IfOk result
         (λ error. error.value ≡ record { specifier = text.now; source = source }) }
 {
-    let specifier = StackString::from_str(alloc, text)?;
-    let error = PackageReqReferenceInvalidParseError { specifier, source };
-    Ok(Box::new(alloc, error)?)
+    match StackString::from_str(alloc, text) {
+        Ok(specifier) => {
+            let error = PackageReqReferenceInvalidParseError { specifier, source };
+            Ok(Box::new(alloc, error)?)
+        }
+        Err(error) => {
+            drop(source);
+            Err(error)
+        }
+    }
 }
 
 // The error with the whole text, or want of memory where there is none for it.
@@ -79,6 +89,7 @@ fn invalid(
     ensures { IsToldInvalid text.now source result }
 {
     if source.is_memory() {
+        drop(source);
         return PackageReqReferenceParseError::Memory;
     }
     match boxed_invalid(alloc, text, source) {
@@ -188,7 +199,9 @@ impl PackageReqReference {
             Err(source) => return Err(invalid(alloc, text, source)),
         };
         if let Some((before, version)) = version_in_path(&reference) {
-            return Err(told(alloc, kind, &reference, before, version));
+            let error = told(alloc, kind, &reference, before, version);
+            drop(reference);
+            return Err(error);
         }
         Ok(reference)
     }
@@ -198,8 +211,8 @@ impl PackageReqReference {
         ensures { IfOk result (λ reference. reference ≡ self.now) }
     {
         Ok(PackageReqReference {
-            req: self.req.copy()?,
             sub_path: copied_sub_path(&self.sub_path)?,
+            req: self.req.copy()?,
         })
     }
 }

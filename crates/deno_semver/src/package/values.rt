@@ -138,8 +138,9 @@ impl Ord for PackageNv {
     ghost matches_eq = { nv_ties };
 
     fn cmp(&self, other: &PackageNv) -> Ordering {
-        self.name
-            .cmp(&other.name)
-            .then_with(|| self.version.cmp(&other.version))
+        match self.name.cmp(&other.name) {
+            Ordering::Equal => self.version.cmp(&other.version),
+            unequal => unequal,
+        }
     }
 }

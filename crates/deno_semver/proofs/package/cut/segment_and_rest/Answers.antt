@@ -5,7 +5,7 @@ use Rattle.deno_semver.proofs.PackageText.{part_boundary}
 use Rattle.deno_semver.proofs.package.cut.segment_and_rest.Goals as goal
 
 pub split_at-requires : goal.split_at-requires
-split_at-requires c = part_boundary c.args.text.now c.before_slash.result (search rules)
+split_at-requires c = part_boundary c.args.text.now c.count_before.result (search rules)
 
 pub returns : goal.returns
-returns c = cuts_run (is_not 47) c.args.text.now c.split_at.result.0.now c.split_at.result.1.now c.before_slash.result (search rules) c.split_at.ensures.front c.split_at.ensures.back
+returns c = cuts_run (is_not 47) c.args.text.now c.split_at.result.0.now c.split_at.result.1.now c.count_before.result (search rules) c.split_at.ensures.front c.split_at.ensures.back

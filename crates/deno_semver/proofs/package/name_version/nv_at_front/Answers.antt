@@ -10,10 +10,10 @@ pub returns-in_default-clause-answer : goal.returns-in_default-clause-answer
 returns-in_default-clause-answer c = uncut_answer c.in_default.ensures c.unexpected.ensures
 
 pub returns-in-Err-clause-refused : goal.returns-in-Err-clause-refused
-returns-in-Err-clause-refused c = tells_version c.in-Some.ensures c.in-Err.ensures.refused c.version_error.ensures
+returns-in-Err-clause-refused c = tells_version c.in-Some.ensures c.in-Err.ensures.refused c.version_error-told.ensures
 
 pub returns-in-Err-clause-answer : goal.returns-in-Err-clause-answer
-returns-in-Err-clause-answer c = refused_answer (λ e. e.source) c.in-Some.ensures c.in-Err.error c.in-Err.ensures.answer c.version_error.ensures
+returns-in-Err-clause-answer c = refused_answer (λ e. e.source) c.in-Some.ensures c.in-Err.error c.in-Err.ensures.answer c.version_error-told.ensures
 
 pub returns-in-Ok-from_str-clause-read : goal.returns-in-Ok-from_str-clause-read
 returns-in-Ok-from_str-clause-read c = reads c.in-Some.ensures c.in-Ok-from_str.ensures.value c.in-Ok.ensures.read

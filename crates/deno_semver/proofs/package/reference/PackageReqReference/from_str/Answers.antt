@@ -17,10 +17,10 @@ pub returns-in-Err-clause-answer : goal.returns-in-Err-clause-answer
 returns-in-Err-clause-answer c = refused_answer c.texts_have_one_outcome.ensures (refused_text c.in-Some.ensures c.in-Err.ensures c.invalid.ensures)
 
 pub returns-in-Some-version_in_path-clause-refused : goal.returns-in-Some-version_in_path-clause-refused
-returns-in-Some-version_in_path-clause-refused c = refused_version c.in-Some.ensures c.in-Ok.ensures c.in-Some-version_in_path.ensures c.told.ensures
+returns-in-Some-version_in_path-clause-refused c = refused_version c.in-Some.ensures c.in-Ok.ensures c.in-Some-version_in_path.ensures c.told-error.ensures
 
 pub returns-in-Some-version_in_path-clause-answer : goal.returns-in-Some-version_in_path-clause-answer
-returns-in-Some-version_in_path-clause-answer c = refused_answer c.texts_have_one_outcome.ensures (refused_version c.in-Some.ensures c.in-Ok.ensures c.in-Some-version_in_path.ensures c.told.ensures)
+returns-in-Some-version_in_path-clause-answer c = refused_answer c.texts_have_one_outcome.ensures (refused_version c.in-Some.ensures c.in-Ok.ensures c.in-Some-version_in_path.ensures c.told-error.ensures)
 
 pub returns-clause-read : goal.returns-clause-read
 returns-clause-read c = is_reference c.in-Some.ensures c.in-Ok.ensures c.in_default-version_in_path.ensures
