@@ -12,8 +12,9 @@ ghost use Rattle.semver_base.specs.declared.failure.Refusal.{Refusal};
 ghost use Rattle.semver_base.specs.Grammar.{IsLongest, IsSeen, Optional, Prefixed};
 ghost use Rattle.semver_base.specs.Lexical.{IsBlanks, IsByte};
 ghost use Rattle.semver_base.specs.VersionGrammar.{IsLead, IsVersionAnswer, IsVersionOutcome, IsVersionRefusal, ignored, version_failure};
-ghost use Rattle.semver_base.specs.VersionReaderSteps.{IsFittingNumber, IsFittingTriple, IsNumberRefusal, IsQualified, IsReadVersion, IsTripleRefusal};
+ghost use Rattle.semver_base.specs.VersionReaderSteps.{IsFittingNumber, IsFittingTriple, IsNumberRefusal, IsReadVersion, IsTripleRefusal};
 ghost use Rattle.semver_base.specs.Meaning.{release};
+ghost use Rattle.semver_base.specs.PlainTexts.{IsTripleFront};
 ghost use Rattle.semver_base.specs.Precedence.{identifier_cmp, number_of, numbers_cmp, pre_cmp, precedence_cmp, qualifiers_cmp, version_cmp};
 ghost use Rattle.semver_base.specs.PrecedenceLaws.{version_po, version_ties, version_total, SamePrecedence};
 ghost use Rattle.semver_base.specs.VersionText.{ReadsBack, prefixed, version_text};
@@ -121,16 +122,21 @@ impl Version {
             → IsVersionOutcome (trim text.now) outcome
             → IsVersionAnswer (λ (error : VersionParseError). error.source) (trim text.now) outcome result }
     {
-        if let Some((numbers, rest)) = split_numbers(text) {
-            if rest.is_empty() {
+        let read = match split_numbers(text) {
+            Some((numbers, rest)) if rest.is_empty() => {
                 return Ok(release(alloc, numbers.major, numbers.minor, numbers.patch));
             }
-            let plain = qualified(alloc, numbers, rest)?;
-            if let Some(version) = plain {
-                return Ok(version);
+            Some((numbers, rest)) => {
+                let Numbers {
+                    major,
+                    minor,
+                    patch,
+                } = numbers;
+                read_on(alloc, text, major, minor, patch, rest)
             }
-        }
-        match read(alloc, text.trim()) {
+            None => read(alloc, text.trim()),
+        };
+        match read {
             Ok(version) => Ok(version),
             Err(source) => Err(VersionParseError { source }),
         }
@@ -272,22 +278,32 @@ fn failure(alloc: Global, refusal: Refusal, text: &str) -> ParseFailure
     ParseFailure::with_texts(alloc, refusal.message(), snippet)
 }
 
-// The version of these numbers and the qualifier that the whole text is. Where it answers `None` nothing is known.
+// The version of a text that goes on after these three numbers.
 #[inline(never)]
-fn qualified(alloc: Global, numbers: Numbers, text: &str) -> Result<Option<Version>, AllocError>
-    ensures { IfOk result (λ r. IfSome r (IsQualified numbers text.now)) }
+fn read_on(
+    alloc: Global,
+    text: &str,
+    major: u64,
+    minor: u64,
+    patch: u64,
+    rest: &str,
+) -> Result<Version, ParseFailure>
+    requires { IsTripleFront text.now major minor patch rest.now }
+    ensures read { IfOk result (IsReadVersion (trim text.now)) }
+    ensures refused { IfErr result (IsVersionRefusal (trim text.now)) }
 {
-    let (qualifier, rest) = lexical::qualifier(alloc, text, Strictness::Loose)?;
-    if !rest.is_empty() {
-        return Ok(None);
+    let (qualifier, rest) = lexical::qualifier(alloc, rest, Strictness::Loose)?;
+    if rest.is_empty() {
+        return Ok(Version {
+            major,
+            minor,
+            patch,
+            pre: qualifier.pre,
+            build: qualifier.build,
+        });
     }
-    Ok(Some(Version {
-        major: numbers.major,
-        minor: numbers.minor,
-        patch: numbers.patch,
-        pre: qualifier.pre,
-        build: qualifier.build,
-    }))
+    drop(qualifier);
+    read(alloc, text.trim())
 }
 
 // The version that a trimmed text stands for.

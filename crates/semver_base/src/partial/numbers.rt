@@ -3,7 +3,7 @@
 //!
 //! A range is made as numbers first, which are cheap to move, and put together where it stays.
 
-ghost use Rattle.std.specs.Prelude.{◌≡◌, [], IfSome};
+ghost use Rattle.std.specs.Prelude.{◌≡◌, ◌+◌, ◌∷◌, [], IfSome};
 ghost use Rattle.semver_base.specs.Meaning.{release};
 ghost use Rattle.semver_base.specs.PartialTable.{IsLineRange, caret, equal, lower_to_below, lowest, of_few, release_of, release_range, tilde};
 
@@ -78,15 +78,33 @@ impl FewNumbers {
         }
     }
 
+    // From these numbers to below the next major version; none where its number is too large.
+    #[inline(always)]
+    fn to_next_major(self, major: u64) -> Option<ReleaseRange>
+        ensures { let end = release (major + 1) 0 0 in IfSome result (λ range.
+            IsLineRange (lower_to_below (of_few self) end ((major + 1) ∷ [])) (release_range range)) }
+    {
+        Some(self.to_below(major.checked_add(1)?, 0, 0))
+    }
+
+    // From these numbers to below the next minor version; none where its number is too large.
+    #[inline(always)]
+    fn to_next_minor(self, major: u64, minor: u64) -> Option<ReleaseRange>
+        ensures { let end = release major (minor + 1) 0 in IfSome result (λ range.
+            IsLineRange (lower_to_below (of_few self) end ((minor + 1) ∷ [])) (release_range range)) }
+    {
+        Some(self.to_below(major, minor.checked_add(1)?, 0))
+    }
+
     /// The range of `~` and these numbers, as [`Partial::as_tilde_version_range`] has it; none where a bound is too large.
     #[inline(always)]
     pub fn tilde_range(self) -> Option<ReleaseRange>
         ensures { IfSome result (λ range. IsLineRange (tilde (of_few self)) (release_range range)) }
     {
         match self {
-            FewNumbers::One(major) => Some(self.to_below(major.checked_add(1)?, 0, 0)),
-            FewNumbers::Two(major, minor) => Some(self.to_below(major, minor.checked_add(1)?, 0)),
-            FewNumbers::Three(n) => Some(self.to_below(n.major, n.minor.checked_add(1)?, 0)),
+            FewNumbers::One(major) => self.to_next_major(major),
+            FewNumbers::Two(major, minor) => self.to_next_minor(major, minor),
+            FewNumbers::Three(numbers) => self.to_next_minor(numbers.major, numbers.minor),
         }
     }
 
@@ -96,15 +114,11 @@ impl FewNumbers {
         ensures { IfSome result (λ range. IsLineRange (caret (of_few self)) (release_range range)) }
     {
         match self {
-            FewNumbers::One(major) => Some(self.to_below(major.checked_add(1)?, 0, 0)),
-            FewNumbers::Two(0, minor) => Some(self.to_below(0, minor.checked_add(1)?, 0)),
-            FewNumbers::Two(major, _) => Some(self.to_below(major.checked_add(1)?, 0, 0)),
-            FewNumbers::Three(n) if n.major > 0 => {
-                Some(self.to_below(n.major.checked_add(1)?, 0, 0))
-            }
-            FewNumbers::Three(n) if n.minor > 0 => {
-                Some(self.to_below(0, n.minor.checked_add(1)?, 0))
-            }
+            FewNumbers::One(major) => self.to_next_major(major),
+            FewNumbers::Two(0, minor) => self.to_next_minor(0, minor),
+            FewNumbers::Two(major, _) => self.to_next_major(major),
+            FewNumbers::Three(n) if n.major > 0 => self.to_next_major(n.major),
+            FewNumbers::Three(n) if n.minor > 0 => self.to_next_minor(0, n.minor),
             FewNumbers::Three(n) => Some(self.to_below(0, 0, n.patch.checked_add(1)?)),
         }
     }
@@ -115,8 +129,8 @@ impl FewNumbers {
         ensures { IfSome result (λ range. IsLineRange (equal (of_few self)) (release_range range)) }
     {
         match self {
-            FewNumbers::One(major) => Some(self.to_below(major.checked_add(1)?, 0, 0)),
-            FewNumbers::Two(major, minor) => Some(self.to_below(major, minor.checked_add(1)?, 0)),
+            FewNumbers::One(major) => self.to_next_major(major),
+            FewNumbers::Two(major, minor) => self.to_next_minor(major, minor),
             FewNumbers::Three(numbers) => Some(ReleaseRange {
                 start: numbers,
                 end: numbers,

@@ -11,7 +11,7 @@ ghost use Rattle.semver_base.specs.Meaning.{set_means_with};
 ghost use Rattle.semver_base.specs.NormalText.{AreWritableRanges};
 ghost use Rattle.semver_base.specs.VersionText.{ReadsBack};
 
-use crate::range::least::lesser;
+use crate::range::least::{Candidates, lesser};
 use crate::range::{PreRelease, RangeBound, VersionRange, VersionRangeSet};
 use crate::version::Version;
 use std::alloc::{AllocError, Global};
@@ -55,11 +55,13 @@ impl VersionRangeSet {
         ensures { let all = all_mean_with pre_release self.now.0 others.now in IfOk result
             (λ least. least ≡ least_from pre_release all range.now start.now) }
     {
-        let free = pre_release.least_free(alloc, start)?;
+        let Candidates {
+            free,
+            by_start,
+            by_end,
+        } = range.candidates(alloc, start, pre_release)?;
         let free = self.kept_by_all(others, pre_release, free);
-        let by_start = pre_release.least_admitted(alloc, start, &range.start)?;
         let by_start = self.kept_by_all(others, pre_release, by_start);
-        let by_end = pre_release.least_admitted(alloc, start, &range.end)?;
         let by_end = self.kept_by_all(others, pre_release, by_end);
         Ok(lesser(free, lesser(by_start, by_end)))
     }

@@ -172,33 +172,44 @@ fn least_version(alloc: Global, start: &RangeBound) -> Result<Option<Version>, A
     Ok(Some(pre_from(alloc, bound)?))
 }
 
-impl PreRelease {
-    // The least version above the start that no bound has to admit, if there is one.
-    pub(crate) fn least_free(
-        self,
-        alloc: Global,
-        start: &RangeBound,
-    ) -> Result<Option<Version>, AllocError>
-        ensures { IfOk result (λ least. least ≡ least_free self start.now) }
-    {
-        match self {
-            PreRelease::Restricted => Ok(least_release(alloc, start)),
-            PreRelease::Admitted => least_version(alloc, start),
-        }
-    }
+// The least versions above a start of each kind that may be the least one that a range matches.
+pub(crate) struct Candidates {
+    // One that no bound has to admit.
+    pub(crate) free: Option<Version>,
+    // One that the range's own start has to admit.
+    pub(crate) by_start: Option<Version>,
+    // One that its end has to.
+    pub(crate) by_end: Option<Version>,
+}
 
-    // The least version above the start that the bound has to admit, if there is one.
-    pub(crate) fn least_admitted(
-        self,
+impl VersionRange {
+    // Those of this range, above the start.
+    pub(crate) fn candidates(
+        &self,
         alloc: Global,
         start: &RangeBound,
-        bound: &RangeBound,
-    ) -> Result<Option<Version>, AllocError>
-        ensures { IfOk result (λ least. least ≡ least_admitted self start.now bound.now) }
+        pre_release: PreRelease,
+    ) -> Result<Candidates, AllocError>
+        ensures free { IfOk result (λ found. found.free ≡ least_free pre_release start.now) }
+        ensures by_start { IfOk result
+            (λ found. found.by_start ≡ least_admitted pre_release start.now self.now.start) }
+        ensures by_end { IfOk result
+            (λ found. found.by_end ≡ least_admitted pre_release start.now self.now.end) }
     {
-        match self {
-            PreRelease::Restricted => least_pre(alloc, start, bound),
-            PreRelease::Admitted => Ok(None),
+        match pre_release {
+            PreRelease::Restricted => {
+                let by_start = least_pre(alloc, start, &self.start)?;
+                Ok(Candidates {
+                    by_end: least_pre(alloc, start, &self.end)?,
+                    by_start,
+                    free: least_release(alloc, start),
+                })
+            }
+            PreRelease::Admitted => Ok(Candidates {
+                free: least_version(alloc, start)?,
+                by_start: None,
+                by_end: None,
+            }),
         }
     }
 }
@@ -256,10 +267,15 @@ impl VersionRange {
             → IfSome least ReadsBack) }
     {
         let start = self.start.clamp_start(alloc, &other.start)?;
-        let free = self.kept_by(other, pre_release, pre_release.least_free(alloc, &start)?);
-        let by_start = pre_release.least_admitted(alloc, &start, &self.start)?;
+        let found = self.candidates(alloc, &start, pre_release);
+        drop(start);
+        let Candidates {
+            free,
+            by_start,
+            by_end,
+        } = found?;
+        let free = self.kept_by(other, pre_release, free);
         let by_start = self.kept_by(other, pre_release, by_start);
-        let by_end = pre_release.least_admitted(alloc, &start, &self.end)?;
         let by_end = self.kept_by(other, pre_release, by_end);
         Ok(lesser(free, lesser(by_start, by_end)))
     }

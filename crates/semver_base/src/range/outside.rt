@@ -11,7 +11,7 @@ ghost use Rattle.semver_base.specs.Meaning.{set_means, set_means_with};
 ghost use Rattle.semver_base.specs.NormalText.{AreWritableRanges, IsWritableRange};
 ghost use Rattle.semver_base.specs.VersionText.{ReadsBack};
 
-use crate::range::least::lesser;
+use crate::range::least::{Candidates, lesser};
 use crate::range::{PreRelease, RangeBound, VersionBoundKind, VersionRange, VersionRangeSet};
 use crate::version::Version;
 use std::alloc::{AllocError, Global};
@@ -61,10 +61,13 @@ impl VersionRange {
         ensures { let alone = means_alone_with pre_release self.now others.now.0 in IfOk result
             (λ least. least ≡ least_from pre_release alone self.now start.now) }
     {
-        let free = self.kept_alone(others, pre_release, pre_release.least_free(alloc, start)?);
-        let by_start = pre_release.least_admitted(alloc, start, &self.start)?;
+        let Candidates {
+            free,
+            by_start,
+            by_end,
+        } = self.candidates(alloc, start, pre_release)?;
+        let free = self.kept_alone(others, pre_release, free);
         let by_start = self.kept_alone(others, pre_release, by_start);
-        let by_end = pre_release.least_admitted(alloc, start, &self.end)?;
         let by_end = self.kept_alone(others, pre_release, by_end);
         Ok(lesser(free, lesser(by_start, by_end)))
     }

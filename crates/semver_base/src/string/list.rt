@@ -143,6 +143,15 @@ fn copied<T: CowItem + Drop>(alloc: Global, items: &[T]) -> Result<Vec<T>, Alloc
     Ok(all)
 }
 
+// The items of a list, copied, and one more.
+fn extended<T: CowItem + Drop>(alloc: Global, items: &[T], item: T) -> Result<Items<T>, AllocError>
+    ensures { IfOk result (λ all. items_of all ≡ items.now ++ item ∷ []) }
+{
+    let mut all = copied(alloc, items)?;
+    all.push(item)?;
+    Ok(Items::Many(all))
+}
+
 impl<T: CowItem + Drop> Items<T> {
     // Appends `item`. Where no memory is left the items are unchanged and the item is dropped.
     fn push(&mut self, alloc: Global, item: T) -> Result<(), AllocError>
@@ -151,11 +160,7 @@ impl<T: CowItem + Drop> Items<T> {
     {
         match self {
             Items::Many(items) => items.push(item)?,
-            Items::One(_) => {
-                let mut items = copied(alloc, self.as_slice())?;
-                items.push(item)?;
-                *self = Items::Many(items);
-            }
+            Items::One(_) => *self = extended(alloc, self.as_slice(), item)?,
         }
         Ok(())
     }
@@ -168,22 +173,13 @@ impl<T: CowItem + Drop> CowVec<T> {
         ensures err { OnErr result (self.new ≡ self.old) }
     {
         let alloc = self.alloc;
-        match &mut self.items {
-            None => {
-                let mut items = Vec::new(alloc);
-                items.push(item)?;
-                self.items = Some(Rc::new(alloc, Items::Many(items))?);
-            }
-            Some(shared) => {
-                if let Some(items) = Rc::get_mut(shared) {
-                    items.push(alloc, item)?;
-                } else {
-                    let mut items = copied(alloc, shared.as_slice())?;
-                    items.push(item)?;
-                    *shared = Rc::new(alloc, Items::Many(items))?;
-                }
+        if let Some(shared) = &mut self.items {
+            if let Some(items) = Rc::get_mut(shared) {
+                return items.push(alloc, item);
             }
         }
+        let items = extended(alloc, self.as_slice(), item)?;
+        self.items = Some(Rc::new(alloc, items)?);
         Ok(())
     }
 

@@ -13,7 +13,7 @@ returns c =
     let own = c.args.self.now in
     let other = c.args.other.now in
     let is : c.lesser-2.result ≡ least_common flag own other =
-    rw (c.lesser-2.ensures, c.lesser.ensures, c.kept_by-free.ensures, c.kept_by-by_start.ensures, c.kept_by-by_end.ensures, c.in_ok-least_free.ensures, c.in_ok-by_start.ensures, c.in_ok-by_end.ensures, c.in_ok-start.ensures) in
+    rw (c.lesser-2.ensures, c.lesser.ensures, c.kept_by-free.ensures, c.kept_by-by_start.ensures, c.kept_by-by_end.ensures, c.in_ok-free.ensures.free, c.in_ok-free.ensures.by_start, c.in_ok-free.ensures.by_end, c.in_ok-start.ensures) in
     record {
       least = subst (IsLeast (both_mean_with flag own other)) (sym is) (common_least flag own other);
       no_build = subst (λ least. IfSome least HasNoBuild) (sym is) (common_no_build flag own other);
