@@ -1,6 +1,7 @@
 //! What words of a question stand for.
 //!
-//! The functions that tell an answer borrow the values, so that what is owned is dropped in few places.
+//! The functions that tell an answer borrow the values, so that what is owned is dropped in few places, and by name: what is left
+//! to the end of a scope makes a proof several times as long.
 
 use crate::shown;
 use crate::words::{Fault, Word};
@@ -24,10 +25,26 @@ pub fn version_of(alloc: Global, text: &str) -> Result<Version, Fault> {
     Ok(Version::parse_standard(alloc, text)?)
 }
 
+/// The text that the only word is.
+pub fn only<'a>(words: &[Word<'a>]) -> Result<&'a str, Fault> {
+    match words {
+        [Some(text)] => Ok(text),
+        _ => Err(Fault::Unreadable),
+    }
+}
+
 /// The two texts that the words are.
 pub fn pair<'a>(words: &[Word<'a>]) -> Result<(&'a str, &'a str), Fault> {
     match words {
         [Some(one), Some(other)] => Ok((one, other)),
+        _ => Err(Fault::Unreadable),
+    }
+}
+
+/// The three texts that the words are.
+pub fn triple<'a>(words: &[Word<'a>]) -> Result<(&'a str, &'a str, &'a str), Fault> {
+    match words {
+        [Some(first), Some(second), Some(third)] => Ok((first, second, third)),
         _ => Err(Fault::Unreadable),
     }
 }
@@ -50,10 +67,10 @@ pub struct Two<A, B> {
 }
 
 /// Both values, or why there is not the one or the other.
-pub fn both<A: Drop, B: Drop>(
-    one: Result<A, Fault>,
-    other: Result<B, Fault>,
-) -> Result<Two<A, B>, Fault> {
+pub fn both<A: Drop, B: Drop, E: Drop>(
+    one: Result<A, E>,
+    other: Result<B, E>,
+) -> Result<Two<A, B>, E> {
     Ok(Two {
         one: one?,
         other: other?,
@@ -81,9 +98,7 @@ pub fn two_requirements(
     alloc: Global,
     words: &[Word<'_>],
 ) -> Result<Two<VersionReq, VersionReq>, Fault> {
-    let [Some(reader), Some(left), Some(right)] = words else {
-        return Err(Fault::Unreadable);
-    };
+    let (reader, left, right) = triple(words)?;
     read_both(alloc, reader, left, right)
 }
 
@@ -92,9 +107,7 @@ pub fn requirement_and_version(
     alloc: Global,
     words: &[Word<'_>],
 ) -> Result<Two<VersionReq, Version>, Fault> {
-    let [Some(reader), Some(requirement), Some(version)] = words else {
-        return Err(Fault::Unreadable);
-    };
+    let (reader, requirement, version) = triple(words)?;
     both(read(alloc, reader, requirement), version_of(alloc, version))
 }
 

@@ -21,27 +21,25 @@ pub fn ask(alloc: Global, name: &str, words: &[Word<'_>]) -> Option<Answer> {
 // stands for there.
 fn partial(alloc: Global, words: &[Word<'_>]) -> Answer {
     let (asked, text) = pair(words)?;
-    told_partial(alloc, asked, &copied(alloc, text)?)
+    let partial = copied(alloc, text)?;
+    let told = told_partial(alloc, asked, &partial);
+    drop(partial);
+    told
 }
 
 fn copied(alloc: Global, text: &str) -> Result<Partial, Fault> {
-    Ok(shown::partial_of(alloc, text)?.copy()?)
+    let partial = shown::partial_of(alloc, text)?;
+    let copy = partial.copy();
+    drop(partial);
+    Ok(copy?)
 }
 
 fn told_partial(alloc: Global, asked: &str, partial: &Partial) -> Answer {
     match asked {
-        "lower" => lower(alloc, partial),
-        "upper" => upper(alloc, partial),
-        _ => told(alloc, &range(alloc, asked, partial)?),
+        "lower" => told_start(alloc, partial.as_lower_bound(alloc)?),
+        "upper" => told_end(alloc, partial.as_upper_bound(alloc)?),
+        _ => told(alloc, range(alloc, asked, partial)?),
     }
-}
-
-fn lower(alloc: Global, partial: &Partial) -> Answer {
-    told_start(alloc, &partial.as_lower_bound(alloc)?)
-}
-
-fn upper(alloc: Global, partial: &Partial) -> Answer {
-    told_end(alloc, &partial.as_upper_bound(alloc)?)
 }
 
 // The range of a partial version after this word or primitive kind.

@@ -3,7 +3,7 @@
 ghost use Rattle.std.specs.Prelude.{IfOk};
 ghost use Rattle.std.specs.Str.{IsCharBoundary};
 
-use crate::asked::pair;
+use crate::asked::{pair, triple};
 use crate::ranges::told;
 use crate::shown;
 use crate::words::{Answer, Fault, Word, single, two};
@@ -46,43 +46,58 @@ fn place_in(text: &str, word: &str) -> Result<usize, Fault>
     }
 }
 
+// The grammar, the text and the place in it that the words are.
+fn place_of<'a>(words: &[Word<'a>]) -> Result<(Flavour, &'a str, usize), Fault>
+    ensures { IfOk result (λ asked. IsCharBoundary asked.1.now asked.2) }
+{
+    let (flavour, text, place) = triple(words)?;
+    let place = place_in(text, place)?;
+    Ok((flavour_of(flavour)?, text, place))
+}
+
 // `partial-at`, a grammar, a text and a place: the partial version there and what follows it; `none`, or `too large`
 // where a number in it doesn't fit.
 fn partial_at(alloc: Global, words: &[Word<'_>]) -> Answer {
-    let [Some(flavour), Some(text), Some(place)] = words else {
-        return Err(Fault::Unreadable);
-    };
-    let place = place_in(text, place)?;
-    match &common::partial(alloc, text, place, flavour_of(flavour)?)? {
+    let (flavour, text, place) = place_of(words)?;
+    match common::partial(alloc, text, place, flavour)? {
         None => single(alloc, "none"),
-        Some((value, reached)) => told_partial(alloc, value, &text[*reached..]),
+        Some((value, reached)) => {
+            let told = told_partial(alloc, &value, &text[reached..]);
+            drop(value);
+            told
+        }
     }
 }
 
 fn told_partial(alloc: Global, partial: &Measured<Partial>, rest: &str) -> Answer {
     match partial {
         Measured::TooLarge => two(alloc, "too large", rest),
-        Measured::Fits(partial) => two(alloc, shown::partial(alloc, partial)?.as_str(), rest),
+        Measured::Fits(partial) => told_front(alloc, shown::partial(alloc, partial), rest),
     }
+}
+
+// The text of what was read, and what follows it.
+fn told_front(alloc: Global, front: Result<String, AllocError>, rest: &str) -> Answer {
+    let front = front?;
+    let told = two(alloc, front.as_str(), rest);
+    drop(front);
+    told
 }
 
 // `qualifier-at`, a grammar, a text and a place: the pre-release and the build there, and what follows them.
 fn qualifier_at(alloc: Global, words: &[Word<'_>]) -> Answer {
-    let [Some(flavour), Some(text), Some(place)] = words else {
-        return Err(Fault::Unreadable);
-    };
-    let place = place_in(text, place)?;
-    let (read, reached) = common::qualifier(alloc, text, place, flavour_of(flavour)?)?;
-    told_qualifier(alloc, &read, &text[reached..])
-}
-
-fn told_qualifier(alloc: Global, qualifier: &Qualifier, rest: &str) -> Answer {
-    two(alloc, copied_text(alloc, qualifier)?.as_str(), rest)
+    let (flavour, text, place) = place_of(words)?;
+    let (read, reached) = common::qualifier(alloc, text, place, flavour)?;
+    let copied = copied_text(alloc, &read);
+    drop(read);
+    told_front(alloc, copied, &text[reached..])
 }
 
 fn copied_text(alloc: Global, qualifier: &Qualifier) -> Result<String, AllocError> {
     let copy = qualifier.copy()?;
-    shown::qualifier(alloc, &copy.pre, &copy.build)
+    let text = shown::qualifier(alloc, &copy.pre, &copy.build);
+    drop(copy);
+    text
 }
 
 fn kind_text(kind: PrimitiveKind) -> &'static str {
@@ -108,20 +123,21 @@ fn primitive_kind_at(alloc: Global, words: &[Word<'_>]) -> Answer {
 // `comparator-at`, a grammar, a text and a place: the range of the primitive kind and the partial version there; `none`,
 // or `too large` where a number doesn't fit.
 fn comparator_at(alloc: Global, words: &[Word<'_>]) -> Answer {
-    let [Some(flavour), Some(text), Some(place)] = words else {
-        return Err(Fault::Unreadable);
-    };
-    let place = place_in(text, place)?;
-    match &common::primitive(alloc, text, place, flavour_of(flavour)?)? {
+    let (flavour, text, place) = place_of(words)?;
+    match common::primitive(alloc, text, place, flavour)? {
         None => single(alloc, "none"),
-        Some((primitive, _)) => told_primitive(alloc, primitive),
+        Some((primitive, _)) => {
+            let told = told_primitive(alloc, &primitive);
+            drop(primitive);
+            told
+        }
     }
 }
 
 fn told_primitive(alloc: Global, primitive: &Measured<Primitive>) -> Answer {
     match primitive {
         Measured::TooLarge => single(alloc, "too large"),
-        Measured::Fits(primitive) => told(alloc, &range_of(alloc, primitive)?),
+        Measured::Fits(primitive) => told(alloc, range_of(alloc, primitive)?),
     }
 }
 
@@ -132,11 +148,9 @@ fn range_of(alloc: Global, primitive: &Primitive) -> Result<VersionRange, Fault>
 
 // `operator-at`, `or` or `and`, a text and a place: what follows the operator there and the blanks round it, or `none`.
 fn operator_at(alloc: Global, words: &[Word<'_>]) -> Answer {
-    let [Some(operator), Some(text), Some(place)] = words else {
-        return Err(Fault::Unreadable);
-    };
+    let (operator, text, place) = triple(words)?;
     let place = place_in(text, place)?;
-    let reached = match *operator {
+    let reached = match operator {
         "or" => common::logical_or(text, place),
         "and" => common::logical_and(text, place),
         _ => return Err(Fault::Unreadable),

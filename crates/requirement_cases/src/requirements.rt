@@ -1,8 +1,8 @@
 //! How requirements are read, and what they match.
 
 use crate::asked::{
-    Two, both, pair, read, requirement_and_version, requirement_of, two_requirements, version_of,
-    with_pre_release,
+    Two, both, pair, read, requirement_and_version, requirement_of, triple, two_requirements,
+    version_of, with_pre_release,
 };
 use crate::shown;
 use crate::words::{Answer, Fault, Word, answer, three, two, yes_or_no};
@@ -23,13 +23,10 @@ use std::fmt::Display;
 pub fn ask(alloc: Global, name: &str, words: &[Word<'_>]) -> Option<Answer> {
     let answer = match name {
         "tag" => tag(alloc, words),
-        "requirement" => of_requirement(alloc, name, words),
-        "same-requirement" => of_pair(alloc, name, words),
-        "ranges" => of_requirement(alloc, name, words),
+        "requirement" | "ranges" | "normal" => of_requirement(alloc, name, words),
+        "same-requirement" | "overlap" => of_pair(alloc, name, words),
         "fits" => fits(alloc, words),
-        "overlap" => of_pair(alloc, name, words),
         "error" => error(alloc, words),
-        "normal" => of_requirement(alloc, name, words),
         "reread" => reread(alloc, words),
         "pinned" => pinned(alloc, words),
         "matches-with" => matches_with(alloc, words),
@@ -48,7 +45,10 @@ fn tag(alloc: Global, words: &[Word<'_>]) -> Answer {
 
 // A call on a reader and a text: what is told of the requirement.
 fn of_requirement(alloc: Global, name: &str, words: &[Word<'_>]) -> Answer {
-    told_of_requirement(alloc, name, &requirement_of(alloc, words)?)
+    let requirement = requirement_of(alloc, words)?;
+    let told = told_of_requirement(alloc, name, &requirement);
+    drop(requirement);
+    told
 }
 
 fn told_of_requirement(alloc: Global, name: &str, asked: &VersionReq) -> Answer {
@@ -71,7 +71,10 @@ fn requirement(alloc: Global, requirement: &VersionReq) -> Answer {
 // `ranges`, a reader and a text that is no tag: the ranges of a copy of the requirement, and the text that the copy
 // keeps.
 fn ranges(alloc: Global, requirement: &VersionReq) -> Answer {
-    copied_ranges(alloc, &requirement.copy()?)
+    let copy = requirement.copy()?;
+    let told = copied_ranges(alloc, &copy);
+    drop(copy);
+    told
 }
 
 fn copied_ranges(alloc: Global, copy: &VersionReq) -> Answer {
@@ -83,20 +86,21 @@ fn copied_ranges(alloc: Global, copy: &VersionReq) -> Answer {
 // `same-requirement`, a reader and two texts: whether the requirements stand for the same. `overlap`, the same: whether the
 // requirements overlap.
 fn of_pair(alloc: Global, name: &str, words: &[Word<'_>]) -> Answer {
-    let holds = holds_of_pair(name, &two_requirements(alloc, words)?);
-    yes_or_no(alloc, holds)
-}
-
-fn holds_of_pair(name: &str, asked: &Two<VersionReq, VersionReq>) -> bool {
-    match name {
+    let asked = two_requirements(alloc, words)?;
+    let holds = match name {
         "same-requirement" => asked.one == asked.other,
         _ => asked.one.intersects(&asked.other),
-    }
+    };
+    drop(asked);
+    yes_or_no(alloc, holds)
 }
 
 // `fits`, a reader, a requirement and a version: whether the version matches, or `tag` and the tag.
 fn fits(alloc: Global, words: &[Word<'_>]) -> Answer {
-    told_fit(alloc, &requirement_and_version(alloc, words)?)
+    let asked = requirement_and_version(alloc, words)?;
+    let told = told_fit(alloc, &asked);
+    drop(asked);
+    told
 }
 
 fn told_fit(alloc: Global, asked: &Two<VersionReq, Version>) -> Answer {
@@ -119,18 +123,18 @@ fn normal(alloc: Global, requirement: &VersionReq) -> Answer {
 // `reread`, a reader, a text and another reader: `equal` where what the other reader makes of the requirement's normal
 // text equals the requirement, and else `differs`; and the normal text of that.
 fn reread(alloc: Global, words: &[Word<'_>]) -> Answer {
-    let [Some(reader), Some(text), Some(other)] = words else {
-        return Err(Fault::Unreadable);
-    };
-    told_reread(alloc, &read(alloc, reader, text)?, other)
+    let (reader, text, other) = triple(words)?;
+    let requirement = read(alloc, reader, text)?;
+    let told = told_reread(alloc, &requirement, other);
+    drop(requirement);
+    told
 }
 
 fn told_reread(alloc: Global, requirement: &VersionReq, reader: &str) -> Answer {
-    told_again(
-        alloc,
-        requirement,
-        &read_normal(alloc, reader, requirement)?,
-    )
+    let again = read_normal(alloc, reader, requirement)?;
+    let told = told_again(alloc, requirement, &again);
+    drop(again);
+    told
 }
 
 // What the reader of this name makes of the requirement's normal text.
@@ -152,7 +156,10 @@ fn told_again(alloc: Global, requirement: &VersionReq, again: &VersionReq) -> An
 // `pinned`, two versions: the text of the requirement that the first is turned into, its normal text, and whether the
 // second matches.
 fn pinned(alloc: Global, words: &[Word<'_>]) -> Answer {
-    told_pinned(alloc, &pinned_and_version(alloc, words)?)
+    let asked = pinned_and_version(alloc, words)?;
+    let told = told_pinned(alloc, &asked);
+    drop(asked);
+    told
 }
 
 fn pinned_and_version(
@@ -182,7 +189,10 @@ fn told_pinned(alloc: Global, asked: &Two<VersionReq, Version>) -> Answer {
 // and the tag.
 fn matches_with(alloc: Global, words: &[Word<'_>]) -> Answer {
     let (asked, pre_release) = with_pre_release(words)?;
-    told_match(alloc, &requirement_and_version(alloc, asked)?, pre_release)
+    let asked = requirement_and_version(alloc, asked)?;
+    let told = told_match(alloc, &asked, pre_release);
+    drop(asked);
+    told
 }
 
 fn told_match(alloc: Global, asked: &Two<VersionReq, Version>, pre_release: PreRelease) -> Answer {
@@ -255,8 +265,15 @@ impl ReadError for VersionReqSpecifierParseError {
 // The lines of a copy of the error and of its source, where a text was refused.
 fn refusal_lines<A: Drop, E: ReadError>(alloc: Global, read: Result<A, E>) -> Answer {
     match read {
-        Ok(_) => Err(Fault::Unreadable),
-        Err(error) => lines(alloc, &error.copied()?),
+        Ok(value) => {
+            drop(value);
+            Err(Fault::Unreadable)
+        }
+        Err(error) => {
+            let copy = error.copied();
+            drop(error);
+            lines(alloc, &copy?)
+        }
     }
 }
 

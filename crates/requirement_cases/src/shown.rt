@@ -5,6 +5,7 @@
 //! with ` || ` between, or the empty text. A partial version is its three components, each a number or `*`, and then
 //! `-` and `+` as in a version: `1.*.3-a+b`.
 
+use crate::asked::both;
 use crate::words::Fault;
 use semver_base::partial::{Partial, XRange};
 use semver_base::range::{PreRelease, RangeBound, VersionBoundKind, VersionRange, VersionRangeSet};
@@ -100,12 +101,13 @@ pub fn partial_of(alloc: Global, text: &str) -> Result<Partial, Fault> {
     let (text, build) = text.split_once('+').unwrap_or((text, ""));
     let (text, pre) = text.split_once('-').unwrap_or((text, ""));
     let (major, minor, patch) = components_of(text)?;
+    let identifiers = both(identifiers_of(alloc, pre), identifiers_of(alloc, build))?;
     Ok(Partial {
         major,
         minor,
         patch,
-        pre: identifiers_of(alloc, pre)?,
-        build: identifiers_of(alloc, build)?,
+        pre: identifiers.one,
+        build: identifiers.other,
     })
 }
 
@@ -203,9 +205,10 @@ pub fn range_of(alloc: Global, text: &str) -> Result<VersionRange, Fault> {
         None if text.starts_with('<') => ("*", text),
         None => (text, "*"),
     };
+    let bounds = both(start_of(alloc, start), end_of(alloc, end))?;
     Ok(VersionRange {
-        start: start_of(alloc, start)?,
-        end: end_of(alloc, end)?,
+        start: bounds.one,
+        end: bounds.other,
     })
 }
 

@@ -1,6 +1,6 @@
 //! Texts that are made and grow, and lists that are copied and grow.
 
-use crate::asked::pair;
+use crate::asked::{pair, triple};
 use crate::shown;
 use crate::words::{Answer, Fault, Word, single, three, two, yes_or_no};
 use semver_base::string::{CowItem, CowVec, SmallStackString, StackString, StringType};
@@ -73,19 +73,26 @@ fn given_stack(alloc: Global, made: &StackString) -> Result<String, AllocError> 
 }
 
 fn small(alloc: Global, way: &str, text: &str) -> Answer {
-    told_small(alloc, &small_by(alloc, way, text)?)
+    let made = small_by(alloc, way, text)?;
+    let told = told_small(alloc, &made);
+    drop(made);
+    told
 }
 
 fn stack(alloc: Global, way: &str, text: &str) -> Answer {
-    told_stack(alloc, &stack_by(alloc, way, text)?)
+    let made = stack_by(alloc, way, text)?;
+    let told = told_stack(alloc, &made);
+    drop(made);
+    told
 }
 
 // `made`, `small` or `stack`, a way to make a text, and a text: the text that is made, and the two that a `String` is
 // made of it.
 fn made(alloc: Global, words: &[Word<'_>]) -> Answer {
-    match words {
-        [Some("small"), Some(way), Some(text)] => small(alloc, way, text),
-        [Some("stack"), Some(way), Some(text)] => stack(alloc, way, text),
+    let (kind, way, text) = triple(words)?;
+    match kind {
+        "small" => small(alloc, way, text),
+        "stack" => stack(alloc, way, text),
         _ => Err(Fault::Unreadable),
     }
 }
@@ -128,10 +135,8 @@ fn pushed_to<T: StringType>(alloc: Global, start: &str, text: &str) -> Answer {
 // `pushed`, `small`, `stack` or `string`, a start and a text: the start with the text pushed to it, at once and
 // character by character.
 fn pushed(alloc: Global, words: &[Word<'_>]) -> Answer {
-    let [Some(kind), Some(start), Some(text)] = words else {
-        return Err(Fault::Unreadable);
-    };
-    match *kind {
+    let (kind, start, text) = triple(words)?;
+    match kind {
         "small" => pushed_to::<SmallStackString>(alloc, start, text),
         "stack" => pushed_to::<StackString>(alloc, start, text),
         "string" => pushed_to::<String>(alloc, start, text),
@@ -141,10 +146,11 @@ fn pushed(alloc: Global, words: &[Word<'_>]) -> Answer {
 
 // `replaced`, a text, what to replace and what by: the text with it replaced.
 fn replaced(alloc: Global, words: &[Word<'_>]) -> Answer {
-    let [Some(text), Some(from), Some(to)] = words else {
-        return Err(Fault::Unreadable);
-    };
-    single(alloc, replaced_text(alloc, text, from, to)?.as_str())
+    let (text, from, to) = triple(words)?;
+    let replaced = replaced_text(alloc, text, from, to)?;
+    let told = single(alloc, replaced.as_str());
+    drop(replaced);
+    told
 }
 
 fn replaced_text(
@@ -153,7 +159,10 @@ fn replaced_text(
     from: &str,
     to: &str,
 ) -> Result<SmallStackString, AllocError> {
-    SmallStackString::from_str(alloc, text)?.replace(alloc, from, to)
+    let text = SmallStackString::from_str(alloc, text)?;
+    let replaced = text.replace(alloc, from, to);
+    drop(text);
+    replaced
 }
 
 // The text with the other pushed to it at once and by character, copied and compared to what it was.
@@ -176,9 +185,10 @@ fn is_kept<T: CowItem + PartialEq + Drop>(
 // `in-value`, `small` or `stack`, a start and a text: whether the start with the text pushed to it, at once and character by
 // character, is the same text, copied too. It is an answer for want of memory where one of these wants memory.
 fn in_value(alloc: Global, words: &[Word<'_>]) -> Answer {
-    let keeps = match words {
-        [Some("small"), Some(start), Some(text)] => keeps::<SmallStackString>(alloc, start, text),
-        [Some("stack"), Some(start), Some(text)] => keeps::<StackString>(alloc, start, text),
+    let (kind, start, text) = triple(words)?;
+    let keeps = match kind {
+        "small" => keeps::<SmallStackString>(alloc, start, text),
+        "stack" => keeps::<StackString>(alloc, start, text),
         _ => return Err(Fault::Unreadable),
     };
     yes_or_no(alloc, keeps?)
@@ -187,11 +197,17 @@ fn in_value(alloc: Global, words: &[Word<'_>]) -> Answer {
 // `grown`, identifiers and one more: a copy of their list with that pushed to it, and the list that was copied.
 fn grown(alloc: Global, words: &[Word<'_>]) -> Answer {
     let (identifiers, more) = pair(words)?;
-    told_grown(alloc, &shown::identifiers_of(alloc, identifiers)?, more)
+    let list = shown::identifiers_of(alloc, identifiers)?;
+    let told = told_grown(alloc, &list, more);
+    drop(list);
+    told
 }
 
 fn told_grown(alloc: Global, list: &CowVec<SmallStackString>, more: &str) -> Answer {
-    told_lists(alloc, &longer(alloc, list, more)?, list)
+    let longer = longer(alloc, list, more)?;
+    let told = told_lists(alloc, &longer, list);
+    drop(longer);
+    told
 }
 
 // A copy of the list with one more identifier.

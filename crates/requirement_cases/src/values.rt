@@ -1,6 +1,6 @@
 //! Texts, lists, failures, ranges and requirements that are made by hand.
 
-use crate::asked::{Two, both, pair};
+use crate::asked::{Two, both, only, pair};
 use crate::ranges::{told, two_ranges};
 use crate::shown;
 use crate::words::{Answer, Fault, Word, answer, three, yes_or_no};
@@ -30,11 +30,17 @@ pub fn ask(alloc: Global, name: &str, words: &[Word<'_>]) -> Option<Answer> {
 // `text`, two texts: the text of a copy of the first, how that is displayed, and whether it is the second.
 fn text(alloc: Global, words: &[Word<'_>]) -> Answer {
     let (text, other) = pair(words)?;
-    told_text(alloc, &copied_text(alloc, text)?, other)
+    let copy = copied_text(alloc, text)?;
+    let told = told_text(alloc, &copy, other);
+    drop(copy);
+    told
 }
 
 fn copied_text(alloc: Global, text: &str) -> Result<SmallStackString, AllocError> {
-    SmallStackString::from_str(alloc, text)?.copy()
+    let text = SmallStackString::from_str(alloc, text)?;
+    let copy = text.copy();
+    drop(text);
+    copy
 }
 
 fn told_text(alloc: Global, text: &SmallStackString, other: &str) -> Answer {
@@ -50,11 +56,17 @@ fn items(alloc: Global, words: &[Word<'_>]) -> Answer {
     let Ok(place) = place.parse::<usize>() else {
         return Err(Fault::Unreadable);
     };
-    told_items(alloc, &copied_items(alloc, identifiers)?, place)
+    let items = copied_items(alloc, identifiers)?;
+    let told = told_items(alloc, &items, place);
+    drop(items);
+    told
 }
 
 fn copied_items(alloc: Global, text: &str) -> Result<CowVec<SmallStackString>, AllocError> {
-    shown::identifiers_of(alloc, text)?.copy()
+    let items = shown::identifiers_of(alloc, text)?;
+    let copy = items.copy();
+    drop(items);
+    copy
 }
 
 fn told_items(alloc: Global, items: &CowVec<SmallStackString>, place: usize) -> Answer {
@@ -81,6 +93,7 @@ fn failure_of(
     };
     let failure = ParseFailure::with_texts(alloc, message, code_snippet);
     if failure.is_memory() {
+        drop(failure);
         return Err(Fault::OutOfMemory);
     }
     Ok(failure)
@@ -105,16 +118,23 @@ fn failure(alloc: Global, words: &[Word<'_>]) -> Answer {
     let [message, code_snippet] = words else {
         return Err(Fault::Unreadable);
     };
-    told_failure(alloc, &failure_of(alloc, *message, *code_snippet)?)
+    let failure = failure_of(alloc, *message, *code_snippet)?;
+    let copy = failure.copy();
+    drop(failure);
+    told_failure(alloc, copy?)
 }
 
-fn told_failure(alloc: Global, failure: &ParseFailure) -> Answer {
-    parts_of(alloc, &failure.copy()?)
+fn told_failure(alloc: Global, failure: ParseFailure) -> Answer {
+    let parts = parts_of(alloc, &failure);
+    drop(failure);
+    parts
 }
 
 // `same-failure`, the words of two failures: whether they are equal.
 fn same_failure(alloc: Global, words: &[Word<'_>]) -> Answer {
-    let holds = are_equal(&two_failures(alloc, words)?);
+    let asked = two_failures(alloc, words)?;
+    let holds = asked.one == asked.other;
+    drop(asked);
     yes_or_no(alloc, holds)
 }
 
@@ -129,10 +149,6 @@ fn two_failures(
         failure_of(alloc, *message, *code_snippet),
         failure_of(alloc, *other, *others),
     )
-}
-
-fn are_equal(asked: &Two<ParseFailure, ParseFailure>) -> bool {
-    asked.one == asked.other
 }
 
 // `refusal`, the kind of a refusal: that refusal.
@@ -154,10 +170,10 @@ fn refusal(alloc: Global, words: &[Word<'_>]) -> Answer {
 
 // `range`, `all`, `none` or a range: that range, copied.
 fn range(alloc: Global, words: &[Word<'_>]) -> Answer {
-    let [Some(text)] = words else {
-        return Err(Fault::Unreadable);
-    };
-    told_copy(alloc, &range_of(alloc, text)?)
+    let range = range_of(alloc, only(words)?)?;
+    let copy = CowItem::copy(&range);
+    drop(range);
+    told(alloc, copy?)
 }
 
 fn range_of(alloc: Global, text: &str) -> Result<VersionRange, Fault> {
@@ -168,25 +184,22 @@ fn range_of(alloc: Global, text: &str) -> Result<VersionRange, Fault> {
     }
 }
 
-fn told_copy(alloc: Global, range: &VersionRange) -> Answer {
-    told(alloc, &CowItem::copy(range)?)
-}
-
 // `same-range`, two ranges: whether they are equal.
 fn same_range(alloc: Global, words: &[Word<'_>]) -> Answer {
-    let holds = are_same(&two_ranges(alloc, words)?);
+    let asked = two_ranges(alloc, words)?;
+    let holds = asked.one == asked.other;
+    drop(asked);
     yes_or_no(alloc, holds)
-}
-
-fn are_same(asked: &Two<VersionRange, VersionRange>) -> bool {
-    asked.one == asked.other
 }
 
 // `tag-requirement`, a text and a tag: of the requirement that was read from the text and is the tag, the tag, the
 // text, and how a copy of it is displayed.
 fn tag_requirement(alloc: Global, words: &[Word<'_>]) -> Answer {
     let (text, tag) = pair(words)?;
-    told_tag(alloc, &requirement_of(alloc, text, tag)?)
+    let requirement = requirement_of(alloc, text, tag)?;
+    let told = told_tag(alloc, &requirement);
+    drop(requirement);
+    told
 }
 
 fn requirement_of(alloc: Global, text: &str, tag: &str) -> Result<VersionReq, AllocError> {
@@ -209,5 +222,7 @@ fn told_tag(alloc: Global, requirement: &VersionReq) -> Answer {
 
 fn displayed_copy(alloc: Global, requirement: &VersionReq) -> Result<String, AllocError> {
     let copy = requirement.copy()?;
-    format!(in alloc; "{copy}")
+    let displayed = format!(in alloc; "{copy}");
+    drop(copy);
+    displayed
 }

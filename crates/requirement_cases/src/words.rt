@@ -18,7 +18,7 @@ pub type Words = Vec<Option<String>>;
 pub type Answer = Result<Words, Fault>;
 
 /// Why a call has no answer.
-#[derive(Debug, PartialEq, Eq, Drop)]
+#[derive(Drop)]
 pub enum Fault {
     /// A text or a bound was refused.
     Refused(ParseFailure),
@@ -44,6 +44,7 @@ impl Fault {
 impl From<ParseFailure> for Fault {
     fn from(failure: ParseFailure) -> Fault {
         if failure.is_memory() {
+            drop(failure);
             Fault::OutOfMemory
         } else {
             Fault::Refused(failure)
@@ -106,12 +107,23 @@ fn all_owned(alloc: Global, words: &[Word<'_>]) -> Result<Words, AllocError> {
 
 /// The answer of these words.
 pub fn answer(alloc: Global, words: &[Word<'_>]) -> Answer {
-    all_owned(alloc, words).map_err(|_| Fault::Untold)
+    match all_owned(alloc, words) {
+        Ok(words) => Ok(words),
+        Err(_) => Err(Fault::Untold),
+    }
 }
 
 /// The answer of one word.
 pub fn single(alloc: Global, word: &str) -> Answer {
     answer(alloc, &[Some(word)])
+}
+
+/// The answer of one word that was made for it.
+pub fn single_made(alloc: Global, text: Result<String, AllocError>) -> Answer {
+    let text = text?;
+    let told = single(alloc, text.as_str());
+    drop(text);
+    told
 }
 
 /// The answer of two words.
@@ -126,7 +138,7 @@ pub fn three(alloc: Global, first: &str, second: &str, third: &str) -> Answer {
 
 /// The answer that is how the value is displayed.
 pub fn displayed<T: Display>(alloc: Global, value: &T) -> Answer {
-    single(alloc, format!(in alloc; "{value}")?.as_str())
+    single_made(alloc, format!(in alloc; "{value}"))
 }
 
 /// The answer `yes` or `no`.
