@@ -4,6 +4,7 @@
 //! to the end of a scope makes a proof several times as long.
 
 use crate::shown;
+pub use crate::two::{Two, both};
 use crate::words::{Fault, Word};
 use semver_base::range::PreRelease;
 use semver_base::version::Version;
@@ -57,24 +58,6 @@ pub fn with_pre_release<'a, 'b>(
         [asked @ .., Some(word)] => Ok((asked, shown::pre_release_of(word)?)),
         _ => Err(Fault::Unreadable),
     }
-}
-
-/// Two values that a question is about.
-#[derive(Drop)]
-pub struct Two<A, B> {
-    pub one: A,
-    pub other: B,
-}
-
-/// Both values, or why there is not the one or the other.
-pub fn both<A: Drop, B: Drop, E: Drop>(
-    one: Result<A, E>,
-    other: Result<B, E>,
-) -> Result<Two<A, B>, E> {
-    Ok(Two {
-        one: one?,
-        other: other?,
-    })
 }
 
 /// The requirement that a reader and a text are.

@@ -5,7 +5,7 @@
 //! with ` || ` between, or the empty text. A partial version is its three components, each a number or `*`, and then
 //! `-` and `+` as in a version: `1.*.3-a+b`.
 
-use crate::asked::both;
+use crate::two::both;
 use crate::words::Fault;
 use semver_base::partial::{Partial, XRange};
 use semver_base::range::{PreRelease, RangeBound, VersionBoundKind, VersionRange, VersionRangeSet};
