@@ -1,6 +1,6 @@
 //! Versions: how they are read and written, and their precedence.
 
-ghost use Rattle.std.specs.Prelude.{◌≡◌, ◌<◌, ◌==◌, ◌&&◌, ◌∷◌, ◌↔◌, ◌⊎◌, length, refl, Result, Ok, Err, IfOk, IfErr, IfSome, IsTrue, [], None, Some, if◌then◌else◌};
+ghost use Rattle.std.specs.Prelude.{◌≡◌, ◌<◌, ◌+◌, ◌*◌, ◌^◌, ◌==◌, ◌&&◌, ◌∷◌, ◌↔◌, ◌⊎◌, length, refl, Result, Ok, Err, IfOk, IfErr, IfSome, IsTrue, [], None, Some, if◌then◌else◌};
 ghost use Rattle.std.specs.Fmt.{DisplaysOnOk};
 ghost use Rattle.std.specs.Str.{trim};
 ghost use Rattle.std.specs.Cmp.{IsTotalOrder};
@@ -349,6 +349,9 @@ fn number(identifier: &VersionPreOrBuild) -> Option<u64>
 fn cmp_identifier(a: &VersionPreOrBuild, b: &VersionPreOrBuild) -> Ordering
     ensures { result ≡ identifier_cmp a.now b.now }
 {
+    if a == b {
+        return Ordering::Equal;
+    }
     match (number(a), number(b)) {
         (Some(x), Some(y)) => x.cmp(&y).then_with(|| a.cmp(b)),
         (Some(_), None) => Ordering::Less,
@@ -369,15 +372,16 @@ fn cmp_identifiers(a: &[VersionPreOrBuild], b: &[VersionPreOrBuild]) -> Ordering
     a.len().cmp(&b.len())
 }
 
+// The order of pre-releases. Whether there is one is known without following the pointer of its list.
 #[inline(never)]
-fn cmp_pre(a: &[VersionPreOrBuild], b: &[VersionPreOrBuild]) -> Ordering
+fn cmp_pre(a: &CowVec<VersionPreOrBuild>, b: &CowVec<VersionPreOrBuild>) -> Ordering
     ensures { result ≡ pre_cmp a.now b.now }
 {
     match (a.is_empty(), b.is_empty()) {
         (true, true) => Ordering::Equal,
         (true, false) => Ordering::Greater,
         (false, true) => Ordering::Less,
-        (false, false) => cmp_identifiers(a, b),
+        (false, false) => cmp_identifiers(a.as_slice(), b.as_slice()),
     }
 }
 
@@ -395,7 +399,16 @@ fn precedence(a: &Version, b: &Version) -> Ordering
     if a.patch != b.patch {
         return a.patch.cmp(&b.patch);
     }
-    cmp_pre(a.pre.as_slice(), b.pre.as_slice())
+    cmp_pre(&a.pre, &b.pre)
+}
+
+// The major and the minor number as one, which is compared in one step.
+#[inline(always)]
+fn leading_numbers(version: &Version) -> u128
+    ensures value { result ≡ version.now.major * 2 ^ 64 + version.now.minor }
+    ensures minor_fits { version.now.minor < 2 ^ 64 }
+{
+    version.major as u128 * (1 << 64) + version.minor as u128
 }
 
 // Whether the numbers of `a` are below those of `b`. It takes no branch, since what sorts versions can't foresee which way
@@ -405,9 +418,8 @@ fn is_below_by_numbers(a: &Version, b: &Version) -> bool
     ensures below { result ≡ is_lt (numbers_cmp a.now b.now) }
     ensures above { result ≡ is_gt (numbers_cmp b.now a.now) }
 {
-    (a.major < b.major)
-        | ((a.major == b.major)
-            & ((a.minor < b.minor) | ((a.minor == b.minor) & (a.patch < b.patch))))
+    let (x, y) = (leading_numbers(a), leading_numbers(b));
+    (x < y) | (!(y < x) & (a.patch < b.patch))
 }
 
 // The order of the three numbers.
@@ -439,21 +451,24 @@ pub(crate) fn is_unqualified(version: &Version) -> bool
 fn cmp_lists(a: &Version, b: &Version) -> Ordering
     ensures { result ≡ qualifiers_cmp a.now b.now }
 {
-    cmp_pre(a.pre.as_slice(), b.pre.as_slice()).then_with(|| a
-        .build
-        .as_slice()
-        .cmp(b.build.as_slice()))
+    match cmp_pre(&a.pre, &b.pre) {
+        Ordering::Equal => a.build.as_slice().cmp(b.build.as_slice()),
+        unequal => unequal,
+    }
 }
 
-// The same order. Mostly there are none, and then nothing is called.
+// The same order. Mostly at most one of the versions has a pre-release and none has a build, and then nothing is called, and
+// no branch is taken that a sort can't foresee.
 #[inline(never)]
 fn cmp_qualifiers(a: &Version, b: &Version) -> Ordering
     ensures { result ≡ qualifiers_cmp a.now b.now }
 {
-    if is_unqualified(a) & is_unqualified(b) {
-        return Ordering::Equal;
+    let both_or_build = !(a.pre.is_empty() | b.pre.is_empty())
+        | !(a.build.is_empty() & b.build.is_empty());
+    if both_or_build {
+        return cmp_lists(a, b);
     }
-    cmp_lists(a, b)
+    a.pre.is_empty().cmp(&b.pre.is_empty())
 }
 
 // Writes a separator and the identifier after it.
