@@ -13,7 +13,7 @@ use semver_req::common::values::Flavour;
 use std::alloc::{AllocError, Global};
 
 /// What suits several requirements at once.
-#[derive(Debug, Drop)]
+#[derive(Debug)]
 pub enum Common {
     /// The least version that suits all.
     Least(Version),
@@ -24,7 +24,7 @@ pub enum Common {
 }
 
 /// What a new requirement allows beside an old one.
-#[derive(Debug, Drop)]
+#[derive(Debug)]
 pub enum Within {
     /// Each version that the new one allows the old one allows too.
     Yes,
@@ -32,6 +32,27 @@ pub enum Within {
     No(Version),
     /// The first of both that is a tag, which is no question of versions.
     Tag(PackageTag),
+}
+
+// By hand, so that an answer that goes out of scope is one call.
+impl Drop for Common {
+    fn drop(self) {
+        match self {
+            Common::Least(version) => drop(version),
+            Common::Nothing => {}
+            Common::Tag(tag) => drop(tag),
+        }
+    }
+}
+
+impl Drop for Within {
+    fn drop(self) {
+        match self {
+            Within::Yes => {}
+            Within::No(version) => drop(version),
+            Within::Tag(tag) => drop(tag),
+        }
+    }
 }
 
 // The first tag among the requirements.

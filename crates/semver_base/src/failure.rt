@@ -51,7 +51,7 @@ impl Refusal {
 ///
 /// Contracts see a failure as an optional pair of the message and the optional part; none is want of memory. Two
 /// failures are equal where these are. Which refusal it is, a caller learns by [`ParseFailure::tells_of`].
-#[derive(Debug, PartialEq, Eq, Drop)]
+#[derive(Debug, PartialEq, Eq)]
 pub struct ParseFailure {
     texts: Option<(SmallStackString, Option<SmallStackString>)>,
 }
@@ -64,6 +64,14 @@ impl Model for ParseFailure {
     ghost view = { λ f. f.texts };
 
     ghost inverse = { λ texts. record { texts = texts } };
+}
+
+// By hand, so that a failure that goes out of scope is one call.
+impl Drop for ParseFailure {
+    fn drop(self) {
+        let ParseFailure { texts } = self;
+        drop(texts);
+    }
 }
 
 impl ParseFailure {

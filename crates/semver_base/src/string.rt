@@ -23,15 +23,14 @@ pub use list::{CowItem, CowVec};
 use std::alloc::{AllocError, Global};
 use std::borrow::CowStr;
 use std::cmp::Ordering;
-use std::fmt;
 use std::hash::{Hash, Hasher};
 use std::marker::Model;
+use std::{fmt, mem};
 
 /// A text: a sequence of Unicode characters, seen in contracts as its UTF-8 bytes. One of at most `LIMIT` bytes stands in
 /// the value itself, and takes no memory.
 ///
 /// Two texts are equal where their bytes are, and they are ordered by bytes.
-#[derive(Drop)]
 pub struct ShortText<const LIMIT: usize> {
     alloc: Global,
     kept: Kept<LIMIT>,
@@ -61,6 +60,19 @@ impl<const LIMIT: usize> Model for ShortText<LIMIT> {
     ghost view = { λ s. kept_bytes s.kept };
 
     ghost invariant = { λ s. IsKept s.kept s.zeros };
+}
+
+// By hand, so that a text that goes out of scope is one call.
+impl<const LIMIT: usize> Drop for ShortText<LIMIT> {
+    #[inline]
+    fn drop(self) {
+        let ShortText {
+            alloc: _,
+            kept,
+            zeros: _,
+        } = self;
+        drop(kept);
+    }
 }
 
 // How many zeros stand at the front.
@@ -288,12 +300,12 @@ impl<const LIMIT: usize> ShortText<LIMIT> {
 
     /// The text in a `String`. It is an error only where no memory is left, and never for a text of more than `LIMIT` bytes,
     /// whose memory the `String` takes over.
-    pub fn into_string(self, alloc: Global) -> Result<String, AllocError>
+    pub fn into_string(mut self, alloc: Global) -> Result<String, AllocError>
         ensures value { IfOk result (λ s. string_bytes s ≡ self.entry) }
         ensures succeeds { LIMIT < length self.entry → IsOk result }
     {
-        let ShortText { kept, .. } = self;
-        match kept {
+        self.zeros = 0;
+        match mem::replace(&mut self.kept, Kept::Inline(ArrayString::new())) {
             Kept::Inline(short) => String::from_str(alloc, short.as_str()),
             Kept::Heap(long) => Ok(long),
         }

@@ -46,7 +46,6 @@ impl<T> Items<T> {
 /// A list, seen in contracts as its items.
 ///
 /// Two lists are equal where they have equal items in the same order.
-#[derive(Drop)]
 pub struct CowVec<T> {
     alloc: Global,
     // None of an empty list, so that whether it is empty is known without following the pointer.
@@ -62,6 +61,15 @@ impl<T> Model for CowVec<T> {
     ghost view = { λ v. shared_items v.items };
 
     ghost invariant = { λ v. IsFilledIfShared v.items };
+}
+
+// By hand, so that a list that goes out of scope is one call.
+impl<T: Drop> Drop for CowVec<T> {
+    #[inline]
+    fn drop(self) {
+        let CowVec { alloc: _, items } = self;
+        drop(items);
+    }
 }
 
 impl<T> CowVec<T> {
