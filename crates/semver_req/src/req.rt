@@ -13,7 +13,7 @@ ghost use Rattle.semver_req.specs.declared.common.values.Flavour.TheVariants.{No
 
 mod least;
 
-use crate::range_set_or_tag::RangeSetOrTag;
+use crate::range_set_or_tag::{RangeSetOrTag, plain_set};
 use semver_base::failure::ParseFailure;
 use semver_base::range::{PreRelease, RangeBound, VersionRange, VersionRangeSet};
 use semver_base::string::{CowVec, SmallStackString, displayed};
@@ -27,7 +27,6 @@ use thiserror::Error;
 ///
 /// Two requirements are equal where they stand for the same, whatever their texts are. A requirement is displayed as
 /// its text.
-#[derive(Drop)]
 #[derive_where(Debug, PartialEq, Eq, Hash)]
 pub struct VersionReq {
     #[derive_where(skip)]
@@ -43,6 +42,16 @@ impl Model for VersionReq {
     ghost view = { λ req. record { raw_text = req.raw_text; inner = req.inner } };
 
     ghost inverse = { λ req. record { raw_text = req.raw_text; inner = req.inner } };
+}
+
+// By hand, so that a requirement that goes out of scope is one call.
+impl Drop for VersionReq {
+    #[inline]
+    fn drop(self) {
+        let VersionReq { raw_text, inner } = self;
+        drop(raw_text);
+        drop(inner);
+    }
 }
 
 /// Why a text is no normalized requirement, or that memory was wanting.
@@ -122,7 +131,11 @@ impl VersionReq {
         ensures refusal { IfErr result (λ e. IsCutRefusal Normal text.now e.source) }
     {
         let raw_text = SmallStackString::from_str(alloc, text)?;
-        let inner = RangeSetOrTag::parse(alloc, text)?;
+        let plain = plain_set(alloc, text)?;
+        if let Some(inner) = plain {
+            return Ok(VersionReq::from_raw_text_and_inner(raw_text, inner));
+        }
+        let inner = RangeSetOrTag::parse_pieces(alloc, text)?;
         Ok(VersionReq::from_raw_text_and_inner(raw_text, inner))
     }
 

@@ -101,7 +101,7 @@ fn only(alloc: Global, range: VersionRange) -> Result<VersionRangeSet, AllocErro
 
 // What the text stands for, by the grammar from its front on.
 #[inline(never)]
-fn read_long(alloc: Global, text: &str) -> Result<RangeSetOrTag, ParseFailure>
+fn read(alloc: Global, text: &str) -> Result<RangeSetOrTag, ParseFailure>
     ensures reading { IfOk result (IsReading Flavour.Specifier text.now) }
     ensures refusal { IfErr result (IsSpecifierRefusal text.now) }
 {
@@ -125,18 +125,6 @@ fn read_long(alloc: Global, text: &str) -> Result<RangeSetOrTag, ParseFailure>
     }
 }
 
-// What the text stands for, in the short way where it is plain.
-#[inline(always)]
-fn read(alloc: Global, text: &str) -> Result<RangeSetOrTag, ParseFailure>
-    ensures reading { IfOk result (IsReading Flavour.Specifier text.now) }
-    ensures refusal { IfErr result (IsSpecifierRefusal text.now) }
-{
-    match plain_range(text) {
-        Some(range) => Ok(RangeSetOrTag::RangeSet(only(alloc, range.into_range(alloc))?)),
-        None => read_long(alloc, text),
-    }
-}
-
 /// The requirement that the text of a package specifier is: `~` or `^` and a partial version, or a partial version
 /// alone, or else a tag.
 ///
@@ -157,6 +145,10 @@ pub fn parse_version_req_from_specifier(
     ensures empty_only { IfErr result (λ e. e.source ≡ empty_constraint → IsBlanks text.now tt) }
 {
     let raw_text = SmallStackString::from_str(alloc, text)?;
+    if let Some(range) = plain_range(text) {
+        let inner = RangeSetOrTag::RangeSet(only(alloc, range.into_range(alloc))?);
+        return Ok(VersionReq::from_raw_text_and_inner(raw_text, inner));
+    }
     let inner = read(alloc, text)?;
     Ok(VersionReq::from_raw_text_and_inner(raw_text, inner))
 }

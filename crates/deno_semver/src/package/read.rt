@@ -138,15 +138,15 @@ pub(crate) fn read_with_path(
         Ok(cut) => cut,
         Err(error) => return Err(error),
     };
-    let version_req = match version_req_or_any(alloc, cut.version, flavour) {
-        Ok(req) => req,
-        Err(error) => return Err(error),
+    let name = match full_name(alloc, cut.scope, cut.name) {
+        Ok(name) => name,
+        Err(_) => return Err(PackageReqPartsParseError::Memory),
     };
-    match full_name(alloc, cut.scope, cut.name) {
-        Ok(name) => Ok((PackageReq { name, version_req }, cut.tail, cut.path)),
-        Err(_) => {
-            drop(version_req);
-            Err(PackageReqPartsParseError::Memory)
+    match version_req_or_any(alloc, cut.version, flavour) {
+        Ok(version_req) => Ok((PackageReq { name, version_req }, cut.tail, cut.path)),
+        Err(error) => {
+            drop(name);
+            Err(error)
         }
     }
 }
