@@ -5,8 +5,9 @@ project, after rt ci (or after rt run in both crates), which builds them.
     tools/programs/check.py
 
 A row of PROGRAM.jsonl is a JSON object: the words after the program's name, standard input where there is one, standard output,
-standard error and the status; absent texts are empty. An example is what stands after `$ ` in a console block of a page, where
-`ranges` is in it, with the lines that it prints. The last line counts; the status is 1 where something differs."""
+standard error and the status; absent texts are empty. The rows of npmver are run once more where nothing can be written. An
+example is what stands after `$ ` in a console block of a page, where `ranges` is in it, with the lines that it prints. The last
+line counts; the status is 1 where something differs."""
 import json, os, pathlib, re, subprocess, sys
 
 TOP = pathlib.Path(__file__).resolve().parents[2]
@@ -24,14 +25,28 @@ def run(program, words, given=""):
     return ran.stdout.decode(), ran.stderr.decode(), ran.returncode
 
 
+def rows_of(name):
+    """The rows of a program, each with where it stands."""
+    for number, line in enumerate((HERE / f"{name}.jsonl").read_text().splitlines(), 1):
+        yield f"{name}.jsonl:{number}", json.loads(line)
+
+
 def rows():
     """For each row what differs, or None."""
     for name, program in PROGRAMS.items():
-        for number, line in enumerate((HERE / f"{name}.jsonl").read_text().splitlines(), 1):
-            row = json.loads(line)
+        for place, row in rows_of(name):
             wanted = (row.get("stdout", ""), row.get("stderr", ""), row["status"])
             found = run(program, row["words"], row.get("stdin", ""))
-            yield None if found == wanted else f"{name}.jsonl:{number}: {row['words']}: wanted {wanted}, found {found}"
+            yield None if found == wanted else f"{place}: {row['words']}: wanted {wanted}, found {found}"
+
+
+def unwritable():
+    """Where nothing can be written, an answer of npmver has the status 6, and any other status stays."""
+    with open("/dev/full", "wb") as full:
+        for place, row in rows_of("npmver"):
+            wanted = 6 if "stdout" in row else row["status"]
+            found = subprocess.run([str(PROGRAMS["npmver"]), *row["words"]], stdout=full, stderr=full, timeout=60).returncode
+            yield None if found == wanted else f"{place}, where nothing can be written: wanted {wanted}, found {found}"
 
 
 def examples(page):
@@ -88,7 +103,7 @@ def main():
     for program in PROGRAMS.values():
         if not program.is_file():
             sys.exit(f"{program} isn't built: run rt ci first")
-    outcomes = [outcome for check in (rows, pages, memory, closed) for outcome in check()]
+    outcomes = [outcome for check in (rows, unwritable, pages, memory, closed) for outcome in check()]
     wrong = [outcome for outcome in outcomes if outcome]
     print(*wrong, sep="\n", end="\n" if wrong else "")
     print(f"{len(outcomes) - len(wrong)} of {len(outcomes)} hold")
