@@ -4,10 +4,8 @@ use Rattle.std.specs.Prelude.{◌≡◌, ℕ, List, [], ◌∷◌, ◌++◌, ◌
 use Rattle.std.specs.List.{take_while}
 use Rattle.std.specs.Str.{chars}
 use Rattle.std.specs.Str.Pattern.{FindsText}
-use Rattle.std.specs.declared.alloc.Global.{Global}
 use Rattle.std.specs.declared.borrow.CowStr.{CowStr}
 use Rattle.std.specs.declared.borrow.CowStr.TheVariants as cow
-use Rattle.std.specs.declared.rc.Rc.{Rc}
 use Rattle.semver_base.specs.declared.string.Kept.{Kept}
 use Rattle.semver_base.specs.declared.string.Kept.TheVariants as kept
 use Rattle.semver_base.specs.declared.string.list.Items.{Items}
@@ -32,20 +30,19 @@ pub record IsKept {limit : ℕ} (text : Kept limit) (zeros : ℕ) : Type 0 where
   pub inline : IsInlineIfShort text
   pub zeros_are : zeros ≡ zeros_in_front (kept_bytes text)
 
--- one item, or those of a `Vec`
+-- no item, one, two, or those of a `Vec`
 abbrev pub items_of : {T : Type 0} → Items T → List T
-items_of (items.One one) = one.item ∷ []
-items_of (items.Many many) = many.items
-
--- the items behind a shared pointer, which an empty list lacks
-abbrev pub shared_items : {T : Type 0} → Option (Rc (Items T) Global) → List T
-shared_items None = []
-shared_items (Some shared) = items_of shared.value
+items_of items.None = []
+items_of (items.One one) = one.item.value ∷ []
+items_of (items.Two two) = two.items.value
+items_of (items.Many many) = many.value.items
 
 -- a list with a shared pointer has items
-abbrev pub IsFilledIfShared : {T : Type 0} → Option (Rc (Items T) Global) → Type 0
-IsFilledIfShared None = Unit {0}
-IsFilledIfShared (Some shared) = 0 < length (items_of shared.value)
+abbrev pub IsFilledIfShared : {T : Type 0} → Items T → Type 0
+IsFilledIfShared items.None = Unit {0}
+IsFilledIfShared (items.One one) = Unit {0}
+IsFilledIfShared (items.Two two) = 0 < length two.items.value
+IsFilledIfShared (items.Many many) = 0 < length many.value.items
 
 -- no memory is needed to take the text over: it is owned, or has at most limit bytes
 abbrev pub FitsOrIsOwned : {Z : Type 0} → ℕ → CowStr Z → Type 0

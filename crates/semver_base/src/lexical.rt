@@ -123,8 +123,29 @@ pub fn number(text: &str, strictness: Strictness) -> Option<(Measured<u64>, &str
     }
 }
 
-// Adds an identifier at the end.
+// The list of one identifier.
 #[inline(always)]
+fn one_identifier(alloc: Global, only: &str) -> Result<CowVec<SmallStackString>, AllocError>
+    ensures { IfOk result (λ ids. ids ≡ only.now ∷ []) }
+{
+    CowVec::of_one(alloc, SmallStackString::from_str(alloc, only)?)
+}
+
+// The list of two identifiers.
+#[inline(always)]
+fn two_identifiers(
+    alloc: Global,
+    first: &str,
+    second: &str,
+) -> Result<CowVec<SmallStackString>, AllocError>
+    ensures { IfOk result (λ ids. ids ≡ first.now ∷ second.now ∷ []) }
+{
+    let first = SmallStackString::from_str(alloc, first)?;
+    let second = SmallStackString::from_str(alloc, second)?;
+    CowVec::of_two(alloc, first, second)
+}
+
+// Adds an identifier at the end.
 fn push_identifier(
     alloc: Global,
     identifiers: &mut Vec<SmallStackString>,
@@ -139,7 +160,7 @@ fn push_identifier(
 // One or more identifiers, each one or more of `0-9`, `A-Z`, `a-z` and `-`, with a `.` between neighbours and at most
 // one `.` at the end, which adds no identifier.
 #[inline(never)]
-fn identifiers(
+fn many_identifiers(
     alloc: Global,
     text: &str,
 ) -> Result<Option<(CowVec<SmallStackString>, &str)>, AllocError>
@@ -149,11 +170,7 @@ fn identifiers(
     if first.is_empty() {
         return Ok(None);
     }
-    if after(rest, '.').is_none() {
-        let only = SmallStackString::from_str(alloc, first)?;
-        return Ok(Some((CowVec::of_one(alloc, only)?, rest)));
-    }
-    let mut ids = Vec::with_capacity(alloc, 2)?;
+    let mut ids = Vec::new(alloc);
     push_identifier(alloc, &mut ids, first)?;
     while let Some(next) = after(rest, '.') {
         let (id, more) = identifier_front(next);
@@ -164,6 +181,28 @@ fn identifiers(
         rest = more;
     }
     Ok(Some((CowVec::from_vec(alloc, ids)?, rest)))
+}
+
+// The same. One identifier or two, as most versions have them that have any, take no `Vec`.
+#[inline(never)]
+fn identifiers(
+    alloc: Global,
+    text: &str,
+) -> Result<Option<(CowVec<SmallStackString>, &str)>, AllocError>
+    ensures { IfOk result (λ r. Reads IsIdentifiers text.now (answer_of r)) }
+{
+    let (first, rest) = identifier_front(text);
+    if first.is_empty() {
+        return Ok(None);
+    }
+    let Some(next) = after(rest, '.') else {
+        return Ok(Some((one_identifier(alloc, first)?, rest)));
+    };
+    let (second, rest) = identifier_front(next);
+    if second.is_empty() || after(rest, '.').is_some() {
+        return many_identifiers(alloc, text);
+    }
+    Ok(Some((two_identifiers(alloc, first, second)?, rest)))
 }
 
 // A pre-release: identifiers after a `-`, which the loose grammar lets be missing.

@@ -578,7 +578,7 @@ impl VersionRangeSet {
         ensures { result ≡ tree_means_with pre_release (alternatives self.now.0) version.now }
     {
         // Mostly there is one range, and the numbers tell; then nothing is called.
-        if let [range] = self.0.as_slice()
+        if let Some(range) = self.0.only()
             && let Some(is_match) = range.satisfies_by_numbers(version, pre_release)
         {
             return is_match;
@@ -611,10 +611,24 @@ impl VersionRangeSet {
     }
 
     // Whether some range overlaps some range of the other set.
-    fn has_overlap(&self, other: &VersionRangeSet) -> bool
+    #[inline(never)]
+    fn some_overlap(&self, other: &VersionRangeSet) -> bool
         ensures { result ≡ some_overlap self.now.0 other.now.0 }
     {
         self.0.iter().any(|range| other.overlaps(range))
+    }
+
+    // The same. Mostly both sets have one range.
+    #[inline(always)]
+    fn has_overlap(&self, other: &VersionRangeSet) -> bool
+        ensures { result ≡ some_overlap self.now.0 other.now.0 }
+    {
+        if let Some(range) = self.0.only()
+            && let Some(own) = other.0.only()
+        {
+            return range.intersects_range(own);
+        }
+        self.some_overlap(other)
     }
 
     /// Whether some range of the one set overlaps some range of the other. Where none does, no version matches both

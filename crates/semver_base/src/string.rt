@@ -14,8 +14,8 @@ ghost use Rattle.std.specs.Ordering.{nat_cmp};
 ghost use Rattle.semver_base.specs.Texts.{FitsOrIsOwned, IsInlineIfShort, IsReplaced, kept_bytes, zeros_in_front};
 
 mod append;
+mod few;
 mod list;
-mod one;
 
 pub use append::{StringAppendable, StringType, append_displayed, displayed};
 use arrayvec::ArrayString;

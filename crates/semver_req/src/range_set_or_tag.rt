@@ -53,7 +53,7 @@ fn tag_or(alloc: Global, text: &str, refusal: Refusal) -> Result<RangeSetOrTag, 
 
 // The ranges of a plain text, where each reader answers the same. Where it answers `None` nothing is known of the text.
 #[inline(always)]
-pub(crate) fn plain_set(alloc: Global, text: &str) -> Result<Option<RangeSetOrTag>, AllocError>
+fn plain_set(alloc: Global, text: &str) -> Result<Option<RangeSetOrTag>, AllocError>
     ensures { IfOk result (λ r. IfSome r (IsPlainReading text.now)) }
 {
     let Some(range) = plain_range(text) else {
@@ -85,7 +85,7 @@ impl RangeSetOrTag {
 
     // What the normalized grammar makes of a text, piece by piece.
     #[inline(never)]
-    pub(crate) fn parse_pieces(alloc: Global, text: &str) -> Result<RangeSetOrTag, ParseFailure>
+    fn parse_pieces(alloc: Global, text: &str) -> Result<RangeSetOrTag, ParseFailure>
         ensures reading { IfOk result (IsReading Normal text.now) }
         ensures refused { IfErr result
             (λ failure. (failure ≡ None) ⊎ IsOutcome Normal text.now Refused) }
@@ -121,7 +121,7 @@ impl RangeSetOrTag {
 
     // What npm's grammar makes of a text, piece by piece.
     #[inline(never)]
-    pub(crate) fn parse_npm_pieces(alloc: Global, text: &str) -> Result<RangeSetOrTag, ParseFailure>
+    fn parse_npm_pieces(alloc: Global, text: &str) -> Result<RangeSetOrTag, ParseFailure>
         ensures reading { IfOk result (IsReading Npm text.now) }
         ensures refused { IfErr result
             (λ failure. (failure ≡ None) ⊎ IsOutcome Npm text.now Refused) }

@@ -13,7 +13,7 @@ ghost use Rattle.semver_req.specs.declared.common.values.Flavour.TheVariants.{No
 
 mod least;
 
-use crate::range_set_or_tag::{RangeSetOrTag, plain_set};
+use crate::range_set_or_tag::RangeSetOrTag;
 use semver_base::failure::ParseFailure;
 use semver_base::range::{PreRelease, RangeBound, VersionRange, VersionRangeSet};
 use semver_base::string::{CowVec, SmallStackString, displayed};
@@ -131,11 +131,7 @@ impl VersionReq {
         ensures refusal { IfErr result (λ e. IsCutRefusal Normal text.now e.source) }
     {
         let raw_text = SmallStackString::from_str(alloc, text)?;
-        let plain = plain_set(alloc, text)?;
-        if let Some(inner) = plain {
-            return Ok(VersionReq::from_raw_text_and_inner(raw_text, inner));
-        }
-        let inner = RangeSetOrTag::parse_pieces(alloc, text)?;
+        let inner = RangeSetOrTag::parse(alloc, text)?;
         Ok(VersionReq::from_raw_text_and_inner(raw_text, inner))
     }
 

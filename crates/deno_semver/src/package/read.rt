@@ -9,7 +9,7 @@ ghost use Rattle.deno_semver.specs.PackageText.{scoped_name};
 ghost use Rattle.deno_semver.specs.ReferenceReading.{IsFrontError, IsReadWithPath};
 ghost use Rattle.deno_semver.specs.declared.package.values.PackageReq.{PackageReq};
 
-use super::cut::{lacks_at, parts_of};
+use super::cut::{Cut, lacks_at, parts_of};
 use super::errors::{PackageReqParseError, PackageReqPartsParseError};
 use super::values::{PackageName, PackageReq};
 use semver_base::failure::ParseFailure;
@@ -124,6 +124,31 @@ fn path_error(alloc: Global, tail: &str) -> PackageReqPartsParseError
     PackageReqPartsParseError::SpecifierVersionReq(VersionReqSpecifierParseError { source })
 }
 
+// The requirement of the name and the version that a text was cut into.
+fn req_of(
+    alloc: Global,
+    cut: Cut<'_>,
+    flavour: Flavour,
+) -> Result<PackageReq, PackageReqPartsParseError>
+    ensures name { IfOk result
+        (λ req. req.name ≡ scoped_name (option_copied cut.entry.scope) cut.entry.name.now) }
+    ensures version { IfOk result
+        (λ req. IsVersionReq flavour (option_copied cut.entry.version) req.version_req) }
+    ensures refused { IfErr result (IsPartsRefusal flavour (option_copied cut.entry.version)) }
+{
+    let name = match full_name(alloc, cut.scope, cut.name) {
+        Ok(name) => name,
+        Err(_) => return Err(PackageReqPartsParseError::Memory),
+    };
+    match version_req_or_any(alloc, cut.version, flavour) {
+        Ok(version_req) => Ok(PackageReq { name, version_req }),
+        Err(error) => {
+            drop(name);
+            Err(error)
+        }
+    }
+}
+
 /// The requirement at the front of a text, and the path after it, with its `/` and without; or what is wrong first, which a
 /// path isn't.
 pub(crate) fn read_with_path(
@@ -138,16 +163,9 @@ pub(crate) fn read_with_path(
         Ok(cut) => cut,
         Err(error) => return Err(error),
     };
-    let name = match full_name(alloc, cut.scope, cut.name) {
-        Ok(name) => name,
-        Err(_) => return Err(PackageReqPartsParseError::Memory),
-    };
-    match version_req_or_any(alloc, cut.version, flavour) {
-        Ok(version_req) => Ok((PackageReq { name, version_req }, cut.tail, cut.path)),
-        Err(error) => {
-            drop(name);
-            Err(error)
-        }
+    match req_of(alloc, cut, flavour) {
+        Ok(req) => Ok((req, cut.tail, cut.path)),
+        Err(error) => Err(error),
     }
 }
 
@@ -159,13 +177,17 @@ fn read(
 ) -> Result<PackageReq, PackageReqPartsParseError>
     ensures { IsReadPackage flavour text.now result }
 {
-    let (req, tail, path) = match read_with_path(alloc, text, flavour) {
-        Ok(front) => front,
+    let cut = match parts_of(text) {
+        Ok(cut) => cut,
         Err(error) => return Err(error),
     };
-    if !path.is_empty() {
+    let req = match req_of(alloc, cut, flavour) {
+        Ok(req) => req,
+        Err(error) => return Err(error),
+    };
+    if !cut.path.is_empty() {
         drop(req);
-        return Err(path_error(alloc, tail));
+        return Err(path_error(alloc, cut.tail));
     }
     Ok(req)
 }

@@ -1,16 +1,15 @@
 //! Lists whose copies share their items until one of them grows.
 
-ghost use Rattle.std.specs.Prelude.{◌≡◌, ◌≤◌, ◌<◌, ◌^◌, ◌++◌, [], ◌∷◌, IfOk, OnOk, OnErr, IsTrue, ◌↔◌, length, slice_get};
+ghost use Rattle.std.specs.Prelude.{◌≡◌, ◌≤◌, ◌<◌, ◌^◌, ◌++◌, [], ◌∷◌, IfOk, IfSome, OnOk, OnErr, IsTrue, ◌↔◌, length, slice_get};
 ghost use Rattle.std.specs.Cmp.Lexicographic.{lists_equiv, lists_per, pointwise};
 ghost use Rattle.std.specs.Hash as fed;
 ghost use Rattle.std.specs.Hash.{items_Alike};
 ghost use Rattle.std.specs.Option.{option_copied};
 ghost use Rattle.std.specs.Slice.{IsItemAt};
-ghost use Rattle.semver_base.specs.Texts.{items_of};
 ghost use Rattle.std.specs.Iterator.Adapters.{IterYieldsInOrder};
 ghost use Rattle.std.specs.Slice.Iter.{iter_rest};
 
-use super::one::One;
+use super::few::{One, Two};
 use std::alloc::{AllocError, Global};
 use std::hash::{Hash, Hasher};
 use std::marker::Model;
@@ -24,21 +23,24 @@ pub trait CowItem {
         ensures { IfOk result (λ x. x ≡ self.now) };
 }
 
-// The items of a list that isn't empty. One item stands in the memory of the shared pointer itself.
-#[derive(Drop)]
+// Where the items of a list stand. One or two of them stand in the memory of the shared pointer itself, and whether there is
+// none is known without following it.
 enum Items<T> {
+    None,
     One(One<T>),
-    Many(Vec<T>),
+    Two(Two<T>),
+    Many(Rc<Vec<T>>),
 }
 
-impl<T> Items<T> {
-    #[inline(always)]
-    fn as_slice(&self) -> &[T]
-        ensures { result.now ≡ items_of self.now }
-    {
+// By hand, so that a list that goes out of scope is one call.
+impl<T: Drop> Drop for Items<T> {
+    #[inline]
+    fn drop(self) {
         match self {
-            Items::One(one) => one.as_slice(),
-            Items::Many(items) => items.as_slice(),
+            Items::None => {}
+            Items::One(one) => drop(one),
+            Items::Two(two) => drop(two),
+            Items::Many(many) => drop(many),
         }
     }
 }
@@ -46,30 +48,21 @@ impl<T> Items<T> {
 /// A list, seen in contracts as its items.
 ///
 /// Two lists are equal where they have equal items in the same order.
+#[derive(Drop)]
 pub struct CowVec<T> {
     alloc: Global,
-    // None of an empty list, so that whether it is empty is known without following the pointer.
-    items: Option<Rc<Items<T>>>,
+    items: Items<T>,
 }
 
 impl<T> Model for CowVec<T> {
     ghost use Rattle.std.specs.Prelude.{List};
-    ghost use Rattle.semver_base.specs.Texts.{shared_items, IsFilledIfShared};
+    ghost use Rattle.semver_base.specs.Texts.{items_of, IsFilledIfShared};
 
     ghost Value = { List T };
 
-    ghost view = { λ v. shared_items v.items };
+    ghost view = { λ v. items_of v.items };
 
     ghost invariant = { λ v. IsFilledIfShared v.items };
-}
-
-// By hand, so that a list that goes out of scope is one call.
-impl<T: Drop> Drop for CowVec<T> {
-    #[inline]
-    fn drop(self) {
-        let CowVec { alloc: _, items } = self;
-        drop(items);
-    }
 }
 
 impl<T> CowVec<T> {
@@ -78,7 +71,10 @@ impl<T> CowVec<T> {
     pub fn new(alloc: Global) -> Self
         ensures { result ≡ [] }
     {
-        CowVec { alloc, items: None }
+        CowVec {
+            alloc,
+            items: Items::None,
+        }
     }
 
     /// The items.
@@ -87,8 +83,21 @@ impl<T> CowVec<T> {
         ensures { result.now ≡ self.now }
     {
         match &self.items {
-            None => &[],
-            Some(items) => items.as_slice(),
+            Items::None => &[],
+            Items::One(one) => one.as_slice(),
+            Items::Two(two) => two.as_slice(),
+            Items::Many(many) => many.as_slice(),
+        }
+    }
+
+    // The item of a list of one that was made as such. It is found by one test; where it answers none nothing is known.
+    #[inline(always)]
+    pub(crate) fn only(&self) -> Option<&T>
+        ensures { IfSome result (λ item. self.now ≡ item.now ∷ []) }
+    {
+        match &self.items {
+            Items::One(one) => Some(one.item()),
+            _ => None,
         }
     }
 
@@ -104,7 +113,7 @@ impl<T> CowVec<T> {
     pub fn is_empty(&self) -> bool
         ensures { IsTrue result ↔ (self.now ≡ []) }
     {
-        self.items.is_none()
+        matches!(self.items, Items::None)
     }
 
     /// The item at `index`, if there is one.
@@ -152,26 +161,12 @@ fn copied<T: CowItem + Drop>(alloc: Global, items: &[T]) -> Result<Vec<T>, Alloc
 }
 
 // The items of a list, copied, and one more.
-fn extended<T: CowItem + Drop>(alloc: Global, items: &[T], item: T) -> Result<Items<T>, AllocError>
-    ensures { IfOk result (λ all. items_of all ≡ items.now ++ item ∷ []) }
+fn extended<T: CowItem + Drop>(alloc: Global, items: &[T], item: T) -> Result<Vec<T>, AllocError>
+    ensures { IfOk result (λ all. all.items ≡ items.now ++ item ∷ []) }
 {
     let mut all = copied(alloc, items)?;
     all.push(item)?;
-    Ok(Items::Many(all))
-}
-
-impl<T: CowItem + Drop> Items<T> {
-    // Appends `item`. Where no memory is left the items are unchanged and the item is dropped.
-    fn push(&mut self, alloc: Global, item: T) -> Result<(), AllocError>
-        ensures ok { OnOk result (items_of self.new ≡ items_of self.old ++ item ∷ []) }
-        ensures err { OnErr result (items_of self.new ≡ items_of self.old) }
-    {
-        match self {
-            Items::Many(items) => items.push(item)?,
-            Items::One(_) => *self = extended(alloc, self.as_slice(), item)?,
-        }
-        Ok(())
-    }
+    Ok(all)
 }
 
 impl<T: CowItem + Drop> CowVec<T> {
@@ -181,13 +176,14 @@ impl<T: CowItem + Drop> CowVec<T> {
         ensures err { OnErr result (self.new ≡ self.old) }
     {
         let alloc = self.alloc;
-        if let Some(shared) = &mut self.items {
+        if let Items::Many(shared) = &mut self.items {
             if let Some(items) = Rc::get_mut(shared) {
-                return items.push(alloc, item);
+                items.push(item)?;
+                return Ok(());
             }
         }
         let items = extended(alloc, self.as_slice(), item)?;
-        self.items = Some(Rc::new(alloc, items)?);
+        self.items = Items::Many(Rc::new(alloc, items)?);
         Ok(())
     }
 
@@ -196,10 +192,20 @@ impl<T: CowItem + Drop> CowVec<T> {
     pub fn of_one(alloc: Global, item: T) -> Result<Self, AllocError>
         ensures { IfOk result (λ v. v ≡ item ∷ []) }
     {
-        let one = One::new(item)?;
         Ok(CowVec {
             alloc,
-            items: Some(Rc::new(alloc, Items::One(one))?),
+            items: Items::One(One::new(alloc, item)?),
+        })
+    }
+
+    // The list of two items, in one request for memory. It is an error only where no memory is left.
+    #[inline(always)]
+    pub(crate) fn of_two(alloc: Global, first: T, second: T) -> Result<Self, AllocError>
+        ensures { IfOk result (λ v. v ≡ first ∷ second ∷ []) }
+    {
+        Ok(CowVec {
+            alloc,
+            items: Items::Two(Two::new(alloc, first, second)?),
         })
     }
 
@@ -213,21 +219,24 @@ impl<T: CowItem + Drop> CowVec<T> {
         }
         Ok(CowVec {
             alloc,
-            items: Some(Rc::new(alloc, Items::Many(items))?),
+            items: Items::Many(Rc::new(alloc, items)?),
         })
     }
 
-    /// The same list again. It is an error only where no memory is left.
+    /// The same list again, whose items both share. It is an error only where no memory is left.
     pub fn copy(&self) -> Result<Self, AllocError>
         ensures { IfOk result (λ v. v ≡ self.now) }
     {
-        match &self.items {
-            None => Ok(CowVec::new(self.alloc)),
-            Some(items) => Ok(CowVec {
-                alloc: self.alloc,
-                items: Some(items.clone()?),
-            }),
-        }
+        let items = match &self.items {
+            Items::None => Items::None,
+            Items::One(one) => Items::One(one.copy()?),
+            Items::Two(two) => Items::Two(two.copy()?),
+            Items::Many(many) => Items::Many(many.clone()?),
+        };
+        Ok(CowVec {
+            alloc: self.alloc,
+            items,
+        })
     }
 }
 

@@ -6,7 +6,7 @@ ghost use Rattle.semver_req.specs.PieceReading.{IsCutRefusal};
 ghost use Rattle.semver_req.specs.Readers.{IsReaderAnswer};
 ghost use Rattle.semver_req.specs.declared.common.values.Flavour.TheVariants.{Npm};
 
-use crate::range_set_or_tag::{RangeSetOrTag, plain_set};
+use crate::range_set_or_tag::RangeSetOrTag;
 use crate::req::VersionReq;
 use semver_base::failure::ParseFailure;
 use semver_base::string::SmallStackString;
@@ -81,11 +81,7 @@ pub fn parse_npm_version_req(
     ensures refusal { IfErr result (λ e. IsCutRefusal Npm (trim text.now) e.source) }
 {
     let raw_text = SmallStackString::from_str(alloc, text.trim())?;
-    let plain = plain_set(alloc, text)?;
-    if let Some(inner) = plain {
-        return Ok(VersionReq::from_raw_text_and_inner(raw_text, inner));
-    }
-    let inner = RangeSetOrTag::parse_npm_pieces(alloc, text)?;
+    let inner = RangeSetOrTag::parse_npm(alloc, text)?;
     Ok(VersionReq::from_raw_text_and_inner(raw_text, inner))
 }
 

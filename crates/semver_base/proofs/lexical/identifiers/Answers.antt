@@ -7,22 +7,12 @@ use Rattle.semver_base.proofs.lexical.identifiers.Goals as goal
 pub returns-then-is_empty : goal.returns-then-is_empty
 returns-then-is_empty c = listed_none (run_unseen c.identifier_front.ensures (search rules))
 
-pub returns-then-is_none : goal.returns-then-is_none
-returns-then-is_none c =
-    rw (c.in_ok-of_one.ensures, c.in_ok-only.ensures.value) ((so_far_one identifiers_listing (run_seen c.identifier_front.ensures (search rules))).at_end (byte_none 46 _ _ (search rules) c.after.ensures))
+pub returns-in_default : goal.returns-in_default
+returns-in_default c =
+    rw c.in_ok-one_identifier.ensures ((so_far_one identifiers_listing (run_seen c.identifier_front.ensures (search rules))).at_end (byte_none 46 _ _ (search rules) c.after.ensures))
 
-pub loop-next-init : goal.loop-next-init
-loop-next-init c = record {
-  is_text = search rules;
-  so_far = rw (c.in_ok-push_identifier.ensures, c.in_ok-ids.ensures.items) (so_far_one identifiers_listing (run_seen c.identifier_front.ensures (search rules)));
-}
-
-pub returns-then-is_empty-2 : goal.returns-then-is_empty-2
-returns-then-is_empty-2 c =
-    rw c.in_ok-from_vec.ensures (c.loop-next.invariant.so_far.at_separator c.in-Some.next.now tt (byte_longest 46 c.loop-next.rest.now c.in-Some.next.now c.in-Some.ensures) (run_unseen c.identifier_front-in-Some.ensures (search rules)))
-
-pub loop-next-preserved : goal.loop-next-preserved
-loop-next-preserved c = record {
-  is_text = search rules;
-  so_far = rw c.in_ok-push_identifier-2.ensures (so_far_more identifiers_listing c.loop-next.invariant.so_far (byte_longest 46 c.loop-next.rest.now c.in-Some.next.now c.in-Some.ensures) (run_seen c.identifier_front-in-Some.ensures (search rules)));
-}
+pub returns : goal.returns
+returns c =
+    let one = so_far_one identifiers_listing (run_seen c.identifier_front.ensures (search rules)) in
+    let two = so_far_more identifiers_listing one (byte_longest 46 c.identifier_front.result.1.now c.in-Some.next.now c.in-Some.ensures) (run_seen c.identifier_front-2.ensures (search rules)) in
+    rw c.in_ok-two_identifiers.ensures (two.at_end (byte_none 46 _ _ (search rules) c.after-else-is_empty-2.ensures))

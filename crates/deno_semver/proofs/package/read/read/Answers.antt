@@ -1,10 +1,15 @@
-use Rattle.std.proofs.Common.{◌≡◌, ◌<◌, ◌==◌, List, ℕ, Bool, length, true, false, arith}
+use Rattle.std.proofs.Common.{◌≡◌, ◌<◌, ◌==◌, List, ℕ, Bool, length, true, false, refl, arith}
 use Rattle.std.proofs.lemmas.Bool.Decides.{nat_tests}
-use Rattle.deno_semver.proofs.PackageFaults.{front_error, no_path, path_fault}
+use Rattle.deno_semver.specs.ReferenceReading.{IsReadWithPath}
+use Rattle.deno_semver.proofs.PackageFaults.{front_error, no_path, path_fault, uncut_error, version_error}
 use Rattle.deno_semver.proofs.package.read.read.Goals as goal
 
 pub returns-in-Err : goal.returns-in-Err
-returns-in-Err c = front_error c.args.flavour c.args.text.now c.in-Err.ensures.refused
+returns-in-Err c = front_error c.args.flavour c.args.text.now (uncut_error c.args.flavour c.args.text.now c.in-Err.ensures.uncut)
+
+pub returns-in-Err-req_of : goal.returns-in-Err-req_of
+returns-in-Err-req_of c =
+    front_error c.args.flavour c.args.text.now (version_error c.args.flavour c.args.text.now _ c.in-Ok.ensures.cut.parts c.in-Err-req_of.ensures.refused)
 
 some_left : (xs : List ℕ) (b : Bool) → b ≡ (length xs == 0) → b ≡ false → 0 < length xs
 some_left xs b e f = grind (arith, nat_tests)
@@ -14,7 +19,10 @@ none_left xs b e f = grind (arith, nat_tests)
 
 pub returns-then-not-is_empty : goal.returns-then-not-is_empty
 returns-then-not-is_empty c =
-    path_fault c.args.flavour c.args.text.now c.in-Ok.ensures.read (some_left _ _ c.is_empty.ensures c.if-not-is_empty.true) c.path_error.ensures
+    let read : IsReadWithPath c.args.flavour c.args.text.now _ _ _ = record { cut = _; is_cut = c.in-Ok.ensures.cut.parts; name = c.in-Ok-req_of.ensures.name; version_req = c.in-Ok-req_of.ensures.version; path_is = refl; tail_is = c.in-Ok.ensures.cut.path_is } in
+    path_fault c.args.flavour c.args.text.now read (some_left _ _ c.is_empty.ensures c.if-not-is_empty.true) c.path_error.ensures
 
 pub returns : goal.returns
-returns c = no_path c.args.flavour c.args.text.now c.in-Ok.ensures.read (none_left _ _ c.is_empty.ensures c.if-not-is_empty.false)
+returns c =
+    let read : IsReadWithPath c.args.flavour c.args.text.now _ _ _ = record { cut = _; is_cut = c.in-Ok.ensures.cut.parts; name = c.in-Ok-req_of.ensures.name; version_req = c.in-Ok-req_of.ensures.version; path_is = refl; tail_is = c.in-Ok.ensures.cut.path_is } in
+    no_path c.args.flavour c.args.text.now read (none_left _ _ c.is_empty.ensures c.if-not-is_empty.false)

@@ -4,5 +4,5 @@ use Rattle.deno_semver.proofs.package.read.read_with_path.Goals as goal
 pub returns-in-Err-clause-refused : goal.returns-in-Err-clause-refused
 returns-in-Err-clause-refused c = uncut_error c.args.flavour c.args.text.now c.in-Err.ensures.uncut
 
-pub returns-in-Err-version_req_or_any-clause-refused : goal.returns-in-Err-version_req_or_any-clause-refused
-returns-in-Err-version_req_or_any-clause-refused c = version_error c.args.flavour c.args.text.now _ c.in-Ok.ensures.cut.parts c.in-Err-version_req_or_any.ensures.refused
+pub returns-in-Err-req_of-clause-refused : goal.returns-in-Err-req_of-clause-refused
+returns-in-Err-req_of-clause-refused c = version_error c.args.flavour c.args.text.now _ c.in-Ok.ensures.cut.parts c.in-Err-req_of.ensures.refused

@@ -18,13 +18,4 @@ returns-in_err-raw_text-clause-refusal c =
     err_tells (λ e. e.source) c.from_residual.result None (IsCutRefusal Npm (trim c.args.text.now)) c.from_residual.ensures.1 memory_wanting
 
 pub returns-clause-reads : goal.returns-clause-reads
-returns-clause-reads c = rw c.from_raw_text_and_inner-2.ensures (answers_read Npm c.args.text.now (λ e. e.source) (record { raw_text = c.in_ok-raw_text.raw_text; inner = c.in_ok-inner.inner }) c.utf8.text c.in_ok-inner.ensures.reading (rw c.trim.ensures.trim at c.in_ok-raw_text.ensures.value))
-
-pub returns-in_err-plain-clause-refusal : goal.returns-in_err-plain-clause-refusal
-returns-in_err-plain-clause-refusal c =
-    err_tells (λ e. e.source) c.from_residual-in_err-plain.result None (IsCutRefusal Npm (trim c.args.text.now)) c.from_residual-in_err-plain.ensures.1 memory_wanting
-
-pub returns-in-Some-clause-reads : goal.returns-in-Some-clause-reads
-returns-in-Some-clause-reads c =
-    let plain = (rw c.in-Some.is at c.in_ok-plain.ensures) Npm in
-    rw c.from_raw_text_and_inner.ensures (answers_read Npm c.args.text.now (λ e. e.source) (record { raw_text = c.in_ok-raw_text.raw_text; inner = c.in-Some.inner }) c.utf8.text plain (rw c.trim.ensures.trim at c.in_ok-raw_text.ensures.value))
+returns-clause-reads c = rw c.from_raw_text_and_inner.ensures (answers_read Npm c.args.text.now (λ e. e.source) (record { raw_text = c.in_ok-raw_text.raw_text; inner = c.in_ok-inner.inner }) c.utf8.text c.in_ok-inner.ensures.reading (rw c.trim.ensures.trim at c.in_ok-raw_text.ensures.value))

@@ -21,10 +21,10 @@ use denote.Triple.Walked.{Stays, walk_of}
 use Rattle.std.specs.Mem.{FitsInMemory}
 use Rattle.std.proofs.raw_atomic.Walks.{proved_at}
 use Rattle.semver_base.proofs.Tokens.{token, Token, token_made, ends}
-use Rattle.semver_base.specs.contracts.string.one.Small.new.{ended, clauses}
-use Rattle.semver_base.specs.contracts.string.one.Small.new.Key.{name as #self}
-use Rattle.semver_base.proofs.string.one.Small.new.Statement.{statement}
-use Rattle.semver_base.proofs.string.one.Small.new.Code as code
+use Rattle.semver_base.specs.contracts.string.few.Small.new.{ended, clauses}
+use Rattle.semver_base.specs.contracts.string.few.Small.new.Key.{name as #self}
+use Rattle.semver_base.proofs.string.few.Small.new.Statement.{statement}
+use Rattle.semver_base.proofs.string.few.Small.new.Code as code
 
 pub new_spec : {M : Type 1} → statement M
 new_spec 𝓤 𝓛 𝓜 𝓡 wired T L =

@@ -25,11 +25,11 @@ use Rattle.std.specs.Mem.{FitsInMemory}
 use Rattle.std.proofs.raw_atomic.Walks.{proved}
 use Rattle.semver_base.proofs.Tokens.{Token, ends}
 use Rattle.semver_base.specs.Ownership.{fits_in_memory}
-use Rattle.semver_base.specs.contracts.string.one.Small as small
-use Rattle.semver_base.specs.contracts.string.one.Small.tell.{ended, clauses}
-use Rattle.semver_base.specs.contracts.string.one.Small.tell.Key.{name as #self}
-use Rattle.semver_base.proofs.string.one.Small.tell.Statement.{statement}
-use Rattle.semver_base.proofs.string.one.Small.tell.Code as code
+use Rattle.semver_base.specs.contracts.string.few.Small as small
+use Rattle.semver_base.specs.contracts.string.few.Small.tell.{ended, clauses}
+use Rattle.semver_base.specs.contracts.string.few.Small.tell.Key.{name as #self}
+use Rattle.semver_base.proofs.string.few.Small.tell.Statement.{statement}
+use Rattle.semver_base.proofs.string.few.Small.tell.Code as code
 
 pub tell_spec : {M : Type 1} → statement M
 tell_spec 𝓤 𝓛 𝓜 𝓡 wired T L =

@@ -7,8 +7,8 @@ use denote.Struct.Laws.{field_copy}
 use denote.Struct.Lending.{Lends-said, of_Lends}
 use Rattle.std.specs.contracts.marker.PhantomData as marker
 use Rattle.semver_base.specs.Ownership.{fits_in_memory}
-use Rattle.semver_base.specs.contracts.string.one.Small as C
-use Rattle.semver_base.proofs.string.one.Small.TheLaw.Statement.{statement}
+use Rattle.semver_base.specs.contracts.string.few.Small as C
+use Rattle.semver_base.proofs.string.few.Small.TheLaw.Statement.{statement}
 
 pub shares : (T : RattleType) (L : Laws T) → statement T L
 shares T L = of_Lends (C.struct T) (C.the_codes T.Denot T.coded) (C.the_heap T) (C.the_lent T)
