@@ -1,11 +1,11 @@
 -- What the text of a package is cut into, and that it is one cut.
-use Rattle.std.proofs.Common.{◌≡◌, ◌<◌, ◌==◌, ◌≢◌, ℕ, true, false, List, [], ◌∷◌, ◌++◌, length, drop, get_or, Option, Some, None, refl, sym, ap, ◌∙◌, arith, length-append}
-use Rattle.std.specs.List.{list_all, take_while}
-use Rattle.std.specs.Str.{IsCharBoundary, NoCharPasses}
-use Rattle.std.specs.Str.Pattern.{RFindsChar, SplitsAroundMatch}
+use Rattle.std.proofs.Common.{◌≡◌, ◌<◌, ◌==◌, ◌≢◌, ℕ, true, false, List, [], ◌∷◌, ◌++◌, length, take, drop, get_or, Option, Some, None, refl, sym, ap, ◌∙◌, arith, length-append}
+use Rattle.std.specs.List.{list_all}
+use Rattle.std.specs.Str.{NoCharPasses}
+use Rattle.std.specs.Str.Pattern.{FindsChar, MatchBeginsAt, RFindsChar, SplitsAroundMatch}
 use Rattle.std.proofs.lemmas.Bool.{and_parts}
 use Rattle.std.proofs.lemmas.Bool.Decides.{nat_tests}
-use Rattle.std.proofs.lemmas.List.{nil_from_length, take-append-drop}
+use Rattle.std.proofs.lemmas.List.{append-nil, nil_from_length, take-append-drop}
 use Rattle.std.proofs.lemmas.List.Elements.{All-from_get_or}
 use Rattle.std.proofs.lemmas.List.Sums.{list_all-from_AllPass}
 use Rattle.std.proofs.lemmas.Str.Pattern.{NoCharPasses-char, drop_at_char}
@@ -13,33 +13,36 @@ use Rattle.semver_base.specs.Grammar.{CutsRun}
 use Rattle.deno_semver.specs.Cuts.{is_not}
 use Rattle.deno_semver.specs.PackageSteps.{IsCut}
 use Rattle.deno_semver.specs.PackageText.{IsAfterScope, IsNamePart, IsPackageText, IsPathPart, IsScope, IsScopeAlone, LacksLast, LacksPart, PackageParts, starts_with_at, without_slash}
-use Rattle.deno_semver.proofs.Runs.{cut_before, run_one, run_stop}
+use Rattle.deno_semver.proofs.Runs.{run_one}
 
 -- ---- at each `/`
 
-slash_low : (b : ℕ) → is_not 47 b ≡ false → b < 128
-slash_low b h = grind (arith, nat_tests)
+is_other : (m b : ℕ) → b ≢ m → is_not m b ≡ true
+is_other m b h = grind (arith, nat_tests)
 
-pub part_boundary : (xs : List ℕ) (n : ℕ) → n ≡ length (take_while (is_not 47) xs) → IsCharBoundary xs n
-part_boundary xs n e =
-    let stop = run_stop (is_not 47) xs in
-    cut_before xs n (rw e stop.0) (λ h. slash_low (get_or xs n 0) (rw e (stop.1 (rw e at h))))
+none_passes : (m : ℕ) (xs : List ℕ) → m < 128 → NoCharPasses (λ d. d == m) xs → list_all (is_not m) xs ≡ true
+none_passes m xs low h =
+    list_all-from_AllPass (is_not m) xs (All-from_get_or (λ b. is_not m b ≡ true) xs 0 (λ k l. is_other m (get_or xs k 0) (NoCharPasses-char m xs k h low l)))
+
+pub no_slash : (text : List ℕ) → NoCharPasses (λ d. d == 47) text → CutsRun (is_not 47) text text []
+no_slash text h = record { text_is = sym (append-nil text); pass = none_passes 47 text (omega arith) h; stops = tt }
+
+pub at_slash : (text first rest : List ℕ) (at : ℕ) → MatchBeginsAt (FindsChar 47) text at → first ≡ take at text → rest ≡ drop at text → CutsRun (is_not 47) text first rest
+at_slash text first rest at h f g = record {
+  text_is = rw (f, g) (sym (take-append-drop at text));
+  pass = rw f (none_passes 47 (take at text) (omega arith) h.1.0);
+  stops = rw (g, drop_at_char 47 text at h.0 h.1.1 (omega arith)) refl;
+}
 
 -- ---- at the last `@`
 
-is_not_at : (b : ℕ) → b ≢ 64 → is_not 64 b ≡ true
-is_not_at b h = grind (arith, nat_tests)
-
-none_passes : (xs : List ℕ) → NoCharPasses (λ d. d == 64) xs → list_all (is_not 64) xs ≡ true
-none_passes xs h = list_all-from_AllPass (is_not 64) xs (All-from_get_or (λ b. is_not 64 b ≡ true) xs 0 (λ k l. is_not_at (get_or xs k 0) (NoCharPasses-char 64 xs k h (omega arith) l)))
-
 pub no_at : (last : List ℕ) → NoCharPasses (λ d. d == 64) last → IsNamePart last last None
-no_at last h = (refl, none_passes last h)
+no_at last h = (refl, none_passes 64 last (omega arith) h)
 
 pub at_last : (last name version : List ℕ) → SplitsAroundMatch (RFindsChar 64) last name version → IsNamePart last name (Some version)
 at_last last name version h = (
   sym (take-append-drop h.0 last) ∙ (ap (λ t. t ++ drop h.0 last) (sym h.3) ∙ ap (λ t. name ++ t) (drop_at_char 64 last h.0 h.1 h.2.1 (omega arith) ∙ ap (λ t. 64 ∷ t) (sym h.4))),
-  none_passes version (rw h.4 h.2.0),
+  none_passes 64 version (omega arith) (rw h.4 h.2.0),
 )
 
 pub holds_at : (a v : List ℕ) → list_all (is_not 64) (a ++ (64 ∷ v)) ≡ true → ⊥

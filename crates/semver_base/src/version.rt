@@ -1,10 +1,9 @@
 //! Versions: how they are read and written, and their precedence.
 
-ghost use Rattle.std.specs.Prelude.{◌≡◌, ◌<◌, ◌+◌, ◌*◌, ◌^◌, ◌==◌, ◌&&◌, ◌∷◌, ◌↔◌, ◌⊎◌, length, refl, Result, Ok, Err, IfOk, IfErr, IfSome, IsTrue, [], None, Some, if◌then◌else◌};
+ghost use Rattle.std.specs.Prelude.{◌≡◌, ◌<◌, ◌==◌, ◌&&◌, ◌∷◌, ◌↔◌, ◌⊎◌, length, refl, Result, Ok, Err, IfOk, IfErr, IfSome, IsTrue, [], None, Some, if◌then◌else◌};
 ghost use Rattle.std.specs.Fmt.{DisplaysOnOk};
 ghost use Rattle.std.specs.Str.{trim};
 ghost use Rattle.std.specs.Cmp.{IsTotalOrder};
-ghost use Rattle.std.specs.Ordering.{is_gt, is_lt};
 ghost use Rattle.std.specs.Cmp.Lexicographic.{slice_cmp};
 ghost use Rattle.std.specs.Ordering.{as_partial_cmp};
 ghost use Rattle.semver_base.specs.Characters.{equals_sign, letter_v};
@@ -402,34 +401,18 @@ fn precedence(a: &Version, b: &Version) -> Ordering
     cmp_pre(&a.pre, &b.pre)
 }
 
-// The major and the minor number as one, which is compared in one step.
-#[inline(always)]
-fn leading_numbers(version: &Version) -> u128
-    ensures value { result ≡ version.now.major * 2 ^ 64 + version.now.minor }
-    ensures minor_fits { version.now.minor < 2 ^ 64 }
-{
-    version.major as u128 * (1 << 64) + version.minor as u128
-}
-
-// Whether the numbers of `a` are below those of `b`. It takes no branch, since what sorts versions can't foresee which way
-// it goes.
-#[inline(always)]
-fn is_below_by_numbers(a: &Version, b: &Version) -> bool
-    ensures below { result ≡ is_lt (numbers_cmp a.now b.now) }
-    ensures above { result ≡ is_gt (numbers_cmp b.now a.now) }
-{
-    let (x, y) = (leading_numbers(a), leading_numbers(b));
-    (x < y) | (!(y < x) & (a.patch < b.patch))
-}
-
-// The order of the three numbers.
+// The order of the three numbers: those of `b` are taken off those of `a`, as digits are in writing, from the last on. So one
+// pass tells whether they are below and whether they tie, with no branch between, since what sorts versions can't foresee
+// which way it goes.
 #[inline(always)]
 fn cmp_numbers(a: &Version, b: &Version) -> Ordering
     ensures { result ≡ numbers_cmp a.now b.now }
 {
-    let is_below = is_below_by_numbers(a, b);
-    let is_above = is_below_by_numbers(b, a);
-    if is_below == is_above {
+    let (patch, lacks) = a.patch.borrowing_sub(b.patch, false);
+    let (minor, lacks) = a.minor.borrowing_sub(b.minor, lacks);
+    let (major, is_below) = a.major.borrowing_sub(b.major, lacks);
+    // A sum, of which the compiler makes no three tests.
+    if major as u128 + minor as u128 + patch as u128 == 0 {
         Ordering::Equal
     } else if is_below {
         Ordering::Less

@@ -1,7 +1,7 @@
 //! How the text of a package is cut.
 
-ghost use Rattle.std.specs.Prelude.{◌≡◌, ◌⊎◌, IfErr, IfOk, length, ◌==◌};
-ghost use Rattle.std.specs.List.{list_any, take_while};
+ghost use Rattle.std.specs.Prelude.{◌≡◌, ◌⊎◌, IfErr, IfOk, ◌==◌};
+ghost use Rattle.std.specs.List.{list_any};
 ghost use Rattle.std.specs.Option.{option_copied};
 ghost use Rattle.semver_base.specs.Characters.{slash};
 ghost use Rattle.semver_base.specs.Grammar.{CutsRun, Stops};
@@ -34,19 +34,14 @@ pub(crate) fn without_slash(text: &str) -> &str
     }
 }
 
-/// How many bytes stand before the first one that is `byte`.
-#[inline(always)]
-pub(super) fn count_before(byte: u8, bytes: &[u8]) -> usize
-    ensures { result ≡ length (take_while (is_not byte) bytes.now) }
-{
-    bytes.iter().take_while(|b| **b != byte).count()
-}
-
 // What stands before the first `/`, and what follows from that on.
 fn segment_and_rest(text: &str) -> (&str, &str)
     ensures { CutsRun (is_not slash) text.now result.0.now result.1.now }
 {
-    text.split_at(count_before(b'/', text.as_bytes()))
+    match text.find('/') {
+        Some(at) => text.split_at(at),
+        None => (text, ""),
+    }
 }
 
 // What follows the `/` at the front, or nothing.

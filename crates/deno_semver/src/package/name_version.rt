@@ -2,6 +2,7 @@
 
 ghost use Rattle.std.specs.Prelude.{◌≡◌, ◌↔◌, ◌⊎◌, [], IfErr, IfOk, IsTrue, List, MatchOption, Ok, Result, length, true, ℕ};
 ghost use Rattle.std.specs.List.{list_all, take_while};
+ghost use Rattle.semver_base.specs.Characters.{at_sign};
 ghost use Rattle.semver_base.specs.Grammar.{CutsRun};
 ghost use Rattle.semver_base.specs.VersionText.{ReadsBack, version_text};
 ghost use Rattle.semver_base.specs.declared.failure.Refusal.{Refusal};
@@ -9,11 +10,11 @@ ghost use Rattle.semver_base.specs.declared.failure.Refusal.TheVariants.{Unexpec
 ghost use Rattle.semver_req.specs.Readers.{IsReadOrTag};
 ghost use Rattle.semver_req.specs.Requirement.{PinsTo, pinned, ranges_of};
 ghost use Rattle.semver_req.specs.Rereading.{IsSettledSet, OfReadVersion};
+ghost use Rattle.deno_semver.specs.Cuts.{is_not};
 ghost use Rattle.deno_semver.specs.NameAndVersion.{IsNoNvText, IsNvAnswer, IsNvFront, IsNvMemory, IsNvOutcome, IsNvRefusal, IsNvText, NvReadsBack, TellsNvFault, is_version_byte};
 ghost use Rattle.deno_semver.specs.NameAndVersionSteps.{IsFrontAnswer, IsFrontRefusal, IsNameCut, TellsFailure, name_len};
 ghost use Rattle.deno_semver.specs.declared.package.values.PackageNv.{PackageNv};
 
-use super::cut::count_before;
 use super::values::{PackageName, PackageNv, PackageReq};
 use semver_base::failure::Refusal;
 use semver_base::laws::version_texts_are_plain;
@@ -94,13 +95,20 @@ struct Parts<'a> {
     rest: &'a str,
 }
 
+// How many bytes stand before the first `@`.
+fn len_before_at(bytes: &[u8]) -> usize
+    ensures { result ≡ length (take_while (is_not at_sign) bytes.now) }
+{
+    bytes.iter().take_while(|b| **b != b'@').count()
+}
+
 // How many bytes the name at the front has: one, and those before the next `@`.
 fn name_len(bytes: &[u8]) -> usize
     ensures { result ≡ name_len bytes.now }
 {
     match bytes.split_first() {
         None => 0,
-        Some((_, more)) => count_before(b'@', more) + 1,
+        Some((_, more)) => len_before_at(more) + 1,
     }
 }
 
