@@ -113,6 +113,7 @@ impl Version {
     /// grammar. Want of memory is an error too.
     ///
     /// The text of a version that was read is read as that version again, build included.
+    #[inline(always)]
     pub fn parse_standard(alloc: Global, text: &str) -> Result<Version, VersionParseError>
         ensures read { IfOk result (λ version. IsVersionOutcome (trim text.now) (Ok version)) }
         ensures reads_back { IfOk result ReadsBack }
