@@ -1,10 +1,12 @@
 //! Packages: requirements of them, and names with versions.
 
+use crate::told;
+use crate::told::{Copied, Refusal, Told};
 use deno_semver::package::{
     PackageNv, PackageNvParseError, PackageReq, PackageReqParseError, PackageReqPartsParseError,
 };
-use requirement_cases::asked::{both, pair};
-use requirement_cases::words::{Answer, Fault, Word, answer};
+use requirement_cases::asked::{both, only, pair};
+use requirement_cases::words::{Answer, Fault, Word, answer, single, two};
 use std::alloc::{AllocError, Global};
 use std::cmp::Ordering;
 
@@ -35,9 +37,16 @@ fn read(
     }
 }
 
-/// Why a call has no answer whose text of a package was refused.
-pub fn fault(error: PackageReqParseError) -> Fault {
-    Fault::unless_memory(error.is_memory())
+impl Refusal for PackageReqParseError {
+    fn wants_memory(&self) -> bool {
+        self.is_memory()
+    }
+}
+
+impl Refusal for PackageNvParseError {
+    fn wants_memory(&self) -> bool {
+        self.is_memory()
+    }
 }
 
 /// The kind of an error.
@@ -53,178 +62,157 @@ pub fn kind(error: &PackageReqPartsParseError) -> Result<&'static str, Fault> {
     }
 }
 
-// What is told of a requirement that was read.
-fn told(alloc: Global, req: &PackageReq) -> Answer {
-    let normal = req.to_string_normalized(alloc)?;
-    let displayed = format!(in alloc; "{req}")?;
-    answer(
-        alloc,
-        &[
-            Some("read"),
-            Some(req.name.as_str()),
-            Some(req.version_req.version_text()),
-            Some(normal.as_str()),
-            Some(displayed.as_str()),
-        ],
-    )
+impl Copied for PackageReq {
+    fn copied(&self) -> Result<PackageReq, AllocError> {
+        self.copy()
+    }
+}
+
+impl Told for PackageReq {
+    fn told(&self, alloc: Global) -> Answer {
+        let normal = self.to_string_normalized(alloc);
+        let texts = both(normal, format!(in alloc; "{self}"))?;
+        let told = answer(
+            alloc,
+            &[
+                Some("read"),
+                Some(self.name.as_str()),
+                Some(self.version_req.version_text()),
+                Some(texts.one.as_str()),
+                Some(texts.other.as_str()),
+            ],
+        );
+        drop(texts);
+        told
+    }
+}
+
+impl Copied for PackageReqParseError {
+    fn copied(&self) -> Result<PackageReqParseError, AllocError> {
+        self.copy()
+    }
+}
+
+impl Told for PackageReqParseError {
+    fn told(&self, alloc: Global) -> Answer {
+        two(alloc, "refused", kind(&self.source)?)
+    }
 }
 
 // `package`, `strict`, `loose` or `normalized`, and the text of a package: `read`, the name, the text of the requirement
 // of versions, and the requirement with its normal text and as it is displayed; or `refused` and the kind of the error.
 fn package(alloc: Global, words: &[Word<'_>]) -> Answer {
     let (reader, text) = pair(words)?;
-    told_outcome(alloc, read(alloc, reader, text)?)
-}
-
-fn told_outcome(alloc: Global, read: Result<PackageReq, PackageReqParseError>) -> Answer {
-    match read {
-        Ok(req) => {
-            let told = told_copy(alloc, &req);
-            drop(req);
-            told
-        }
-        Err(error) => {
-            let told = refused_copy(alloc, &error);
-            drop(error);
-            told
-        }
-    }
-}
-
-fn told_copy(alloc: Global, req: &PackageReq) -> Answer {
-    told(alloc, &req.copy()?)
-}
-
-fn refused_copy(alloc: Global, error: &PackageReqParseError) -> Answer {
-    refused(alloc, &error.copy()?)
-}
-
-fn refused(alloc: Global, error: &PackageReqParseError) -> Answer {
-    answer(alloc, &[Some("refused"), Some(kind(&error.source)?)])
+    told::copy_of_either(alloc, read(alloc, reader, text)?)
 }
 
 // `package-error`, a reader as above, and the text of a package that is refused: the lines of the error and of its source.
 fn package_error(alloc: Global, words: &[Word<'_>]) -> Answer {
     let (reader, text) = pair(words)?;
-    lines_of_refusal(alloc, read(alloc, reader, text)?)
+    lines(alloc, told::refused(read(alloc, reader, text)?))
 }
 
-fn lines_of_refusal(alloc: Global, read: Result<PackageReq, PackageReqParseError>) -> Answer {
-    match read {
-        Ok(req) => {
-            drop(req);
-            Err(Fault::Unreadable)
-        }
-        Err(error) => {
-            let lines = lines(alloc, &error);
-            drop(error);
-            lines
-        }
-    }
-}
-
-// The lines of the error and of its source.
-fn lines(alloc: Global, error: &PackageReqParseError) -> Answer {
-    if error.is_memory() {
-        return Err(Fault::OutOfMemory);
-    }
-    let line = format!(in alloc; "{error}")?;
+// The lines of the error and of its source, or why there is none.
+fn lines(alloc: Global, error: Result<PackageReqParseError, Fault>) -> Answer {
+    let error = error?;
     let source = &error.source;
-    let inner = format!(in alloc; "{source}")?;
-    answer(alloc, &[Some(line.as_str()), Some(inner.as_str())])
+    let line = format!(in alloc; "{error}");
+    let lines = both(line, format!(in alloc; "{source}"));
+    drop(error);
+    let lines = lines?;
+    let told = two(alloc, lines.one.as_str(), lines.other.as_str());
+    drop(lines);
+    told
 }
 
 /// The requirement of a package that npm's reader reads.
 pub fn by_npm(alloc: Global, text: &str) -> Result<PackageReq, Fault> {
-    PackageReq::from_str_loose(alloc, text).map_err(fault)
+    told::value(PackageReq::from_str_loose(alloc, text))
 }
 
 /// The name with a version that a text is.
 pub fn name_with_version(alloc: Global, text: &str) -> Result<PackageNv, Fault> {
-    PackageNv::from_str(alloc, text).map_err(|error| Fault::unless_memory(error.is_memory()))
+    told::value(PackageNv::from_str(alloc, text))
 }
 
 // `order`, two texts of packages, by npm's reader: how the first requirement compares to the second.
 fn order(alloc: Global, words: &[Word<'_>]) -> Answer {
     let (one, other) = pair(words)?;
-    let asked = both(by_npm(alloc, one), by_npm(alloc, other))?;
-    let order = asked.one.cmp(&asked.other);
-    drop(asked);
-    told_order(alloc, order)
+    told_order(alloc, by_npm(alloc, one), by_npm(alloc, other))
 }
 
-/// The word of an order.
-pub fn told_order(alloc: Global, order: Ordering) -> Answer {
+/// The word for how the first value compares to the second.
+pub fn told_order<T: Ord + Drop>(
+    alloc: Global,
+    one: Result<T, Fault>,
+    other: Result<T, Fault>,
+) -> Answer {
+    let asked = both(one, other)?;
+    let order = asked.one.cmp(&asked.other);
+    drop(asked);
     let word = match order {
         Ordering::Less => "less",
         Ordering::Equal => "equal",
         Ordering::Greater => "greater",
     };
-    answer(alloc, &[Some(word)])
+    single(alloc, word)
 }
 
 // `name-version`, a text: `read`, the name, the version, the scope or null, how it is displayed, and the name with the
 // normal text of the requirement that it is turned into; or `refused` and the message.
 fn name_version(alloc: Global, words: &[Word<'_>]) -> Answer {
-    let [Some(text)] = words else {
-        return Err(Fault::Unreadable);
-    };
-    match PackageNv::from_str(alloc, text) {
-        Ok(nv) => named_version(alloc, &nv),
-        Err(error) => refused_version(alloc, &error),
+    let text = only(words)?;
+    told::either(alloc, PackageNv::from_str(alloc, text))
+}
+
+impl Told for PackageNvParseError {
+    fn told(&self, alloc: Global) -> Answer {
+        if self.is_memory() {
+            return Err(Fault::OutOfMemory);
+        }
+        two(alloc, "refused", self.message.as_str())
     }
 }
 
-fn refused_version(alloc: Global, error: &PackageNvParseError) -> Answer {
-    if error.is_memory() {
-        return Err(Fault::OutOfMemory);
+impl Copied for PackageNvParseError {
+    fn copied(&self) -> Result<PackageNvParseError, AllocError> {
+        self.copy()
     }
-    answer(alloc, &[Some("refused"), Some(error.message.as_str())])
 }
 
 // `name-version-error`, a text that is no name and version: the line of a copy of the error.
 fn name_version_error(alloc: Global, words: &[Word<'_>]) -> Answer {
-    let [Some(text)] = words else {
-        return Err(Fault::Unreadable);
-    };
-    match PackageNv::from_str(alloc, text) {
-        Ok(_) => Err(Fault::Unreadable),
-        Err(error) => copied_version_line(alloc, &error),
+    let text = only(words)?;
+    told::line_of_copy(alloc, told::refused(PackageNv::from_str(alloc, text)))
+}
+
+impl Told for PackageNv {
+    fn told(&self, alloc: Global) -> Answer {
+        let version = format!(in alloc; "{}", self.version);
+        let texts = both(version, format!(in alloc; "{self}"));
+        let texts = both(texts, turned(alloc, self))?;
+        let told = answer(
+            alloc,
+            &[
+                Some("read"),
+                Some(self.name.as_str()),
+                Some(texts.one.one.as_str()),
+                self.scope(),
+                Some(texts.one.other.as_str()),
+                Some(texts.other.as_str()),
+            ],
+        );
+        drop(texts);
+        told
     }
-}
-
-fn copied_version_line(alloc: Global, error: &PackageNvParseError) -> Answer {
-    version_line(alloc, &error.copy()?)
-}
-
-fn version_line(alloc: Global, error: &PackageNvParseError) -> Answer {
-    if error.is_memory() {
-        return Err(Fault::OutOfMemory);
-    }
-    answer(alloc, &[Some(format!(in alloc; "{error}")?.as_str())])
-}
-
-// What is told of a name and version that was read.
-fn named_version(alloc: Global, nv: &PackageNv) -> Answer {
-    let version = format!(in alloc; "{}", nv.version)?;
-    let displayed = format!(in alloc; "{nv}")?;
-    let turned = turned(alloc, nv)?;
-    answer(
-        alloc,
-        &[
-            Some("read"),
-            Some(nv.name.as_str()),
-            Some(version.as_str()),
-            nv.scope(),
-            Some(displayed.as_str()),
-            Some(turned.as_str()),
-        ],
-    )
 }
 
 // The name with the normal text of the requirement that a copy is turned into.
 fn turned(alloc: Global, nv: &PackageNv) -> Result<String, AllocError> {
-    named_normal(alloc, &nv.copy()?.into_req(alloc)?)
+    let req = nv.copy()?.into_req(alloc)?;
+    let named = named_normal(alloc, &req);
+    drop(req);
+    named
 }
 
 fn named_normal(alloc: Global, req: &PackageReq) -> Result<String, AllocError> {

@@ -1,15 +1,17 @@
 //! References to packages, and the names of exports.
 
 use crate::packages::kind;
+use crate::told;
+use crate::told::{Copied, Refusal, Told};
 use deno_semver::jsr::{JsrPackageNvReference, JsrPackageReqReference, normalized_export_name};
 use deno_semver::npm::{NpmPackageNvReference, NpmPackageReqReference};
 use deno_semver::package::{
-    PackageNv, PackageNvReferenceParseError, PackageReq, PackageReqReferenceParseError,
-    SpecifierError,
+    PackageNvReferenceParseError, PackageReqReferenceParseError, Registry, RegistryNvReference,
+    RegistryReqReference, SpecifierError,
 };
-use requirement_cases::asked::pair;
-use requirement_cases::words::{Answer, Fault, Word, answer};
-use std::alloc::Global;
+use requirement_cases::asked::{both, pair};
+use requirement_cases::words::{Answer, Fault, Word, answer, single, two};
+use std::alloc::{AllocError, Global};
 use url::{ParseError, Url};
 
 /// What a call on references to packages answers to a question's words after its name, where the name is of one.
@@ -27,32 +29,66 @@ pub fn ask(alloc: Global, name: &str, words: &[Word<'_>]) -> Option<Answer> {
     Some(answer)
 }
 
-fn fault(error: PackageReqReferenceParseError) -> Fault {
-    Fault::unless_memory(error.is_memory())
+impl Refusal for PackageReqReferenceParseError {
+    fn wants_memory(&self) -> bool {
+        self.is_memory()
+    }
 }
 
-fn version_fault(error: PackageNvReferenceParseError) -> Fault {
-    Fault::unless_memory(error.is_memory())
+impl Refusal for PackageNvReferenceParseError {
+    fn wants_memory(&self) -> bool {
+        self.is_memory()
+    }
+}
+
+impl Refusal for ParseError {
+    fn wants_memory(&self) -> bool {
+        *self == ParseError::OutOfMemory
+    }
+}
+
+impl Copied for PackageReqReferenceParseError {
+    fn copied(&self) -> Result<PackageReqReferenceParseError, AllocError> {
+        self.copy()
+    }
+}
+
+impl Copied for PackageNvReferenceParseError {
+    fn copied(&self) -> Result<PackageNvReferenceParseError, AllocError> {
+        self.copy()
+    }
+}
+
+impl<R: Registry> Copied for RegistryReqReference<R> {
+    fn copied(&self) -> Result<RegistryReqReference<R>, AllocError> {
+        self.copy()
+    }
+}
+
+impl<R: Registry> Copied for RegistryNvReference<R> {
+    fn copied(&self) -> Result<RegistryNvReference<R>, AllocError> {
+        self.copy()
+    }
 }
 
 /// The reference to a JSR package that a text is.
 pub fn jsr(alloc: Global, text: &str) -> Result<JsrPackageReqReference, Fault> {
-    JsrPackageReqReference::from_str(alloc, text).map_err(fault)
+    told::value(JsrPackageReqReference::from_str(alloc, text))
 }
 
 /// The reference to an npm package that a text is.
 pub fn npm(alloc: Global, text: &str) -> Result<NpmPackageReqReference, Fault> {
-    NpmPackageReqReference::from_str(alloc, text).map_err(fault)
+    told::value(NpmPackageReqReference::from_str(alloc, text))
 }
 
 /// The reference to a version of a JSR package that a text is.
 pub fn jsr_version(alloc: Global, text: &str) -> Result<JsrPackageNvReference, Fault> {
-    JsrPackageNvReference::from_str(alloc, text).map_err(version_fault)
+    told::value(JsrPackageNvReference::from_str(alloc, text))
 }
 
 /// The reference to a version of an npm package that a text is.
 pub fn npm_version(alloc: Global, text: &str) -> Result<NpmPackageNvReference, Fault> {
-    NpmPackageNvReference::from_str(alloc, text).map_err(version_fault)
+    told::value(NpmPackageNvReference::from_str(alloc, text))
 }
 
 // `reference`, `jsr` or `npm`, and a text: `read`, the name, the text of the requirement of versions, the path or null, how
@@ -61,107 +97,67 @@ pub fn npm_version(alloc: Global, text: &str) -> Result<NpmPackageNvReference, F
 fn reference(alloc: Global, words: &[Word<'_>]) -> Answer {
     let (registry, text) = pair(words)?;
     match registry {
-        "jsr" => jsr_copy(alloc, JsrPackageReqReference::from_str(alloc, text)),
-        "npm" => npm_copy(alloc, NpmPackageReqReference::from_str(alloc, text)),
+        "jsr" => told::copy_of_either(alloc, JsrPackageReqReference::from_str(alloc, text)),
+        "npm" => told::copy_of_either(alloc, NpmPackageReqReference::from_str(alloc, text)),
         _ => Err(Fault::Unreadable),
     }
 }
 
-fn jsr_copy(
-    alloc: Global,
-    read: Result<JsrPackageReqReference, PackageReqReferenceParseError>,
-) -> Answer {
-    match read {
-        Ok(reference) => copied_jsr_reference(alloc, &reference),
-        Err(error) => refused_copy(alloc, &error),
+impl Told for JsrPackageReqReference {
+    fn told(&self, alloc: Global) -> Answer {
+        let export = self.export_name(alloc)?;
+        told_exported(alloc, self, Some(export.as_str()))
     }
 }
 
-fn copied_jsr_reference(alloc: Global, reference: &JsrPackageReqReference) -> Answer {
-    jsr_reference(alloc, &reference.copy()?)
-}
-
-fn npm_copy(
-    alloc: Global,
-    read: Result<NpmPackageReqReference, PackageReqReferenceParseError>,
-) -> Answer {
-    match read {
-        Ok(reference) => copied_npm_reference(alloc, &reference),
-        Err(error) => refused_copy(alloc, &error),
+impl Told for NpmPackageReqReference {
+    fn told(&self, alloc: Global) -> Answer {
+        told_exported(alloc, self, None)
     }
 }
 
-fn copied_npm_reference(alloc: Global, reference: &NpmPackageReqReference) -> Answer {
-    npm_reference(alloc, &reference.copy()?)
-}
-
-fn refused_copy(alloc: Global, error: &PackageReqReferenceParseError) -> Answer {
-    refused_reference(alloc, &error.copy()?)
-}
-
-fn jsr_reference(alloc: Global, reference: &JsrPackageReqReference) -> Answer {
-    let displayed = format!(in alloc; "{reference}")?;
-    let export = reference.export_name(alloc)?;
-    told(
-        alloc,
-        reference.req(),
-        reference.sub_path(),
-        displayed.as_str(),
-        Some(export.as_str()),
-    )
-}
-
-fn npm_reference(alloc: Global, reference: &NpmPackageReqReference) -> Answer {
-    let displayed = format!(in alloc; "{reference}")?;
-    told(
-        alloc,
-        reference.req(),
-        reference.sub_path(),
-        displayed.as_str(),
-        None,
-    )
-}
-
-// What is told of a reference that was read.
-fn told<'a>(
+// What is told of a reference that was read, with the name of its export.
+fn told_exported<R: Registry>(
     alloc: Global,
-    req: &'a PackageReq,
-    sub_path: Word<'a>,
-    displayed: &'a str,
-    export: Word<'a>,
+    reference: &RegistryReqReference<R>,
+    export: Word<'_>,
 ) -> Answer {
+    let displayed = format!(in alloc; "{reference}")?;
+    let req = reference.req();
     answer(
         alloc,
         &[
             Some("read"),
             Some(req.name.as_str()),
             Some(req.version_req.version_text()),
-            sub_path,
-            Some(displayed),
+            reference.sub_path(),
+            Some(displayed.as_str()),
             export,
         ],
     )
 }
 
 // What is told of a text that is no reference.
-fn refused_reference(alloc: Global, error: &PackageReqReferenceParseError) -> Answer {
-    match error {
-        PackageReqReferenceParseError::NotExpectedScheme(_) => {
-            answer(alloc, &[Some("refused"), Some("NotExpectedScheme")])
+impl Told for PackageReqReferenceParseError {
+    fn told(&self, alloc: Global) -> Answer {
+        match self {
+            PackageReqReferenceParseError::NotExpectedScheme(_) => {
+                two(alloc, "refused", "NotExpectedScheme")
+            }
+            PackageReqReferenceParseError::Invalid(error) => {
+                two(alloc, "refused", kind(&error.source)?)
+            }
+            PackageReqReferenceParseError::InvalidPathWithVersion(error) => answer(
+                alloc,
+                &[
+                    Some("refused"),
+                    Some("InvalidPathWithVersion"),
+                    Some(error.current.as_str()),
+                    Some(error.suggested.as_str()),
+                ],
+            ),
+            PackageReqReferenceParseError::Memory => Err(Fault::OutOfMemory),
         }
-        PackageReqReferenceParseError::Invalid(error) => {
-            answer(alloc, &[Some("refused"), Some(kind(&error.source)?)])
-        }
-        PackageReqReferenceParseError::InvalidPathWithVersion(error) => answer(
-            alloc,
-            &[
-                Some("refused"),
-                Some("InvalidPathWithVersion"),
-                Some(error.current.as_str()),
-                Some(error.suggested.as_str()),
-            ],
-        ),
-        PackageReqReferenceParseError::Memory => Err(Fault::OutOfMemory),
     }
 }
 
@@ -171,26 +167,17 @@ fn reference_refusal(
     registry: &str,
     text: &str,
 ) -> Result<PackageReqReferenceParseError, Fault> {
-    let error = match registry {
-        "jsr" => JsrPackageReqReference::from_str(alloc, text).err(),
-        "npm" => NpmPackageReqReference::from_str(alloc, text).err(),
-        _ => None,
-    };
-    match error {
-        Some(error) if error.is_memory() => Err(Fault::OutOfMemory),
-        Some(error) => Ok(error),
-        None => Err(Fault::Unreadable),
+    match registry {
+        "jsr" => told::refused(JsrPackageReqReference::from_str(alloc, text)),
+        "npm" => told::refused(NpmPackageReqReference::from_str(alloc, text)),
+        _ => Err(Fault::Unreadable),
     }
 }
 
 // `reference-error`, a registry, and a text that is no reference: the line of the error.
 fn reference_error(alloc: Global, words: &[Word<'_>]) -> Answer {
     let (registry, text) = pair(words)?;
-    line(alloc, &reference_refusal(alloc, registry, text)?)
-}
-
-fn line(alloc: Global, error: &PackageReqReferenceParseError) -> Answer {
-    single(alloc, format!(in alloc; "{error}")?.as_str())
+    told::line(alloc, reference_refusal(alloc, registry, text))
 }
 
 // `version-reference`, a registry, and a text: `read`, the name, the version, the path or null, how the reference is
@@ -198,90 +185,56 @@ fn line(alloc: Global, error: &PackageReqReferenceParseError) -> Answer {
 fn version_reference(alloc: Global, words: &[Word<'_>]) -> Answer {
     let (registry, text) = pair(words)?;
     match registry {
-        "jsr" => jsr_version_copy(alloc, JsrPackageNvReference::from_str(alloc, text)),
-        "npm" => npm_version_copy(alloc, NpmPackageNvReference::from_str(alloc, text)),
+        "jsr" => told::copy_or_refusal(alloc, JsrPackageNvReference::from_str(alloc, text)),
+        "npm" => told::copy_or_refusal(alloc, NpmPackageNvReference::from_str(alloc, text)),
         _ => Err(Fault::Unreadable),
     }
 }
 
-fn jsr_version_copy(
-    alloc: Global,
-    read: Result<JsrPackageNvReference, PackageNvReferenceParseError>,
-) -> Answer {
-    match read {
-        Ok(reference) => copied_jsr_version_reference(alloc, &reference),
-        Err(error) => refused_version_reference(alloc, &error),
+impl Told for JsrPackageNvReference {
+    fn told(&self, alloc: Global) -> Answer {
+        let export = self.export_name(alloc)?;
+        told_version(alloc, self, Some(export.as_str()))
     }
 }
 
-fn copied_jsr_version_reference(alloc: Global, reference: &JsrPackageNvReference) -> Answer {
-    jsr_version_reference(alloc, &reference.copy()?)
-}
-
-fn npm_version_copy(
-    alloc: Global,
-    read: Result<NpmPackageNvReference, PackageNvReferenceParseError>,
-) -> Answer {
-    match read {
-        Ok(reference) => copied_npm_version_reference(alloc, &reference),
-        Err(error) => refused_version_reference(alloc, &error),
+impl Told for NpmPackageNvReference {
+    fn told(&self, alloc: Global) -> Answer {
+        told_version(alloc, self, None)
     }
 }
 
-fn copied_npm_version_reference(alloc: Global, reference: &NpmPackageNvReference) -> Answer {
-    npm_version_reference(alloc, &reference.copy()?)
-}
-
-fn jsr_version_reference(alloc: Global, reference: &JsrPackageNvReference) -> Answer {
-    let displayed = format!(in alloc; "{reference}")?;
-    let export = reference.export_name(alloc)?;
-    told_version(
-        alloc,
-        reference.nv(),
-        reference.sub_path(),
-        displayed.as_str(),
-        Some(export.as_str()),
-    )
-}
-
-fn npm_version_reference(alloc: Global, reference: &NpmPackageNvReference) -> Answer {
-    let displayed = format!(in alloc; "{reference}")?;
-    told_version(
-        alloc,
-        reference.nv(),
-        reference.sub_path(),
-        displayed.as_str(),
-        None,
-    )
-}
-
-// What is told of a version reference that was read.
-fn told_version<'a>(
+// What is told of a version reference that was read, with the name of its export.
+fn told_version<R: Registry>(
     alloc: Global,
-    nv: &'a PackageNv,
-    sub_path: Word<'a>,
-    displayed: &'a str,
-    export: Word<'a>,
+    reference: &RegistryNvReference<R>,
+    export: Word<'_>,
 ) -> Answer {
-    let version = format!(in alloc; "{}", nv.version)?;
-    answer(
+    let nv = reference.nv();
+    let version = format!(in alloc; "{}", nv.version);
+    let texts = both(version, format!(in alloc; "{reference}"))?;
+    let told = answer(
         alloc,
         &[
             Some("read"),
             Some(nv.name.as_str()),
-            Some(version.as_str()),
-            sub_path,
-            Some(displayed),
+            Some(texts.one.as_str()),
+            reference.sub_path(),
+            Some(texts.other.as_str()),
             export,
         ],
-    )
+    );
+    drop(texts);
+    told
 }
 
-fn refused_version_reference(alloc: Global, error: &PackageNvReferenceParseError) -> Answer {
-    if error.is_memory() {
-        return Err(Fault::OutOfMemory);
+impl Told for PackageNvReferenceParseError {
+    fn told(&self, alloc: Global) -> Answer {
+        if self.is_memory() {
+            return Err(Fault::OutOfMemory);
+        }
+        two(alloc, "refused", self.message.as_str())
     }
-    answer(alloc, &[Some("refused"), Some(error.message.as_str())])
 }
 
 // Why a text is no version reference to a package of the registry.
@@ -290,30 +243,17 @@ fn version_reference_refusal(
     registry: &str,
     text: &str,
 ) -> Result<PackageNvReferenceParseError, Fault> {
-    let error = match registry {
-        "jsr" => JsrPackageNvReference::from_str(alloc, text).err(),
-        "npm" => NpmPackageNvReference::from_str(alloc, text).err(),
-        _ => None,
-    };
-    match error {
-        Some(error) if error.is_memory() => Err(Fault::OutOfMemory),
-        Some(error) => Ok(error),
-        None => Err(Fault::Unreadable),
+    match registry {
+        "jsr" => told::refused(JsrPackageNvReference::from_str(alloc, text)),
+        "npm" => told::refused(NpmPackageNvReference::from_str(alloc, text)),
+        _ => Err(Fault::Unreadable),
     }
 }
 
 // `version-reference-error`, a registry, and a text that is no version reference: the line of a copy of the error.
 fn version_reference_error(alloc: Global, words: &[Word<'_>]) -> Answer {
     let (registry, text) = pair(words)?;
-    copied_version_line(alloc, &version_reference_refusal(alloc, registry, text)?)
-}
-
-fn copied_version_line(alloc: Global, error: &PackageNvReferenceParseError) -> Answer {
-    version_line(alloc, &error.copy()?)
-}
-
-fn version_line(alloc: Global, error: &PackageNvReferenceParseError) -> Answer {
-    single(alloc, format!(in alloc; "{error}")?.as_str())
+    told::line_of_copy(alloc, version_reference_refusal(alloc, registry, text))
 }
 
 // `specifier`, a registry, and the text of a version reference: `read` and the URL that it is; or `refused` where it is
@@ -321,94 +261,69 @@ fn version_line(alloc: Global, error: &PackageNvReferenceParseError) -> Answer {
 fn specifier(alloc: Global, words: &[Word<'_>]) -> Answer {
     let (registry, text) = pair(words)?;
     match registry {
-        "jsr" => jsr_specifier(alloc, text),
-        "npm" => npm_specifier(alloc, text),
+        "jsr" => told_specifier(alloc, JsrPackageNvReference::from_str(alloc, text)),
+        "npm" => told_specifier(alloc, NpmPackageNvReference::from_str(alloc, text)),
         _ => Err(Fault::Unreadable),
     }
 }
 
-fn jsr_specifier(alloc: Global, text: &str) -> Answer {
-    match JsrPackageNvReference::from_str(alloc, text) {
-        Ok(reference) => told_specifier(alloc, reference.as_specifier(alloc)),
-        Err(error) => refused_version_reference(alloc, &error),
+fn told_specifier<R: Registry>(
+    alloc: Global,
+    read: Result<RegistryNvReference<R>, PackageNvReferenceParseError>,
+) -> Answer {
+    match read {
+        Ok(reference) => {
+            let specifier = reference.as_specifier(alloc);
+            drop(reference);
+            told::either(alloc, specifier)
+        }
+        Err(error) => {
+            let told = error.told(alloc);
+            drop(error);
+            told
+        }
     }
 }
 
-fn npm_specifier(alloc: Global, text: &str) -> Answer {
-    match NpmPackageNvReference::from_str(alloc, text) {
-        Ok(reference) => told_specifier(alloc, reference.as_specifier(alloc)),
-        Err(error) => refused_version_reference(alloc, &error),
+impl Told for Url {
+    fn told(&self, alloc: Global) -> Answer {
+        two(alloc, "read", self.as_str())
     }
 }
 
-fn told_specifier(alloc: Global, specifier: Result<Url, SpecifierError>) -> Answer {
-    match specifier {
-        Ok(url) => answer(alloc, &[Some("read"), Some(url.as_str())]),
-        Err(error) => refused_specifier(alloc, &error),
+impl Told for SpecifierError {
+    fn told(&self, alloc: Global) -> Answer {
+        if self.is_memory() {
+            return Err(Fault::OutOfMemory);
+        }
+        let line = format!(in alloc; "{self}")?;
+        two(alloc, "refused", line.as_str())
     }
-}
-
-fn refused_specifier(alloc: Global, error: &SpecifierError) -> Answer {
-    if error.is_memory() {
-        return Err(Fault::OutOfMemory);
-    }
-    let line = format!(in alloc; "{error}")?;
-    answer(alloc, &[Some("refused"), Some(line.as_str())])
 }
 
 // The URL that a text is.
 fn url_of(alloc: Global, text: &str) -> Result<Url, Fault> {
-    Url::parse(alloc, text).map_err(|error| Fault::unless_memory(error == ParseError::OutOfMemory))
+    told::value(Url::parse(alloc, text))
 }
 
 // `of-specifier`, a registry, and the text of a URL: what `reference` tells of it where it is a reference, and what
 // `version-reference` tells where it is a version reference.
 fn of_specifier(alloc: Global, words: &[Word<'_>]) -> Answer {
     let (registry, text) = pair(words)?;
-    of_url(alloc, registry, &url_of(alloc, text)?)
+    let url = url_of(alloc, text)?;
+    let told = of_url(alloc, registry, &url);
+    drop(url);
+    told
 }
 
 fn of_url(alloc: Global, registry: &str, url: &Url) -> Answer {
     match registry {
-        "jsr" => jsr_of_url(alloc, url),
-        "npm" => npm_of_url(alloc, url),
-        "jsr-version" => jsr_version_of_url(alloc, url),
-        "npm-version" => npm_version_of_url(alloc, url),
+        "jsr" => told::either(alloc, JsrPackageReqReference::from_specifier(alloc, url)),
+        "npm" => told::either(alloc, NpmPackageReqReference::from_specifier(alloc, url)),
+        "jsr-version" => told::either(alloc, JsrPackageNvReference::from_specifier(alloc, url)),
+        "npm-version" => told::either(alloc, NpmPackageNvReference::from_specifier(alloc, url)),
         _ => Err(Fault::Unreadable),
     }
-}
-
-fn jsr_of_url(alloc: Global, url: &Url) -> Answer {
-    match JsrPackageReqReference::from_specifier(alloc, url) {
-        Ok(reference) => jsr_reference(alloc, &reference),
-        Err(error) => refused_reference(alloc, &error),
-    }
-}
-
-fn npm_of_url(alloc: Global, url: &Url) -> Answer {
-    match NpmPackageReqReference::from_specifier(alloc, url) {
-        Ok(reference) => npm_reference(alloc, &reference),
-        Err(error) => refused_reference(alloc, &error),
-    }
-}
-
-fn jsr_version_of_url(alloc: Global, url: &Url) -> Answer {
-    match JsrPackageNvReference::from_specifier(alloc, url) {
-        Ok(reference) => jsr_version_reference(alloc, &reference),
-        Err(error) => refused_version_reference(alloc, &error),
-    }
-}
-
-fn npm_version_of_url(alloc: Global, url: &Url) -> Answer {
-    match NpmPackageNvReference::from_specifier(alloc, url) {
-        Ok(reference) => npm_version_reference(alloc, &reference),
-        Err(error) => refused_version_reference(alloc, &error),
-    }
-}
-
-// The answer of one word.
-fn single(alloc: Global, word: &str) -> Answer {
-    answer(alloc, &[Some(word)])
 }
 
 // `export`, a path or null: the name of the export.

@@ -1,18 +1,17 @@
 //! Which one of several versions a requirement chooses.
 
+use crate::told;
 use deno_semver::{PreRelease, Version, VersionReq, resolve};
-use requirement_cases::asked::{Two, both, read};
+use requirement_cases::asked::{Two, both, read, version_of};
 use requirement_cases::shown;
-use requirement_cases::words::{Answer, Fault, Word, answer};
+use requirement_cases::words::{Answer, Fault, Word, displayed, single, two};
 use std::alloc::Global;
 
 /// What a call on versions to choose from answers to a question's words after its name, where the name is of one.
 pub fn ask(alloc: Global, name: &str, words: &[Word<'_>]) -> Option<Answer> {
     let answer = match name {
-        "max-satisfying" => satisfying(alloc, name, words),
-        "min-satisfying" => satisfying(alloc, name, words),
-        "max-satisfying-with" => satisfying_with(alloc, name, words),
-        "min-satisfying-with" => satisfying_with(alloc, name, words),
+        "max-satisfying" | "min-satisfying" => satisfying(alloc, name, words),
+        "max-satisfying-with" | "min-satisfying-with" => satisfying_with(alloc, name, words),
         _ => return None,
     };
     Some(answer)
@@ -22,20 +21,20 @@ pub fn ask(alloc: Global, name: &str, words: &[Word<'_>]) -> Option<Answer> {
 fn versions_of(alloc: Global, words: &[Word<'_>]) -> Result<Vec<Version>, Fault> {
     let mut versions = Vec::new(alloc);
     for word in words {
-        let text = (*word).ok_or(Fault::Unreadable)?;
-        let version = Version::parse_standard(alloc, text)?;
-        if versions.push(version).is_err() {
-            return Err(Fault::OutOfMemory);
-        }
+        told::push(&mut versions, version_at(alloc, *word))?;
     }
     Ok(versions)
+}
+
+fn version_at(alloc: Global, word: Word<'_>) -> Result<Version, Fault> {
+    version_of(alloc, word.ok_or(Fault::Unreadable)?)
 }
 
 // The place, or `none`.
 fn place(alloc: Global, place: Option<usize>) -> Answer {
     match place {
-        None => answer(alloc, &[Some("none")]),
-        Some(place) => answer(alloc, &[Some(format!(in alloc; "{place}")?.as_str())]),
+        None => single(alloc, "none"),
+        Some(place) => displayed(alloc, &place),
     }
 }
 
@@ -47,12 +46,15 @@ fn satisfying(alloc: Global, name: &str, words: &[Word<'_>]) -> Answer {
     };
     let requirement = read(alloc, reader, requirement);
     let versions = versions_of(alloc, versions);
-    chosen(alloc, name, &both(requirement, versions)?)
+    let asked = both(requirement, versions)?;
+    let told = chosen(alloc, name, &asked);
+    drop(asked);
+    told
 }
 
 fn chosen(alloc: Global, name: &str, asked: &Two<VersionReq, Vec<Version>>) -> Answer {
     if let Some(tag) = asked.one.tag() {
-        return answer(alloc, &[Some("tag"), Some(tag)]);
+        return two(alloc, "tag", tag);
     }
     let versions = asked.other.as_slice();
     let found = match name {
@@ -71,7 +73,10 @@ fn satisfying_with(alloc: Global, name: &str, words: &[Word<'_>]) -> Answer {
     let pre_release = shown::pre_release_of(word)?;
     let requirement = read(alloc, reader, requirement);
     let versions = versions_of(alloc, versions);
-    chosen_with(alloc, name, &both(requirement, versions)?, pre_release)
+    let asked = both(requirement, versions)?;
+    let told = chosen_with(alloc, name, &asked, pre_release);
+    drop(asked);
+    told
 }
 
 fn chosen_with(
@@ -81,7 +86,7 @@ fn chosen_with(
     pre_release: PreRelease,
 ) -> Answer {
     if let Some(tag) = asked.one.tag() {
-        return answer(alloc, &[Some("tag"), Some(tag)]);
+        return two(alloc, "tag", tag);
     }
     let versions = asked.other.as_slice();
     let found = match name {

@@ -82,18 +82,24 @@ impl Row {
     /// It is an error only where no memory is left to ask with, or to tell the answer.
     pub fn ask(&self, alloc: Global) -> Result<Result<Words, Unreadable>, AllocError> {
         let words = self.words(alloc)?;
-        match call::ask(alloc, self.name(), words.as_slice()) {
+        let answer = call::ask(alloc, self.name(), words.as_slice());
+        drop(words);
+        match answer {
             None => Ok(Err(Unreadable::NoCall)),
             Some(Ok(answer)) => Ok(Ok(answer)),
-            Some(Err(fault)) => told(alloc, &fault),
+            Some(Err(fault)) => told(alloc, fault),
         }
     }
 }
 
 // What is told of a call that has no answer.
-fn told(alloc: Global, fault: &Fault) -> Result<Result<Words, Unreadable>, AllocError> {
+fn told(alloc: Global, fault: Fault) -> Result<Result<Words, Unreadable>, AllocError> {
     match fault {
-        Fault::Refused(failure) => Ok(Ok(refused(alloc, failure)?)),
+        Fault::Refused(failure) => {
+            let told = refused(alloc, &failure);
+            drop(failure);
+            Ok(Ok(told?))
+        }
         Fault::Unreadable => Ok(Err(Unreadable::OtherWords)),
         Fault::OutOfMemory => Ok(Ok(out_of_memory(alloc)?)),
         Fault::Untold => Err(AllocError),

@@ -81,15 +81,32 @@ fn compare_row<W: Write>(
     tally: &mut Tally,
     out: &mut W,
 ) -> Result<(), Problem> {
-    let row = match Row::read(alloc, line.text)? {
-        Ok(row) => row,
+    match Row::read(alloc, line.text)? {
+        Ok(row) => {
+            let compared = compare_read(alloc, line, &row, tally, out);
+            drop(row);
+            compared
+        }
         Err(why) => {
             tally.add_unreadable();
-            return print_unreadable(line, why, out);
+            print_unreadable(line, why, out)
         }
-    };
+    }
+}
+
+fn compare_read<W: Write>(
+    alloc: Global,
+    line: Line<'_>,
+    row: &Row,
+    tally: &mut Tally,
+    out: &mut W,
+) -> Result<(), Problem> {
     match row.ask(alloc)? {
-        Ok(answer) => compare_answer(alloc, line, &row, &answer, tally, out),
+        Ok(answer) => {
+            let compared = compare_answer(alloc, line, row, &answer, tally, out);
+            drop(answer);
+            compared
+        }
         Err(why) => {
             tally.add(row.name(), true);
             print_unreadable(line, why, out)

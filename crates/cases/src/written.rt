@@ -1,11 +1,12 @@
 //! Values as they are displayed, and what is appended to a text.
 
 use crate::{dependencies, packages, references};
+use deno_semver::package::{PackageNvReference, PackageReqReference};
 use deno_semver::{SmallStackString, StackString, StringAppendable, StringType, VersionReq};
-use requirement_cases::asked::{read, version_of};
+use requirement_cases::asked::{both, read, triple, version_of};
 use requirement_cases::shown;
 use requirement_cases::words::{Answer, Fault, Word, answer};
-use std::alloc::Global;
+use std::alloc::{AllocError, Global};
 use std::fmt;
 
 /// What a call on what is written answers to a question's words after its name, where the name is of one.
@@ -22,7 +23,7 @@ fn appended_to<T: StringType, A: StringAppendable>(
     alloc: Global,
     start: &str,
     value: &A,
-) -> Result<T, Fault> {
+) -> Result<T, AllocError> {
     let mut text = T::with_capacity(alloc, start.len())?;
     text.push_str(start)?;
     value.append_to(alloc, &mut text)?;
@@ -35,27 +36,36 @@ fn written<A: StringAppendable + fmt::Display + Drop>(
     start: &str,
     value: Result<A, Fault>,
 ) -> Answer {
-    told(alloc, start, &value?)
+    let value = value?;
+    let told = told(alloc, start, &value);
+    drop(value);
+    told
 }
 
-fn told_inner(alloc: Global, start: &str, requirement: &VersionReq) -> Answer {
-    told(alloc, start, requirement.inner())
+fn written_inner(alloc: Global, start: &str, requirement: Result<VersionReq, Fault>) -> Answer {
+    let requirement = requirement?;
+    let told = told(alloc, start, requirement.inner());
+    drop(requirement);
+    told
 }
 
 fn told<A: StringAppendable + fmt::Display>(alloc: Global, start: &str, value: &A) -> Answer {
-    let displayed = format!(in alloc; "{value}")?;
-    let string: String = appended_to(alloc, start, value)?;
-    let small: SmallStackString = appended_to(alloc, start, value)?;
-    let stack: StackString = appended_to(alloc, start, value)?;
-    answer(
+    let displayed = format!(in alloc; "{value}");
+    let string: Result<String, AllocError> = appended_to(alloc, start, value);
+    let small: Result<SmallStackString, AllocError> = appended_to(alloc, start, value);
+    let stack: Result<StackString, AllocError> = appended_to(alloc, start, value);
+    let texts = both(both(displayed, string), both(small, stack))?;
+    let told = answer(
         alloc,
         &[
-            Some(displayed.as_str()),
-            Some(string.as_str()),
-            Some(small.as_str()),
-            Some(stack.as_str()),
+            Some(texts.one.one.as_str()),
+            Some(texts.one.other.as_str()),
+            Some(texts.other.one.as_str()),
+            Some(texts.other.other.as_str()),
         ],
-    )
+    );
+    drop(texts);
+    told
 }
 
 // `written`, the kind of a value, the value and a start: how the value is displayed, and the start with the value's text
@@ -63,15 +73,13 @@ fn told<A: StringAppendable + fmt::Display>(alloc: Global, start: &str, value: &
 // `dependency` are npm's too; `jsr`, `npm`, `jsr-version` and `npm-version` are references of these registries, `reference` and
 // `version-reference` what stands in npm's.
 fn written_as(alloc: Global, words: &[Word<'_>]) -> Answer {
-    let [Some(kind), Some(value), Some(start)] = words else {
-        return Err(Fault::Unreadable);
-    };
-    match *kind {
+    let (kind, value, start) = triple(words)?;
+    match kind {
         "text" => written(alloc, start, text_of(alloc, value)),
         "version" => written(alloc, start, version_of(alloc, value)),
         "range" => written(alloc, start, shown::range_of(alloc, value)),
         "set" => written(alloc, start, shown::set_of(alloc, value)),
-        "inner" => told_inner(alloc, start, &read(alloc, "npm", value)?),
+        "inner" => written_inner(alloc, start, read(alloc, "npm", value)),
         _ => written_of_package(alloc, kind, value, start),
     }
 }
@@ -97,16 +105,16 @@ fn written_of_reference(alloc: Global, kind: &str, value: &str, start: &str) -> 
         "npm" => written(alloc, start, references::npm(alloc, value)),
         "jsr-version" => written(alloc, start, references::jsr_version(alloc, value)),
         "npm-version" => written(alloc, start, references::npm_version(alloc, value)),
-        "reference" => written(
-            alloc,
-            start,
-            references::npm(alloc, value).map(|reference| reference.into_inner()),
-        ),
-        "version-reference" => written(
-            alloc,
-            start,
-            references::npm_version(alloc, value).map(|reference| reference.into_inner()),
-        ),
+        "reference" => written(alloc, start, npm_inner(alloc, value)),
+        "version-reference" => written(alloc, start, npm_version_inner(alloc, value)),
         _ => Err(Fault::Unreadable),
     }
+}
+
+fn npm_inner(alloc: Global, text: &str) -> Result<PackageReqReference, Fault> {
+    Ok(references::npm(alloc, text)?.into_inner())
+}
+
+fn npm_version_inner(alloc: Global, text: &str) -> Result<PackageNvReference, Fault> {
+    Ok(references::npm_version(alloc, text)?.into_inner())
 }

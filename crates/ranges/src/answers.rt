@@ -1,7 +1,7 @@
 //! The commands that are answered in one line.
 
 use crate::args::Options;
-use crate::console::{Console, Status, Stop};
+use crate::console::{Console, Status, Stop, print_line};
 use crate::object::Object;
 use clap::ArgMatches;
 use deno_semver::ParseFailure;
@@ -32,9 +32,10 @@ impl<O: Write, E: Write> Console<O, E> {
     /// Prints the tag that a requirement is.
     pub fn tag(&mut self, options: Options, tag: &str) -> Result<Status, Stop> {
         if options.json {
-            self.json(&field_json(self.alloc, "tag", Some(tag))?)?;
+            let json = field_json(self.alloc, "tag", Some(tag));
+            self.json(json)?;
         } else {
-            writeln!(self.out, "tag {tag}")?;
+            print_line(&mut self.out, format_args!("tag {tag}"))?;
         }
         Ok(Status::Tag)
     }
@@ -42,10 +43,10 @@ impl<O: Write, E: Write> Console<O, E> {
     /// Prints the version that was asked for, or that there is none.
     pub fn version(&mut self, options: Options, version: Option<&str>) -> Result<Status, Stop> {
         if options.json {
-            self.json(&field_json(self.alloc, "version", version)?)?;
+            let json = field_json(self.alloc, "version", version);
+            self.json(json)?;
         } else {
-            let line = version.unwrap_or("none");
-            writeln!(self.out, "{line}")?;
+            print_line(&mut self.out, version.unwrap_or("none"))?;
         }
         match version {
             Some(_) => Ok(Status::Answered),
@@ -56,11 +57,10 @@ impl<O: Write, E: Write> Console<O, E> {
     // Prints whether a requirement allows no more than another one: the least version that it alone allows, where it does.
     fn within(&mut self, options: Options, first: Option<&str>) -> Result<Status, Stop> {
         if options.json {
-            self.json(&within_json(self.alloc, first)?)?;
-        } else if let Some(version) = first {
-            writeln!(self.out, "no {version}")?;
+            let json = within_json(self.alloc, first);
+            self.json(json)?;
         } else {
-            writeln!(self.out, "yes")?;
+            print_within(&mut self.out, first)?;
         }
         match first {
             Some(_) => Ok(Status::Nothing),
@@ -71,18 +71,22 @@ impl<O: Write, E: Write> Console<O, E> {
 
 // The JSON of one field.
 fn field_json(alloc: Global, name: &str, text: Option<&str>) -> Result<Value, AllocError> {
-    let mut json = Object::new(alloc);
-    json.put_text(name, text)?;
-    Ok(json.into_json())
+    Object::new(alloc).put_text(name, text).into_json()
 }
 
 fn within_json(alloc: Global, first: Option<&str>) -> Result<Value, AllocError> {
-    let mut json = Object::new(alloc);
-    json.put("within", Value::Bool(first.is_none()))?;
-    if first.is_some() {
-        json.put_text("version", first)?;
+    let json = Object::new(alloc).put("within", Ok(Value::Bool(first.is_none())));
+    match first {
+        Some(_) => json.put_text("version", first).into_json(),
+        None => json.into_json(),
     }
-    Ok(json.into_json())
+}
+
+fn print_within<O: Write>(out: &mut O, first: Option<&str>) -> Result<(), Stop> {
+    match first {
+        Some(version) => print_line(out, format_args!("no {version}")),
+        None => print_line(out, "yes"),
+    }
 }
 
 /// `ranges common REQ REQ..`: the least version that suits all, or `none`.

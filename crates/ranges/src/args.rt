@@ -155,24 +155,30 @@ fn reference<'a>(alloc: Global) -> Result<Command<'a>, AllocError> {
 
 // The program with one command more.
 fn with<'a>(
-    program: Command<'a>,
+    program: Result<Command<'a>, AllocError>,
     command: Result<Command<'a>, AllocError>,
 ) -> Result<Command<'a>, AllocError> {
-    program.subcommand(command?)
+    program?.subcommand(command?)
 }
 
 // With the commands over lists of versions.
-fn with_lists<'a>(alloc: Global, program: Command<'a>) -> Result<Command<'a>, AllocError> {
+fn with_lists<'a>(
+    alloc: Global,
+    program: Result<Command<'a>, AllocError>,
+) -> Result<Command<'a>, AllocError> {
     let about = "Print the versions that match, in the order given";
-    let program = with(program, matching(alloc, "filter", about))?;
+    let program = with(program, matching(alloc, "filter", about));
     let about = "Print the greatest version that matches";
-    let program = with(program, matching(alloc, "best", about))?;
+    let program = with(program, matching(alloc, "best", about));
     with(program, sort(alloc))
 }
 
 // With the commands over texts of packages.
-fn with_packages<'a>(alloc: Global, program: Command<'a>) -> Result<Command<'a>, AllocError> {
-    let program = with(program, package(alloc))?;
+fn with_packages<'a>(
+    alloc: Global,
+    program: Result<Command<'a>, AllocError>,
+) -> Result<Command<'a>, AllocError> {
+    let program = with(program, package(alloc));
     with(program, reference(alloc))
 }
 
@@ -183,9 +189,9 @@ pub fn program<'a>(alloc: Global) -> Result<Command<'a>, AllocError> {
         .version(VERSION)
         .subcommand_required(true)
         .arg_required_else_help(true);
-    let program = with(program, explain(alloc))?;
-    let program = with_lists(alloc, program)?;
-    let program = with(program, common(alloc))?;
-    let program = with(program, within(alloc))?;
+    let program = with(Ok(program), explain(alloc));
+    let program = with_lists(alloc, program);
+    let program = with(program, common(alloc));
+    let program = with(program, within(alloc));
     with_packages(alloc, program)
 }

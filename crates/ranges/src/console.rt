@@ -2,6 +2,7 @@
 
 use serde_json::Value;
 use std::alloc::{AllocError, AllocFailed, Global};
+use std::fmt::Display;
 use std::io;
 use std::io::{ErrorKind, Write};
 
@@ -106,6 +107,16 @@ impl From<io::Error> for Stop {
     }
 }
 
+/// The text of a JSON value.
+pub fn json_text(alloc: Global, value: Result<Value, AllocError>) -> Result<String, AllocError> {
+    value?.to_string(alloc)
+}
+
+/// Prints a line.
+pub fn print_line<O: Write, T: Display + Drop>(out: &mut O, line: T) -> Result<(), Stop> {
+    Ok(writeln!(out, "{line}")?)
+}
+
 /// Where answers and refusals are written.
 #[derive(Drop)]
 pub struct Console<O, E> {
@@ -116,9 +127,9 @@ pub struct Console<O, E> {
 
 impl<O: Write, E: Write> Console<O, E> {
     /// Prints one JSON value on a line.
-    pub fn json(&mut self, value: &Value) -> Result<(), Stop> {
-        let text = value.to_string(self.alloc)?;
-        Ok(writeln!(self.out, "{text}")?)
+    pub fn json(&mut self, value: Result<Value, AllocError>) -> Result<(), Stop> {
+        let text = json_text(self.alloc, value)?;
+        print_line(&mut self.out, text.as_str())
     }
 
     /// Tells that a word is refused: what kind of word it is, the word, and what is wrong.

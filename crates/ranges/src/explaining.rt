@@ -1,7 +1,7 @@
 //! `ranges explain`: a requirement in words.
 
 use crate::args::Options;
-use crate::console::{Console, Status, Stop};
+use crate::console::{Console, Status, Stop, print_line};
 use crate::object::Object;
 use clap::ArgMatches;
 use deno_semver::{PreRelease, RangeBound, Version, VersionBound, VersionBoundKind, VersionRange};
@@ -19,17 +19,29 @@ impl fmt::Display for Bounds<'_> {
     fn fmt<W: fmt::Write>(&self, f: &mut fmt::Formatter<W>) -> fmt::Result {
         match (&self.0.start, &self.0.end) {
             (RangeBound::Unbounded, RangeBound::Unbounded) => f.write_str("any version"),
-            (RangeBound::Unbounded, RangeBound::Version(end)) => match end.kind {
-                VersionBoundKind::Inclusive => write!(f, "up to {}", end.version),
-                VersionBoundKind::Exclusive => write!(f, "below {}", end.version),
-            },
-            (RangeBound::Version(start), RangeBound::Unbounded) => match start.kind {
-                VersionBoundKind::Inclusive => write!(f, "from {} on", start.version),
-                VersionBoundKind::Exclusive => write!(f, "above {}", start.version),
-            },
+            (RangeBound::Unbounded, RangeBound::Version(end)) => only_end(f, end),
+            (RangeBound::Version(start), RangeBound::Unbounded) => only_start(f, start),
             (RangeBound::Version(start), RangeBound::Version(end)) => between(f, start, end),
         }
     }
+}
+
+// A lower bound alone in words.
+fn only_start<W: fmt::Write>(f: &mut fmt::Formatter<W>, start: &VersionBound) -> fmt::Result {
+    let (before, after) = match start.kind {
+        VersionBoundKind::Inclusive => ("from", " on"),
+        VersionBoundKind::Exclusive => ("above", ""),
+    };
+    write!(f, "{before} {}{after}", start.version)
+}
+
+// An upper bound alone in words.
+fn only_end<W: fmt::Write>(f: &mut fmt::Formatter<W>, end: &VersionBound) -> fmt::Result {
+    let before = match end.kind {
+        VersionBoundKind::Inclusive => "up to",
+        VersionBoundKind::Exclusive => "below",
+    };
+    write!(f, "{before} {}", end.version)
 }
 
 // Two bounds in words.
@@ -38,23 +50,13 @@ fn between<W: fmt::Write>(
     start: &VersionBound,
     end: &VersionBound,
 ) -> fmt::Result {
-    let (from, to) = (&start.version, &end.version);
-    match (start.kind, end.kind) {
-        (VersionBoundKind::Inclusive, VersionBoundKind::Inclusive) => write!(
-            f,
-            "from {from} to {to}"
-        ),
-        (VersionBoundKind::Inclusive, VersionBoundKind::Exclusive) => {
-            write!(f, "from {from} to below {to}")
-        }
-        (VersionBoundKind::Exclusive, VersionBoundKind::Inclusive) => write!(
-            f,
-            "above {from} up to {to}"
-        ),
-        (VersionBoundKind::Exclusive, VersionBoundKind::Exclusive) => {
-            write!(f, "above {from} and below {to}")
-        }
-    }
+    let (from, to) = match (start.kind, end.kind) {
+        (VersionBoundKind::Inclusive, VersionBoundKind::Inclusive) => ("from", "to"),
+        (VersionBoundKind::Inclusive, VersionBoundKind::Exclusive) => ("from", "to below"),
+        (VersionBoundKind::Exclusive, VersionBoundKind::Inclusive) => ("above", "up to"),
+        (VersionBoundKind::Exclusive, VersionBoundKind::Exclusive) => ("above", "and below"),
+    };
+    write!(f, "{from} {} {to} {}", start.version, end.version)
 }
 
 // The version at which the range both starts and ends.
@@ -136,33 +138,42 @@ impl fmt::Display for Line<'_> {
             Meaning::Range {
                 range,
                 least: Some(least),
-            } => {
-                if let Some(only) = only_version(range) {
-                    return write!(f, "{only} alone");
-                }
-                let bounds = Bounds(range);
-                let admitted = PreReleases {
-                    range,
-                    pre_release: self.pre_release,
-                };
-                write!(f, "{bounds}; {admitted}; the least is {least}")
-            }
+            } => range_with_least(f, range, least, self.pre_release),
             Meaning::Range { least: None, .. } => f.write_str("no version matches"),
             Meaning::LeftOut(refusal) => write!(f, "left out: {}", refusal.message()),
         }
     }
 }
 
+// A range in words, and the least version that matches.
+fn range_with_least<W: fmt::Write>(
+    f: &mut fmt::Formatter<W>,
+    range: &VersionRange,
+    least: &Version,
+    pre_release: PreRelease,
+) -> fmt::Result {
+    if let Some(only) = only_version(range) {
+        return write!(f, "{only} alone");
+    }
+    let bounds = Bounds(range);
+    let admitted = PreReleases { range, pre_release };
+    write!(f, "{bounds}; {admitted}; the least is {least}")
+}
+
 fn bound_json(alloc: Global, bound: &RangeBound) -> Result<Value, AllocError> {
     let RangeBound::Version(bound) = bound else {
         return Ok(Value::Null);
     };
-    let version = format!(in alloc; "{}", bound.version)?;
-    let mut json = Object::new(alloc);
-    json.put("version", Value::String(version))?;
     let inclusive = bound.kind == VersionBoundKind::Inclusive;
-    json.put("inclusive", Value::Bool(inclusive))?;
-    Ok(json.into_json())
+    Object::new(alloc)
+        .put("version", shown_json(alloc, &bound.version))
+        .put("inclusive", Ok(Value::Bool(inclusive)))
+        .into_json()
+}
+
+// The JSON of the text of a value.
+fn shown_json<T: fmt::Display>(alloc: Global, value: &T) -> Result<Value, AllocError> {
+    Ok(Value::String(format!(in alloc; "{value}")?))
 }
 
 // Of which three numbers pre-releases match, or `all`.
@@ -172,45 +183,54 @@ fn admitted_json(
     pre_release: PreRelease,
 ) -> Result<Value, AllocError> {
     if pre_release == PreRelease::Admitted {
-        return Ok(Value::String(String::from_str(alloc, "all")?));
+        return Value::try_from_str(alloc, "all");
     }
     let (first, second) = admitted(range);
     let mut items = Vec::new(alloc);
-    for version in [first, second].into_iter().flatten() {
-        items.push(Value::String(format!(in alloc; "{}", Numbers(version))?))?;
-    }
+    push_numbers(alloc, &mut items, first)?;
+    push_numbers(alloc, &mut items, second)?;
     Ok(Value::Array(items))
+}
+
+fn push_numbers(
+    alloc: Global,
+    items: &mut Vec<Value>,
+    version: Option<&Version>,
+) -> Result<(), AllocError> {
+    if let Some(version) = version {
+        items.push(shown_json(alloc, &Numbers(version))?)?;
+    }
+    Ok(())
 }
 
 fn least_json(alloc: Global, least: &Option<Version>) -> Result<Value, AllocError> {
     match least {
-        Some(version) => Ok(Value::String(format!(in alloc; "{version}")?)),
+        Some(version) => shown_json(alloc, version),
         None => Ok(Value::Null),
     }
 }
 
-// Puts the range that a piece means.
-fn put_range(
+// With the range that a piece means.
+fn with_range(
     alloc: Global,
-    json: &mut Object,
+    json: Object,
     range: &VersionRange,
     least: &Option<Version>,
     pre_release: PreRelease,
-) -> Result<(), AllocError> {
-    json.put("start", bound_json(alloc, &range.start)?)?;
-    json.put("end", bound_json(alloc, &range.end)?)?;
-    json.put("pre-releases", admitted_json(alloc, range, pre_release)?)?;
-    json.put("least", least_json(alloc, least)?)
+) -> Object {
+    json.put("start", bound_json(alloc, &range.start))
+        .put("end", bound_json(alloc, &range.end))
+        .put("pre-releases", admitted_json(alloc, range, pre_release))
+        .put("least", least_json(alloc, least))
 }
 
 fn piece_json(alloc: Global, piece: &Piece, pre_release: PreRelease) -> Result<Value, AllocError> {
-    let mut json = Object::new(alloc);
-    json.put_text("text", Some(piece.text.as_str().trim()))?;
-    match &piece.meaning {
-        Meaning::Range { range, least } => put_range(alloc, &mut json, range, least, pre_release)?,
-        Meaning::LeftOut(refusal) => json.put_text("refused", Some(refusal.message()))?,
-    }
-    Ok(json.into_json())
+    let json = Object::new(alloc).put_text("text", Some(piece.text.as_str().trim()));
+    let json = match &piece.meaning {
+        Meaning::Range { range, least } => with_range(alloc, json, range, least, pre_release),
+        Meaning::LeftOut(refusal) => json.put_text("refused", Some(refusal.message())),
+    };
+    json.into_json()
 }
 
 fn alternatives_json(
@@ -231,13 +251,13 @@ fn pieces_json(
     pre_release: PreRelease,
     normal: &str,
 ) -> Result<Value, AllocError> {
-    let mut json = Object::new(alloc);
-    json.put(
-        "alternatives",
-        alternatives_json(alloc, pieces, pre_release)?,
-    )?;
-    json.put_text("normal", Some(normal))?;
-    Ok(json.into_json())
+    Object::new(alloc)
+        .put(
+            "alternatives",
+            alternatives_json(alloc, pieces, pre_release),
+        )
+        .put_text("normal", Some(normal))
+        .into_json()
 }
 
 // Tells that a requirement is a tag.
@@ -247,9 +267,9 @@ fn tell_tag<O: Write, E: Write>(
     tag: &str,
 ) -> Result<Status, Stop> {
     if !options.json {
-        writeln!(
-            console.out,
-            "\"{tag}\": a tag, the name of a version that a registry keeps"
+        print_line(
+            &mut console.out,
+            format_args!("\"{tag}\": a tag, the name of a version that a registry keeps"),
         )?;
         return Ok(Status::Tag);
     }
@@ -265,15 +285,24 @@ fn tell_pieces<O: Write, E: Write>(
 ) -> Result<Status, Stop> {
     let pre_release = options.pre_release;
     if options.json {
-        console.json(&pieces_json(console.alloc, pieces, pre_release, normal)?)?;
-        return Ok(Status::Answered);
+        let json = pieces_json(console.alloc, pieces, pre_release, normal);
+        console.json(json)?;
+    } else {
+        print_pieces(&mut console.out, pieces, pre_release, normal)?;
     }
-    for piece in pieces {
-        let line = Line { piece, pre_release };
-        writeln!(console.out, "{line}")?;
-    }
-    writeln!(console.out, "normal text: {normal}")?;
     Ok(Status::Answered)
+}
+
+fn print_pieces<O: Write>(
+    out: &mut O,
+    pieces: &[Piece],
+    pre_release: PreRelease,
+    normal: &str,
+) -> Result<(), Stop> {
+    for piece in pieces {
+        print_line(out, Line { piece, pre_release })?;
+    }
+    print_line(out, format_args!("normal text: {normal}"))
 }
 
 fn tell_explanation<O: Write, E: Write>(

@@ -14,14 +14,23 @@ pub enum Place {
 }
 
 impl Place {
-    /// Tells that the text is refused.
-    fn refuse<O: Write, E: Write>(self, console: &mut Console<O, E>, text: &str, message: &str) {
+    /// Tells that the text is refused, or that memory is wanting.
+    fn refuse<O: Write, E: Write>(
+        self,
+        console: &mut Console<O, E>,
+        text: &str,
+        failure: &ParseFailure,
+    ) -> Result<(), Stop> {
+        if failure.is_memory() {
+            return Err(Stop::OutOfMemory);
+        }
         match self {
             Place::Word => {
-                console.refuse("version", text, message);
+                console.refuse("version", text, failure.message());
             }
-            Place::Line(number) => console.refuse_line(number, text, message),
+            Place::Line(number) => console.refuse_line(number, text, failure.message()),
         }
+        Ok(())
     }
 }
 
@@ -44,9 +53,8 @@ fn take_one<O: Write, E: Write, T: Take>(
 ) -> Result<bool, Stop> {
     match taker.take(console, text)? {
         Ok(()) => Ok(true),
-        Err(failure) if failure.is_memory() => Err(Stop::OutOfMemory),
         Err(failure) => {
-            place.refuse(console, text, failure.message());
+            place.refuse(console, text, &failure)?;
             Ok(false)
         }
     }
@@ -73,20 +81,35 @@ fn take_lines<R: Input, O: Write, E: Write, T: Take>(
     console: &mut Console<O, E>,
     taker: &mut T,
 ) -> Result<bool, Stop> {
-    let mut reader = BufReader::new(console.alloc, rt.reader())?;
+    let mut input = BufReader::new(console.alloc, rt.reader())?;
     let mut line = Vec::new(console.alloc);
+    take_each_line(console, taker, &mut input, &mut line)
+}
+
+// Takes each line that is read; one stands in `line` at a time.
+fn take_each_line<I: BufRead, O: Write, E: Write, T: Take>(
+    console: &mut Console<O, E>,
+    taker: &mut T,
+    input: &mut I,
+    line: &mut Vec<u8>,
+) -> Result<bool, Stop> {
     let mut all = true;
     for number in 1..u64::MAX {
-        line.clear();
-        let taken = reader
-            .read_until(b'\n', &mut line)
-            .map_err(Stop::of_reading)?;
-        if taken == 0 {
+        if !read_line(input, line)? {
             break;
         }
         all &= take_line(console, taker, number, line.as_slice())?;
     }
     Ok(all)
+}
+
+// Reads the next line in place of the one before, and tells whether there is one.
+fn read_line<I: BufRead>(input: &mut I, line: &mut Vec<u8>) -> Result<bool, Stop> {
+    line.clear();
+    match input.read_until(b'\n', line) {
+        Ok(taken) => Ok(taken != 0),
+        Err(error) => Err(Stop::of_reading(error)),
+    }
 }
 
 /// Takes each of the words, or each line of standard input where there are none, and tells whether each is a version.

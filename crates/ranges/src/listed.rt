@@ -1,7 +1,7 @@
 //! The commands over lists of versions: `filter`, `best` and `sort`.
 
 use crate::args::Options;
-use crate::console::{Console, Status, Stop};
+use crate::console::{Console, Status, Stop, json_text, print_line};
 use crate::input::{Take, take_all};
 use clap::ArgMatches;
 use deno_semver::resolve::max_satisfying_with;
@@ -9,6 +9,7 @@ use deno_semver::{ParseFailure, PreRelease, Version, VersionReq};
 use range_answers::reading::requirement;
 use range_answers::versions::{Entry, Order, fits};
 use serde_json::Value;
+use std::alloc::{AllocError, Global};
 use std::io::Write;
 
 // How many of the texts that match were printed, and how.
@@ -34,11 +35,9 @@ impl Printed {
     ) -> Result<(), Stop> {
         if self.json {
             let mark = if self.is_first { '[' } else { ',' };
-            let item = Value::String(String::from_str(console.alloc, text)?);
-            let item = item.to_string(console.alloc)?;
-            write!(console.out, "{mark}{item}")?;
+            print_item(console, mark, text)?;
         } else {
-            writeln!(console.out, "{text}")?;
+            print_line(&mut console.out, text)?;
         }
         self.is_first = false;
         Ok(())
@@ -50,8 +49,18 @@ impl Printed {
             return Ok(());
         }
         let end = if self.is_first { "[]" } else { "]" };
-        Ok(writeln!(console.out, "{end}")?)
+        print_line(&mut console.out, end)
     }
+}
+
+// Prints an item of an array behind this mark.
+fn print_item<O: Write, E: Write>(
+    console: &mut Console<O, E>,
+    mark: char,
+    text: &str,
+) -> Result<(), Stop> {
+    let item = json_text(console.alloc, Value::try_from_str(console.alloc, text))?;
+    Ok(write!(console.out, "{mark}{item}")?)
 }
 
 // Prints each version that matches.
@@ -84,19 +93,29 @@ struct Kept {
     versions: Vec<Version>,
 }
 
+impl Kept {
+    // The text at this place.
+    fn text(&self, place: Option<usize>) -> Option<&str> {
+        Some(self.texts.get(place?)?.as_str())
+    }
+
+    fn keep(&mut self, alloc: Global, text: &str, version: Version) -> Result<(), AllocError> {
+        self.versions.push(version)?;
+        let text = String::from_str(alloc, text)?;
+        Ok(self.texts.push(text)?)
+    }
+}
+
 impl Take for Kept {
     fn take<O: Write, E: Write>(
         &mut self,
         console: &mut Console<O, E>,
         text: &str,
     ) -> Result<Result<(), ParseFailure>, Stop> {
-        let version = match Version::parse_standard(console.alloc, text) {
-            Ok(version) => version,
-            Err(error) => return Ok(Err(error.source)),
-        };
-        self.texts.push(String::from_str(console.alloc, text)?)?;
-        self.versions.push(version)?;
-        Ok(Ok(()))
+        match Version::parse_standard(console.alloc, text) {
+            Ok(version) => Ok(Ok(self.keep(console.alloc, text, version)?)),
+            Err(error) => Ok(Err(error.source)),
+        }
     }
 }
 
@@ -106,19 +125,23 @@ struct Sorted {
     entries: Vec<Entry>,
 }
 
+impl Sorted {
+    fn keep(&mut self, alloc: Global, text: &str, version: Version) -> Result<(), AllocError> {
+        let text = String::from_str(alloc, text)?;
+        Ok(self.entries.push(Entry { text, version })?)
+    }
+}
+
 impl Take for Sorted {
     fn take<O: Write, E: Write>(
         &mut self,
         console: &mut Console<O, E>,
         text: &str,
     ) -> Result<Result<(), ParseFailure>, Stop> {
-        let version = match Version::parse_standard(console.alloc, text) {
-            Ok(version) => version,
-            Err(error) => return Ok(Err(error.source)),
-        };
-        let text = String::from_str(console.alloc, text)?;
-        self.entries.push(Entry { text, version })?;
-        Ok(Ok(()))
+        match Version::parse_standard(console.alloc, text) {
+            Ok(version) => Ok(Ok(self.keep(console.alloc, text, version)?)),
+            Err(error) => Ok(Err(error.source)),
+        }
     }
 }
 
@@ -200,9 +223,9 @@ fn best_by<R: Input, O: Write, E: Write>(
     };
     let all = take_all(rt, console, matches.get_strs("VERSION"), &mut kept)?;
     let place = max_satisfying_with(kept.versions.as_slice(), requirement, options.pre_release);
-    let best = place.and_then(|place| kept.texts.get(place));
-    let status = console.version(options, best.map(|text| text.as_str()))?;
-    Ok(ended(all, status))
+    let told = console.version(options, kept.text(place));
+    drop(kept);
+    Ok(ended(all, told?))
 }
 
 /// `ranges sort [VERSION..]`: the versions in the order of precedence; those that are equal keep theirs.
@@ -216,16 +239,26 @@ pub fn sort<R: Input, O: Write, E: Write>(
         entries: Vec::new(console.alloc),
     };
     let all = take_all(rt, console, matches.get_strs("VERSION"), &mut sorted)?;
+    let printed = print_sorted(console, options, &mut sorted.entries);
+    drop(sorted);
+    printed?;
+    Ok(ended(all, Status::Answered))
+}
+
+fn print_sorted<O: Write, E: Write>(
+    console: &mut Console<O, E>,
+    options: Options,
+    entries: &mut Vec<Entry>,
+) -> Result<(), Stop> {
     let order = if options.reverse {
         Order::Descending
     } else {
         Order::Ascending
     };
-    order.sort(&mut sorted.entries)?;
+    order.sort(entries)?;
     let mut printed = Printed::new(options);
-    for entry in &sorted.entries {
+    for entry in entries {
         printed.add(console, entry.text.as_str())?;
     }
-    printed.end(console)?;
-    Ok(ended(all, Status::Answered))
+    printed.end(console)
 }

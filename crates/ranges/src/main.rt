@@ -73,6 +73,17 @@ fn words<R: Env + AllocGlobal>(rt: &R) -> io::Result<Vec<String>> {
 }
 
 // Answers the command that was given, and writes out what is still in the buffer.
+fn flushed_answer<R: Input, O: Write, E: Write>(
+    rt: &R,
+    console: &mut Console<O, E>,
+    matches: &ArgMatches<'_>,
+) -> Result<Status, Stop> {
+    let status = answer(rt, console, matches)?;
+    console.out.flush()?;
+    Ok(status)
+}
+
+// Answers the command that was given at a console with a buffer.
 fn write_answer<R: Runtime + AllocGlobal, E: Write + Drop>(
     rt: &R,
     err: E,
@@ -80,10 +91,7 @@ fn write_answer<R: Runtime + AllocGlobal, E: Write + Drop>(
 ) -> Result<Status, Stop> {
     let alloc = rt.alloc();
     let out = BufWriter::new(alloc, io::writer(rt))?;
-    let mut console = Console { alloc, out, err };
-    let status = answer(rt, &mut console, matches)?;
-    console.out.flush()?;
-    Ok(status)
+    flushed_answer(rt, &mut Console { alloc, out, err }, matches)
 }
 
 // Answers the words.

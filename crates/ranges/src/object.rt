@@ -3,11 +3,13 @@
 use serde_json::{Map, Value};
 use std::alloc::{AllocError, Global};
 
-/// A JSON object that is being made. Its fields stand in ascending order of their names.
+/// A JSON object that is being made. Its fields stand in ascending order of their names; where memory is wanting for one, it
+/// ends as that error.
 #[derive(Drop)]
 pub struct Object {
     alloc: Global,
     fields: Map<String, Value>,
+    outcome: Result<(), AllocError>,
 }
 
 impl Object {
@@ -16,26 +18,45 @@ impl Object {
         Object {
             alloc,
             fields: Map::new(alloc),
+            outcome: Ok(()),
         }
     }
 
-    /// Puts a field.
-    pub fn put(&mut self, name: &str, value: Value) -> Result<(), AllocError> {
-        let name = String::from_str(self.alloc, name)?;
-        self.fields.insert(name, value)?;
-        Ok(())
+    /// With a field more.
+    pub fn put(mut self, name: &str, value: Result<Value, AllocError>) -> Object {
+        let outcome = insert(self.alloc, &mut self.fields, name, value);
+        self.outcome = self.outcome.and(outcome);
+        self
     }
 
-    /// Puts a text, or null.
-    pub fn put_text(&mut self, name: &str, text: Option<&str>) -> Result<(), AllocError> {
-        match text {
-            Some(text) => self.put(name, Value::try_from_str(self.alloc, text)?),
-            None => self.put(name, Value::Null),
-        }
+    /// With a text more, or null.
+    pub fn put_text(self, name: &str, text: Option<&str>) -> Object {
+        let value = text_or_null(self.alloc, text);
+        self.put(name, value)
     }
 
     /// The object.
-    pub fn into_json(self) -> Value {
-        Value::Object(self.fields)
+    pub fn into_json(self) -> Result<Value, AllocError> {
+        self.outcome?;
+        Ok(Value::Object(self.fields))
+    }
+}
+
+fn insert(
+    alloc: Global,
+    fields: &mut Map<String, Value>,
+    name: &str,
+    value: Result<Value, AllocError>,
+) -> Result<(), AllocError> {
+    let value = value?;
+    let name = String::from_str(alloc, name)?;
+    fields.insert(name, value)?;
+    Ok(())
+}
+
+fn text_or_null(alloc: Global, text: Option<&str>) -> Result<Value, AllocError> {
+    match text {
+        Some(text) => Value::try_from_str(alloc, text),
+        None => Ok(Value::Null),
     }
 }

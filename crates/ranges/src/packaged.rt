@@ -1,7 +1,7 @@
 //! `ranges package` and `ranges reference`: the parts of the text of a package.
 
 use crate::args::Options;
-use crate::console::{Console, Status, Stop};
+use crate::console::{Console, Status, Stop, print_line};
 use crate::object::Object;
 use clap::ArgMatches;
 use deno_semver::jsr::normalized_export_name;
@@ -53,37 +53,40 @@ impl<'a> Parts<'a> {
 impl Parts<'_> {
     // Prints each part on a line.
     fn print<O: Write>(&self, out: &mut O) -> Result<(), Stop> {
-        print_part(out, "kind", self.kind)?;
-        print_part(out, "scope", self.scope)?;
-        print_part(out, "name", Some(self.name))?;
-        print_part(out, "requirement", Some(self.requirement))?;
-        print_part(out, "normal text", Some(self.normal))?;
-        print_part(out, "path", self.path)?;
-        print_part(out, "export", self.export)
+        let parts = [
+            ("kind", self.kind),
+            ("scope", self.scope),
+            ("name", Some(self.name)),
+            ("requirement", Some(self.requirement)),
+            ("normal text", Some(self.normal)),
+            ("path", self.path),
+            ("export", self.export),
+        ];
+        print_parts(out, parts.as_slice())
     }
 
     // The JSON of a requirement of a package.
     fn package_json(&self, alloc: Global) -> Result<Value, AllocError> {
-        let mut json = Object::new(alloc);
-        json.put_text("scope", self.scope)?;
-        json.put_text("name", Some(self.name))?;
-        json.put_text("requirement", Some(self.requirement))?;
-        json.put_text("normal", Some(self.normal))?;
-        Ok(json.into_json())
+        Object::new(alloc)
+            .put_text("scope", self.scope)
+            .put_text("name", Some(self.name))
+            .put_text("requirement", Some(self.requirement))
+            .put_text("normal", Some(self.normal))
+            .into_json()
     }
 
     // The JSON: of a reference where there is a kind, and else of a requirement.
     fn json(&self, alloc: Global) -> Result<Value, AllocError> {
-        let package = self.package_json(alloc)?;
+        let package = self.package_json(alloc);
         if self.kind.is_none() {
-            return Ok(package);
+            return package;
         }
-        let mut json = Object::new(alloc);
-        json.put_text("kind", self.kind)?;
-        json.put("package", package)?;
-        json.put_text("path", self.path)?;
-        json.put_text("export", self.export)?;
-        Ok(json.into_json())
+        Object::new(alloc)
+            .put_text("kind", self.kind)
+            .put("package", package)
+            .put_text("path", self.path)
+            .put_text("export", self.export)
+            .into_json()
     }
 
     // Prints the parts, or the JSON of them.
@@ -93,7 +96,7 @@ impl Parts<'_> {
         options: Options,
     ) -> Result<Status, Stop> {
         if options.json {
-            console.json(&self.json(console.alloc)?)?;
+            console.json(self.json(console.alloc))?;
         } else {
             self.print(&mut console.out)?;
         }
@@ -101,10 +104,12 @@ impl Parts<'_> {
     }
 }
 
-// Prints a part on a line, where there is one.
-fn print_part<O: Write>(out: &mut O, part: &str, text: Option<&str>) -> Result<(), Stop> {
-    if let Some(text) = text {
-        writeln!(out, "{part}: {text}")?;
+// Prints each of the parts that there is on a line.
+fn print_parts<O: Write>(out: &mut O, parts: &[(&str, Option<&str>)]) -> Result<(), Stop> {
+    for (part, text) in parts {
+        if let Some(text) = text {
+            print_line(out, format_args!("{part}: {text}"))?;
+        }
     }
     Ok(())
 }

@@ -1,6 +1,6 @@
 -- Texts that stand in the value itself where they are short, lists whose copies share their items, and what replacing
 -- is.
-use Rattle.std.specs.Prelude.{◌≡◌, ℕ, List, [], ◌∷◌, ◌++◌, ◌<◌, ◌≤◌, ◌==◌, length, take, drop, slice_get, string_bytes, encode_utf8, Option, Some, None}
+use Rattle.std.specs.Prelude.{◌≡◌, ℕ, List, [], ◌∷◌, ◌++◌, ◌<◌, ◌≤◌, ◌==◌, length, take, drop, slice_get, string_bytes, encode_utf8, Some, None}
 use Rattle.std.specs.List.{take_while}
 use Rattle.std.specs.Str.{chars}
 use Rattle.std.specs.Str.Pattern.{FindsText}
