@@ -1,27 +1,41 @@
 #!/usr/bin/env python3
-"""Holds the programs ranges and npmver to their rows, and to the examples of the pages that show them. Run at the top of the
-project, after rt ci (or after rt run in both crates), which builds them.
+"""Holds the programs ranges, npmver and conformance to their rows, the first to the examples of the pages that show it too, and the
+last to rows with texts of a million letters. Run at the top of the project, after rt ci (or after rt run in the three crates),
+which builds them.
 
     tools/programs/check.py
 
 A row of PROGRAM.jsonl is a JSON object: the words after the program's name, standard input where there is one, standard output,
-standard error and the status; absent texts are empty. The rows of npmver are run once more where nothing can be written. An
-example is what stands after `$ ` in a console block of a page, where `ranges` is in it, with the lines that it prints. The last
-line counts; the status is 1 where something differs."""
+standard error and the status; absent texts are empty. The rows of npmver and conformance are run once more where nothing can be
+written. An example is what stands after `$ ` in a console block of a page, where `ranges` is in it, with the lines that it
+prints. The last line counts; the status is 1 where something differs."""
 import json, os, pathlib, re, subprocess, sys
 
 TOP = pathlib.Path(__file__).resolve().parents[2]
 HERE = pathlib.Path(__file__).resolve().parent
-PROGRAMS = {name: TOP / f"crates/{name}/out/{name}" for name in ("ranges", "npmver")}
+PROGRAMS = {name: TOP / f"crates/{name}/out/{name}" for name in ("ranges", "npmver", "conformance")}
 RANGES = PROGRAMS["ranges"]
 PAGES = ("README.md", "docs/RANGES.md")
 # How much more memory, in kilobytes, many lines may take than few.
 SLACK = 1024
 FEW, MANY = 50_000, 400_000
+# Texts that a row of the table holds so many times in the place of `@`, and what is asked of them; each within some seconds.
+SECONDS = 10
+PIECES = ("1", "-", ".", "a.", "||", "^")
+TAG = '[["requirement","strict","@"],["tag","@","@"]]'
+REFUSED = '[["requirement","strict","@"],["refused"]]'
+TOO_LARGE = '[["version","@"],["refused","Number is too large.",null]]'
+UNEXPECTED = '[["version","@"],["refused","Unexpected character.",null]]'
+LONG = (
+    *((1_000_000, piece, REFUSED if piece in ("||", "^") else TAG) for piece in PIECES),
+    *((1_000_000, piece, TOO_LARGE if piece == "1" else UNEXPECTED) for piece in PIECES),
+    (20_000, "a.", '[["version","1.2.3-@a+@a"],["read","1.2.3-@a+@a"]]'),
+    (20_000, "a.", '[["fits","strict","1.2.3-@+@","1.2.3-@+@"],["yes"]]'),
+)
 
 
-def run(program, words, given=""):
-    ran = subprocess.run([str(program), *words], input=given.encode(), capture_output=True, timeout=60)
+def run(program, words, given="", seconds=60):
+    ran = subprocess.run([str(program), *words], input=given.encode(), capture_output=True, timeout=seconds)
     return ran.stdout.decode(), ran.stderr.decode(), ran.returncode
 
 
@@ -41,12 +55,25 @@ def rows():
 
 
 def unwritable():
-    """Where nothing can be written, an answer of npmver has the status 6, and any other status stays."""
+    """Where nothing can be written, an answer of npmver or conformance has the status 6, and any other status stays."""
     with open("/dev/full", "wb") as full:
-        for place, row in rows_of("npmver"):
-            wanted = 6 if "stdout" in row else row["status"]
-            found = subprocess.run([str(PROGRAMS["npmver"]), *row["words"]], stdout=full, stderr=full, timeout=60).returncode
-            yield None if found == wanted else f"{place}, where nothing can be written: wanted {wanted}, found {found}"
+        for name in ("npmver", "conformance"):
+            for place, row in rows_of(name):
+                wanted, given = 6 if "stdout" in row else row["status"], row.get("stdin", "").encode()
+                ran = subprocess.run([str(PROGRAMS[name]), *row["words"]], input=given, stdout=full, stderr=full, timeout=60)
+                found = ran.returncode
+                yield None if found == wanted else f"{place}, where nothing can be written: wanted {wanted}, found {found}"
+
+
+def long_texts():
+    """Each row with a long text agrees, and soon."""
+    for count, piece, row in LONG:
+        place = f"{row} of {count} times {piece}"
+        try:
+            status = run(PROGRAMS["conformance"], [], row.replace("@", piece * count), SECONDS)[2]
+            yield None if status == 0 else f"{place}: status {status}"
+        except subprocess.TimeoutExpired:
+            yield f"{place}: no answer after {SECONDS} seconds"
 
 
 def examples(page):
@@ -103,7 +130,7 @@ def main():
     for program in PROGRAMS.values():
         if not program.is_file():
             sys.exit(f"{program} isn't built: run rt ci first")
-    outcomes = [outcome for check in (rows, unwritable, pages, memory, closed) for outcome in check()]
+    outcomes = [outcome for check in (rows, unwritable, long_texts, pages, memory, closed) for outcome in check()]
     wrong = [outcome for outcome in outcomes if outcome]
     print(*wrong, sep="\n", end="\n" if wrong else "")
     print(f"{len(outcomes) - len(wrong)} of {len(outcomes)} hold")

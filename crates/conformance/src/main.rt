@@ -63,6 +63,3 @@ fn status(agrees: Result<bool, Problem>) -> u8
 fn main(rt: HostRuntime) -> ExitCode {
     ExitCode::from(status(run(&rt)))
 }
-
-#[cfg(test)]
-mod tests;
