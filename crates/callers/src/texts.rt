@@ -1,6 +1,7 @@
 //! What is written where one text after another is pushed?
 
 ghost use Rattle.std.specs.Prelude.{◌≡◌, ◌++◌, ◌∷◌, IfOk, OnOk, string_bytes};
+ghost use Rattle.semver_base.specs.Characters.{at_sign};
 ghost use Rattle.semver_base.specs.VersionText.{version_text};
 
 use deno_semver::{StringAppendable, StringType, Version};
@@ -14,7 +15,7 @@ pub fn named<T: StringType, A: StringAppendable>(
     name: &str,
     value: &A,
 ) -> Result<T, AllocError>
-    ensures { IfOk result (λ text. T.text text ≡ name.now ++ (64 ∷ A.text value.now)) }
+    ensures { IfOk result (λ text. T.text text ≡ name.now ++ (at_sign ∷ A.text value.now)) }
 {
     let mut text = T::with_capacity(alloc, 0)?;
     text.push_str(name)?;
@@ -28,7 +29,7 @@ pub fn named<T: StringType, A: StringAppendable>(
 /// It is an error only where no memory is left.
 pub fn named_version(alloc: Global, name: &str, version: &Version) -> Result<String, AllocError>
     ensures { IfOk result
-        (λ text. string_bytes text ≡ name.now ++ (64 ∷ version_text version.now)) }
+        (λ text. string_bytes text ≡ name.now ++ (at_sign ∷ version_text version.now)) }
 {
     named::<String, Version>(alloc, name, version)
 }

@@ -6,6 +6,7 @@ use Rattle.std.specs.List.{fold}
 use Rattle.std.specs.Ordering.{nat_cmp, on, then_cmp}
 use Rattle.std.specs.declared.cmp.Ordering.{Ordering}
 use Rattle.std.specs.declared.cmp.Ordering.TheVariants.{Less, Equal, Greater}
+use Rattle.semver_base.specs.Characters.{zero_digit}
 use Rattle.semver_base.specs.Clamp.{clamped_start}
 use Rattle.semver_base.specs.LeastVersion.{all_mean_with, both_mean_with, means_alone_with}
 use Rattle.semver_base.specs.Meaning.{is_release, release}
@@ -57,7 +58,7 @@ least_release (bound.Version start) = release_from start.kind start.version
 
 -- the identifier `0`, which none of the grammar is below
 abbrev pub zero_identifier : List ℕ
-zero_identifier = 48 ∷ []
+zero_identifier = zero_digit ∷ []
 
 -- the version of the same three numbers with this pre-release, without a build
 abbrev pub with_pre : Version → List (List ℕ) → Version

@@ -5,6 +5,7 @@ use Rattle.std.specs.Prelude.{◌≡◌, ◌<◌, ℕ, List, [], ◌∷◌, leng
 use Rattle.std.specs.Char.{is_ascii_digit, is_ascii_alphanumeric, is_not_whitespace}
 use Rattle.std.specs.Str.{NoCharPasses}
 use Rattle.std.specs.Str.Parse.{digits_value}
+use Rattle.semver_base.specs.Characters.{dot, hyphen_sign, zero_digit}
 use Rattle.semver_base.specs.Grammar.{Followed, Listed, Mapped, Prefixed, Optional, Run}
 use Rattle.semver_base.specs.declared.lexical.values.Measured.{Measured}
 use Rattle.semver_base.specs.declared.lexical.values.Measured.TheVariants.{Fits, TooLarge}
@@ -35,7 +36,7 @@ IsLooseNumber = Mapped (digits_value 10) (Run is_ascii_digit)
 -- `0`, or a digit 1 to 9 and any digits after it
 pub record IsStrictNumber (text : List ℕ) (n : ℕ) : Type 0 where
   pub digits : IsLooseNumber text n
-  pub no_leading_zero : slice_index text 0 ≡ 48 → length text ≡ 1
+  pub no_leading_zero : slice_index text 0 ≡ zero_digit → length text ≡ 1
 
 abbrev pub IsNumber : Strictness → List ℕ → ℕ → Type 0
 IsNumber Loose = IsLooseNumber
@@ -62,21 +63,21 @@ measured_of (Some n) = Fits n
 
 -- one of `0-9`, `A-Z`, `a-z` and `-`
 abbrev pub is_identifier_byte : ℕ → Bool
-is_identifier_byte b = is_ascii_alphanumeric b || (b == 45)
+is_identifier_byte b = is_ascii_alphanumeric b || (b == hyphen_sign)
 
 abbrev pub IsIdentifier : List ℕ → List ℕ → Type 0
 IsIdentifier = Run is_identifier_byte
 
 -- identifiers with a dot between neighbours, and one at the end or none
 abbrev pub IsIdentifiers : List ℕ → List (List ℕ) → Type 0
-IsIdentifiers = Listed IsIdentifier (IsByte 46)
+IsIdentifiers = Listed IsIdentifier (IsByte dot)
 
 -- ---- qualifiers
 
 -- what begins with `-` loses exactly that; what begins with no `-` is identifiers as it stands
 abbrev pub IsLoosePre : List ℕ → List (List ℕ) → Type 0
 IsLoosePre [] ids = ⊥
-IsLoosePre (b ∷ rest) ids = ((b ≡ 45) × IsIdentifiers rest ids) ⊎ ((b ≡ 45 → ⊥) × IsIdentifiers (b ∷ rest) ids)
+IsLoosePre (b ∷ rest) ids = ((b ≡ hyphen_sign) × IsIdentifiers rest ids) ⊎ ((b ≡ hyphen_sign → ⊥) × IsIdentifiers (b ∷ rest) ids)
 
 -- `-`, and identifiers after it
 abbrev pub IsStrictPre : List ℕ → List (List ℕ) → Type 0

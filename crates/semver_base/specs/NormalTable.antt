@@ -2,6 +2,7 @@
 -- start and the end.
 use Rattle.std.specs.Prelude.{◌≡◌, ◌<◌, ◌+◌, ℕ, ◌∷◌, ◌++◌, codes}
 use Rattle.std.specs.Fmt.{decimal}
+use Rattle.semver_base.specs.Characters.{dot}
 use Rattle.semver_base.specs.Meaning.{bound_at, everything, from, release, to_below}
 use Rattle.semver_base.specs.NormalText.{range_text}
 use Rattle.semver_base.specs.PartialTable.{up_to, between}
@@ -34,7 +35,7 @@ pub record IsNormalTable : Type 0 where
       → range_text (between (from (release major 0 0)) (to_below (release (major + 1) 0 0))) ≡ decimal major
   pub one_minor : (major minor : ℕ)
       → range_text (between (from (release major minor 0)) (to_below (release major (minor + 1) 0)))
-      ≡ decimal major ++ (46 ∷ decimal minor)
+      ≡ decimal major ++ (dot ∷ decimal minor)
   pub tilde : (s : Version) → ¬ (s ≡ release s.major s.minor 0)
       → range_text (between (from s) (to_below (release s.major (s.minor + 1) 0))) ≡ codes "~" ++ version_text s
   pub caret_patch : (s : Version) → s.major ≡ 0 → s.minor ≡ 0

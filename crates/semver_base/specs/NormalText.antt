@@ -3,6 +3,7 @@
 use Rattle.std.specs.Prelude.{ℕ, List, [], ◌∷◌, ◌++◌, codes}
 use Rattle.std.specs.Fmt.{decimal}
 use Rattle.std.specs.List.{AllByRecursion, join_by}
+use Rattle.semver_base.specs.Characters.{dot}
 use Rattle.semver_base.specs.Comparators.{Caret, Comparator, Hyphen, OfPrimitive, Plain, Tilde, primitive_kind_text}
 use Rattle.semver_base.specs.PartialTable.{lowest}
 use Rattle.semver_base.specs.Shortest.{shortest}
@@ -20,7 +21,7 @@ use Rattle.semver_base.specs.declared.range.VersionRange.{VersionRange}
 abbrev pub text_by : Partial → XRange → XRange → XRange → List ℕ
 text_by p Wildcard minor patch = codes "*"
 text_by p (Val major) Wildcard patch = decimal major
-text_by p (Val major) (Val minor) Wildcard = decimal major ++ (46 ∷ decimal minor)
+text_by p (Val major) (Val minor) Wildcard = decimal major ++ (dot ∷ decimal minor)
 text_by p (Val major) (Val minor) (Val patch) = version_text (lowest p)
 
 abbrev pub partial_text : Partial → List ℕ

@@ -1,5 +1,6 @@
 -- Plain texts: one to three numbers with dots between and nothing else, which each grammar reads alike.
 use Rattle.std.specs.Prelude.{◌<◌, ◌^◌, ℕ, List, [], ◌∷◌}
+use Rattle.semver_base.specs.Characters.{dot}
 use Rattle.semver_base.specs.Grammar.{IsLongest}
 use Rattle.semver_base.specs.Lexical.{IsLooseNumber, IsStrictNumber}
 use Rattle.semver_base.specs.declared.plain.FewNumbers.{FewNumbers}
@@ -15,8 +16,8 @@ pub record IsPlainNumber (text : List ℕ) (n : ℕ) (rest : List ℕ) : Type 0 
 pub record IsTripleFront (text : List ℕ) (m n p : ℕ) (rest : List ℕ) : Type 0 where
   pub from_minor : List ℕ
   pub from_patch : List ℕ
-  pub major : IsPlainNumber text m (46 ∷ from_minor)
-  pub minor : IsPlainNumber from_minor n (46 ∷ from_patch)
+  pub major : IsPlainNumber text m (dot ∷ from_minor)
+  pub minor : IsPlainNumber from_minor n (dot ∷ from_patch)
   pub patch : IsPlainNumber from_patch p rest
 
 -- the whole text is these numbers with dots between
@@ -26,7 +27,7 @@ IsPlainTriple text m n p = IsTripleFront text m n p []
 -- the whole text is these two numbers with a dot between
 pub record IsPlainPair (text : List ℕ) (m n : ℕ) : Type 0 where
   pub from_minor : List ℕ
-  pub major : IsPlainNumber text m (46 ∷ from_minor)
+  pub major : IsPlainNumber text m (dot ∷ from_minor)
   pub minor : IsPlainNumber from_minor n []
 
 -- the whole text is these numbers with dots between

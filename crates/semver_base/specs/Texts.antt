@@ -6,6 +6,7 @@ use Rattle.std.specs.Str.{chars}
 use Rattle.std.specs.Str.Pattern.{FindsText}
 use Rattle.std.specs.declared.borrow.CowStr.{CowStr}
 use Rattle.std.specs.declared.borrow.CowStr.TheVariants as cow
+use Rattle.semver_base.specs.Characters.{zero_digit}
 use Rattle.semver_base.specs.declared.string.Kept.{Kept}
 use Rattle.semver_base.specs.declared.string.Kept.TheVariants as kept
 use Rattle.semver_base.specs.declared.string.list.Items.{Items}
@@ -23,7 +24,7 @@ IsInlineIfShort {limit} (kept.Heap s) = limit < length (string_bytes s)
 
 -- how many zeros stand at the front
 abbrev pub zeros_in_front : List ℕ → ℕ
-zeros_in_front bytes = length (take_while (λ b. b == 48) bytes)
+zeros_in_front bytes = length (take_while (λ b. b == zero_digit) bytes)
 
 -- how a text stands, with the number of its zeros
 pub record IsKept {limit : ℕ} (text : Kept limit) (zeros : ℕ) : Type 0 where

@@ -1,7 +1,7 @@
 -- The grammar of version texts, and which fault of a text is the first from the left. Source: SemVer 2.0.0, section 2
 -- and its grammar, in the loose form of node-semver: leading `=`, `v` and zeros, a pre-release without `-`.
 use Rattle.std.specs.Prelude.{◌≡◌, ◌≤◌, ◌<◌, ◌^◌, ℕ, List, [], ◌∷◌, Option, Some, None, Result, Ok, Err, ◌⊎◌, MatchResult, IsErrAnd}
-use Rattle.semver_base.specs.Characters.{equals_sign, letter_v}
+use Rattle.semver_base.specs.Characters.{dot, equals_sign, letter_v}
 use Rattle.semver_base.specs.Failure.{refusal_message}
 use Rattle.semver_base.specs.Grammar.{After, Followed, IsLongest, Joined, Mapped, Prefixed, Optional}
 use Rattle.semver_base.specs.Lexical.{IsBlanks, IsByte, IsLooseNumber, IsQualifier, NoDigitFollows}
@@ -40,7 +40,7 @@ pub record AllNumbersFit (v : Version) : Type 0 where
 
 -- the text doesn't begin with a `.`
 abbrev pub LacksDot : List ℕ → Type 0
-LacksDot text = (rest : List ℕ) → text ≡ 46 ∷ rest → ⊥
+LacksDot text = (rest : List ℕ) → text ≡ dot ∷ rest → ⊥
 
 -- the first fault of numbers with dots between, each number as long as it goes; missing has the refusal for each dot
 -- that has to come
@@ -51,7 +51,7 @@ pub data IsNumberFault : List Refusal → List ℕ → Refusal → Type 0 where
       → IsLongest IsLooseNumber text n rest → n < 2 ^ 64 → LacksDot rest
       → IsNumberFault (refusal ∷ missing) text refusal
   later : {refusal fault : Refusal} {missing : List Refusal} {text rest : List ℕ} {n : ℕ}
-      → IsLongest IsLooseNumber text n (46 ∷ rest) → n < 2 ^ 64 → IsNumberFault missing rest fault
+      → IsLongest IsLooseNumber text n (dot ∷ rest) → n < 2 ^ 64 → IsNumberFault missing rest fault
       → IsNumberFault (refusal ∷ missing) text fault
 
 -- a number that is too large or a component that is missing is the first fault of the text

@@ -5,6 +5,7 @@
 
 ghost use Rattle.std.specs.Prelude.{◌≡◌, ◌≤◌, ◌+◌, ◌∷◌, ◌++◌, length, drop};
 ghost use Rattle.std.specs.Fmt.{decimal};
+ghost use Rattle.semver_base.specs.Characters.{dot};
 
 use itoa::write_digits;
 use std::str::from_utf8_unchecked;
@@ -19,7 +20,7 @@ fn put_before(number: u64, bytes: &mut [u8], end: usize) -> usize
     requires high { end ≤ length bytes.old }
     ensures start { end ≤ result + 21 }
     ensures within { result ≤ end }
-    ensures written { drop result bytes.new ≡ decimal number ++ (46 ∷ drop end bytes.old) }
+    ensures written { drop result bytes.new ≡ decimal number ++ (dot ∷ drop end bytes.old) }
 {
     bytes[end - 1] = b'.';
     write_digits(number, bytes, end - 1)
@@ -28,7 +29,7 @@ fn put_before(number: u64, bytes: &mut [u8], end: usize) -> usize
 /// The text of three numbers with `.` between, which stands in `room`.
 #[inline(always)]
 pub(crate) fn dotted(major: u64, minor: u64, patch: u64, room: &mut [u8; DOTTED_ROOM]) -> &str
-    ensures { result.now ≡ decimal major ++ (46 ∷ (decimal minor ++ (46 ∷ decimal patch))) }
+    ensures { result.now ≡ decimal major ++ (dot ∷ (decimal minor ++ (dot ∷ decimal patch))) }
 {
     let bytes = &mut room[..];
     let start = write_digits(patch, bytes, DOTTED_ROOM);

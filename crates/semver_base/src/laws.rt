@@ -140,7 +140,7 @@ pub fn same_components(one: &XRange, other: &XRange) -> bool
 }
 
 /// Whether two primitive kinds are the same.
-pub fn same_signs(one: &PrimitiveKind, other: &PrimitiveKind) -> bool
+pub fn same_primitive_kinds(one: &PrimitiveKind, other: &PrimitiveKind) -> bool
     ensures { IsTrue result ↔ (one.now ≡ other.now) }
 {
     one == other

@@ -4,6 +4,7 @@
 //! grammar says, and where it answers `None` nothing is known.
 
 ghost use Rattle.std.specs.Prelude.{◌≡◌, ◌∷◌, IfSome};
+ghost use Rattle.semver_base.specs.Characters.{dot};
 ghost use Rattle.semver_base.specs.PlainTexts.{IsFewNumbers, IsPlainNumber, IsTripleFront};
 
 // Ten times a number below this, and a digit, is a `u64`.
@@ -48,7 +49,7 @@ fn number(bytes: &[u8]) -> Option<(u64, &[u8])>
 // What follows a `.`.
 #[inline(always)]
 fn after_dot(bytes: &[u8]) -> Option<&[u8]>
-    ensures { IfSome result (λ rest. bytes.now ≡ 46 ∷ rest.now) }
+    ensures { IfSome result (λ rest. bytes.now ≡ dot ∷ rest.now) }
 {
     match bytes {
         [b'.', rest @ ..] => Some(rest),

@@ -12,7 +12,7 @@ use Rattle.semver_base.proofs.Fronts.{NonEmpty, either_none, either_that, either
 use Rattle.semver_base.proofs.Readings.{some_within}
 use Rattle.semver_req.specs.Comparators.{IsComparator, IsMarked, IsPlain, IsPrimitiveKind}
 use Rattle.semver_req.specs.Partials.{IsPartial, sized_partial}
-use Rattle.semver_req.specs.Written.{IsFront, IsMarkCut, IsUnsigned, ReadsComparator}
+use Rattle.semver_req.specs.Written.{IsFront, IsMarkCut, IsNonPrimitive, ReadsComparator}
 use Rattle.semver_req.specs.declared.common.comparator.Mark.{Mark}
 use Rattle.semver_req.specs.declared.common.comparator.Mark.TheVariants as mark
 use Rattle.semver_req.specs.declared.common.comparator.Written.{Written}
@@ -41,30 +41,30 @@ after_tilde f {text} e = none_by_byte (partial_some f) (any_begins f) text (λ x
 pub after_caret : (f : Flavour) {text rest : List ℕ} → text ≡ 94 ∷ rest → HasNone (IsPartial f) text
 after_caret f {text} e = none_by_byte (partial_some f) (any_begins f) text (λ x t g k. caret_no_partial x (cc) k)
 
-pub unsigned_some : (f : Flavour) (m : Mark) {text rest end : List ℕ} {answer : Measured Partial} → IsMarkCut text m rest → IsSeen sized_partial (IsPartial f) rest answer end
-    → IsFront (IsUnsigned f) text (record { mark = m; partial = answer }) end
-unsigned_some f mark.Tilde e s = record {
+pub non_primitive_some : (f : Flavour) (m : Mark) {text rest end : List ℕ} {answer : Measured Partial} → IsMarkCut text m rest → IsSeen sized_partial (IsPartial f) rest answer end
+    → IsFront (IsNonPrimitive f) text (record { mark = m; partial = answer }) end
+non_primitive_some f mark.Tilde e s = record {
   partial = s.value;
   longest = either_this (either_this (mapped (prefixed_some e s.longest)) (mapped_none (prefixed_other (λ r g. absurd (omega (arith, first_byte e g)))))) (mapped_none (after_tilde f e));
   seen = s.seen;
 }
-unsigned_some f mark.Caret e s = record {
+non_primitive_some f mark.Caret e s = record {
   partial = s.value;
   longest = either_this (either_that (mapped_none (prefixed_other (λ r g. absurd (omega (arith, first_byte e g))))) (mapped (prefixed_some e s.longest))) (mapped_none (after_caret f e));
   seen = s.seen;
 }
-unsigned_some f (mark.Primitive kind) e s = absurd e
-unsigned_some f mark.Absent e s = record {
+non_primitive_some f (mark.Primitive kind) e s = absurd e
+non_primitive_some f mark.Absent e s = record {
   partial = s.value;
   longest = either_that (either_none (mapped_none (prefixed_other e.1)) (mapped_none (prefixed_other e.2))) (mapped (rw e.0 at s.longest));
   seen = s.seen;
 }
 
-pub unsigned_none : (f : Flavour) (m : Mark) {text rest : List ℕ} → IsMarkCut text m rest → HasNone (IsPartial f) rest → HasNone (IsUnsigned f) text
-unsigned_none f mark.Tilde e n = either_none (either_none (mapped_none (prefixed_none e n)) (mapped_none (prefixed_other (λ r g. absurd (omega (arith, first_byte e g)))))) (mapped_none (after_tilde f e))
-unsigned_none f mark.Caret e n = either_none (either_none (mapped_none (prefixed_other (λ r g. absurd (omega (arith, first_byte e g))))) (mapped_none (prefixed_none e n))) (mapped_none (after_caret f e))
-unsigned_none f (mark.Primitive kind) e n = absurd e
-unsigned_none f mark.Absent e n = either_none (either_none (mapped_none (prefixed_other e.1)) (mapped_none (prefixed_other e.2))) (mapped_none (rw e.0 at n))
+pub non_primitive_none : (f : Flavour) (m : Mark) {text rest : List ℕ} → IsMarkCut text m rest → HasNone (IsPartial f) rest → HasNone (IsNonPrimitive f) text
+non_primitive_none f mark.Tilde e n = either_none (either_none (mapped_none (prefixed_none e n)) (mapped_none (prefixed_other (λ r g. absurd (omega (arith, first_byte e g)))))) (mapped_none (after_tilde f e))
+non_primitive_none f mark.Caret e n = either_none (either_none (mapped_none (prefixed_other (λ r g. absurd (omega (arith, first_byte e g))))) (mapped_none (prefixed_none e n))) (mapped_none (after_caret f e))
+non_primitive_none f (mark.Primitive kind) e n = absurd e
+non_primitive_none f mark.Absent e n = either_none (either_none (mapped_none (prefixed_other e.1)) (mapped_none (prefixed_other e.2))) (mapped_none (rw e.0 at n))
 
 -- ---- a primitive kind, or none
 
@@ -90,7 +90,7 @@ module _ {V : Type 0} {A B C : List ℕ → V → Type 0} where
       go a b w e (that (this h)) = n.none a b w e h
       go a b w e (that (that h)) = p.none a b w e (that h)
 
-pub no_primitive_kind : (r : Option (Written × List ℕ)) {text : List ℕ} → HasNone IsPrimitiveKind text → ReadsComparator (IsUnsigned Normal) text r → ReadsComparator (IsComparator Normal) text r
+pub no_primitive_kind : (r : Option (Written × List ℕ)) {text : List ℕ} → HasNone IsPrimitiveKind text → ReadsComparator (IsNonPrimitive Normal) text r → ReadsComparator (IsComparator Normal) text r
 no_primitive_kind None n h = none_but (mapped_none (joined_none_first n)) h
 no_primitive_kind (Some p) n h = record { partial = h.partial; longest = longest_but (mapped_none (joined_none_first n)) h.longest; seen = h.seen }
 

@@ -183,8 +183,8 @@ marked_read m B text (Some p) h = (refl, h)
 
 -- ---- no primitive kind
 
-pub unsigned_npm : {text : List ℕ} (r : Option (Written × List ℕ)) → HasNone IsPrimitiveKind text → IsNpmFront mark.Absent text r → ReadsComparator (IsComparator Npm) text r
-unsigned_npm {text} r n h = npm_front (optional_none (joined_none_first n)) others h
+pub non_primitive_npm : {text : List ℕ} (r : Option (Written × List ℕ)) → HasNone IsPrimitiveKind text → IsNpmFront mark.Absent text r → ReadsComparator (IsComparator Npm) text r
+non_primitive_npm {text} r n h = npm_front (optional_none (joined_none_first n)) others h
   where
     others : ReadsOther mark.Absent text text
     others = record {

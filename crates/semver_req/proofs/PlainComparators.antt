@@ -35,7 +35,7 @@ use Rattle.semver_req.specs.Pieces.{HasNoBar, IsComparators, IsFilled, IsPiece, 
 use Rattle.semver_req.specs.PieceReading.{as_kept, joined, read_as}
 use Rattle.semver_req.specs.PieceSteps.{IsWholeRead}
 use Rattle.semver_req.specs.PlainComparators.{IsFewAlone, IsFewMarked, IsFewPair, IsPlainComparator, IsPlainReading, IsUnclosed, mark_text}
-use Rattle.semver_req.specs.Written.{IsFront, IsMarkCut, IsUnsigned, comparator_of}
+use Rattle.semver_req.specs.Written.{IsFront, IsMarkCut, IsNonPrimitive, comparator_of}
 use Rattle.semver_req.specs.declared.common.comparator.Mark.{Mark}
 use Rattle.semver_req.specs.declared.common.comparator.Mark.TheVariants as mark
 use Rattle.semver_req.specs.declared.common.comparator.Written.{Written}
@@ -47,7 +47,7 @@ use Rattle.semver_req.specs.declared.range_set_or_tag.RangeSetOrTag.TheVariants 
 use Rattle.semver_req.specs.Readers.{IsReading}
 use Rattle.semver_req.proofs.Components.{component_read, third_read, wildcard_no_digit}
 use Rattle.semver_req.proofs.Fitting.{fitting}
-use Rattle.semver_req.proofs.Marks.{unsigned_some}
+use Rattle.semver_req.proofs.Marks.{non_primitive_some}
 use Rattle.semver_req.proofs.Partials.{not_led, optional_seen, optional_unseen, partial_read, second_read}
 use Rattle.semver_req.proofs.PiecesRead.{list_kept}
 use Rattle.semver_req.proofs.SpecifierKept.{specifier_ends, specifier_kept}
@@ -107,8 +107,8 @@ few_seen Specifier n t = few_plain Specifier n t
 
 -- ---- comparators
 
-pub plain_front : (f : Flavour) {text : List ℕ} {range : VersionRange} (p : IsPlainComparator text range) → IsFront (IsUnsigned f) text (record { mark = p.mark; partial = Fits (of_few p.numbers) }) []
-plain_front f p = unsigned_some f p.mark p.cut (few_seen f p.numbers p.few)
+pub plain_front : (f : Flavour) {text : List ℕ} {range : VersionRange} (p : IsPlainComparator text range) → IsFront (IsNonPrimitive f) text (record { mark = p.mark; partial = Fits (of_few p.numbers) }) []
+plain_front f p = non_primitive_some f p.mark p.cut (few_seen f p.numbers p.few)
 
 -- the strict reader's ranges
 pub specifier_reading : {text : List ℕ} {range : VersionRange} (answer : RangeSetOrTag) → IsPlainComparator text range → answer ≡ inner.RangeSet (record { 0 = range ∷ [] }) → IsReading Specifier text answer
@@ -122,7 +122,7 @@ comparator p = comparator_of p.mark (of_few p.numbers)
 whole_front : {V : Type 0} {A : List ℕ → V → Type 0} {text : List ℕ} {c : V} → IsLongest A text c [] → A text c
 whole_front p = let whole = p.text_is ∙ append-nil p.front in rw whole p.stands
 
-is_normal : (text : List ℕ) (c : Comparator) → IsUnsigned Normal text c → IsComparator Normal text c
+is_normal : (text : List ℕ) (c : Comparator) → IsNonPrimitive Normal text c → IsComparator Normal text c
 is_normal text c (this h) = this h
 is_normal text c (that h) = that (that h)
 

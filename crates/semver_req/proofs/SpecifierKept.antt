@@ -72,33 +72,33 @@ equal_stays (Val major) (Val minor) (Val patch) pre build = version_stays (lowes
 -- ---- comparators of the strict reader
 
 -- without a primitive kind in front
-abbrev is_unsigned : Comparator → Bool
-is_unsigned (OfPrimitive primitive_kind p) = false
-is_unsigned c = true
+abbrev is_non_primitive : Comparator → Bool
+is_non_primitive (OfPrimitive primitive_kind p) = false
+is_non_primitive c = true
 
-unsigned : {text : List ℕ} {c : Comparator} → IsSpecifierRange text c → is_unsigned c ≡ true
-unsigned (this (this m)) = ap is_unsigned m.is
-unsigned (this (that m)) = ap is_unsigned m.is
-unsigned (that m) = ap is_unsigned m.is
+non_primitive : {text : List ℕ} {c : Comparator} → IsSpecifierRange text c → is_non_primitive c ≡ true
+non_primitive (this (this m)) = ap is_non_primitive m.is
+non_primitive (this (that m)) = ap is_non_primitive m.is
+non_primitive (that m) = ap is_non_primitive m.is
 
-unsigned_kept : (c : Comparator) → is_unsigned c ≡ true → kept_range (c ∷ []) ≡ comparator_range c
-unsigned_kept (Tilde p) h = tilde_stays p.major p.minor p.patch p.pre p.build
-unsigned_kept (Caret p) h = caret_stays p.major p.minor p.patch p.pre p.build
-unsigned_kept (OfPrimitive primitive_kind p) h = cc h
-unsigned_kept (Plain p) h = equal_stays p.major p.minor p.patch p.pre p.build
-unsigned_kept (Hyphen p q) h = refl
+non_primitive_kept : (c : Comparator) → is_non_primitive c ≡ true → kept_range (c ∷ []) ≡ comparator_range c
+non_primitive_kept (Tilde p) h = tilde_stays p.major p.minor p.patch p.pre p.build
+non_primitive_kept (Caret p) h = caret_stays p.major p.minor p.patch p.pre p.build
+non_primitive_kept (OfPrimitive primitive_kind p) h = cc h
+non_primitive_kept (Plain p) h = equal_stays p.major p.minor p.patch p.pre p.build
+non_primitive_kept (Hyphen p q) h = refl
 
-unsigned_ends : (c : Comparator) → is_unsigned c ≡ true → ends_at_zero (comparator_range c).end ≡ false
-unsigned_ends (Tilde p) h = tilde_ends p p.major p.minor
-unsigned_ends (Caret p) h = caret_ends p p.major p.minor p.patch
-unsigned_ends (OfPrimitive primitive_kind p) h = cc h
-unsigned_ends (Plain p) h = equal_ends p p.major p.minor p.patch
-unsigned_ends (Hyphen p q) h = upper_ends q q.major q.minor q.patch
+non_primitive_ends : (c : Comparator) → is_non_primitive c ≡ true → ends_at_zero (comparator_range c).end ≡ false
+non_primitive_ends (Tilde p) h = tilde_ends p p.major p.minor
+non_primitive_ends (Caret p) h = caret_ends p p.major p.minor p.patch
+non_primitive_ends (OfPrimitive primitive_kind p) h = cc h
+non_primitive_ends (Plain p) h = equal_ends p p.major p.minor p.patch
+non_primitive_ends (Hyphen p q) h = upper_ends q q.major q.minor q.patch
 
 -- what is kept of it is its own range
 pub specifier_kept : {text : List ℕ} {c : Comparator} → IsSpecifierRange text c → kept_range (c ∷ []) ≡ comparator_range c
-specifier_kept {c = c} s = unsigned_kept c (unsigned s)
+specifier_kept {c = c} s = non_primitive_kept c (non_primitive s)
 
 -- which doesn't end below 0.0.0
 pub specifier_ends : {text : List ℕ} {c : Comparator} → IsSpecifierRange text c → ends_at_zero (kept_range (c ∷ [])).end ≡ false
-specifier_ends {c = c} s = ap (λ (range : VersionRange). ends_at_zero range.end) (specifier_kept s) ∙ unsigned_ends c (unsigned s)
+specifier_ends {c = c} s = ap (λ (range : VersionRange). ends_at_zero range.end) (specifier_kept s) ∙ non_primitive_ends c (non_primitive s)

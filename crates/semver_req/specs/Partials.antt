@@ -1,7 +1,7 @@
 -- Partial versions as they are written in the three grammars of requirements. Numbers are of any size. Source:
 -- node-semver's range grammar (`xr`, `partial`, `qualifier`); the normalized and the strict grammar are narrower.
 use Rattle.std.specs.Prelude.{ℕ, List, [], Bool, true, ◌||◌, ◌&&◌, ◌==◌, Option, Some, None, if◌then◌else◌, drop}
-use Rattle.semver_base.specs.Characters.{letter_v}
+use Rattle.semver_base.specs.Characters.{asterisk, capital_x, letter_v, letter_x}
 use Rattle.semver_base.specs.Grammar.{Either, Followed, IsLongest, Joined, Mapped, Prefixed, OneByte, Optional, ReadsAs}
 use Rattle.semver_base.specs.Lexical.{IsNumber, IsNumberEnd, IsQualifier}
 use Rattle.semver_base.specs.PartialTable.{number_fits}
@@ -28,9 +28,9 @@ strictness_of Specifier = Strict
 
 -- `*`, and but for the normalized grammar `x` and `X`
 abbrev pub is_wildcard : Flavour → ℕ → Bool
-is_wildcard Npm b = (b == 42) || (b == 120) || (b == 88)
-is_wildcard Normal b = b == 42
-is_wildcard Specifier b = (b == 42) || (b == 120) || (b == 88)
+is_wildcard Npm b = (b == asterisk) || (b == letter_x) || (b == capital_x)
+is_wildcard Normal b = b == asterisk
+is_wildcard Specifier b = (b == asterisk) || (b == letter_x) || (b == capital_x)
 
 -- a wildcard or a number
 abbrev pub IsComponent : Flavour → List ℕ → XRange → Type 0

@@ -1,5 +1,6 @@
 -- Comparators of plain texts, which each grammar reads alike, or each that has them.
 use Rattle.std.specs.Prelude.{◌≡◌, ◌⊎◌, ℕ, List, [], ◌∷◌, ◌++◌}
+use Rattle.semver_base.specs.Characters.{caret_sign, space, tilde_sign}
 use Rattle.semver_base.specs.Comparators.{comparator_line, primitive_kind_text}
 use Rattle.semver_base.specs.PartialTable.{IsLineRange, of_few}
 use Rattle.semver_base.specs.PlainTexts.{IsFewNumbers}
@@ -31,8 +32,8 @@ IsPlainReading text answer = (f : Flavour) → IsReading f text answer
 
 -- how a mark is written
 abbrev pub mark_text : Mark → List ℕ
-mark_text mark.Tilde = 126 ∷ []
-mark_text mark.Caret = 94 ∷ []
+mark_text mark.Tilde = tilde_sign ∷ []
+mark_text mark.Caret = caret_sign ∷ []
 mark_text (mark.Primitive kind) = primitive_kind_text kind
 mark_text mark.Absent = []
 
@@ -46,7 +47,7 @@ pub record IsFewMarked (text : List ℕ) (written : Written) : Type 0 where
 
 -- shorter is the text, or the text without the blank that ends it
 abbrev pub IsUnclosed : List ℕ → List ℕ → Type 0
-IsUnclosed text shorter = (text ≡ shorter) ⊎ (text ≡ shorter ++ 32 ∷ [])
+IsUnclosed text shorter = (text ≡ shorter) ⊎ (text ≡ shorter ++ space ∷ [])
 
 -- the whole piece is such a comparator, and a blank behind it or none
 pub record IsFewAlone (piece : List ℕ) (written : Written) : Type 0 where
@@ -58,6 +59,6 @@ pub record IsFewAlone (piece : List ℕ) (written : Written) : Type 0 where
 pub record IsFewPair (piece : List ℕ) (first second : Written) : Type 0 where
   pub front : List ℕ
   pub back : List ℕ
-  pub text_is : piece ≡ front ++ 32 ∷ back
+  pub text_is : piece ≡ front ++ space ∷ back
   pub in_front : IsFewMarked front first
   pub in_back : IsFewAlone back second

@@ -4,6 +4,7 @@ use Rattle.std.specs.Prelude.{ℕ, List, Bool, true, false, not, ◌&&◌, ◌||
 use Rattle.std.specs.Char.{is_whitespace}
 use Rattle.std.specs.List.{list_all}
 use Rattle.std.specs.Str.{chars}
+use Rattle.semver_base.specs.Characters.{dot, hyphen_sign, tilde_sign, underscore}
 use Rattle.unicode.specs.Binary.{is_alphabetic}
 use Rattle.unicode.specs.GeneralCategory.{general_category}
 use Rattle.ucd_category.specs.declared.GeneralCategory.{GeneralCategory}
@@ -19,7 +20,7 @@ is_number_category _ = false
 -- a letter, a number, or one of `-`, `_`, `.` and `~`
 abbrev pub is_tag_character : ℕ → Bool
 is_tag_character c = is_alphabetic c || is_number_category (general_category c)
-    || ((c == 45) || (c == 95) || (c == 46) || (c == 126))
+    || ((c == hyphen_sign) || (c == underscore) || (c == dot) || (c == tilde_sign))
 
 -- the characters of a valid tag are such, and not all of them are blanks
 abbrev pub is_valid_tag : List ℕ → Bool

@@ -1,5 +1,6 @@
 -- Comparators as the readers answer them: a mark, and the partial version after it.
 use Rattle.std.specs.Prelude.{◌≡◌, ℕ, List, ◌∷◌, Option, Some, None, codes}
+use Rattle.semver_base.specs.Characters.{caret_sign, tilde_sign}
 use Rattle.semver_base.specs.Comparators.{Caret, Comparator, OfPrimitive, Plain, Tilde}
 use Rattle.semver_base.specs.Grammar.{Either, HasNone, IsLongest, IsSeen, IsText}
 use Rattle.semver_base.specs.declared.lexical.values.Measured.{Measured}
@@ -20,15 +21,15 @@ comparator_of mark.Absent p = Plain p
 
 -- rest is what follows a `~` or a `^`, or the whole text where it begins with neither
 abbrev pub IsMarkCut : List ℕ → Mark → List ℕ → Type 0
-IsMarkCut text mark.Tilde rest = text ≡ 126 ∷ rest
-IsMarkCut text mark.Caret rest = text ≡ 94 ∷ rest
+IsMarkCut text mark.Tilde rest = text ≡ tilde_sign ∷ rest
+IsMarkCut text mark.Caret rest = text ≡ caret_sign ∷ rest
 IsMarkCut text (mark.Primitive kind) rest = ⊥
 IsMarkCut text mark.Absent rest =
-    (rest ≡ text) × ((after : List ℕ) → text ≡ 126 ∷ after → ⊥) × ((after : List ℕ) → text ≡ 94 ∷ after → ⊥)
+    (rest ≡ text) × ((after : List ℕ) → text ≡ tilde_sign ∷ after → ⊥) × ((after : List ℕ) → text ≡ caret_sign ∷ after → ⊥)
 
 -- a comparator that has no primitive kind in front
-abbrev pub IsUnsigned : Flavour → List ℕ → Comparator → Type 0
-IsUnsigned f = Either (IsMarked f) (IsPlain f)
+abbrev pub IsNonPrimitive : Flavour → List ℕ → Comparator → Type 0
+IsNonPrimitive f = Either (IsMarked f) (IsPlain f)
 
 -- the longest front that is a comparator of the grammar has this mark, its partial version is answered so, and rest
 -- follows it

@@ -6,7 +6,7 @@ ghost use Rattle.semver_req.specs.Readers.{IsReaderAnswer, IsReading};
 ghost use Rattle.semver_req.specs.SpecifierRefusals.{IsNoTag, IsSpecifierRefusal, empty_constraint};
 ghost use Rattle.semver_req.specs.Tag.{is_valid_tag};
 
-use crate::common::comparator::{Written, unsigned_front};
+use crate::common::comparator::{Written, non_primitive_front};
 use crate::common::plain::plain_range;
 use crate::common::values::Flavour;
 use crate::range_set_or_tag::RangeSetOrTag;
@@ -105,7 +105,7 @@ fn read(alloc: Global, text: &str) -> Result<RangeSetOrTag, ParseFailure>
     ensures reading { IfOk result (IsReading Flavour.Specifier text.now) }
     ensures refusal { IfErr result (IsSpecifierRefusal text.now) }
 {
-    let Some((written, rest)) = unsigned_front(alloc, text, Flavour::Specifier)? else {
+    let Some((written, rest)) = non_primitive_front(alloc, text, Flavour::Specifier)? else {
         return whole_text_as_tag(alloc, text, Refusal::UnexpectedCharacter);
     };
     let Written { mark, partial } = written;

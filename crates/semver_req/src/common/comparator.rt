@@ -6,7 +6,7 @@ ghost use Rattle.semver_base.specs.Grammar.{IsLongest, ReadsAs, answer_of};
 ghost use Rattle.semver_base.specs.PartialTable.{IsBoundRefusal, all_fit};
 ghost use Rattle.semver_req.specs.Comparators.{IsComparator, IsEquals, IsLed};
 ghost use Rattle.semver_req.specs.Partials.{sized_partial};
-ghost use Rattle.semver_req.specs.Written.{IsMarkCut, IsNpmFront, IsNpmMarkCut, IsUnsigned, ReadsComparator, comparator_of, with_mark};
+ghost use Rattle.semver_req.specs.Written.{IsMarkCut, IsNpmFront, IsNpmMarkCut, IsNonPrimitive, ReadsComparator, comparator_of, with_mark};
 ghost use Rattle.semver_req.specs.declared.common.values.Flavour.TheVariants.{Normal, Npm};
 
 use crate::common::separators::after_some_blanks;
@@ -80,12 +80,12 @@ pub(crate) fn split_mark(text: &str) -> (Mark, &str)
 /// The comparator without a primitive kind at the front, and what follows it: `~`, `^` or nothing, and a partial
 /// version (node-semver's range grammar, `simple` without `primitive`). It is an error only where no memory is left.
 #[inline(always)]
-pub fn unsigned_front(
+pub fn non_primitive_front(
     alloc: Global,
     text: &str,
     flavour: Flavour,
 ) -> Result<Option<(Written, &str)>, AllocError>
-    ensures { IfOk result (λ r. ReadsComparator (IsUnsigned flavour) text.now (answer_of r)) }
+    ensures { IfOk result (λ r. ReadsComparator (IsNonPrimitive flavour) text.now (answer_of r)) }
 {
     let (mark, rest) = split_mark(text);
     match partial_front(alloc, rest, flavour)? {
@@ -100,7 +100,7 @@ pub fn normal_front(alloc: Global, text: &str) -> Result<Option<(Written, &str)>
     ensures { IfOk result (λ r. ReadsComparator (IsComparator Normal) text.now (answer_of r)) }
 {
     let Some((kind, rest)) = primitive_kind_front(text) else {
-        return unsigned_front(alloc, text, Flavour::Normal);
+        return non_primitive_front(alloc, text, Flavour::Normal);
     };
     match partial_front(alloc, after_blanks(rest), Flavour::Normal)? {
         Some((partial, rest)) => {
@@ -204,6 +204,6 @@ pub fn comparator_front(
     match flavour {
         Flavour::Npm => npm_front(alloc, text),
         Flavour::Normal => normal_front(alloc, text),
-        Flavour::Specifier => unsigned_front(alloc, text, Flavour::Specifier),
+        Flavour::Specifier => non_primitive_front(alloc, text, Flavour::Specifier),
     }
 }

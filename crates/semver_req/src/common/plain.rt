@@ -4,6 +4,7 @@
 //! so each reader asks here first, and takes the long way where it is told nothing.
 
 ghost use Rattle.std.specs.Prelude.{◌≡◌, ◌++◌, ◌∷◌, IfSome};
+ghost use Rattle.semver_base.specs.Characters.{space};
 ghost use Rattle.semver_base.specs.Comparators.{comparator_line};
 ghost use Rattle.semver_base.specs.PartialTable.{IsLineRange, of_few, release_range};
 ghost use Rattle.semver_req.specs.PlainComparators.{IsFewAlone, IsFewMarked, IsFewPair, IsPlainComparator, IsUnclosed, mark_text};
@@ -92,7 +93,7 @@ pub fn few_alone(alloc: Global, piece: &str) -> Option<Written>
 // What stands before the first blank, and what follows it.
 #[inline(always)]
 fn at_blank(text: &str) -> Option<(&str, &str)>
-    ensures { IfSome result (λ p. text.now ≡ p.0.now ++ 32 ∷ p.1.now) }
+    ensures { IfSome result (λ p. text.now ≡ p.0.now ++ space ∷ p.1.now) }
 {
     text.split_once(' ')
 }

@@ -3,11 +3,11 @@ use Rattle.semver_base.specs.Grammar.{answer_of}
 use Rattle.semver_req.specs.Partials.{IsPartial}
 use Rattle.semver_req.specs.declared.common.comparator.Mark.TheVariants as mark
 use Rattle.semver_req.specs.declared.common.values.Flavour.TheVariants.{Npm}
-use Rattle.semver_req.proofs.NpmComparators.{marked_read, spaced_npm, unsigned_npm, unspaced_npm}
+use Rattle.semver_req.proofs.NpmComparators.{marked_read, spaced_npm, non_primitive_npm, unspaced_npm}
 use Rattle.semver_req.proofs.common.comparator.npm_front.Goals as goal
 
 pub returns-in_default : goal.returns-in_default
-returns-in_default c = IfOk-weaker c.npm_by_mark.result _ _ (λ r h. unsigned_npm (answer_of r) c.in_default.ensures h) c.npm_by_mark.ensures
+returns-in_default c = IfOk-weaker c.npm_by_mark.result _ _ (λ r h. non_primitive_npm (answer_of r) c.in_default.ensures h) c.npm_by_mark.ensures
 
 pub returns-in-Some-after_some_blanks : goal.returns-in-Some-after_some_blanks
 returns-in-Some-after_some_blanks c =
