@@ -77,7 +77,9 @@ IsIdentifiers = Listed IsIdentifier (IsByte dot)
 -- what begins with `-` loses exactly that; what begins with no `-` is identifiers as it stands
 abbrev pub IsLoosePre : List ℕ → List (List ℕ) → Type 0
 IsLoosePre [] ids = ⊥
-IsLoosePre (b ∷ rest) ids = ((b ≡ hyphen_sign) × IsIdentifiers rest ids) ⊎ ((b ≡ hyphen_sign → ⊥) × IsIdentifiers (b ∷ rest) ids)
+IsLoosePre (b ∷ rest) ids =
+    ((b ≡ hyphen_sign) × IsIdentifiers rest ids)
+    ⊎ ((b ≡ hyphen_sign → ⊥) × IsIdentifiers (b ∷ rest) ids)
 
 -- `-`, and identifiers after it
 abbrev pub IsStrictPre : List ℕ → List (List ℕ) → Type 0

@@ -70,8 +70,8 @@ pub data IsCutOutcome : Flavour → List ℕ → Outcome → Type 0 where
 abbrev pub IsSpecifierRange : List ℕ → Comparator → Type 0
 IsSpecifierRange = IsComparator Specifier
 
--- the longest front that is a range of a specifier, where it fits, is the whole text or makes it refused; where there is
--- no such front, or something in it doesn't fit, the whole text is a tag or refused
+-- the longest front that is a range of a specifier, where it fits, is the whole text or makes it refused; where there
+-- is no such front, or something in it doesn't fit, the whole text is a tag or refused
 pub data IsSpecifierOutcome : List ℕ → Outcome → Type 0 where
   whole : {text : List ℕ} {c : Comparator} → IsLongest IsSpecifierRange text c [] → fits c ≡ true
       → IsSpecifierOutcome text (Ranges ((c ∷ []) ∷ []))

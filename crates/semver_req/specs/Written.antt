@@ -25,7 +25,9 @@ IsMarkCut text mark.Tilde rest = text ≡ tilde_sign ∷ rest
 IsMarkCut text mark.Caret rest = text ≡ caret_sign ∷ rest
 IsMarkCut text (mark.Primitive kind) rest = ⊥
 IsMarkCut text mark.Absent rest =
-    (rest ≡ text) × ((after : List ℕ) → text ≡ tilde_sign ∷ after → ⊥) × ((after : List ℕ) → text ≡ caret_sign ∷ after → ⊥)
+    (rest ≡ text)
+    × ((after : List ℕ) → text ≡ tilde_sign ∷ after → ⊥)
+    × ((after : List ℕ) → text ≡ caret_sign ∷ after → ⊥)
 
 -- a comparator that has no primitive kind in front
 abbrev pub IsNonPrimitive : Flavour → List ℕ → Comparator → Type 0
