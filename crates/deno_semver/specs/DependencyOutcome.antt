@@ -2,6 +2,7 @@
 use Rattle.std.specs.Prelude.{◌≡◌, ◌++◌, ◌⊎◌, ℕ, List, Option, Result, Ok, Err, MatchOption, MatchResult, IsErrAnd, string_bytes}
 use Rattle.std.specs.Borrow.{Bor}
 use Rattle.std.specs.List.{take_while}
+use Rattle.semver_base.specs.Characters.{colon}
 use Rattle.semver_req.specs.declared.common.values.Flavour.{Flavour}
 use Rattle.deno_semver.specs.Cuts.{is_not}
 use Rattle.deno_semver.specs.Kind.{scheme_of}
@@ -33,7 +34,7 @@ pub data IsDependencyOutcome (f : Flavour) (text : List ℕ) : Result JsrDepPack
 
 -- what stands before the first `:`, or the whole text
 abbrev pub told_scheme : List ℕ → List ℕ
-told_scheme text = take_while (is_not 58) text
+told_scheme text = take_while (is_not colon) text
 
 -- the error tells of the fault
 abbrev pub TellsDependency : Flavour → List ℕ → DependencyFault → JsrDepPackageReqParseError → Type 0

@@ -2,7 +2,7 @@
 use Rattle.std.specs.Prelude.{◌≡◌, ◌<◌, ◌++◌, ◌∷◌, ◌&&◌, ◌==◌, ◌⊎◌, [], ℕ, List, Bool, true, length, Option, Some, None, Result, Ok, Err, MatchResult, IsErrAnd, if◌then◌else◌}
 use Rattle.std.specs.List.{list_all, take_while}
 use Rattle.std.specs.Str.{trim}
-use Rattle.semver_base.specs.Characters.{at_sign, slash}
+use Rattle.semver_base.specs.Characters.{at_sign, slash, underscore}
 use Rattle.semver_base.specs.Failure.{refusal_message}
 use Rattle.semver_base.specs.Grammar.{Stops}
 use Rattle.semver_base.specs.VersionGrammar.{IsVersionOutcome}
@@ -23,7 +23,7 @@ IsNvName (first ∷ more) = list_all (is_not at_sign) more ≡ true
 
 -- neither `_` nor `/`
 abbrev pub is_version_byte : ℕ → Bool
-is_version_byte b = is_not 95 b && is_not slash b
+is_version_byte b = is_not underscore b && is_not slash b
 
 -- a name, `@`, a version that isn't empty and runs to the first `_` or `/`, and what follows it
 pub record IsNvText (text name version rest : List ℕ) : Type 0 where

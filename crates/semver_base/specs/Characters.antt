@@ -25,6 +25,9 @@ slash = 47
 abbrev pub zero_digit : ℕ
 zero_digit = 48
 
+abbrev pub colon : ℕ
+colon = 58
+
 abbrev pub equals_sign : ℕ
 equals_sign = 61
 

@@ -5,7 +5,7 @@ use Rattle.std.specs.Prelude.{◌≡◌, ◌<◌, ℕ, List, [], ◌∷◌, leng
 use Rattle.std.specs.Char.{is_ascii_digit, is_ascii_alphanumeric, is_not_whitespace}
 use Rattle.std.specs.Str.{NoCharPasses}
 use Rattle.std.specs.Str.Parse.{digits_value}
-use Rattle.semver_base.specs.Characters.{dot, hyphen_sign, zero_digit}
+use Rattle.semver_base.specs.Characters.{dot, hyphen_sign, plus_sign, zero_digit}
 use Rattle.semver_base.specs.Grammar.{Followed, Listed, Mapped, Prefixed, Optional, Run}
 use Rattle.semver_base.specs.declared.lexical.values.Measured.{Measured}
 use Rattle.semver_base.specs.declared.lexical.values.Measured.TheVariants.{Fits, TooLarge}
@@ -83,7 +83,7 @@ IsLoosePre (b ∷ rest) ids =
 
 -- `-`, and identifiers after it
 abbrev pub IsStrictPre : List ℕ → List (List ℕ) → Type 0
-IsStrictPre = Prefixed 45 IsIdentifiers
+IsStrictPre = Prefixed hyphen_sign IsIdentifiers
 
 abbrev pub IsPre : Strictness → List ℕ → List (List ℕ) → Type 0
 IsPre Loose = IsLoosePre
@@ -91,7 +91,7 @@ IsPre Strict = IsStrictPre
 
 -- `+`, and identifiers after it
 abbrev pub IsBuild : List ℕ → List (List ℕ) → Type 0
-IsBuild = Prefixed 43 IsIdentifiers
+IsBuild = Prefixed plus_sign IsIdentifiers
 
 -- the identifiers, and none where nothing was read
 abbrev pub or_none : Option (List (List ℕ)) → List (List ℕ)

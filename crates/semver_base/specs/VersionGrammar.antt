@@ -22,7 +22,7 @@ IsLead = Mapped ignored (After (Optional (IsByte equals_sign)) (After IsBlanks (
 
 -- three numbers with dots between
 abbrev pub IsTriple : List ℕ → ℕ × (ℕ × ℕ) → Type 0
-IsTriple = Followed IsLooseNumber (Prefixed 46 (Followed IsLooseNumber (Prefixed 46 IsLooseNumber)))
+IsTriple = Followed IsLooseNumber (Prefixed dot (Followed IsLooseNumber (Prefixed dot IsLooseNumber)))
 
 abbrev pub version_of : (ℕ × (ℕ × ℕ)) × Qualifier → Version
 version_of v = record { major = v.0.0; minor = v.0.1.0; patch = v.0.1.1; pre = v.1.pre; build = v.1.build }

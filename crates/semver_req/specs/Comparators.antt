@@ -1,7 +1,7 @@
 -- Comparators as they are written. Source: node-semver's range grammar (`primitive`, `tilde`, `caret`), with the
 -- ignored primitive kinds and the leading `v` that npm accepts.
 use Rattle.std.specs.Prelude.{◌≡◌, ◌⊎◌, ℕ, List, [], ◌∷◌, ◌++◌, Bool, ◌&&◌, Option, codes, if◌then◌else◌}
-use Rattle.semver_base.specs.Characters.{equals_sign, letter_v}
+use Rattle.semver_base.specs.Characters.{caret_sign, equals_sign, letter_v, tilde_sign}
 use Rattle.semver_base.specs.Comparators.{Caret, Comparator, Hyphen, OfPrimitive, Plain, Tilde, comparator_line, of_primitive, primitive_kind_text}
 use Rattle.semver_base.specs.Grammar.{After, Either, Followed, IsText, Mapped, Prefixed, Optional}
 use Rattle.semver_base.specs.Lexical.{IsBlanks, IsByte, IsSomeBlanks}
@@ -61,7 +61,7 @@ abbrev pub IsNpmTilde : List ℕ → Comparator → Type 0
 IsNpmTilde = Mapped Tilde (After IsIgnored (After (Either (IsText (codes "~>")) (IsText (codes "~"))) IsLed))
 
 abbrev pub IsNpmCaret : List ℕ → Comparator → Type 0
-IsNpmCaret = Mapped Caret (After IsIgnored (Prefixed 94 IsLed))
+IsNpmCaret = Mapped Caret (After IsIgnored (Prefixed caret_sign IsLed))
 
 -- a primitive kind, blanks and a partial
 abbrev pub IsOfPrimitive : Flavour → List ℕ → Comparator → Type 0
@@ -72,7 +72,8 @@ IsPlain f = Mapped Plain (IsPartial f)
 
 -- `~` or `^` and a partial
 abbrev pub IsMarked : Flavour → List ℕ → Comparator → Type 0
-IsMarked f = Either (Mapped Tilde (Prefixed 126 (IsPartial f))) (Mapped Caret (Prefixed 94 (IsPartial f)))
+IsMarked f =
+  Either (Mapped Tilde (Prefixed tilde_sign (IsPartial f))) (Mapped Caret (Prefixed caret_sign (IsPartial f)))
 
 abbrev pub IsComparator : Flavour → List ℕ → Comparator → Type 0
 IsComparator Npm = Either (Either IsNpmTilde IsNpmCaret) (Either (IsOfPrimitive Npm) (IsPlain Npm))

@@ -1,7 +1,7 @@
 -- Partial versions as they are written in the three grammars of requirements. Numbers are of any size. Source:
 -- node-semver's range grammar (`xr`, `partial`, `qualifier`); the normalized and the strict grammar are narrower.
 use Rattle.std.specs.Prelude.{ℕ, List, [], Bool, true, ◌||◌, ◌&&◌, ◌==◌, Option, Some, None, if◌then◌else◌, drop}
-use Rattle.semver_base.specs.Characters.{asterisk, capital_x, letter_v, letter_x}
+use Rattle.semver_base.specs.Characters.{asterisk, capital_x, dot, letter_v, letter_x}
 use Rattle.semver_base.specs.Grammar.{Either, Followed, IsLongest, Joined, Mapped, Prefixed, OneByte, Optional, ReadsAs}
 use Rattle.semver_base.specs.Lexical.{IsNumber, IsNumberEnd, IsQualifier}
 use Rattle.semver_base.specs.PartialTable.{number_fits}
@@ -41,11 +41,11 @@ IsComponent f text (Val n) = IsNumber (strictness_of f) text n
 
 -- `.`, a component and a qualifier, which may be empty; no digit follows a number
 abbrev pub IsThird : Flavour → List ℕ → XRange × Qualifier → Type 0
-IsThird f = Prefixed 46 (Joined IsNumberEnd (IsComponent f) (IsQualifier (strictness_of f)))
+IsThird f = Prefixed dot (Joined IsNumberEnd (IsComponent f) (IsQualifier (strictness_of f)))
 
 -- `.` and a component, and then the third or nothing
 abbrev pub IsSecond : Flavour → List ℕ → XRange × Option (XRange × Qualifier) → Type 0
-IsSecond f = Prefixed 46 (Followed (IsComponent f) (Optional (IsThird f)))
+IsSecond f = Prefixed dot (Followed (IsComponent f) (Optional (IsThird f)))
 
 -- missing components are wildcards
 abbrev pub partial_of : XRange × Option (XRange × Option (XRange × Qualifier)) → Partial

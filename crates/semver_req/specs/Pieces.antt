@@ -1,7 +1,7 @@
 -- The pieces of a requirement: how a text is cut at `||`, and which comparators a piece stands for. Source:
 -- node-semver's range grammar (`range-set`, `logical-or`, `range`), with the separators `&&` and `,` that npm accepts.
 use Rattle.std.specs.Prelude.{◌≡◌, ◌<◌, ◌≤◌, ℕ, List, [], ◌∷◌, ◌++◌, length, drop, Bool, true, false, Option, Some, None, codes}
-use Rattle.semver_base.specs.Characters.{bar}
+use Rattle.semver_base.specs.Characters.{bar, hyphen_sign}
 use Rattle.semver_base.specs.Comparators.{Comparator, Hyphen}
 use Rattle.semver_base.specs.Grammar.{After, Before, Either, Followed, IsLongest, IsText, Listed, Mapped, Prefixed}
 use Rattle.semver_base.specs.Lexical.{IsBlanks, IsSomeBlanks}
@@ -39,7 +39,7 @@ IsUpper = Before (IsPartial Npm) IsBlanks
 
 -- a `-` with one or more blanks on both sides, and a partial
 abbrev pub IsHyphened : List ℕ → Partial → Type 0
-IsHyphened = After IsSomeBlanks (Prefixed 45 (After IsSomeBlanks IsUpper))
+IsHyphened = After IsSomeBlanks (Prefixed hyphen_sign (After IsSomeBlanks IsUpper))
 
 -- two partials round a `-`
 abbrev pub IsHyphenPair : List ℕ → Partial × Partial → Type 0

@@ -34,7 +34,7 @@ pub type PackageTag = SmallStackString;
 pub enum RangeSetOrTag {
     /// Ranges, of which a version need match only one.
     RangeSet(VersionRangeSet),
-    /// A tag, such as `latest`, which matches no version.
+    /// A tag, such as `latest`: a registry alone knows which version it names.
     Tag(PackageTag),
 }
 
