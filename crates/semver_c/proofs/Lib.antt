@@ -4,7 +4,4 @@ pub mod ListAnswers
 pub mod ReferenceAnswers
 pub mod Replies
 pub mod PackageAnswers
-pub mod RequirementHandleValues
 pub mod Sorted
-pub mod Values
-pub mod VersionHandleValues

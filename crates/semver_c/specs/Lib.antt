@@ -1,5 +1,4 @@
 pub mod Codes
-pub mod Handle
 pub mod Kept
 pub mod Lists
 pub mod Packages

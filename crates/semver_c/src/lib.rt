@@ -6,11 +6,11 @@
 #![tactic(auto)]
 
 ghost use Rattle.std.specs.Prelude.{◌≡◌, IfSome, List, None, ℕ};
+ghost use Rattle.handles.specs.Handle.{Holds};
 ghost use Rattle.semver_base.specs.Precedence.{precedence_cmp, version_cmp};
 ghost use Rattle.semver_base.specs.VersionText.{version_text};
 ghost use Rattle.semver_req.specs.Requirement.{inner_text};
 ghost use Rattle.semver_c.specs.Codes.{IsCode, IsPlaced, IsReply, bool_code, fit_code, least_code, least_text, no_text, one_code, order_code};
-ghost use Rattle.semver_c.specs.Handle.{Holds};
 ghost use Rattle.semver_c.specs.Kept.{FitsKept, IsKept, IsKeptEqual, IsKeptFit, IsKeptOrder, IsKeptOverlap};
 ghost use Rattle.semver_c.specs.Lists.{BestLine, FitsLines, IsPlaceReply};
 ghost use Rattle.semver_c.specs.Packages.{PartsOfPackage};
@@ -21,16 +21,14 @@ ghost use Rattle.semver_c.specs.Words.{Is, Requirement, VersionOf};
 
 mod kept;
 mod lists;
-mod loose;
 mod packages;
 mod questions;
 mod references;
-mod requirement_handle;
 mod sorting;
 mod telling;
-mod version_handle;
 mod words;
 
+use handles::{RequirementHandle, VersionHandle};
 use kept::{boxed_requirement, boxed_version, fits_kept, kept_text, kept_version_text};
 use lists::{best_line, filter, tell_place};
 use packages::package_parts;
@@ -39,7 +37,6 @@ use questions::{
     overlap, pre_release_of, text_of_version,
 };
 use references::reference_parts;
-use requirement_handle::RequirementHandle;
 use semver_req::laws::equal_requirements;
 use sorting::sort;
 use std::alloc::Global;
@@ -47,7 +44,6 @@ use telling::{
     code_of_bool, code_of_fit, code_of_order, fit_code, order_code, put, tell_codes, tell_fit,
     tell_least, tell_places, tell_problem, tell_text,
 };
-use version_handle::VersionHandle;
 
 /// Whether the version fits the requirement: 0 no, 1 yes, 2 the requirement is a tag. Pre-releases are restricted by npm's rule
 /// at 0, and admitted at any other number.

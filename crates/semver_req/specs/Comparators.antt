@@ -73,7 +73,7 @@ IsPlain f = Mapped Plain (IsPartial f)
 -- `~` or `^` and a partial
 abbrev pub IsMarked : Flavour → List ℕ → Comparator → Type 0
 IsMarked f =
-  Either (Mapped Tilde (Prefixed tilde_sign (IsPartial f))) (Mapped Caret (Prefixed caret_sign (IsPartial f)))
+    Either (Mapped Tilde (Prefixed tilde_sign (IsPartial f))) (Mapped Caret (Prefixed caret_sign (IsPartial f)))
 
 abbrev pub IsComparator : Flavour → List ℕ → Comparator → Type 0
 IsComparator Npm = Either (Either IsNpmTilde IsNpmCaret) (Either (IsOfPrimitive Npm) (IsPlain Npm))

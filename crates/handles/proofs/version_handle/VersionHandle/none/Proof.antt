@@ -16,14 +16,14 @@ use denote.Triple.Entry.{alive}
 use denote.Triple.Walked.{Stays, walk_of}
 use Rattle.std.specs.Prelude.{Option, None}
 use Rattle.std.proofs.raw_atomic.Walks.{proved_at, leaves}
-use Rattle.semver_req.specs.Requirement.{Requirement}
-use Rattle.semver_c.proofs.RequirementHandleValues.{lone_val, none_in}
-use Rattle.semver_c.specs.contracts.requirement_handle.RequirementHandle.none.{ended, clauses}
-use Rattle.semver_c.specs.contracts.requirement_handle.RequirementHandle.none.Key.{name as #self}
-use Rattle.semver_c.proofs.requirement_handle.RequirementHandle.none.Statement.{statement}
-use Rattle.semver_c.proofs.requirement_handle.RequirementHandle.none.Code as code
+use Rattle.semver_base.specs.declared.version.Version.{Version}
+use Rattle.handles.proofs.VersionHandleValues.{lone_val, none_in}
+use Rattle.handles.specs.contracts.version_handle.VersionHandle.none.{ended, clauses}
+use Rattle.handles.specs.contracts.version_handle.VersionHandle.none.Key.{name as #self}
+use Rattle.handles.proofs.version_handle.VersionHandle.none.Statement.{statement}
+use Rattle.handles.proofs.version_handle.VersionHandle.none.Code as code
 
-abbrev nothing_kept : Option Requirement
+abbrev nothing_kept : Option Version
 nothing_kept = None
 
 pub none_spec : {M : Type 1} → statement M

@@ -22,13 +22,13 @@ use Rattle.std.proofs.raw_atomic.Walks.{proved_at, leaves}
 use Rattle.std.specs.contracts.alloc.Global as heap
 use Rattle.std.proofs.alloc.Global.TheLaws as heap_laws
 use Rattle.std.specs.contracts.impls.GlobalAllocator.TheImpl.{ghosts}
-use Rattle.semver_c.proofs.Values.{Loose, both, loose_good, loose_out}
-use Rattle.semver_c.proofs.RequirementHandleValues.{kept_in, lone_val}
+use Rattle.handles.proofs.Values.{Loose, both, loose_good, loose_out}
+use Rattle.handles.proofs.RequirementHandleValues.{kept_in, lone_val}
 use Rattle.semver_req.specs.contracts.req.VersionReq as req
-use Rattle.semver_c.specs.contracts.requirement_handle.RequirementHandle.of.{ended, clauses}
-use Rattle.semver_c.specs.contracts.requirement_handle.RequirementHandle.of.Key.{name as #self}
-use Rattle.semver_c.proofs.requirement_handle.RequirementHandle.of.Statement.{statement}
-use Rattle.semver_c.proofs.requirement_handle.RequirementHandle.of.Code as code
+use Rattle.handles.specs.contracts.requirement_handle.RequirementHandle.of.{ended, clauses}
+use Rattle.handles.specs.contracts.requirement_handle.RequirementHandle.of.Key.{name as #self}
+use Rattle.handles.proofs.requirement_handle.RequirementHandle.of.Statement.{statement}
+use Rattle.handles.proofs.requirement_handle.RequirementHandle.of.Code as code
 
 pub of_spec : {M : Type 1} → statement M
 of_spec 𝓤 𝓛 𝓜 𝓡 wired =

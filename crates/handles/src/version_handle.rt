@@ -2,10 +2,10 @@
 
 ghost use Rattle.std.specs.Prelude.{◌≡◌, Option, None, Some};
 ghost use Rattle.semver_base.specs.declared.version.Version.{Version};
-ghost use Rattle.semver_c.specs.Handle.{Holds};
+ghost use Rattle.handles.specs.Handle.{Holds};
 
 use crate::loose::Loose;
-use deno_semver::Version;
+use semver_base::version::Version;
 use std::alloc::Global;
 use std::marker::Model;
 use std::{mem, ptr};
@@ -19,7 +19,7 @@ pub struct VersionHandle {
 }
 
 impl Model for VersionHandle {
-    ghost use Rattle.semver_c.specs.Handle.{held_version};
+    ghost use Rattle.handles.specs.Handle.{held_version};
 
     ghost also_owns = { λ h. held_version h.at h.value };
 }

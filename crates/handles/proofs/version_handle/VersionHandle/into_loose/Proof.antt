@@ -23,14 +23,14 @@ use Rattle.std.proofs.raw_atomic.Walks.{proved_at, leaves}
 use Rattle.std.specs.contracts.alloc.Global as heap
 use Rattle.std.proofs.alloc.Global.TheLaws as heap_laws
 use Rattle.std.specs.contracts.impls.GlobalAllocator.TheImpl.{ghosts}
-use Rattle.semver_c.proofs.Values.{al, both, loose_good, loose_in}
-use Rattle.semver_c.proofs.VersionHandleValues.{kept_out, lone_val}
+use Rattle.handles.proofs.Values.{al, both, loose_good, loose_in}
+use Rattle.handles.proofs.VersionHandleValues.{kept_out, lone_val}
 use Rattle.semver_base.specs.contracts.version.Version as version
-use Rattle.semver_c.specs.contracts.version_handle.VersionHandle as kept'
-use Rattle.semver_c.specs.contracts.version_handle.VersionHandle.into_loose.{ended, clauses}
-use Rattle.semver_c.specs.contracts.version_handle.VersionHandle.into_loose.Key.{name as #self}
-use Rattle.semver_c.proofs.version_handle.VersionHandle.into_loose.Statement.{statement}
-use Rattle.semver_c.proofs.version_handle.VersionHandle.into_loose.Code as code
+use Rattle.handles.specs.contracts.version_handle.VersionHandle as kept'
+use Rattle.handles.specs.contracts.version_handle.VersionHandle.into_loose.{ended, clauses}
+use Rattle.handles.specs.contracts.version_handle.VersionHandle.into_loose.Key.{name as #self}
+use Rattle.handles.proofs.version_handle.VersionHandle.into_loose.Statement.{statement}
+use Rattle.handles.proofs.version_handle.VersionHandle.into_loose.Code as code
 
 pub into_loose_spec : {M : Type 1} → statement M
 into_loose_spec 𝓤 𝓛 𝓜 𝓡 wired =

@@ -2,10 +2,10 @@
 
 ghost use Rattle.std.specs.Prelude.{◌≡◌, Option, None, Some};
 ghost use Rattle.semver_req.specs.Requirement.{Requirement};
-ghost use Rattle.semver_c.specs.Handle.{Holds};
+ghost use Rattle.handles.specs.Handle.{Holds};
 
 use crate::loose::Loose;
-use deno_semver::VersionReq;
+use semver_req::req::VersionReq;
 use std::alloc::Global;
 use std::marker::Model;
 use std::{mem, ptr};
@@ -19,7 +19,7 @@ pub struct RequirementHandle {
 }
 
 impl Model for RequirementHandle {
-    ghost use Rattle.semver_c.specs.Handle.{held_requirement};
+    ghost use Rattle.handles.specs.Handle.{held_requirement};
 
     ghost also_owns = { λ h. held_requirement h.at h.value };
 }

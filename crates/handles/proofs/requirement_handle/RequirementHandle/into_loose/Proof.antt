@@ -23,14 +23,14 @@ use Rattle.std.proofs.raw_atomic.Walks.{proved_at, leaves}
 use Rattle.std.specs.contracts.alloc.Global as heap
 use Rattle.std.proofs.alloc.Global.TheLaws as heap_laws
 use Rattle.std.specs.contracts.impls.GlobalAllocator.TheImpl.{ghosts}
-use Rattle.semver_c.proofs.Values.{al, both, loose_good, loose_in}
-use Rattle.semver_c.proofs.RequirementHandleValues.{kept_out, lone_val}
+use Rattle.handles.proofs.Values.{al, both, loose_good, loose_in}
+use Rattle.handles.proofs.RequirementHandleValues.{kept_out, lone_val}
 use Rattle.semver_req.specs.contracts.req.VersionReq as req
-use Rattle.semver_c.specs.contracts.requirement_handle.RequirementHandle as kept'
-use Rattle.semver_c.specs.contracts.requirement_handle.RequirementHandle.into_loose.{ended, clauses}
-use Rattle.semver_c.specs.contracts.requirement_handle.RequirementHandle.into_loose.Key.{name as #self}
-use Rattle.semver_c.proofs.requirement_handle.RequirementHandle.into_loose.Statement.{statement}
-use Rattle.semver_c.proofs.requirement_handle.RequirementHandle.into_loose.Code as code
+use Rattle.handles.specs.contracts.requirement_handle.RequirementHandle as kept'
+use Rattle.handles.specs.contracts.requirement_handle.RequirementHandle.into_loose.{ended, clauses}
+use Rattle.handles.specs.contracts.requirement_handle.RequirementHandle.into_loose.Key.{name as #self}
+use Rattle.handles.proofs.requirement_handle.RequirementHandle.into_loose.Statement.{statement}
+use Rattle.handles.proofs.requirement_handle.RequirementHandle.into_loose.Code as code
 
 pub into_loose_spec : {M : Type 1} → statement M
 into_loose_spec 𝓤 𝓛 𝓜 𝓡 wired =

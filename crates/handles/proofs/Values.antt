@@ -1,4 +1,4 @@
--- The machine values of a `Loose` and of a `OnceBox`. Assumes `Logic`.
+-- The machine values of a `Loose`. Assumes `Logic`.
 use Rattle.std.proofs.Common.{◌≡◌, ℕ, List, [], ◌∷◌, ◌++◌, refl, subst}
 use mathlib.Core.Bool.{true, ◌&&◌}
 use lib.Dec.{T}
@@ -22,7 +22,7 @@ use Rattle.std.specs.declared.alloc.Allocator.{Ghosts}
 use Rattle.std.proofs.alloc.Calls.{Al, handle_tells}
 use Rattle.std.specs.Box.Ownership.{box_owns}
 use Rattle.std.proofs.ResultValues.{and_tt}
-use Rattle.semver_c.specs.contracts.loose.Loose as loose
+use Rattle.handles.specs.contracts.loose.Loose as loose
 
 abbrev pub both : Val → Val → Val
 both v w = vstruct (vcons v (vcons w vnil))

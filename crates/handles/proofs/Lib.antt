@@ -1,0 +1,3 @@
+pub mod RequirementHandleValues
+pub mod Values
+pub mod VersionHandleValues

@@ -1,0 +1,11 @@
+//! What a caller of the border to C keeps across calls: a requirement or a version on the heap, behind a struct of one pointer.
+//!
+//! C holds such a struct and gives it back; what it owns is a clause of the handle, so each value is freed once.
+#![tactic(auto)]
+
+mod loose;
+mod requirement_handle;
+mod version_handle;
+
+pub use requirement_handle::RequirementHandle;
+pub use version_handle::VersionHandle;
