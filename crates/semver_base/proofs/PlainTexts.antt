@@ -1,5 +1,5 @@
 -- Numbers that are read digit by digit, and texts that are three of them with dots between.
-use Rattle.std.proofs.Common.{◌≡◌, ◌≤◌, ◌<◌, ◌+◌, ◌*◌, ◌-◌, ◌^◌, ℕ, true, false, List, [], ◌∷◌, ◌++◌, length, take, drop, get_or, refl, ap, ◌∙◌, arith, inl, inr, append-nil, length-append, length-drop, length-take-le, take-append-drop}
+use Rattle.std.proofs.Common.{◌≡◌, ◌≤◌, ◌<◌, ◌+◌, ◌*◌, ◌-◌, ◌^◌, ℕ, zero, suc, true, false, List, [], ◌∷◌, ◌++◌, length, take, drop, get_or, refl, sym, ap, subst, ◌∙◌, arith, inl, inr, append-nil, length-append, length-drop, length-take-le, take-append-drop}
 use Rattle.std.specs.Int.{IsInRange}
 use Rattle.std.specs.Prelude.{slice_index}
 use Rattle.std.specs.Char.{digit_value, is_ascii_digit}
@@ -14,11 +14,12 @@ use Rattle.std.proofs.lemmas.Int.Digits.{digits_value_more}
 use Rattle.std.proofs.lemmas.Str.{digit_value_digit}
 use Rattle.std.proofs.Math.Seq.{drop-append_seam, take-append_seam}
 use Rattle.std.proofs.lemmas.List.{drop_more, get_or_append_left, nil_from_length, take_more}
+use Rattle.semver_base.specs.Characters.{dot}
 use Rattle.semver_base.specs.Grammar.{IsLongest, Stops}
 use Rattle.semver_base.specs.Lexical.{IsLooseNumber, IsStrictNumber}
 use Rattle.semver_base.specs.VersionGrammar.{IsTriple}
 use Rattle.semver_base.specs.Meaning.{release}
-use Rattle.semver_base.specs.PlainTexts.{IsFewNumbers, IsPlainNumber, IsPlainTriple, IsTripleFront}
+use Rattle.semver_base.specs.PlainTexts.{IsFewNumbers, IsPlainNumber, IsPlainTriple, IsShort, IsTripleFront, LacksFewNumbers, LacksShortNumber}
 use Rattle.semver_base.specs.VersionReaderSteps.{IsFittingNumber, IsFittingTriple, IsPlainVersion, IsQualified}
 use Rattle.semver_base.specs.declared.lexical.values.Strictness.TheVariants.{Loose}
 use Rattle.semver_base.specs.declared.plain.FewNumbers.{FewNumbers}
@@ -26,8 +27,8 @@ use Rattle.semver_base.specs.declared.plain.FewNumbers.TheVariants as few
 use Rattle.semver_base.specs.declared.plain.Numbers.{Numbers}
 use Rattle.semver_base.specs.declared.version.Version.{Version}
 use Rattle.semver_base.proofs.Bytes.{MadeOf, joined_made, joined_some_text, list_all-append, prefixed_made}
-use Rattle.semver_base.proofs.Fronts.{mapped, narrowed}
-use Rattle.semver_base.proofs.Lists.{run_longest}
+use Rattle.semver_base.proofs.Fronts.{mapped, narrowed, one_front}
+use Rattle.semver_base.proofs.Lists.{run_longest, run_none}
 use Rattle.semver_base.proofs.Numbers.{loose_some}
 use Rattle.semver_base.proofs.Qualifiers.{no_qualifier}
 use Rattle.semver_base.proofs.VersionReading.{all_read, no_lead, triple_read}
@@ -40,6 +41,9 @@ digit_range b h = grind (arith, nat_tests)
 
 pub digit_says : (b : ℕ) → is_ascii_digit b ≡ true → digit_value b ≡ b - 48
 digit_says b h = let range = digit_range b h in omega (arith, digit_value_digit b range)
+
+pub small_digit : (bytes : List ℕ) (n : ℕ) → is_ascii_digit (get_or bytes n 0) ≡ true → get_or bytes n 0 - 48 < 10
+small_digit bytes n digit = let range = digit_range (get_or bytes n 0) digit in omega (arith, range)
 
 pub more_pass : (bytes : List ℕ) (n : ℕ) → n < length bytes → list_all is_ascii_digit (take n bytes) ≡ true → is_ascii_digit (get_or bytes n 0) ≡ true → list_all is_ascii_digit (take (n + 1) bytes) ≡ true
 more_pass bytes n inside pass digit = rw (take_more bytes n 0 inside) (list_all-append is_ascii_digit (take n bytes) (get_or bytes n 0 ∷ []) pass (rw digit refl))
@@ -70,6 +74,47 @@ number_read bytes n number some no_zero inside pass stops is fits = record { loo
   where
     loose : IsLongest IsLooseNumber bytes number (drop n bytes)
     loose = rw is (rw (take-append-drop n bytes) at (mapped {f = digits_value 10} (run_longest is_ascii_digit (take n bytes) (drop n bytes) (omega (arith, length-take-le n bytes inside)) pass (stops_past bytes n stops))))
+
+-- ---- where no short number is at the front
+
+-- digits at the front belong to the longest number
+reaches : (bytes : List ℕ) (k : ℕ) {n : ℕ} {rest : List ℕ} → 0 < k → k ≤ length bytes → list_all is_ascii_digit (take k bytes) ≡ true → (p : IsLongest IsLooseNumber bytes n rest) → k ≤ length p.front
+reaches bytes k some inside pass p =
+    let size = length-take-le k bytes inside in
+    let number : IsLooseNumber (take k bytes) (digits_value 10 (take k bytes)) = record { value = take k bytes; stands = record { some = omega (arith, size, some); pass = pass; is = refl }; is = refl } in
+    omega (arith, size, (p.longest (take k bytes) (drop k bytes) (digits_value 10 (take k bytes)) (sym (take-append-drop k bytes)) number).0)
+
+-- more digits say no less
+grows : (bytes : List ℕ) (k m : ℕ) → m ≤ length bytes → k ≤ m → digits_value 10 (take k bytes) ≤ digits_value 10 (take m bytes)
+grows bytes k zero inside within = let none : k ≡ 0 = omega arith in rw none (omega arith)
+grows bytes k (suc m) inside within = elim (cases_lt k (suc m)) [
+  | inl less ↦ let next : suc m ≡ m + 1 = omega arith in rw next (omega (arith, grows bytes k m (omega arith) (omega arith), digits_value_more 10 bytes m (omega arith)))
+  | inr same ↦ let whole : k ≡ suc m = omega arith in rw whole (omega arith)
+]
+
+-- what the longest number says
+value_of : {bytes rest : List ℕ} {n : ℕ} (p : IsLongest IsLooseNumber bytes n rest) → n ≡ digits_value 10 (take (length p.front) bytes)
+value_of {bytes} {rest} p = p.stands.is ∙ (ap (digits_value 10) p.stands.stands.is ∙ ap (digits_value 10) front_is)
+  where
+    front_is : p.front ≡ take (length p.front) bytes
+    front_is = sym (ap (take (length p.front)) p.text_is ∙ take-append_seam p.front rest)
+
+-- nineteen digits, and another
+pub too_long : (bytes : List ℕ) (n number : ℕ) → n < length bytes → list_all is_ascii_digit (take n bytes) ≡ true → is_ascii_digit (slice_index bytes n) ≡ true → number ≡ digits_value 10 (take n bytes) → 10 ^ 18 ≤ number → LacksShortNumber bytes
+too_long bytes n number inside pass digit is large m rest p short =
+    let far = reaches bytes (n + 1) (omega arith) (omega arith) (more_pass bytes n inside pass digit) p.loose in
+    let grown = grows bytes (n + 1) (length p.loose.front) (omega (arith, ap length p.loose.text_is, length-append p.loose.front rest)) far in
+    omega (arith, more_value bytes n number inside digit is, grown, value_of p.loose, large, short)
+
+pub no_digit : (bytes : List ℕ) → (0 < length bytes → is_ascii_digit (slice_index bytes 0) ≡ false) → LacksShortNumber bytes
+no_digit bytes stops m rest p short = (run_none is_ascii_digit bytes (stops_past bytes 0 stops)).none p.loose.front rest p.loose.stands.value p.loose.text_is p.loose.stands.stands
+
+pub zero_led : (bytes : List ℕ) (n : ℕ) → 1 < n → n ≤ length bytes → list_all is_ascii_digit (take n bytes) ≡ true → slice_index bytes 0 ≡ 48 → LacksShortNumber bytes
+zero_led bytes n more inside pass zero_first m rest p short =
+    let far = reaches bytes n (omega arith) inside pass p.loose in
+    let same : length p.strict.front ≡ length p.loose.front = omega (arith, ap length p.strict.text_is, ap length p.loose.text_is, length-append p.strict.front rest, length-append p.loose.front rest) in
+    let first : slice_index p.strict.front 0 ≡ 48 = sym (ap (λ t. slice_index t 0) p.strict.text_is ∙ get_or_append_left p.strict.front rest 0 0 p.strict.stands.digits.stands.some) ∙ zero_first in
+    omega (arith, far, more, same, p.strict.stands.no_leading_zero first)
 
 -- ---- three numbers
 
@@ -158,3 +203,50 @@ pub few_solid : (text : List ℕ) (numbers : FewNumbers) → IsFewNumbers text n
 few_solid text (few.One m) p = number_front_solid p refl
 few_solid text (few.Two m n) p = number_front_solid p.major (solid_some 46 p.from_minor refl (number_front_solid p.minor refl).0).0
 few_solid text (few.Three n) p = number_front_solid p.major (solid_some 46 p.from_minor refl (number_front_solid p.minor (solid_some 46 p.from_patch refl (number_front_solid p.patch refl).0).0).0).0
+
+-- ---- where a text is no one to three short numbers
+
+-- the text is no short number
+abbrev pub LacksOne : List ℕ → Type 0
+LacksOne text = (n : ℕ) → IsPlainNumber text n [] → IsShort n → ⊥
+
+-- nor two
+pub record LacksTwo (text : List ℕ) : Type 0 where
+  pub one : LacksOne text
+  pub two : (m n : ℕ) (rest : List ℕ) → IsPlainNumber text m (dot ∷ rest) → IsPlainNumber rest n [] → IsShort m → IsShort n → ⊥
+
+-- something follows a number, and where that is a dot, so does a text that lacks numbers
+pub record IsNoMore (Lacks : List ℕ → Type 0) (rest : List ℕ) : Type 0 where
+  pub some : rest ≡ [] → ⊥
+  pub dotted : (more : List ℕ) → rest ≡ dot ∷ more → Lacks more
+
+pub no_dot : {Lacks : List ℕ → Type 0} {rest : List ℕ} → (rest ≡ [] → ⊥) → ((more : List ℕ) → rest ≡ dot ∷ more → ⊥) → IsNoMore Lacks rest
+no_dot some none = record { some = some; dotted = λ more e. absurd (none more e) }
+
+pub behind_dot : {Lacks : List ℕ → Type 0} {more : List ℕ} → Lacks more → IsNoMore Lacks (dot ∷ more)
+behind_dot {Lacks} {more} lacks = record { some = λ e. absurd (omega (arith, ap length e)); dotted = λ rest e. subst Lacks (ap (drop 1) e) lacks }
+
+pub no_first : {text : List ℕ} → LacksShortNumber text → LacksFewNumbers text
+no_first none (few.One m) p short = none m [] p short
+no_first none (few.Two m n) p short = none m (dot ∷ p.from_minor) p.major short.0
+no_first none (few.Three n) p short = none n.major (dot ∷ p.from_minor) p.major short.0
+
+pub no_second : {text : List ℕ} → LacksShortNumber text → LacksTwo text
+no_second none = record { one = λ n p short. none n [] p short; two = λ m n rest at_m at_n short other. none m (dot ∷ rest) at_m short }
+
+pub no_third : {text : List ℕ} → LacksShortNumber text → LacksOne text
+no_third none n p short = none n [] p short
+
+pub more_than_third : {text rest : List ℕ} {n : ℕ} → IsPlainNumber text n rest → (rest ≡ [] → ⊥) → LacksOne text
+more_than_third read some m p short = some (one_front read.loose p.loose).1
+
+pub no_more_than_second : {text rest : List ℕ} {n : ℕ} → IsPlainNumber text n rest → IsNoMore LacksOne rest → LacksTwo text
+no_more_than_second read behind = record {
+  one = λ m p short. behind.some (one_front read.loose p.loose).1;
+  two = λ m n rest at_m at_n short other. behind.dotted rest (one_front read.loose at_m.loose).1 n at_n other;
+}
+
+pub no_more_than_first : {text rest : List ℕ} {n : ℕ} → IsPlainNumber text n rest → IsNoMore LacksTwo rest → LacksFewNumbers text
+no_more_than_first read behind (few.One m) p short = behind.some (one_front read.loose p.loose).1
+no_more_than_first read behind (few.Two m n) p short = (behind.dotted p.from_minor (one_front read.loose p.major.loose).1).one n p.minor short.1
+no_more_than_first read behind (few.Three n) p short = (behind.dotted p.from_minor (one_front read.loose p.major.loose).1).two n.minor n.patch p.from_patch p.minor p.patch short.1 short.2

@@ -12,6 +12,14 @@ pub record IsPlainNumber (text : List ℕ) (n : ℕ) (rest : List ℕ) : Type 0 
   pub strict : IsLongest IsStrictNumber text n rest
   pub fits : n < 2 ^ 64
 
+-- a number of at most 19 digits
+abbrev pub IsShort : ℕ → Type 0
+IsShort n = n < 10 ^ 19
+
+-- no such number is at the front
+abbrev pub LacksShortNumber : List ℕ → Type 0
+LacksShortNumber text = (n : ℕ) (rest : List ℕ) → IsPlainNumber text n rest → IsShort n → ⊥
+
 -- the text begins with these numbers with dots between, and goes on with rest
 pub record IsTripleFront (text : List ℕ) (m n p : ℕ) (rest : List ℕ) : Type 0 where
   pub from_minor : List ℕ
@@ -35,3 +43,13 @@ abbrev pub IsFewNumbers : List ℕ → FewNumbers → Type 0
 IsFewNumbers text (few.One m) = IsPlainNumber text m []
 IsFewNumbers text (few.Two m n) = IsPlainPair text m n
 IsFewNumbers text (few.Three n) = IsPlainTriple text n.major n.minor n.patch
+
+-- each of the numbers has at most 19 digits
+abbrev pub AreShort : FewNumbers → Type 0
+AreShort (few.One m) = IsShort m
+AreShort (few.Two m n) = IsShort m × IsShort n
+AreShort (few.Three n) = IsShort n.major × IsShort n.minor × IsShort n.patch
+
+-- the text is no one to three such numbers
+abbrev pub LacksFewNumbers : List ℕ → Type 0
+LacksFewNumbers text = (numbers : FewNumbers) → IsFewNumbers text numbers → AreShort numbers → ⊥

@@ -1,11 +1,12 @@
 //! Plain texts: numbers with dots between and nothing else, read in one pass over their bytes.
 //!
 //! Most versions and most requirements are such texts. Each reader tries this short way first; what it answers is what the
-//! grammar says, and where it answers `None` nothing is known.
+//! grammar says, and where it answers `None` the reader takes the long way.
 
-ghost use Rattle.std.specs.Prelude.{◌≡◌, ◌∷◌, IfSome};
+ghost use Rattle.std.specs.Prelude.{IfNone, IfSome};
 ghost use Rattle.semver_base.specs.Characters.{dot};
-ghost use Rattle.semver_base.specs.PlainTexts.{IsFewNumbers, IsPlainNumber, IsTripleFront};
+ghost use Rattle.semver_base.specs.Grammar.{IsAfter};
+ghost use Rattle.semver_base.specs.PlainTexts.{AreShort, IsFewNumbers, IsPlainNumber, IsShort, IsTripleFront, LacksFewNumbers, LacksShortNumber};
 
 // Ten times a number below this, and a digit, is a `u64`.
 const LIMIT: u64 = 1_000_000_000_000_000_000;
@@ -26,10 +27,12 @@ pub enum FewNumbers {
     Three(Numbers),
 }
 
-// The number at the front, which has few digits and no leading zeros, and what follows it.
+// The number at the front, which has at most 19 digits and no leading zeros, and what follows it.
 #[inline(always)]
 fn number(bytes: &[u8]) -> Option<(u64, &[u8])>
-    ensures { IfSome result (λ r. IsPlainNumber bytes.now r.0 r.1.now) }
+    ensures number { IfSome result (λ r. IsPlainNumber bytes.now r.0 r.1.now) }
+    ensures short { IfSome result (λ r. IsShort r.0) }
+    ensures none { IfNone result (LacksShortNumber bytes.now) }
 {
     let mut number: u64 = 0;
     let mut len: usize = 0;
@@ -49,7 +52,7 @@ fn number(bytes: &[u8]) -> Option<(u64, &[u8])>
 // What follows a `.`.
 #[inline(always)]
 fn after_dot(bytes: &[u8]) -> Option<&[u8]>
-    ensures { IfSome result (λ rest. bytes.now ≡ dot ∷ rest.now) }
+    ensures { IsAfter dot bytes.now result }
 {
     match bytes {
         [b'.', rest @ ..] => Some(rest),
@@ -57,10 +60,12 @@ fn after_dot(bytes: &[u8]) -> Option<&[u8]>
     }
 }
 
-/// The one to three numbers that the whole text is.
+/// The one to three numbers that the whole text is, none exactly where it isn't such numbers of at most 19 digits each.
 #[inline(always)]
 pub fn few_numbers(text: &[u8]) -> Option<FewNumbers>
-    ensures { IfSome result (IsFewNumbers text.now) }
+    ensures numbers { IfSome result (IsFewNumbers text.now) }
+    ensures short { IfSome result AreShort }
+    ensures none { IfNone result (LacksFewNumbers text.now) }
 {
     let (major, rest) = number(text)?;
     if rest.is_empty() {

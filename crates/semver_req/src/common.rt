@@ -15,7 +15,7 @@ ghost use Rattle.semver_req.specs.Pieces.{IsOperator, place_answer};
 
 pub mod comparator;
 pub mod hyphen;
-pub mod plain;
+pub(crate) mod plain;
 pub mod separators;
 pub mod values;
 

@@ -3,9 +3,9 @@
 //!
 //! A range is made as numbers first, which are cheap to move, and put together where it stays.
 
-ghost use Rattle.std.specs.Prelude.{◌≡◌, ◌+◌, ◌∷◌, [], IfSome};
+ghost use Rattle.std.specs.Prelude.{◌≡◌, ◌+◌, ◌∷◌, [], IfNone, IfSome, false};
 ghost use Rattle.semver_base.specs.Meaning.{release};
-ghost use Rattle.semver_base.specs.PartialTable.{IsLineRange, caret, equal, lower_to_below, lowest, of_few, release_of, release_range, tilde};
+ghost use Rattle.semver_base.specs.PartialTable.{IsLineRange, all_fit, caret, equal, lower_to_below, lowest, of_few, release_of, release_range, tilde};
 
 use crate::partial::{Partial, XRange};
 use crate::plain::{FewNumbers, Numbers};
@@ -81,8 +81,9 @@ impl FewNumbers {
     // From these numbers to below the next major version; none where its number is too large.
     #[inline(always)]
     fn to_next_major(self, major: u64) -> Option<ReleaseRange>
-        ensures { let end = release (major + 1) 0 0 in IfSome result (λ range.
+        ensures range { let end = release (major + 1) 0 0 in IfSome result (λ range.
             IsLineRange (lower_to_below (of_few self) end ((major + 1) ∷ [])) (release_range range)) }
+        ensures too_large { IfNone result (all_fit ((major + 1) ∷ []) ≡ false) }
     {
         Some(self.to_below(major.checked_add(1)?, 0, 0))
     }
@@ -90,16 +91,20 @@ impl FewNumbers {
     // From these numbers to below the next minor version; none where its number is too large.
     #[inline(always)]
     fn to_next_minor(self, major: u64, minor: u64) -> Option<ReleaseRange>
-        ensures { let end = release major (minor + 1) 0 in IfSome result (λ range.
+        ensures range { let end = release major (minor + 1) 0 in IfSome result (λ range.
             IsLineRange (lower_to_below (of_few self) end ((minor + 1) ∷ [])) (release_range range)) }
+        ensures too_large { IfNone result (all_fit ((minor + 1) ∷ []) ≡ false) }
     {
         Some(self.to_below(major, minor.checked_add(1)?, 0))
     }
 
-    /// The range of `~` and these numbers, as [`Partial::as_tilde_version_range`] has it; none where a bound is too large.
+    /// The range of `~` and these numbers, as [`Partial::as_tilde_version_range`] has it; none exactly where a bound is
+    /// too large.
     #[inline(always)]
     pub fn tilde_range(self) -> Option<ReleaseRange>
-        ensures { IfSome result (λ range. IsLineRange (tilde (of_few self)) (release_range range)) }
+        ensures range { IfSome result
+            (λ range. IsLineRange (tilde (of_few self)) (release_range range)) }
+        ensures too_large { IfNone result (all_fit (tilde (of_few self)).sums ≡ false) }
     {
         match self {
             FewNumbers::One(major) => self.to_next_major(major),
@@ -108,10 +113,13 @@ impl FewNumbers {
         }
     }
 
-    /// The range of `^` and these numbers, as [`Partial::as_caret_version_range`] has it; none where a bound is too large.
+    /// The range of `^` and these numbers, as [`Partial::as_caret_version_range`] has it; none exactly where a bound is
+    /// too large.
     #[inline(always)]
     pub fn caret_range(self) -> Option<ReleaseRange>
-        ensures { IfSome result (λ range. IsLineRange (caret (of_few self)) (release_range range)) }
+        ensures range { IfSome result
+            (λ range. IsLineRange (caret (of_few self)) (release_range range)) }
+        ensures too_large { IfNone result (all_fit (caret (of_few self)).sums ≡ false) }
     {
         match self {
             FewNumbers::One(major) => self.to_next_major(major),
@@ -123,10 +131,13 @@ impl FewNumbers {
         }
     }
 
-    /// The range of these numbers alone, as [`Partial::as_equal_range`] has it; none where a bound is too large.
+    /// The range of these numbers alone, as [`Partial::as_equal_range`] has it; none exactly where a bound is
+    /// too large.
     #[inline(always)]
     pub fn equal_range(self) -> Option<ReleaseRange>
-        ensures { IfSome result (λ range. IsLineRange (equal (of_few self)) (release_range range)) }
+        ensures range { IfSome result
+            (λ range. IsLineRange (equal (of_few self)) (release_range range)) }
+        ensures too_large { IfNone result (all_fit (equal (of_few self)).sums ≡ false) }
     {
         match self {
             FewNumbers::One(major) => self.to_next_major(major),

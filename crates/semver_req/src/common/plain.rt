@@ -34,7 +34,7 @@ fn numbers_range(mark: Mark, numbers: FewNumbers) -> Option<ReleaseRange>
 /// The range of `~`, `^` or nothing before one to three numbers, where that is the whole text and its bounds fit. Where it
 /// answers `None` nothing is known of the text.
 #[inline(always)]
-pub fn plain_range(text: &str) -> Option<ReleaseRange>
+pub(crate) fn plain_range(text: &str) -> Option<ReleaseRange>
     ensures { IfSome result (λ range. IsPlainComparator text.now (release_range range)) }
 {
     let (mark, rest) = split_mark(text);
@@ -84,7 +84,7 @@ fn few_marked(alloc: Global, text: &[u8]) -> Option<Written>
 /// The comparator that is a mark or none before one to three numbers, where that is the whole piece, by npm's and by the
 /// normalized grammar; a blank may end the piece. Where it answers `None` nothing is known of the piece.
 #[inline(always)]
-pub fn few_alone(alloc: Global, piece: &str) -> Option<Written>
+pub(crate) fn few_alone(alloc: Global, piece: &str) -> Option<Written>
     ensures { IfSome result (IsFewAlone piece.now) }
 {
     few_marked(alloc, unclosed(piece.as_bytes()))
@@ -100,7 +100,7 @@ fn at_blank(text: &str) -> Option<(&str, &str)>
 
 /// The two such comparators with a blank between that are the whole piece.
 #[inline(always)]
-pub fn few_pair(alloc: Global, piece: &str) -> Option<(Written, Written)>
+pub(crate) fn few_pair(alloc: Global, piece: &str) -> Option<(Written, Written)>
     ensures { IfSome result (λ p. IsFewPair piece.now p.0 p.1) }
 {
     let (front, back) = at_blank(piece)?;
