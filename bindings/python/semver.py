@@ -1,125 +1,180 @@
 """deno_semver, proved, from Python over ctypes. `Library(path)` loads libsemver.so.
 
-A text is a `str` or UTF-8 `bytes`. A refusal is `Refused`, want of memory `MemoryError`.
+A text is a `str`, or UTF-8 as `bytes`, a `bytearray` or a `memoryview`. An argument of another type is a `TypeError`, an invalid one
+is `Refused`, and out of memory is `MemoryError`.
 """
+
+from __future__ import annotations
 
 import ctypes
 import json
 from ctypes import POINTER, byref, c_char_p, c_size_t, c_uint32
+from typing import Any, Callable, Optional, Union
+
+Text = Union[str, bytes, bytearray, memoryview]
 
 NPM, NORMALIZED, STRICT = range(3)
 NO, YES, TAG, NO_REQUIREMENT, NO_VERSION, NO_UTF8, NO_MEMORY, NO_READER = range(8)
 
-_WORDS = {NO_REQUIREMENT: "requirement", NO_VERSION: "version", NO_UTF8: "text", NO_READER: "reader"}
+_INVALID = {
+    NO_REQUIREMENT: ("requirement", "invalid requirement"),
+    NO_VERSION: ("version", "invalid version"),
+    NO_UTF8: ("text", "a text isn't valid UTF-8"),
+    NO_READER: ("reader", "reader must be NPM, NORMALIZED or STRICT"),
+}
 
 
 class Refused(ValueError):
-    """A word of a question is refused: `word` is "requirement", "version", "text" (no UTF-8) or "reader"."""
+    """An argument is invalid: `word` is "requirement", "version", "text" (not valid UTF-8) or "reader"."""
 
-    def __init__(self, code, message):
-        super().__init__(message or "no " + _WORDS[code])
-        self.word = _WORDS[code]
+    def __init__(self, message: str, word: str = "") -> None:
+        super().__init__(message)
+        self.word = word
 
 
 class IsTag(ValueError):
-    """A requirement is a tag, which is no question of versions."""
+    """A requirement is a tag, the name of a version that a registry keeps, where ranges are wanted."""
 
 
-def _bytes(text):
-    # A lone surrogate can't be encoded: UnicodeEncodeError, which is a ValueError.
-    return text.encode() if isinstance(text, str) else bytes(text)
+def _expect(kind: type, value: Any, name: str) -> None:
+    if not isinstance(value, kind):
+        raise TypeError(f"{name} must be {kind.__name__}, not {type(value).__name__}")
 
 
-def _raise(code, message=""):
+def _text(text: Text, name: str, types: str = "str or bytes") -> tuple[bytes, int]:
+    """The bytes and the length of a text, which are two arguments of a call."""
+    if isinstance(text, str):
+        encoded = text.encode()  # A lone surrogate can't be encoded: UnicodeEncodeError, which is a ValueError.
+    elif isinstance(text, (bytes, bytearray, memoryview)):
+        encoded = bytes(text)
+    else:
+        raise TypeError(f"{name} must be {types}, not {type(text).__name__}")
+    return encoded, len(encoded)
+
+
+def _reader(reader: int) -> int:
+    if isinstance(reader, bool) or not isinstance(reader, int):
+        raise TypeError(f"reader must be NPM, NORMALIZED or STRICT, not {type(reader).__name__}")
+    if reader not in (NPM, NORMALIZED, STRICT):  # ctypes would take it modulo 2**32
+        _checked(NO_READER)
+    return reader
+
+
+def _pre_releases(pre_releases: bool) -> bool:
+    _expect(bool, pre_releases, "pre_releases")
+    return pre_releases
+
+
+def _checked(code: int, message: str = "") -> int:
+    """The code, where it is that of an answer."""
     if code == NO_MEMORY:
         raise MemoryError
-    raise Refused(code, message)
+    if code in _INVALID:
+        word, default = _INVALID[code]
+        raise Refused(message or default, word)
+    return code
 
 
-def _fit(code, message=""):
-    if code <= TAG:
-        return (False, True, None)[code]
-    return _raise(code, message)
+def _fit(code: int, message: str = "") -> Optional[bool]:
+    return (False, True, None)[_checked(code, message)]
 
 
-def _read(call, *words):
-    """The code of a call that writes a text, and the text."""
+def _read(call: Callable[..., int], *arguments: Any) -> tuple[int, str]:
+    """The code of a call that writes a text, where it is that of an answer, and the text."""
     needed, size = c_size_t(), 128
     while True:
         out = ctypes.create_string_buffer(size)
-        code = call(*words, out, size, byref(needed))
+        code = call(*arguments, out, size, byref(needed))
         if needed.value <= size:
-            return code, out.raw[: needed.value].decode()
+            text = out.raw[: needed.value].decode()
+            return _checked(code, text), text
         size = needed.value
 
 
-class _Handle(ctypes.Structure):
+class _RequirementHandle(ctypes.Structure):
+    _fields_ = [("at", ctypes.c_void_p)]
+
+
+class _VersionHandle(ctypes.Structure):
     _fields_ = [("at", ctypes.c_void_p)]
 
 
 class _Kept:
-    """A value that is kept across calls. Calls about it keep the interpreter's lock, so that no other thread uses it meanwhile."""
+    """A value that the library keeps. Calls about it hold the interpreter's lock, so that no other thread uses it meanwhile."""
 
-    def __init__(self, library, read, free, *words):
-        self._library, self._handle, self._free = library, _Handle(), free
-        code, message = _read(lambda *buffer: read(*words, byref(self._handle), *buffer))
-        if code != YES:
-            _raise(code, message)
+    def __init__(self, library: Library, handle: Any, read: Callable[..., int], free: Callable[..., None], *arguments: Any) -> None:
+        handle = byref(handle)
+        _read(lambda *buffer: read(*arguments, handle, *buffer))
+        self._library, self._free, self._handle = library, free, handle
 
-    def __del__(self):
-        if self._handle.at:
-            self._free(byref(self._handle))
+    def __del__(self) -> None:
+        handle = self.__dict__.pop("_handle", None)  # there is none where the text is invalid
+        if handle is not None:
+            self._free(handle)
 
 
 class Version(_Kept):
     """A version. Its order is that of precedence, in which the build has no part."""
 
-    def __init__(self, library, text):
-        text = _bytes(text)
-        super().__init__(library, library._version_read, library._version_free, text, len(text))
+    def __init__(self, library: Library, text: Text) -> None:
+        _expect(Library, library, "library")
+        self._source = _text(text, "text")
+        super().__init__(library, _VersionHandle(), library._version_read, library._version_free, *self._source)
 
-    def compare(self, other):
+    def __reduce__(self) -> tuple:
+        """Copies and pickles are read from the text again: a handle has one owner."""
+        return Version, (self._library, self._source[0])
+
+    def compare(self, other: Version) -> int:
         """-1, 0 or 1."""
+        _expect(Version, other, "other")
         if other is self:
             return 0
-        return self._library._version_compare(byref(self._handle), byref(other._handle)) - 1
+        return self._library._version_compare(self._handle, other._handle) - 1
 
-    def __str__(self):
-        code, text = _read(self._library._version_text, byref(self._handle))
-        return text if code == YES else _raise(code)
+    def __str__(self) -> str:
+        return _read(self._library._version_text, self._handle)[1]
 
 
 class Requirement(_Kept):
     """A requirement."""
 
-    def __init__(self, library, text, reader=NPM):
-        self._text, self._reader = _bytes(text), reader
-        super().__init__(library, library._req_read, library._req_free, reader, self._text, len(self._text))
+    def __init__(self, library: Library, text: Text, reader: int = NPM) -> None:
+        _expect(Library, library, "library")
+        self._source, self._reader = _text(text, "text"), _reader(reader)
+        super().__init__(library, _RequirementHandle(), library._req_read, library._req_free, reader, *self._source)
 
-    def fits(self, version, pre_releases=False):
+    def __reduce__(self) -> tuple:
+        """Copies and pickles are read from the text again: a handle has one owner."""
+        return Requirement, (self._library, self._source[0], self._reader)
+
+    def fits(self, version: Union[Version, Text], pre_releases: bool = False) -> Optional[bool]:
         """Whether the version, a `Version` or a text, fits; None where the requirement is a tag."""
+        flag = _pre_releases(pre_releases)
         if isinstance(version, Version):
-            return _fit(self._library._req_matches(byref(self._handle), byref(version._handle), pre_releases))
-        version = _bytes(version)
-        return _fit(self._library._req_fits(byref(self._handle), version, len(version), pre_releases))
+            return _fit(self._library._req_matches(self._handle, version._handle, flag))
+        text = _text(version, "version", "Version, str or bytes")
+        return _fit(self._library._req_fits(self._handle, *text, flag))
 
-    def overlaps(self, other):
+    def overlaps(self, other: Requirement) -> bool:
+        """Whether both requirements overlap by their bounds; two tags do where they are the same."""
+        _expect(Requirement, other, "other")
         if other is self:
-            return self._library.overlap(self._text, self._text, self._reader)
-        return self._library._req_overlap(byref(self._handle), byref(other._handle)) == YES
+            return self._library.overlap(self._source[0], self._source[0], self._reader)
+        return self._library._req_overlap(self._handle, other._handle) == YES
 
-    def normal(self):
-        """The normal text, which is meant to be stored."""
-        code, text = _read(self._library._req_normal, byref(self._handle))
-        return text if code == YES else _raise(code)
+    def normal(self) -> str:
+        """The canonical form, which is meant to be stored."""
+        return _read(self._library._req_normal, self._handle)[1]
 
 
 class Library:
     """The calls of the library at this path."""
 
-    def __init__(self, path):
+    def __init__(self, path: str) -> None:
+        self._path = path
         text, buffer = (c_char_p, c_size_t), (c_char_p, c_size_t, POINTER(c_size_t))  # `bytes` of length 0 have an address
-        handle = POINTER(_Handle)
+        requirement, version = POINTER(_RequirementHandle), POINTER(_VersionHandle)
         # of texts: other threads run meanwhile
         self._bind(ctypes.CDLL(path), c_uint32, {
             "fits": (c_uint32, *text, *text, c_uint32, *buffer),
@@ -140,112 +195,104 @@ class Library:
         # of handles: no other thread runs meanwhile
         kept = ctypes.PyDLL(path)
         self._bind(kept, c_uint32, {
-            "req_read": (c_uint32, *text, handle, *buffer),
-            "req_fits": (handle, *text, c_uint32),
-            "req_matches": (handle, handle, c_uint32),
-            "req_overlap": (handle, handle),
-            "req_normal": (handle, *buffer),
-            "version_read": (*text, handle, *buffer),
-            "version_compare": (handle, handle),
-            "version_text": (handle, *buffer),
+            "req_read": (c_uint32, *text, requirement, *buffer),
+            "req_fits": (requirement, *text, c_uint32),
+            "req_matches": (requirement, version, c_uint32),
+            "req_overlap": (requirement, requirement),
+            "req_normal": (requirement, *buffer),
+            "version_read": (*text, version, *buffer),
+            "version_compare": (version, version),
+            "version_text": (version, *buffer),
         })
-        self._bind(kept, None, {"req_free": (handle,), "version_free": (handle,)})
+        self._bind(kept, None, {"req_free": (requirement,), "version_free": (version,)})
 
-    def _bind(self, library, result, calls):
+    def _bind(self, library: ctypes.CDLL, result: Any, calls: dict[str, tuple]) -> None:
         for name, arguments in calls.items():
             call = getattr(library, "semver_" + name)
             call.argtypes, call.restype = arguments, result
             setattr(self, "_" + name, call)
 
-    def requirement(self, text, reader=NPM):
+    def __reduce__(self) -> tuple:
+        return Library, (self._path,)
+
+    def requirement(self, text: Text, reader: int = NPM) -> Requirement:
         return Requirement(self, text, reader)
 
-    def version(self, text):
+    def version(self, text: Text) -> Version:
         return Version(self, text)
 
-    def fits(self, requirement, version, reader=NPM, pre_releases=False):
+    def fits(self, requirement: Text, version: Text, reader: int = NPM, pre_releases: bool = False) -> Optional[bool]:
         """Whether the version fits the requirement; None where that is a tag."""
-        r, v = _bytes(requirement), _bytes(version)
-        return _fit(*_read(self._fits, reader, r, len(r), v, len(v), pre_releases))
+        texts = *_text(requirement, "requirement"), *_text(version, "version")
+        return _fit(_read(self._fits, _reader(reader), *texts, _pre_releases(pre_releases))[0])
 
-    def filter(self, requirement, versions, reader=NPM, pre_releases=False):
-        """The codes of the versions, a line each, as bytes: NO, YES, TAG or NO_VERSION."""
-        r, v = _bytes(requirement), _bytes(versions)
-        answers, needed = ctypes.create_string_buffer(v.count(b"\n") + 1), c_size_t()
-        code = self._filter(reader, r, len(r), v, len(v), pre_releases, answers, len(answers), byref(needed))
-        return answers.raw[: needed.value] if code == YES else _raise(code)
+    def filter(self, requirement: Text, versions: Text, reader: int = NPM, pre_releases: bool = False) -> bytes:
+        """The codes of the versions, a line each: NO, YES, TAG or NO_VERSION."""
+        texts = *_text(requirement, "requirement"), *_text(versions, "versions")
+        answers, needed = ctypes.create_string_buffer(texts[2].count(b"\n") + 1), c_size_t()
+        code = self._filter(_reader(reader), *texts, _pre_releases(pre_releases), answers, len(answers), byref(needed))
+        _checked(code)
+        return answers.raw[: needed.value]
 
-    def best(self, requirement, versions, reader=NPM, pre_releases=False):
-        """The line, from 0, of the greatest of the versions that matches, the first of equal ones; None where none does."""
-        r, v, place = _bytes(requirement), _bytes(versions), c_size_t()
-        code = self._best(reader, r, len(r), v, len(v), pre_releases, byref(place))
+    def best(self, requirement: Text, versions: Text, reader: int = NPM, pre_releases: bool = False) -> Optional[int]:
+        """The line, from 0, of the highest of the versions that matches, the first of equal ones; None where none does."""
+        texts = *_text(requirement, "requirement"), *_text(versions, "versions")
+        place = c_size_t()
+        code = _checked(self._best(_reader(reader), *texts, _pre_releases(pre_releases), byref(place)))
         if code == TAG:
             raise IsTag
-        return (place.value if code == YES else None) if code < TAG else _raise(code)
+        return place.value if code == YES else None
 
-    def sort(self, versions):
+    def sort(self, versions: Text) -> list[int]:
         """The lines of the versions, from 0, in the order of precedence; those that differ in the build alone keep their order."""
-        v = _bytes(versions)
-        places, needed = (c_size_t * (v.count(b"\n") + 1))(), c_size_t()
-        code = self._sort(v, len(v), places, len(places), byref(needed))
-        return list(places[: needed.value]) if code == YES else _raise(code)
+        text, length = _text(versions, "versions")
+        places, needed = (c_size_t * (text.count(b"\n") + 1))(), c_size_t()
+        _checked(self._sort(text, length, places, len(places), byref(needed)))
+        return places[: needed.value]
 
-    def compare(self, one, other):
-        """-1, 0 or 1: the build has no part."""
-        a, b = _bytes(one), _bytes(other)
-        code = self._compare(a, len(a), b, len(b))
-        return code - 1 if code <= TAG else _raise(code)
+    def compare(self, one: Text, other: Text) -> int:
+        """-1, 0 or 1, by precedence, in which the build has no part."""
+        return _checked(self._compare(*_text(one, "one"), *_text(other, "other"))) - 1
 
-    def overlap(self, one, other, reader=NPM):
-        a, b = _bytes(one), _bytes(other)
-        return bool(_fit(self._overlap(reader, a, len(a), b, len(b))))
+    def overlap(self, one: Text, other: Text, reader: int = NPM) -> bool:
+        """Whether two requirements overlap by their bounds; two tags do where they are the same."""
+        texts = *_text(one, "one"), *_text(other, "other")
+        return _checked(self._overlap(_reader(reader), *texts)) == YES
 
-    def _least_version(self, call, found, *words):
-        code, text = _read(call, *words)
+    def _lowest(self, call: Callable[..., int], found: int, reader: int, *texts: Any) -> Optional[str]:
+        code, text = _read(call, _reader(reader), *texts)
         if code == TAG:
             raise IsTag
-        return (text if code == found else None) if code < TAG else _raise(code, text)
+        return text if code == found else None
 
-    def outside(self, one, other, reader=NPM):
-        """The least version that the first requirement matches and the other doesn't; None where it is within the other."""
-        a, b = _bytes(one), _bytes(other)
-        return self._least_version(self._within, NO, reader, a, len(a), b, len(b))
+    def outside(self, one: Text, other: Text, reader: int = NPM) -> Optional[str]:
+        """The lowest version that the first requirement matches and the other doesn't; None where it is within the other."""
+        return self._lowest(self._within, NO, reader, *_text(one, "one"), *_text(other, "other"))
 
-    def common(self, one, other, reader=NPM):
-        """The least version that both requirements match, or None."""
-        a, b = _bytes(one), _bytes(other)
-        return self._least_version(self._common, YES, reader, a, len(a), b, len(b))
+    def common(self, one: Text, other: Text, reader: int = NPM) -> Optional[str]:
+        """The lowest version that both requirements match, or None."""
+        return self._lowest(self._common, YES, reader, *_text(one, "one"), *_text(other, "other"))
 
-    def least(self, requirement, reader=NPM):
-        """The least version that the requirement matches, or None."""
-        r = _bytes(requirement)
-        return self._least_version(self._least, YES, reader, r, len(r))
+    def least(self, requirement: Text, reader: int = NPM) -> Optional[str]:
+        """The lowest version that the requirement matches, or None."""
+        return self._lowest(self._least, YES, reader, *_text(requirement, "requirement"))
 
-    def normal(self, requirement, reader=NPM):
-        """The normal text of the requirement, which is meant to be stored."""
-        r = _bytes(requirement)
-        code, text = _read(self._normal, reader, r, len(r))
-        return text if code == YES else _raise(code, text)
+    def normal(self, requirement: Text, reader: int = NPM) -> str:
+        """The canonical form of the requirement, which is meant to be stored."""
+        return _read(self._normal, _reader(reader), *_text(requirement, "requirement"))[1]
 
-    def may_be_tag(self, text):
+    def may_be_tag(self, text: Text) -> bool:
         """Whether the text may be the tag of a version, by npm's rules."""
-        text = _bytes(text)
-        return bool(_fit(self._may_be_tag(text, len(text))))
+        return _checked(self._may_be_tag(*_text(text, "text"))) == YES
 
-    def package(self, text, reader=NPM):
-        """The parts of a requirement of a package: a dict of "name", "normal", "requirement" and "scope"."""
-        p = _bytes(text)
-        code, told = _read(self._package, reader, p, len(p))
-        return json.loads(told) if code == YES else _raise(code, told)
+    def package(self, text: Text, reader: int = NPM) -> dict[str, Optional[str]]:
+        """The parts of a requirement of a package: "name", "normal", "requirement" and "scope"."""
+        return json.loads(_read(self._package, _reader(reader), *_text(text, "text"))[1])
 
-    def reference(self, text):
-        """The parts of a reference to a package of JSR or npm: a dict of "export", "kind", "package" and "path"."""
-        p = _bytes(text)
-        code, told = _read(self._reference, p, len(p))
-        return json.loads(told) if code == YES else _raise(code, told)
+    def reference(self, text: Text) -> dict[str, Any]:
+        """The parts of a reference to a package of JSR or npm: "export", "kind", "package" and "path"."""
+        return json.loads(_read(self._reference, *_text(text, "text"))[1])
 
-    def displayed(self, version):
-        """How the version is displayed."""
-        v = _bytes(version)
-        code, text = _read(self._version, v, len(v))
-        return text if code == YES else _raise(code, text)
+    def displayed(self, version: Text) -> str:
+        """The version as it is printed."""
+        return _read(self._version, *_text(version, "version"))[1]
