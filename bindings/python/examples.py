@@ -1,66 +1,128 @@
-"""The examples. python3 examples.py LIBRARY; the status is how many fail."""
+"""Examples of the module, and what the table of questions can't ask: types of arguments, copies, and running out of memory.
+python3 examples.py LIBRARY"""
 
+import copy
+import ctypes
+import inspect
+import pickle
 import sys
+import unittest
 
 import semver
 
-s = semver.Library(sys.argv[1])
+PATH = sys.argv.pop()
+s = semver.Library(PATH)
+heap = ctypes.CDLL(PATH)
 
 
-def refused(call, *words):
-    try:
-        call(*words)
-    except semver.Refused as error:
-        return error.word, str(error)
+class Examples(unittest.TestCase):
+    def test_texts(self):
+        self.assertTrue(s.fits(">=1.2 <2 || 3", "1.3.0"))
+        self.assertIsNone(s.fits("latest", "1.3.0"))
+        self.assertEqual(s.best("^1.2", "1.2.0\n1.10.0\n2.0.0\n"), 1)
+        self.assertEqual(s.outside("^1", "^1.2"), "1.0.0")
+
+    def test_values(self):
+        requirement, version = s.requirement("^1.2", semver.STRICT), s.version("v1.3.0-rc.1")
+        self.assertFalse(requirement.fits(version))
+        self.assertTrue(requirement.fits(version, pre_releases=True))
+        self.assertEqual((requirement.normal(), str(version)), ("^1.2.0", "1.3.0-rc.1"))
+        self.assertEqual(semver.Requirement(s, " 1.x").normal(), "1")
+
+    def test_invalid(self):
+        with self.assertRaises(semver.Refused) as caught:
+            s.fits("", "1.0.0", semver.STRICT)
+        for error in (caught.exception, pickle.loads(pickle.dumps(caught.exception))):
+            self.assertEqual((error.word, str(error)), ("requirement", "Empty version constraint."))
+        for call, message in (
+            (lambda: s.overlap("1", "", semver.STRICT), "invalid requirement"),
+            (lambda: s.sort("x"), "invalid version"),
+            (lambda: s.compare(b"\xff", "1.0.0"), "a text isn't valid UTF-8"),
+            (lambda: s.normal("1", 3), "reader must be NPM, NORMALIZED or STRICT"),
+        ):
+            self.assertRaisesRegex(semver.Refused, f"^{message}$", call)
+        self.assertRaises(semver.IsTag, s.least, "latest")
+        self.assertRaises(UnicodeEncodeError, s.version, "1.0.0-\ud800")
 
 
-r, other = s.requirement("^1.2 || >=3"), s.requirement("2")
-v, w = s.version("v1.3.0"), s.version("1.3.1-a")
-many = " || ".join(f"{n}.{n}" for n in range(200))
+class Arguments(unittest.TestCase):
+    GOOD = {"reader": semver.NPM, "pre_releases": False}
+
+    def rejects(self, call, name, wrong):
+        """Whether the call raises a TypeError that begins with the parameter's name."""
+        arguments = {key: self.GOOD.get(key, "1.0.0") for key in inspect.signature(call).parameters}
+        with self.assertRaisesRegex(TypeError, f"^{name} must be .*, not {type(wrong).__name__}$"):
+            call(**{**arguments, name: wrong})
+
+    def test_each_parameter(self):
+        calls = [getattr(s, name) for name in vars(semver.Library) if not name.startswith("_")]
+        self.assertEqual(len(calls), 16)
+        for call in [*calls, s.requirement("1").fits]:
+            for name in inspect.signature(call).parameters:
+                wrong = {"reader": (True, "npm", None, 1.0), "pre_releases": (1, 0, None, "no")}.get(name, (3, None, ["1"], 1.0))
+                for value in wrong:
+                    with self.subTest(call=call.__name__, parameter=name, value=value):
+                        self.rejects(call, name, value)
+
+    def test_texts(self):
+        for text in ("1.0.0", b"1.0.0", bytearray(b"1.0.0"), memoryview(b"1.0.0")):
+            self.assertEqual(str(s.version(text)), "1.0.0")
+            self.assertTrue(s.requirement(text).fits(text))
+
+    def test_readers(self):
+        for reader in (3, -1, 2**32, 2**64):
+            with self.assertRaises(semver.Refused) as caught:
+                s.requirement("1", reader)
+            self.assertEqual(caught.exception.word, "reader")
+
+    def test_values(self):
+        requirement, version = s.requirement("1"), s.version("1.0.0")
+        for other in (requirement, "1.0.0", None):
+            self.assertRaisesRegex(TypeError, "^other must be Version, not", version.compare, other)
+        for other in (version, "1", None):
+            self.assertRaisesRegex(TypeError, "^other must be Requirement, not", requirement.overlaps, other)
+        self.assertRaisesRegex(TypeError, "^version must be Version, str or bytes, not Requirement", requirement.fits, requirement)
+        self.assertRaisesRegex(TypeError, "^library must be Library, not", semver.Version, "1.0.0", "1.0.0")
+        self.assertRaisesRegex(TypeError, "^library must be Library, not", semver.Requirement, "1", "1")
+
+    def test_handles(self):
+        requirement, version = s.requirement("1"), s.version("1.0.0")
+        self.assertRaises(ctypes.ArgumentError, s._version_compare, version._handle, requirement._handle)
+        self.assertRaises(ctypes.ArgumentError, s._req_overlap, requirement._handle, version._handle)
+        for empty in (semver.Version.__new__(semver.Version), s.version("1.0.0")):
+            empty.__del__()
+            self.assertRaises(AttributeError, version.compare, empty)
 
 
-def want_of_memory():
-    """What Python can see of it: each code that the library has for it is `MemoryError`."""
-    try:
-        semver._fit(semver.NO_MEMORY)
-    except MemoryError:
-        return True
+class Lifetimes(unittest.TestCase):
+    def setUp(self):
+        self.reports = []
+        hook, sys.unraisablehook = sys.unraisablehook, self.reports.append
+        self.addCleanup(setattr, sys, "unraisablehook", hook)
+
+    def tearDown(self):
+        heap.heap_limit(ctypes.c_long(-1))
+        self.assertEqual((self.reports, heap.heap_alive()), ([], 0))
+
+    def test_copies(self):
+        for make in (copy.copy, copy.deepcopy, lambda it: pickle.loads(pickle.dumps(it))):
+            version, requirement = s.version("v1.3.0-a"), s.requirement(" 1.x", semver.NORMALIZED)
+            copied, again = make(version), make(requirement)
+            del version, requirement
+            self.assertEqual((str(copied), again.normal(), again.fits(copied)), ("1.3.0-a", "1.x", None))
+            del copied, again
+
+    def test_values_that_cannot_be_read(self):
+        for arguments in ((3,), ("x",), (b"\xff",), ()):
+            self.assertRaises((TypeError, semver.Refused), s.version, *arguments)
+            self.assertRaises((TypeError, semver.Refused), s.requirement, *arguments, 3)
+
+    def test_out_of_memory(self):
+        version = s.version("1.3.0")
+        for call in (lambda: s.fits("1", "1.0.0"), lambda: s.sort("1.0.0"), lambda: s.requirement("1"), lambda: str(version)):
+            heap.heap_limit(ctypes.c_long(0))
+            self.assertRaises(MemoryError, call)
 
 
-examples = [
-    ("npm's ranges", [s.fits(">=1.2 <2 || 3", "1.3.0"), s.fits(">=1.2 <2 || 3", "2.0.0")], [True, False]),
-    ("pre-releases", [s.fits("^1.0.0", "1.2.0-rc.1"), s.fits("^1.0.0", "1.2.0-rc.1", pre_releases=True)], [False, True]),
-    ("a tag", [s.fits("latest", "1.0.0", semver.STRICT), s.may_be_tag("latest"), s.may_be_tag(" ")], [None, True, False]),
-    ("no requirement", refused(s.fits, "", "1.0.0", semver.STRICT), ("requirement", "Empty version constraint.")),
-    ("no version", refused(s.fits, "1", "99999999999999999999.0.0"), ("version", "Number is too large.")),
-    ("no UTF-8", [refused(s.fits, b"\xff", "1.0.0")[0], refused(s.fits, "1", b"\xff")[0]], ["text", "text"]),
-    ("no reader", refused(s.fits, b"\xff", "1.0.0", 3)[0], "reader"),
-    ("the first word that is wrong", refused(s.fits, "", "x", semver.STRICT)[0], "requirement"),
-    ("order", [s.compare("1.0.0-a", "1.0.0"), s.compare("1.0.0+b", "1.0.0"), s.compare("1.0.1", "1.0.0"),
-               refused(s.compare, "x", "1.0.0")[0]], [-1, 0, 1, "version"]),
-    ("overlap", [s.overlap("<1", ">=1"), s.overlap("<=1", ">=1")], [False, True]),
-    ("the least version", s.least("^1.2"), "1.2.0"),
-    ("the least common one", [s.common(">1.0.0", "<1.0.1"), s.common("^1", ">=1.5")], [None, "1.5.0"]),
-    ("the least outside", [s.outside("^1.2", "^1"), s.outside("^1", "^1.2")], [None, "1.0.0"]),
-    ("a text that is long", s.normal(many).split(" || ")[-1], "199.199"),
-    ("a normal text", s.normal(">=1.2.0 <2.0.0 || 3.x"), "^1.2.0 || 3"),
-    ("a list", [s.filter("^1.2", "1.2.0\n2.0.0\r\nfoo\n1.9.9\n"), s.best("^1.2", "1.2.0\n1.10.0\n2.0.0\n1.10.0"), s.best("3", "1.2.0\n")],
-     [bytes([1, 0, 4, 1]), 1, None]),
-    ("kept", [r.fits(v), r.fits(w), r.fits("2.0.0"), refused(r.fits, "x")[0]], [True, False, False, "version"]),
-    ("compared, and in an overlap", [v.compare(w), v.compare(v), r.overlaps(other), r.overlaps(r)], [-1, 0, False, True]),
-    ("their texts", [r.normal(), str(v), s.displayed("=v1.2.3-a+b")], ["^1.2.0 || >=3.0.0", "1.3.0", "1.2.3-a+b"]),
-    ("want of memory", want_of_memory(), True),
-    ("versions in their order", [s.sort("1.10.0\n1.2.0-a\r\n1.2.0+b\n1.2.0\n1.2.0-b\n"), refused(s.sort, "1.0.0\nx\n")[0]],
-     [[1, 4, 2, 3, 0], "version"]),
-    ("a package", [s.package("@scope/name@1.x"), s.package("name", semver.STRICT), refused(s.package, "@scope"), refused(s.package, "name", 3)[0]],
-     [{"name": "name", "normal": "1", "requirement": "1.x", "scope": "scope"}, {"name": "name", "normal": "*", "requirement": "*", "scope": None},
-      ("requirement", "Did not contain a valid package name."), "reader"]),
-    ("a reference", [s.reference("jsr:@scope/name@1/mod.ts"), s.reference("npm:preact"), refused(s.reference, "preact")[0]],
-     [{"export": "./mod.ts", "kind": "jsr", "package": {"name": "name", "normal": "1", "requirement": "1", "scope": "scope"}, "path": "mod.ts"},
-      {"export": None, "kind": "npm", "package": {"name": "preact", "normal": "*", "requirement": "*", "scope": None}, "path": None}, "requirement"]),
-]
-failed = 0
-for number, (name, got, wanted) in enumerate(examples, 1):
-    print("ok  " if got == wanted else "FAIL", number, name, "" if got == wanted else (got, wanted))
-    failed += got != wanted
-sys.exit(failed)
+if __name__ == "__main__":
+    unittest.main()

@@ -5,6 +5,7 @@ fn main() {
     println!("cargo:rerun-if-env-changed=SEMVER_LIB");
     println!("cargo:rerun-if-env-changed=RATTLE_C");
     println!("cargo:rerun-if-changed={lib}/libsemver_c.a");
+    println!("cargo:rerun-if-changed={c}/liblibc_c.a");
     println!("cargo:rustc-link-search=native={lib}");
     println!("cargo:rustc-link-search=native={c}");
     println!("cargo:rustc-link-lib=static=semver_c");
