@@ -6,9 +6,10 @@ which builds them.
     tools/programs/check.py
 
 A row of PROGRAM.jsonl is a JSON object: the words after the program's name, standard input where there is one, standard output,
-standard error and the status; absent texts are empty. The rows of npmver and conformance are run once more where nothing can be
-written. An example is what stands after `$ ` in a console block of a page, where `ranges` is in it, with the lines that it
-prints. The last line counts; the status is 1 where something differs."""
+standard error and the status; absent texts are empty. A byte of words or input that isn't valid UTF-8 is written as Python's
+surrogateescape has it, `\\udcff` for 255. Each row is run once more where nothing can be written. An example is what stands after
+`$ ` in a console block of a page, where `ranges` is in it, with the lines that it prints. The last line counts; the status is 1
+where something differs."""
 import json, os, pathlib, re, subprocess, sys
 
 TOP = pathlib.Path(__file__).resolve().parents[2]
@@ -19,6 +20,8 @@ PAGES = ("README.md", "docs/RANGES.md")
 # How much more memory, in kilobytes, many lines may take than few.
 SLACK = 1024
 FEW, MANY = 50_000, 400_000
+# How much memory, in kilobytes, a program may take that reads a line of that length.
+SCARCE = 131_072
 # Texts that a row of the table holds so many times in the place of `@`, and what is asked of them; each within some seconds.
 SECONDS = 10
 PIECES = ("1", "-", ".", "a.", "||", "^")
@@ -34,8 +37,12 @@ LONG = (
 )
 
 
+def as_bytes(given):
+    return given.encode(errors="surrogateescape")
+
+
 def run(program, words, given="", seconds=60):
-    ran = subprocess.run([str(program), *words], input=given.encode(), capture_output=True, timeout=seconds)
+    ran = subprocess.run([str(program), *words], input=as_bytes(given), capture_output=True, timeout=seconds)
     return ran.stdout.decode(), ran.stderr.decode(), ran.returncode
 
 
@@ -55,14 +62,36 @@ def rows():
 
 
 def unwritable():
-    """Where nothing can be written, an answer of npmver or conformance has the status 6, and any other status stays."""
+    """Where nothing can be written, an answer has the status 6, and any other status stays."""
     with open("/dev/full", "wb") as full:
-        for name in ("npmver", "conformance"):
+
+        def status(program, words, given):
+            return subprocess.run([str(program), *words], input=as_bytes(given), stdout=full, stderr=full, timeout=60).returncode
+
+        for name, program in PROGRAMS.items():
             for place, row in rows_of(name):
-                wanted, given = 6 if "stdout" in row else row["status"], row.get("stdin", "").encode()
-                ran = subprocess.run([str(PROGRAMS[name]), *row["words"]], input=given, stdout=full, stderr=full, timeout=60)
-                found = ran.returncode
+                wanted = 6 if "stdout" in row else row["status"]
+                found = status(program, row["words"], row.get("stdin", ""))
                 yield None if found == wanted else f"{place}, where nothing can be written: wanted {wanted}, found {found}"
+        found = status(RANGES, ["filter", "*"], "1.0.0\n" * FEW)
+        yield None if found == 6 else f"an answer that is longer than the buffer, where nothing can be written: found {found}"
+
+
+def unreadable():
+    """Standard input that can't be read, here a folder, is reported where it is needed, and nowhere else."""
+    unread = ("", "ranges: standard input can't be read\n", 6)
+    asked = (
+        *(("ranges", words, unread) for words in (["filter", "*"], ["best", "*"], ["sort"], ["sort", "--json", "--reverse"])),
+        ("ranges", ["filter", "*", "1.0.0"], ("1.0.0\n", "", 0)),
+        ("ranges", ["best", "latest"], ("tag latest\n", "", 2)),
+        ("conformance", [], ("", "", 4)),
+    )
+    folder = os.open(HERE, os.O_RDONLY)
+    for name, words, wanted in asked:
+        ran = subprocess.run([str(PROGRAMS[name]), *words], stdin=folder, capture_output=True, timeout=60)
+        found = (ran.stdout.decode(), ran.stderr.decode(), ran.returncode)
+        yield None if found == wanted else f"{name} {words}, where standard input can't be read: wanted {wanted}, found {found}"
+    os.close(folder)
 
 
 def long_texts():
@@ -111,6 +140,15 @@ def memory():
     yield None if many <= few + SLACK else f"{FEW} lines take {few} KB, {MANY} take {many}"
 
 
+def scarce():
+    """A line that memory has no room for ends the program with the status for that."""
+    limited = ["bash", "-c", f'ulimit -v {SCARCE} && exec "$0" "$@"', str(RANGES)]
+    for words in (["filter", "*"], ["best", "*"], ["sort"]):
+        ran = subprocess.run([*limited, *words], input=b"1" * (1024 * SCARCE), capture_output=True, timeout=60)
+        found = (ran.stdout.decode(), ran.stderr.decode(), ran.returncode)
+        yield None if found == ("", "ranges: out of memory\n", 5) else f"{words}, where memory is scarce: found {found}"
+
+
 def closed():
     """Output through a pipe that closes ends with no word."""
     lines = "1.0.0\n" * MANY
@@ -130,7 +168,7 @@ def main():
     for program in PROGRAMS.values():
         if not program.is_file():
             sys.exit(f"{program} isn't built: run rt ci first")
-    outcomes = [outcome for check in (rows, unwritable, long_texts, pages, memory, closed) for outcome in check()]
+    outcomes = [outcome for check in (rows, unwritable, unreadable, long_texts, pages, memory, scarce, closed) for outcome in check()]
     wrong = [outcome for outcome in outcomes if outcome]
     print(*wrong, sep="\n", end="\n" if wrong else "")
     print(f"{len(outcomes) - len(wrong)} of {len(outcomes)} hold")
