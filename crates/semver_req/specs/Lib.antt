@@ -13,4 +13,5 @@ pub mod Rereading
 pub mod Settled
 pub mod SpecifierRefusals
 pub mod Tag
+pub mod TextRefusal
 pub mod Written

@@ -1,0 +1,26 @@
+//! Requirements by a grammar that is an argument.
+
+ghost use Rattle.std.specs.Prelude.{IfErr};
+ghost use Rattle.semver_req.specs.Readers.{IsReaderAnswer};
+ghost use Rattle.semver_req.specs.TextRefusal.{IsTextRefusal};
+
+use crate::common::values::Flavour;
+use crate::req::VersionReq;
+use semver_base::failure::ParseFailure;
+use std::alloc::Global;
+
+impl VersionReq {
+    /// The requirement that the text is by this grammar: npm's, the normalized one or that of package specifiers.
+    ///
+    /// Any failure but the grammar's own is out of memory.
+    pub fn parse(alloc: Global, text: &str, flavour: Flavour) -> Result<VersionReq, ParseFailure>
+        ensures reads { IsReaderAnswer (λ failure. failure) flavour text.now result }
+        ensures refusal { IfErr result (IsTextRefusal flavour text.now) }
+    {
+        match flavour {
+            Flavour::Npm => Ok(VersionReq::parse_from_npm(alloc, text)?),
+            Flavour::Normal => Ok(VersionReq::parse_from_normalized(alloc, text)?),
+            Flavour::Specifier => Ok(VersionReq::parse_from_specifier(alloc, text)?),
+        }
+    }
+}
