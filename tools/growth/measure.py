@@ -4,20 +4,25 @@ its crate) built it. Run at the top of the project, by hand: the gate doesn't.
 
     tools/growth/measure.py [WORD]    WORD: only the texts whose name holds it
 
-For each text, in sizes of which each doubles the one before: the bytes of the largest, and the processor time of each, the least
-of three runs, less that of a short text. The time includes reading the row. The status is 1 where a text that is told as linear
-takes much more than four times as long as one of a quarter of its size."""
+For each text, in sizes of which each doubles the one before: the bytes of the largest, and the processor time of each, the shortest
+of three runs, less that of a short text; what takes more than a second is run once. The time includes reading the row. The status
+is 1 where a text that ought to be linear takes much more than four times as long as one of a quarter of its size, or a call on
+lowest versions much more than sixteen times as long: their time grows with the square of the number of ranges."""
 import json, os, pathlib, subprocess, sys, tempfile
 
 TOP = pathlib.Path(__file__).resolve().parents[2]
 PROGRAM = TOP / "crates/conformance/out/conformance"
 RUNS = 3
-# A time below this (in seconds) is noise; what grows by more than this where the text is four times as long isn't linear.
-LEAST, MOST = 0.02, 6.5
+# A time below this (in seconds) is noise; what grows by more than this where the text is four times as long isn't linear, or
+# isn't quadratic: what no longer fits into the processor's cache takes twice as long.
+LEAST, MOST, MOST_SQUARED = 0.02, 6.5, 40
+# What takes longer than this (in seconds) is run once.
+LONG = 1
 BOTH = ("normal", "npm")
 COUNTS = (50_000, 100_000, 200_000)
 BYTES = (1 << 22, 1 << 23, 1 << 24)
-RANGES = (200, 400, 800, 1_600)
+RANGES = (200, 400, 800, 1_600, 3_200, 6_400, 12_800, 25_600)
+REQUIREMENTS = (200, 400, 800, 1_600, 3_200, 6_400)
 
 
 def joined(piece, between):
@@ -41,11 +46,17 @@ def zeros(size):
     return ">=1.0.0-" + "0" * size + "2" + " >=1.0.0-1" * (size // 10)
 
 
-def alternatives(major):
-    return lambda size: " || ".join(f"{major}.{minor}.0" for minor in range(size)) + " || ^9"
+def disjoint(major, qualifier=""):
+    """Versions of which no two are the same, and `^9`, which all such texts have in common."""
+    return lambda size: " || ".join(f"{major}.{minor}.0{qualifier}" for minor in range(size)) + " || ^9"
 
 
-# What is told as linear: the text's name, its readers, what makes it, and its sizes.
+def nested(major, qualifier=""):
+    """Ranges of which each holds the next."""
+    return lambda size: " || ".join(f">={major}.{size - at}.0{qualifier} <{major}.{size + at}.0" for at in range(1, size + 1)) + " || ^9"
+
+
+# What ought to be linear: the text's name, its readers, what makes it, and its sizes.
 LINEAR = (
     ("pieces `1`", BOTH, joined("1", " || "), COUNTS),
     ("pieces `foo`", BOTH, joined("foo", " || "), COUNTS),
@@ -67,8 +78,10 @@ LINEAR = (
     ("a pre-release of identifiers, comparators after it", BOTH, identifiers, COUNTS),
     ("a pre-release with zeros in front, comparators after it", BOTH, zeros, (100_000, 200_000, 400_000)),
 )
-# Calls on one or two requirements, each of many ranges, which have `^9` alone in common.
-LEAST_VERSIONS = ("min-version", "common-version", "version-outside", "common-with-all")
+# Calls on one or two requirements, each of many ranges.
+LOWEST_VERSIONS = ("min-version", "common-version", "version-outside", "is-equivalent")
+SHAPES = (("disjoint", disjoint), ("nested", nested))
+KINDS = (("releases", ""), ("pre-releases", "-a"))
 
 
 def seconds(row):
@@ -84,15 +97,29 @@ def seconds(row):
             if child.returncode not in (0, 1):
                 sys.exit(f"{row[0]}: status {child.returncode}")
             found.append(used.ru_utime + used.ru_stime)
+            if found[-1] > LONG:
+                break
         return min(found)
 
 
-def told(name, times, size):
+def report(name, times, size):
     print(f"{name}: {size:,} bytes: " + ", ".join(f"{it:.3f}" for it in times), flush=True)
 
 
-def is_linear(times):
-    return times[-1] < LEAST or times[-1] <= MOST * times[0]
+def grows_by_at_most(most, times):
+    """Whether a text four times as long takes at most so many times as long."""
+    return all(later < LEAST or later <= most * max(first, LEAST / most) for first, later in zip(times, times[2:]))
+
+
+def lowest_versions():
+    """The calls on lowest versions, by the number of ranges and by the number of requirements."""
+    for call in LOWEST_VERSIONS:
+        for shape, make in SHAPES:
+            for kind, qualifier in KINDS:
+                majors = (1,) if call == "min-version" else (1, 2)
+                texts = [make(it, qualifier) for it in majors]
+                yield f"{call}, {shape} {kind}", [[call, "npm", "restricted", *[text(size) for text in texts]] for size in RANGES]
+    yield "common-of-all, requirements", [["common-of-all", "npm", "restricted", *[f">=1.{at}.0" for at in range(size)]] for size in REQUIREMENTS]
 
 
 def main(word=""):
@@ -110,14 +137,14 @@ def main(word=""):
         if word in name:
             least = seconds([*asked[0][:2], "1", *asked[0][3:]])
             times = [seconds(row) - least for row in asked]
-            told(name, times, len(asked[-1][2].encode()))
-            grown += [name] * (not is_linear(times))
-    for call in LEAST_VERSIONS:
-        if word in call:
-            majors = (1,) if call == "min-version" else (1, 2)
-            asked = [[call, "npm", *[alternatives(it)(size) for it in majors]] for size in RANGES]
-            told(call, [seconds(row) for row in asked], len(asked[-1][2]))
-    print("grows faster than its text: " + ("; ".join(grown) or "none"))
+            report(name, times, len(asked[-1][2].encode()))
+            grown += [name] * (not grows_by_at_most(MOST, times))
+    for name, asked in lowest_versions():
+        if word in name:
+            times = [seconds(row) for row in asked]
+            report(name, times, sum(len(it) for it in asked[-1][3:]))
+            grown += [name] * (not grows_by_at_most(MOST_SQUARED, times))
+    print("grows too fast: " + ("; ".join(grown) or "none"))
     return 1 if grown else 0
 
 

@@ -36,6 +36,9 @@ LONG = (
     (20_000, "a.", '[["fits","strict","1.2.3-@+@","1.2.3-@+@"],["yes"]]'),
 )
 
+# How many alternatives two requirements have that are asked about together, and how many seconds that may take.
+ALTERNATIVES, MOMENT = 3_200, 1
+
 
 def as_bytes(given):
     return given.encode(errors="surrogateescape")
@@ -105,6 +108,18 @@ def long_texts():
             yield f"{place}: no answer after {SECONDS} seconds"
 
 
+def many_ranges():
+    """Two requirements of many alternatives are compared in a moment."""
+    one, other = (" || ".join(f"{major}.{minor}.0" for minor in range(ALTERNATIVES)) + " || ^9" for major in (1, 2))
+    for command, wanted in (("common", ("9.0.0\n", "", 0)), ("within", ("no 1.0.0\n", "", 1))):
+        place = f"{command} of {ALTERNATIVES} alternatives each"
+        try:
+            found = run(RANGES, [command, one, other], seconds=MOMENT)
+            yield None if found == wanted else f"{place}: wanted {wanted}, found {found}"
+        except subprocess.TimeoutExpired:
+            yield f"{place}: no answer after {MOMENT} seconds"
+
+
 def examples(page):
     """The command lines of a page and what it says they print."""
     for block in re.findall(r"^```console\n(.*?)^```$", page, re.S | re.M):
@@ -168,7 +183,8 @@ def main():
     for program in PROGRAMS.values():
         if not program.is_file():
             sys.exit(f"{program} isn't built: run rt ci first")
-    outcomes = [outcome for check in (rows, unwritable, unreadable, long_texts, pages, memory, scarce, closed) for outcome in check()]
+    checks = (rows, unwritable, unreadable, long_texts, many_ranges, pages, memory, scarce, closed)
+    outcomes = [outcome for check in checks for outcome in check()]
     wrong = [outcome for outcome in outcomes if outcome]
     print(*wrong, sep="\n", end="\n" if wrong else "")
     print(f"{len(outcomes) - len(wrong)} of {len(outcomes)} hold")

@@ -22,8 +22,6 @@ TEXTS = (
     "abcdefghijklmnopqrstuvwxyzabcdefghijklmn",
     "@scope/name@^1.0.0-a.b.c",
 )
-# How many items the list has whose copy is asked for.
-ITEMS = 1000
 # Calls on texts that stand in the value, which never want memory.
 NEEDS_NONE = ("in-value",)
 # What a call says where it wants memory. One answers whether a reader wanted any, too; it is swept with the texts alone, with
@@ -71,7 +69,7 @@ class Sweep:
     def __init__(self, name, words, given, is_right):
         self.name, self.words, self.given, self.is_right = name, words, given, is_right
         self.runs = self.refusals = 0
-        self.wrong = []
+        self.wrong, self.outputs = [], set()
 
     def go(self, preload):
         ample = Run(self.words, self.given)
@@ -81,6 +79,7 @@ class Sweep:
                 ran = Run(self.words, self.given, preload, at, is_all)
                 self.runs += 1
                 self.refusals += ran.refused
+                self.outputs.add(ran.out)
                 if not self.is_right(ample, ran):
                     how = "and all after it" if is_all else "alone"
                     self.wrong.append(f"{self.name}: request {at} {how}: status {ran.status}: {(ran.out + ran.err)[:200]!r}")
@@ -128,14 +127,6 @@ def chosen(lines):
     for words in (*(json.dumps(text, ensure_ascii=False).encode() for text in TEXTS), b"||"):
         picked += [line for line in by_npm if words in line][:1]
     return list(dict.fromkeys(picked))
-
-
-def long_list():
-    """A row whose answer is told of the copy of a long list."""
-    items = [f"a{at}" for at in range(ITEMS)]
-    whole = ".".join(items)
-    row = [["items", whole, str(ITEMS - 1)], [str(ITEMS), items[-1], whole]]
-    return json.dumps(row).encode()
 
 
 def commands():
@@ -200,8 +191,6 @@ def main():
         for line in chosen([line for line in lines if call not in WANTS or ALONE in line]):
             is_right = row_is_right(line, call not in NEEDS_NONE, WANTS.get(call, WANTING))
             sweeps.append(Sweep(f"{call}: {line.decode()}", [built("conformance")], line, is_right))
-    long = long_list()
-    sweeps.append(Sweep(f"the copy of a list of {ITEMS} items", [built("conformance")], long, row_is_right(long, True, WANTING)))
     for words in commands():
         sweeps.append(Sweep(f"npmver {words}", [built("npmver"), *words], b"", command_is_right))
     with tempfile.TemporaryDirectory() as room:
@@ -211,6 +200,8 @@ def main():
         asked, broken = streams(preload)
     texts, wrong = ample(rows)
     wrong += broken + [it for sweep in done for it in sweep.wrong]
+    if not any(b'answered ["no"]' in output for sweep in done if sweep.name.startswith("ample") for output in sweep.outputs):
+        wrong.append("ample never answers no")
     for it in wrong[:40]:
         print(it)
     runs, refusals = sum(it.runs for it in done), sum(it.refusals for it in done)

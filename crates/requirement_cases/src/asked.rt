@@ -8,15 +8,21 @@ pub use crate::two::{Two, both};
 use crate::words::{Fault, Word};
 use semver_base::range::PreRelease;
 use semver_base::version::Version;
+use semver_req::common::values::Flavour;
 use semver_req::req::VersionReq;
 use std::alloc::{AllocError, Global};
 
 /// The requirement that the reader of this name makes of a text.
 pub fn read(alloc: Global, reader: &str, text: &str) -> Result<VersionReq, Fault> {
+    let flavour = flavour_of(reader)?;
+    Ok(VersionReq::parse(alloc, text, flavour)?)
+}
+
+fn flavour_of(reader: &str) -> Result<Flavour, Fault> {
     match reader {
-        "npm" => Ok(VersionReq::parse_from_npm(alloc, text)?),
-        "normal" => Ok(VersionReq::parse_from_normalized(alloc, text)?),
-        "strict" => Ok(VersionReq::parse_from_specifier(alloc, text)?),
+        "npm" => Ok(Flavour::Npm),
+        "normal" => Ok(Flavour::Normal),
+        "strict" => Ok(Flavour::Specifier),
         _ => Err(Fault::Unreadable),
     }
 }

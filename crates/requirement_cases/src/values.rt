@@ -16,6 +16,7 @@ pub fn ask(alloc: Global, name: &str, words: &[Word<'_>]) -> Option<Answer> {
     let answer = match name {
         "text" => text(alloc, words),
         "items" => items(alloc, words),
+        "copy-succeeds" => copy_succeeds(alloc, words),
         "failure" => failure(alloc, words),
         "same-failure" => same_failure(alloc, words),
         "refusal" => refusal(alloc, words),
@@ -67,6 +68,26 @@ fn copied_items(alloc: Global, text: &str) -> Result<CowVec<SmallStackString>, A
     let copy = items.copy();
     drop(items);
     copy
+}
+
+// `copy-succeeds`, a number: whether a copy of a list of so many texts is made once the list is there. It takes no memory, since
+// the two share their items.
+fn copy_succeeds(alloc: Global, words: &[Word<'_>]) -> Answer {
+    let Ok(count) = only(words)?.parse::<usize>() else {
+        return Err(Fault::Unreadable);
+    };
+    let items = many_items(alloc, count)?;
+    let succeeds = items.copy().is_ok();
+    drop(items);
+    yes_or_no(alloc, succeeds)
+}
+
+fn many_items(alloc: Global, count: usize) -> Result<CowVec<SmallStackString>, AllocError> {
+    let mut items = CowVec::new(alloc);
+    for _ in 0..count {
+        items.push(SmallStackString::from_str(alloc, "item")?)?;
+    }
+    Ok(items)
 }
 
 fn told_items(alloc: Global, items: &CowVec<SmallStackString>, place: usize) -> Answer {

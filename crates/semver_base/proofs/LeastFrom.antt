@@ -1,6 +1,6 @@
--- Of the versions that pass a test, the least that is found from a start: it reaches each version that the start holds
--- where the test goes on below that, as far as the start holds versions of its kind. With pre-releases admitted all versions
--- are of one kind.
+-- Of the versions that pass a test, the lowest that is found from a start: it isn't above a version that the start holds where
+-- the test goes on below that version, as far as the start holds versions of its kind. With pre-releases admitted all versions are
+-- of one kind.
 use Rattle.std.proofs.Common.{◌≡◌, ◌&&◌, ◌||◌, Bool, true, false, not, [], ◌∷◌, Option, Some, None, refl, sym, ap, ◌∙◌, inl, inr}
 use Rattle.std.specs.Prelude.{◌⊎◌, if◌then◌else◌, IfSome}
 use Rattle.std.proofs.lemmas.Bool.{cases_Bool}
@@ -9,7 +9,7 @@ use Rattle.std.specs.Ordering.{is_le, is_lt}
 use Rattle.std.specs.declared.cmp.Ordering.{Ordering}
 use Rattle.std.specs.declared.cmp.Ordering.TheVariants.{Less, Equal, Greater}
 use Rattle.semver_base.specs.LeastVersion.{IsLeast, IsReadable}
-use Rattle.semver_base.specs.LeastSteps.{kept_if, least_admitted, least_free, least_from, least_pre, least_release, least_version, lesser, lower_by}
+use Rattle.semver_base.specs.Candidates.{kept_if, least_release, lesser, lower_by}
 use Rattle.semver_base.specs.Meaning.{admits_pre, alternative_means_with, bounds_hold, end_holds, has_pre_of, is_below, is_release, is_unrestricted, start_holds}
 use Rattle.semver_base.specs.Precedence.{precedence_cmp}
 use Rattle.semver_base.specs.PrecedenceLaws.{precedence_total}
@@ -21,8 +21,7 @@ use Rattle.semver_base.specs.declared.range.RangeBound.TheVariants as bound
 use Rattle.semver_base.specs.declared.range.VersionBoundKind.{VersionBoundKind}
 use Rattle.semver_base.specs.declared.range.VersionBoundKind.TheVariants as kind
 use Rattle.semver_base.specs.declared.range.VersionRange.{VersionRange}
-use Rattle.semver_base.proofs.LeastAbove.{version_least}
-use Rattle.semver_base.proofs.LeastPres.{is_pre_above, pre_least}
+use Rattle.semver_base.proofs.LeastPres.{is_pre_above, least_pre, pre_least}
 use Rattle.semver_base.proofs.LeastReleases.{is_release_from, release_least}
 use Rattle.semver_base.proofs.Orders.{and_both, and_first, and_second, le_le, le_less, or_cases, or_false, or_first, or_second, turned}
 use Rattle.semver_base.proofs.Triples as triples
@@ -38,6 +37,10 @@ least_alike P Q None there back h = λ v readable. elim (cases_Bool (Q v)) [
   | inr fails ↦ fails
 ]
 
+-- the same test, said otherwise
+pub least_as : (P Q : Version → Bool) (x : Option Version) → ((v : Version) → P v ≡ Q v) → IsLeast P x → IsLeast Q x
+least_as P Q x same h = least_alike P Q x (λ v passes. sym (same v) ∙ passes) (λ v readable passes. same v ∙ passes) h
+
 -- the version is reached: something is found, and it is not above that
 abbrev pub Reaches : Option Version → Version → Type 0
 Reaches None v = ⊥
@@ -50,14 +53,6 @@ least_by test None passes reaches = λ v readable. elim (cases_Bool (test v)) [
   | inl own ↦ absurd (reaches v readable own)
   | inr fails ↦ fails
 ]
-
-pub least_reaches : (test : Version → Bool) (x : Option Version) (v : Version) → IsLeast test x → IsReadable v → test v ≡ true → Reaches x v
-least_reaches test (Some w) v h readable passes = h.1 v readable passes
-least_reaches test None v h readable passes = let never : true ≡ false = sym passes ∙ h v readable in cc never
-
-pub least_passes : (test : Version → Bool) (x : Option Version) → IsLeast test x → IfSome x (λ w. test w ≡ true)
-least_passes test (Some w) h = h.0
-least_passes test None h = tt
 
 -- ---- the lower of two
 
@@ -80,13 +75,6 @@ module _ (P : Version → Type 0) where
       go true = h
       go false = tt
 
-  -- from a start, of what no bound has to admit and of what the range's bounds have to
-  pub from_keeps : (flag : PreRelease) (test : Version → Bool) (a : VersionRange) (start : RangeBound) → IfSome (least_free flag start) P → IfSome (least_admitted flag start a.start) P → IfSome (least_admitted flag start a.end) P
-      → IfSome (least_from flag test a start) P
-  from_keeps flag test a start free first second =
-      lesser_keeps (kept_if test (least_free flag start)) _ (kept_keeps test (least_free flag start) free)
-      (lesser_keeps (kept_if test (least_admitted flag start a.start)) _ (kept_keeps test (least_admitted flag start a.start) first) (kept_keeps test (least_admitted flag start a.end) second))
-
 itself : (x : Version) → is_le (precedence_cmp x x) ≡ true
 itself x = ap is_le (tied_itself precedence_total x)
 
@@ -104,6 +92,19 @@ pub lesser_reaches_second : (x y : Option Version) (v : Version) → Reaches y v
 lesser_reaches_second x None v h = absurd h
 lesser_reaches_second None (Some y) v h = h
 lesser_reaches_second (Some x) (Some y) v h = le_le precedence_total (lower_by (precedence_cmp x y) x y) y v (lower_le x y (precedence_cmp x y) refl).1 h
+
+-- what isn't above a candidate stays
+pub lower_kept : (test : Version → Bool) (x y : Version) (r : Ordering) → precedence_cmp x y ≡ r → is_le r ≡ true → Some x ≡ lesser (Some x) (kept_if test (Some y))
+lower_kept test x y r e le = go (test y)
+  where
+    by_order : (r : Ordering) → is_le r ≡ true → Some x ≡ Some (lower_by r x y)
+    by_order Less le = refl
+    by_order Equal le = refl
+    by_order Greater le = cc le
+
+    go : (t : Bool) → Some x ≡ lesser (Some x) (if t then Some y else None)
+    go true = rw e (by_order r le)
+    go false = refl
 
 -- ---- what a range means
 
@@ -144,7 +145,7 @@ AreAlike Admitted w v = Unit {0}
 AreAlike Restricted w v = ((is_release w ≡ true) × (is_release v ≡ true)) ⊎ ((is_release w ≡ false) × (is_release v ≡ false) × SameNumbers v w)
 
 -- a bound that is a pre-release of the numbers of v is one of those of w too
-same_admits : (x : RangeBound) (w v : Version) → SameNumbers v w → has_pre_of x v ≡ true → has_pre_of x w ≡ true
+pub same_admits : (x : RangeBound) (w v : Version) → SameNumbers v w → has_pre_of x v ≡ true → has_pre_of x w ≡ true
 same_admits bound.Unbounded w v same h = h
 same_admits (bound.Version x) w v same h = triples.pre_from x.version w (triples.same_on x.version v w (triples.pre_numbers x.version v h) same) (triples.pre_some x.version v h)
 
@@ -167,31 +168,24 @@ lower_means flag a w v start alike le h = means_from flag a w start (end_lower a
 abbrev pub GoesDown : PreRelease → (Version → Bool) → RangeBound → Version → Type 0
 GoesDown flag test start v = (w : Version) → start_holds start w ≡ true → AreAlike flag w v → is_le (precedence_cmp w v) ≡ true → test w ≡ true
 
-kept_reaches : (kind_of test : Version → Bool) (x : Option Version) (v : Version) → IsLeast kind_of x → IsReadable v → kind_of v ≡ true
+pub kept_reaches : (kind_of test : Version → Bool) (x : Option Version) (v : Version) → IsLeast kind_of x → IsReadable v → kind_of v ≡ true
     → ((w : Version) → kind_of w ≡ true → is_le (precedence_cmp w v) ≡ true → test w ≡ true) → Reaches (kept_if test x) v
 kept_reaches kind_of test None v h readable own down = let never : true ≡ false = sym own ∙ h v readable in cc never
 kept_reaches kind_of test (Some w) v h readable own down = let le = h.1 v readable own in rw (down w h.0 le) le
 
-kept_passes : (test : Version → Bool) (x : Option Version) → IfSome (kept_if test x) (λ w. test w ≡ true)
+pub kept_passes : (test : Version → Bool) (x : Option Version) → IfSome (kept_if test x) (λ w. test w ≡ true)
 kept_passes test None = tt
 kept_passes test (Some w) = elim (cases_Bool (test w)) [
   | inl passes ↦ rw passes passes
   | inr fails ↦ rw fails tt
 ]
 
--- what is found passes the test
-pub from_passes : (flag : PreRelease) (test : Version → Bool) (a : VersionRange) (start : RangeBound) → IfSome (least_from flag test a start) (λ w. test w ≡ true)
-from_passes flag test a start =
-    let P : Version → Type 0 = λ w. test w ≡ true in
-    lesser_keeps P (kept_if test (least_free flag start)) _ (kept_passes test (least_free flag start))
-    (lesser_keeps P (kept_if test (least_admitted flag start a.start)) _ (kept_passes test (least_admitted flag start a.start)) (kept_passes test (least_admitted flag start a.end)))
-
 both_numbers : (x : RangeBound) (w v : Version) → has_pre_of x w ≡ true → has_pre_of x v ≡ true → SameNumbers v w
 both_numbers bound.Unbounded w v h k = cc h
 both_numbers (bound.Version x) w v h k = triples.same_on v x.version w (triples.same_back x.version v (triples.pre_numbers x.version v k)) (triples.pre_numbers x.version w h)
 
 -- a pre-release of the numbers of the bound is reached
-pre_reached : (test : Version → Bool) (start x : RangeBound) (v : Version) → IsReadable v → start_holds start v ≡ true → is_release v ≡ false → has_pre_of x v ≡ true → GoesDown Restricted test start v
+pub pre_reached : (test : Version → Bool) (start x : RangeBound) (v : Version) → IsReadable v → start_holds start v ≡ true → is_release v ≡ false → has_pre_of x v ≡ true → GoesDown Restricted test start v
     → Reaches (kept_if test (least_pre start x)) v
 pre_reached test start x v readable held pre admitted down = kept_reaches (is_pre_above start x) test (least_pre start x) v (pre_least start x) readable (and_both _ _ held (rw (pre, admitted) refl)) low
   where
@@ -202,20 +196,7 @@ pre_reached test start x v readable held pre admitted down = kept_reaches (is_pr
         let of_bound = and_second (not (is_release w)) _ rest in
         down w (and_first _ (not (is_release w) && has_pre_of x w) own) (inr (some, pre, both_numbers x w v of_bound admitted)) le
 
-release_reached : (test : Version → Bool) (start : RangeBound) (v : Version) → IsReadable v → start_holds start v ≡ true → is_release v ≡ true → GoesDown Restricted test start v
+pub release_reached : (test : Version → Bool) (start : RangeBound) (v : Version) → IsReadable v → start_holds start v ≡ true → is_release v ≡ true → GoesDown Restricted test start v
     → Reaches (kept_if test (least_release start)) v
 release_reached test start v readable held plain down = kept_reaches (is_release_from start) test (least_release start) v (release_least start) readable (and_both _ _ held plain)
     (λ w own le. down w (and_first _ (is_release w) own) (inl (and_second (start_holds start w) _ own, plain)) le)
-
--- a version that the start holds and the range admits is reached, where the test goes down from it
-pub from_reaches : (flag : PreRelease) (test : Version → Bool) (a : VersionRange) (start : RangeBound) (v : Version) → IsReadable v → start_holds start v ≡ true → (is_unrestricted flag v || admits_pre a v) ≡ true → GoesDown flag test start v
-    → Reaches (least_from flag test a start) v
-from_reaches Admitted test a start v readable held admitted down =
-    lesser_reaches_first (kept_if test (least_version start)) _ v (kept_reaches (start_holds start) test (least_version start) v (version_least start) readable held (λ w own le. down w own tt le))
-from_reaches Restricted test a start v readable held admitted down = elim (cases_Bool (is_release v)) [
-  | inl plain ↦ lesser_reaches_first (kept_if test (least_release start)) _ v (release_reached test start v readable held plain down)
-  | inr pre ↦ lesser_reaches_second (kept_if test (least_release start)) _ v (elim (or_cases (has_pre_of a.start v) (has_pre_of a.end v) (rw pre at admitted)) [
-    | inl first ↦ lesser_reaches_first (kept_if test (least_pre start a.start)) _ v (pre_reached test start a.start v readable held pre first down)
-    | inr second ↦ lesser_reaches_second (kept_if test (least_pre start a.start)) _ v (pre_reached test start a.end v readable held pre second down)
-  ])
-]

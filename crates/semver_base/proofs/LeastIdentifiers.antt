@@ -10,7 +10,7 @@ use Rattle.std.specs.Str.{all_ascii_digits}
 use Rattle.std.specs.Str.Parse.{without_leading_plus}
 use Rattle.std.specs.declared.cmp.Ordering.{Ordering}
 use Rattle.std.specs.declared.cmp.Ordering.TheVariants.{Equal, Greater, Less}
-use Rattle.semver_base.specs.LeastSteps.{zero_identifier}
+use Rattle.semver_base.specs.Candidates.{zero_identifier}
 use Rattle.semver_base.specs.Lexical.{IsIdentifier, is_identifier_byte}
 use Rattle.semver_base.specs.Precedence.{identifier_class, identifier_cmp, identifier_value, is_number, number_of}
 use Rattle.semver_base.specs.PrecedenceLaws.{identifier_total}

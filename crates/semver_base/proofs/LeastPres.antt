@@ -1,5 +1,6 @@
 -- The least pre-release of three numbers above a start.
-use Rattle.std.proofs.Common.{◌≡◌, ◌&&◌, ◌==◌, ◌++◌, ℕ, Bool, true, false, not, List, [], ◌∷◌, length, Some, None, refl, sym, ap, ◌∙◌, inl, inr}
+use Rattle.std.proofs.Common.{◌≡◌, ◌&&◌, ◌==◌, ◌++◌, ℕ, Bool, true, false, not, List, [], ◌∷◌, length, Option, Some, None, refl, sym, ap, ◌∙◌, inl, inr}
+use Rattle.std.specs.Prelude.{if◌then◌else◌}
 use Rattle.std.proofs.lemmas.Bool.{cases_Bool}
 use Rattle.std.proofs.lemmas.Cmp.{nat_cmp_total, on_total, then_total, tied_itself}
 use Rattle.std.specs.FinMap.{nat_cmp-IsAntisymmetric}
@@ -9,14 +10,15 @@ use Rattle.std.specs.Ordering.{is_ge, is_le, nat_cmp, ordering_then}
 use Rattle.std.specs.declared.cmp.Ordering.{Ordering}
 use Rattle.std.specs.declared.cmp.Ordering.TheVariants.{Less, Equal, Greater}
 use Rattle.semver_base.specs.LeastVersion.{IsLeast}
-use Rattle.semver_base.specs.LeastSteps.{least_pre, numbers_cmp, pre_above, pre_by, pre_from, with_pre, zero_identifier}
+use Rattle.semver_base.specs.Candidates.{pre_from, with_pre, zero_identifier}
 use Rattle.semver_base.specs.Meaning.{bound_at, has_pre_of, is_release, start_holds}
-use Rattle.semver_base.specs.Precedence.{identifier_cmp, precedence_cmp, pre_cmp}
+use Rattle.semver_base.specs.Precedence.{identifier_cmp, numbers_cmp, precedence_cmp, pre_cmp}
 use Rattle.semver_base.specs.PrecedenceLaws.{precedence_total}
 use Rattle.semver_base.specs.VersionText.{AreIdentifiers}
 use Rattle.semver_base.specs.declared.version.Version.{Version}
 use Rattle.semver_base.specs.declared.range.RangeBound.{RangeBound}
 use Rattle.semver_base.specs.declared.range.RangeBound.TheVariants as bound
+use Rattle.semver_base.specs.declared.range.VersionBound.{VersionBound}
 use Rattle.semver_base.specs.declared.range.VersionBoundKind.{VersionBoundKind}
 use Rattle.semver_base.specs.declared.range.VersionBoundKind.TheVariants as kind
 use Rattle.semver_base.proofs.ClampLemmas.{above_from, above_ge}
@@ -26,6 +28,21 @@ use Rattle.semver_base.proofs.NumbersOrder.{by_numbers, greater_from, numbers_ti
 use Rattle.semver_base.proofs.Orders.{and_both, and_false, and_first, and_second, le_turned, turned}
 use Rattle.semver_base.proofs.Triples as triples
 use Rattle.semver_base.proofs.Triples.{SameNumbers}
+
+-- of the numbers of v, where those of the start compare so to them
+abbrev pub pre_by : Ordering → VersionBound → Version → Option Version
+pre_by Less start v = Some (with_pre v (zero_identifier ∷ []))
+pre_by Equal start v = if is_release start.version then None else Some (pre_from start.kind start.version)
+pre_by Greater start v = None
+
+abbrev pub pre_above : RangeBound → Version → Option Version
+pre_above bound.Unbounded v = Some (with_pre v (zero_identifier ∷ []))
+pre_above (bound.Version start) v = pre_by (numbers_cmp start.version v) start v
+
+-- of the numbers of a bound that is a pre-release
+abbrev pub least_pre : RangeBound → RangeBound → Option Version
+least_pre start bound.Unbounded = None
+least_pre start (bound.Version b) = if is_release b.version then None else pre_above start b.version
 
 -- a pre-release of the bound's numbers that the start holds
 abbrev pub is_pre_above : RangeBound → RangeBound → Version → Bool

@@ -7,10 +7,10 @@ use Rattle.std.specs.Ordering.{is_ge, is_gt, is_le, ordering_then}
 use Rattle.std.specs.declared.cmp.Ordering.{Ordering}
 use Rattle.std.specs.declared.cmp.Ordering.TheVariants.{Less, Equal, Greater}
 use Rattle.semver_base.specs.LeastVersion.{IsLeast}
-use Rattle.semver_base.specs.LeastSteps.{least_release, next_release, numbers_cmp, release_from}
+use Rattle.semver_base.specs.Candidates.{least_release, next_release, release_from}
 use Rattle.semver_base.specs.Meaning.{bound_at, is_release, release, start_holds}
 use Rattle.semver_base.specs.PartialTable.{number_fits}
-use Rattle.semver_base.specs.Precedence.{precedence_cmp, pre_cmp}
+use Rattle.semver_base.specs.Precedence.{numbers_cmp, precedence_cmp, pre_cmp}
 use Rattle.semver_base.specs.PrecedenceLaws.{precedence_total}
 use Rattle.semver_base.specs.VersionGrammar.{AllNumbersFit}
 use Rattle.semver_base.specs.declared.version.Version.{Version}

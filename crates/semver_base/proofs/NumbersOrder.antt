@@ -6,8 +6,7 @@ use Rattle.std.specs.FinMap.{nat_cmp-IsAntisymmetric}
 use Rattle.std.specs.Ordering.{is_gt, is_le, nat_cmp, ordering_then, MatchOrdering}
 use Rattle.std.specs.declared.cmp.Ordering.{Ordering}
 use Rattle.std.specs.declared.cmp.Ordering.TheVariants.{Less, Equal, Greater}
-use Rattle.semver_base.specs.LeastSteps.{numbers_cmp}
-use Rattle.semver_base.specs.Precedence.{precedence_cmp, pre_cmp}
+use Rattle.semver_base.specs.Precedence.{numbers_cmp, precedence_cmp, pre_cmp}
 use Rattle.semver_base.specs.declared.version.Version.{Version}
 use Rattle.semver_base.proofs.LeastIdentifiers.{le_then, nat_le_cmp}
 

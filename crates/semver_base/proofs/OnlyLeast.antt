@@ -10,7 +10,7 @@ use Rattle.semver_base.specs.PrecedenceLaws.{precedence-anti, precedence_total}
 use Rattle.semver_base.specs.VersionText.{ReadsBack}
 use Rattle.semver_base.specs.declared.version.Version.{Version}
 use Rattle.semver_base.proofs.Containment.{back_readable}
-use Rattle.semver_base.proofs.LeastSets.{least_as}
+use Rattle.semver_base.proofs.LeastFrom.{least_as}
 use Rattle.semver_base.proofs.Orders.{turned}
 
 abbrev version_of : ℕ → ℕ → ℕ → List (List ℕ) → List (List ℕ) → Version

@@ -1,5 +1,5 @@
 -- The range of what two ranges both hold, and what it means.
-use Rattle.std.specs.Prelude.{◌≡◌, [], ◌∷◌, true, false, ◌&&◌}
+use Rattle.std.specs.Prelude.{◌≡◌, ◌⊎◌, [], ◌∷◌, true, false, ◌&&◌}
 use Rattle.std.specs.declared.cmp.Ordering.{Ordering}
 use Rattle.std.specs.declared.cmp.Ordering.TheVariants.{Less, Equal, Greater}
 use Rattle.semver_base.specs.Meaning.{alternative_means, alternative_means_with, bounds_hold, is_release, to_below}
@@ -102,3 +102,16 @@ HasPassed start end = ⊥
 -- the greater start of two ranges is above their lesser end
 abbrev pub HaveCrossed : VersionRange → VersionRange → Type 0
 HaveCrossed a b = HasPassed (clamped_start a.start b.start) (clamped_end a.end b.end)
+
+-- the range holds, means and matches what both do, and holds nothing where they have crossed or one of them holds nothing
+pub record IsClamped (a b range : VersionRange) : Type 0 where
+  pub bounds : HoldsBoth a b range
+  pub means : MeansBoth a b range
+  pub admits : AdmitsBoth a b range
+  pub releases : MatchesBoth a b range
+  pub crossed : HaveCrossed a b → HoldsNothing range
+  pub stays_empty : HoldsNothing a ⊎ HoldsNothing b → HoldsNothing range
+
+-- two ranges are clamped to such a range
+abbrev pub ClampedRangesMeanBoth : Type 0
+ClampedRangesMeanBoth = (a b : VersionRange) → IsClamped a b (clamped a b)

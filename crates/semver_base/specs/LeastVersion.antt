@@ -1,15 +1,14 @@
--- The least version of those that pass a test. Source: node-semver's `minVersion`, here of any test, and of two ranges
--- or sets of ranges at once.
+-- The lowest version of those that pass a test. Source: node-semver's `minVersion`, here of any test, and of several sets of
+-- ranges at once.
 use Rattle.std.specs.Prelude.{◌≡◌, ℕ, List, [], Bool, not, ◌&&◌, IfSome, Option, Some, None, Ok, true, false}
 use Rattle.std.specs.List.{list_all}
 use Rattle.std.specs.Ordering.{is_le}
-use Rattle.semver_base.specs.Meaning.{range_means_with, set_means_with}
+use Rattle.semver_base.specs.Meaning.{set_means_with}
 use Rattle.semver_base.specs.Precedence.{precedence_cmp}
 use Rattle.semver_base.specs.VersionGrammar.{AllNumbersFit, IsVersionOutcome}
 use Rattle.semver_base.specs.VersionText.{AreIdentifiers, ReadsBack}
 use Rattle.semver_base.specs.declared.version.Version.{Version}
 use Rattle.semver_base.specs.declared.range.PreRelease.{PreRelease}
-use Rattle.semver_base.specs.declared.range.PreRelease.TheVariants.{Restricted}
 use Rattle.semver_base.specs.declared.range.VersionRange.{VersionRange}
 use Rattle.semver_base.specs.declared.range.VersionRangeSet.{VersionRangeSet}
 
@@ -31,18 +30,25 @@ IsLeast test None = (v : Version) → IsReadable v → test v ≡ false
 abbrev pub HasNoBuild : Version → Type 0
 HasNoBuild v = v.build ≡ []
 
--- no other version without a build whose text is read back, or none, is the least of the test
+-- the lowest version as it is answered: it has no build, and its text is read back; or no readable version passes
+pub record IsLowest (test : Version → Bool) (answer : Option Version) : Type 0 where
+  pub least : IsLeast test answer
+  pub no_build : IfSome answer HasNoBuild
+  pub reads_back : IfSome answer ReadsBack
+
+-- no other version without a build whose text is read back, or none, is the lowest of the test
 abbrev pub IsOnlyLeast : (Version → Bool) → Option Version → Type 0
 IsOnlyLeast test least =
     (other : Option Version) → IsLeast test other → IfSome other HasNoBuild → IfSome other ReadsBack → other ≡ least
 
+-- yes says that some version passes the test, and no that no readable one does
+abbrev pub TellsSome : (Version → Bool) → Bool → Type 0
+TellsSome test true = (v : Version) × (test v ≡ true)
+TellsSome test false = (v : Version) → IsReadable v → test v ≡ false
+
 -- ---- what two or more mean
 
--- both ranges mean the version
-abbrev pub both_mean_with : PreRelease → VersionRange → VersionRange → Version → Bool
-both_mean_with flag a b v = range_means_with flag a v && range_means_with flag b v
-
--- both sets do
+-- both sets mean the version
 abbrev pub sets_mean_with : PreRelease → List VersionRange → List VersionRange → Version → Bool
 sets_mean_with flag some others v = set_means_with flag some v && set_means_with flag others v
 
@@ -51,26 +57,6 @@ abbrev pub all_mean_with : PreRelease → List VersionRange → List VersionRang
 all_mean_with flag own others v = set_means_with flag own v
     && list_all (λ (other : VersionRangeSet). set_means_with flag other.0 v) others
 
--- the range means the version, and no range of the set does
-abbrev pub means_alone_with : PreRelease → VersionRange → List VersionRange → Version → Bool
-means_alone_with flag range others v = range_means_with flag range v && not (set_means_with flag others v)
-
 -- the first set means the version, and the other doesn't
 abbrev pub set_means_alone_with : PreRelease → List VersionRange → List VersionRange → Version → Bool
 set_means_alone_with flag some others v = set_means_with flag some v && not (set_means_with flag others v)
-
--- the same by npm's rule about pre-releases
-abbrev pub both_mean : VersionRange → VersionRange → Version → Bool
-both_mean a b v = both_mean_with Restricted a b v
-
-abbrev pub sets_mean : List VersionRange → List VersionRange → Version → Bool
-sets_mean some others v = sets_mean_with Restricted some others v
-
-abbrev pub all_mean : List VersionRange → List VersionRangeSet → Version → Bool
-all_mean own others v = all_mean_with Restricted own others v
-
-abbrev pub means_alone : VersionRange → List VersionRange → Version → Bool
-means_alone range others v = means_alone_with Restricted range others v
-
-abbrev pub set_means_alone : List VersionRange → List VersionRange → Version → Bool
-set_means_alone some others v = set_means_alone_with Restricted some others v

@@ -1,3 +1,4 @@
+pub mod Candidates
 pub mod Characters
 pub mod Clamp
 pub mod Comparators
@@ -5,7 +6,6 @@ pub mod Containment
 pub mod Failure
 pub mod Forms
 pub mod Grammar
-pub mod LeastSteps
 pub mod LeastVersion
 pub mod Lexical
 pub mod Meaning

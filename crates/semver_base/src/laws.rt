@@ -6,10 +6,11 @@
 //!
 //! Equal values hash alike: they write the same to every `Hasher`. `equal_hash_alike` says it of each type that has `Hash`.
 //!
-//! The last five laws speak of versions, ranges and their texts alone, so their calls do nothing: what they promise is what
+//! The last six laws speak of versions, ranges and their texts alone, so their calls do nothing: what they promise is what
 //! a caller cites.
 
 ghost use Rattle.std.specs.Prelude.{◌≡◌, ◌↔◌, IsTrue};
+ghost use Rattle.semver_base.specs.Clamp.{ClampedRangesMeanBoth};
 ghost use Rattle.semver_base.specs.LeastVersion.{ReadVersionsAreReadable};
 ghost use Rattle.semver_base.specs.NormalTable.{IsNormalTable};
 ghost use Rattle.semver_base.specs.Sameness.{TellsSame};
@@ -166,12 +167,18 @@ pub fn version_texts_read_back()
     ensures { VersionTextsReadBack }
 {}
 
+/// What two ranges are clamped to means what both mean together, as comparators of one alternative. `clamp_into` and
+/// `into_stopped` answer it too, so that what [`VersionRange::clamp`] says holds of their answers.
+pub fn clamped_ranges_mean_both()
+    ensures { ClampedRangesMeanBoth }
+{}
+
 /// The normal text of a range is the text that the table of short forms gives it, row by row.
 pub fn normal_texts_follow_the_table()
     ensures { IsNormalTable }
 {}
 
-/// Each version that a text stands for is one of those among which `common_version` and `min_version` answer the least:
+/// Each version that a text stands for is one of those among which `common_version` and `min_version` answer the lowest:
 /// its numbers fit, and the identifiers of its pre-release are those of the grammar (SemVer 2.0.0, sections 2 and 9).
 pub fn read_versions_are_readable()
     ensures { ReadVersionsAreReadable }

@@ -8,10 +8,8 @@ ghost use Rattle.semver_base.specs.Meaning.{alternative_means, alternative_means
 ghost use Rattle.semver_base.specs.Overlap.{ends_at_zero, overlap, some_overlap, starts_before, HoldNothingTogether, HoldsNoRelease, MatchNothingTogether};
 ghost use Rattle.semver_base.specs.declared.range.PreRelease.TheVariants.{Restricted};
 
-mod all;
 mod display;
-mod least;
-mod outside;
+mod lowest;
 
 use crate::string::{CowItem, CowVec};
 use crate::version::Version;
@@ -223,17 +221,10 @@ impl RangeBound {
     pub fn clamp_start(&self, _alloc: Global, other: &RangeBound) -> Result<RangeBound, AllocError>
         ensures { IfOk result (λ bound. bound ≡ clamped_start self.now other.now) }
     {
-        match (self, other) {
-            (RangeBound::Unbounded, _) => other.copy(),
-            (RangeBound::Version(_), RangeBound::Unbounded) => self.copy(),
-            (RangeBound::Version(own), RangeBound::Version(others)) => {
-                match own.version.cmp_precedence(&others.version) {
-                    Ordering::Less => other.copy(),
-                    Ordering::Equal => self.of_tied(own.kind, other),
-                    Ordering::Greater => self.copy(),
-                }
-            }
+        if self.is_clamped_start(other) {
+            return self.copy();
         }
+        other.copy()
     }
 
     /// The end of what two ranges with these ends both hold: the lesser end by precedence, and of two that tie this
@@ -243,17 +234,10 @@ impl RangeBound {
     pub fn clamp_end(&self, _alloc: Global, other: &RangeBound) -> Result<RangeBound, AllocError>
         ensures { IfOk result (λ bound. bound ≡ clamped_end self.now other.now) }
     {
-        match (self, other) {
-            (RangeBound::Unbounded, _) => other.copy(),
-            (RangeBound::Version(_), RangeBound::Unbounded) => self.copy(),
-            (RangeBound::Version(own), RangeBound::Version(others)) => {
-                match own.version.cmp_precedence(&others.version) {
-                    Ordering::Less => self.copy(),
-                    Ordering::Equal => self.of_tied(own.kind, other),
-                    Ordering::Greater => other.copy(),
-                }
-            }
+        if self.is_clamped_end(other) {
+            return self.copy();
         }
+        other.copy()
     }
 
     // This start, where it lies below the end. One past the end stops there and holds nothing, and an inclusive one at
@@ -484,7 +468,7 @@ impl VersionRange {
     }
 
     /// The same ([`VersionRange::clamp`]) of ranges that are let go, whose bounds it takes over. Only a start that has
-    /// passed the end wants memory.
+    /// passed the end wants memory. What the answer means, the law `clamped_ranges_mean_both` says.
     #[inline(always)]
     pub fn clamp_into(self, other: VersionRange) -> Result<VersionRange, AllocError>
         ensures value { IfOk result (λ range. range ≡ clamped self other) }

@@ -406,7 +406,7 @@ fn precedence(a: &Version, b: &Version) -> Ordering
 // pass tells whether they are below and whether they tie, with no branch between, since what sorts versions can't foresee
 // which way it goes.
 #[inline(always)]
-fn cmp_numbers(a: &Version, b: &Version) -> Ordering
+pub(crate) fn cmp_numbers(a: &Version, b: &Version) -> Ordering
     ensures { result ≡ numbers_cmp a.now b.now }
 {
     let (patch, lacks) = a.patch.borrowing_sub(b.patch, false);

@@ -1,4 +1,4 @@
--- Requirements with the same ranges in any order match the same versions, and so have one least version.
+-- Requirements with the same ranges in any order match the same versions, and so have one lowest version.
 use Rattle.std.proofs.Common.{◌≡◌, ◌&&◌, Bool, true, false, List, [], ◌∷◌, map, not, Option, Result, Ok, Err, refl, sym, ap, ap₂, subst, ◌∙◌}
 use Rattle.std.specs.List.{list_all, list_any}
 use Rattle.std.specs.Prelude.{◌||◌, IfOk, IfSome, IsPermutation}
@@ -12,7 +12,7 @@ use Rattle.semver_base.specs.declared.range.VersionRangeSet.{VersionRangeSet}
 use Rattle.semver_base.specs.declared.version.Version.{Version}
 use Rattle.semver_base.proofs.MeaningLemmas.{any_alternatives}
 use Rattle.semver_base.proofs.OnlyLeast.{only_alike, only_least}
-use Rattle.semver_req.specs.AnyOrder.{AllInAnyOrderWith, AreEachReordered, AreReordered, BothInAnyOrder, InAnyOrder, IsReordered}
+use Rattle.semver_req.specs.AnyOrder.{AllInAnyOrder, AreEachReordered, AreReordered, BothInAnyOrder, InAnyOrder, IsReordered}
 use Rattle.semver_req.specs.Readers.{AreReadOrTags, IsReadOrTag}
 use Rattle.semver_req.specs.Requirement.{Requirement, all_inners_mean_with, inner_means_with}
 use Rattle.semver_req.specs.declared.range_set_or_tag.RangeSetOrTag.{RangeSetOrTag}
@@ -106,7 +106,7 @@ module _ {E : Type 0} (flag : PreRelease) where
   pub all_in_any_order : (own : RangeSetOrTag) (others : List Requirement) (r : Result (Option Version) E)
       → IfOk r (IsLeast (all_inners_mean_with flag own others)) → IfOk r (λ least. IfSome least HasNoBuild)
       → IfOk r (λ least. IsReadOrTag own → AreReadOrTags others → IfSome least ReadsBack)
-      → IfOk r (λ least. IsReadOrTag own → AreReadOrTags others → AllInAnyOrderWith flag own others least)
+      → IfOk r (λ least. IsReadOrTag own → AreReadOrTags others → AllInAnyOrder flag own others least)
   all_in_any_order own others (Ok least) h plain back = λ read reads same rest moved.
       only_alike (all_inners_mean_with flag own others) (all_inners_mean_with flag same rest) least (all_means flag own same others rest moved)
       (only_least (all_inners_mean_with flag own others) least h plain (back read reads))

@@ -9,7 +9,7 @@ use Rattle.semver_base.specs.VersionText.{ReadsBack}
 use Rattle.semver_base.specs.declared.range.PreRelease.{PreRelease}
 use Rattle.semver_base.specs.declared.range.VersionRangeSet.{VersionRangeSet}
 use Rattle.semver_base.specs.declared.version.Version.{Version}
-use Rattle.semver_base.proofs.LeastSets.{least_as}
+use Rattle.semver_base.proofs.LeastFrom.{least_as}
 use Rattle.semver_req.specs.Readers.{IsReadOrTag}
 use Rattle.semver_req.specs.Requirement.{all_inners_mean_with, inner_means_with, ranges_of, Requirement}
 use Rattle.semver_req.specs.declared.range_set_or_tag.RangeSetOrTag.{RangeSetOrTag}

@@ -1,22 +1,26 @@
 -- The identifiers of the comparators of every outcome are those of the grammar.
-use Rattle.std.proofs.Common.{ℕ, List, [], ◌∷◌, Bool, Option, Some, None, sym, subst, inl, inr}
+use Rattle.std.proofs.Common.{ℕ, List, [], ◌∷◌, Bool, true, Option, Some, None, refl, sym, subst, ◌≡◌, inl, inr}
+use Rattle.std.specs.List.{list_all}
 use Rattle.semver_base.specs.Comparators.{Comparator}
 use Rattle.semver_base.specs.Grammar.{After, Before, Listed, Optional, Prefixed, closed_item, last_item, more_items, that, this}
 use Rattle.semver_base.specs.Lexical.{IsBlanks, IsSomeBlanks}
-use Rattle.semver_base.specs.NormalText.{AreWritableRanges}
+use Rattle.semver_base.specs.NormalText.{AreWritableRanges, IsWritableRange}
 use Rattle.semver_base.specs.declared.lexical.values.Qualifier.{Qualifier}
 use Rattle.semver_base.specs.declared.partial.Partial.{Partial}
 use Rattle.semver_base.specs.declared.partial.XRange.{XRange}
+use Rattle.semver_base.specs.declared.range.VersionRange.{VersionRange}
 use Rattle.semver_base.proofs.ReadVersions.{by_after, by_mapped, by_prefixed, qualifier_has}
-use Rattle.semver_req.specs.Comparators.{IsComparator, IsLed, IsMarked, IsOfPrimitive, IsPlain}
+use Rattle.semver_req.specs.Comparators.{fits, IsComparator, IsLed, IsMarked, IsOfPrimitive, IsPlain}
 use Rattle.semver_req.specs.KeptSet.{kept}
 use Rattle.semver_req.specs.Outcome.{AreGoodOnes, IsCutOutcome, IsGood, IsOutcome, IsSpecifierOutcome, IsTagOr, Outcome, Ranges, Refused, Tag, bad, good, left_over, no_fit, no_front, no_tag, none_left, normal_many, normal_refused, npm_many, one_bad, one_good, tag, whole}
 use Rattle.semver_req.specs.Partials.{IsPartial, IsPlainPartial, IsSecond, IsThird, partial_of, strictness_of}
+use Rattle.semver_req.specs.PieceReading.{IsPieceRead}
 use Rattle.semver_req.specs.Pieces.{IsFilled, IsHyphen, IsNpmSeparator, IsPiece}
 use Rattle.semver_req.specs.declared.common.values.Flavour.{Flavour}
 use Rattle.semver_req.specs.declared.common.values.Flavour.TheVariants.{Normal, Npm, Specifier}
+use Rattle.semver_req.specs.declared.range_set_or_tag.pieces.RangeOrInvalid.TheVariants as read
 use Rattle.semver_req.proofs.OutcomesFit.{outcome_fits}
-use Rattle.semver_req.proofs.WritableRanges.{AllHaveIdentifiers, ComparatorHasIdentifiers, PartialHasIdentifiers, TreeHasIdentifiers, kept_writable}
+use Rattle.semver_req.proofs.WritableRanges.{AllHaveIdentifiers, ComparatorHasIdentifiers, PartialHasIdentifiers, TreeHasIdentifiers, kept_range_writable, kept_writable}
 
 -- ---- partial versions
 
@@ -132,3 +136,11 @@ outcome_has Specifier text tree o = specifier_outcome_has o
 -- what a reader keeps has a text that reads back
 pub outcome_writable : (f : Flavour) (text : List ℕ) (tree : List (List Comparator)) → IsOutcome f text (Ranges tree) → AreWritableRanges (kept f tree)
 outcome_writable f text tree o = kept_writable f tree (outcome_fits f text tree o) (outcome_has f text tree o)
+
+-- so has the range of a piece
+pub piece_writable : (f : Flavour) (b : Bool) (piece : List ℕ) (range : VersionRange) → IsPieceRead f b piece (read.Range range) → IsWritableRange range
+piece_writable f b piece range h = subst IsWritableRange (sym h.2) (kept_range_writable h.0 (good_fits h.1) (good_has f b piece h.0 h.1))
+  where
+    good_fits : IsGood f b piece h.0 → list_all fits h.0 ≡ true
+    good_fits (inl g) = g.1
+    good_fits (inr g) = subst (λ cs. list_all fits cs ≡ true) (sym g.2) refl

@@ -229,7 +229,7 @@ folded_writable start (c ∷ cs) h fit has =
     folded_writable (clamped start (comparator_range c)) cs (clamped_writable start (comparator_range c) h (comparator_writable c (and_first _ _ fit) has.0)) (and_second (fits c) _ fit) has.1
 
 -- the range of an alternative whose comparators fit
-kept_range_writable : (comparators : List Comparator) → list_all fits comparators ≡ true → AllHaveIdentifiers comparators → IsWritableRange (kept_range comparators)
+pub kept_range_writable : (comparators : List Comparator) → list_all fits comparators ≡ true → AllHaveIdentifiers comparators → IsWritableRange (kept_range comparators)
 kept_range_writable (Hyphen p q ∷ []) fit has = comparator_writable (Hyphen p q) (and_first _ _ fit) has.0
 kept_range_writable comparators fit has = folded_writable everything comparators (record { start = tt; end = tt }) fit has
 

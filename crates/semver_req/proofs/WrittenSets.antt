@@ -260,7 +260,7 @@ bounds_few bound.Unbounded (bound.Version e) = one_is _
 bounds_few (bound.Version s) bound.Unbounded = one_is _
 bounds_few (bound.Version s) (bound.Version e) = between_few s.kind e.kind s.version e.version
 
-pub written_pieces : (ranges : List VersionRange) → AreWritableRanges ranges → AllByRecursion IsOnePiece ranges
+pub written_pieces : (ranges : List VersionRange) → AreWritableRanges ranges → AllByRecursion (λ range. IsOnePiece (range_text range) (shortest range)) ranges
 written_pieces [] h = tt
 written_pieces (r ∷ rs) h =
     let few = bounds_few r.start r.end in (
@@ -273,3 +273,12 @@ written_pieces (r ∷ rs) h =
       },
       written_pieces rs h.1,
     )
+
+pub none_written_as_piece : IsOnePiece (set_text []) (ending kind.Exclusive (release 0 0 0) ∷ [])
+none_written_as_piece = record {
+  no_bar = no_bar (codes "<0.0.0") refl;
+  piece = none_piece;
+  some = omega arith;
+  few = omega arith;
+  fit = all_comparators_fit _ (one none_written);
+}

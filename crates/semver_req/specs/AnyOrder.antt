@@ -1,8 +1,7 @@
--- Requirements with the same ranges in any order, and that they have one least version.
+-- Requirements with the same ranges in any order, and that they have one lowest version.
 use Rattle.std.specs.Prelude.{◌≡◌, List, [], ◌∷◌, Bool, Option, IsPermutation, map}
 use Rattle.semver_base.specs.LeastVersion.{IsOnlyLeast}
 use Rattle.semver_base.specs.declared.range.PreRelease.{PreRelease}
-use Rattle.semver_base.specs.declared.range.PreRelease.TheVariants.{Restricted}
 use Rattle.semver_base.specs.declared.version.Version.{Version}
 use Rattle.semver_req.specs.Requirement.{Requirement, all_inners_mean_with}
 use Rattle.semver_req.specs.declared.range_set_or_tag.RangeSetOrTag.{RangeSetOrTag}
@@ -25,7 +24,7 @@ pub record AreReordered (some others : List RangeSetOrTag) : Type 0 where
   pub in_order : IsPermutation some moved
   pub each : AreEachReordered moved others
 
--- in whatever order the ranges stand, no other answer is the least
+-- in whatever order the ranges stand, no other answer is the lowest
 abbrev pub InAnyOrder : (RangeSetOrTag → Version → Bool) → RangeSetOrTag → Option Version → Type 0
 InAnyOrder test one least = (same : RangeSetOrTag) → IsReordered one same → IsOnlyLeast (test same) least
 
@@ -37,11 +36,8 @@ BothInAnyOrder test one other least =
     → IsOnlyLeast (test same others) least
 
 -- of a requirement and others, which stand in any order too
-abbrev pub AllInAnyOrderWith : PreRelease → RangeSetOrTag → List Requirement → Option Version → Type 0
-AllInAnyOrderWith flag own others least = (same : RangeSetOrTag) (rest : List Requirement)
+abbrev pub AllInAnyOrder : PreRelease → RangeSetOrTag → List Requirement → Option Version → Type 0
+AllInAnyOrder flag own others least = (same : RangeSetOrTag) (rest : List Requirement)
     → AreReordered (own ∷ map (λ (req : Requirement). req.inner) others)
     (same ∷ map (λ (req : Requirement). req.inner) rest)
     → IsOnlyLeast (all_inners_mean_with flag same rest) least
-
-abbrev pub AllInAnyOrder : RangeSetOrTag → List Requirement → Option Version → Type 0
-AllInAnyOrder own others least = AllInAnyOrderWith Restricted own others least

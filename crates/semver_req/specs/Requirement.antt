@@ -54,15 +54,9 @@ MatchNoVersion one other =
 abbrev pub inners_mean_with : PreRelease → RangeSetOrTag → RangeSetOrTag → Version → Bool
 inners_mean_with flag one other v = inner_means_with flag one v && inner_means_with flag other v
 
-abbrev pub inners_mean : RangeSetOrTag → RangeSetOrTag → Version → Bool
-inners_mean one other v = inners_mean_with Restricted one other v
-
 -- the first requirement matches the version, and the other doesn't
 abbrev pub inner_means_alone_with : PreRelease → RangeSetOrTag → RangeSetOrTag → Version → Bool
 inner_means_alone_with flag one other v = inner_means_with flag one v && not (inner_means_with flag other v)
-
-abbrev pub inner_means_alone : RangeSetOrTag → RangeSetOrTag → Version → Bool
-inner_means_alone one other v = inner_means_alone_with Restricted one other v
 
 -- the ranges of a requirement, and none of a tag
 abbrev pub ranges_of : RangeSetOrTag → VersionRangeSet
@@ -81,9 +75,6 @@ have_no_tag requirements = list_all (λ (req : Requirement). is_no_tag req.inner
 abbrev pub all_inners_mean_with : PreRelease → RangeSetOrTag → List Requirement → Version → Bool
 all_inners_mean_with flag own others v = inner_means_with flag own v
     && list_all (λ (other : Requirement). inner_means_with flag other.inner v) others
-
-abbrev pub all_inners_mean : RangeSetOrTag → List Requirement → Version → Bool
-all_inners_mean own others v = all_inners_mean_with Restricted own others v
 
 -- two tags overlap where they are the same
 abbrev pub OverlapAsTags : RangeSetOrTag → RangeSetOrTag → Bool → Type 0

@@ -1,16 +1,16 @@
 -- The normal text of a set that was read, read again. Source: `deno_semver`, whose text of a requirement is meant to be
 -- read back.
-use Rattle.std.specs.Prelude.{◌≡◌, ◌≤◌, ◌<◌, ◌↔◌, ℕ, List, length, Bool, true, false, not, ◌==◌, ◌&&◌, ◌||◌, IsUtf8, Ok, codes}
+use Rattle.std.specs.Prelude.{◌≡◌, ◌≤◌, ◌<◌, ◌↔◌, ℕ, List, [], ◌∷◌, length, Bool, true, false, not, ◌==◌, ◌&&◌, ◌||◌, IsUtf8, Ok, codes}
 use Rattle.std.specs.List.{AllByRecursion, list_all}
 use Rattle.std.specs.Str.{trim}
 use Rattle.semver_base.specs.Characters.{at_sign, slash}
 use Rattle.semver_base.specs.Comparators.{Comparator}
 use Rattle.semver_base.specs.Containment.{AreEquivalent}
-use Rattle.semver_base.specs.Meaning.{alternatives, set_means, tree_means_with}
-use Rattle.semver_base.specs.NormalText.{range_text, set_text}
+use Rattle.semver_base.specs.Meaning.{alternatives, release, set_means, tree_means_with}
+use Rattle.semver_base.specs.NormalText.{range_text, set_text, AreWritableRanges, IsWritableRange}
 use Rattle.semver_base.specs.Overlap.{starts_before}
 use Rattle.semver_base.specs.PrecedenceLaws.{version_eq}
-use Rattle.semver_base.specs.Shortest.{is_plain, shortest, shortest_tree}
+use Rattle.semver_base.specs.Shortest.{ending, is_plain, shortest, shortest_tree}
 use Rattle.semver_base.specs.VersionGrammar.{IsVersionOutcome}
 use Rattle.semver_base.specs.declared.range.PreRelease.{PreRelease}
 use Rattle.semver_base.specs.declared.range.RangeBound.{RangeBound}
@@ -22,6 +22,7 @@ use Rattle.semver_base.specs.declared.version.Version.{Version}
 use Rattle.semver_req.specs.Comparators.{fits}
 use Rattle.semver_req.specs.KeptSet.{IsReadSet, kept}
 use Rattle.semver_req.specs.Outcome.{IsOutcome, Outcome, Ranges, Tag, tree_ranges}
+use Rattle.semver_req.specs.PieceReading.{IsPieceRead}
 use Rattle.semver_req.specs.Pieces.{HasNoBar, IsCutting, IsPiece}
 use Rattle.semver_req.specs.Readers.{IsReadFrom, IsReading, StartsFit}
 use Rattle.semver_req.specs.Requirement.{inner_means, wildcard}
@@ -29,6 +30,7 @@ use Rattle.semver_req.specs.declared.common.values.Flavour.{Flavour}
 use Rattle.semver_req.specs.declared.common.values.Flavour.TheVariants.{Normal}
 use Rattle.semver_req.specs.declared.range_set_or_tag.RangeSetOrTag.{RangeSetOrTag}
 use Rattle.semver_req.specs.declared.range_set_or_tag.RangeSetOrTag.TheVariants as inner
+use Rattle.semver_req.specs.declared.range_set_or_tag.pieces.RangeOrInvalid.TheVariants as read
 
 -- ---- which ranges keep their meaning
 
@@ -142,17 +144,25 @@ abbrev pub SettledSetsAreTheirTexts : Type 0
 SettledSetsAreTheirTexts = (some others : List VersionRange) → IsSettledSet some → IsSettledSet others
     → (some ≡ others) ↔ (set_text some ≡ set_text others)
 
--- the normal text of a range is one piece without `||`, in npm's grammar and in the normalized one of the same one or
--- two comparators, which fit
-pub record IsOnePiece (range : VersionRange) : Type 0 where
-  pub no_bar : HasNoBar (range_text range)
-  pub piece : (f : Flavour) → IsCutting f → IsPiece f (range_text range) (shortest range)
-  pub some : 0 < length (shortest range)
-  pub few : length (shortest range) ≤ 2
-  pub fit : list_all fits (shortest range) ≡ true
+-- the text is one piece without `||`, in npm's grammar and in the normalized one of these one or two comparators, which fit
+pub record IsOnePiece (text : List ℕ) (comparators : List Comparator) : Type 0 where
+  pub no_bar : HasNoBar text
+  pub piece : (f : Flavour) → IsCutting f → IsPiece f text comparators
+  pub some : 0 < length comparators
+  pub few : length comparators ≤ 2
+  pub fit : list_all fits comparators ≡ true
 
-abbrev pub RangesAreWrittenAsPieces : Type 0
-RangesAreWrittenAsPieces = (ranges : List VersionRange) → IsReadSet ranges → AllByRecursion IsOnePiece ranges
+-- so is the normal text of each range of a read set, and that of the empty set, `<0.0.0`
+pub record RangesAreWrittenAsPieces : Type 0 where
+  pub ranges : (ranges : List VersionRange) → IsReadSet ranges
+      → AllByRecursion (λ range. IsOnePiece (range_text range) (shortest range)) ranges
+  pub none : IsOnePiece (set_text []) (ending kind.Exclusive (release 0 0 0) ∷ [])
+
+-- the texts of the bounds are read back: of the range of a piece, and of each range of a read set
+pub record ReadRangesAreWritable : Type 0 where
+  pub pieces : (f : Flavour) (followed : Bool) (piece : List ℕ) (range : VersionRange)
+      → IsPieceRead f followed piece (read.Range range) → IsWritableRange range
+  pub sets : (ranges : List VersionRange) → IsReadSet ranges → AreWritableRanges ranges
 
 -- ---- tags
 

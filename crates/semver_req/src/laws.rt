@@ -12,7 +12,7 @@ ghost use Rattle.semver_req.specs.KeptSet.{KeptSetsMeanTheirTrees};
 ghost use Rattle.semver_req.specs.Outcome.{TextsHaveOneOutcome};
 ghost use Rattle.semver_req.specs.Pieces.{NormalPiecesAreNpms};
 ghost use Rattle.semver_req.specs.Readers.{ReadRequirementsAreAnswers};
-ghost use Rattle.semver_req.specs.Rereading.{NormalTextsAreEquivalent, NormalTextsHoldNoSeparator, NormalTextsKeepTheirMeaning, OneRereadingSettles, RangesAreWrittenAsPieces, SettledSetsAreTheirTexts, StarIsAnyVersion, TagsHoldNoSeparator, TagsReadBack};
+ghost use Rattle.semver_req.specs.Rereading.{NormalTextsAreEquivalent, NormalTextsHoldNoSeparator, NormalTextsKeepTheirMeaning, OneRereadingSettles, RangesAreWrittenAsPieces, ReadRangesAreWritable, SettledSetsAreTheirTexts, StarIsAnyVersion, TagsHoldNoSeparator, TagsReadBack};
 
 use crate::common::values::Flavour;
 use crate::npm::NpmVersionReqParseError;
@@ -105,8 +105,14 @@ pub fn normal_texts_are_equivalent()
     ensures { NormalTextsAreEquivalent }
 {}
 
+/// The texts of the bounds of what a reader reads are read back as versions: of the range of each piece, and of each range that it
+/// answers. So what [`VersionRange::min_version`](semver_base::range::VersionRange::min_version) answers of them is read back too.
+pub fn read_ranges_are_writable()
+    ensures { ReadRangesAreWritable }
+{}
+
 /// The normal text of each range that some reader answered is one piece without `||`, in npm's grammar and in the normalized one
-/// of the same one or two comparators, whose numbers and bounds fit.
+/// of the same one or two comparators, whose numbers and bounds fit; so is that of the empty set, `<0.0.0`.
 pub fn ranges_are_written_as_pieces()
     ensures { RangesAreWrittenAsPieces }
 {}

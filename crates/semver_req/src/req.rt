@@ -11,7 +11,7 @@ ghost use Rattle.semver_req.specs.Rereading.{IsReadAsForms, IsSettledSet, KeepsE
 ghost use Rattle.semver_req.specs.Requirement.{MatchNoVersion, OverlapAsTags, PinsTo, Requirement, inner_means, inner_means_with, inner_overlap, inner_text, pinned, ranges_of, set_of, tag_of, wildcard};
 ghost use Rattle.semver_req.specs.declared.common.values.Flavour.TheVariants.{Normal};
 
-mod least;
+mod lowest;
 
 use crate::range_set_or_tag::RangeSetOrTag;
 use semver_base::failure::ParseFailure;

@@ -1,0 +1,7 @@
+use Rattle.std.proofs.Common.{◌≡◌, take}
+use Rattle.semver_base.specs.Candidates.{from_sets, passes}
+use Rattle.semver_base.proofs.range.lowest.Question.lowest.Given as goal
+
+-- what was found from the sets so far
+abbrev pub invariant-loop-set : goal.invariant-loop-set
+invariant-loop-set l = l.lowest ≡ from_sets l.self.pre_release (passes l.self.pre_release l.self.own.now l.self.others.now l.self.without.now) l.initial.lowest (take l.set-index l.self.others.now)

@@ -1,0 +1,511 @@
+//! The lowest version that ranges match: those of one set, of several sets together, or of one set where another doesn't match;
+//! and whether one set matches no more than another does, or the same.
+//!
+//! Each of these asks for the lowest version that all sets match and some other ranges don't. Such versions begin at few places: at
+//! the start of a range, or where the end of one of the other ranges is passed. So the lowest version from each of these places
+//! on, the lowest of each kind, is a candidate, and the answer is the lowest candidate that passes. Each candidate is compared
+//! with all ranges at most: the time grows with the square of their number.
+
+ghost use Rattle.std.specs.Prelude.{◌≡◌, ◌∷◌, ◌++◌, ◌&&◌, ◌↔◌, [], IfOk, IfSome, IsTrue, is_some};
+ghost use Rattle.std.specs.List.{list_all, list_any, AllByRecursion};
+ghost use Rattle.semver_base.specs.Candidates.{after, from_ends, from_range, from_set, from_sets, from_start, kept_if, least_free, least_release, least_version, lower_passing, lowest_of, next_release, own_pre, passes, pre_from, with_pre, zero_identifier, zero_of, zero_pre};
+ghost use Rattle.semver_base.specs.Containment.{AreEquivalent, IsWithin, TellsEquivalent, TellsWithin};
+ghost use Rattle.semver_base.specs.LeastVersion.{HasNoBuild, IsLeast, TellsSome, all_mean_with, set_means_alone_with, sets_mean_with};
+ghost use Rattle.semver_base.specs.Meaning.{is_pre_match, range_means_with, release, set_means_with};
+ghost use Rattle.semver_base.specs.NormalText.{AreWritableRanges, IsWritableRange};
+ghost use Rattle.semver_base.specs.VersionText.{ReadsBack};
+
+use crate::range::{
+    PreRelease, RangeBound, VersionBound, VersionBoundKind, VersionRange, VersionRangeSet,
+};
+use crate::string::CowVec;
+use crate::version::{Version, VersionPreOrBuild, release};
+use std::alloc::{AllocError, Global};
+use std::cmp::Ordering;
+use std::slice;
+
+// The version of the same numbers with this pre-release, without a build.
+fn with_pre(alloc: Global, version: &Version, pre: CowVec<VersionPreOrBuild>) -> Version
+    ensures { result ≡ with_pre version.now pre }
+{
+    Version {
+        major: version.major,
+        minor: version.minor,
+        patch: version.patch,
+        pre,
+        build: CowVec::new(alloc),
+    }
+}
+
+// The next release after that of these numbers, if there is one.
+fn next_release(alloc: Global, version: &Version) -> Option<Version>
+    ensures { result ≡ next_release version.now }
+{
+    if let Some(patch) = version.patch.checked_add(1) {
+        return Some(release(alloc, version.major, version.minor, patch));
+    }
+    if let Some(minor) = version.minor.checked_add(1) {
+        return Some(release(alloc, version.major, minor, 0));
+    }
+    let major = version.major.checked_add(1)?;
+    Some(release(alloc, major, 0, 0))
+}
+
+// The lowest pre-release of the version's numbers.
+fn zero_version(alloc: Global, version: &Version) -> Result<Version, AllocError>
+    ensures { IfOk result (λ v. v ≡ with_pre version.now (zero_identifier ∷ [])) }
+{
+    let mut pre = CowVec::new(alloc);
+    pre.push(VersionPreOrBuild::from_static(alloc, "0")?)?;
+    Ok(with_pre(alloc, version, pre))
+}
+
+// The same, where there is a version.
+fn zero_of(alloc: Global, version: Option<Version>) -> Result<Option<Version>, AllocError>
+    ensures { IfOk result (λ least. least ≡ zero_of version) }
+{
+    match version {
+        Some(version) => Ok(Some(zero_version(alloc, &version)?)),
+        None => Ok(None),
+    }
+}
+
+// The lowest pre-release of the same numbers from a start on that is a pre-release: itself, or the one with `0` appended.
+fn pre_from(alloc: Global, start: &VersionBound) -> Result<Version, AllocError>
+    ensures { IfOk result (λ v. v ≡ pre_from start.now.kind start.now.version) }
+{
+    let mut pre = start.version.pre.copy()?;
+    if start.kind == VersionBoundKind::Exclusive {
+        pre.push(VersionPreOrBuild::from_static(alloc, "0")?)?;
+    }
+    Ok(with_pre(alloc, &start.version, pre))
+}
+
+impl RangeBound {
+    // The lowest release from this start on, if there is one.
+    fn least_release(&self, alloc: Global) -> Option<Version>
+        ensures { result ≡ least_release self.now }
+    {
+        let RangeBound::Version(bound) = self else {
+            return Some(release(alloc, 0, 0, 0));
+        };
+        let version = &bound.version;
+        if bound.kind == VersionBoundKind::Exclusive && version.pre.is_empty() {
+            return next_release(alloc, version);
+        }
+        Some(release(alloc, version.major, version.minor, version.patch))
+    }
+
+    // The lowest version from this start on, be it a release or not, if there is one.
+    fn least_version(&self, alloc: Global) -> Result<Option<Version>, AllocError>
+        ensures { IfOk result (λ least. least ≡ least_version self.now) }
+    {
+        let RangeBound::Version(bound) = self else {
+            return Ok(Some(zero_version(alloc, &release(alloc, 0, 0, 0))?));
+        };
+        let is_past = bound.kind == VersionBoundKind::Exclusive;
+        if is_past && bound.version.pre.is_empty() {
+            return zero_of(alloc, next_release(alloc, &bound.version));
+        }
+        Ok(Some(pre_from(alloc, bound)?))
+    }
+
+    // The lowest version from this start on that no bound has to admit, if there is one.
+    fn least_free(
+        &self,
+        alloc: Global,
+        pre_release: PreRelease,
+    ) -> Result<Option<Version>, AllocError>
+        ensures { IfOk result (λ least. least ≡ least_free pre_release self.now) }
+    {
+        match pre_release {
+            PreRelease::Restricted => Ok(self.least_release(alloc)),
+            PreRelease::Admitted => self.least_version(alloc),
+        }
+    }
+
+    // The lowest pre-release of this start's numbers from it on, where it is a pre-release.
+    fn own_pre(&self, alloc: Global) -> Result<Option<Version>, AllocError>
+        ensures { IfOk result (λ least. least ≡ own_pre self.now) }
+    {
+        match self {
+            RangeBound::Version(bound) if !bound.version.pre.is_empty() => {
+                Ok(Some(pre_from(alloc, bound)?))
+            }
+            _ => Ok(None),
+        }
+    }
+
+    // The lowest pre-release of this bound's numbers, where it is a pre-release.
+    fn zero_pre(&self, alloc: Global) -> Result<Option<Version>, AllocError>
+        ensures { IfOk result (λ least. least ≡ zero_pre self.now) }
+    {
+        match self {
+            RangeBound::Version(bound) if !bound.version.pre.is_empty() => {
+                Ok(Some(zero_version(alloc, &bound.version)?))
+            }
+            _ => Ok(None),
+        }
+    }
+
+    // The start of what this end doesn't hold. An absent end holds everything, and is left as it is.
+    fn after(&self) -> Result<RangeBound, AllocError>
+        ensures { IfOk result (λ start. start ≡ after self.now) }
+    {
+        let RangeBound::Version(end) = self else {
+            return Ok(RangeBound::Unbounded);
+        };
+        let kind = match end.kind {
+            VersionBoundKind::Inclusive => VersionBoundKind::Exclusive,
+            VersionBoundKind::Exclusive => VersionBoundKind::Inclusive,
+        };
+        Ok(RangeBound::version(kind, end.version.copy()?))
+    }
+}
+
+// Whether some range matches the version.
+fn some_match(ranges: &[VersionRange], version: &Version, pre_release: PreRelease) -> bool
+    ensures { result ≡ list_any (λ range. range_means_with pre_release range version.now) ranges.now }
+{
+    ranges
+        .iter()
+        .any(|range| range.satisfies_with(version, pre_release))
+}
+
+// Whether all sets match the version.
+fn all_match(sets: &[VersionRangeSet], version: &Version, pre_release: PreRelease) -> bool
+    ensures { result ≡ list_all
+        (λ (set : VersionRangeSet). set_means_with pre_release set.0 version.now) sets.now }
+{
+    sets.iter()
+        .all(|set| set.satisfies_with(version, pre_release))
+}
+
+// What has to match, and what must not.
+#[derive(Clone, Copy)]
+struct Question<'a> {
+    own: &'a [VersionRange],
+    others: &'a [VersionRangeSet],
+    without: &'a [VersionRange],
+    pre_release: PreRelease,
+}
+
+impl Question<'_> {
+    // Whether the ranges of its own and all other sets match the version, and no range of those that must not.
+    fn passes(&self, version: &Version) -> bool
+        ensures { result ≡ passes self.now.pre_release self.now.own.now self.now.others.now
+            self.now.without.now version.now }
+    {
+        some_match(self.own, version, self.pre_release)
+            && all_match(self.others, version, self.pre_release)
+            && !some_match(self.without, version, self.pre_release)
+    }
+
+    // The lower of what was found and the candidate, where that passes.
+    fn lower_passing(&self, found: Option<Version>, candidate: Option<Version>) -> Option<Version>
+        ensures { result ≡ lower_passing (passes self.now.pre_release self.now.own.now
+            self.now.others.now self.now.without.now) found candidate }
+    {
+        match (found, candidate) {
+            (found, None) => found,
+            (None, Some(candidate)) => {
+                if self.passes(&candidate) {
+                    return Some(candidate);
+                }
+                None
+            }
+            (Some(found), Some(candidate)) => match found.cmp_precedence(&candidate) {
+                Ordering::Less => Some(found),
+                Ordering::Equal => Some(found),
+                Ordering::Greater => {
+                    if self.passes(&candidate) {
+                        return Some(candidate);
+                    }
+                    Some(found)
+                }
+            },
+        }
+    }
+}
+
+impl Question<'_> {
+    // The lowest that passes of what was found and of the candidates of this start.
+    fn from_start(
+        &self,
+        alloc: Global,
+        found: Option<Version>,
+        start: &RangeBound,
+    ) -> Result<Option<Version>, AllocError>
+        ensures { IfOk result (λ lowest. lowest ≡ from_start self.now.pre_release
+            (passes self.now.pre_release self.now.own.now self.now.others.now self.now.without.now)
+            found start.now) }
+    {
+        let found = self.lower_passing(found, start.least_free(alloc, self.pre_release)?);
+        let found = self.lower_passing(found, start.own_pre(alloc)?);
+        Ok(self.lower_passing(found, start.zero_pre(alloc)?))
+    }
+
+    // Also of the candidates of these ranges.
+    fn from_set(
+        &self,
+        alloc: Global,
+        found: Option<Version>,
+        ranges: &[VersionRange],
+    ) -> Result<Option<Version>, AllocError>
+        ensures { IfOk result (λ lowest. lowest ≡ from_set self.now.pre_release
+            (passes self.now.pre_release self.now.own.now self.now.others.now self.now.without.now)
+            found ranges.now) }
+    {
+        let mut lowest = found;
+        for range in ranges {
+            lowest = self.from_start(alloc, lowest, &range.start)?;
+            lowest = self.lower_passing(lowest, range.end.zero_pre(alloc)?);
+        }
+        Ok(lowest)
+    }
+
+    // Also of the candidates of where the ranges that must not match end.
+    fn from_ends(
+        &self,
+        alloc: Global,
+        found: Option<Version>,
+    ) -> Result<Option<Version>, AllocError>
+        ensures { IfOk result (λ lowest. lowest ≡ from_ends self.now.pre_release
+            (passes self.now.pre_release self.now.own.now self.now.others.now self.now.without.now)
+            found self.now.without.now) }
+    {
+        let mut lowest = found;
+        for range in self.without {
+            lowest = self.from_start(alloc, lowest, &range.end.after()?)?;
+        }
+        Ok(lowest)
+    }
+
+    // The lowest version that passes.
+    fn lowest(&self, alloc: Global) -> Result<Option<Version>, AllocError>
+        ensures { IfOk result (λ lowest. lowest ≡ lowest_of self.now.pre_release
+            self.now.own.now self.now.others.now self.now.without.now) }
+    {
+        let mut lowest = self.from_set(alloc, None, self.own)?;
+        for set in self.others {
+            lowest = self.from_set(alloc, lowest, set.0.as_slice())?;
+        }
+        self.from_ends(alloc, lowest)
+    }
+}
+
+impl VersionRange {
+    /// The lowest version that the range matches, with pre-releases restricted or admitted throughout, or none where it
+    /// matches none.
+    ///
+    /// No version that a text stands for is lower by precedence and matches. It has no build, and its text is read back where
+    /// those of the bounds are. It is an error only where no memory is left.
+    pub fn min_version(
+        &self,
+        alloc: Global,
+        pre_release: PreRelease,
+    ) -> Result<Option<Version>, AllocError>
+        ensures least { IfOk result (IsLeast (range_means_with pre_release self.now)) }
+        ensures no_build { IfOk result (λ least. IfSome least HasNoBuild) }
+        ensures reads_back { IfOk result
+            (λ least. IsWritableRange self.now → IfSome least ReadsBack) }
+    {
+        let question = Question {
+            own: slice::from_ref(self),
+            others: &[],
+            without: &[],
+            pre_release,
+        };
+        question.lowest(alloc)
+    }
+}
+
+impl VersionRange {
+    // Whether the candidate is a pre-release of the bound's numbers that matches by npm's rule.
+    fn is_pre_match(&self, bound: &RangeBound, candidate: Option<Version>) -> bool
+        ensures { result ≡ is_some (kept_if (is_pre_match self.now bound.now) candidate) }
+    {
+        match candidate {
+            Some(version) => {
+                !version.pre.is_empty()
+                    && bound.has_pre_with_exact_major_minor_patch(&version)
+                    && self.satisfies_with(&version, PreRelease::Restricted)
+            }
+            None => false,
+        }
+    }
+
+    /// Whether some pre-release of the bound's three numbers matches, by npm's rule about pre-releases. Of `>=1.2.0 <2.0.0-0` no
+    /// pre-release of the end's numbers does, since none is below `2.0.0-0`.
+    ///
+    /// Yes says that some version is such a one, and no that none is that a text stands for. It is an error only where no memory
+    /// is left.
+    pub fn matches_pre_of(&self, alloc: Global, bound: &RangeBound) -> Result<bool, AllocError>
+        ensures { IfOk result (TellsSome (is_pre_match self.now bound.now)) }
+    {
+        let lowest = self.is_pre_match(bound, bound.zero_pre(alloc)?);
+        let own = self.is_pre_match(bound, self.start.own_pre(alloc)?);
+        Ok(lowest || own)
+    }
+}
+
+impl VersionRangeSet {
+    /// The lowest version that some range matches, with pre-releases restricted or admitted throughout, or none where none
+    /// matches any (node-semver's `minVersion`).
+    ///
+    /// No version that a text stands for is lower by precedence and matches. It has no build, and its text is read back where
+    /// those of the bounds are. It is an error only where no memory is left.
+    pub fn min_version(
+        &self,
+        alloc: Global,
+        pre_release: PreRelease,
+    ) -> Result<Option<Version>, AllocError>
+        ensures least { IfOk result (IsLeast (set_means_with pre_release self.now.0)) }
+        ensures no_build { IfOk result (λ least. IfSome least HasNoBuild) }
+        ensures reads_back { IfOk result
+            (λ least. AreWritableRanges self.now.0 → IfSome least ReadsBack) }
+    {
+        let question = Question {
+            own: self.0.as_slice(),
+            others: &[],
+            without: &[],
+            pre_release,
+        };
+        question.lowest(alloc)
+    }
+
+    /// The lowest version that both sets match, with pre-releases restricted or admitted throughout, or none where no version
+    /// matches both.
+    ///
+    /// The answer matches both sets, and no version that a text stands for is lower by precedence and does too; where
+    /// there is none, no version that a text stands for matches both. So `>1.0.0` and `<1.0.1` have none by npm's rule, and
+    /// `1.0.1-0` with pre-releases admitted. It has no build, and its text is read back where those of the bounds are.
+    ///
+    /// It is an error only where no memory is left.
+    pub fn common_version(
+        &self,
+        alloc: Global,
+        other: &VersionRangeSet,
+        pre_release: PreRelease,
+    ) -> Result<Option<Version>, AllocError>
+        ensures least { IfOk result (IsLeast (sets_mean_with pre_release self.now.0 other.now.0)) }
+        ensures no_build { IfOk result (λ least. IfSome least HasNoBuild) }
+        ensures reads_back { IfOk result
+            (λ least. AreWritableRanges self.now.0 → AreWritableRanges other.now.0
+            → IfSome least ReadsBack) }
+    {
+        let question = Question {
+            own: self.0.as_slice(),
+            others: slice::from_ref(other),
+            without: &[],
+            pre_release,
+        };
+        question.lowest(alloc)
+    }
+
+    /// The lowest version that this set and all others match, with pre-releases restricted or admitted throughout, or none
+    /// where no version matches all.
+    ///
+    /// The answer matches all, and no version that a text stands for is lower by precedence and does too; where there is
+    /// none, no version that a text stands for matches all. It has no build, and its text is read back where those of the
+    /// bounds are.
+    ///
+    /// It is an error only where no memory is left.
+    pub fn common_version_of_all(
+        &self,
+        alloc: Global,
+        others: &[VersionRangeSet],
+        pre_release: PreRelease,
+    ) -> Result<Option<Version>, AllocError>
+        ensures least { IfOk result (IsLeast (all_mean_with pre_release self.now.0 others.now)) }
+        ensures no_build { IfOk result (λ least. IfSome least HasNoBuild) }
+        ensures reads_back { IfOk result (λ least. AreWritableRanges self.now.0
+            → AllByRecursion (λ (set : VersionRangeSet). AreWritableRanges set.0) others.now → IfSome least ReadsBack) }
+    {
+        let question = Question {
+            own: self.0.as_slice(),
+            others,
+            without: &[],
+            pre_release,
+        };
+        question.lowest(alloc)
+    }
+
+    /// The lowest version that this set matches and the other doesn't, with pre-releases restricted or admitted throughout, or
+    /// none where the other matches each version that this one matches.
+    ///
+    /// No version that a text stands for is lower by precedence and is matched so; where there is none, the other set
+    /// matches each version that a text stands for and this one matches. It has no build, and its text is read back where
+    /// those of the bounds are.
+    ///
+    /// It is an error only where no memory is left.
+    pub fn version_outside(
+        &self,
+        alloc: Global,
+        other: &VersionRangeSet,
+        pre_release: PreRelease,
+    ) -> Result<Option<Version>, AllocError>
+        ensures least { IfOk result
+            (IsLeast (set_means_alone_with pre_release self.now.0 other.now.0)) }
+        ensures no_build { IfOk result (λ least. IfSome least HasNoBuild) }
+        ensures reads_back { IfOk result
+            (λ least. AreWritableRanges self.now.0 → AreWritableRanges other.now.0
+            → IfSome least ReadsBack) }
+    {
+        let question = Question {
+            own: self.0.as_slice(),
+            others: &[],
+            without: other.0.as_slice(),
+            pre_release,
+        };
+        question.lowest(alloc)
+    }
+
+    /// Whether the other set matches each version that this one matches, with pre-releases restricted or admitted throughout
+    /// (node-semver's `subset`, here exactly by what the ranges match, pre-releases included).
+    ///
+    /// Yes says so of each version that a text stands for. No says that some version matches this set alone; where the texts
+    /// of the bounds are read back, it is one that a text stands for, so that the answer is exact. The lowest such one is
+    /// what [`VersionRangeSet::version_outside`] answers.
+    ///
+    /// It is an error only where no memory is left.
+    pub fn is_subset(
+        &self,
+        alloc: Global,
+        other: &VersionRangeSet,
+        pre_release: PreRelease,
+    ) -> Result<bool, AllocError>
+        ensures value { let means = set_means_with pre_release in IfOk result
+            (TellsWithin (means self.now.0) (means other.now.0)) }
+        ensures exact { let means = set_means_with pre_release in IfOk result
+            (λ told. AreWritableRanges self.now.0 → AreWritableRanges other.now.0
+            → (IsTrue told ↔ IsWithin (means self.now.0) (means other.now.0))) }
+    {
+        let outside = self.version_outside(alloc, other, pre_release)?;
+        Ok(outside.is_none())
+    }
+
+    /// Whether both sets match the same versions, with pre-releases restricted or admitted throughout.
+    ///
+    /// Yes says so of each version that a text stands for, and no that some version matches one of them alone; where the
+    /// texts of the bounds are read back, the answer is exact. It is what [`VersionRangeSet::is_subset`] says both ways.
+    ///
+    /// It is an error only where no memory is left.
+    pub fn is_equivalent(
+        &self,
+        alloc: Global,
+        other: &VersionRangeSet,
+        pre_release: PreRelease,
+    ) -> Result<bool, AllocError>
+        ensures value { let means = set_means_with pre_release in IfOk result
+            (TellsEquivalent (means self.now.0) (means other.now.0)) }
+        ensures exact { let means = set_means_with pre_release in IfOk result
+            (λ told. AreWritableRanges self.now.0 → AreWritableRanges other.now.0
+            → (IsTrue told ↔ AreEquivalent (means self.now.0) (means other.now.0))) }
+    {
+        if !self.is_subset(alloc, other, pre_release)? {
+            return Ok(false);
+        }
+        other.is_subset(alloc, self, pre_release)
+    }
+}
