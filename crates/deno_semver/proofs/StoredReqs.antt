@@ -11,7 +11,6 @@ use Rattle.semver_base.specs.Comparators.{Comparator}
 use Rattle.semver_base.specs.Meaning.{everything}
 use Rattle.semver_base.specs.NormalText.{set_text}
 use Rattle.semver_base.specs.Shortest.{shortest_tree}
-use Rattle.semver_base.specs.declared.range.PreRelease.TheVariants.{Restricted}
 use Rattle.semver_base.specs.declared.range.VersionRange.{VersionRange}
 use Rattle.semver_req.specs.KeptSet.{IsReadSet, kept}
 use Rattle.semver_req.specs.Outcome.{IsOutcome, Outcome, Ranges, Refused, Tag}
@@ -135,7 +134,7 @@ module _ (rereads : NormalTextsKeepTheirMeaning) (settles : OneRereadingSettles)
   kept_again (inner.RangeSet set) h =
       let r = rereads set.0 h in
       let tree = (r.forms Normal normal).0 in
-      record { means = λ k v. r.kept_means k Normal normal (shortest_tree set.0) tree Restricted v; equal = λ o k. r.equal o k Normal normal (shortest_tree set.0) tree }
+      record { means = λ k. r.kept_means k Normal normal (shortest_tree set.0) tree; equal = λ o k. r.equal o k Normal normal (shortest_tree set.0) tree }
   kept_again (inner.Tag t) h = refl
 
   -- what is read again is read again as it is

@@ -22,17 +22,16 @@ text_cmp = slice_cmp nat_cmp
 
 -- ---- bounds
 
--- an inclusive one first
+-- an exclusive one first
 abbrev pub kind_place : VersionBoundKind → ℕ
-kind_place kind.Inclusive = 0
-kind_place kind.Exclusive = 1
+kind_place kind.Exclusive = 0
+kind_place kind.Inclusive = 1
 
 abbrev pub bound_versions_cmp : VersionBound → VersionBound → Ordering
 bound_versions_cmp = on (λ (b : VersionBound). b.version) precedence_cmp
 
--- by precedence, and then an inclusive one first
-abbrev pub bound_cmp : VersionBound → VersionBound → Ordering
-bound_cmp = then_cmp bound_versions_cmp (on (λ (b : VersionBound). kind_place b.kind) nat_cmp)
+abbrev pub bound_kinds_cmp : VersionBound → VersionBound → Ordering
+bound_kinds_cmp = on (λ (b : VersionBound). kind_place b.kind) nat_cmp
 
 -- an absent one last
 abbrev pub bound_place : RangeBound → ℕ
@@ -43,15 +42,17 @@ abbrev pub version_bound_of : RangeBound → Option VersionBound
 version_bound_of (bound.Version b) = Some b
 version_bound_of bound.Unbounded = None
 
--- starts: an absent one last, the higher version first, and then an exclusive one
+-- starts: an absent one last, the higher version first, and then by kind
 abbrev pub start_cmp : RangeBound → RangeBound → Ordering
-start_cmp = then_cmp (on bound_place nat_cmp) (on version_bound_of (flip_args (option_cmp bound_cmp)))
+start_cmp =
+    then_cmp (on bound_place nat_cmp)
+    (on version_bound_of (option_cmp (then_cmp (flip_args bound_versions_cmp) bound_kinds_cmp)))
 
--- ends: an absent one last, the lower version first, and then an exclusive one
+-- ends: an absent one last, the lower version first, and then by kind
 abbrev pub end_cmp : RangeBound → RangeBound → Ordering
 end_cmp =
     then_cmp (on bound_place nat_cmp)
-    (on version_bound_of (option_cmp (then_cmp bound_versions_cmp (flip_args bound_cmp))))
+    (on version_bound_of (option_cmp (then_cmp bound_versions_cmp bound_kinds_cmp)))
 
 -- the starts, and then the ends
 abbrev pub range_cmp : VersionRange → VersionRange → Ordering

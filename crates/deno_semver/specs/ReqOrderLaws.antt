@@ -21,7 +21,7 @@ use Rattle.semver_req.specs.declared.range_set_or_tag.RangeSetOrTag.{RangeSetOrT
 use Rattle.semver_req.specs.declared.range_set_or_tag.RangeSetOrTag.TheVariants as inner
 use Rattle.semver_req.proofs.Equality.{inner_eq, inner_told}
 use Rattle.deno_semver.specs.Equal.{AreEqualReqs}
-use Rattle.deno_semver.specs.ReqOrder.{bound_cmp, bound_place, bound_versions_cmp, build_of, builds_cmp, end_cmp, inner_cmp, kind_place, range_cmp, ranges_of, req_cmp, start_cmp, text_cmp, version_bound_of}
+use Rattle.deno_semver.specs.ReqOrder.{bound_kinds_cmp, bound_place, bound_versions_cmp, build_of, builds_cmp, end_cmp, inner_cmp, kind_place, range_cmp, ranges_of, req_cmp, start_cmp, text_cmp, version_bound_of}
 use Rattle.deno_semver.specs.Ties.{then_ties}
 use Rattle.deno_semver.specs.declared.package.values.PackageReq.{PackageReq}
 
@@ -30,17 +30,18 @@ use Rattle.deno_semver.specs.declared.package.values.PackageReq.{PackageReq}
 bound_versions_total : IsTotalOrder bound_versions_cmp
 bound_versions_total = on_total (λ (b : VersionBound). b.version) precedence_total
 
-bound_total : IsTotalOrder bound_cmp
-bound_total = then_total bound_versions_total (on_total (λ (b : VersionBound). kind_place b.kind) nat_cmp_total)
+bound_kinds_total : IsTotalOrder bound_kinds_cmp
+bound_kinds_total = on_total (λ (b : VersionBound). kind_place b.kind) nat_cmp_total
 
 start_total : IsTotalOrder start_cmp
 start_total =
-    then_total (on_total bound_place nat_cmp_total) (on_total version_bound_of (back_total (options_total bound_total)))
+    then_total (on_total bound_place nat_cmp_total)
+    (on_total version_bound_of (options_total (then_total (back_total bound_versions_total) bound_kinds_total)))
 
 end_total : IsTotalOrder end_cmp
 end_total =
     then_total (on_total bound_place nat_cmp_total)
-    (on_total version_bound_of (options_total (then_total bound_versions_total (back_total bound_total))))
+    (on_total version_bound_of (options_total (then_total bound_versions_total bound_kinds_total)))
 
 range_total : IsTotalOrder range_cmp
 range_total =
@@ -92,26 +93,29 @@ version_same x y h b =
 abbrev bound_of : VersionBoundKind → Version → VersionBound
 bound_of k v = record { kind = k; version = v }
 
-bound_same : (x y : VersionBound) → bound_cmp x y ≡ Equal → x.version.build ≡ y.version.build → x ≡ y
-bound_same x y e b =
-    let k = kind_same x.kind y.kind (then_second _ _ e) in
-    let v = version_same x.version y.version (precedence-anti x.version y.version (then_first _ _ e)) b in
-    let same : bound_of x.kind x.version ≡ bound_of y.kind y.version = rw (k, v) refl in
-    same
+bound_same : (x y : VersionBound) → SamePrecedence x.version y.version → x.kind ≡ y.kind
+    → x.version.build ≡ y.version.build → x ≡ y
+bound_same x y same k b =
+    let v = version_same x.version y.version same b in
+    let is : bound_of x.kind x.version ≡ bound_of y.kind y.version = rw (k, v) refl in
+    is
 
 builds_same : (xs ys : List (List ℕ)) → slice_cmp text_cmp xs ys ≡ Equal → xs ≡ ys
 builds_same xs ys e = slice_cmp-IsAntisymmetric (slice_cmp-IsAntisymmetric nat_cmp-IsAntisymmetric) xs ys e
 
 start_same : (a b : RangeBound) → start_cmp a b ≡ Equal → build_of a ≡ build_of b → a ≡ b
 start_same (bound.Version x) (bound.Version y) e b =
-    ap (λ (v : VersionBound). bound.Version v) (sym (bound_same y x e (sym b)))
+    let same = precedence-anti y.version x.version (then_first _ _ e) in
+    let kinds = kind_same x.kind y.kind (then_second _ _ e) in
+    ap (λ (v : VersionBound). bound.Version v) (sym (bound_same y x same (sym kinds) (sym b)))
 start_same (bound.Version x) bound.Unbounded e b = cc e
 start_same bound.Unbounded (bound.Version y) e b = cc e
 start_same bound.Unbounded bound.Unbounded e b = refl
 
 end_same : (a b : RangeBound) → end_cmp a b ≡ Equal → build_of a ≡ build_of b → a ≡ b
 end_same (bound.Version x) (bound.Version y) e b =
-    ap (λ (v : VersionBound). bound.Version v) (sym (bound_same y x (then_second _ _ e) (sym b)))
+    let same = precedence-anti x.version y.version (then_first _ _ e) in
+    ap (λ (v : VersionBound). bound.Version v) (bound_same x y same (kind_same x.kind y.kind (then_second _ _ e)) b)
 end_same (bound.Version x) bound.Unbounded e b = cc e
 end_same bound.Unbounded (bound.Version y) e b = cc e
 end_same bound.Unbounded bound.Unbounded e b = refl

@@ -3,7 +3,8 @@
 use Rattle.std.specs.Prelude.{◌≡◌, ℕ, List, true, Ok, IsUtf8}
 use Rattle.std.specs.List.{list_all}
 use Rattle.serde_json.specs.Data.{Data, string}
-use Rattle.semver_base.specs.Meaning.{alternatives, tree_means}
+use Rattle.semver_base.specs.Meaning.{alternatives, tree_means_with}
+use Rattle.semver_base.specs.declared.range.PreRelease.{PreRelease}
 use Rattle.semver_base.specs.declared.range.VersionRange.{VersionRange}
 use Rattle.semver_base.specs.declared.version.Version.{Version}
 use Rattle.semver_req.specs.Rereading.{is_orderly, keeps_meaning}
@@ -20,9 +21,9 @@ use Rattle.deno_semver.specs.declared.package.values.PackageReq.{PackageReq}
 
 -- ranges that are read in place of these
 pub record AreReadFor (ranges again : List VersionRange) : Type 0 where
-  -- they match the same versions where each of these keeps its meaning
-  pub means : list_all keeps_meaning ranges ≡ true → (v : Version)
-      → tree_means (alternatives again) v ≡ tree_means (alternatives ranges) v
+  -- they match the same versions where each of these keeps its meaning, with npm's rule about pre-releases and without
+  pub means : list_all keeps_meaning ranges ≡ true → (flag : PreRelease) (v : Version)
+      → tree_means_with flag (alternatives again) v ≡ tree_means_with flag (alternatives ranges) v
   -- they are the same where each of these is orderly too
   pub equal : list_all is_orderly ranges ≡ true → list_all keeps_meaning ranges ≡ true → again ≡ ranges
 

@@ -12,6 +12,7 @@ pub mod package;
 pub mod resolve;
 
 pub use semver_base::failure::{ParseFailure, Refusal};
+pub use semver_base::npm::NpmVersionParseError;
 pub use semver_base::partial::{Partial, XRange};
 pub use semver_base::range::{
     PreRelease, RangeBound, VersionBound, VersionBoundKind, VersionRange, VersionRangeSet,

@@ -3,7 +3,7 @@
 ghost use Rattle.std.specs.Prelude.{◌≡◌, refl};
 ghost use Rattle.std.specs.Cmp.Lexicographic.{slice_cmp};
 ghost use Rattle.std.specs.Ordering.{as_partial_cmp};
-ghost use Rattle.deno_semver.specs.ReqOrder.{bound_cmp, bound_versions_cmp, build_of, builds_cmp, end_cmp, inner_cmp, kind_place, range_cmp, req_cmp, start_cmp, text_cmp};
+ghost use Rattle.deno_semver.specs.ReqOrder.{bound_kinds_cmp, bound_versions_cmp, build_of, builds_cmp, end_cmp, inner_cmp, kind_place, range_cmp, req_cmp, start_cmp, text_cmp};
 ghost use Rattle.deno_semver.specs.ReqOrderLaws.{req_po, req_ties, req_total};
 
 use super::values::PackageReq;
@@ -12,13 +12,13 @@ use semver_base::version::VersionPreOrBuild;
 use semver_req::range_set_or_tag::RangeSetOrTag;
 use std::cmp::Ordering;
 
-// The place of a kind: an inclusive one first.
+// The place of a kind: an exclusive one first.
 fn kind_place(kind: VersionBoundKind) -> u8
     ensures { result ≡ kind_place kind }
 {
     match kind {
-        VersionBoundKind::Inclusive => 0,
-        VersionBoundKind::Exclusive => 1,
+        VersionBoundKind::Exclusive => 0,
+        VersionBoundKind::Inclusive => 1,
     }
 }
 
@@ -28,10 +28,10 @@ fn cmp_version(a: &VersionBound, b: &VersionBound) -> Ordering
     a.version.cmp_precedence(&b.version)
 }
 
-fn cmp_bound(a: &VersionBound, b: &VersionBound) -> Ordering
-    ensures { result ≡ bound_cmp a.now b.now }
+fn cmp_kind(a: &VersionBound, b: &VersionBound) -> Ordering
+    ensures { result ≡ bound_kinds_cmp a.now b.now }
 {
-    cmp_version(a, b).then(kind_place(a.kind).cmp(&kind_place(b.kind)))
+    kind_place(a.kind).cmp(&kind_place(b.kind))
 }
 
 // The higher version first, then an exclusive bound, and no start last.
@@ -42,7 +42,7 @@ fn cmp_starts(a: &RangeBound, b: &RangeBound) -> Ordering
         (RangeBound::Unbounded, RangeBound::Unbounded) => Ordering::Equal,
         (RangeBound::Unbounded, RangeBound::Version(_)) => Ordering::Greater,
         (RangeBound::Version(_), RangeBound::Unbounded) => Ordering::Less,
-        (RangeBound::Version(a), RangeBound::Version(b)) => cmp_bound(b, a),
+        (RangeBound::Version(a), RangeBound::Version(b)) => cmp_version(b, a).then(cmp_kind(a, b)),
     }
 }
 
@@ -54,7 +54,7 @@ fn cmp_ends(a: &RangeBound, b: &RangeBound) -> Ordering
         (RangeBound::Unbounded, RangeBound::Unbounded) => Ordering::Equal,
         (RangeBound::Unbounded, RangeBound::Version(_)) => Ordering::Greater,
         (RangeBound::Version(_), RangeBound::Unbounded) => Ordering::Less,
-        (RangeBound::Version(a), RangeBound::Version(b)) => cmp_version(a, b).then(cmp_bound(b, a)),
+        (RangeBound::Version(a), RangeBound::Version(b)) => cmp_version(a, b).then(cmp_kind(a, b)),
     }
 }
 
