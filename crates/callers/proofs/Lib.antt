@@ -4,6 +4,3 @@ pub mod PackagesAllowed
 pub mod ReadAgain
 pub mod ReferencesAllowed
 pub mod TextsAllowed
-pub mod TextsAsked
-pub mod LeastTogether
-pub mod Updates

@@ -11,6 +11,7 @@ use Rattle.deno_semver.specs.StoredList.{IsSortedFrom, OneByOne}
 use Rattle.deno_semver.specs.declared.json.error.JsonError.{JsonError}
 use Rattle.deno_semver.specs.declared.json.error.JsonError.TheVariants as error
 use Rattle.deno_semver.specs.declared.package.values.PackageReq.{PackageReq}
+use Rattle.semver_base.specs.declared.range.PreRelease.TheVariants.{Restricted}
 use Rattle.semver_base.specs.declared.version.Version.{Version}
 use Rattle.semver_req.specs.declared.range_set_or_tag.RangeSetOrTag.{RangeSetOrTag}
 use Rattle.semver_req.specs.declared.range_set_or_tag.RangeSetOrTag.TheVariants as inner
@@ -32,7 +33,7 @@ exit_locks Says (Err f) e is m = is ∙ m
 
 -- what is read for a requirement that keeps its meaning allows the same versions
 pub allowed_as_kept : (stored again : RangeSetOrTag) (v : Version) → IsReadFor stored again → KeepsMeaning stored → allowance_of again v ≡ allowance_of stored v
-allowed_as_kept (inner.RangeSet set) (inner.RangeSet other) v read keeps = ap yes_or_no (read.means keeps v)
+allowed_as_kept (inner.RangeSet set) (inner.RangeSet other) v read keeps = ap yes_or_no (read.means keeps Restricted v)
 allowed_as_kept (inner.RangeSet set) (inner.Tag other) v read keeps = absurd read
 allowed_as_kept (inner.Tag tag) (inner.RangeSet other) v read keeps = absurd read
 allowed_as_kept (inner.Tag tag) (inner.Tag other) v read keeps = refl

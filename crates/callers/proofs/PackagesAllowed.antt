@@ -5,8 +5,9 @@ use Rattle.callers.specs.Allowance.{allowance_of, yes_or_no}
 use Rattle.callers.specs.Packages.{AllowsPackage}
 use Rattle.callers.specs.declared.packages.Unanswered.TheVariants as why
 use Rattle.semver_base.specs.Comparators.{Comparator}
-use Rattle.semver_base.specs.VersionGrammar.{IsVersionOutcome}
+use Rattle.semver_base.specs.VersionGrammar.{IsVersionAnswer, IsVersionOutcome, IsVersionRefusal}
 use Rattle.semver_base.specs.declared.failure.Refusal.{Refusal}
+use Rattle.semver_base.specs.declared.npm.NpmVersionParseError.{NpmVersionParseError}
 use Rattle.semver_base.specs.declared.range.PreRelease.TheVariants.{Restricted}
 use Rattle.semver_base.specs.declared.version.Version.{Version}
 use Rattle.semver_req.specs.KeptSet.{KeptSetsMeanTheirTrees, kept}
@@ -38,10 +39,19 @@ module _ (f : Flavour) (text : List ℕ) where
       answer = λ req v h k. answers (Ok req) h;
       tree = λ cut part tree v h is none t k. answers (Ok (req_of cut part tree)) (has_req cut part tree h is none t);
       refused = λ _. refl;
-      refused_only = elim refusal [
-        | inl memory ↦ inl memory
-        | inr h ↦ inr (inl (h.0, h.1))
-      ];
+      refusal = refusal;
+    }
+
+    -- it is one, and the other text is no version
+    pub version_refused : (req : PackageReq) → IsPackageOutcome f text (Ok req) → (e : NpmVersionParseError) → IsVersionRefusal (trim version) e.source
+        → ((o : Result Version Refusal) → IsVersionOutcome (trim version) o → IsVersionAnswer (λ (error : NpmVersionParseError). error.source) (trim version) o (Err e))
+        → AllowsPackage f text version (Err (why.Version e))
+    version_refused req is e refusal versions = record {
+      told = tt;
+      answer = λ _ v h k. versions (Ok v) k;
+      tree = λ cut part tree v h is_part none t k. versions (Ok v) k;
+      refused = λ _. refl;
+      refusal = (refusal, req, is);
     }
 
     -- both were read
@@ -57,7 +67,7 @@ module _ (f : Flavour) (text : List ℕ) where
         | inl bad ↦ absurd (answers (Err bad.0) bad.1)
         | inr bad ↦ absurd (no_fault bad.0 bad.1)
       ];
-      refused_only = tt;
+      refusal = tt;
     }
       where
         same : (other : PackageReq) (w : Version) → IsPackageOutcome f text (Ok other) → IsVersionOutcome (trim version) (Ok w) → allowance_of req.version_req.inner v ≡ allowance_of other.version_req.inner w

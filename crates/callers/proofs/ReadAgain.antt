@@ -1,8 +1,8 @@
 -- What is read again of a stored requirement, from the contracts of its text and of its reader.
-use Rattle.std.proofs.Common.{◌≡◌, ℕ, List, Bool, true, false, Result, Ok, Err, sym, ap, subst, ◌∙◌}
+use Rattle.std.proofs.Common.{◌≡◌, ℕ, List, Bool, true, false, None, Result, Ok, Err, sym, ap, subst, ◌∙◌}
 use Rattle.std.specs.List.{list_all}
 use Rattle.callers.specs.Allowance.{allowance_of, yes_or_no}
-use Rattle.callers.specs.Stored.{IsReadAgain, IsReread, IsTagRead, IsToldOfRanges, OfRanges, OfTag}
+use Rattle.callers.specs.Stored.{AllowsAsBefore, IsReadAgain, IsReread, IsTagRead, IsTagTold, IsToldOfRanges, OfRanges, OfTag}
 use Rattle.callers.specs.declared.requirements.Allowance.TheVariants as answer
 use Rattle.semver_base.specs.Comparators.{Comparator}
 use Rattle.semver_base.specs.Meaning.{alternatives, tree_means}
@@ -14,10 +14,11 @@ use Rattle.semver_base.specs.declared.version.Version.{Version}
 use Rattle.semver_req.specs.KeptSet.{kept}
 use Rattle.semver_req.specs.Outcome.{IsOutcome, Outcome, Ranges, Tag}
 use Rattle.semver_req.specs.Pieces.{IsCutting}
-use Rattle.semver_req.specs.Readers.{Failure, IsReadOrTag, IsReaderAnswer}
+use Rattle.semver_req.specs.Readers.{Failure, IsReadOrTag, IsReaderAnswer, StartsFit, TagReadsBack}
 use Rattle.semver_req.specs.Requirement.{Requirement, inner_text, pinned, ranges_of}
 use Rattle.semver_req.specs.Rereading.{IsReadAsForms, IsReadAsItself, IsSettledSet, IsTree, KeepsEqual, KeepsSettled, KeepsTheSame, OfReadRanges, keeps_meaning}
 use Rattle.semver_req.specs.declared.common.values.Flavour.{Flavour}
+use Rattle.semver_req.specs.declared.common.values.Flavour.TheVariants.{Normal}
 use Rattle.semver_req.specs.declared.range_set_or_tag.RangeSetOrTag.{RangeSetOrTag}
 use Rattle.semver_req.specs.declared.range_set_or_tag.RangeSetOrTag.TheVariants as inner
 
@@ -43,7 +44,7 @@ module _ {E : Type 0} (source : E → Failure) (f : Flavour) (cut : IsCutting f)
         again = kept f (shortest_tree ranges);
         is_ranges = read;
         read_set = subst IsReadOrTag read h.read_set;
-        means = λ k v. same k f cut (shortest_tree ranges) p Restricted v;
+        means = λ k flag v. same k f cut (shortest_tree ranges) p flag v;
         equal = λ o k. equal o k f cut (shortest_tree ranges) p;
         settled = settled f cut (shortest_tree ranges) p;
         stays = λ s. stays_as f ranges (shortest_tree ranges) (subst (λ t. (o : Outcome) → IsOutcome f t o → o ≡ Ranges (shortest_tree ranges)) is (forms f cut).1) (s f cut);
@@ -93,13 +94,19 @@ no_tag false e = cc e
 told_again : (ranges : List VersionRange) (read : RangeSetOrTag) (v : Version) → IsReadAgain ranges read
     → IsToldOfRanges (list_all keeps_meaning ranges) (tree_means (alternatives ranges) v) (allowance_of read v)
 told_again ranges read v h = subst (λ r. IsToldOfRanges (list_all keeps_meaning ranges) (tree_means (alternatives ranges) v) (allowance_of r v)) (sym h.is_ranges)
-    (no_tag _, λ keep. ap yes_or_no (h.means keep v))
+    (no_tag _, λ keep. ap yes_or_no (h.means keep Restricted v))
 
 -- what is told of a requirement that was read again
 pub told_of_ranges : (stored read : RangeSetOrTag) (v : Version) → OfRanges (λ ranges. IsReadAgain ranges read) stored
     → OfRanges (λ ranges. IsToldOfRanges (list_all keeps_meaning ranges) (tree_means (alternatives ranges) v) (allowance_of read v)) stored
 told_of_ranges (inner.RangeSet set) read v h = λ s. told_again set.0 read v (h s)
 told_of_ranges (inner.Tag tag) read v h = tt
+
+-- what was read of a text is read again, so a failure of that is out of memory
+pub only_memory : {E : Type 0} (source : E → Failure) (e : E) (v : Version) (f : Flavour) (text : List ℕ) (read : RangeSetOrTag) → StartsFit f text → IsReadOrTag read
+    → TagReadsBack f text read → OfRanges (AllowsAsBefore source v (Err e)) read → OfTag Normal (IsTagTold source (Err e)) read → source e ≡ None
+only_memory source e v f text (inner.RangeSet set) starts kept back ranges tag = ranges kept
+only_memory source e v f text (inner.Tag name) starts kept back ranges tag = tag (back starts)
 
 -- ---- of one version
 

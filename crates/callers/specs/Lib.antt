@@ -5,7 +5,4 @@ pub mod Lockfile
 pub mod Packages
 pub mod References
 pub mod Stored
-pub mod TextsAsked
-pub mod Together
-pub mod Update
 pub mod Versions

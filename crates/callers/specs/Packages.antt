@@ -3,12 +3,12 @@ use Rattle.std.specs.Prelude.{◌≡◌, ◌⊎◌, ℕ, List, Some, None, Resul
 use Rattle.std.specs.Str.{trim}
 use Rattle.semver_base.specs.Comparators.{Comparator}
 use Rattle.semver_base.specs.Meaning.{tree_means}
-use Rattle.semver_base.specs.VersionGrammar.{IsVersionOutcome}
+use Rattle.semver_base.specs.VersionGrammar.{IsVersionOutcome, IsVersionRefusal}
 use Rattle.semver_base.specs.declared.failure.Refusal.{Refusal}
 use Rattle.semver_base.specs.declared.version.Version.{Version}
 use Rattle.semver_req.specs.Outcome.{IsOutcome, Ranges, tree_ranges}
 use Rattle.semver_req.specs.declared.common.values.Flavour.{Flavour}
-use Rattle.deno_semver.specs.PackageOutcome.{Fault, IsPackageOutcome, IsWantOfMemory}
+use Rattle.deno_semver.specs.PackageOutcome.{Fault, IsPackageOutcome, IsPackageRefusal, IsWantOfMemory}
 use Rattle.deno_semver.specs.PackageText.{IsPackageText, PackageParts}
 use Rattle.deno_semver.specs.declared.package.values.PackageReq.{PackageReq}
 use Rattle.callers.specs.Allowance.{allowance_of, yes_or_no}
@@ -20,6 +20,12 @@ use Rattle.callers.specs.declared.requirements.Allowance.{Allowance}
 abbrev pub IsWant : Unanswered → Type 0
 IsWant (why.Package error) = IsWantOfMemory error
 IsWant (why.Version error) = error.source ≡ None
+
+-- why there is no answer: the refusal of the package's text, or where that is a package of the version's, or out of memory
+abbrev pub IsWhyUnanswered : Flavour → List ℕ → List ℕ → Unanswered → Type 0
+IsWhyUnanswered f text version (why.Package error) = IsPackageRefusal f text error
+IsWhyUnanswered f text version (why.Version error) =
+    IsVersionRefusal (trim version) error.source × (req : PackageReq) × IsPackageOutcome f text (Ok req)
 
 -- the text is no package, or the other no version
 abbrev pub IsNoPackageOrVersion : Flavour → List ℕ → List ℕ → Type 0
@@ -40,6 +46,6 @@ pub record AllowsPackage (f : Flavour) (text version : List ℕ) (result : Resul
       → cut.version ≡ Some part → length cut.path ≡ 0 → IsOutcome f part (Ranges tree)
       → IsVersionOutcome (trim version) (Ok v)
       → MatchResult result (λ allowance. allowance ≡ yes_or_no (tree_means (tree_ranges tree) v)) IsWant
-  -- there is no answer where either is refused, and nowhere else, want of memory aside
+  -- there is no answer where either is refused, and nowhere else, out of memory aside; and why there is none is told
   pub refused : IsNoPackageOrVersion f text version → IsErr result
-  pub refused_only : IfErr result (λ error. IsWant error ⊎ IsNoPackageOrVersion f text version)
+  pub refusal : IfErr result (IsWhyUnanswered f text version)

@@ -6,7 +6,8 @@ use Rattle.callers.specs.declared.requirements.Allowance.{Allowance}
 use Rattle.callers.specs.declared.requirements.Allowance.TheVariants as answer
 use Rattle.callers.specs.declared.stored.Reread.{Reread}
 use Rattle.semver_base.specs.Comparators.{Comparator}
-use Rattle.semver_base.specs.Meaning.{alternatives, tree_means}
+use Rattle.semver_base.specs.Meaning.{alternatives, tree_means, tree_means_with}
+use Rattle.semver_base.specs.declared.range.PreRelease.{PreRelease}
 use Rattle.semver_base.specs.declared.range.VersionRange.{VersionRange}
 use Rattle.semver_base.specs.declared.version.Version.{Version}
 use Rattle.semver_req.specs.KeptSet.{IsReadSet, kept}
@@ -45,9 +46,9 @@ pub record IsReadAgain (ranges : List VersionRange) (read : RangeSetOrTag) : Typ
   pub again : List VersionRange
   pub is_ranges : read ≡ inner.RangeSet (record { 0 = again })
   pub read_set : IsReadSet again
-  -- it means the same where each range keeps its meaning
-  pub means : list_all keeps_meaning ranges ≡ true → (v : Version)
-      → tree_means (alternatives again) v ≡ tree_means (alternatives ranges) v
+  -- it means the same where each range keeps its meaning, with npm's rule about pre-releases and without
+  pub means : list_all keeps_meaning ranges ≡ true → (flag : PreRelease) (v : Version)
+      → tree_means_with flag (alternatives again) v ≡ tree_means_with flag (alternatives ranges) v
   -- it is the same where each range is orderly too
   pub equal : list_all is_orderly ranges ≡ true → list_all keeps_meaning ranges ≡ true → again ≡ ranges
   -- it is settled, and what was settled stays as it is

@@ -11,6 +11,4 @@ pub mod packages;
 pub mod requirements;
 pub mod stored;
 pub mod texts;
-pub mod together;
-pub mod update;
 pub mod versions;

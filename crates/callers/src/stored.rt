@@ -4,6 +4,10 @@
 //! back; one of the normalized reader need not be: of the text ` 1` it makes the tag `1`, which is stored as a text that is
 //! read as a range.
 
+ghost use Rattle.std.specs.Prelude.{IfErr};
+ghost use Rattle.std.specs.Str.{trim};
+ghost use Rattle.semver_req.specs.PieceReading.{IsCutRefusal};
+ghost use Rattle.semver_req.specs.SpecifierRefusals.{IsSpecifierRefusal};
 ghost use Rattle.semver_req.specs.declared.common.values.Flavour.TheVariants.{Normal, Npm, Specifier};
 ghost use Rattle.callers.specs.Stored.{AllowsAsBefore, AllowsAsItsText, IsReread, IsRereadTwice, IsTagRead, IsTagTold, OfRanges, OfTag, TagOfText};
 
@@ -96,7 +100,8 @@ pub fn npm_text_allows_when_stored(
     text: &str,
     version: &Version,
 ) -> Result<Allowance, ParseFailure>
-    ensures { AllowsAsItsText Npm text.now version.now result }
+    ensures told { AllowsAsItsText Npm text.now version.now result }
+    ensures refusal { IfErr result (IsCutRefusal Npm (trim text.now)) }
 {
     let requirement = VersionReq::parse_from_npm(alloc, text)?;
     Ok(allows_when_stored_as_normalized(alloc, &requirement, version)?)
@@ -109,7 +114,8 @@ pub fn specifier_allows_when_stored(
     text: &str,
     version: &Version,
 ) -> Result<Allowance, ParseFailure>
-    ensures { AllowsAsItsText Specifier text.now version.now result }
+    ensures told { AllowsAsItsText Specifier text.now version.now result }
+    ensures refusal { IfErr result (IsSpecifierRefusal text.now) }
 {
     let requirement = VersionReq::parse_from_specifier(alloc, text)?;
     Ok(allows_when_stored_as_normalized(alloc, &requirement, version)?)

@@ -1,5 +1,5 @@
 -- Pieces that are explained one after another.
-use Rattle.std.proofs.Common.{◌≡◌, ◌+◌, ◌<◌, ◌++◌, ℕ, List, [], ◌∷◌, Bool, false, length, take, get_or, sym, subst, append-nil}
+use Rattle.std.proofs.Common.{◌+◌, ◌<◌, ◌++◌, ℕ, List, [], ◌∷◌, Bool, false, length, take, get_or, sym, subst, append-nil}
 use Rattle.std.proofs.lemmas.List.{take_more}
 use Rattle.range_answers.specs.Explained.{AreAllExplained, AreWholeTexts, IsExplainedPiece, IsWholeText}
 use Rattle.range_answers.specs.declared.explained.Piece.{Piece}

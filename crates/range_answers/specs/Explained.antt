@@ -1,7 +1,7 @@
 -- What a reader makes of the text of a requirement, piece by piece.
-use Rattle.std.specs.Prelude.{◌≡◌, ℕ, List, [], ◌∷◌, Bool, true, false, string_bytes}
-use Rattle.semver_base.specs.LeastVersion.{IsLeast}
-use Rattle.semver_base.specs.Meaning.{range_means_with}
+use Rattle.std.specs.Prelude.{◌≡◌, ℕ, List, [], ◌∷◌, Bool, false, string_bytes}
+use Rattle.semver_base.specs.LeastVersion.{IsLowest, TellsSome}
+use Rattle.semver_base.specs.Meaning.{is_pre_match, range_means_with}
 use Rattle.semver_base.specs.declared.range.PreRelease.{PreRelease}
 use Rattle.semver_base.specs.declared.range.VersionRange.{VersionRange}
 use Rattle.semver_req.specs.Outcome.{worked_on}
@@ -16,19 +16,26 @@ use Rattle.semver_req.specs.declared.range_set_or_tag.RangeSetOrTag.TheVariants 
 use Rattle.semver_req.specs.declared.range_set_or_tag.pieces.RangeOrInvalid.TheVariants as read
 use Rattle.range_answers.specs.declared.explained.Explanation.{Explanation}
 use Rattle.range_answers.specs.declared.explained.Explanation.TheVariants as explanation
+use Rattle.range_answers.specs.declared.explained.Matches.{Matches}
 use Rattle.range_answers.specs.declared.explained.Meaning.{Meaning}
 use Rattle.range_answers.specs.declared.explained.Meaning.TheVariants as meaning
 use Rattle.range_answers.specs.declared.explained.Piece.{Piece}
 
--- the range, with the least version that it matches
-abbrev pub IsLeastOfRange : PreRelease → VersionRange → Meaning → Type 0
-IsLeastOfRange flag range (meaning.Range told least) = (told ≡ range) × IsLeast (range_means_with flag range) least
-IsLeastOfRange flag range (meaning.LeftOut refusal) = ⊥
+-- what the range matches: the lowest version, and whether pre-releases of the numbers of its start and of its end do
+pub record AreMatches (flag : PreRelease) (matches : Matches) : Type 0 where
+  pub lowest : IsLowest (range_means_with flag matches.range) matches.least
+  pub of_start : TellsSome (is_pre_match matches.range matches.range.start) matches.pre_of_start
+  pub of_end : TellsSome (is_pre_match matches.range matches.range.end) matches.pre_of_end
+
+-- the range, with what it matches
+abbrev pub IsMeaningOfRange : PreRelease → VersionRange → Meaning → Type 0
+IsMeaningOfRange flag range (meaning.Range matches) = (matches.range ≡ range) × AreMatches flag matches
+IsMeaningOfRange flag range (meaning.LeftOut refusal) = ⊥
 
 -- what is read of a piece, which is followed by `||` or not
 abbrev pub IsMeaningOf : Flavour → PreRelease → Bool → List ℕ → Meaning → Type 0
-IsMeaningOf f flag followed text (meaning.Range range least) = IsPieceRead f followed text (read.Range range)
-    × IsLeast (range_means_with flag range) least
+IsMeaningOf f flag followed text (meaning.Range matches) =
+    IsPieceRead f followed text (read.Range matches.range) × AreMatches flag matches
 IsMeaningOf f flag followed text (meaning.LeftOut refusal) = IsPieceRead f followed text (read.Invalid refusal)
 
 -- the piece as it is written, with what is read of it
@@ -61,7 +68,7 @@ pub record AreExplained (f : Flavour) (flag : PreRelease) (text : List ℕ) (pie
 
 -- the whole text, with this range
 abbrev pub IsWholeText : PreRelease → List ℕ → VersionRange → Piece → Type 0
-IsWholeText flag text range piece = (string_bytes piece.text ≡ text) × IsLeastOfRange flag range piece.meaning
+IsWholeText flag text range piece = (string_bytes piece.text ≡ text) × IsMeaningOfRange flag range piece.meaning
 
 -- the whole text, for each of these ranges
 abbrev pub AreWholeTexts : PreRelease → List ℕ → List VersionRange → List Piece → Type 0

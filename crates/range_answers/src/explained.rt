@@ -1,14 +1,17 @@
 //! What a reader makes of the text of a requirement, piece by piece.
 
 ghost use Rattle.std.specs.Prelude.{◌≡◌, IfErr, IfOk, None};
+ghost use Rattle.semver_base.specs.NormalText.{AreWritableRanges, IsWritableRange};
 ghost use Rattle.semver_base.specs.declared.range.VersionRange.{VersionRange};
-ghost use Rattle.range_answers.specs.Explained.{AreExplained, AreExplainedFrom, AreWholeTexts, IsExplained, IsExplainedPiece, IsLeastOfRange, IsWholeText};
+ghost use Rattle.range_answers.specs.Explained.{AreExplained, AreExplainedFrom, AreWholeTexts, IsExplained, IsExplainedPiece, IsMeaningOfRange, IsWholeText};
 ghost use Rattle.range_answers.specs.Reading.{IsUnread};
 
-use crate::reading::requirement;
-use deno_semver::{PackageTag, ParseFailure, PreRelease, RangeSetOrTag, Version, VersionRange};
+use deno_semver::{
+    PackageTag, ParseFailure, PreRelease, RangeSetOrTag, Version, VersionRange, VersionReq,
+};
 use semver_base::failure::Refusal;
 use semver_req::common::values::Flavour;
+use semver_req::laws::read_ranges_are_writable;
 use semver_req::range_set_or_tag::{FirstPiece, RangeOrInvalid, first_piece, next_piece};
 use std::alloc::{AllocError, Global};
 
@@ -32,26 +35,43 @@ pub struct Piece {
 /// What a reader makes of a piece.
 #[derive(Debug, Drop)]
 pub enum Meaning {
-    /// The range that it means, and the least version that this matches.
-    Range {
-        range: VersionRange,
-        least: Option<Version>,
-    },
+    /// The range that it means.
+    Range(Matches),
     /// The piece is bad, so it is left out.
     LeftOut(Refusal),
 }
 
+/// A range, and what it matches.
+#[derive(Debug, Drop)]
+pub struct Matches {
+    pub range: VersionRange,
+    /// The lowest version that matches, if there is one.
+    pub least: Option<Version>,
+    /// Whether pre-releases of the numbers of the start match, by npm's rule.
+    pub pre_of_start: bool,
+    /// Whether pre-releases of the numbers of the end match, by npm's rule.
+    pub pre_of_end: bool,
+}
+
 impl Meaning {
-    // The range, with its least version.
+    // The range, with what it matches.
     fn of(
         alloc: Global,
         pre_release: PreRelease,
         range: VersionRange,
     ) -> Result<Meaning, AllocError>
-        ensures { IfOk result (IsLeastOfRange pre_release range) }
+        requires { IsWritableRange range }
+        ensures { IfOk result (IsMeaningOfRange pre_release range) }
     {
-        let least = range.min_version_with(alloc, pre_release)?;
-        Ok(Meaning::Range { range, least })
+        let least = range.min_version(alloc, pre_release)?;
+        let pre_of_start = range.matches_pre_of(alloc, &range.start)?;
+        let pre_of_end = range.matches_pre_of(alloc, &range.end)?;
+        Ok(Meaning::Range(Matches {
+            range,
+            least,
+            pre_of_start,
+            pre_of_end,
+        }))
     }
 }
 
@@ -67,6 +87,7 @@ impl Piece {
         ensures piece { IfOk result (IsExplainedPiece flavour pre_release is_followed text.now) }
         ensures memory { IfErr result (λ failure. failure ≡ None) }
     {
+        read_ranges_are_writable();
         let meaning = match RangeOrInvalid::parse(alloc, text, is_followed, flavour)? {
             RangeOrInvalid::Range(range) => Meaning::of(alloc, pre_release, range)?,
             RangeOrInvalid::Invalid(refusal) => Meaning::LeftOut(refusal),
@@ -82,6 +103,7 @@ impl Piece {
         text: &str,
         range: &VersionRange,
     ) -> Result<Piece, AllocError>
+        requires { IsWritableRange range.now }
         ensures { IfOk result (IsWholeText pre_release text.now range.now) }
     {
         let meaning = Meaning::of(alloc, pre_release, range.copy()?)?;
@@ -135,6 +157,7 @@ fn whole_of(
     text: &str,
     ranges: &[VersionRange],
 ) -> Result<Vec<Piece>, AllocError>
+    requires { AreWritableRanges ranges.now }
     ensures { IfOk result
         (λ pieces. AreWholeTexts pre_release text.now ranges.now pieces.items) }
 {
@@ -146,7 +169,7 @@ fn whole_of(
 }
 
 /// What the reader of this grammar makes of a text: the tag that it is; or its pieces, each with the range that it means and
-/// the least version of that, with pre-releases restricted or admitted throughout, or why it is bad and left out, and the
+/// the lowest version of that, with pre-releases restricted or admitted throughout, or why it is bad and left out, and the
 /// normal text.
 ///
 /// Otherwise the reader's refusal is told, or want of memory.
@@ -159,7 +182,8 @@ pub fn explain(
     ensures answer { IfOk result (IsExplained flavour pre_release text.now) }
     ensures refused { IfErr result (IsUnread flavour text.now) }
 {
-    let requirement = requirement(alloc, flavour, text)?;
+    read_ranges_are_writable();
+    let requirement = VersionReq::parse(alloc, text, flavour)?;
     let pieces = match (requirement.inner(), flavour) {
         (RangeSetOrTag::Tag(tag), _) => return Ok(Explanation::Tag(tag.copy()?)),
         (RangeSetOrTag::RangeSet(set), Flavour::Specifier) => {

@@ -1,8 +1,7 @@
 //! How the words of a command are read, and which of them is refused.
 
 ghost use Rattle.std.specs.Prelude.{◌≡◌, IfErr, IfOk, None};
-ghost use Rattle.semver_req.specs.Readers.{IsReaderAnswer};
-ghost use Rattle.range_answers.specs.Reading.{AreReadings, IsReadingOf, IsRefusalAt, IsTextRefusal, IsUnread, texts_of};
+ghost use Rattle.range_answers.specs.Reading.{AreReadings, IsReadingOf, IsRefusalAt, IsUnread, texts_of};
 
 use deno_semver::{ParseFailure, VersionReq};
 use semver_req::common::values::Flavour;
@@ -27,20 +26,6 @@ impl From<AllocError> for RefusedWord {
     }
 }
 
-/// The requirement that the reader of this grammar makes of a text.
-///
-/// Any failure but the grammar's refusal is want of memory.
-pub fn requirement(alloc: Global, flavour: Flavour, text: &str) -> Result<VersionReq, ParseFailure>
-    ensures reads { IsReaderAnswer (λ failure. failure) flavour text.now result }
-    ensures refusal { IfErr result (IsTextRefusal flavour text.now) }
-{
-    match flavour {
-        Flavour::Npm => Ok(VersionReq::parse_from_npm(alloc, text)?),
-        Flavour::Normal => Ok(VersionReq::parse_from_normalized(alloc, text)?),
-        Flavour::Specifier => Ok(VersionReq::parse_from_specifier(alloc, text)?),
-    }
-}
-
 // The requirement that the text at a place is.
 pub(crate) fn requirement_at(
     alloc: Global,
@@ -52,7 +37,7 @@ pub(crate) fn requirement_at(
     ensures place { IfErr result (λ word. word.place ≡ place) }
     ensures refused { IfErr result (λ word. IsUnread flavour text.now word.failure) }
 {
-    match requirement(alloc, flavour, text) {
+    match VersionReq::parse(alloc, text, flavour) {
         Ok(requirement) => Ok(requirement),
         Err(failure) => Err(RefusedWord { place, failure }),
     }

@@ -4,6 +4,7 @@
 
 ghost use Rattle.std.specs.Prelude.{◌≡◌, ◌∷◌, [], IfErr, IfOk};
 ghost use Rattle.std.specs.Option.{option_copied};
+ghost use Rattle.semver_req.specs.Readers.{AreReadOrTags, IsReadOrTag};
 ghost use Rattle.range_answers.specs.Reading.{IsRefusalAt, texts_of};
 ghost use Rattle.range_answers.specs.Together.{IsCommon, IsCommonOfTexts, IsWithin, IsWithinOfTexts, first_tag};
 
@@ -15,7 +16,7 @@ use std::alloc::{AllocError, Global};
 /// What suits several requirements at once.
 #[derive(Debug)]
 pub enum Common {
-    /// The least version that suits all.
+    /// The lowest version that suits all.
     Least(Version),
     /// No version suits all, or no requirement was given.
     Nothing,
@@ -28,7 +29,7 @@ pub enum Common {
 pub enum Within {
     /// Each version that the new one allows the old one allows too.
     Yes,
-    /// The least version that the new one alone allows.
+    /// The lowest version that the new one alone allows.
     No(Version),
     /// The first of both that is a tag, which is no question of versions.
     Tag(PackageTag),
@@ -66,12 +67,13 @@ fn first_tag(requirements: &[VersionReq]) -> Option<&str>
     }
 }
 
-// The least version that suits all of the requirements.
+// The lowest version that suits all of the requirements.
 fn common_of(
     alloc: Global,
     pre_release: PreRelease,
     requirements: &[VersionReq],
 ) -> Result<Common, AllocError>
+    requires { AreReadOrTags requirements.now }
     ensures { IfOk result (IsCommon pre_release requirements.now) }
 {
     if let Some(tag) = first_tag(requirements) {
@@ -80,16 +82,16 @@ fn common_of(
     let Some((first, others)) = requirements.split_first() else {
         return Ok(Common::Nothing);
     };
-    match first.common_version_of_all_with(alloc, others, pre_release)? {
+    match first.common_version_of_all(alloc, others, pre_release)? {
         Some(least) => Ok(Common::Least(least)),
         None => Ok(Common::Nothing),
     }
 }
 
-/// The least version that suits all of the texts, by the reader of this grammar, with pre-releases restricted or admitted
+/// The lowest version that suits all of the texts, by the reader of this grammar, with pre-releases restricted or admitted
 /// throughout.
 ///
-/// It is the least that every requirement matches, of those that a text stands for; a tag among them is told, once all are
+/// It is the lowest that every requirement matches, of those that a text stands for; a tag among them is told, once all are
 /// read. Otherwise the first text that is refused is told, or want of memory.
 pub fn common_version(
     alloc: Global,
@@ -111,12 +113,14 @@ fn within_of(
     new: &VersionReq,
     old: &VersionReq,
 ) -> Result<Within, AllocError>
+    requires new_read { IsReadOrTag new.now.inner }
+    requires old_read { IsReadOrTag old.now.inner }
     ensures { IfOk result (IsWithin pre_release new.now old.now) }
 {
     if let Some(tag) = new.tag().or(old.tag()) {
         return Ok(Within::Tag(PackageTag::from_str(alloc, tag)?));
     }
-    match new.version_outside_with(alloc, old, pre_release)? {
+    match new.version_outside(alloc, old, pre_release)? {
         Some(first) => Ok(Within::No(first)),
         None => Ok(Within::Yes),
     }
@@ -126,7 +130,7 @@ fn within_of(
 /// throughout.
 ///
 /// It is whether the old requirement matches each version that a text stands for and the new one matches, and if not, the
-/// least that it doesn't; a tag is told, once both are read. Otherwise the first text that is refused is told, the new one
+/// lowest that it doesn't; a tag is told, once both are read. Otherwise the first text that is refused is told, the new one
 /// at place 0 and the old one at place 1, or want of memory.
 pub fn containment(
     alloc: Global,

@@ -15,7 +15,7 @@ pub enum Status {
     Nothing,
     /// The requirement is a tag.
     Tag,
-    /// A word or a line is refused.
+    /// A word or a line is refused, or an alternative left out.
     Refused,
     /// The words are none that the program knows.
     Usage,

@@ -5,7 +5,7 @@ use crate::console::{Console, Status, Stop, print_line};
 use crate::object::Object;
 use clap::ArgMatches;
 use deno_semver::{PreRelease, RangeBound, Version, VersionBound, VersionBoundKind, VersionRange};
-use range_answers::explained::{Explanation, Meaning, Piece, explain};
+use range_answers::explained::{Explanation, Matches, Meaning, Piece, explain};
 use serde_json::Value;
 use std::alloc::{AllocError, Global};
 use std::fmt;
@@ -77,10 +77,11 @@ fn pre_release_of(bound: &RangeBound) -> Option<&Version> {
     }
 }
 
-// The versions of whose three numbers the range admits pre-releases; not the same numbers twice.
-fn admitted(range: &VersionRange) -> (Option<&Version>, Option<&Version>) {
-    let first = pre_release_of(&range.start);
-    let second = pre_release_of(&range.end);
+// The versions of whose three numbers pre-releases match; not the same numbers twice.
+fn pre_releases(matches: &Matches) -> (Option<&Version>, Option<&Version>) {
+    let range = &matches.range;
+    let first = pre_release_of(&range.start).filter(|_| matches.pre_of_start);
+    let second = pre_release_of(&range.end).filter(|_| matches.pre_of_end);
     match (first, second) {
         (Some(_), Some(version)) if range.start.has_pre_with_exact_major_minor_patch(version) => {
             (first, None)
@@ -100,10 +101,10 @@ impl fmt::Display for Numbers<'_> {
     }
 }
 
-// Which pre-releases a range admits, in words.
+// Which pre-releases match, in words.
 #[derive(Clone, Copy)]
 struct PreReleases<'a> {
-    range: &'a VersionRange,
+    matches: &'a Matches,
     pre_release: PreRelease,
 }
 
@@ -112,7 +113,7 @@ impl fmt::Display for PreReleases<'_> {
         if self.pre_release == PreRelease::Admitted {
             return f.write_str("pre-releases too");
         }
-        match admitted(self.range) {
+        match pre_releases(self.matches) {
             (Some(first), Some(second)) => {
                 let (first, second) = (Numbers(first), Numbers(second));
                 write!(f, "of pre-releases only those of {first} and {second}")
@@ -135,29 +136,30 @@ impl fmt::Display for Line<'_> {
         let text = self.piece.text.as_str().trim();
         write!(f, "\"{text}\": ")?;
         match &self.piece.meaning {
-            Meaning::Range {
-                range,
-                least: Some(least),
-            } => range_with_least(f, range, least, self.pre_release),
-            Meaning::Range { least: None, .. } => f.write_str("no version matches"),
+            Meaning::Range(matches) => what_matches(f, matches, self.pre_release),
             Meaning::LeftOut(refusal) => write!(f, "left out: {}", refusal.message()),
         }
     }
 }
 
-// A range in words, and the least version that matches.
-fn range_with_least<W: fmt::Write>(
+// What a range matches, in words.
+fn what_matches<W: fmt::Write>(
     f: &mut fmt::Formatter<W>,
-    range: &VersionRange,
-    least: &Version,
+    matches: &Matches,
     pre_release: PreRelease,
 ) -> fmt::Result {
-    if let Some(only) = only_version(range) {
+    let Some(least) = &matches.least else {
+        return f.write_str("no version matches");
+    };
+    if let Some(only) = only_version(&matches.range) {
         return write!(f, "{only} alone");
     }
-    let bounds = Bounds(range);
-    let admitted = PreReleases { range, pre_release };
-    write!(f, "{bounds}; {admitted}; the least is {least}")
+    let bounds = Bounds(&matches.range);
+    let pre_releases = PreReleases {
+        matches,
+        pre_release,
+    };
+    write!(f, "{bounds}; {pre_releases}; the least is {least}")
 }
 
 fn bound_json(alloc: Global, bound: &RangeBound) -> Result<Value, AllocError> {
@@ -177,15 +179,15 @@ fn shown_json<T: fmt::Display>(alloc: Global, value: &T) -> Result<Value, AllocE
 }
 
 // Of which three numbers pre-releases match, or `all`.
-fn admitted_json(
+fn pre_releases_json(
     alloc: Global,
-    range: &VersionRange,
+    matches: &Matches,
     pre_release: PreRelease,
 ) -> Result<Value, AllocError> {
     if pre_release == PreRelease::Admitted {
         return Value::try_from_str(alloc, "all");
     }
-    let (first, second) = admitted(range);
+    let (first, second) = pre_releases(matches);
     let mut items = Vec::new(alloc);
     push_numbers(alloc, &mut items, first)?;
     push_numbers(alloc, &mut items, second)?;
@@ -211,23 +213,20 @@ fn least_json(alloc: Global, least: &Option<Version>) -> Result<Value, AllocErro
 }
 
 // With the range that a piece means.
-fn with_range(
-    alloc: Global,
-    json: Object,
-    range: &VersionRange,
-    least: &Option<Version>,
-    pre_release: PreRelease,
-) -> Object {
-    json.put("start", bound_json(alloc, &range.start))
-        .put("end", bound_json(alloc, &range.end))
-        .put("pre-releases", admitted_json(alloc, range, pre_release))
-        .put("least", least_json(alloc, least))
+fn with_range(alloc: Global, json: Object, matches: &Matches, pre_release: PreRelease) -> Object {
+    json.put("start", bound_json(alloc, &matches.range.start))
+        .put("end", bound_json(alloc, &matches.range.end))
+        .put(
+            "pre-releases",
+            pre_releases_json(alloc, matches, pre_release),
+        )
+        .put("least", least_json(alloc, &matches.least))
 }
 
 fn piece_json(alloc: Global, piece: &Piece, pre_release: PreRelease) -> Result<Value, AllocError> {
     let json = Object::new(alloc).put_text("text", Some(piece.text.as_str().trim()));
     let json = match &piece.meaning {
-        Meaning::Range { range, least } => with_range(alloc, json, range, least, pre_release),
+        Meaning::Range(matches) => with_range(alloc, json, matches, pre_release),
         Meaning::LeftOut(refusal) => json.put_text("refused", Some(refusal.message())),
     };
     json.into_json()
@@ -290,7 +289,17 @@ fn tell_pieces<O: Write, E: Write>(
     } else {
         print_pieces(&mut console.out, pieces, pre_release, normal)?;
     }
-    Ok(Status::Answered)
+    Ok(status_of(pieces))
+}
+
+// Whether a piece was left out.
+fn status_of(pieces: &[Piece]) -> Status {
+    let is_left_out = |piece: &Piece| matches!(piece.meaning, Meaning::LeftOut(_));
+    if pieces.iter().any(is_left_out) {
+        Status::Refused
+    } else {
+        Status::Answered
+    }
 }
 
 fn print_pieces<O: Write>(
@@ -318,7 +327,8 @@ fn tell_explanation<O: Write, E: Write>(
     }
 }
 
-/// `ranges explain REQ`: the tag that a requirement is; or each alternative on a line, and the normal text.
+/// `ranges explain REQ`: the tag that a requirement is; or each alternative on a line, and the normal text. The status is that of a
+/// refusal where an alternative is left out.
 pub fn tell<O: Write, E: Write>(
     console: &mut Console<O, E>,
     matches: &ArgMatches<'_>,

@@ -6,7 +6,6 @@ use crate::input::{Take, take_all};
 use clap::ArgMatches;
 use deno_semver::resolve::max_satisfying_with;
 use deno_semver::{ParseFailure, PreRelease, Version, VersionReq};
-use range_answers::reading::requirement;
 use range_answers::versions::{Entry, Order, fits};
 use serde_json::Value;
 use std::alloc::{AllocError, Global};
@@ -162,7 +161,7 @@ pub fn filter<R: Input, O: Write, E: Write>(
     options: Options,
 ) -> Result<Status, Stop> {
     let word = matches.get_str("REQ").unwrap_or("");
-    match requirement(console.alloc, options.flavour, word) {
+    match VersionReq::parse(console.alloc, word, options.flavour) {
         Ok(requirement) => filter_by(rt, console, matches, options, &requirement),
         Err(failure) => console.refuse_requirement(word, &failure),
     }
@@ -201,7 +200,7 @@ pub fn best<R: Input, O: Write, E: Write>(
     options: Options,
 ) -> Result<Status, Stop> {
     let word = matches.get_str("REQ").unwrap_or("");
-    match requirement(console.alloc, options.flavour, word) {
+    match VersionReq::parse(console.alloc, word, options.flavour) {
         Ok(requirement) => best_by(rt, console, matches, options, &requirement),
         Err(failure) => console.refuse_requirement(word, &failure),
     }
