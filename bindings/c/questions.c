@@ -19,7 +19,9 @@ typedef struct {
     size_t len;
 } text;
 
-typedef const char *const names[8];
+enum { CODES = SEMVER_NO_UTF8 + 1 };
+
+typedef const char *const names[CODES];
 
 static names FIT = {[SEMVER_NO] = "no", [SEMVER_YES] = "yes", [SEMVER_TAG] = "tag", PROBLEMS};
 static names ORDER = {[SEMVER_BEFORE] = "before", [SEMVER_SAME] = "same", [SEMVER_AFTER] = "after", PROBLEMS};
@@ -55,7 +57,7 @@ static text cut(text *rest, int mark) {
 static void check(uint32_t code, names of, const void *written, size_t len) {
     static char answer[sizeof out + 32];
     if (memory_is_short && code == SEMVER_NO_MEMORY) return;
-    const char *name = code < 8 && of[code] ? of[code] : "no such code";
+    const char *name = code < CODES && of[code] ? of[code] : "no such code";
     text wanted = written ? expected : before(expected, US);
     int got = written && len ? sprintf(answer, "%s\x1f%.*s", name, (int)len, (const char *)written) : sprintf(answer, "%s", name);
     if ((size_t)got == wanted.len && memcmp(answer, wanted.at, wanted.len) == 0) return;

@@ -8,12 +8,15 @@
  * - `malloc`, `realloc` and `free` are those of one allocator, and a block is aligned to each power of two up to 16 that
  *   divides its size.
  *
- * A call answers a code. A question has one code, but for want of memory, SEMVER_NO_MEMORY. Words are looked at from the left,
- * and the first that is wrong decides: of a requirement its reader, then its bytes, then its text.
+ * A call returns a code. A question has one code, or SEMVER_NO_MEMORY where memory runs out. Arguments are checked from the left,
+ * and the first that is invalid decides: of a requirement its reader, then its bytes, then its text.
  *
  * A text goes to the front of `out` where it fits, and the rest of `out` stays; where it doesn't, `out` stays as it was. Its
  * length is in `*needed` either way, and 0 where there is none. With the codes from SEMVER_NO_REQUIREMENT on the text is a
- * message in English. To ask for no text, give a buffer of length 0. */
+ * message in English, of the calls that have `out`. To ask for no text, give a buffer of length 0.
+ *
+ * The time of semver_least, semver_common and semver_within grows with the square of the number of ranges of all requirements: two of
+ * 3,200 alternatives each take half a second or less. Bound the length of requirements that strangers write. */
 #ifndef SEMVER_H
 #define SEMVER_H
 
@@ -34,17 +37,17 @@ enum {
 /* pre-releases: by npm's rule, or every one that stands between the bounds */
 enum { SEMVER_RESTRICTED = 0, SEMVER_ADMITTED = 1 };
 
-/* codes */
+/* codes; from 3 on a number that the programs exit with means the same here, and 6, output that can't be written, is theirs alone */
 enum {
     SEMVER_NO = 0,
     SEMVER_YES = 1,
     SEMVER_TAG = 2, /* a requirement is a tag, which is no question of versions */
     SEMVER_BEFORE = 0, SEMVER_SAME = 1, SEMVER_AFTER = 2, /* of two versions */
-    SEMVER_NO_REQUIREMENT = 3, /* a requirement is refused */
-    SEMVER_NO_VERSION = 4,     /* a version is refused */
-    SEMVER_NO_UTF8 = 5,        /* bytes are no UTF-8 */
-    SEMVER_NO_MEMORY = 6,
-    SEMVER_NO_READER = 7       /* no reader has this number */
+    SEMVER_NO_REQUIREMENT = 3, /* a requirement is invalid */
+    SEMVER_NO_READER = 4,      /* no reader has this number */
+    SEMVER_NO_MEMORY = 5,      /* out of memory */
+    SEMVER_NO_VERSION = 7,     /* a version is invalid */
+    SEMVER_NO_UTF8 = 8         /* bytes aren't valid UTF-8 */
 };
 
 /* Whether the version fits the requirement: NO, YES or TAG. */
@@ -59,15 +62,15 @@ uint32_t semver_filter(uint32_t reader, const uint8_t *requirement, size_t requi
                        const uint8_t *versions, size_t versions_len, uint32_t pre_releases,
                        uint8_t *answers, size_t answers_len, size_t *needed);
 
-/* Which of several versions, a line each, is the greatest that matches the requirement, the first of equal ones: YES, and `*place` is its
+/* Which of several versions, a line each, is the highest that matches the requirement, the first of equal ones: YES, and `*place` is its
  * line, counted from 0; NO, where none matches; or TAG. At any code but YES `*place` stays as it was. Each version is read, and the
- * code is NO_VERSION where one is refused. */
+ * code is NO_VERSION where one is invalid. */
 uint32_t semver_best(uint32_t reader, const uint8_t *requirement, size_t requirement_len,
                      const uint8_t *versions, size_t versions_len, uint32_t pre_releases, size_t *place);
 
 /* The places of several versions, a line each, in the order of precedence: YES. `places[0]` is the line of the lowest, counted from 0,
  * and versions that differ in the build alone keep their order; `*needed` is how many lines there are. Where there are more than
- * `places_len`, `places` stays as it was. Each version is read, and the code is NO_VERSION where one is refused. */
+ * `places_len`, `places` stays as it was. Each version is read, and the code is NO_VERSION where one is invalid. */
 uint32_t semver_sort(const uint8_t *versions, size_t versions_len, size_t *places, size_t places_len, size_t *needed);
 
 /* The order of two versions, in which the build has no part: BEFORE, where the first is before the other, SAME or AFTER. */
@@ -76,16 +79,16 @@ uint32_t semver_compare(const uint8_t *one, size_t one_len, const uint8_t *other
 /* Whether two requirements overlap by the bound rule: NO or YES. Two tags do where they are the same, a tag and ranges never. */
 uint32_t semver_overlap(uint32_t reader, const uint8_t *one, size_t one_len, const uint8_t *other, size_t other_len);
 
-/* Whether the other requirement matches each version that the first one matches: YES; NO, with the text of the least version that
+/* Whether the other requirement matches each version that the first one matches: YES; NO, with the text of the lowest version that
  * it doesn't; or TAG. */
 uint32_t semver_within(uint32_t reader, const uint8_t *one, size_t one_len, const uint8_t *other, size_t other_len,
                        uint8_t *out, size_t out_len, size_t *needed);
 
-/* The least version that both requirements match: YES, with its text; NO, where there is none; or TAG. */
+/* The lowest version that both requirements match: YES, with its text; NO, where there is none; or TAG. */
 uint32_t semver_common(uint32_t reader, const uint8_t *one, size_t one_len, const uint8_t *other, size_t other_len,
                        uint8_t *out, size_t out_len, size_t *needed);
 
-/* The least version that the requirement matches: YES, with its text; NO, where there is none; or TAG. */
+/* The lowest version that the requirement matches: YES, with its text; NO, where there is none; or TAG. */
 uint32_t semver_least(uint32_t reader, const uint8_t *requirement, size_t requirement_len,
                       uint8_t *out, size_t out_len, size_t *needed);
 
@@ -102,12 +105,12 @@ uint32_t semver_may_be_tag(const uint8_t *text, size_t text_len);
 /* The parts of the text of a requirement of a package, such as @scope/name@^1.2, as JSON: YES. The text is an object with the members
  * "name", without its scope, "normal", the normal text of the requirement of versions, "requirement", the text it was read from, and
  * "scope", without its @ and null where there is none, and has no blanks between these. The reader reads the requirement of versions.
- * Where the text is refused the code is NO_REQUIREMENT. */
+ * Where the text is invalid the code is NO_REQUIREMENT. */
 uint32_t semver_package(uint32_t reader, const uint8_t *text, size_t text_len, uint8_t *out, size_t out_len, size_t *needed);
 
 /* The parts of the text of a reference to a package, such as jsr:@scope/name@1/mod.ts, as JSON: YES. The text is an object with the members
  * "export", the export of a package of JSR and else null, "kind", "jsr" or "npm", "package", as semver_package tells it, and "path", null
- * where there is none. Its reader is the strict one. Where the text is refused the code is NO_REQUIREMENT. */
+ * where there is none. Its reader is the strict one. Where the text is invalid the code is NO_REQUIREMENT. */
 uint32_t semver_reference(const uint8_t *text, size_t text_len, uint8_t *out, size_t out_len, size_t *needed);
 
 /* Values that are kept across calls. `semver_req r = {0};` has none. Only the calls below write a handle; it is used by one thread
@@ -152,7 +155,7 @@ uint32_t semver_version_order(semver_ver *one, semver_ver *other);
 /* Whether two requirements stand for the same, whatever texts they were read of: NO or YES. The handles are two. */
 uint32_t semver_req_equal(semver_req *one, semver_req *other);
 
-/* The text of the requirement as it was read: YES. */
+/* The text that the requirement was read from: YES. Without the whitespace around it, where npm's reader read it. */
 uint32_t semver_req_text(semver_req *handle, uint8_t *out, size_t out_len, size_t *needed);
 
 /* The normal text of the requirement, and how the version is displayed: YES, or NO_MEMORY. */

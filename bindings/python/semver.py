@@ -14,7 +14,8 @@ from typing import Any, Callable, Optional, Union
 Text = Union[str, bytes, bytearray, memoryview]
 
 NPM, NORMALIZED, STRICT = range(3)
-NO, YES, TAG, NO_REQUIREMENT, NO_VERSION, NO_UTF8, NO_MEMORY, NO_READER = range(8)
+NO, YES, TAG, NO_REQUIREMENT, NO_READER, NO_MEMORY = range(6)
+NO_VERSION, NO_UTF8 = 7, 8
 
 _INVALID = {
     NO_REQUIREMENT: ("requirement", "invalid requirement"),

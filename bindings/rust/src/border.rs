@@ -91,7 +91,9 @@ extern "C" {
 
 const YES: u32 = 1;
 const TAG: u32 = 2;
-const NO_MEMORY: u32 = 6;
+const NO_REQUIREMENT: u32 = 3;
+const NO_MEMORY: u32 = 5;
+const NO_VERSION: u32 = 7;
 
 /// A reader of requirements.
 #[derive(Clone, Copy, Debug, PartialEq, Eq)]
@@ -125,7 +127,7 @@ fn fit(code: u32) -> Fit {
         0 => Fit::No,
         YES => Fit::Yes,
         TAG => Fit::Tag,
-        4 => Fit::Refused,
+        NO_VERSION => Fit::Refused,
         _ => failed(code),
     }
 }
@@ -174,7 +176,7 @@ pub(crate) fn filter(reader: Reader, requirement: &str, versions: &str, pre_rele
     };
     match code {
         YES => Ok(answers[..needed].iter().map(|code| fit(u32::from(*code))).collect()),
-        3 => Err(Requirement::read(reader, requirement).err().unwrap_or_default()),
+        NO_REQUIREMENT => Err(Requirement::read(reader, requirement).err().unwrap_or_default()),
         _ => failed(code),
     }
 }
@@ -215,7 +217,7 @@ pub(crate) fn best(reader: Reader, requirement: &str, versions: &str, pre_releas
 
 // None where the requirement is refused.
 fn fit_or_refusal(code: u32) -> Option<Fit> {
-    (code != 3).then(|| fit(code))
+    (code != NO_REQUIREMENT).then(|| fit(code))
 }
 
 /// The places of the lines of the versions in the order of precedence; none where a version is refused.
@@ -228,7 +230,7 @@ pub(crate) fn sort(versions: &str) -> Option<Vec<usize>> {
             assert_eq!(needed, places.len());
             Some(places)
         }
-        4 => None,
+        NO_VERSION => None,
         _ => failed(code),
     }
 }
@@ -237,7 +239,7 @@ pub(crate) fn sort(versions: &str) -> Option<Vec<usize>> {
 fn parts_of((code, text): (u32, String)) -> Result<String, String> {
     match code {
         YES => Ok(text),
-        3 => Err(text),
+        NO_REQUIREMENT => Err(text),
         _ => failed(code),
     }
 }
@@ -261,7 +263,7 @@ pub(crate) fn overlap(reader: Reader, one: &str, other: &str) -> Option<bool> {
     match unsafe { semver_overlap(reader as u32, one.as_ptr(), one.len(), other.as_ptr(), other.len()) } {
         0 => Some(false),
         YES => Some(true),
-        3 => None,
+        NO_REQUIREMENT => None,
         code => failed(code),
     }
 }
@@ -280,7 +282,7 @@ pub enum Least {
 fn least_of((code, text): (u32, String), found: u32) -> Result<Least, String> {
     match code {
         TAG => Ok(Least::Tag),
-        3 => Err(text),
+        NO_REQUIREMENT => Err(text),
         0 | YES if code == found => Ok(Least::Version(text)),
         0 | YES => Ok(Least::Nothing),
         _ => failed(code),
@@ -320,7 +322,7 @@ impl Requirement {
         });
         match code {
             YES => Ok(Requirement(UnsafeCell::new(raw))),
-            3 => Err(message),
+            NO_REQUIREMENT => Err(message),
             _ => failed(code),
         }
     }
@@ -380,7 +382,7 @@ impl KeptVersion {
         });
         match code {
             YES => Ok(KeptVersion(UnsafeCell::new(raw))),
-            4 => Err(message),
+            NO_VERSION => Err(message),
             _ => failed(code),
         }
     }

@@ -7,12 +7,13 @@ use Rattle.semver_base.specs.VersionGrammar.{IsVersionOutcome, IsVersionRefusal}
 use Rattle.semver_base.specs.declared.failure.Refusal.{Refusal}
 use Rattle.semver_base.specs.declared.version.Version.{Version}
 use Rattle.semver_req.specs.Outcome as outcome
-use Rattle.semver_req.specs.Outcome.{IsOutcome, Outcome, Ranges, Tag}
+use Rattle.semver_req.specs.Outcome.{IsOutcome, Outcome, Ranges, Tag, worked_on}
 use Rattle.semver_req.specs.Readers.{Failure, IsAnswer as IsAnswerTo, IsRead as IsReadAs, IsReaderAnswer, IsReading}
 use Rattle.semver_req.specs.Requirement.{Requirement}
 use Rattle.semver_req.specs.declared.common.values.Flavour.{Flavour}
 use Rattle.semver_req.specs.declared.common.values.Flavour.TheVariants.{Npm, Normal, Specifier}
 use Rattle.semver_req.specs.declared.range_set_or_tag.RangeSetOrTag.{RangeSetOrTag}
+use Rattle.semver_c.specs.Kept.{KeepsText}
 use Rattle.semver_c.specs.Words.{Is, IsAnswer, IsRead, IsReader, IsText, IsVersion, Of, failure_code, is_no_reader, is_no_text, is_no_version, is_read, is_reader, is_refused, is_text, is_version, of_problem, of_value, outcome_of, problem_code, reader_number, wanting}
 use Rattle.semver_c.specs.declared.words.Problem.{Problem}
 use Rattle.semver_c.specs.declared.words.Problem.TheVariants as problem
@@ -47,16 +48,16 @@ module _ {E X F Y : Type 0} (Words : Result X ℕ → Type 0) (value : E → X) 
     where
       is : (as_value (value e) ≡ wanting) ⊎ Words (Ok (value e)) → (outcome_of told result ≡ wanting) ⊎ Asked (value e) (outcome_of told result)
           → (outcome_of told result ≡ wanting) ⊎ Of Words Asked (outcome_of told result)
-      is (inl none) k = absurd (value_no_code (value e) 6 none)
+      is (inl none) k = absurd (value_no_code (value e) 5 none)
       is (inr w) (inl none) = inl none
       is (inr w) (inr a) = inr (of_value w a)
 
       same : (x : X) → (as_value (value e) ≡ wanting) ⊎ (as_value (value e) ≡ as_value x) → value e ≡ x
-      same x (inl none) = absurd (value_no_code (value e) 6 none)
+      same x (inl none) = absurd (value_no_code (value e) 5 none)
       same x (inr is) = same_value (value e) x is
 
       never : (code : ℕ) → (as_value (value e) ≡ wanting) ⊎ (as_value (value e) ≡ as_code code) → ⊥
-      never code (inl none) = value_no_code (value e) 6 none
+      never code (inl none) = value_no_code (value e) 5 none
       never code (inr is) = value_no_code (value e) code is
 
       only : (o : Result Y ℕ) → Of Words Asked o → (outcome_of told result ≡ wanting) ⊎ (outcome_of told result ≡ o)
@@ -71,15 +72,15 @@ module _ {E X F Y : Type 0} (Words : Result X ℕ → Type 0) (value : E → X) 
       code = problem_code p
 
       is : (as_code {X = X} code ≡ wanting) ⊎ Words (Err code) → (as_code {X = Y} code ≡ wanting) ⊎ Of Words Asked (Err code)
-      is (inl none) = inl (code_as_code code 6 (same_code {X = X} code 6 none))
+      is (inl none) = inl (code_as_code code 5 (same_code {X = X} code 5 none))
       is (inr w) = inr (of_problem w)
 
       of_none : (x : X) → (as_code {X = X} code ≡ wanting) ⊎ (as_code {X = X} code ≡ as_value x) → as_code {X = Y} code ≡ wanting
-      of_none x (inl none) = code_as_code code 6 (same_code {X = X} code 6 none)
+      of_none x (inl none) = code_as_code code 5 (same_code {X = X} code 5 none)
       of_none x (inr is) = absurd (code_no_value x code is)
 
       of_code : (other : ℕ) → (as_code {X = X} code ≡ wanting) ⊎ (as_code {X = X} code ≡ as_code other) → (as_code {X = Y} code ≡ wanting) ⊎ (as_code {X = Y} code ≡ as_code other)
-      of_code other (inl none) = inl (code_as_code code 6 (same_code {X = X} code 6 none))
+      of_code other (inl none) = inl (code_as_code code 5 (same_code {X = X} code 5 none))
       of_code other (inr is) = inr (code_as_code code other (same_code {X = X} code other is))
 
       only : (o : Result Y ℕ) → Of Words Asked o → (as_code {X = Y} code ≡ wanting) ⊎ (as_code {X = Y} code ≡ o)
@@ -112,7 +113,7 @@ exit_moved Asked value other r p is h = exit Asked other r p is (record { is = h
 
 -- ---- readers
 
-one_reader : (f g : Flavour) → reader_number f ≡ reader_number g → f ≡ g
+pub one_reader : (f g : Flavour) → reader_number f ≡ reader_number g → f ≡ g
 one_reader Npm Npm e = refl
 one_reader Npm Normal e = absurd (omega (arith, e))
 one_reader Npm Specifier e = absurd (omega (arith, e))
@@ -122,6 +123,12 @@ one_reader Normal Specifier e = absurd (omega (arith, e))
 one_reader Specifier Npm e = absurd (omega (arith, e))
 one_reader Specifier Normal e = absurd (omega (arith, e))
 one_reader Specifier Specifier e = refl
+
+-- a requirement keeps the text that its reader worked on
+pub keeps_text : (number : ℕ) (bytes text : List ℕ) (f : Flavour) (req : Requirement) → number ≡ reader_number f → text ≡ bytes → req.raw_text ≡ worked_on f text
+    → KeepsText number bytes req
+keeps_text number bytes text f req e same raw g h =
+    subst (λ (x : Flavour). req.raw_text ≡ worked_on x bytes) (one_reader f g (sym e ∙ h)) (subst (λ (t : List ℕ). req.raw_text ≡ worked_on f t) same raw)
 
 reader_small : (f : Flavour) → reader_number f < 3
 reader_small Npm = omega arith
@@ -138,7 +145,7 @@ reader_found number f e = record { is = inr (is_reader e); only = λ o a. inr (o
 pub no_reader : (number : ℕ) → 2 < number → IsAnswer (IsReader number) (λ (g : Flavour). g) (Err problem.NoReader)
 no_reader number more = record { is = inr (is_no_reader more); only = λ o a. inr (only o a) }
   where
-    only : (o : Result Flavour ℕ) → IsReader number o → as_code {X = Flavour} 7 ≡ o
+    only : (o : Result Flavour ℕ) → IsReader number o → as_code {X = Flavour} 4 ≡ o
     only o (is_reader {f = g} k) = absurd (let small = reader_small g in omega (arith, k, small, more))
     only o (is_no_reader other) = refl
 
@@ -154,7 +161,7 @@ text_found bytes h = record { is = inr (is_text h); only = λ o a. inr (only o a
 pub no_text : (bytes : List ℕ) → (IsUtf8 bytes → ⊥) → IsAnswer (IsText bytes) (λ (text : List ℕ). text) (Err problem.NoUtf8)
 no_text bytes never = record { is = inr (is_no_text never); only = λ o a. inr (only o a) }
   where
-    only : (o : Result (List ℕ) ℕ) → IsText bytes o → as_code {X = List ℕ} 5 ≡ o
+    only : (o : Result (List ℕ) ℕ) → IsText bytes o → as_code {X = List ℕ} 8 ≡ o
     only o (is_text k) = absurd (never k)
     only o (is_no_text other) = refl
 
@@ -220,14 +227,14 @@ module _ (text : List ℕ) where
       → IsAnswer (IsVersion text) (λ (w : Version). w) (Err (problem.Version failure))
   was_no_version failure h none = record { is = is failure h; only = λ o a. only o a failure none }
     where
-      is : (e : Failure) → IsVersionRefusal (trim text) e → (as_code {X = Version} (failure_code e 4) ≡ wanting) ⊎ IsVersion text (Err (failure_code e 4))
+      is : (e : Failure) → IsVersionRefusal (trim text) e → (as_code {X = Version} (failure_code e 7) ≡ wanting) ⊎ IsVersion text (Err (failure_code e 7))
       is None r = inl refl
       is (Some texts) (inl e) = absurd (cc e)
       is (Some texts) (inr r) = inr (is_no_version r.1)
 
       only : (o : Result Version ℕ) → IsVersion text o → (e : Failure) → ((v : Version) → IsVersionOutcome (trim text) (Ok v) → e ≡ None)
-          → (as_code {X = Version} (failure_code e 4) ≡ wanting) ⊎ (as_code {X = Version} (failure_code e 4) ≡ o)
-      only o (is_version {v = v} k) e none = inl (ap (λ (x : Failure). as_code {X = Version} (failure_code x 4)) (none v k))
+          → (as_code {X = Version} (failure_code e 7) ≡ wanting) ⊎ (as_code {X = Version} (failure_code e 7) ≡ o)
+      only o (is_version {v = v} k) e none = inl (ap (λ (x : Failure). as_code {X = Version} (failure_code x 7)) (none v k))
       only o (is_no_version k) None none = inl refl
       only o (is_no_version k) (Some texts) none = inr refl
 

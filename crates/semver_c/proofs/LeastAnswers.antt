@@ -1,5 +1,5 @@
--- Answers that name a least version.
-use Rattle.std.proofs.Common.{◌≡◌, ℕ, Option, Some, None, Result, Ok, Bool, refl, sym, ap, subst, inr}
+-- Answers that name a lowest version.
+use Rattle.std.proofs.Common.{◌≡◌, ℕ, Option, None, Result, Ok, Bool, refl, sym, ap, subst, inr, ◌∙◌}
 use Rattle.std.proofs.lemmas.List.Sorted.{IsPermutation-refl}
 use Rattle.std.specs.Prelude.{IfSome}
 use Rattle.semver_base.specs.LeastVersion.{HasNoBuild, IsLeast, IsOnlyLeast}
@@ -9,7 +9,7 @@ use Rattle.semver_req.specs.AnyOrder.{BothInAnyOrder, InAnyOrder, IsReordered}
 use Rattle.semver_req.specs.Requirement.{inner_means, tag_of}
 use Rattle.semver_req.specs.declared.range_set_or_tag.RangeSetOrTag.{RangeSetOrTag}
 use Rattle.semver_req.specs.declared.range_set_or_tag.RangeSetOrTag.TheVariants as inner
-use Rattle.semver_c.specs.Questions.{IsLeastOf, LeastOf, LeastOfBoth, is_least, is_none, least_of}
+use Rattle.semver_c.specs.Questions.{IsLowestOf, LeastOf, LeastOfBoth, least_of}
 use Rattle.semver_c.specs.Words.{IsAnswer}
 use Rattle.semver_c.specs.declared.questions.Least.{Least}
 
@@ -17,18 +17,12 @@ abbrev as_least : Option Version → Result Least ℕ
 as_least found = Ok (least_of found)
 
 module _ (means : Version → Bool) where
-  is_found : (found : Option Version) → IsLeast means found → IfSome found HasNoBuild → IfSome found ReadsBack → IsLeastOf means (as_least found)
-  is_found (Some v) h n r = is_least h n r
-  is_found None h n r = is_none h
-
-  only_found : (found : Option Version) → IsOnlyLeast means found → (o : Result Least ℕ) → IsLeastOf means o → as_least found ≡ o
-  only_found found only o (is_least {v = v} h n r) = ap as_least (sym (only (Some v) h n r))
-  only_found found only o (is_none h) = ap as_least (sym (only None h tt tt))
-
   found : (told : Least) (answer : Option Version) → told ≡ least_of answer → IsLeast means answer → IfSome answer HasNoBuild → IfSome answer ReadsBack
-      → IsOnlyLeast means answer → IsAnswer (IsLeastOf means) (λ (l : Least). l) (Ok told)
-  found told answer is h n r only = subst (λ (l : Least). IsAnswer (IsLeastOf means) (λ (k : Least). k) (Ok l)) (sym is)
-      (record { is = inr (is_found answer h n r); only = λ o a. inr (only_found answer only o a) })
+      → IsOnlyLeast means answer → IsAnswer (IsLowestOf means) (λ (l : Least). l) (Ok told)
+  found told answer is h n r only = subst (λ (l : Least). IsAnswer (IsLowestOf means) (λ (k : Least). k) (Ok l)) (sym is) (record {
+    is = inr (answer, record { least = h; no_build = n; reads_back = r }, refl);
+    only = λ o a. inr (ap as_least (sym (only a.0 a.1.least a.1.no_build a.1.reads_back)) ∙ sym a.2);
+  })
 
 same_order : (read : RangeSetOrTag) → IsReordered read read
 same_order (inner.RangeSet set) = IsPermutation-refl set.0

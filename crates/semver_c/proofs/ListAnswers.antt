@@ -33,51 +33,51 @@ module _ (flag : PreRelease) (read : RangeSetOrTag) where
   line_of_version text v h code e = subst (λ (c : ℕ). LineAnswer text (Ok c)) (sym e) (record { is = inr (is h.is); only = λ o a. inr (only o a) })
     where
       is : (as_value v ≡ wanting) ⊎ IsVersion text (Ok v) → FitsLine flag read text (Ok (fit_code (fit_of flag read v)))
-      is (inl none) = absurd (value_no_code v 6 none)
+      is (inl none) = absurd (value_no_code v 5 none)
       is (inr (is_version k)) = line_fits k
 
       same : (w : Version) → (as_value v ≡ wanting) ⊎ (as_value v ≡ as_value w) → v ≡ w
-      same w (inl none) = absurd (value_no_code v 6 none)
+      same w (inl none) = absurd (value_no_code v 5 none)
       same w (inr e) = same_value v w e
 
-      never : (as_value v ≡ wanting) ⊎ (as_value v ≡ as_code 4) → ⊥
-      never (inl none) = value_no_code v 6 none
-      never (inr e) = value_no_code v 4 e
+      never : (as_value v ≡ wanting) ⊎ (as_value v ≡ as_code 7) → ⊥
+      never (inl none) = value_no_code v 5 none
+      never (inr e) = value_no_code v 7 e
 
       only : (o : Result ℕ ℕ) → FitsLine flag read text o → as_value (fit_code (fit_of flag read v)) ≡ o
       only o (line_fits {v = w} k) = ap (λ (x : Version). as_value (fit_code (fit_of flag read x))) (same w (h.only (Ok w) (is_version k)))
-      only o (line_refused k) = absurd (never (h.only (Err 4) (is_no_version k)))
+      only o (line_refused k) = absurd (never (h.only (Err 7) (is_no_version k)))
 
-  pub line_of_refusal : (text : List ℕ) (p : Problem) → IsAnswer (IsVersion text) (λ (w : Version). w) (Err p) → problem_code p ≡ 4 → LineAnswer text (Ok 4)
-  line_of_refusal text p h four = record { is = inr (is (subst (λ (c : ℕ). (as_code {X = Version} c ≡ wanting) ⊎ IsVersion text (Err c)) four h.is)); only = λ o a. inr (only o a) }
+  pub line_of_refusal : (text : List ℕ) (p : Problem) → IsAnswer (IsVersion text) (λ (w : Version). w) (Err p) → problem_code p ≡ 7 → LineAnswer text (Ok 7)
+  line_of_refusal text p h seven = record { is = inr (is (subst (λ (c : ℕ). (as_code {X = Version} c ≡ wanting) ⊎ IsVersion text (Err c)) seven h.is)); only = λ o a. inr (only o a) }
     where
-      is : (as_code {X = Version} 4 ≡ wanting) ⊎ IsVersion text (Err 4) → FitsLine flag read text (Ok 4)
-      is (inl none) = absurd (omega (arith, same_code {X = Version} 4 6 none))
+      is : (as_code {X = Version} 7 ≡ wanting) ⊎ IsVersion text (Err 7) → FitsLine flag read text (Ok 7)
+      is (inl none) = absurd (omega (arith, same_code {X = Version} 7 5 none))
       is (inr (is_no_version k)) = line_refused k
 
       never : (w : Version) → (as_code {X = Version} (problem_code p) ≡ wanting) ⊎ (as_code {X = Version} (problem_code p) ≡ as_value w) → ⊥
-      never w (inl none) = absurd (omega (arith, four, same_code {X = Version} (problem_code p) 6 none))
+      never w (inl none) = absurd (omega (arith, seven, same_code {X = Version} (problem_code p) 5 none))
       never w (inr e) = code_no_value w (problem_code p) e
 
-      only : (o : Result ℕ ℕ) → FitsLine flag read text o → as_value 4 ≡ o
+      only : (o : Result ℕ ℕ) → FitsLine flag read text o → as_value 7 ≡ o
       only o (line_fits {v = w} k) = absurd (never w (h.only (Ok w) (is_version k)))
       only o (line_refused k) = refl
 
   -- a line has no problem but want of memory
   no_line_problem : (text : List ℕ) (c : ℕ) (o : Result ℕ ℕ) → o ≡ as_code c → FitsLine flag read text o → ⊥
   no_line_problem text c o e (line_fits {v = v} k) = value_no_code (fit_code (fit_of flag read v)) c e
-  no_line_problem text c o e (line_refused k) = value_no_code 4 c e
+  no_line_problem text c o e (line_refused k) = value_no_code 7 c e
 
   pub one_line_problem : (text other : List ℕ) (c d : ℕ) → FitsLine flag read text (Err c) → FitsLine flag read other (Err d) → c ≡ d
   one_line_problem text other c d h k = absurd (no_line_problem text c (Err c) refl h)
 
 -- versions have one problem
 pub one_version_problem : (text other : List ℕ) (c d : ℕ) → IsVersion text (Err c) → IsVersion other (Err d) → c ≡ d
-one_version_problem text other c d h k = four text c (Err c) refl h ∙ sym (four other d (Err d) refl k)
+one_version_problem text other c d h k = seven text c (Err c) refl h ∙ sym (seven other d (Err d) refl k)
   where
-    four : (t : List ℕ) (e : ℕ) (o : Result Version ℕ) → o ≡ as_code e → IsVersion t o → e ≡ 4
-    four t e o is (is_version {v = v} k) = absurd (value_no_code v e is)
-    four t e o is (is_no_version k) = sym (same_code {X = Version} 4 e is)
+    seven : (t : List ℕ) (e : ℕ) (o : Result Version ℕ) → o ≡ as_code e → IsVersion t o → e ≡ 7
+    seven t e o is (is_version {v = v} k) = absurd (value_no_code v e is)
+    seven t e o is (is_no_version k) = sym (same_code {X = Version} 7 e is)
 
 -- ---- all lines, each by the same question
 
@@ -94,11 +94,11 @@ module _ {A : Type 0} (Asked : List ℕ → Result A ℕ → Type 0) where
   only_value text x h = record { stands = stands h.is; only = λ o a. only o (h.only o a) }
     where
       stands : (as_value x ≡ wanting) ⊎ Asked text (Ok x) → Asked text (Ok x)
-      stands (inl none) = absurd (value_no_code x 6 none)
+      stands (inl none) = absurd (value_no_code x 5 none)
       stands (inr k) = k
 
       only : (o : Result A ℕ) → (as_value x ≡ wanting) ⊎ (as_value x ≡ o) → as_value x ≡ o
-      only o (inl none) = absurd (value_no_code x 6 none)
+      only o (inl none) = absurd (value_no_code x 5 none)
       only o (inr e) = e
 
   abbrev EachOnly : List (List ℕ) → List A → Type 0
@@ -205,7 +205,7 @@ module _ {A : Type 0} (Asked : List ℕ → Result A ℕ → Type 0) where
       answer at = record { is = is' a.is; only = λ o e. only o e }
         where
           wants : as_code {X = A} code ≡ wanting → as_code {X = List A} code ≡ wanting
-          wants none = code_as_code code 6 (same_code {X = A} code 6 none)
+          wants none = code_as_code code 5 (same_code {X = A} code 5 none)
 
           is' : (as_code {X = A} code ≡ wanting) ⊎ Asked line.now (Err code) → (as_code {X = List A} code ≡ wanting) ⊎ Each Asked texts (Err code)
           is' (inl none) = inl (wants none)
@@ -252,13 +252,13 @@ placed_reply Asked answer h old new code told = record { is = is h.is; only = λ
     given : Result Best ℕ
     given = outcome_of (λ (b : Best). b) answer
 
-    none : given ≡ wanting → code ≡ 6
+    none : given ≡ wanting → code ≡ 5
     none e = (subst (λ (o : Result Best ℕ). TellsPlace o old new code) e told).0
 
-    is : (given ≡ wanting) ⊎ Asked given → (code ≡ 6) ⊎ ((o : Result Best ℕ) × Asked o × TellsPlace o old new code)
+    is : (given ≡ wanting) ⊎ Asked given → (code ≡ 5) ⊎ ((o : Result Best ℕ) × Asked o × TellsPlace o old new code)
     is (inl e) = inl (none e)
     is (inr a) = inr (given, a, told)
 
-    only : (o : Result Best ℕ) → (given ≡ wanting) ⊎ (given ≡ o) → (code ≡ 6) ⊎ TellsPlace o old new code
+    only : (o : Result Best ℕ) → (given ≡ wanting) ⊎ (given ≡ o) → (code ≡ 5) ⊎ TellsPlace o old new code
     only o (inl e) = inl (none e)
     only o (inr e) = inr (subst (λ (o : Result Best ℕ). TellsPlace o old new code) e told)

@@ -9,11 +9,11 @@ module _ {E X : Type 0} (Asked : Result X ℕ → Type 0) (value : E → X) (num
   pub coded : (code : ℕ) → code ≡ code_of number (outcome_of value answer) → IsCode Asked number code
   coded code e = record { is = is h.is; only = λ o a. only o (h.only o a) }
     where
-      is : (outcome_of value answer ≡ wanting) ⊎ Asked (outcome_of value answer) → (code ≡ 6) ⊎ ((o : Result X ℕ) × Asked o × (code ≡ code_of number o))
+      is : (outcome_of value answer ≡ wanting) ⊎ Asked (outcome_of value answer) → (code ≡ 5) ⊎ ((o : Result X ℕ) × Asked o × (code ≡ code_of number o))
       is (inl none) = inl (e ∙ ap (code_of number) none)
       is (inr a) = inr (outcome_of value answer, a, e)
 
-      only : (o : Result X ℕ) → (outcome_of value answer ≡ wanting) ⊎ (outcome_of value answer ≡ o) → (code ≡ 6) ⊎ (code ≡ code_of number o)
+      only : (o : Result X ℕ) → (outcome_of value answer ≡ wanting) ⊎ (outcome_of value answer ≡ o) → (code ≡ 5) ⊎ (code ≡ code_of number o)
       only o (inl none) = inl (e ∙ ap (code_of number) none)
       only o (inr is) = inr (e ∙ ap (code_of number) is)
 
@@ -23,12 +23,12 @@ module _ {E X : Type 0} (Asked : Result X ℕ → Type 0) (value : E → X) (num
       Told : Result X ℕ → Type 0
       Told o = Tells number words o code t.text
 
-      none_told : outcome_of value answer ≡ wanting → Tells number words (outcome_of value answer) code t.text → code ≡ 6
+      none_told : outcome_of value answer ≡ wanting → Tells number words (outcome_of value answer) code t.text → code ≡ 5
       none_told none (inl six) = six
       none_told none (inr told) = told.0 ∙ ap (code_of number) none
 
       is : (outcome_of value answer ≡ wanting) ⊎ Asked (outcome_of value answer) → Tells number words (outcome_of value answer) code t.text
-          → (code ≡ 6) ⊎ ((o : Result X ℕ) × Asked o × Tells number words o code t.text)
+          → (code ≡ 5) ⊎ ((o : Result X ℕ) × Asked o × Tells number words o code t.text)
       is (inl none) told = inl (none_told none told)
       is (inr a) told = inr (outcome_of value answer, a, told)
 

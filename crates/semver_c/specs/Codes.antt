@@ -41,10 +41,10 @@ abbrev pub code_of : {X : Type 0} → (X → ℕ) → Result X ℕ → ℕ
 code_of number (Ok x) = number x
 code_of number (Err code) = code
 
--- the code is that of the outcome of the question, which has no other code; want of memory, 6, aside
+-- the code is that of the outcome of the question, which has no other code; out of memory, 5, aside
 pub record IsCode {X : Type 0} (Asked : Result X ℕ → Type 0) (number : X → ℕ) (code : ℕ) : Type 0 where
-  pub is : (code ≡ 6) ⊎ ((outcome : Result X ℕ) × Asked outcome × (code ≡ code_of number outcome))
-  pub only : (outcome : Result X ℕ) → Asked outcome → (code ≡ 6) ⊎ (code ≡ code_of number outcome)
+  pub is : (code ≡ 5) ⊎ ((outcome : Result X ℕ) × Asked outcome × (code ≡ code_of number outcome))
+  pub only : (outcome : Result X ℕ) → Asked outcome → (code ≡ 5) ⊎ (code ≡ code_of number outcome)
 
 -- ---- texts
 
@@ -64,7 +64,7 @@ IsTextOf words (Err code) text = Unit {0}
 
 -- the code and the text tell the outcome, or that memory is wanting
 abbrev pub Tells : {X : Type 0} → (X → ℕ) → (X → List ℕ) → Result X ℕ → ℕ → List ℕ → Type 0
-Tells number words outcome code text = (code ≡ 6) ⊎ ((code ≡ code_of number outcome) × IsTextOf words outcome text)
+Tells number words outcome code text = (code ≡ 5) ⊎ ((code ≡ code_of number outcome) × IsTextOf words outcome text)
 
 -- a text is placed that tells the outcome with the code
 pub record IsTold {X : Type 0} (number : X → ℕ) (words : X → List ℕ) (outcome : Result X ℕ) (old new : List ℕ)
@@ -78,8 +78,12 @@ pub record IsReply {X : Type 0} (Asked : Result X ℕ → Type 0) (number : X �
     (needed code : ℕ) : Type 0 where
   pub text : List ℕ
   pub placed_is : IsPlaced text old new needed
-  pub is : (code ≡ 6) ⊎ ((outcome : Result X ℕ) × Asked outcome × Tells number words outcome code text)
+  pub is : (code ≡ 5) ⊎ ((outcome : Result X ℕ) × Asked outcome × Tells number words outcome code text)
   pub only : (outcome : Result X ℕ) → Asked outcome → Tells number words outcome code text
+
+-- at any code but 1 nothing is written, and no length is told
+abbrev pub IsUntouched : List ℕ → List ℕ → ℕ → ℕ → Type 0
+IsUntouched old new needed code = (code ≡ 1 → ⊥) → (new ≡ old) × (needed ≡ 0)
 
 -- no text
 abbrev pub no_text : {X : Type 0} → X → List ℕ

@@ -2,11 +2,13 @@
 use Rattle.std.specs.Prelude.{◌≡◌, ◌⊎◌, ◌↔◌, IsTrue, ℕ, List, Bool, Option, Some, None, Result, Ok, Err, IfSome}
 use Rattle.std.specs.declared.cmp.Ordering.{Ordering}
 use Rattle.semver_base.specs.declared.version.Version.{Version}
+use Rattle.semver_req.specs.Outcome.{worked_on}
 use Rattle.semver_req.specs.Requirement.{Requirement, inner_overlap}
+use Rattle.semver_req.specs.declared.common.values.Flavour.{Flavour}
 use Rattle.semver_req.specs.declared.range_set_or_tag.RangeSetOrTag.{RangeSetOrTag}
 use Rattle.semver_c.specs.Codes.{bool_code, fit_code, order_code}
 use Rattle.semver_c.specs.Questions.{fit_of, pre_release_of}
-use Rattle.semver_c.specs.Words.{Is, Of, VersionOf, wanting}
+use Rattle.semver_c.specs.Words.{Is, Of, VersionOf, reader_number, wanting}
 use Rattle.semver_c.specs.declared.questions.Fit.{Fit}
 
 -- a value is the outcome, and where there is none the code tells the problem
@@ -21,6 +23,10 @@ pub record IsKept {V X : Type 0} (Asked : Result X ℕ → Type 0) (value : V �
   pub only : (outcome : Result X ℕ) → Asked outcome → (kept_outcome value kept code ≡ wanting)
       ⊎ (kept_outcome value kept code ≡ outcome)
   pub one : IfSome kept (λ x. code ≡ 1)
+
+-- the requirement keeps the text that the reader of this number worked on
+abbrev pub KeepsText : ℕ → List ℕ → Requirement → Type 0
+KeepsText number text req = (f : Flavour) → number ≡ reader_number f → req.raw_text ≡ worked_on f text
 
 -- does a version fit a requirement that is kept
 abbrev pub FitsKept : ℕ → RangeSetOrTag → List ℕ → Result Fit ℕ → Type 0

@@ -16,11 +16,11 @@ use Rattle.semver_c.specs.Words.{IsText, IsVersion, Of, Requirement}
 use Rattle.semver_c.specs.declared.lists.Best.{Best}
 use Rattle.semver_c.specs.declared.lists.Best.TheVariants as best
 
--- the code of a line: whether its version fits, or 4 where that is refused
+-- the code of a line: whether its version fits, or 7 where that is invalid
 pub data FitsLine (flag : PreRelease) (read : RangeSetOrTag) (text : List ℕ) : Result ℕ ℕ → Type 0 where
   line_fits : {v : Version} → IsVersionOutcome (trim text) (Ok v)
       → FitsLine flag read text (Ok (fit_code (fit_of flag read v)))
-  line_refused : {fault : Refusal} → IsVersionOutcome (trim text) (Err fault) → FitsLine flag read text (Ok 4)
+  line_refused : {fault : Refusal} → IsVersionOutcome (trim text) (Err fault) → FitsLine flag read text (Ok 7)
 
 -- each text has the value in its place
 abbrev pub AreEach : {A : Type 0} → (List ℕ → Result A ℕ → Type 0) → List (List ℕ) → List A → Type 0
@@ -69,5 +69,5 @@ TellsPlace (Err problem) old new code = (code ≡ problem) × (new ≡ old)
 
 -- the outcome of the question is told, which has no other; want of memory aside
 pub record IsPlaceReply (Asked : Result Best ℕ → Type 0) (old new code : ℕ) : Type 0 where
-  pub is : (code ≡ 6) ⊎ ((outcome : Result Best ℕ) × Asked outcome × TellsPlace outcome old new code)
-  pub only : (outcome : Result Best ℕ) → Asked outcome → (code ≡ 6) ⊎ TellsPlace outcome old new code
+  pub is : (code ≡ 5) ⊎ ((outcome : Result Best ℕ) × Asked outcome × TellsPlace outcome old new code)
+  pub only : (outcome : Result Best ℕ) → Asked outcome → (code ≡ 5) ⊎ TellsPlace outcome old new code

@@ -1,17 +1,16 @@
 -- What is asked at the border, each question by the values of its words.
 use Rattle.std.specs.Prelude.{◌≡◌, ◌==◌, ℕ, List, Bool, true, false, Option, None, Some, Result, Ok, if◌then◌else◌}
 use Rattle.std.specs.declared.cmp.Ordering.{Ordering}
-use Rattle.semver_base.specs.LeastVersion.{HasNoBuild, IsLeast}
+use Rattle.semver_base.specs.LeastVersion.{IsLowest}
 use Rattle.semver_base.specs.Precedence.{precedence_cmp}
-use Rattle.semver_base.specs.VersionText.{ReadsBack, version_text}
+use Rattle.semver_base.specs.VersionText.{version_text}
 use Rattle.semver_base.specs.declared.range.PreRelease.{PreRelease}
 use Rattle.semver_base.specs.declared.range.PreRelease.TheVariants.{Restricted, Admitted}
 use Rattle.semver_base.specs.declared.version.Version.{Version}
-use Rattle.semver_req.specs.Requirement.{inner_means, inner_means_alone, inner_means_with, inner_overlap, inner_text, inners_mean}
-use Rattle.semver_req.specs.Tag.{is_valid_tag}
+use Rattle.semver_req.specs.Requirement.{inner_means, inner_means_alone_with, inner_means_with, inner_overlap, inner_text, inners_mean_with}
 use Rattle.semver_req.specs.declared.range_set_or_tag.RangeSetOrTag.{RangeSetOrTag}
 use Rattle.semver_req.specs.declared.range_set_or_tag.RangeSetOrTag.TheVariants as inner
-use Rattle.semver_c.specs.Words.{Is, IsText, Of, Requirement, VersionOf}
+use Rattle.semver_c.specs.Words.{Is, Of, Requirement, VersionOf}
 use Rattle.semver_c.specs.declared.questions.Fit.{Fit}
 use Rattle.semver_c.specs.declared.questions.Fit.TheVariants as fit
 use Rattle.semver_c.specs.declared.questions.Least.{Least}
@@ -56,32 +55,26 @@ NormalText reader requirement = Of (Requirement reader requirement) (λ read. Is
 abbrev pub Displayed : List ℕ → Result (List ℕ) ℕ → Type 0
 Displayed version = Of (VersionOf version) (λ v. Is (version_text v))
 
--- ---- may a text be the tag of a version
-
-abbrev pub MayBeTag : List ℕ → Result Bool ℕ → Type 0
-MayBeTag bytes = Of (IsText bytes) (λ text. Is (is_valid_tag text))
-
--- ---- the least version of a test, without a build and with a text that is read back; or that there is none
-
-pub data IsLeastOf (means : Version → Bool) : Result Least ℕ → Type 0 where
-  is_least : {v : Version} → IsLeast means (Some v) → HasNoBuild v → ReadsBack v
-      → IsLeastOf means (Ok (least.Version v))
-  is_none : IsLeast means None → IsLeastOf means (Ok least.Nothing)
+-- ---- the lowest version of a test, or that there is none
 
 abbrev pub least_of : Option Version → Least
 least_of (Some v) = least.Version v
 least_of None = least.Nothing
 
+-- the outcome is the lowest version of the test
+abbrev pub IsLowestOf : (Version → Bool) → Result Least ℕ → Type 0
+IsLowestOf test outcome = (lowest : Option Version) × IsLowest test lowest × (outcome ≡ Ok (least_of lowest))
+
 -- of one requirement; a tag is told as one
 abbrev pub LeastOf : RangeSetOrTag → Result Least ℕ → Type 0
-LeastOf (inner.RangeSet set) outcome = IsLeastOf (inner_means (inner.RangeSet set)) outcome
+LeastOf (inner.RangeSet set) outcome = IsLowestOf (inner_means (inner.RangeSet set)) outcome
 LeastOf (inner.Tag tag) outcome = outcome ≡ Ok least.Tag
 
 -- of two, by what is meant of both
 abbrev pub LeastOfBoth : (RangeSetOrTag → RangeSetOrTag → Version → Bool) → RangeSetOrTag → RangeSetOrTag
     → Result Least ℕ → Type 0
 LeastOfBoth means (inner.RangeSet set) (inner.RangeSet other) outcome =
-    IsLeastOf (means (inner.RangeSet set) (inner.RangeSet other)) outcome
+    IsLowestOf (means (inner.RangeSet set) (inner.RangeSet other)) outcome
 LeastOfBoth means (inner.Tag tag) other outcome = outcome ≡ Ok least.Tag
 LeastOfBoth means (inner.RangeSet set) (inner.Tag tag) outcome = outcome ≡ Ok least.Tag
 
@@ -91,10 +84,10 @@ LeastMatch reader requirement = Of (Requirement reader requirement) LeastOf
 -- both match it
 abbrev pub LeastCommon : ℕ → List ℕ → List ℕ → Result Least ℕ → Type 0
 LeastCommon reader one other =
-    Of (Requirement reader one) (λ read. Of (Requirement reader other) (λ others. LeastOfBoth inners_mean read others))
+    Of (Requirement reader one) (λ read. Of (Requirement reader other) (λ others. LeastOfBoth (inners_mean_with Restricted) read others))
 
 -- the first matches it, and the other doesn't
 abbrev pub LeastOutside : ℕ → List ℕ → List ℕ → Result Least ℕ → Type 0
 LeastOutside reader one other =
     Of (Requirement reader one)
-    (λ read. Of (Requirement reader other) (λ others. LeastOfBoth inner_means_alone read others))
+    (λ read. Of (Requirement reader other) (λ others. LeastOfBoth (inner_means_alone_with Restricted) read others))

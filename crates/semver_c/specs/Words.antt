@@ -13,19 +13,20 @@ use Rattle.semver_req.specs.declared.range_set_or_tag.RangeSetOrTag.{RangeSetOrT
 use Rattle.semver_c.specs.declared.words.Problem.{Problem}
 use Rattle.semver_c.specs.declared.words.Problem.TheVariants as problem
 
--- ---- problems: 3 a requirement is refused, 4 a version is, 5 no UTF-8, 6 want of memory, 7 no reader
+-- ---- problems: 3 an invalid requirement, 4 a number that no reader has, 5 out of memory, 7 an invalid version, 8 bytes that
+-- aren't UTF-8; 3, 4 and 5 mean what they do as statuses of the programs, and 6 is theirs alone
 
 -- the code of a failure: want of memory, or that of the refusal
 abbrev pub failure_code : Failure → ℕ → ℕ
-failure_code None refusal = 6
+failure_code None refusal = 5
 failure_code (Some texts) refusal = refusal
 
 abbrev pub problem_code : Problem → ℕ
 problem_code (problem.Requirement failure) = failure_code failure 3
-problem_code (problem.Version failure) = failure_code failure 4
-problem_code problem.NoUtf8 = 5
-problem_code problem.OutOfMemory = 6
-problem_code problem.NoReader = 7
+problem_code (problem.Version failure) = failure_code failure 7
+problem_code problem.NoUtf8 = 8
+problem_code problem.OutOfMemory = 5
+problem_code problem.NoReader = 4
 
 -- what a problem is, in words
 abbrev pub problem_message : Problem → List ℕ
@@ -43,7 +44,7 @@ outcome_of value (Ok e) = Ok (value e)
 outcome_of value (Err p) = Err (problem_code p)
 
 abbrev pub wanting : {X : Type 0} → Result X ℕ
-wanting = Err 6
+wanting = Err 5
 
 -- the result is the outcome of the question, which has no other; want of memory aside
 pub record IsAnswer {E X : Type 0} (Asked : Result X ℕ → Type 0) (value : E → X)
@@ -72,12 +73,12 @@ reader_number Specifier = 2
 -- the reader of a number
 pub data IsReader (number : ℕ) : Result Flavour ℕ → Type 0 where
   is_reader : {f : Flavour} → number ≡ reader_number f → IsReader number (Ok f)
-  is_no_reader : 2 < number → IsReader number (Err 7)
+  is_no_reader : 2 < number → IsReader number (Err 4)
 
 -- bytes that are a text
 pub data IsText (bytes : List ℕ) : Result (List ℕ) ℕ → Type 0 where
   is_text : IsUtf8 bytes → IsText bytes (Ok bytes)
-  is_no_text : (IsUtf8 bytes → ⊥) → IsText bytes (Err 5)
+  is_no_text : (IsUtf8 bytes → ⊥) → IsText bytes (Err 8)
 
 -- what a reader reads of a text; it means what the comparators of the text mean
 pub data IsRead (f : Flavour) (text : List ℕ) : Result RangeSetOrTag ℕ → Type 0 where
@@ -87,7 +88,7 @@ pub data IsRead (f : Flavour) (text : List ℕ) : Result RangeSetOrTag ℕ → T
 -- the version of a text
 pub data IsVersion (text : List ℕ) : Result Version ℕ → Type 0 where
   is_version : {v : Version} → IsVersionOutcome (trim text) (Ok v) → IsVersion text (Ok v)
-  is_no_version : {fault : Refusal} → IsVersionOutcome (trim text) (Err fault) → IsVersion text (Err 4)
+  is_no_version : {fault : Refusal} → IsVersionOutcome (trim text) (Err fault) → IsVersion text (Err 7)
 
 -- a requirement, of a reader's number and bytes
 abbrev pub Requirement : ℕ → List ℕ → Result RangeSetOrTag ℕ → Type 0

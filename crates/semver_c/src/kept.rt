@@ -1,9 +1,9 @@
 //! Questions about values that are kept across calls.
 
-ghost use Rattle.std.specs.Prelude.{string_bytes};
+ghost use Rattle.std.specs.Prelude.{IfOk, string_bytes};
 ghost use Rattle.semver_base.specs.VersionText.{version_text};
 ghost use Rattle.semver_req.specs.Requirement.{inner_text};
-ghost use Rattle.semver_c.specs.Kept.{FitsKept};
+ghost use Rattle.semver_c.specs.Kept.{FitsKept, KeepsText};
 ghost use Rattle.semver_c.specs.Words.{Is, IsAnswer, Requirement, VersionOf};
 
 use crate::questions::{Fit, fitting, pre_release_of, text_of_version};
@@ -17,7 +17,8 @@ pub fn boxed_requirement(
     reader: u32,
     bytes: &[u8],
 ) -> Result<Box<VersionReq>, Problem>
-    ensures { IsAnswer (Requirement reader bytes.now) (λ kept. kept.value.inner) result }
+    ensures answer { IsAnswer (Requirement reader bytes.now) (λ kept. kept.value.inner) result }
+    ensures text { IfOk result (λ kept. KeepsText reader bytes.now kept.value) }
 {
     let requirement = requirement_of(alloc, reader, bytes)?;
     match Box::new(alloc, requirement) {

@@ -1,20 +1,22 @@
 //! The border to C: the questions as calls over bytes, each a pointer and a length, and what is kept across calls.
 //!
-//! Each call answers a code. 0, 1 and 2 are its answers; 3 is that a requirement is refused, 4 that a version is, 5 that bytes
-//! are no UTF-8, 6 want of memory, and 7 that no reader has the number. The readers are npm's, 0, the normalized one, 1, and
-//! the strict one, 2. A text goes to the front of the caller's buffer where it fits, and its length is always told.
+//! Each call answers a code. 0, 1 and 2 are its answers; 3 is that a requirement is invalid, 4 that no reader has the number,
+//! 5 out of memory, 7 that a version is invalid, and 8 that bytes aren't UTF-8. As statuses of the programs 3, 4 and 5 mean the
+//! same, and 6 is theirs alone. The readers are npm's, 0, the normalized one, 1, and the strict one, 2. A text goes to the
+//! front of the caller's buffer where it fits, and its length is always reported.
 #![tactic(auto)]
 
-ghost use Rattle.std.specs.Prelude.{◌≡◌, IfSome, List, None, ℕ};
+ghost use Rattle.std.specs.Prelude.{◌≡◌, IfSome, IsUtf8, List, None, ℕ};
 ghost use Rattle.handles.specs.Handle.{Holds};
 ghost use Rattle.semver_base.specs.Precedence.{precedence_cmp, version_cmp};
 ghost use Rattle.semver_base.specs.VersionText.{version_text};
 ghost use Rattle.semver_req.specs.Requirement.{inner_text};
-ghost use Rattle.semver_c.specs.Codes.{IsCode, IsPlaced, IsReply, bool_code, fit_code, least_code, least_text, no_text, one_code, order_code};
-ghost use Rattle.semver_c.specs.Kept.{FitsKept, IsKept, IsKeptEqual, IsKeptFit, IsKeptOrder, IsKeptOverlap};
+ghost use Rattle.semver_req.specs.Tag.{is_valid_tag};
+ghost use Rattle.semver_c.specs.Codes.{IsCode, IsPlaced, IsReply, IsUntouched, bool_code, fit_code, least_code, least_text, no_text, one_code, order_code};
+ghost use Rattle.semver_c.specs.Kept.{FitsKept, IsKept, IsKeptEqual, IsKeptFit, IsKeptOrder, IsKeptOverlap, KeepsText};
 ghost use Rattle.semver_c.specs.Lists.{BestLine, FitsLines, IsPlaceReply};
 ghost use Rattle.semver_c.specs.Packages.{PartsOfPackage};
-ghost use Rattle.semver_c.specs.Questions.{Displayed, Fits, LeastCommon, LeastMatch, LeastOutside, MayBeTag, NormalText, Orders, Overlaps};
+ghost use Rattle.semver_c.specs.Questions.{Displayed, Fits, LeastCommon, LeastMatch, LeastOutside, NormalText, Orders, Overlaps};
 ghost use Rattle.semver_c.specs.References.{PartsOfReference};
 ghost use Rattle.semver_c.specs.Sorting.{Sorts};
 ghost use Rattle.semver_c.specs.Words.{Is, Requirement, VersionOf};
@@ -28,18 +30,20 @@ mod sorting;
 mod telling;
 mod words;
 
+use deno_semver::npm::is_valid_npm_tag;
 use handles::{RequirementHandle, VersionHandle};
 use kept::{boxed_requirement, boxed_version, fits_kept, kept_text, kept_version_text};
 use lists::{best_line, filter, tell_place};
 use packages::package_parts;
 use questions::{
-    common, displayed, fits, fitting, least_match, may_be_tag, normal_text, order, outside,
-    overlap, pre_release_of, text_of_version,
+    common, displayed, fits, fitting, least_match, normal_text, order, outside, overlap,
+    pre_release_of, text_of_version,
 };
 use references::reference_parts;
 use semver_req::laws::equal_requirements;
 use sorting::sort;
 use std::alloc::Global;
+use std::str;
 use telling::{
     code_of_bool, code_of_fit, code_of_order, fit_code, order_code, put, tell_codes, tell_fit,
     tell_least, tell_places, tell_problem, tell_text,
@@ -170,13 +174,17 @@ pub extern "C" fn semver_version(
 /// Whether the text may be the tag of a version: 0 no, 1 yes.
 #[unsafe(no_mangle)]
 pub extern "C" fn semver_may_be_tag(text: &[u8]) -> u32
-    ensures { IsCode (MayBeTag text.now) bool_code result }
+    ensures tag { IsUtf8 text.now → result ≡ bool_code (is_valid_tag text.now) }
+    ensures not_utf8 { (IsUtf8 text.now → ⊥) → result ≡ 8 }
 {
-    code_of_bool(may_be_tag(text))
+    match str::from_utf8(text) {
+        Ok(text) => u32::from(is_valid_npm_tag(text)),
+        Err(_) => 8,
+    }
 }
 
 /// Whether each version of a list, a line each, fits the requirement: 1, where answer n is the code of line n, 0 no, 1 yes, 2 the
-/// requirement is a tag, and 4 the version is refused. `needed` is how many lines there are; where there are more than answers,
+/// requirement is a tag, and 7 the version is invalid. `needed` is how many lines there are; where there are more than answers,
 /// these stay as they were.
 #[unsafe(no_mangle)]
 pub extern "C" fn semver_filter(
@@ -188,8 +196,9 @@ pub extern "C" fn semver_filter(
     answers: &mut [u8],
     needed: &mut usize,
 ) -> u32
-    ensures { IsReply (FitsLines pre_releases reader requirement.now versions.now)
+    ensures answer { IsReply (FitsLines pre_releases reader requirement.now versions.now)
         one_code (λ codes. codes) answers.old answers.new needed.new result }
+    ensures no_answers { IsUntouched answers.old answers.new needed.new result }
 {
     tell_codes(
         filter(alloc, reader, requirement, versions, pre_releases),
@@ -209,8 +218,9 @@ pub extern "C" fn semver_best(
     pre_releases: u32,
     place: &mut usize,
 ) -> u32
-    ensures { IsPlaceReply (BestLine pre_releases reader requirement.now versions.now)
+    ensures answer { IsPlaceReply (BestLine pre_releases reader requirement.now versions.now)
         place.old place.new result }
+    ensures stays { (result ≡ 1 → ⊥) → place.new ≡ place.old }
 {
     tell_place(
         best_line(alloc, reader, requirement, versions, pre_releases),
@@ -228,8 +238,9 @@ pub extern "C" fn semver_sort(
     places: &mut [usize],
     needed: &mut usize,
 ) -> u32
-    ensures { IsReply (Sorts versions.now) one_code (λ places. places)
+    ensures answer { IsReply (Sorts versions.now) one_code (λ places. places)
         places.old places.new needed.new result }
+    ensures no_places { IsUntouched places.old places.new needed.new result }
 {
     tell_places(sort(alloc, versions), places, needed)
 }
@@ -278,6 +289,7 @@ pub extern "C" fn semver_req_read(
     requires { handle.old.value ≡ None }
     ensures kept { IsKept (Requirement reader text.now) (λ req. req.inner)
         handle.new.value result }
+    ensures text { IfSome handle.new.value (KeepsText reader text.now) }
     ensures message { (words : List ℕ) × IsPlaced words out.old out.new needed.new }
 {
     match boxed_requirement(alloc, reader, text) {

@@ -24,7 +24,7 @@ fn line_code(
 {
     match version_of_text(alloc, version) {
         Ok(version) => Ok(fit_code(&fitting(requirement, &version, pre_release))),
-        Err(problem) if problem.code() == 4 => Ok(4),
+        Err(problem) if problem.code() == 7 => Ok(7),
         Err(_) => Err(Problem::OutOfMemory),
     }
 }
@@ -89,7 +89,8 @@ impl Best {
 
 /// Tells the best match by a code, and its place.
 pub fn tell_place(answer: Result<Best, Problem>, place: &mut usize) -> u32
-    ensures { TellsPlace (outcome_of (λ best. best) answer) place.old place.new result }
+    ensures told { TellsPlace (outcome_of (λ best. best) answer) place.old place.new result }
+    ensures stays { (result ≡ 1 → ⊥) → place.new ≡ place.old }
 {
     match answer {
         Ok(Best::Nothing) => 0,

@@ -3,12 +3,12 @@
 ghost use Rattle.std.specs.Prelude.{◌≡◌, IfOk, string_bytes};
 ghost use Rattle.semver_base.specs.VersionText.{version_text};
 ghost use Rattle.semver_req.specs.Readers.{IsReadOrTag};
-ghost use Rattle.semver_req.specs.Requirement.{inner_means_alone, inners_mean};
-ghost use Rattle.semver_c.specs.Questions.{Displayed, Fits, LeastCommon, LeastMatch, LeastOf, LeastOfBoth, LeastOutside, MayBeTag, NormalText, Orders, Overlaps, fit_of, least_of, pre_release_of};
+ghost use Rattle.semver_base.specs.declared.range.PreRelease.TheVariants.{Restricted};
+ghost use Rattle.semver_req.specs.Requirement.{inner_means_alone_with, inners_mean_with};
+ghost use Rattle.semver_c.specs.Questions.{Displayed, Fits, LeastCommon, LeastMatch, LeastOf, LeastOfBoth, LeastOutside, NormalText, Orders, Overlaps, fit_of, least_of, pre_release_of};
 ghost use Rattle.semver_c.specs.Words.{IsAnswer};
 
 use crate::words::{Problem, requirement_of, text_of, version_of};
-use deno_semver::npm::is_valid_npm_tag;
 use deno_semver::{PreRelease, Version, VersionReq};
 use std::alloc::{AllocError, Global};
 use std::cmp::Ordering;
@@ -121,14 +121,6 @@ pub fn displayed(alloc: Global, version: &[u8]) -> Result<String, Problem>
     Ok(text_of_version(alloc, &version)?)
 }
 
-/// Whether a text may be the tag of a version.
-pub fn may_be_tag(bytes: &[u8]) -> Result<bool, Problem>
-    ensures { IsAnswer (MayBeTag bytes.now) (λ told. told) result }
-{
-    let text = text_of(bytes)?;
-    Ok(is_valid_npm_tag(text))
-}
-
 // The least version that the requirement matches.
 fn least_of_one(alloc: Global, requirement: &VersionReq) -> Result<Least, Problem>
     requires { IsReadOrTag requirement.now.inner }
@@ -137,33 +129,33 @@ fn least_of_one(alloc: Global, requirement: &VersionReq) -> Result<Least, Proble
     if requirement.tag().is_some() {
         return Ok(Least::Tag);
     }
-    Ok(Least::of(requirement.min_version(alloc)?))
+    Ok(Least::of(requirement.min_version(alloc, PreRelease::Restricted)?))
 }
 
 // The least version that both requirements match.
 fn least_of_both(alloc: Global, one: &VersionReq, other: &VersionReq) -> Result<Least, Problem>
     requires own_read { IsReadOrTag one.now.inner }
     requires other_read { IsReadOrTag other.now.inner }
-    ensures { IsAnswer (LeastOfBoth inners_mean one.now.inner other.now.inner)
+    ensures { IsAnswer (LeastOfBoth (inners_mean_with Restricted) one.now.inner other.now.inner)
         (λ least. least) result }
 {
     if one.tag().is_some() || other.tag().is_some() {
         return Ok(Least::Tag);
     }
-    Ok(Least::of(one.common_version(alloc, other)?))
+    Ok(Least::of(one.common_version(alloc, other, PreRelease::Restricted)?))
 }
 
 // The least version that the one requirement matches, and the other doesn't.
 fn least_outside(alloc: Global, one: &VersionReq, other: &VersionReq) -> Result<Least, Problem>
     requires own_read { IsReadOrTag one.now.inner }
     requires other_read { IsReadOrTag other.now.inner }
-    ensures { IsAnswer (LeastOfBoth inner_means_alone one.now.inner other.now.inner)
+    ensures { IsAnswer (LeastOfBoth (inner_means_alone_with Restricted) one.now.inner other.now.inner)
         (λ least. least) result }
 {
     if one.tag().is_some() || other.tag().is_some() {
         return Ok(Least::Tag);
     }
-    Ok(Least::of(one.version_outside(alloc, other)?))
+    Ok(Least::of(one.version_outside(alloc, other, PreRelease::Restricted)?))
 }
 
 /// The least version that a requirement matches.

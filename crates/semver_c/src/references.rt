@@ -127,8 +127,12 @@ fn reference_failure(alloc: Global, error: &PackageReqReferenceParseError) -> Pa
             Ok(source) => failure_of(alloc, source),
             Err(_) => ParseFailure::memory(),
         },
-        PackageReqReferenceParseError::InvalidPathWithVersion(_) => {
-            ParseFailure::with_texts(alloc, "The version stands in the path.", None)
+        PackageReqReferenceParseError::InvalidPathWithVersion(error) => {
+            let (scheme, suggested) = (error.kind.scheme_with_colon(), &error.suggested);
+            match format!(in alloc; "The version stands in the path; write {scheme}{suggested}") {
+                Ok(message) => ParseFailure::with_texts(alloc, message.as_str(), None),
+                Err(_) => ParseFailure::memory(),
+            }
         }
         PackageReqReferenceParseError::Memory => ParseFailure::memory(),
     }

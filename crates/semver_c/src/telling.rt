@@ -2,7 +2,7 @@
 
 ghost use Rattle.std.specs.Prelude.{◌≡◌, ◌⊎◌, List, ℕ, string_bytes};
 ghost use Rattle.semver_base.specs.VersionText.{version_text};
-ghost use Rattle.semver_c.specs.Codes.{IsPlaced, IsTold, bool_code, code_of, fit_code, least_code, least_text, no_text, one_code, order_code};
+ghost use Rattle.semver_c.specs.Codes.{IsPlaced, IsTold, IsUntouched, bool_code, code_of, fit_code, least_code, least_text, no_text, one_code, order_code};
 ghost use Rattle.semver_c.specs.Words.{outcome_of, problem_code, problem_message};
 
 use crate::questions::{Fit, Least, text_of_version};
@@ -138,7 +138,7 @@ fn tell_version(
     needed: &mut usize,
 ) -> u32
     ensures { (text : List ℕ) × IsPlaced text out.old out.new needed.new
-        × ((result ≡ 6) ⊎ ((result ≡ found) × (text ≡ version_text version.now))) }
+        × ((result ≡ 5) ⊎ ((result ≡ found) × (text ≡ version_text version.now))) }
 {
     match text_of_version(alloc, version) {
         Ok(text) => {
@@ -159,7 +159,7 @@ fn tell_found(
     needed: &mut usize,
 ) -> u32
     ensures { (text : List ℕ) × IsPlaced text out.old out.new needed.new
-        × ((result ≡ 6) ⊎ ((result ≡ least_code found nothing least.now)
+        × ((result ≡ 5) ⊎ ((result ≡ least_code found nothing least.now)
         × (text ≡ least_text least.now))) }
 {
     match least {
@@ -195,8 +195,9 @@ pub fn tell_least(
 
 /// Tells a list of codes; of a problem the code alone.
 pub fn tell_codes(answer: Result<Vec<u8>, Problem>, out: &mut [u8], needed: &mut usize) -> u32
-    ensures { IsTold one_code (λ codes. codes) (outcome_of (λ codes. codes.items) answer)
+    ensures told { IsTold one_code (λ codes. codes) (outcome_of (λ codes. codes.items) answer)
         out.old out.new needed.new result }
+    ensures untouched { IsUntouched out.old out.new needed.new result }
 {
     match answer {
         Ok(codes) => {
@@ -216,8 +217,9 @@ pub fn tell_places(
     out: &mut [usize],
     needed: &mut usize,
 ) -> u32
-    ensures { IsTold one_code (λ places. places) (outcome_of (λ places. places.items) answer)
+    ensures told { IsTold one_code (λ places. places) (outcome_of (λ places. places.items) answer)
         out.old out.new needed.new result }
+    ensures untouched { IsUntouched out.old out.new needed.new result }
 {
     match answer {
         Ok(places) => {

@@ -2,7 +2,8 @@
 
 ghost use Rattle.std.specs.Prelude.{◌≡◌, ◌<◌, IfOk, IsUtf8, MatchResult, Err};
 ghost use Rattle.semver_base.specs.VersionText.{ReadsBack};
-ghost use Rattle.semver_req.specs.Readers.{IsReadOrTag, IsReaderAnswer};
+ghost use Rattle.semver_req.specs.Readers.{IsReadOrTag};
+ghost use Rattle.semver_c.specs.Kept.{KeepsText};
 ghost use Rattle.semver_c.specs.Words.{IsAnswer, IsVersion, Requirement, VersionOf, failure_code, problem_code, problem_message, reader_number};
 ghost use Rattle.semver_c.specs.declared.words.Problem.TheVariants as problem;
 
@@ -37,7 +38,7 @@ impl From<AllocError> for Problem {
 fn failure_code(failure: &ParseFailure, refusal: u32) -> u32
     ensures { result ≡ failure_code failure.now refusal }
 {
-    if failure.is_memory() { 6 } else { refusal }
+    if failure.is_memory() { 5 } else { refusal }
 }
 
 impl Problem {
@@ -47,10 +48,10 @@ impl Problem {
     {
         match self {
             Problem::Requirement(failure) => failure_code(failure, 3),
-            Problem::Version(failure) => failure_code(failure, 4),
-            Problem::NoUtf8 => 5,
-            Problem::OutOfMemory => 6,
-            Problem::NoReader => 7,
+            Problem::Version(failure) => failure_code(failure, 7),
+            Problem::NoUtf8 => 8,
+            Problem::OutOfMemory => 5,
+            Problem::NoReader => 4,
         }
     }
 
@@ -91,25 +92,15 @@ pub fn text_of(bytes: &[u8]) -> Result<&str, Problem>
     }
 }
 
-// What the reader reads of the text.
-fn read(alloc: Global, reader: Flavour, text: &str) -> Result<VersionReq, ParseFailure>
-    ensures { IsReaderAnswer (λ failure. failure) reader text.now result }
-{
-    match reader {
-        Flavour::Npm => Ok(VersionReq::parse_from_npm(alloc, text)?),
-        Flavour::Normal => Ok(VersionReq::parse_from_normalized(alloc, text)?),
-        Flavour::Specifier => Ok(VersionReq::parse_from_specifier(alloc, text)?),
-    }
-}
-
 /// The requirement that the reader of this number reads.
 pub fn requirement_of(alloc: Global, reader: u32, bytes: &[u8]) -> Result<VersionReq, Problem>
     ensures answer { IsAnswer (Requirement reader bytes.now) (λ req. req.inner) result }
     ensures read { IfOk result (λ req. IsReadOrTag req.inner) }
+    ensures text { IfOk result (KeepsText reader bytes.now) }
 {
     let reader = reader_of(reader)?;
     let text = text_of(bytes)?;
-    match read(alloc, reader, text) {
+    match VersionReq::parse(alloc, text, reader) {
         Ok(requirement) => Ok(requirement),
         Err(failure) => Err(Problem::Requirement(failure)),
     }

@@ -1,5 +1,5 @@
 use Rattle.semver_c.proofs.Replies.{replied}
 use Rattle.semver_c.proofs.semver_filter.Goals as goal
 
-pub returns : goal.returns
-returns c = replied _ _ _ c.filter.result c.filter.ensures _ c.args.answers.now c.tell_codes.new.out c.tell_codes.new.needed c.tell_codes.result c.tell_codes.ensures
+pub returns-clause-answer : goal.returns-clause-answer
+returns-clause-answer c = replied _ _ _ c.filter.result c.filter.ensures _ c.args.answers.now c.tell_codes.new.out c.tell_codes.new.needed c.tell_codes.result c.tell_codes.ensures.told

@@ -11,5 +11,5 @@ returns-in-Ok c = line_of_version c.args.pre_release c.args.requirement.now.inne
 
 pub returns-in-Err : goal.returns-in-Err
 returns-in-Err c =
-    let four : problem_code c.in-Err.problem ≡ 4 = let code = c.code.ensures in let test = c.if-code-eq4.true in grind (arith, nat_tests) in
-    line_of_refusal c.args.pre_release c.args.requirement.now.inner c.args.version.now c.in-Err.problem c.in-Err.ensures four
+    let seven : problem_code c.in-Err.problem ≡ 7 = let code = c.code.ensures in let test = c.if-code-eq7.true in grind (arith, nat_tests) in
+    line_of_refusal c.args.pre_release c.args.requirement.now.inner c.args.version.now c.in-Err.problem c.in-Err.ensures seven

@@ -1,5 +1,6 @@
 use Rattle.std.proofs.Common.{◌≡◌, None, rules}
-use Rattle.semver_req.specs.Requirement.{inner_means_alone, tag_of}
+use Rattle.semver_base.specs.declared.range.PreRelease.TheVariants.{Restricted}
+use Rattle.semver_req.specs.Requirement.{inner_means_alone_with, tag_of}
 use Rattle.semver_c.proofs.LeastAnswers.{both_told}
 use Rattle.semver_c.proofs.questions.least_outside.Goals as goal
 
@@ -8,5 +9,5 @@ returns c =
     let none : tag_of c.args.one.now.inner ≡ None = search rules in
     let none_other : tag_of c.args.other.now.inner ≡ None = search rules in
     let found = c.in_ok-version_outside.ensures in
-    both_told inner_means_alone c.args.one.now.inner c.args.other.now.inner none none_other c.of.result c.in_ok-version_outside.field-0 c.of.ensures found.least found.no_build
+    both_told (inner_means_alone_with Restricted) c.args.one.now.inner c.args.other.now.inner none none_other c.of.result c.in_ok-version_outside.field-0 c.of.ensures found.least found.no_build
     (found.reads_back c.requires.own_read c.requires.other_read) (found.any_order c.requires.own_read c.requires.other_read)
