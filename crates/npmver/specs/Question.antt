@@ -6,8 +6,6 @@ use Rattle.npmver.specs.Told.{Told, Refused, ATag, Text, NoMatch, Usage, OutOfMe
 use Rattle.npmver.specs.declared.Answer.{Answer}
 use Rattle.npmver.specs.declared.Answer.TheVariants as answer
 use Rattle.npmver.specs.declared.Problem.{Problem}
-use Rattle.npmver.specs.declared.Reader.{Reader}
-use Rattle.npmver.specs.declared.Reader.TheVariants as reader
 use Rattle.semver_base.specs.Comparators.{Comparator}
 use Rattle.semver_base.specs.Meaning.{tree_means, tree_means_with}
 use Rattle.semver_base.specs.VersionGrammar.{IsVersionOutcome}
@@ -37,11 +35,6 @@ allowance_of flag (inner.RangeSet set) v = answer_whether (inner_means_with flag
 allowance_of flag (inner.Tag tag) v = answer.Tag tag
 
 -- ---- readers
-
-abbrev pub flavour_of : Reader → Flavour
-flavour_of reader.Npm = Npm
-flavour_of reader.Normal = Normal
-flavour_of reader.Strict = Specifier
 
 -- the reader of a name
 pub data IsReader (name : List ℕ) : Flavour → Type 0 where

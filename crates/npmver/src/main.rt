@@ -14,21 +14,15 @@
 
 ghost use Rattle.std.specs.Prelude.{◌≡◌, ◌⊎◌, ◌∷◌, ◌<◌, ℕ, List, [], length, Err, IfErr, IfOk, MatchOption, None, map, string_bytes};
 ghost use Rattle.semver_base.specs.VersionText.{version_text};
-ghost use Rattle.std.specs.Str.{trim};
-ghost use Rattle.semver_req.specs.PieceReading.{IsCutRefusal};
 ghost use Rattle.semver_req.specs.Readers.{IsReaderAnswer};
-ghost use Rattle.semver_req.specs.declared.common.values.Flavour.TheVariants.{Npm};
-ghost use Rattle.npmver.specs.Question.{AreOnlyVersions, ByReader, IsAnswer, IsAsked, IsBest, IsChosen, IsFirstRefused, IsFit, IsMeeting, IsNormal, IsReader, IsStatus, IsVersionsRefusal, NoReader, allowance_of, flavour_of, answer_whether};
+ghost use Rattle.semver_req.specs.TextRefusal.{IsTextRefusal};
+ghost use Rattle.npmver.specs.Question.{AreOnlyVersions, ByReader, IsAnswer, IsAsked, IsBest, IsChosen, IsFirstRefused, IsFit, IsMeeting, IsNormal, IsReader, IsStatus, IsVersionsRefusal, NoReader, allowance_of, answer_whether};
 ghost use Rattle.npmver.specs.declared.Problem.TheVariants as problem;
-ghost use Rattle.npmver.specs.declared.Reader.TheVariants as reader;
 ghost use Rattle.npmver.specs.Told.{IsProper, failure_of, problem_of, status_of, told_answer, told_problem};
 
-use deno_semver::npm::NpmVersionReqParseError;
 use deno_semver::resolve::max_satisfying;
-use deno_semver::{
-    PackageTag, ParseFailure, PreRelease, Version, VersionParseError, VersionReq,
-    VersionReqNormalizedParseError, VersionReqSpecifierParseError,
-};
+use deno_semver::{PackageTag, ParseFailure, PreRelease, Version, VersionParseError, VersionReq};
+use semver_req::common::values::Flavour;
 use std::alloc::{AllocError, Global};
 use std::env::Env;
 use std::io::{ErrorKind, Write};
@@ -77,30 +71,6 @@ impl From<ParseFailure> for Problem {
         } else {
             Problem::Refused(failure)
         }
-    }
-}
-
-impl From<VersionReqSpecifierParseError> for Problem {
-    ghost from_gives = { λ error problem. problem ≡ problem_of error.source };
-
-    fn from(error: VersionReqSpecifierParseError) -> Problem {
-        Problem::from(error.source)
-    }
-}
-
-impl From<VersionReqNormalizedParseError> for Problem {
-    ghost from_gives = { λ error problem. problem ≡ problem_of error.source };
-
-    fn from(error: VersionReqNormalizedParseError) -> Problem {
-        Problem::from(error.source)
-    }
-}
-
-impl From<NpmVersionReqParseError> for Problem {
-    ghost from_gives = { λ error problem. problem ≡ problem_of error.source };
-
-    fn from(error: NpmVersionReqParseError) -> Problem {
-        Problem::from(error.source)
     }
 }
 
@@ -179,75 +149,62 @@ fn three(alloc: Global, command: &str, one: &str, other: &str) -> Result<Answer,
     }
 }
 
-/// A reader of requirements.
-#[derive(Clone, Copy)]
-enum Reader {
-    Npm,
-    Normal,
-    Strict,
+// The grammar of this name.
+fn flavour_of(name: &str) -> Option<Flavour>
+    ensures { MatchOption result (NoReader name.now) (IsReader name.now) }
+{
+    match name {
+        "npm" => Some(Flavour::Npm),
+        "normal" => Some(Flavour::Normal),
+        "strict" => Some(Flavour::Specifier),
+        _ => None,
+    }
 }
 
-impl Reader {
-    // The reader of this name.
-    fn named(name: &str) -> Option<Reader>
-        ensures { MatchOption result (NoReader name.now)
-            (λ reader. IsReader name.now (flavour_of reader)) }
-    {
-        match name {
-            "npm" => Some(Reader::Npm),
-            "normal" => Some(Reader::Normal),
-            "strict" => Some(Reader::Strict),
-            _ => None,
-        }
-    }
+// The requirement that the text is by this grammar.
+fn read(alloc: Global, flavour: Flavour, text: &str) -> Result<VersionReq, Problem>
+    ensures reads { IsReaderAnswer failure_of flavour text.now result }
+    ensures refusal { IfErr result (λ problem. IsTextRefusal flavour text.now (failure_of problem)) }
+    ensures proper { IfErr result IsProper }
+{
+    Ok(VersionReq::parse(alloc, text, flavour)?)
+}
 
-    // The requirement that the reader makes of a text.
-    fn read(self, alloc: Global, text: &str) -> Result<VersionReq, Problem>
-        ensures reads { IsReaderAnswer failure_of (flavour_of self) text.now result }
-        ensures refusal { self ≡ reader.Npm
-            → IfErr result (λ problem. IsCutRefusal Npm (trim text.now) (failure_of problem)) }
-        ensures proper { IfErr result IsProper }
-    {
-        match self {
-            Reader::Npm => Ok(VersionReq::parse_from_npm(alloc, text)?),
-            Reader::Normal => Ok(VersionReq::parse_from_normalized(alloc, text)?),
-            Reader::Strict => Ok(VersionReq::parse_from_specifier(alloc, text)?),
-        }
-    }
+// Whether the version, which is read also where the requirement is a tag, matches the requirement.
+fn fits_by(
+    alloc: Global,
+    flavour: Flavour,
+    requirement: &str,
+    version: &str,
+    pre_release: PreRelease,
+) -> Result<Answer, Problem>
+    ensures { IsAnswer (IsFit pre_release flavour requirement.now version.now) result }
+{
+    let requirement = read(alloc, flavour, requirement)?;
+    let version = Version::parse_standard(alloc, version)?;
+    Ok(allowance(alloc, &requirement, &version, pre_release)?)
+}
 
-    // Whether the version, which is read also where the requirement is a tag, matches the requirement.
-    fn fits(
-        self,
-        alloc: Global,
-        requirement: &str,
-        version: &str,
-        pre_release: PreRelease,
-    ) -> Result<Answer, Problem>
-        ensures { IsAnswer (IsFit pre_release (flavour_of self) requirement.now version.now)
-            result }
-    {
-        let requirement = self.read(alloc, requirement)?;
-        let version = Version::parse_standard(alloc, version)?;
-        Ok(allowance(alloc, &requirement, &version, pre_release)?)
-    }
+// The highest of the versions, each of which is read also where the requirement is a tag, that matches.
+fn best_by(
+    alloc: Global,
+    flavour: Flavour,
+    requirement: &str,
+    versions: &[String],
+) -> Result<Answer, Problem>
+    ensures { IsAnswer (IsBest flavour requirement.now (map string_bytes versions.now)) result }
+{
+    let requirement = read(alloc, flavour, requirement)?;
+    let versions = versions_of(alloc, versions)?;
+    Ok(choice(alloc, &requirement, versions.as_slice())?)
+}
 
-    // The greatest of the versions, each of which is read also where the requirement is a tag, that matches.
-    fn best(self, alloc: Global, requirement: &str, versions: &[String]) -> Result<Answer, Problem>
-        ensures { IsAnswer (IsBest (flavour_of self) requirement.now
-            (map string_bytes versions.now)) result }
-    {
-        let requirement = self.read(alloc, requirement)?;
-        let versions = versions_of(alloc, versions)?;
-        Ok(choice(alloc, &requirement, versions.as_slice())?)
-    }
-
-    // The normal text of the requirement, or the tag.
-    fn normal(self, alloc: Global, requirement: &str) -> Result<Answer, Problem>
-        ensures { IsAnswer (IsNormal (flavour_of self) requirement.now) result }
-    {
-        let requirement = self.read(alloc, requirement)?;
-        Ok(Answer::Text(requirement.to_string_normalized(alloc)?))
-    }
+// The canonical form of the requirement, or the tag.
+fn normal_by(alloc: Global, flavour: Flavour, requirement: &str) -> Result<Answer, Problem>
+    ensures { IsAnswer (IsNormal flavour requirement.now) result }
+{
+    let requirement = read(alloc, flavour, requirement)?;
+    Ok(Answer::Text(requirement.to_string_normalized(alloc)?))
 }
 
 // Whether the requirement allows the version, or which tag it is.
@@ -335,8 +292,8 @@ fn fits(
     ensures { IsAnswer
         (ByReader reader.now (λ f. IsFit pre_release f requirement.now version.now)) result }
 {
-    match Reader::named(reader) {
-        Some(reader) => reader.fits(alloc, requirement, version, pre_release),
+    match flavour_of(reader) {
+        Some(flavour) => fits_by(alloc, flavour, requirement, version, pre_release),
         None => Err(Problem::Usage),
     }
 }
@@ -351,8 +308,8 @@ fn best(
     ensures { IsAnswer (ByReader reader.now
         (λ f. IsBest f requirement.now (map string_bytes versions.now))) result }
 {
-    match Reader::named(reader) {
-        Some(reader) => reader.best(alloc, requirement, versions),
+    match flavour_of(reader) {
+        Some(flavour) => best_by(alloc, flavour, requirement, versions),
         None => Err(Problem::Usage),
     }
 }
@@ -361,8 +318,8 @@ fn best(
 fn normal(alloc: Global, reader: &str, requirement: &str) -> Result<Answer, Problem>
     ensures { IsAnswer (ByReader reader.now (λ f. IsNormal f requirement.now)) result }
 {
-    match Reader::named(reader) {
-        Some(reader) => reader.normal(alloc, requirement),
+    match flavour_of(reader) {
+        Some(flavour) => normal_by(alloc, flavour, requirement),
         None => Err(Problem::Usage),
     }
 }
@@ -373,8 +330,8 @@ fn meet(alloc: Global, one: &str, other: &str) -> Result<Answer, Problem>
     ensures refusal { IfErr result
         (λ problem. IsFirstRefused one.now other.now (failure_of problem)) }
 {
-    let one = Reader::Npm.read(alloc, one)?;
-    let other = Reader::Npm.read(alloc, other)?;
+    let one = read(alloc, Flavour::Npm, one)?;
+    let other = read(alloc, Flavour::Npm, other)?;
     Ok(Answer::of(one.intersects(&other)))
 }
 

@@ -1,5 +1,5 @@
 use Rattle.npmver.specs.Question.{npm, normal, strict}
-use Rattle.npmver.proofs.Reader.named.Goals as goal
+use Rattle.npmver.proofs.flavour_of.Goals as goal
 
 pub returns-in-npm : goal.returns-in-npm
 returns-in-npm c = npm c.in-npm.is
