@@ -164,7 +164,8 @@ fn flavour_of(name: &str) -> Option<Flavour>
 // The requirement that the text is by this grammar.
 fn read(alloc: Global, flavour: Flavour, text: &str) -> Result<VersionReq, Problem>
     ensures reads { IsReaderAnswer failure_of flavour text.now result }
-    ensures refusal { IfErr result (λ problem. IsTextRefusal flavour text.now (failure_of problem)) }
+    ensures refusal { IfErr result
+        (λ problem. IsTextRefusal flavour text.now (failure_of problem)) }
     ensures proper { IfErr result IsProper }
 {
     Ok(VersionReq::parse(alloc, text, flavour)?)

@@ -149,7 +149,8 @@ fn least_of_both(alloc: Global, one: &VersionReq, other: &VersionReq) -> Result<
 fn least_outside(alloc: Global, one: &VersionReq, other: &VersionReq) -> Result<Least, Problem>
     requires own_read { IsReadOrTag one.now.inner }
     requires other_read { IsReadOrTag other.now.inner }
-    ensures { IsAnswer (LeastOfBoth (inner_means_alone_with Restricted) one.now.inner other.now.inner)
+    ensures { IsAnswer
+        (LeastOfBoth (inner_means_alone_with Restricted) one.now.inner other.now.inner)
         (λ least. least) result }
 {
     if one.tag().is_some() || other.tag().is_some() {

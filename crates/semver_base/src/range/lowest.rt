@@ -165,7 +165,8 @@ impl RangeBound {
 
 // Whether some range matches the version.
 fn some_match(ranges: &[VersionRange], version: &Version, pre_release: PreRelease) -> bool
-    ensures { result ≡ list_any (λ range. range_means_with pre_release range version.now) ranges.now }
+    ensures { result
+        ≡ list_any (λ range. range_means_with pre_release range version.now) ranges.now }
 {
     ranges
         .iter()
