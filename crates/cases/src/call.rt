@@ -1,12 +1,12 @@
 //! The calls that a row can ask, by their names.
 
-use crate::{dependencies, json_forms, memory, packages, references, resolve, written};
+use crate::{compared, dependencies, json_forms, memory, packages, references, resolve, written};
 use requirement_cases::call;
 use requirement_cases::words::{Answer, Word};
 use std::alloc::Global;
 
 /// The names of all calls, in the order in which they are counted.
-pub const NAMES: [&str; 87] = [
+pub const NAMES: [&str; 90] = [
     "text",
     "items",
     "copy-succeeds",
@@ -57,6 +57,9 @@ pub const NAMES: [&str; 87] = [
     "package",
     "package-error",
     "order",
+    "order-of",
+    "equal-of",
+    "wildcard",
     "reference",
     "reference-error",
     "version-reference",
@@ -109,6 +112,7 @@ pub fn ask(alloc: Global, name: &str, words: &[Word<'_>]) -> Option<Answer> {
         .or(resolve::ask(alloc, name, words))
         .or(memory::ask(alloc, name, words))
         .or(packages::ask(alloc, name, words))
+        .or(compared::ask(alloc, name, words))
         .or(references::ask(alloc, name, words))
         .or(dependencies::ask(alloc, name, words))
         .or(json_forms::ask(alloc, name, words))

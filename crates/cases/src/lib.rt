@@ -6,6 +6,7 @@
 #![tactic(auto)]
 
 mod call;
+mod compared;
 mod dependencies;
 mod json_forms;
 mod memory;

@@ -6,8 +6,9 @@ use crate::told::{Copied, Refusal, Told};
 use deno_semver::jsr::{JsrPackageNvReference, JsrPackageReqReference, normalized_export_name};
 use deno_semver::npm::{NpmPackageNvReference, NpmPackageReqReference};
 use deno_semver::package::{
-    PackageNvReferenceParseError, PackageReqReferenceParseError, Registry, RegistryNvReference,
-    RegistryReqReference, SpecifierError,
+    PackageNvReference, PackageNvReferenceParseError, PackageReqReference,
+    PackageReqReferenceParseError, Registry, RegistryNvReference, RegistryReqReference,
+    SpecifierError,
 };
 use requirement_cases::asked::{both, pair};
 use requirement_cases::words::{Answer, Fault, Word, answer, single, two};
@@ -89,6 +90,16 @@ pub fn jsr_version(alloc: Global, text: &str) -> Result<JsrPackageNvReference, F
 /// The reference to a version of an npm package that a text is.
 pub fn npm_version(alloc: Global, text: &str) -> Result<NpmPackageNvReference, Fault> {
     told::value(NpmPackageNvReference::from_str(alloc, text))
+}
+
+/// What stands in the reference to an npm package that a text is.
+pub fn npm_inner(alloc: Global, text: &str) -> Result<PackageReqReference, Fault> {
+    Ok(npm(alloc, text)?.into_inner())
+}
+
+/// What stands in the reference to a version of an npm package that a text is.
+pub fn npm_version_inner(alloc: Global, text: &str) -> Result<PackageNvReference, Fault> {
+    Ok(npm_version(alloc, text)?.into_inner())
 }
 
 // `reference`, `jsr` or `npm`, and a text: `read`, the name, the text of the requirement of versions, the path or null, how

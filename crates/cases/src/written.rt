@@ -1,7 +1,6 @@
 //! Values as they are displayed, and what is appended to a text.
 
 use crate::{dependencies, packages, references};
-use deno_semver::package::{PackageNvReference, PackageReqReference};
 use deno_semver::{SmallStackString, StackString, StringAppendable, StringType, VersionReq};
 use requirement_cases::asked::{both, read, triple, version_of};
 use requirement_cases::shown;
@@ -105,16 +104,8 @@ fn written_of_reference(alloc: Global, kind: &str, value: &str, start: &str) -> 
         "npm" => written(alloc, start, references::npm(alloc, value)),
         "jsr-version" => written(alloc, start, references::jsr_version(alloc, value)),
         "npm-version" => written(alloc, start, references::npm_version(alloc, value)),
-        "reference" => written(alloc, start, npm_inner(alloc, value)),
-        "version-reference" => written(alloc, start, npm_version_inner(alloc, value)),
+        "reference" => written(alloc, start, references::npm_inner(alloc, value)),
+        "version-reference" => written(alloc, start, references::npm_version_inner(alloc, value)),
         _ => Err(Fault::Unreadable),
     }
-}
-
-fn npm_inner(alloc: Global, text: &str) -> Result<PackageReqReference, Fault> {
-    Ok(references::npm(alloc, text)?.into_inner())
-}
-
-fn npm_version_inner(alloc: Global, text: &str) -> Result<PackageNvReference, Fault> {
-    Ok(references::npm_version(alloc, text)?.into_inner())
 }
