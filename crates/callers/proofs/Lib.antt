@@ -1,4 +1,3 @@
-pub mod Installing
 pub mod Locking
 pub mod PackagesAllowed
 pub mod ReadAgain

@@ -1,10 +1,7 @@
--- What is answered of the text of a requirement and the text of a version, from what their readers answer.
-use Rattle.std.proofs.Common.{◌≡◌, ℕ, true, false, List, Ok, Err, inl, inr, refl, subst, ap}
-use Rattle.std.specs.Str.{trim}
-use Rattle.callers.specs.Allowance.{AllowsText, EitherIsRefused, IsAllowance, IsTold, allowance_of, yes_or_no}
+-- What is answered of the text of a requirement, from what its parser answers.
+use Rattle.std.proofs.Common.{ℕ, List, Ok, refl, ap}
+use Rattle.callers.specs.Allowance.{IsAllowance, IsTold, allowance_of, yes_or_no}
 use Rattle.semver_base.specs.Meaning.{tree_means}
-use Rattle.semver_base.specs.VersionGrammar.{IsVersionOutcome}
-use Rattle.semver_base.specs.declared.failure.Refusal.{Refusal}
 use Rattle.semver_base.specs.declared.range.PreRelease.TheVariants.{Restricted}
 use Rattle.semver_base.specs.declared.version.Version.{Version}
 use Rattle.semver_req.specs.Outcome.{IsOutcome, Outcome, Ranges, Refused, Tag, tree_ranges}
@@ -32,20 +29,3 @@ alone_read source f text req v h = record {
   refused = λ t. h.answer Refused t;
   refused_only = tt;
 }
-
-module _ {E : Type 0} (source : E → Failure) (f : Flavour) (text version : List ℕ) where
-  -- both were read
-  pub both_read : (req : Requirement) (v : Version) → IsReaderAnswer source f text (Ok req) → IsVersionOutcome (trim version) (Ok v)
-      → ((fault : Refusal) → IsVersionOutcome (trim version) (Err fault) → ⊥) → ((w : Version) → IsVersionOutcome (trim version) (Ok w) → v ≡ w)
-      → AllowsText f text version (Ok (allowance_of req.inner v))
-  both_read req v h is no_fault only = record {
-    told = (h.outcome.outcome, v, h.outcome.is_outcome, is, told_of f text h.outcome.outcome req.inner v h.outcome.is_outcome h.outcome.is_read h.means);
-    ranges = λ tree w t k. subst (λ u. allowance_of req.inner v ≡ yes_or_no (tree_means (tree_ranges tree) u)) (only w k) (told_of f text (Ranges tree) req.inner v t (h.answer (Ranges tree) t) h.means);
-    tag = λ name w t k. told_of f text (Tag name) req.inner v t (h.answer (Tag name) t) h.means;
-    refused = go;
-    refused_only = tt;
-  }
-    where
-      go : EitherIsRefused f text version → false ≡ true
-      go (inl t) = h.answer Refused t
-      go (inr k) = absurd (no_fault k.0 k.1)

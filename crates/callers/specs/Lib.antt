@@ -1,6 +1,5 @@
 pub mod Allowance
 pub mod ImportMap
-pub mod Install
 pub mod Lockfile
 pub mod Packages
 pub mod References

@@ -4,11 +4,8 @@
 #![tactic(auto)]
 
 pub mod import_map;
-pub mod install;
 pub mod lockfile;
-pub mod overlap;
 pub mod packages;
 pub mod requirements;
 pub mod stored;
-pub mod texts;
 pub mod versions;

@@ -3,15 +3,11 @@
 ghost use Rattle.std.specs.Prelude.{◌≡◌, IfErr};
 ghost use Rattle.std.specs.Str.{trim};
 ghost use Rattle.semver_req.specs.PieceReading.{IsCutRefusal};
-ghost use Rattle.semver_req.specs.SpecifierRefusals.{IsSpecifierRefusal};
-ghost use Rattle.semver_req.specs.declared.common.values.Flavour.TheVariants.{Normal, Npm, Specifier};
-ghost use Rattle.callers.specs.Allowance.{AllowsText, IsAllowance, IsEitherRefusal, allowance_of, yes_or_no};
+ghost use Rattle.semver_req.specs.declared.common.values.Flavour.TheVariants.{Npm};
+ghost use Rattle.callers.specs.Allowance.{IsAllowance, allowance_of, yes_or_no};
 
-use deno_semver::npm::{NpmVersionReqParseError, parse_npm_version};
-use deno_semver::{
-    ParseFailure, Version, VersionReq, VersionReqNormalizedParseError,
-    VersionReqSpecifierParseError,
-};
+use deno_semver::npm::NpmVersionReqParseError;
+use deno_semver::{Version, VersionReq};
 use std::alloc::Global;
 
 /// Whether a requirement allows a version.
@@ -57,47 +53,4 @@ pub fn allowed_by_npm(
 {
     let requirement = VersionReq::parse_from_npm(alloc, text)?;
     Ok(allowance_by(&requirement, version))
-}
-
-/// Is the version allowed by this text, as a normalized requirement? ([`allowed_by_npm`] says what is answered.)
-pub fn allowed_by_normalized(
-    alloc: Global,
-    text: &str,
-    version: &Version,
-) -> Result<Allowance, VersionReqNormalizedParseError>
-    ensures answers { IsAllowance (λ e. e.source) Normal text.now version.now result }
-    ensures refusal { IfErr result (λ e. IsCutRefusal Normal text.now e.source) }
-{
-    let requirement = VersionReq::parse_from_normalized(alloc, text)?;
-    Ok(allowance_by(&requirement, version))
-}
-
-/// Is the version allowed by this text of a package specifier? ([`allowed_by_npm`] says what is answered.)
-pub fn allowed_by_specifier(
-    alloc: Global,
-    text: &str,
-    version: &Version,
-) -> Result<Allowance, VersionReqSpecifierParseError>
-    ensures answers { IsAllowance (λ e. e.source) Specifier text.now version.now result }
-    ensures refusal { IfErr result (λ e. IsSpecifierRefusal text.now e.source) }
-{
-    let requirement = VersionReq::parse_from_specifier(alloc, text)?;
-    Ok(allowance_by(&requirement, version))
-}
-
-/// Is the version that one text is allowed by the requirement that the other is, both as npm reads them?
-///
-/// For every tree of comparators and the version of the texts it is exactly where the tree means the version, and a text
-/// that is a tag is told as one. Otherwise the answer is the refusal of either text, or want of memory.
-pub fn text_allowed_by_npm(
-    alloc: Global,
-    requirement: &str,
-    version: &str,
-) -> Result<Allowance, ParseFailure>
-    ensures allows { AllowsText Npm requirement.now version.now result }
-    ensures refusal { IfErr result (IsEitherRefusal Npm requirement.now version.now) }
-{
-    let requirement = VersionReq::parse_from_npm(alloc, requirement)?;
-    let version = parse_npm_version(alloc, version)?;
-    Ok(allowance_by(&requirement, &version))
 }

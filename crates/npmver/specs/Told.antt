@@ -1,12 +1,17 @@
--- What the program tells.
-use Rattle.std.specs.Prelude.{◌≡◌, ℕ, List, None, Some, Result, Ok, Err, string_bytes}
-use Rattle.npmver.specs.declared.Answer.{Answer}
-use Rattle.npmver.specs.declared.Answer.TheVariants as answer
+-- What the program prints.
+use Rattle.std.specs.Prelude.{ℕ, List, Bool, true, false, Option, None, Some, Result, Ok, Err, string_bytes}
+use Rattle.semver_base.specs.VersionText.{version_text}
+use Rattle.answers.specs.Asking as fault
+use Rattle.answers.specs.Asking.{Fault, fault_of}
+use Rattle.answers.specs.declared.asking.Answer.{Answer}
+use Rattle.answers.specs.declared.asking.Answer.TheVariants as answer
+use Rattle.answers.specs.declared.questions.Best.{Best}
+use Rattle.npmver.specs.declared.Line.{Line}
+use Rattle.npmver.specs.declared.Line.TheVariants as line
 use Rattle.npmver.specs.declared.Problem.{Problem}
 use Rattle.npmver.specs.declared.Problem.TheVariants as problem
-use Rattle.semver_req.specs.Readers.{Failure}
 
--- an answer, a refusal, the usage line, or want of memory
+-- an answer, that an argument is rejected, the usage line, or that memory ran out
 pub data Told : Type 0 where
   Yes : Told
   No : Told
@@ -17,39 +22,44 @@ pub data Told : Type 0 where
   Usage : Told
   OutOfMemory : Told
 
-abbrev pub told_answer : Answer → Told
-told_answer answer.Yes = Yes
-told_answer answer.No = No
-told_answer (answer.Tag tag) = ATag tag
-told_answer (answer.Text text) = Text (string_bytes text)
-told_answer answer.NoMatch = NoMatch
+abbrev pub told_answer : Line → Told
+told_answer line.Yes = Yes
+told_answer line.No = No
+told_answer (line.Tag tag) = ATag tag
+told_answer (line.Text text) = Text (string_bytes text)
+told_answer line.NoMatch = NoMatch
+
+abbrev pub told_fault : Fault → Told
+told_fault (fault.Invalid kind place) = Refused
+told_fault fault.OutOfMemory = OutOfMemory
 
 abbrev pub told_problem : Problem → Told
 told_problem problem.Usage = Usage
-told_problem (problem.Refused failure) = Refused
-told_problem problem.OutOfMemory = OutOfMemory
+told_problem (problem.Unanswered why) = told_fault (fault_of why)
 
--- what is told where this is the result
-abbrev pub told_by : Result Answer Problem → Told
-told_by (Ok answer) = told_answer answer
+-- what is printed where this is the result
+abbrev pub told_by : Result Line Problem → Told
+told_by (Ok line) = told_answer line
 told_by (Err problem) = told_problem problem
 
--- a failure that isn't want of memory is a refusal
-abbrev pub problem_of : Failure → Problem
-problem_of None = problem.OutOfMemory
-problem_of (Some texts) = problem.Refused (Some texts)
+-- ---- the lines of answers
 
--- why something was refused; none for want of memory
-abbrev pub failure_of : Problem → Failure
-failure_of (problem.Refused failure) = failure
-failure_of problem.Usage = None
-failure_of problem.OutOfMemory = None
+abbrev pub told_whether : Bool → Told
+told_whether true = Yes
+told_whether false = No
 
--- want of memory is told as that
-abbrev pub IsProper : Problem → Type 0
-IsProper problem = problem ≡ problem_of (failure_of problem)
+abbrev pub told_match : Answer Bool → Told
+told_match (answer.Value matches) = told_whether matches
+told_match (answer.Tag tag) = ATag tag
 
--- the exit status of what is told
+-- the text of the version
+abbrev pub told_best : Answer (Option Best) → Told
+told_best (answer.Value (Some best)) = Text (version_text best.version)
+told_best (answer.Value None) = NoMatch
+told_best (answer.Tag tag) = ATag tag
+
+-- ---- statuses
+
 abbrev pub status_of : Told → ℕ
 status_of Yes = 0
 status_of No = 1

@@ -3,30 +3,28 @@
 use crate::args::Options;
 use crate::console::{Console, Status, Stop, print_line};
 use crate::object::Object;
+use answers::asking::{Answer, Kind, Problem};
+use answers::questions::{common_version, text_of_version, version_outside};
 use clap::ArgMatches;
-use deno_semver::ParseFailure;
-use range_answers::reading::RefusedWord;
-use range_answers::together::{Common, Within, common_version, containment};
+use deno_semver::Version;
 use serde_json::Value;
 use std::alloc::{AllocError, Global};
 use std::io::Write;
 
 impl<O: Write, E: Write> Console<O, E> {
-    /// Tells that a requirement is refused, or that memory is wanting.
-    pub fn refuse_requirement(
-        &mut self,
-        word: &str,
-        failure: &ParseFailure,
-    ) -> Result<Status, Stop> {
-        if failure.is_memory() {
+    /// Reports which of the arguments is invalid, or that memory ran out.
+    pub fn reject(&mut self, arguments: &[&str], problem: &Problem) -> Result<Status, Stop> {
+        let Problem::Invalid(invalid) = problem else {
             return Err(Stop::OutOfMemory);
-        }
-        Ok(self.refuse("requirement", word, failure.message()))
-    }
-
-    fn refuse_one_of(&mut self, words: &[&str], refused: &RefusedWord) -> Result<Status, Stop> {
-        let word = words.get(refused.place).copied().unwrap_or("");
-        self.refuse_requirement(word, &refused.failure)
+        };
+        let kind = match invalid.kind {
+            Kind::Range => "requirement",
+            Kind::Version => "version",
+            Kind::Package => "package",
+            Kind::Reference => "reference",
+        };
+        let argument = arguments.get(invalid.place).copied().unwrap_or("");
+        Ok(self.refuse(kind, argument, invalid.failure.message()))
     }
 
     /// Prints the tag that a requirement is.
@@ -54,7 +52,7 @@ impl<O: Write, E: Write> Console<O, E> {
         }
     }
 
-    // Prints whether a requirement allows no more than another one: the least version that it alone allows, where it does.
+    // Prints whether a requirement allows no more than another one, or the lowest version that it alone allows.
     fn within(&mut self, options: Options, first: Option<&str>) -> Result<Status, Stop> {
         if options.json {
             let json = within_json(self.alloc, first);
@@ -89,7 +87,15 @@ fn print_within<O: Write>(out: &mut O, first: Option<&str>) -> Result<(), Stop> 
     }
 }
 
-/// `ranges common REQ REQ..`: the least version that suits all, or `none`.
+// The text of a version, where there is one.
+fn shown(alloc: Global, version: &Option<Version>) -> Result<Option<String>, AllocError> {
+    match version {
+        Some(version) => Ok(Some(text_of_version(alloc, version)?)),
+        None => Ok(None),
+    }
+}
+
+/// `ranges common REQ REQ..`: the lowest version that suits all, or `none`.
 pub fn common<O: Write, E: Write>(
     console: &mut Console<O, E>,
     matches: &ArgMatches<'_>,
@@ -97,27 +103,26 @@ pub fn common<O: Write, E: Write>(
 ) -> Result<Status, Stop> {
     let words = matches.get_strs("REQ").unwrap_or(&[]);
     match common_version(console.alloc, options.flavour, options.pre_release, words) {
-        Ok(common) => tell_common(console, options, &common),
-        Err(refused) => console.refuse_one_of(words, &refused),
+        Ok(answer) => print_common(console, options, &answer),
+        Err(problem) => console.reject(words, &problem),
     }
 }
 
-fn tell_common<O: Write, E: Write>(
+fn print_common<O: Write, E: Write>(
     console: &mut Console<O, E>,
     options: Options,
-    common: &Common,
+    answer: &Answer<Option<Version>>,
 ) -> Result<Status, Stop> {
-    match common {
-        Common::Least(version) => {
-            let version = format!(in console.alloc; "{version}")?;
-            console.version(options, Some(version.as_str()))
+    match answer {
+        Answer::Value(lowest) => {
+            let lowest = shown(console.alloc, lowest)?;
+            console.version(options, lowest.as_deref())
         }
-        Common::Nothing => console.version(options, None),
-        Common::Tag(tag) => console.tag(options, tag.as_str()),
+        Answer::Tag(tag) => console.tag(options, tag.as_str()),
     }
 }
 
-/// `ranges within NEW OLD`: `yes`, or `no` and the least version that only NEW allows.
+/// `ranges within NEW OLD`: `yes`, or `no` and the lowest version that only NEW allows.
 pub fn within<O: Write, E: Write>(
     console: &mut Console<O, E>,
     matches: &ArgMatches<'_>,
@@ -125,29 +130,28 @@ pub fn within<O: Write, E: Write>(
 ) -> Result<Status, Stop> {
     let new = matches.get_str("NEW").unwrap_or("");
     let old = matches.get_str("OLD").unwrap_or("");
-    match containment(
+    match version_outside(
         console.alloc,
         options.flavour,
         options.pre_release,
         new,
         old,
     ) {
-        Ok(within) => tell_within(console, options, &within),
-        Err(refused) => console.refuse_one_of(&[new, old], &refused),
+        Ok(answer) => print_outside(console, options, &answer),
+        Err(problem) => console.reject(&[new, old], &problem),
     }
 }
 
-fn tell_within<O: Write, E: Write>(
+fn print_outside<O: Write, E: Write>(
     console: &mut Console<O, E>,
     options: Options,
-    within: &Within,
+    answer: &Answer<Option<Version>>,
 ) -> Result<Status, Stop> {
-    match within {
-        Within::Yes => console.within(options, None),
-        Within::No(first) => {
-            let first = format!(in console.alloc; "{first}")?;
-            console.within(options, Some(first.as_str()))
+    match answer {
+        Answer::Value(lowest) => {
+            let lowest = shown(console.alloc, lowest)?;
+            console.within(options, lowest.as_deref())
         }
-        Within::Tag(tag) => console.tag(options, tag.as_str()),
+        Answer::Tag(tag) => console.tag(options, tag.as_str()),
     }
 }

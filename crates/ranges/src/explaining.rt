@@ -3,9 +3,9 @@
 use crate::args::Options;
 use crate::console::{Console, Status, Stop, print_line};
 use crate::object::Object;
+use answers::explained::{Explanation, Matches, Meaning, Piece, explain};
 use clap::ArgMatches;
 use deno_semver::{PreRelease, RangeBound, Version, VersionBound, VersionBoundKind, VersionRange};
-use range_answers::explained::{Explanation, Matches, Meaning, Piece, explain};
 use serde_json::Value;
 use std::alloc::{AllocError, Global};
 use std::fmt;
@@ -337,6 +337,6 @@ pub fn tell<O: Write, E: Write>(
     let word = matches.get_str("REQ").unwrap_or("");
     match explain(console.alloc, options.flavour, options.pre_release, word) {
         Ok(explanation) => tell_explanation(console, options, &explanation),
-        Err(failure) => console.refuse_requirement(word, &failure),
+        Err(problem) => console.reject(&[word], &problem),
     }
 }

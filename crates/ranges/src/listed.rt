@@ -3,10 +3,11 @@
 use crate::args::Options;
 use crate::console::{Console, Status, Stop, json_text, print_line};
 use crate::input::{Take, take_all};
+use answers::reading::range;
+use answers::sorting::{Order, sorted_places};
 use clap::ArgMatches;
 use deno_semver::resolve::max_satisfying_with;
 use deno_semver::{ParseFailure, PreRelease, Version, VersionReq};
-use range_answers::versions::{Entry, Order, fits};
 use serde_json::Value;
 use std::alloc::{AllocError, Global};
 use std::io::Write;
@@ -76,10 +77,15 @@ impl Take for Filtering<'_> {
         console: &mut Console<O, E>,
         text: &str,
     ) -> Result<Result<(), ParseFailure>, Stop> {
-        match fits(console.alloc, self.requirement, self.pre_release, text) {
-            Ok(true) => self.printed.add(console, text)?,
-            Ok(false) => (),
-            Err(failure) => return Ok(Err(failure)),
+        let version = match Version::parse_standard(console.alloc, text) {
+            Ok(version) => version,
+            Err(error) => return Ok(Err(error.source)),
+        };
+        let matches = self.requirement.tag().is_none()
+            && self.requirement.matches_with(&version, self.pre_release);
+        drop(version);
+        if matches {
+            self.printed.add(console, text)?;
         }
         Ok(Ok(()))
     }
@@ -93,6 +99,13 @@ struct Kept {
 }
 
 impl Kept {
+    fn new(alloc: Global) -> Kept {
+        Kept {
+            texts: Vec::new(alloc),
+            versions: Vec::new(alloc),
+        }
+    }
+
     // The text at this place.
     fn text(&self, place: Option<usize>) -> Option<&str> {
         Some(self.texts.get(place?)?.as_str())
@@ -106,32 +119,6 @@ impl Kept {
 }
 
 impl Take for Kept {
-    fn take<O: Write, E: Write>(
-        &mut self,
-        console: &mut Console<O, E>,
-        text: &str,
-    ) -> Result<Result<(), ParseFailure>, Stop> {
-        match Version::parse_standard(console.alloc, text) {
-            Ok(version) => Ok(Ok(self.keep(console.alloc, text, version)?)),
-            Err(error) => Ok(Err(error.source)),
-        }
-    }
-}
-
-// Keeps each version to sort them.
-#[derive(Drop)]
-struct Sorted {
-    entries: Vec<Entry>,
-}
-
-impl Sorted {
-    fn keep(&mut self, alloc: Global, text: &str, version: Version) -> Result<(), AllocError> {
-        let text = String::from_str(alloc, text)?;
-        Ok(self.entries.push(Entry { text, version })?)
-    }
-}
-
-impl Take for Sorted {
     fn take<O: Write, E: Write>(
         &mut self,
         console: &mut Console<O, E>,
@@ -161,9 +148,9 @@ pub fn filter<R: Input, O: Write, E: Write>(
     options: Options,
 ) -> Result<Status, Stop> {
     let word = matches.get_str("REQ").unwrap_or("");
-    match VersionReq::parse(console.alloc, word, options.flavour) {
+    match range(console.alloc, options.flavour, 0, word) {
         Ok(requirement) => filter_by(rt, console, matches, options, &requirement),
-        Err(failure) => console.refuse_requirement(word, &failure),
+        Err(problem) => console.reject(&[word], &problem),
     }
 }
 
@@ -192,7 +179,7 @@ fn filter_by<R: Input, O: Write, E: Write>(
     Ok(ended(all, status))
 }
 
-/// `ranges best REQ [VERSION..]`: the greatest version that matches, or `none`.
+/// `ranges best REQ [VERSION..]`: the highest version that matches, or `none`.
 pub fn best<R: Input, O: Write, E: Write>(
     rt: &R,
     console: &mut Console<O, E>,
@@ -200,9 +187,9 @@ pub fn best<R: Input, O: Write, E: Write>(
     options: Options,
 ) -> Result<Status, Stop> {
     let word = matches.get_str("REQ").unwrap_or("");
-    match VersionReq::parse(console.alloc, word, options.flavour) {
+    match range(console.alloc, options.flavour, 0, word) {
         Ok(requirement) => best_by(rt, console, matches, options, &requirement),
-        Err(failure) => console.refuse_requirement(word, &failure),
+        Err(problem) => console.reject(&[word], &problem),
     }
 }
 
@@ -216,10 +203,7 @@ fn best_by<R: Input, O: Write, E: Write>(
     if let Some(tag) = requirement.tag() {
         return console.tag(options, tag);
     }
-    let mut kept = Kept {
-        texts: Vec::new(console.alloc),
-        versions: Vec::new(console.alloc),
-    };
+    let mut kept = Kept::new(console.alloc);
     let all = take_all(rt, console, matches.get_strs("VERSION"), &mut kept)?;
     let place = max_satisfying_with(kept.versions.as_slice(), requirement, options.pre_release);
     let told = console.version(options, kept.text(place));
@@ -234,30 +218,29 @@ pub fn sort<R: Input, O: Write, E: Write>(
     matches: &ArgMatches<'_>,
     options: Options,
 ) -> Result<Status, Stop> {
-    let mut sorted = Sorted {
-        entries: Vec::new(console.alloc),
-    };
-    let all = take_all(rt, console, matches.get_strs("VERSION"), &mut sorted)?;
-    let printed = print_sorted(console, options, &mut sorted.entries);
-    drop(sorted);
-    printed?;
+    let mut kept = Kept::new(console.alloc);
+    let all = take_all(rt, console, matches.get_strs("VERSION"), &mut kept)?;
+    print_sorted(console, options, kept)?;
     Ok(ended(all, Status::Answered))
 }
 
 fn print_sorted<O: Write, E: Write>(
     console: &mut Console<O, E>,
     options: Options,
-    entries: &mut Vec<Entry>,
+    kept: Kept,
 ) -> Result<(), Stop> {
     let order = if options.reverse {
         Order::Descending
     } else {
         Order::Ascending
     };
-    order.sort(entries)?;
+    let Kept { texts, versions } = kept;
+    let places = sorted_places(console.alloc, versions, order)?;
     let mut printed = Printed::new(options);
-    for entry in entries {
-        printed.add(console, entry.text.as_str())?;
+    for place in places.iter() {
+        if let Some(text) = texts.get(*place) {
+            printed.add(console, text.as_str())?;
+        }
     }
     printed.end(console)
 }

@@ -1,262 +1,123 @@
--- Answers to questions, from the answers to their words.
-use Rattle.std.proofs.Common.{◌≡◌, arith, ℕ, List, Ok, Err, Result, Some, None, refl, sym, ap, subst, ◌∙◌, inl, inr}
+-- Answers to calls, from those to questions of texts.
+use Rattle.std.proofs.Common.{◌≡◌, ◌∙◌, arith, ℕ, List, Ok, Err, Result, refl, sym, ap, subst, inl, inr}
 use Rattle.std.specs.Prelude.{◌⊎◌, ◌<◌}
 use Rattle.std.specs.Result.{IsErrAnd}
-use Rattle.std.specs.Str.{IsUtf8, trim}
-use Rattle.semver_base.specs.VersionGrammar.{IsVersionOutcome, IsVersionRefusal}
-use Rattle.semver_base.specs.declared.failure.Refusal.{Refusal}
-use Rattle.semver_base.specs.declared.version.Version.{Version}
-use Rattle.semver_req.specs.Outcome as outcome
-use Rattle.semver_req.specs.Outcome.{IsOutcome, Outcome, Ranges, Tag, worked_on}
-use Rattle.semver_req.specs.Readers.{Failure, IsAnswer as IsAnswerTo, IsRead as IsReadAs, IsReaderAnswer, IsReading}
-use Rattle.semver_req.specs.Requirement.{Requirement}
+use Rattle.std.specs.Str.{IsUtf8}
 use Rattle.semver_req.specs.declared.common.values.Flavour.{Flavour}
 use Rattle.semver_req.specs.declared.common.values.Flavour.TheVariants.{Npm, Normal, Specifier}
-use Rattle.semver_req.specs.declared.range_set_or_tag.RangeSetOrTag.{RangeSetOrTag}
-use Rattle.semver_c.specs.Kept.{KeepsText}
-use Rattle.semver_c.specs.Words.{Is, IsAnswer, IsRead, IsReader, IsText, IsVersion, Of, failure_code, is_no_reader, is_no_text, is_no_version, is_read, is_reader, is_refused, is_text, is_version, of_problem, of_value, outcome_of, problem_code, reader_number, wanting}
-use Rattle.semver_c.specs.declared.words.Problem.{Problem}
-use Rattle.semver_c.specs.declared.words.Problem.TheVariants as problem
+use Rattle.answers.proofs.Givens.{by_fault, by_value, out_of_memory}
+use Rattle.answers.specs.Asking.{Fault, Given, IsOutcomeOf, OutOfMemory, fault_of}
+use Rattle.answers.specs.declared.asking.Problem.{Problem as Unanswered}
+use Rattle.answers.specs.declared.asking.Problem.TheVariants as unanswered
+use Rattle.semver_c.specs.Arguments.{Coded, IsAnswer, IsParser, IsText, coded, coded_outcome, no_parser, no_text, outcome_of, parser, parser_number, problem_code, text}
+use Rattle.semver_c.specs.declared.arguments.Problem.{Problem}
+use Rattle.semver_c.specs.declared.arguments.Problem.TheVariants as problem
 
-abbrev pub as_value : {X : Type 0} → X → Result X ℕ
-as_value x = Ok x
+-- ---- parsers
 
-abbrev pub as_code : {X : Type 0} → ℕ → Result X ℕ
-as_code code = Err code
+one_parser : (f g : Flavour) → parser_number f ≡ parser_number g → f ≡ g
+one_parser Npm Npm e = refl
+one_parser Npm Normal e = absurd (omega (arith, e))
+one_parser Npm Specifier e = absurd (omega (arith, e))
+one_parser Normal Npm e = absurd (omega (arith, e))
+one_parser Normal Normal e = refl
+one_parser Normal Specifier e = absurd (omega (arith, e))
+one_parser Specifier Npm e = absurd (omega (arith, e))
+one_parser Specifier Normal e = absurd (omega (arith, e))
+one_parser Specifier Specifier e = refl
 
-pub same_value : {X : Type 0} (x y : X) → as_value x ≡ as_value y → x ≡ y
-same_value x y e = cc e
+parser_small : (f : Flavour) → parser_number f < 3
+parser_small Npm = omega arith
+parser_small Normal = omega arith
+parser_small Specifier = omega arith
 
-pub same_code : {X : Type 0} (c d : ℕ) → as_code {X = X} c ≡ as_code d → c ≡ d
-same_code c d e = cc e
-
-pub value_no_code : {X : Type 0} (x : X) (c : ℕ) → as_value x ≡ as_code c → ⊥
-value_no_code x c e = cc e
-
-pub code_no_value : {X : Type 0} (x : X) (c : ℕ) → as_code c ≡ as_value x → ⊥
-code_no_value x c e = cc e
-
-pub code_as_code : {X : Type 0} (c d : ℕ) → c ≡ d → as_code {X = X} c ≡ as_code d
-code_as_code c d e = ap as_code e
-
--- ---- questions of words
-
-module _ {E X F Y : Type 0} (Words : Result X ℕ → Type 0) (value : E → X) (Asked : X → Result Y ℕ → Type 0) (told : F → Y) where
-  -- the words have a value, and the question of that is answered
-  pub by_value : (e : E) → IsAnswer Words value (Ok e) → (result : Result F Problem) → IsAnswer (Asked (value e)) told result → IsAnswer (Of Words Asked) told result
-  by_value e words result h = record { is = is words.is h.is; only = λ o a. only o a }
+module _ (number : ℕ) where
+  parser_found : (f : Flavour) → number ≡ parser_number f → IsOutcomeOf 5 (IsParser number) (Ok f)
+  parser_found f e = record { is = inr (parser e); only = λ o a. inr (only o a) }
     where
-      is : (as_value (value e) ≡ wanting) ⊎ Words (Ok (value e)) → (outcome_of told result ≡ wanting) ⊎ Asked (value e) (outcome_of told result)
-          → (outcome_of told result ≡ wanting) ⊎ Of Words Asked (outcome_of told result)
-      is (inl none) k = absurd (value_no_code (value e) 5 none)
-      is (inr w) (inl none) = inl none
-      is (inr w) (inr a) = inr (of_value w a)
+      only : (o : Result Flavour ℕ) → IsParser number o → Ok f ≡ o
+      only o (parser {f = g} k) = ap Ok (one_parser f g (sym e ∙ k))
+      only o (no_parser more) = absurd (let small = parser_small f in omega (arith, e, small, more))
 
-      same : (x : X) → (as_value (value e) ≡ wanting) ⊎ (as_value (value e) ≡ as_value x) → value e ≡ x
-      same x (inl none) = absurd (value_no_code (value e) 5 none)
-      same x (inr is) = same_value (value e) x is
-
-      never : (code : ℕ) → (as_value (value e) ≡ wanting) ⊎ (as_value (value e) ≡ as_code code) → ⊥
-      never code (inl none) = value_no_code (value e) 5 none
-      never code (inr is) = value_no_code (value e) code is
-
-      only : (o : Result Y ℕ) → Of Words Asked o → (outcome_of told result ≡ wanting) ⊎ (outcome_of told result ≡ o)
-      only o (of_value {x = x} w a) = h.only o (subst (λ (y : X). Asked y o) (sym (same x (words.only (Ok x) w))) a)
-      only o (of_problem {code = code} w) = absurd (never code (words.only (Err code) w))
-
-  -- the words have a problem
-  pub by_problem : (p : Problem) → IsAnswer Words value (Err p) → IsAnswer (Of Words Asked) told (Err p)
-  by_problem p words = record { is = is words.is; only = λ o a. only o a }
+  parser_missing : 2 < number → IsOutcomeOf 5 (IsParser number) (Err 4)
+  parser_missing more = record { is = inr (no_parser more); only = λ o a. inr (only o a) }
     where
-      code : ℕ
-      code = problem_code p
-
-      is : (as_code {X = X} code ≡ wanting) ⊎ Words (Err code) → (as_code {X = Y} code ≡ wanting) ⊎ Of Words Asked (Err code)
-      is (inl none) = inl (code_as_code code 5 (same_code {X = X} code 5 none))
-      is (inr w) = inr (of_problem w)
-
-      of_none : (x : X) → (as_code {X = X} code ≡ wanting) ⊎ (as_code {X = X} code ≡ as_value x) → as_code {X = Y} code ≡ wanting
-      of_none x (inl none) = code_as_code code 5 (same_code {X = X} code 5 none)
-      of_none x (inr is) = absurd (code_no_value x code is)
-
-      of_code : (other : ℕ) → (as_code {X = X} code ≡ wanting) ⊎ (as_code {X = X} code ≡ as_code other) → (as_code {X = Y} code ≡ wanting) ⊎ (as_code {X = Y} code ≡ as_code other)
-      of_code other (inl none) = inl (code_as_code code 5 (same_code {X = X} code 5 none))
-      of_code other (inr is) = inr (code_as_code code other (same_code {X = X} code other is))
-
-      only : (o : Result Y ℕ) → Of Words Asked o → (as_code {X = Y} code ≡ wanting) ⊎ (as_code {X = Y} code ≡ o)
-      only o (of_value {x = x} w a) = inl (of_none x (words.only (Ok x) w))
-      only o (of_problem {code = other} w) = of_code other (words.only (Err other) w)
-
--- ---- answers
-
--- the exit of a `?`
-pub exit : {F Y : Type 0} (Asked : Result Y ℕ → Type 0) (told : F → Y) (r : Result F Problem) (p : Problem) → IsErrAnd r (λ e. e ≡ p) → IsAnswer Asked told (Err p)
-    → IsAnswer Asked told r
-exit Asked told (Ok x) p is h = absurd is
-exit Asked told (Err e) p is h = rw is h
-
--- the value that is asked for
-pub answered : {F Y : Type 0} (told : F → Y) (x : F) (y : Y) → told x ≡ y → IsAnswer (Is y) told (Ok x)
-answered told x y e = record { is = inr (ap as_value e); only = λ o a. inr (ap as_value e ∙ sym a) }
-
--- the same answer, of a value that is kept in another way
-pub moved : {E F X : Type 0} (Asked : Result X ℕ → Type 0) (value : E → X) (other : F → X) (e : E) (f : F) → IsAnswer Asked value (Ok e) → other f ≡ value e → IsAnswer Asked other (Ok f)
-moved Asked value other e f h is = record {
-  is = subst (λ (x : _). (as_value x ≡ wanting) ⊎ Asked (Ok x)) (sym is) h.is;
-  only = λ o a. subst (λ (x : _). (as_value x ≡ wanting) ⊎ (as_value x ≡ o)) (sym is) (h.only o a);
-}
-
--- its problem is handed on by a `?`
-pub exit_moved : {E F X : Type 0} (Asked : Result X ℕ → Type 0) (value : E → X) (other : F → X) (r : Result F Problem) (p : Problem) → IsErrAnd r (λ e. e ≡ p)
-    → IsAnswer Asked value (Err p) → IsAnswer Asked other r
-exit_moved Asked value other r p is h = exit Asked other r p is (record { is = h.is; only = h.only })
-
--- ---- readers
-
-pub one_reader : (f g : Flavour) → reader_number f ≡ reader_number g → f ≡ g
-one_reader Npm Npm e = refl
-one_reader Npm Normal e = absurd (omega (arith, e))
-one_reader Npm Specifier e = absurd (omega (arith, e))
-one_reader Normal Npm e = absurd (omega (arith, e))
-one_reader Normal Normal e = refl
-one_reader Normal Specifier e = absurd (omega (arith, e))
-one_reader Specifier Npm e = absurd (omega (arith, e))
-one_reader Specifier Normal e = absurd (omega (arith, e))
-one_reader Specifier Specifier e = refl
-
--- a requirement keeps the text that its reader worked on
-pub keeps_text : (number : ℕ) (bytes text : List ℕ) (f : Flavour) (req : Requirement) → number ≡ reader_number f → text ≡ bytes → req.raw_text ≡ worked_on f text
-    → KeepsText number bytes req
-keeps_text number bytes text f req e same raw g h =
-    subst (λ (x : Flavour). req.raw_text ≡ worked_on x bytes) (one_reader f g (sym e ∙ h)) (subst (λ (t : List ℕ). req.raw_text ≡ worked_on f t) same raw)
-
-reader_small : (f : Flavour) → reader_number f < 3
-reader_small Npm = omega arith
-reader_small Normal = omega arith
-reader_small Specifier = omega arith
-
-pub reader_found : (number : ℕ) (f : Flavour) → number ≡ reader_number f → IsAnswer (IsReader number) (λ (g : Flavour). g) (Ok f)
-reader_found number f e = record { is = inr (is_reader e); only = λ o a. inr (only o a) }
-  where
-    only : (o : Result Flavour ℕ) → IsReader number o → as_value f ≡ o
-    only o (is_reader {f = g} k) = ap as_value (one_reader f g (sym e ∙ k))
-    only o (is_no_reader more) = absurd (let small = reader_small f in omega (arith, e, small, more))
-
-pub no_reader : (number : ℕ) → 2 < number → IsAnswer (IsReader number) (λ (g : Flavour). g) (Err problem.NoReader)
-no_reader number more = record { is = inr (is_no_reader more); only = λ o a. inr (only o a) }
-  where
-    only : (o : Result Flavour ℕ) → IsReader number o → as_code {X = Flavour} 4 ≡ o
-    only o (is_reader {f = g} k) = absurd (let small = reader_small g in omega (arith, k, small, more))
-    only o (is_no_reader other) = refl
+      only : (o : Result Flavour ℕ) → IsParser number o → Err 4 ≡ o
+      only o (parser {f = g} k) = absurd (let small = parser_small g in omega (arith, k, small, more))
+      only o (no_parser other) = refl
 
 -- ---- texts
 
-pub text_found : (bytes : List ℕ) → IsUtf8 bytes → IsAnswer (IsText bytes) (λ (text : List ℕ). text) (Ok bytes)
-text_found bytes h = record { is = inr (is_text h); only = λ o a. inr (only o a) }
+module _ (bytes : List ℕ) where
+  text_found : IsUtf8 bytes → IsOutcomeOf 5 (IsText bytes) (Ok bytes)
+  text_found h = record { is = inr (text h); only = λ o a. inr (only o a) }
+    where
+      only : (o : Result (List ℕ) ℕ) → IsText bytes o → Ok bytes ≡ o
+      only o (text k) = refl
+      only o (no_text never) = absurd (never h)
+
+  text_missing : (IsUtf8 bytes → ⊥) → IsOutcomeOf 5 (IsText bytes) (Err 8)
+  text_missing never = record { is = inr (no_text never); only = λ o a. inr (only o a) }
+    where
+      only : (o : Result (List ℕ) ℕ) → IsText bytes o → Err 8 ≡ o
+      only o (text k) = absurd (never k)
+      only o (no_text other) = refl
+
+-- what is read of the bytes
+abbrev pub IsRead : List ℕ → List ℕ → Type 0
+IsRead bytes t = (t ≡ bytes) × IsUtf8 bytes
+
+-- ---- questions of texts
+
+coded_outcome_of : {X : Type 0} (Asked : Result X Fault → Type 0) (o : Result X Fault) → IsOutcomeOf OutOfMemory Asked o → IsOutcomeOf 5 (Coded Asked) (coded_outcome o)
+coded_outcome_of {X = X} Asked o h = record { is = is h.is; only = λ p a. only p a }
   where
-    only : (o : Result (List ℕ) ℕ) → IsText bytes o → as_value bytes ≡ o
-    only o (is_text k) = refl
-    only o (is_no_text never) = absurd (never h)
+    is : (o ≡ Err OutOfMemory) ⊎ Asked o → (coded_outcome o ≡ Err 5) ⊎ Coded Asked (coded_outcome o)
+    is (inl e) = inl (ap coded_outcome e)
+    is (inr a) = inr (coded a)
 
-pub no_text : (bytes : List ℕ) → (IsUtf8 bytes → ⊥) → IsAnswer (IsText bytes) (λ (text : List ℕ). text) (Err problem.NoUtf8)
-no_text bytes never = record { is = inr (is_no_text never); only = λ o a. inr (only o a) }
-  where
-    only : (o : Result (List ℕ) ℕ) → IsText bytes o → as_code {X = List ℕ} 8 ≡ o
-    only o (is_text k) = absurd (never k)
-    only o (is_no_text other) = refl
+    same : (p : Result X Fault) → (o ≡ Err OutOfMemory) ⊎ (o ≡ p) → (coded_outcome o ≡ Err 5) ⊎ (coded_outcome o ≡ coded_outcome p)
+    same p (inl e) = inl (ap coded_outcome e)
+    same p (inr e) = inr (ap coded_outcome e)
 
--- ---- requirements
+    only : (p : Result X ℕ) → Coded Asked p → (coded_outcome o ≡ Err 5) ⊎ (coded_outcome o ≡ p)
+    only p (coded {outcome = q} a) = same q (h.only q a)
 
-abbrev inner_of : Requirement → RangeSetOrTag
-inner_of req = req.inner
+-- the outcome of a `?`
+pub exit : {E Y : Type 0} (value : E → Y) (r : Result E Problem) (p : Problem) → IsErrAnd r (λ e. e ≡ p) → outcome_of value r ≡ Err (problem_code p)
+exit value (Ok x) p is = absurd is
+exit value (Err e) p is = ap (λ (q : Problem). Err (problem_code q)) is
 
-module _ (f : Flavour) (text : List ℕ) where
-  -- a text that was read has no other reading
-  pub one_reading : (req : Requirement) → IsReaderAnswer (λ (e : Failure). e) f text (Ok req) → (read : RangeSetOrTag) → IsReading f text read → req.inner ≡ read
-  one_reading req h read k = go k.outcome (h.answer k.outcome k.is_outcome) k.is_read
-    where
-      go : (o : Outcome) → IsAnswerTo (λ (e : Failure). e) f o (Ok req) → IsReadAs f o read → req.inner ≡ read
-      go (Ranges tree) is was = is ∙ sym was
-      go (Tag name) is was = is ∙ sym was
-      go outcome.Refused is was = absurd was
+module _ {E Y : Type 0} (value : E → Y) where
+  -- ---- behind a parser
 
-  not_refused : (req : Requirement) → IsReaderAnswer (λ (e : Failure). e) f text (Ok req) → IsOutcome f text outcome.Refused → ⊥
-  not_refused req h p = cc (h.answer outcome.Refused p)
+  module _ (number : ℕ) (Asked : Flavour → Result Y ℕ → Type 0) where
+    pub by_parser : (f : Flavour) → number ≡ parser_number f → (r : Result E Problem) → IsAnswer (Asked f) value r → IsAnswer (Given (IsParser number) Asked) value r
+    by_parser f e r h = by_value 5 (IsParser number) Asked f (parser_found number f e) (outcome_of value r) h
 
-  pub was_read : (req : Requirement) → IsReaderAnswer (λ (e : Failure). e) f text (Ok req) → IsAnswer (IsRead f text) inner_of (Ok req)
-  was_read req h = record { is = inr (is_read h.outcome h.means); only = λ o a. inr (only o a) }
-    where
-      only : (o : Result RangeSetOrTag ℕ) → IsRead f text o → as_value req.inner ≡ o
-      only o (is_read {read = read} k m) = ap as_value (one_reading req h read k)
-      only o (is_refused p) = absurd (not_refused req h p)
+    pub by_no_parser : (r : Result E Problem) (p : Problem) → IsErrAnd r (λ e. e ≡ p) → (p ≡ problem.NoParser) × (2 < number) → IsAnswer (Given (IsParser number) Asked) value r
+    by_no_parser r p is h = subst (IsOutcomeOf 5 (Given (IsParser number) Asked)) (sym (exit value r p is ∙ ap (λ (q : Problem). Err (problem_code q)) h.0)) (by_fault 5 (IsParser number) Asked 4 (parser_missing number h.1))
 
-  reading_wanting : (failure : Failure) → IsReaderAnswer (λ (e : Failure). e) f text (Err failure) → (read : RangeSetOrTag) → IsReading f text read → failure ≡ None
-  reading_wanting failure h read k = go k.outcome (h.answer k.outcome k.is_outcome) k.is_read
-    where
-      go : (o : Outcome) → IsAnswerTo (λ (e : Failure). e) f o (Err failure) → IsReadAs f o read → failure ≡ None
-      go (Ranges tree) is was = is
-      go (Tag name) is was = is
-      go outcome.Refused is was = absurd was
+  -- ---- behind a text
 
-  pub was_refused : (failure : Failure) → IsReaderAnswer (λ (e : Failure). e) f text (Err failure) → IsAnswer (IsRead f text) inner_of (Err (problem.Requirement failure))
-  was_refused failure h = record { is = is failure h.refused; only = λ o a. only o a failure (λ read k. reading_wanting failure h read k) }
-    where
-      is : (e : Failure) → (e ≡ None) ⊎ IsOutcome f text outcome.Refused → (as_code {X = RangeSetOrTag} (failure_code e 3) ≡ wanting) ⊎ IsRead f text (Err (failure_code e 3))
-      is None r = inl refl
-      is (Some texts) (inl e) = absurd (cc e)
-      is (Some texts) (inr o) = inr (is_refused o)
+  module _ (bytes : List ℕ) (Asked : List ℕ → Result Y ℕ → Type 0) where
+    pub by_text : (t : List ℕ) → IsRead bytes t → (r : Result E Problem) → IsAnswer (Asked t) value r → IsAnswer (Given (IsText bytes) Asked) value r
+    by_text t h r k = by_value 5 (IsText bytes) Asked bytes (text_found bytes h.1) (outcome_of value r) (subst (λ (u : List ℕ). IsOutcomeOf 5 (Asked u) (outcome_of value r)) h.0 k)
 
-      only : (o : Result RangeSetOrTag ℕ) → IsRead f text o → (e : Failure) → ((read : RangeSetOrTag) → IsReading f text read → e ≡ None)
-          → (as_code {X = RangeSetOrTag} (failure_code e 3) ≡ wanting) ⊎ (as_code {X = RangeSetOrTag} (failure_code e 3) ≡ o)
-      only o (is_read {read = read} k m) e none = inl (ap (λ (x : Failure). as_code {X = RangeSetOrTag} (failure_code x 3)) (none read k))
-      only o (is_refused p) None none = inl refl
-      only o (is_refused p) (Some texts) none = inr refl
+    pub by_no_text : (r : Result E Problem) (p : Problem) → IsErrAnd r (λ e. e ≡ p) → (p ≡ problem.NotUtf8) × (IsUtf8 bytes → ⊥) → IsAnswer (Given (IsText bytes) Asked) value r
+    by_no_text r p is h = subst (IsOutcomeOf 5 (Given (IsText bytes) Asked)) (sym (exit value r p is ∙ ap (λ (q : Problem). Err (problem_code q)) h.0)) (by_fault 5 (IsText bytes) Asked 8 (text_missing bytes h.1))
 
--- ---- versions
+  -- ---- the question of texts
 
-module _ (text : List ℕ) where
-  pub was_version : (v : Version) → IsVersionOutcome (trim text) (Ok v) → ((w : Version) → IsVersionOutcome (trim text) (Ok w) → v ≡ w)
-      → ((fault : Refusal) → IsVersionOutcome (trim text) (Err fault) → ⊥) → IsAnswer (IsVersion text) (λ (w : Version). w) (Ok v)
-  was_version v h same never = record { is = inr (is_version h); only = λ o a. inr (only o a) }
-    where
-      only : (o : Result Version ℕ) → IsVersion text o → as_value v ≡ o
-      only o (is_version {v = w} k) = ap as_value (same w k)
-      only o (is_no_version {fault = fault} k) = absurd (never fault k)
+  module _ (Asked : Result Y Fault → Type 0) where
+    pub by_answer : (o : Result Y Fault) → IsOutcomeOf OutOfMemory Asked o → (r : Result E Problem) → outcome_of value r ≡ coded_outcome o → IsAnswer (Coded Asked) value r
+    by_answer o h r e = subst (IsOutcomeOf 5 (Coded Asked)) (sym e) (coded_outcome_of Asked o h)
 
-  pub was_no_version : (failure : Failure) → IsVersionRefusal (trim text) failure → ((v : Version) → IsVersionOutcome (trim text) (Ok v) → failure ≡ None)
-      → IsAnswer (IsVersion text) (λ (w : Version). w) (Err (problem.Version failure))
-  was_no_version failure h none = record { is = is failure h; only = λ o a. only o a failure none }
-    where
-      is : (e : Failure) → IsVersionRefusal (trim text) e → (as_code {X = Version} (failure_code e 7) ≡ wanting) ⊎ IsVersion text (Err (failure_code e 7))
-      is None r = inl refl
-      is (Some texts) (inl e) = absurd (cc e)
-      is (Some texts) (inr r) = inr (is_no_version r.1)
+    -- the question has no answer
+    pub by_problem : (why : Unanswered) → IsOutcomeOf OutOfMemory Asked (Err (fault_of why)) → (r : Result E Problem) (p : Problem) → IsErrAnd r (λ e. e ≡ p) → p ≡ problem.Unanswered why
+        → IsAnswer (Coded Asked) value r
+    by_problem why h r p is e = by_answer (Err (fault_of why)) h r (exit value r p is ∙ ap (λ (q : Problem). Err (problem_code q)) e)
 
-      only : (o : Result Version ℕ) → IsVersion text o → (e : Failure) → ((v : Version) → IsVersionOutcome (trim text) (Ok v) → e ≡ None)
-          → (as_code {X = Version} (failure_code e 7) ≡ wanting) ⊎ (as_code {X = Version} (failure_code e 7) ≡ o)
-      only o (is_version {v = v} k) e none = inl (ap (λ (x : Failure). as_code {X = Version} (failure_code x 7)) (none v k))
-      only o (is_no_version k) None none = inl refl
-      only o (is_no_version k) (Some texts) none = inr refl
-
--- ---- the same, as the functions have it
-
-module _ {E X F Y : Type 0} (Words : Result X ℕ → Type 0) (value : E → X) (Asked : X → Result Y ℕ → Type 0) (told : F → Y) where
-  -- a problem of the words is handed on by a `?`
-  pub exit_problem : (r : Result F Problem) (p : Problem) → IsErrAnd r (λ e. e ≡ p) → IsAnswer Words value (Err p) → IsAnswer (Of Words Asked) told r
-  exit_problem r p is h = exit (Of Words Asked) told r p is (by_problem Words value Asked told p h)
-
-module _ {F Y : Type 0} (bytes : List ℕ) (Asked : List ℕ → Result Y ℕ → Type 0) (told : F → Y) where
-  pub by_text : (text : List ℕ) → (text ≡ bytes) × IsUtf8 bytes → (r : Result F Problem) → IsAnswer (Asked text) told r → IsAnswer (Of (IsText bytes) Asked) told r
-  by_text text h r k = by_value (IsText bytes) (λ (t : List ℕ). t) Asked told bytes (text_found bytes h.1) r (subst (λ (t : List ℕ). IsAnswer (Asked t) told r) h.0 k)
-
-  pub exit_no_text : (r : Result F Problem) (p : Problem) → IsErrAnd r (λ e. e ≡ p) → (p ≡ problem.NoUtf8) × (IsUtf8 bytes → ⊥) → IsAnswer (Of (IsText bytes) Asked) told r
-  exit_no_text r p is h = exit_problem (IsText bytes) (λ (t : List ℕ). t) Asked told r p is
-      (subst (λ (q : Problem). IsAnswer (IsText bytes) (λ (t : List ℕ). t) (Err q)) (sym h.0) (no_text bytes h.1))
-
-module _ {F Y : Type 0} (number : ℕ) (Asked : Flavour → Result Y ℕ → Type 0) (told : F → Y) where
-  pub by_reader : (f : Flavour) → number ≡ reader_number f → (r : Result F Problem) → IsAnswer (Asked f) told r → IsAnswer (Of (IsReader number) Asked) told r
-  by_reader f e r k = by_value (IsReader number) (λ (g : Flavour). g) Asked told f (reader_found number f e) r k
-
-  pub exit_no_reader : (r : Result F Problem) (p : Problem) → IsErrAnd r (λ e. e ≡ p) → (p ≡ problem.NoReader) × (2 < number) → IsAnswer (Of (IsReader number) Asked) told r
-  exit_no_reader r p is h = exit_problem (IsReader number) (λ (g : Flavour). g) Asked told r p is
-      (subst (λ (q : Problem). IsAnswer (IsReader number) (λ (g : Flavour). g) (Err q)) (sym h.0) (no_reader number h.1))
+    -- memory ran out on the way to the answer
+    pub by_memory : (r : Result E Problem) (p : Problem) → IsErrAnd r (λ e. e ≡ p) → p ≡ problem.Unanswered unanswered.OutOfMemory → IsAnswer (Coded Asked) value r
+    by_memory r p is e = by_problem unanswered.OutOfMemory (out_of_memory OutOfMemory Asked) r p is e

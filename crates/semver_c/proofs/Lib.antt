@@ -1,7 +1,3 @@
 pub mod Asking
-pub mod LeastAnswers
-pub mod ListAnswers
-pub mod ReferenceAnswers
+pub mod LineCodes
 pub mod Replies
-pub mod PackageAnswers
-pub mod Sorted

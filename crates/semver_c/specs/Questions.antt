@@ -1,93 +1,104 @@
--- What is asked at the border, each question by the values of its words.
-use Rattle.std.specs.Prelude.{◌≡◌, ◌==◌, ℕ, List, Bool, true, false, Option, None, Some, Result, Ok, if◌then◌else◌}
+-- What each call asks of its arguments: the parser is looked up first, then the texts are checked, then the question of texts is asked.
+use Rattle.std.specs.Prelude.{ℕ, List, [], ◌∷◌, Bool, Option, Result, Ok, Err}
+use Rattle.std.specs.Str.Lines.{lines}
 use Rattle.std.specs.declared.cmp.Ordering.{Ordering}
-use Rattle.semver_base.specs.LeastVersion.{IsLowest}
-use Rattle.semver_base.specs.Precedence.{precedence_cmp}
-use Rattle.semver_base.specs.VersionText.{version_text}
 use Rattle.semver_base.specs.declared.range.PreRelease.{PreRelease}
-use Rattle.semver_base.specs.declared.range.PreRelease.TheVariants.{Restricted, Admitted}
+use Rattle.semver_base.specs.declared.range.PreRelease.TheVariants.{Restricted}
 use Rattle.semver_base.specs.declared.version.Version.{Version}
-use Rattle.semver_req.specs.Requirement.{inner_means, inner_means_alone_with, inner_means_with, inner_overlap, inner_text, inners_mean_with}
-use Rattle.semver_req.specs.declared.range_set_or_tag.RangeSetOrTag.{RangeSetOrTag}
-use Rattle.semver_req.specs.declared.range_set_or_tag.RangeSetOrTag.TheVariants as inner
-use Rattle.semver_c.specs.Words.{Is, Of, Requirement, VersionOf}
-use Rattle.semver_c.specs.declared.questions.Fit.{Fit}
-use Rattle.semver_c.specs.declared.questions.Fit.TheVariants as fit
-use Rattle.semver_c.specs.declared.questions.Least.{Least}
-use Rattle.semver_c.specs.declared.questions.Least.TheVariants as least
+use Rattle.semver_req.specs.Requirement.{Requirement}
+use Rattle.semver_req.specs.declared.common.values.Flavour.{Flavour}
+use Rattle.answers.specs.Asking.{Each, Fault, Given, Is}
+use Rattle.answers.specs.Packages.{PackageParts}
+use Rattle.answers.specs.Questions.{BestMatch, Canonical, Common, Displayed, Matches, Orders, Outside, Overlaps, match_of}
+use Rattle.answers.specs.Reading.{IsRange, IsVersion}
+use Rattle.answers.specs.References.{ReferenceParts}
+use Rattle.answers.specs.Sorting.{Sorts}
+use Rattle.answers.specs.declared.asking.Answer.{Answer}
+use Rattle.answers.specs.declared.questions.Best.{Best}
+use Rattle.answers.specs.declared.sorting.Order.TheVariants.{Ascending}
+use Rattle.semver_c.specs.Arguments.{Coded, IsParser, IsText, pre_release_of}
+use Rattle.semver_c.specs.Codes.{match_code}
 
--- ---- does a version fit
+-- ---- arguments before the question
 
--- pre-releases are restricted by npm's rule at 0, and admitted at any other number
-abbrev pub pre_release_of : ℕ → PreRelease
-pre_release_of number = if number == 0 then Restricted else Admitted
+-- a parser and a text
+abbrev pub ByOne : {Y : Type 0} → ℕ → List ℕ → (Flavour → List ℕ → Result Y Fault → Type 0) → Result Y ℕ → Type 0
+ByOne number one Asked = Given (IsParser number) (λ f. Given (IsText one) (λ text. Coded (Asked f text)))
 
-abbrev pub fit_whether : Bool → Fit
-fit_whether true = fit.Yes
-fit_whether false = fit.No
+-- a parser and two texts
+abbrev pub ByTwo : {Y : Type 0} → ℕ → List ℕ → List ℕ → (Flavour → List ℕ → List ℕ → Result Y Fault → Type 0) → Result Y ℕ → Type 0
+ByTwo number one other Asked = Given (IsParser number)
+    (λ f. Given (IsText one) (λ text. Given (IsText other) (λ more. Coded (Asked f text more))))
 
--- a requirement of ranges allows what it means; a tag is told as one
-abbrev pub fit_of : PreRelease → RangeSetOrTag → Version → Fit
-fit_of flag (inner.RangeSet set) v = fit_whether (inner_means_with flag (inner.RangeSet set) v)
-fit_of flag (inner.Tag tag) v = fit.Tag
+-- a text
+abbrev pub OfText : {Y : Type 0} → List ℕ → (List ℕ → Result Y Fault → Type 0) → Result Y ℕ → Type 0
+OfText one Asked = Given (IsText one) (λ text. Coded (Asked text))
 
-abbrev pub Fits : ℕ → ℕ → List ℕ → List ℕ → Result Fit ℕ → Type 0
-Fits number reader requirement version =
-    Of (Requirement reader requirement)
-    (λ read. Of (VersionOf version) (λ v. Is (fit_of (pre_release_of number) read v)))
+-- two texts
+abbrev pub OfTexts : {Y : Type 0} → List ℕ → List ℕ → (List ℕ → List ℕ → Result Y Fault → Type 0) → Result Y ℕ → Type 0
+OfTexts one other Asked = Given (IsText one) (λ text. Given (IsText other) (λ more. Coded (Asked text more)))
 
--- ---- of two versions, which is before the other
+-- ---- several versions, a line each
 
-abbrev pub Orders : List ℕ → List ℕ → Result Ordering ℕ → Type 0
-Orders one other = Of (VersionOf one) (λ v. Of (VersionOf other) (λ w. Is (precedence_cmp v w)))
+-- the code of a line: of the match of its version, or 7 where that is invalid
+pub data LineCode (flag : PreRelease) (req : Requirement) (place : ℕ) (line : List ℕ) : Result ℕ Fault → Type 0 where
+  line_matches : {v : Version} → IsVersion place line (Ok v) → LineCode flag req place line (Ok (match_code (match_of flag req.inner v)))
+  line_invalid : {fault : Fault} → IsVersion place line (Err fault) → LineCode flag req place line (Ok 7)
 
--- ---- do two requirements overlap
+-- the code of each line
+abbrev pub LineCodes : PreRelease → Flavour → List ℕ → List ℕ → Result (List ℕ) Fault → Type 0
+LineCodes flag f range versions = Given (IsRange f 0 range) (λ req. Each (LineCode flag req) 0 (lines versions))
 
-abbrev pub Overlaps : ℕ → List ℕ → List ℕ → Result Bool ℕ → Type 0
-Overlaps reader one other =
-    Of (Requirement reader one) (λ read. Of (Requirement reader other) (λ others. Is (inner_overlap read others)))
+-- ---- the calls
 
--- ---- texts: the normal text of a requirement, and how a version is displayed
+abbrev pub Fits : ℕ → ℕ → List ℕ → List ℕ → Result (Answer Bool) ℕ → Type 0
+Fits number reader range version = ByTwo reader range version (λ f r v. Matches (pre_release_of number) f r v)
 
-abbrev pub NormalText : ℕ → List ℕ → Result (List ℕ) ℕ → Type 0
-NormalText reader requirement = Of (Requirement reader requirement) (λ read. Is (inner_text read))
+abbrev pub Filters : ℕ → ℕ → List ℕ → List ℕ → Result (List ℕ) ℕ → Type 0
+Filters number reader range versions = ByTwo reader range versions (λ f r v. LineCodes (pre_release_of number) f r v)
 
-abbrev pub Displayed : List ℕ → Result (List ℕ) ℕ → Type 0
-Displayed version = Of (VersionOf version) (λ v. Is (version_text v))
+abbrev pub BestLine : ℕ → ℕ → List ℕ → List ℕ → Result (Answer (Option Best)) ℕ → Type 0
+BestLine number reader range versions = ByTwo reader range versions (λ f r v. BestMatch (pre_release_of number) f r (lines v))
 
--- ---- the lowest version of a test, or that there is none
+abbrev pub OverlapsBy : ℕ → List ℕ → List ℕ → Result Bool ℕ → Type 0
+OverlapsBy reader one other = ByTwo reader one other Overlaps
 
-abbrev pub least_of : Option Version → Least
-least_of (Some v) = least.Version v
-least_of None = least.Nothing
+abbrev pub LowestBy : ℕ → List ℕ → Result (Answer (Option Version)) ℕ → Type 0
+LowestBy reader range = ByOne reader range (λ f r. Common Restricted f (r ∷ []))
 
--- the outcome is the lowest version of the test
-abbrev pub IsLowestOf : (Version → Bool) → Result Least ℕ → Type 0
-IsLowestOf test outcome = (lowest : Option Version) × IsLowest test lowest × (outcome ≡ Ok (least_of lowest))
+abbrev pub CommonBy : ℕ → List ℕ → List ℕ → Result (Answer (Option Version)) ℕ → Type 0
+CommonBy reader one other = ByTwo reader one other (λ f r s. Common Restricted f (r ∷ s ∷ []))
 
--- of one requirement; a tag is told as one
-abbrev pub LeastOf : RangeSetOrTag → Result Least ℕ → Type 0
-LeastOf (inner.RangeSet set) outcome = IsLowestOf (inner_means (inner.RangeSet set)) outcome
-LeastOf (inner.Tag tag) outcome = outcome ≡ Ok least.Tag
+abbrev pub OutsideBy : ℕ → List ℕ → List ℕ → Result (Answer (Option Version)) ℕ → Type 0
+OutsideBy reader one other = ByTwo reader one other (Outside Restricted)
 
--- of two, by what is meant of both
-abbrev pub LeastOfBoth : (RangeSetOrTag → RangeSetOrTag → Version → Bool) → RangeSetOrTag → RangeSetOrTag
-    → Result Least ℕ → Type 0
-LeastOfBoth means (inner.RangeSet set) (inner.RangeSet other) outcome =
-    IsLowestOf (means (inner.RangeSet set) (inner.RangeSet other)) outcome
-LeastOfBoth means (inner.Tag tag) other outcome = outcome ≡ Ok least.Tag
-LeastOfBoth means (inner.RangeSet set) (inner.Tag tag) outcome = outcome ≡ Ok least.Tag
+abbrev pub CanonicalBy : ℕ → List ℕ → Result (List ℕ) ℕ → Type 0
+CanonicalBy reader range = ByOne reader range Canonical
 
-abbrev pub LeastMatch : ℕ → List ℕ → Result Least ℕ → Type 0
-LeastMatch reader requirement = Of (Requirement reader requirement) LeastOf
+abbrev pub DisplayedOf : List ℕ → Result (List ℕ) ℕ → Type 0
+DisplayedOf version = OfText version Displayed
 
--- both match it
-abbrev pub LeastCommon : ℕ → List ℕ → List ℕ → Result Least ℕ → Type 0
-LeastCommon reader one other =
-    Of (Requirement reader one) (λ read. Of (Requirement reader other) (λ others. LeastOfBoth (inners_mean_with Restricted) read others))
+abbrev pub OrdersOf : List ℕ → List ℕ → Result Ordering ℕ → Type 0
+OrdersOf one other = OfTexts one other Orders
 
--- the first matches it, and the other doesn't
-abbrev pub LeastOutside : ℕ → List ℕ → List ℕ → Result Least ℕ → Type 0
-LeastOutside reader one other =
-    Of (Requirement reader one)
-    (λ read. Of (Requirement reader other) (λ others. LeastOfBoth (inner_means_alone_with Restricted) read others))
+abbrev pub SortsOf : List ℕ → Result (List ℕ) ℕ → Type 0
+SortsOf versions = OfText versions (λ text. Sorts Ascending (lines text))
+
+abbrev pub PackageBy : ℕ → List ℕ → Result (List ℕ) ℕ → Type 0
+PackageBy reader text = ByOne reader text PackageParts
+
+abbrev pub ReferenceOf : List ℕ → Result (List ℕ) ℕ → Type 0
+ReferenceOf text = OfText text ReferenceParts
+
+-- ---- values that are kept across calls
+
+abbrev pub RangeBy : ℕ → List ℕ → Result Requirement ℕ → Type 0
+RangeBy reader text = ByOne reader text (λ f t. IsRange f 0 t)
+
+abbrev pub VersionOf : List ℕ → Result Version ℕ → Type 0
+VersionOf text = OfText text (IsVersion 0)
+
+-- the code of the match of a text's version
+abbrev pub MatchesKept : ℕ → Requirement → List ℕ → Result ℕ ℕ → Type 0
+MatchesKept number req version =
+    OfText version (λ text. Given (IsVersion 0 text) (λ v. Is (match_code (match_of (pre_release_of number) req.inner v))))

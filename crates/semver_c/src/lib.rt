@@ -12,42 +12,30 @@ ghost use Rattle.semver_base.specs.Precedence.{precedence_cmp, version_cmp};
 ghost use Rattle.semver_base.specs.VersionText.{version_text};
 ghost use Rattle.semver_req.specs.Requirement.{inner_text};
 ghost use Rattle.semver_req.specs.Tag.{is_valid_tag};
-ghost use Rattle.semver_c.specs.Codes.{IsCode, IsPlaced, IsReply, IsUntouched, bool_code, fit_code, least_code, least_text, no_text, one_code, order_code};
-ghost use Rattle.semver_c.specs.Kept.{FitsKept, IsKept, IsKeptEqual, IsKeptFit, IsKeptOrder, IsKeptOverlap, KeepsText};
-ghost use Rattle.semver_c.specs.Lists.{BestLine, FitsLines, IsPlaceReply};
-ghost use Rattle.semver_c.specs.Packages.{PartsOfPackage};
-ghost use Rattle.semver_c.specs.Questions.{Displayed, Fits, LeastCommon, LeastMatch, LeastOutside, NormalText, Orders, Overlaps};
-ghost use Rattle.semver_c.specs.References.{PartsOfReference};
-ghost use Rattle.semver_c.specs.Sorting.{Sorts};
-ghost use Rattle.semver_c.specs.Words.{Is, Requirement, VersionOf};
+ghost use Rattle.answers.specs.Asking.{Is};
+ghost use Rattle.semver_c.specs.Codes.{IsCode, IsPlaceReply, IsPlaced, IsReply, IsUntouched, bool_code, lowest_code, lowest_text, match_code, no_text, one_code, order_code};
+ghost use Rattle.semver_c.specs.Kept.{IsKept, IsKeptEqual, IsKeptMatch, IsKeptOrder, IsKeptOverlap};
+ghost use Rattle.semver_c.specs.Questions.{BestLine, CanonicalBy, CommonBy, DisplayedOf, Filters, Fits, LowestBy, MatchesKept, OrdersOf, OutsideBy, OverlapsBy, PackageBy, RangeBy, ReferenceOf, SortsOf, VersionOf};
 
-mod kept;
-mod lists;
-mod packages;
+mod arguments;
 mod questions;
-mod references;
-mod sorting;
-mod telling;
-mod words;
+mod reports;
 
+use arguments::pre_release;
 use deno_semver::npm::is_valid_npm_tag;
 use handles::{RequirementHandle, VersionHandle};
-use kept::{boxed_requirement, boxed_version, fits_kept, kept_text, kept_version_text};
-use lists::{best_line, filter, tell_place};
-use packages::package_parts;
 use questions::{
-    common, displayed, fits, fitting, least_match, normal_text, order, outside, overlap,
-    pre_release_of, text_of_version,
+    best_line, boxed_range, boxed_version, canonical_form, common, displayed_version, filter, fits,
+    kept_canonical, kept_displayed, lowest, match_code, matches_kept, order_of, outside, overlap,
+    package_of, reference_of, sorted_lines,
 };
-use references::reference_parts;
+use reports::{
+    code_of_bool, code_of_order, code_or_problem, order_code, put, report_codes, report_lowest,
+    report_match, report_place, report_places, report_problem, report_text,
+};
 use semver_req::laws::equal_requirements;
-use sorting::sort;
 use std::alloc::Global;
 use std::str;
-use telling::{
-    code_of_bool, code_of_fit, code_of_order, fit_code, order_code, put, tell_codes, tell_fit,
-    tell_least, tell_places, tell_problem, tell_text,
-};
 
 /// Whether the version fits the requirement: 0 no, 1 yes, 2 the requirement is a tag. Pre-releases are restricted by npm's rule
 /// at 0, and admitted at any other number.
@@ -61,10 +49,10 @@ pub extern "C" fn semver_fits(
     out: &mut [u8],
     needed: &mut usize,
 ) -> u32
-    ensures { IsReply (Fits pre_releases reader requirement.now version.now) fit_code no_text
+    ensures { IsReply (Fits pre_releases reader requirement.now version.now) match_code no_text
         out.old out.new needed.new result }
 {
-    tell_fit(
+    report_match(
         fits(alloc, reader, requirement, version, pre_releases),
         out,
         needed,
@@ -74,15 +62,15 @@ pub extern "C" fn semver_fits(
 /// The order of two versions, in which the build has no part: 0 the first is before the other, 1 neither is, 2 it is after.
 #[unsafe(no_mangle)]
 pub extern "C" fn semver_compare(alloc: Global, one: &[u8], other: &[u8]) -> u32
-    ensures { IsCode (Orders one.now other.now) order_code result }
+    ensures { IsCode (OrdersOf one.now other.now) order_code result }
 {
-    code_of_order(order(alloc, one, other))
+    code_of_order(order_of(alloc, one, other))
 }
 
 /// Whether two requirements overlap: 0 no, 1 yes.
 #[unsafe(no_mangle)]
 pub extern "C" fn semver_overlap(alloc: Global, reader: u32, one: &[u8], other: &[u8]) -> u32
-    ensures { IsCode (Overlaps reader one.now other.now) bool_code result }
+    ensures { IsCode (OverlapsBy reader one.now other.now) bool_code result }
 {
     code_of_bool(overlap(alloc, reader, one, other))
 }
@@ -98,10 +86,10 @@ pub extern "C" fn semver_within(
     out: &mut [u8],
     needed: &mut usize,
 ) -> u32
-    ensures { IsReply (LeastOutside reader one.now other.now) (least_code 0 1) least_text
+    ensures { IsReply (OutsideBy reader one.now other.now) (lowest_code 0 1) lowest_text
         out.old out.new needed.new result }
 {
-    tell_least(alloc, outside(alloc, reader, one, other), 0, 1, out, needed)
+    report_lowest(alloc, outside(alloc, reader, one, other), 0, 1, out, needed)
 }
 
 /// The least version that both requirements match: 0 none, 1 with its text, 2 one of them is a tag.
@@ -114,10 +102,10 @@ pub extern "C" fn semver_common(
     out: &mut [u8],
     needed: &mut usize,
 ) -> u32
-    ensures { IsReply (LeastCommon reader one.now other.now) (least_code 1 0) least_text
+    ensures { IsReply (CommonBy reader one.now other.now) (lowest_code 1 0) lowest_text
         out.old out.new needed.new result }
 {
-    tell_least(alloc, common(alloc, reader, one, other), 1, 0, out, needed)
+    report_lowest(alloc, common(alloc, reader, one, other), 1, 0, out, needed)
 }
 
 /// The least version that the requirement matches: 0 none, 1 with its text, 2 it is a tag.
@@ -129,17 +117,10 @@ pub extern "C" fn semver_least(
     out: &mut [u8],
     needed: &mut usize,
 ) -> u32
-    ensures { IsReply (LeastMatch reader requirement.now) (least_code 1 0) least_text
+    ensures { IsReply (LowestBy reader requirement.now) (lowest_code 1 0) lowest_text
         out.old out.new needed.new result }
 {
-    tell_least(
-        alloc,
-        least_match(alloc, reader, requirement),
-        1,
-        0,
-        out,
-        needed,
-    )
+    report_lowest(alloc, lowest(alloc, reader, requirement), 1, 0, out, needed)
 }
 
 /// The normal text of the requirement: 1.
@@ -151,10 +132,10 @@ pub extern "C" fn semver_normal(
     out: &mut [u8],
     needed: &mut usize,
 ) -> u32
-    ensures { IsReply (NormalText reader requirement.now) one_code (λ text. text)
+    ensures { IsReply (CanonicalBy reader requirement.now) one_code (λ text. text)
         out.old out.new needed.new result }
 {
-    tell_text(normal_text(alloc, reader, requirement), out, needed)
+    report_text(canonical_form(alloc, reader, requirement), out, needed)
 }
 
 /// How the version is displayed: 1.
@@ -165,10 +146,10 @@ pub extern "C" fn semver_version(
     out: &mut [u8],
     needed: &mut usize,
 ) -> u32
-    ensures { IsReply (Displayed version.now) one_code (λ text. text)
+    ensures { IsReply (DisplayedOf version.now) one_code (λ text. text)
         out.old out.new needed.new result }
 {
-    tell_text(displayed(alloc, version), out, needed)
+    report_text(displayed_version(alloc, version), out, needed)
 }
 
 /// Whether the text may be the tag of a version: 0 no, 1 yes.
@@ -196,11 +177,11 @@ pub extern "C" fn semver_filter(
     answers: &mut [u8],
     needed: &mut usize,
 ) -> u32
-    ensures answer { IsReply (FitsLines pre_releases reader requirement.now versions.now)
+    ensures answer { IsReply (Filters pre_releases reader requirement.now versions.now)
         one_code (λ codes. codes) answers.old answers.new needed.new result }
     ensures no_answers { IsUntouched answers.old answers.new needed.new result }
 {
-    tell_codes(
+    report_codes(
         filter(alloc, reader, requirement, versions, pre_releases),
         answers,
         needed,
@@ -222,7 +203,7 @@ pub extern "C" fn semver_best(
         place.old place.new result }
     ensures stays { (result ≡ 1 → ⊥) → place.new ≡ place.old }
 {
-    tell_place(
+    report_place(
         best_line(alloc, reader, requirement, versions, pre_releases),
         place,
     )
@@ -238,11 +219,11 @@ pub extern "C" fn semver_sort(
     places: &mut [usize],
     needed: &mut usize,
 ) -> u32
-    ensures answer { IsReply (Sorts versions.now) one_code (λ places. places)
+    ensures answer { IsReply (SortsOf versions.now) one_code (λ places. places)
         places.old places.new needed.new result }
     ensures no_places { IsUntouched places.old places.new needed.new result }
 {
-    tell_places(sort(alloc, versions), places, needed)
+    report_places(sorted_lines(alloc, versions), places, needed)
 }
 
 /// The parts of the text of a requirement of a package, as JSON: 1. The reader reads the text of the version; code 3 is that the text
@@ -255,10 +236,10 @@ pub extern "C" fn semver_package(
     out: &mut [u8],
     needed: &mut usize,
 ) -> u32
-    ensures { IsReply (PartsOfPackage reader text.now) one_code (λ text. text)
+    ensures { IsReply (PackageBy reader text.now) one_code (λ text. text)
         out.old out.new needed.new result }
 {
-    tell_text(package_parts(alloc, reader, text), out, needed)
+    report_text(package_of(alloc, reader, text), out, needed)
 }
 
 /// The parts of the text of a reference to a package of JSR or npm, as JSON: 1. The strict reader reads the text of the version; code 3
@@ -270,10 +251,10 @@ pub extern "C" fn semver_reference(
     out: &mut [u8],
     needed: &mut usize,
 ) -> u32
-    ensures { IsReply (PartsOfReference text.now) one_code (λ text. text)
+    ensures { IsReply (ReferenceOf text.now) one_code (λ text. text)
         out.old out.new needed.new result }
 {
-    tell_text(reference_parts(alloc, text), out, needed)
+    report_text(reference_of(alloc, text), out, needed)
 }
 
 /// Reads a requirement into a handle that has none: 1.
@@ -287,18 +268,16 @@ pub extern "C" fn semver_req_read(
     needed: &mut usize,
 ) -> u32
     requires { handle.old.value ≡ None }
-    ensures kept { IsKept (Requirement reader text.now) (λ req. req.inner)
-        handle.new.value result }
-    ensures text { IfSome handle.new.value (KeepsText reader text.now) }
+    ensures kept { IsKept (RangeBy reader text.now) handle.new.value result }
     ensures message { (words : List ℕ) × IsPlaced words out.old out.new needed.new }
 {
-    match boxed_requirement(alloc, reader, text) {
+    match boxed_range(alloc, reader, text) {
         Ok(requirement) => {
             *handle = RequirementHandle::keep(requirement);
             put("", out, needed);
             1
         }
-        Err(problem) => tell_problem(&problem, out, needed),
+        Err(problem) => report_problem(&problem, out, needed),
     }
 }
 
@@ -312,7 +291,7 @@ pub extern "C" fn semver_version_read(
     needed: &mut usize,
 ) -> u32
     requires { handle.old.value ≡ None }
-    ensures kept { IsKept (VersionOf text.now) (λ version. version) handle.new.value result }
+    ensures kept { IsKept (VersionOf text.now) handle.new.value result }
     ensures message { (words : List ℕ) × IsPlaced words out.old out.new needed.new }
 {
     match boxed_version(alloc, text) {
@@ -321,7 +300,7 @@ pub extern "C" fn semver_version_read(
             put("", out, needed);
             1
         }
-        Err(problem) => tell_problem(&problem, out, needed),
+        Err(problem) => report_problem(&problem, out, needed),
     }
 }
 
@@ -354,10 +333,10 @@ pub extern "C" fn semver_req_fits(
     requires { Holds handle.old.value }
     ensures kept { handle.new.value ≡ handle.old.value }
     ensures code { IfSome handle.old.value
-        (λ req. IsCode (FitsKept pre_releases req.inner version.now) fit_code result) }
+        (λ req. IsCode (MatchesKept pre_releases req version.now) (λ code. code) result) }
 {
     let requirement = handle.take(alloc);
-    let code = code_of_fit(fits_kept(alloc, &*requirement, version, pre_releases));
+    let code = code_or_problem(matches_kept(alloc, &*requirement, version, pre_releases));
     *handle = RequirementHandle::keep(requirement);
     code
 }
@@ -374,10 +353,10 @@ pub extern "C" fn semver_req_matches(
     requires version { Holds version.old.value }
     ensures kept_requirement { requirement.new.value ≡ requirement.old.value }
     ensures kept_version { version.new.value ≡ version.old.value }
-    ensures code { IsKeptFit pre_releases requirement.old.value version.old.value result }
+    ensures code { IsKeptMatch pre_releases requirement.old.value version.old.value result }
 {
     let (req, v) = (requirement.take(alloc), version.take(alloc));
-    let code = fit_code(&fitting(&*req, &*v, pre_release_of(pre_releases)));
+    let code = match_code(&*req, &*v, pre_release(pre_releases));
     *requirement = RequirementHandle::keep(req);
     *version = VersionHandle::keep(v);
     u32::from(code)
@@ -437,7 +416,7 @@ pub extern "C" fn semver_req_normal(
         one_code (λ text. text) out.old out.new needed.new result) }
 {
     let requirement = handle.take(alloc);
-    let code = tell_text(kept_text(alloc, &*requirement), out, needed);
+    let code = report_text(kept_canonical(alloc, &*requirement), out, needed);
     *handle = RequirementHandle::keep(requirement);
     code
 }
@@ -456,7 +435,7 @@ pub extern "C" fn semver_version_text(
         one_code (λ text. text) out.old out.new needed.new result) }
 {
     let version = handle.take(alloc);
-    let code = tell_text(kept_version_text(alloc, &*version), out, needed);
+    let code = report_text(kept_displayed(alloc, &*version), out, needed);
     *handle = VersionHandle::keep(version);
     code
 }

@@ -2,4 +2,4 @@ use Rattle.semver_c.proofs.Replies.{replied}
 use Rattle.semver_c.proofs.semver_least.Goals as goal
 
 pub returns : goal.returns
-returns c = replied _ _ _ c.least_match.result c.least_match.ensures _ c.args.out.now c.tell_least.new.out c.tell_least.new.needed c.tell_least.result c.tell_least.ensures
+returns c = replied _ _ _ c.lowest.result c.lowest.ensures _ c.args.out.now c.report_lowest.new.out c.report_lowest.new.needed c.report_lowest.result c.report_lowest.ensures

@@ -1,0 +1,60 @@
+-- Answers that are the highest of several versions.
+use Rattle.std.proofs.Common.{◌≡◌, ◌<◌, ◌++◌, ◌∷◌, ◌∙◌, ℕ, arith, List, [], length, get_or, Option, Some, None, Result, Ok, Bool, refl, sym, ap, subst, inr}
+use Rattle.std.proofs.Math.Seq.{get_or-append_seam}
+use Rattle.semver_base.specs.declared.range.PreRelease.{PreRelease}
+use Rattle.semver_base.specs.declared.version.Version.{Version}
+use Rattle.semver_req.specs.Requirement.{inner_means_with, tag_of}
+use Rattle.semver_req.specs.declared.range_set_or_tag.RangeSetOrTag.{RangeSetOrTag}
+use Rattle.semver_req.specs.declared.range_set_or_tag.RangeSetOrTag.TheVariants as inner
+use Rattle.deno_semver.specs.Resolve.{IsBestAt, IsBestMatch, IsOnlyMatch, greater}
+use Rattle.answers.specs.Asking.{Fault, IsAnswer}
+use Rattle.answers.specs.Questions.{BestOf, IsBest}
+use Rattle.answers.specs.declared.asking.Answer.{Answer}
+use Rattle.answers.specs.declared.asking.Answer.TheVariants.{Value}
+use Rattle.answers.specs.declared.questions.Best.{Best}
+
+abbrev as_best : Option Best → Result (Answer (Option Best)) Fault
+as_best best = Ok (Value best)
+
+module _ (test : Version → Bool) (versions : List Version) where
+  -- the version at the place of a match
+  version_at : (place : ℕ) (v d : Version) → IsBestAt greater test versions place v → get_or versions place d ≡ v
+  version_at place v d h = rw (h.stands, sym h.at_place) (get_or-append_seam h.before v h.after d)
+
+  -- the place of a match is one of the list
+  pub place_within : (place : ℕ) → IsBestMatch greater test versions (Some place) → place < length versions
+  place_within place h = rw (h.1.stands, sym h.1.at_place) (within h.1.before)
+    where
+      within : (before : List Version) → length before < length (before ++ h.0 ∷ h.1.after)
+      within [] = omega arith
+      within (x ∷ xs) = let more = within xs in omega (arith, more)
+
+  -- the version that is taken from the place
+  pub taken_best : (place : ℕ) (v : Version) → v ≡ get_or versions place v → IsBestMatch greater test versions (Some place) → IsBest test versions (Some (record { place = place; version = v }))
+  taken_best place v at h = subst (λ (w : Version). IsBestAt greater test versions place w) (sym (version_at place h.0 v h.1) ∙ sym at) h.1
+
+  same_best : (place : ℕ) (v : Version) → v ≡ get_or versions place v → (other : Best) → IsBest test versions (Some other) → other.place ≡ place → record { place = place; version = v } ≡ other
+  same_best place v at other h e =
+      let at_other : v ≡ other.version = at ∙ ap (λ (p : ℕ). get_or versions p v) (sym e) ∙ version_at other.place other.version v h in
+      ap (λ (p : ℕ). record { place = p; version = v }) (sym e) ∙ ap (λ (w : Version). record { place = other.place; version = w }) at_other
+
+  same_place : (p q : ℕ) → Some p ≡ Some q → p ≡ q
+  same_place p q e = cc e
+
+  pub only_best : (place : ℕ) (v : Version) → v ≡ get_or versions place v → IsOnlyMatch greater test versions (Some place)
+      → (other : Option Best) → IsBest test versions other → Some (record { place = place; version = v }) ≡ other
+  only_best place v at only None h = absurd (cc (only None h))
+  only_best place v at only (Some other) h = ap Some (same_best place v at other h (same_place other.place place (only (Some other.place) (other.version, h))))
+
+  pub only_none : IsOnlyMatch greater test versions None → (other : Option Best) → IsBest test versions other → None ≡ other
+  only_none only None h = refl
+  only_none only (Some other) h = absurd (cc (only (Some other.place) (other.version, h)))
+
+-- the best that is found is the answer of a range that is no tag
+pub best_answer : (flag : PreRelease) (read : RangeSetOrTag) (versions : List Version) → tag_of read ≡ None → (best : Option Best) → IsBest (inner_means_with flag read) versions best
+    → ((other : Option Best) → IsBest (inner_means_with flag read) versions other → best ≡ other) → IsAnswer (BestOf flag read versions) (λ (a : Answer (Option Best)). a) (Ok (Value best))
+best_answer flag (inner.RangeSet set) versions none best h only = record {
+  is = inr (best, h, refl);
+  only = λ o a. inr (ap as_best (only a.0 a.1) ∙ sym a.2);
+}
+best_answer flag (inner.Tag tag) versions none best h only = absurd (cc none)

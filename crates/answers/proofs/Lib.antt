@@ -1,0 +1,9 @@
+pub mod BestMatches
+pub mod ExplainedPieces
+pub mod Givens
+pub mod Lowest
+pub mod PackageAnswers
+pub mod ReadArguments
+pub mod ReferenceAnswers
+pub mod Sorted
+pub mod TextLists

@@ -1,0 +1,17 @@
+use Rattle.std.proofs.Common.{◌∷◌, ◌++◌, ℕ, List, length}
+use denote.Text.{Utf8}
+use denote.Shadow.{shadow}
+use Rattle.answers.specs.Explained.{AreAllExplained}
+use Rattle.semver_req.specs.Pieces.{AreMorePieces}
+use Rattle.answers.proofs.explained.pieces_from.Given as goal
+
+abbrev pub invariant-loop-piece : goal.invariant-loop-piece
+invariant-loop-piece l = record {
+  is_text : shadow (Utf8 l.rest);
+  others : List (List ℕ);
+  joins : (more : List (List ℕ)) → AreMorePieces l.rest more → AreMorePieces l.first.rest.now (others ++ more);
+  read : AreAllExplained l.flavour l.pre_release l.first.is_followed (l.first.piece.now ∷ others) l.pieces.items;
+}
+
+abbrev pub decreases-loop-piece : goal.decreases-loop-piece
+decreases-loop-piece l = length l.rest

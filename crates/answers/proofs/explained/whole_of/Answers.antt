@@ -1,0 +1,13 @@
+use Rattle.std.proofs.Common.{◌≡◌, ◌++◌, ◌∷◌, [], ◌+◌, rules, subst, sym, take}
+use Rattle.answers.specs.Explained.{AreWholeTexts, IsWholeText}
+use Rattle.answers.proofs.ExplainedPieces.{whole_more}
+use Rattle.answers.proofs.explained.whole_of.Goals as goal
+
+pub loop-range-preserved : goal.loop-range-preserved
+loop-range-preserved c =
+    let l = c.loop-range in
+    let piece = c.in_ok-whole.field-0 in
+    let pushed : c.push.new.self.items ≡ l.pieces.items ++ piece ∷ [] = search rules in
+    subst (λ items. AreWholeTexts c.args.pre_release c.args.text.now (take (l.range-index + 1) c.args.ranges.now) items) (sym pushed)
+    (whole_more c.args.pre_release c.args.text.now c.args.ranges.now l.range-index c.range-item.result l.pieces.items piece c.loop-range-test.true l.invariant
+    (subst (λ range. IsWholeText c.args.pre_release c.args.text.now range piece) c.range-item.is c.in_ok-whole.ensures))

@@ -1,0 +1,95 @@
+-- What a grammar makes of the text of a range, alternative by alternative.
+use Rattle.std.specs.Prelude.{◌≡◌, ℕ, List, [], ◌∷◌, Bool, false, string_bytes}
+use Rattle.semver_base.specs.LeastVersion.{IsLowest, TellsSome}
+use Rattle.semver_base.specs.Meaning.{is_pre_match, range_means_with}
+use Rattle.semver_base.specs.declared.range.PreRelease.{PreRelease}
+use Rattle.semver_base.specs.declared.range.VersionRange.{VersionRange}
+use Rattle.semver_req.specs.Outcome.{worked_on}
+use Rattle.semver_req.specs.PieceReading.{IsPieceRead}
+use Rattle.semver_req.specs.Pieces.{AreMorePieces, ArePieces}
+use Rattle.semver_req.specs.Readers.{IsReading}
+use Rattle.semver_req.specs.Requirement.{inner_text}
+use Rattle.semver_req.specs.declared.common.values.Flavour.{Flavour}
+use Rattle.semver_req.specs.declared.common.values.Flavour.TheVariants.{Npm, Normal, Specifier}
+use Rattle.semver_req.specs.declared.range_set_or_tag.RangeSetOrTag.{RangeSetOrTag}
+use Rattle.semver_req.specs.declared.range_set_or_tag.RangeSetOrTag.TheVariants as inner
+use Rattle.semver_req.specs.declared.range_set_or_tag.pieces.RangeOrInvalid.TheVariants as read
+use Rattle.answers.specs.declared.explained.Explanation.{Explanation}
+use Rattle.answers.specs.declared.explained.Explanation.TheVariants as explanation
+use Rattle.answers.specs.declared.explained.Matches.{Matches}
+use Rattle.answers.specs.declared.explained.Meaning.{Meaning}
+use Rattle.answers.specs.declared.explained.Meaning.TheVariants as meaning
+use Rattle.answers.specs.declared.explained.Piece.{Piece}
+
+-- what the range matches: the lowest version, and whether pre-releases of the numbers of its start and of its end do
+pub record AreMatches (flag : PreRelease) (matches : Matches) : Type 0 where
+  pub lowest : IsLowest (range_means_with flag matches.range) matches.least
+  pub of_start : TellsSome (is_pre_match matches.range matches.range.start) matches.pre_of_start
+  pub of_end : TellsSome (is_pre_match matches.range matches.range.end) matches.pre_of_end
+
+-- the range, with what it matches
+abbrev pub IsMeaningOfRange : PreRelease → VersionRange → Meaning → Type 0
+IsMeaningOfRange flag range (meaning.Range matches) = (matches.range ≡ range) × AreMatches flag matches
+IsMeaningOfRange flag range (meaning.LeftOut refusal) = ⊥
+
+-- what is read of a piece, which is followed by `||` or not
+abbrev pub IsMeaningOf : Flavour → PreRelease → Bool → List ℕ → Meaning → Type 0
+IsMeaningOf f flag followed text (meaning.Range matches) =
+    IsPieceRead f followed text (read.Range matches.range) × AreMatches flag matches
+IsMeaningOf f flag followed text (meaning.LeftOut refusal) = IsPieceRead f followed text (read.Invalid refusal)
+
+-- the piece as it is written, with what is read of it
+abbrev pub IsExplainedPiece : Flavour → PreRelease → Bool → List ℕ → Piece → Type 0
+IsExplainedPiece f flag followed text piece = (string_bytes piece.text ≡ text)
+    × IsMeaningOf f flag followed text piece.meaning
+
+-- so are all of them, of which the first is followed by `||` or not
+abbrev pub AreAllExplained : Flavour → PreRelease → Bool → List (List ℕ) → List Piece → Type 0
+AreAllExplained f flag followed [] [] = Unit {0}
+AreAllExplained f flag followed (text ∷ texts) (piece ∷ pieces) = IsExplainedPiece f flag followed text piece
+    × AreAllExplained f flag false texts pieces
+AreAllExplained f flag followed [] (piece ∷ pieces) = ⊥
+AreAllExplained f flag followed (text ∷ texts) [] = ⊥
+
+-- the first piece, and those of what follows its `||`
+pub record AreExplainedFrom
+    (f : Flavour) (flag : PreRelease) (first : List ℕ) (followed : Bool) (rest : List ℕ) (pieces : List Piece) :
+    Type 0 where
+  pub others : List (List ℕ)
+  pub more : AreMorePieces rest others
+  pub explained : AreAllExplained f flag followed (first ∷ others) pieces
+
+-- how a text is cut at its `||`, with each piece explained
+pub record AreExplained (f : Flavour) (flag : PreRelease) (text : List ℕ) (pieces : List Piece) : Type 0 where
+  pub followed : Bool
+  pub texts : List (List ℕ)
+  pub are_pieces : ArePieces text followed texts
+  pub explained : AreAllExplained f flag followed texts pieces
+
+-- the whole text, with this range
+abbrev pub IsWholeText : PreRelease → List ℕ → VersionRange → Piece → Type 0
+IsWholeText flag text range piece = (string_bytes piece.text ≡ text) × IsMeaningOfRange flag range piece.meaning
+
+-- the whole text, for each of these ranges
+abbrev pub AreWholeTexts : PreRelease → List ℕ → List VersionRange → List Piece → Type 0
+AreWholeTexts flag text [] [] = Unit {0}
+AreWholeTexts flag text (range ∷ ranges) (piece ∷ pieces) = IsWholeText flag text range piece
+    × AreWholeTexts flag text ranges pieces
+AreWholeTexts flag text [] (piece ∷ pieces) = ⊥
+AreWholeTexts flag text (range ∷ ranges) [] = ⊥
+
+-- the alternatives of a text of these ranges; the strict grammar has none, so the whole text means them
+abbrev pub AreAlternatives : Flavour → PreRelease → List ℕ → List VersionRange → List Piece → Type 0
+AreAlternatives Npm flag text ranges pieces = AreExplained Npm flag (worked_on Npm text) pieces
+AreAlternatives Normal flag text ranges pieces = AreExplained Normal flag (worked_on Normal text) pieces
+AreAlternatives Specifier flag text ranges pieces = AreWholeTexts flag text ranges pieces
+
+abbrev AreItsPieces : Flavour → PreRelease → List ℕ → RangeSetOrTag → List Piece → Type 0
+AreItsPieces f flag text (inner.RangeSet set) pieces = AreAlternatives f flag text set.0 pieces
+AreItsPieces f flag text (inner.Tag tag) pieces = ⊥
+
+-- the tag that is read of the text; or its alternatives, and the canonical form of what is read
+abbrev pub IsExplained : Flavour → PreRelease → List ℕ → Explanation → Type 0
+IsExplained f flag text (explanation.Tag tag) = IsReading f text (inner.Tag tag)
+IsExplained f flag text (explanation.Ranges pieces normal) = (answer : RangeSetOrTag) × IsReading f text answer
+    × AreItsPieces f flag text answer pieces.items × (string_bytes normal ≡ inner_text answer)

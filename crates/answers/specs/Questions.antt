@@ -1,0 +1,102 @@
+-- What people ask of versions and ranges.
+use Rattle.std.specs.Prelude.{◌≡◌, ℕ, List, [], ◌∷◌, Bool, false, Option, None, Some, Result, Ok}
+use Rattle.std.specs.List.{list_any}
+use Rattle.std.specs.declared.cmp.Ordering.{Ordering}
+use Rattle.semver_base.specs.LeastVersion.{IsLowest}
+use Rattle.semver_base.specs.Precedence.{precedence_cmp}
+use Rattle.semver_base.specs.VersionText.{version_text}
+use Rattle.semver_base.specs.declared.range.PreRelease.{PreRelease}
+use Rattle.semver_base.specs.declared.version.Version.{Version}
+use Rattle.semver_req.specs.Requirement.{Requirement, all_inners_mean_with, inner_means_alone_with, inner_means_with, inner_overlap, inner_text, tag_of}
+use Rattle.semver_req.specs.declared.common.values.Flavour.{Flavour}
+use Rattle.semver_req.specs.declared.range_set_or_tag.RangeSetOrTag.{RangeSetOrTag}
+use Rattle.semver_req.specs.declared.range_set_or_tag.RangeSetOrTag.TheVariants as inner
+use Rattle.deno_semver.specs.Resolve.{IsBestAt, greater}
+use Rattle.answers.specs.Asking.{Each, Fault, Given, Is}
+use Rattle.answers.specs.Reading.{IsRange, IsVersion}
+use Rattle.answers.specs.declared.asking.Answer.{Answer}
+use Rattle.answers.specs.declared.asking.Answer.TheVariants.{Value, Tag}
+use Rattle.answers.specs.declared.questions.Best.{Best}
+
+-- ---- tags
+
+abbrev first_of : Option (List ℕ) → Option (List ℕ) → Option (List ℕ)
+first_of (Some tag) other = Some tag
+first_of None other = other
+
+-- the first tag among ranges
+abbrev pub first_tag : List Requirement → Option (List ℕ)
+first_tag [] = None
+first_tag (req ∷ reqs) = first_of (tag_of req.inner) (first_tag reqs)
+
+-- a tag is the answer; where there is none, what is asked
+abbrev pub UnlessTag : {X : Type 0} → Option (List ℕ) → (Result (Answer X) Fault → Type 0) → Result (Answer X) Fault → Type 0
+UnlessTag (Some tag) Asked outcome = outcome ≡ Ok (Tag tag)
+UnlessTag None Asked outcome = Asked outcome
+
+-- ---- does the version match the range
+
+abbrev pub match_of : PreRelease → RangeSetOrTag → Version → Answer Bool
+match_of flag (inner.RangeSet set) v = Value (inner_means_with flag (inner.RangeSet set) v)
+match_of flag (inner.Tag tag) v = Tag tag
+
+abbrev pub Matches : PreRelease → Flavour → List ℕ → List ℕ → Result (Answer Bool) Fault → Type 0
+Matches flag f range version =
+    Given (IsRange f 0 range) (λ req. Given (IsVersion 0 version) (λ v. Is (match_of flag req.inner v)))
+
+-- ---- the highest of several versions that matches
+
+-- the highest version of a test with its place, of equal ones the first; or that none passes
+abbrev pub IsBest : (Version → Bool) → List Version → Option Best → Type 0
+IsBest test versions (Some best) = IsBestAt greater test versions best.place best.version
+IsBest test versions None = list_any test versions ≡ false
+
+abbrev pub BestOf : PreRelease → RangeSetOrTag → List Version → Result (Answer (Option Best)) Fault → Type 0
+BestOf flag read versions = UnlessTag (tag_of read)
+    (λ outcome. (best : Option Best) × IsBest (inner_means_with flag read) versions best × (outcome ≡ Ok (Value best)))
+
+abbrev pub BestMatch : PreRelease → Flavour → List ℕ → List (List ℕ) → Result (Answer (Option Best)) Fault → Type 0
+BestMatch flag f range versions =
+    Given (IsRange f 0 range) (λ req. Given (Each IsVersion 0 versions) (BestOf flag req.inner))
+
+-- ---- do two ranges overlap
+
+abbrev pub Overlaps : Flavour → List ℕ → List ℕ → Result Bool Fault → Type 0
+Overlaps f one other =
+    Given (IsRange f 0 one) (λ req. Given (IsRange f 1 other) (λ others. Is (inner_overlap req.inner others.inner)))
+
+-- ---- the lowest version
+
+-- the lowest version of a test, or that there is none
+abbrev pub LowestOf : (Version → Bool) → Result (Answer (Option Version)) Fault → Type 0
+LowestOf test outcome = (lowest : Option Version) × IsLowest test lowest × (outcome ≡ Ok (Value lowest))
+
+-- the lowest version that all ranges match; no ranges have none
+abbrev pub CommonOf : PreRelease → List Requirement → Result (Answer (Option Version)) Fault → Type 0
+CommonOf flag [] = Is (Value None)
+CommonOf flag (own ∷ others) = UnlessTag (first_tag (own ∷ others)) (LowestOf (all_inners_mean_with flag own.inner others))
+
+abbrev pub Common : PreRelease → Flavour → List (List ℕ) → Result (Answer (Option Version)) Fault → Type 0
+Common flag f texts = Given (Each (IsRange f) 0 texts) (CommonOf flag)
+
+-- the lowest version that the first range matches, and the other doesn't: none where the other contains it
+abbrev pub OutsideOf : PreRelease → Requirement → Requirement → Result (Answer (Option Version)) Fault → Type 0
+OutsideOf flag one other = UnlessTag (first_tag (one ∷ other ∷ [])) (LowestOf (inner_means_alone_with flag one.inner other.inner))
+
+abbrev pub Outside : PreRelease → Flavour → List ℕ → List ℕ → Result (Answer (Option Version)) Fault → Type 0
+Outside flag f one other = Given (IsRange f 0 one) (λ req. Given (IsRange f 1 other) (OutsideOf flag req))
+
+-- ---- texts
+
+-- the canonical form of a range, or the tag that it is
+abbrev pub Canonical : Flavour → List ℕ → Result (List ℕ) Fault → Type 0
+Canonical f range = Given (IsRange f 0 range) (λ req. Is (inner_text req.inner))
+
+-- how a version is displayed
+abbrev pub Displayed : List ℕ → Result (List ℕ) Fault → Type 0
+Displayed version = Given (IsVersion 0 version) (λ v. Is (version_text v))
+
+-- ---- of two versions, which is before the other
+
+abbrev pub Orders : List ℕ → List ℕ → Result Ordering Fault → Type 0
+Orders one other = Given (IsVersion 0 one) (λ v. Given (IsVersion 1 other) (λ w. Is (precedence_cmp v w)))

@@ -1,0 +1,79 @@
+//! What a question is answered, and why it may have no answer.
+
+ghost use Rattle.std.specs.Prelude.{◌≡◌, None};
+ghost use Rattle.semver_base.specs.Failure.{message_of};
+ghost use Rattle.answers.specs.Asking.{failure_of, problem_of};
+ghost use Rattle.answers.specs.declared.asking.Problem.TheVariants as problem;
+
+use deno_semver::{PackageTag, ParseFailure};
+use std::alloc::AllocError;
+
+/// The answer to a question about ranges.
+#[derive(Debug, Drop)]
+pub enum Answer<T> {
+    Value(T),
+    /// A range is this tag, which names a version in a registry: nothing can be answered.
+    Tag(PackageTag),
+}
+
+/// What an argument of a question should be.
+#[derive(Clone, Copy, Debug, PartialEq, Eq)]
+pub enum Kind {
+    Range,
+    Version,
+    Package,
+    Reference,
+}
+
+/// An argument that isn't what it should be.
+#[derive(Debug, Drop)]
+pub struct InvalidArgument {
+    pub kind: Kind,
+    /// Its place among the arguments of its kind, counted from 0.
+    pub place: usize,
+    /// What is wrong with it.
+    pub failure: ParseFailure,
+}
+
+/// Why a question has no answer.
+#[derive(Debug, Drop)]
+pub enum Problem {
+    /// The first argument that is invalid.
+    Invalid(InvalidArgument),
+    OutOfMemory,
+}
+
+impl Problem {
+    /// The problem of the argument at this place: its failure, or that memory ran out.
+    pub fn of(kind: Kind, place: usize, failure: ParseFailure) -> Problem
+        ensures { result ≡ problem_of kind place failure }
+    {
+        if failure.is_memory() {
+            Problem::OutOfMemory
+        } else {
+            Problem::Invalid(InvalidArgument {
+                kind,
+                place,
+                failure,
+            })
+        }
+    }
+
+    /// What is wrong.
+    pub fn message(&self) -> &str
+        ensures { result.now ≡ message_of (failure_of self.now) }
+    {
+        match self {
+            Problem::Invalid(argument) => argument.failure.message(),
+            Problem::OutOfMemory => "Out of memory.",
+        }
+    }
+}
+
+impl From<AllocError> for Problem {
+    ghost from_gives = { λ _ made. made ≡ problem.OutOfMemory };
+
+    fn from(_error: AllocError) -> Problem {
+        Problem::OutOfMemory
+    }
+}

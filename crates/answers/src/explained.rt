@@ -1,0 +1,215 @@
+//! What a grammar makes of the text of a range, alternative by alternative.
+
+ghost use Rattle.std.specs.Prelude.{◌≡◌, ◌⊎◌, Err, IfErr, IfOk};
+ghost use Rattle.semver_base.specs.NormalText.{AreWritableRanges, IsWritableRange};
+ghost use Rattle.semver_base.specs.declared.range.VersionRange.{VersionRange};
+ghost use Rattle.answers.specs.Explained.{AreExplained, AreExplainedFrom, AreAlternatives, AreWholeTexts, IsExplained, IsExplainedPiece, IsMeaningOfRange, IsWholeText};
+ghost use Rattle.answers.specs.Asking.{IsFailureAt, OutOfMemory, fault_of};
+ghost use Rattle.answers.specs.Reading.{IsRange};
+ghost use Rattle.answers.specs.declared.asking.Kind.TheVariants as kind;
+ghost use Rattle.semver_req.specs.TextRefusal.{IsTextRefusal};
+
+use crate::asking::Problem;
+use crate::reading::range;
+use deno_semver::{PackageTag, PreRelease, RangeSetOrTag, Version, VersionRange};
+use semver_base::failure::Refusal;
+use semver_req::common::values::Flavour;
+use semver_req::laws::read_ranges_are_writable;
+use semver_req::range_set_or_tag::{FirstPiece, RangeOrInvalid, first_piece, next_piece};
+use std::alloc::{AllocError, Global};
+
+/// What a grammar makes of a text.
+#[derive(Debug, Drop)]
+pub enum Explanation {
+    /// The text is this tag.
+    Tag(PackageTag),
+    /// The text is a range of versions: its alternatives, which `||` separates, in their order, and its canonical form.
+    Ranges { pieces: Vec<Piece>, normal: String },
+}
+
+/// An alternative of a text.
+#[derive(Debug, Drop)]
+pub struct Piece {
+    /// As it is written.
+    pub text: String,
+    pub meaning: Meaning,
+}
+
+/// What a grammar makes of an alternative.
+#[derive(Debug, Drop)]
+pub enum Meaning {
+    /// The range that it means.
+    Range(Matches),
+    /// It is invalid, so it is left out.
+    LeftOut(Refusal),
+}
+
+/// A range, and what it matches.
+#[derive(Debug, Drop)]
+pub struct Matches {
+    pub range: VersionRange,
+    /// The lowest version that matches, if there is one.
+    pub least: Option<Version>,
+    /// Whether pre-releases of the numbers of the start match, by npm's rule.
+    pub pre_of_start: bool,
+    /// Whether pre-releases of the numbers of the end match, by npm's rule.
+    pub pre_of_end: bool,
+}
+
+impl Meaning {
+    // The range, with what it matches.
+    fn of(
+        alloc: Global,
+        pre_release: PreRelease,
+        range: VersionRange,
+    ) -> Result<Meaning, AllocError>
+        requires { IsWritableRange range }
+        ensures { IfOk result (IsMeaningOfRange pre_release range) }
+    {
+        let least = range.min_version(alloc, pre_release)?;
+        let pre_of_start = range.matches_pre_of(alloc, &range.start)?;
+        let pre_of_end = range.matches_pre_of(alloc, &range.end)?;
+        Ok(Meaning::Range(Matches {
+            range,
+            least,
+            pre_of_start,
+            pre_of_end,
+        }))
+    }
+}
+
+impl Piece {
+    // What a grammar with alternatives makes of one, which is followed by `||` or not.
+    fn read(
+        alloc: Global,
+        flavour: Flavour,
+        pre_release: PreRelease,
+        text: &str,
+        is_followed: bool,
+    ) -> Result<Piece, AllocError>
+        ensures { IfOk result (IsExplainedPiece flavour pre_release is_followed text.now) }
+    {
+        read_ranges_are_writable();
+        let meaning = match RangeOrInvalid::parse(alloc, text, is_followed, flavour) {
+            Ok(RangeOrInvalid::Range(range)) => Meaning::of(alloc, pre_release, range)?,
+            Ok(RangeOrInvalid::Invalid(refusal)) => Meaning::LeftOut(refusal),
+            Err(_) => return Err(AllocError),
+        };
+        let text = String::from_str(alloc, text)?;
+        Ok(Piece { text, meaning })
+    }
+
+    // The text as the one piece that means this range.
+    fn whole(
+        alloc: Global,
+        pre_release: PreRelease,
+        text: &str,
+        range: &VersionRange,
+    ) -> Result<Piece, AllocError>
+        requires { IsWritableRange range.now }
+        ensures { IfOk result (IsWholeText pre_release text.now range.now) }
+    {
+        let meaning = Meaning::of(alloc, pre_release, range.copy()?)?;
+        let text = String::from_str(alloc, text)?;
+        Ok(Piece { text, meaning })
+    }
+}
+
+// The pieces of a text whose first one is cut off, each as a grammar that is cut at each `||` reads it.
+fn pieces_from(
+    alloc: Global,
+    flavour: Flavour,
+    pre_release: PreRelease,
+    first: FirstPiece<'_>,
+) -> Result<Vec<Piece>, AllocError>
+    ensures { let f = first.entry in IfOk result
+        (λ pieces. AreExplainedFrom flavour pre_release f.piece.now f.is_followed f.rest.now
+        pieces.items) }
+{
+    let mut pieces = Vec::new(alloc);
+    let head = Piece::read(alloc, flavour, pre_release, first.piece, first.is_followed)?;
+    pieces.push(head)?;
+    let mut rest = first.rest;
+    while let Some((piece, more)) = next_piece(rest) {
+        let piece = Piece::read(alloc, flavour, pre_release, piece, false)?;
+        pieces.push(piece)?;
+        rest = more;
+    }
+    Ok(pieces)
+}
+
+// The pieces of a text, each as a grammar that is cut at each `||` reads it.
+fn pieces_of(
+    alloc: Global,
+    flavour: Flavour,
+    pre_release: PreRelease,
+    text: &str,
+) -> Result<Vec<Piece>, AllocError>
+    ensures { IfOk result (λ pieces. AreExplained flavour pre_release text.now pieces.items) }
+{
+    pieces_from(alloc, flavour, pre_release, first_piece(text))
+}
+
+// The text as the piece that means each of these ranges, of which the strict grammar gives a text one.
+fn whole_of(
+    alloc: Global,
+    pre_release: PreRelease,
+    text: &str,
+    ranges: &[VersionRange],
+) -> Result<Vec<Piece>, AllocError>
+    requires { AreWritableRanges ranges.now }
+    ensures { IfOk result
+        (λ pieces. AreWholeTexts pre_release text.now ranges.now pieces.items) }
+{
+    let mut pieces = Vec::new(alloc);
+    for range in ranges {
+        pieces.push(Piece::whole(alloc, pre_release, text, range)?)?;
+    }
+    Ok(pieces)
+}
+
+// The alternatives of a text of ranges.
+fn alternatives(
+    alloc: Global,
+    flavour: Flavour,
+    pre_release: PreRelease,
+    text: &str,
+    ranges: &[VersionRange],
+) -> Result<Vec<Piece>, AllocError>
+    requires { AreWritableRanges ranges.now }
+    ensures { IfOk result
+        (λ pieces. AreAlternatives flavour pre_release text.now ranges.now pieces.items) }
+{
+    match flavour {
+        Flavour::Npm => pieces_of(alloc, flavour, pre_release, text.trim()),
+        Flavour::Normal => pieces_of(alloc, flavour, pre_release, text),
+        Flavour::Specifier => whole_of(alloc, pre_release, text, ranges),
+    }
+}
+
+/// What the grammar makes of the text of a range: the tag that it is; or its alternatives, each with the range that it means and
+/// the lowest version of that, or why it is left out, and the canonical form of all.
+pub fn explain(
+    alloc: Global,
+    flavour: Flavour,
+    pre_release: PreRelease,
+    text: &str,
+) -> Result<Explanation, Problem>
+    ensures answer { IfOk result (IsExplained flavour pre_release text.now) }
+    ensures invalid { IfErr result
+        (λ p. (fault_of p ≡ OutOfMemory) ⊎ IsRange flavour 0 text.now (Err (fault_of p))) }
+    ensures failure { IfErr result
+        (IsFailureAt kind.Range 0 (IsTextRefusal flavour text.now)) }
+{
+    read_ranges_are_writable();
+    let range = range(alloc, flavour, 0, text)?;
+    match range.inner() {
+        RangeSetOrTag::Tag(tag) => Ok(Explanation::Tag(tag.copy()?)),
+        RangeSetOrTag::RangeSet(set) => {
+            let ranges = set.0.iter().as_slice();
+            let pieces = alternatives(alloc, flavour, pre_release, text, ranges)?;
+            let normal = range.to_string_normalized(alloc)?;
+            Ok(Explanation::Ranges { pieces, normal })
+        }
+    }
+}

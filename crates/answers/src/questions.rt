@@ -1,0 +1,251 @@
+//! What people ask of versions and ranges: each question is answered from texts.
+//!
+//! The arguments are read from the left, and the first that is invalid is the problem. A range that is a tag is the answer once
+//! all arguments are read. Any other problem is out of memory.
+
+ghost use Rattle.std.specs.Prelude.{◌≡◌, ◌⊎◌, IfErr, IfOk, string_bytes};
+ghost use Rattle.std.specs.Option.{option_copied};
+ghost use Rattle.std.specs.Str.{trim};
+ghost use Rattle.semver_base.specs.VersionGrammar.{IsVersionRefusal};
+ghost use Rattle.semver_base.specs.VersionText.{version_text};
+ghost use Rattle.semver_req.specs.Readers.{AreReadOrTags, IsReadOrTag};
+ghost use Rattle.semver_req.specs.TextRefusal.{IsTextRefusal};
+ghost use Rattle.answers.specs.Asking.{IsAnswer, IsFailureAt};
+ghost use Rattle.answers.specs.declared.asking.Kind.TheVariants as kind;
+ghost use Rattle.answers.specs.Questions.{BestMatch, BestOf, Canonical, Common, CommonOf, Displayed, Matches, Orders, Outside, OutsideOf, Overlaps, first_tag, match_of};
+ghost use Rattle.answers.specs.Reading.{IsFailureAmong, texts_of};
+
+use crate::asking::{Answer, Problem};
+use crate::reading::{range, ranges, version, versions};
+use deno_semver::resolve::max_satisfying_with;
+use deno_semver::{PackageTag, PreRelease, Version, VersionReq};
+use semver_req::common::values::Flavour;
+use std::alloc::{AllocError, Global};
+use std::cmp::Ordering;
+
+/// A version of a list, and its place there.
+#[derive(Debug, Drop)]
+pub struct Best {
+    pub place: usize,
+    pub version: Version,
+}
+
+// The first tag among the ranges.
+fn first_tag(ranges: &[VersionReq]) -> Option<&str>
+    ensures { option_copied result ≡ first_tag ranges.now }
+{
+    let (first, others) = ranges.split_first()?;
+    match first.tag() {
+        Some(tag) => Some(tag),
+        None => first_tag(others),
+    }
+}
+
+/// Whether the version matches the range.
+pub fn match_of(
+    alloc: Global,
+    pre_release: PreRelease,
+    range: &VersionReq,
+    version: &Version,
+) -> Result<Answer<bool>, AllocError>
+    ensures { IfOk result
+        (λ answer. answer ≡ match_of pre_release range.now.inner version.now) }
+{
+    match range.tag() {
+        Some(tag) => Ok(Answer::Tag(PackageTag::from_str(alloc, tag)?)),
+        None => Ok(Answer::Value(range.matches_with(version, pre_release))),
+    }
+}
+
+/// Does the version match the range?
+pub fn matches(
+    alloc: Global,
+    flavour: Flavour,
+    pre_release: PreRelease,
+    range_text: &str,
+    version_text: &str,
+) -> Result<Answer<bool>, Problem>
+    ensures answer { IsAnswer (Matches pre_release flavour range_text.now version_text.now)
+        (λ answer. answer) result }
+    ensures failure { IfErr result
+        (λ p. IsFailureAt kind.Range 0 (IsTextRefusal flavour range_text.now) p
+        ⊎ IsFailureAt kind.Version 0 (IsVersionRefusal (trim version_text.now)) p) }
+{
+    let range = range(alloc, flavour, 0, range_text)?;
+    let version = version(alloc, 0, version_text)?;
+    Ok(match_of(alloc, pre_release, &range, &version)?)
+}
+
+// The highest of the versions that matches the range.
+fn best_of(
+    alloc: Global,
+    pre_release: PreRelease,
+    range: &VersionReq,
+    mut versions: Vec<Version>,
+) -> Result<Answer<Option<Best>>, Problem>
+    ensures { IsAnswer (BestOf pre_release range.now.inner versions.items)
+        (λ answer. answer) result }
+{
+    if let Some(tag) = range.tag() {
+        return Ok(Answer::Tag(PackageTag::from_str(alloc, tag)?));
+    }
+    match max_satisfying_with(versions.as_slice(), range, pre_release) {
+        Some(place) => {
+            let version = versions.remove(place);
+            Ok(Answer::Value(Some(Best { place, version })))
+        }
+        None => Ok(Answer::Value(None)),
+    }
+}
+
+/// Which of the versions is the highest that matches the range? Of those that differ in the build alone it is the first.
+pub fn best_match(
+    alloc: Global,
+    flavour: Flavour,
+    pre_release: PreRelease,
+    range_text: &str,
+    version_texts: &[&str],
+) -> Result<Answer<Option<Best>>, Problem>
+    ensures answer { IsAnswer
+        (BestMatch pre_release flavour range_text.now (texts_of version_texts.now))
+        (λ answer. answer) result }
+    ensures failure { IfErr result
+        (λ p. IsFailureAt kind.Range 0 (IsTextRefusal flavour range_text.now) p
+        ⊎ IsFailureAmong kind.Version (λ text. IsVersionRefusal (trim text))
+        (texts_of version_texts.now) p) }
+{
+    let range = range(alloc, flavour, 0, range_text)?;
+    let versions = versions(alloc, version_texts)?;
+    best_of(alloc, pre_release, &range, versions)
+}
+
+/// Do the two ranges overlap, by the rule of bounds? Two tags do where they are the same, and a tag and versions never.
+pub fn overlaps(
+    alloc: Global,
+    flavour: Flavour,
+    one_text: &str,
+    other_text: &str,
+) -> Result<bool, Problem>
+    ensures answer { IsAnswer (Overlaps flavour one_text.now other_text.now)
+        (λ answer. answer) result }
+    ensures failure { IfErr result
+        (λ p. IsFailureAt kind.Range 0 (IsTextRefusal flavour one_text.now) p
+        ⊎ IsFailureAt kind.Range 1 (IsTextRefusal flavour other_text.now) p) }
+{
+    let one = range(alloc, flavour, 0, one_text)?;
+    let other = range(alloc, flavour, 1, other_text)?;
+    Ok(one.intersects(&other))
+}
+
+// The lowest version that all ranges match.
+fn common_of(
+    alloc: Global,
+    pre_release: PreRelease,
+    ranges: &[VersionReq],
+) -> Result<Answer<Option<Version>>, Problem>
+    requires { AreReadOrTags ranges.now }
+    ensures { IsAnswer (CommonOf pre_release ranges.now) (λ answer. answer) result }
+{
+    if let Some(tag) = first_tag(ranges) {
+        return Ok(Answer::Tag(PackageTag::from_str(alloc, tag)?));
+    }
+    let Some((first, others)) = ranges.split_first() else {
+        return Ok(Answer::Value(None));
+    };
+    let lowest = first.common_version_of_all(alloc, others, pre_release)?;
+    Ok(Answer::Value(lowest))
+}
+
+/// What is the lowest version that all ranges match? There is none of no ranges.
+pub fn common_version(
+    alloc: Global,
+    flavour: Flavour,
+    pre_release: PreRelease,
+    texts: &[&str],
+) -> Result<Answer<Option<Version>>, Problem>
+    ensures answer { IsAnswer (Common pre_release flavour (texts_of texts.now))
+        (λ answer. answer) result }
+    ensures failure { IfErr result
+        (IsFailureAmong kind.Range (IsTextRefusal flavour) (texts_of texts.now)) }
+{
+    let ranges = ranges(alloc, flavour, texts)?;
+    common_of(alloc, pre_release, ranges.as_slice())
+}
+
+// The lowest version that the one range matches, and the other doesn't.
+fn outside_of(
+    alloc: Global,
+    pre_release: PreRelease,
+    one: &VersionReq,
+    other: &VersionReq,
+) -> Result<Answer<Option<Version>>, Problem>
+    requires one_read { IsReadOrTag one.now.inner }
+    requires other_read { IsReadOrTag other.now.inner }
+    ensures { IsAnswer (OutsideOf pre_release one.now other.now) (λ answer. answer) result }
+{
+    if let Some(tag) = one.tag().or(other.tag()) {
+        return Ok(Answer::Tag(PackageTag::from_str(alloc, tag)?));
+    }
+    let lowest = one.version_outside(alloc, other, pre_release)?;
+    Ok(Answer::Value(lowest))
+}
+
+/// What is the lowest version that the first range matches, and the other doesn't? There is none exactly where the other one
+/// contains the first.
+pub fn version_outside(
+    alloc: Global,
+    flavour: Flavour,
+    pre_release: PreRelease,
+    one_text: &str,
+    other_text: &str,
+) -> Result<Answer<Option<Version>>, Problem>
+    ensures answer { IsAnswer (Outside pre_release flavour one_text.now other_text.now)
+        (λ answer. answer) result }
+    ensures failure { IfErr result
+        (λ p. IsFailureAt kind.Range 0 (IsTextRefusal flavour one_text.now) p
+        ⊎ IsFailureAt kind.Range 1 (IsTextRefusal flavour other_text.now) p) }
+{
+    let one = range(alloc, flavour, 0, one_text)?;
+    let other = range(alloc, flavour, 1, other_text)?;
+    outside_of(alloc, pre_release, &one, &other)
+}
+
+/// What is the canonical form of the range? That of a tag is the tag.
+pub fn canonical(alloc: Global, flavour: Flavour, range_text: &str) -> Result<String, Problem>
+    ensures answer { IsAnswer (Canonical flavour range_text.now)
+        (λ text. string_bytes text) result }
+    ensures failure { IfErr result
+        (IsFailureAt kind.Range 0 (IsTextRefusal flavour range_text.now)) }
+{
+    let range = range(alloc, flavour, 0, range_text)?;
+    Ok(range.to_string_normalized(alloc)?)
+}
+
+/// The text of a version.
+pub fn text_of_version(alloc: Global, version: &Version) -> Result<String, AllocError>
+    ensures { IfOk result (λ text. string_bytes text ≡ version_text version.now) }
+{
+    format!(in alloc; "{version}")
+}
+
+/// How is the version displayed?
+pub fn displayed(alloc: Global, version_text: &str) -> Result<String, Problem>
+    ensures answer { IsAnswer (Displayed version_text.now) (λ text. string_bytes text) result }
+    ensures failure { IfErr result
+        (IsFailureAt kind.Version 0 (IsVersionRefusal (trim version_text.now))) }
+{
+    let version = version(alloc, 0, version_text)?;
+    Ok(text_of_version(alloc, &version)?)
+}
+
+/// Which of the two versions is before the other? The build has no part in it.
+pub fn order(alloc: Global, one_text: &str, other_text: &str) -> Result<Ordering, Problem>
+    ensures answer { IsAnswer (Orders one_text.now other_text.now) (λ order. order) result }
+    ensures failure { IfErr result
+        (λ p. IsFailureAt kind.Version 0 (IsVersionRefusal (trim one_text.now)) p
+        ⊎ IsFailureAt kind.Version 1 (IsVersionRefusal (trim other_text.now)) p) }
+{
+    let one = version(alloc, 0, one_text)?;
+    let other = version(alloc, 1, other_text)?;
+    Ok(one.cmp_precedence(&other))
+}

@@ -1,0 +1,79 @@
+//! How the arguments of a question are read.
+
+ghost use Rattle.std.specs.Prelude.{IfErr, IfOk};
+ghost use Rattle.std.specs.Str.{trim};
+ghost use Rattle.semver_base.specs.VersionGrammar.{IsVersionRefusal};
+ghost use Rattle.semver_req.specs.Readers.{AreReadOrTags, IsReadOrTag};
+ghost use Rattle.semver_req.specs.TextRefusal.{IsTextRefusal};
+ghost use Rattle.answers.specs.Asking.{Each, IsAnswer, IsFailureAt};
+ghost use Rattle.answers.specs.declared.asking.Kind.TheVariants as kind;
+ghost use Rattle.answers.specs.Reading.{IsFailureAmong, IsRange, IsVersion, texts_of};
+
+use crate::asking::{Kind, Problem};
+use deno_semver::{Version, VersionReq};
+use semver_req::common::values::Flavour;
+use std::alloc::Global;
+
+/// The range that the text at this place is, by the grammar.
+pub fn range(
+    alloc: Global,
+    flavour: Flavour,
+    place: usize,
+    text: &str,
+) -> Result<VersionReq, Problem>
+    ensures answer { IsAnswer (IsRange flavour place text.now) (λ req. req) result }
+    ensures read { IfOk result (λ req. IsReadOrTag req.inner) }
+    ensures failure { IfErr result
+        (IsFailureAt kind.Range place (IsTextRefusal flavour text.now)) }
+{
+    match VersionReq::parse(alloc, text, flavour) {
+        Ok(range) => Ok(range),
+        Err(failure) => Err(Problem::of(Kind::Range, place, failure)),
+    }
+}
+
+/// The ranges that the texts are, by the grammar.
+pub fn ranges(alloc: Global, flavour: Flavour, texts: &[&str]) -> Result<Vec<VersionReq>, Problem>
+    ensures answer { IsAnswer (Each (IsRange flavour) 0 (texts_of texts.now))
+        (λ all. all.items) result }
+    ensures read { IfOk result (λ all. AreReadOrTags all.items) }
+    ensures failure { IfErr result
+        (IsFailureAmong kind.Range (IsTextRefusal flavour) (texts_of texts.now)) }
+{
+    let mut all = Vec::new(alloc);
+    for text in texts {
+        let range = range(alloc, flavour, all.len(), text)?;
+        if all.push(range).is_err() {
+            return Err(Problem::OutOfMemory);
+        }
+    }
+    Ok(all)
+}
+
+/// The version that the text at this place is.
+pub fn version(alloc: Global, place: usize, text: &str) -> Result<Version, Problem>
+    ensures answer { IsAnswer (IsVersion place text.now) (λ version. version) result }
+    ensures failure { IfErr result
+        (IsFailureAt kind.Version place (IsVersionRefusal (trim text.now))) }
+{
+    match Version::parse_standard(alloc, text) {
+        Ok(version) => Ok(version),
+        Err(error) => Err(Problem::of(Kind::Version, place, error.source)),
+    }
+}
+
+/// The versions that the texts are.
+pub fn versions(alloc: Global, texts: &[&str]) -> Result<Vec<Version>, Problem>
+    ensures answer { IsAnswer (Each IsVersion 0 (texts_of texts.now)) (λ all. all.items) result }
+    ensures failure { IfErr result
+        (IsFailureAmong kind.Version (λ text. IsVersionRefusal (trim text)) (texts_of texts.now)) }
+{
+    let mut all = Vec::new(alloc);
+    for text in texts {
+        let version = version(alloc, all.len(), text)?;
+        if all.push(version).is_err() {
+            return Err(Problem::OutOfMemory);
+        }
+    }
+    Ok(all)
+}

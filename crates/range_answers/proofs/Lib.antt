@@ -1,4 +1,0 @@
-pub mod Orders
-pub mod Pieces
-pub mod ReadTexts
-pub mod Tags

@@ -1,6 +1,0 @@
-use Rattle.std.proofs.Common.{◌≡◌, map, take}
-use Rattle.semver_c.specs.Sorting.{place_of}
-use Rattle.semver_c.proofs.sorting.places_of.Given as goal
-
-abbrev pub invariant-loop-it : goal.invariant-loop-it
-invariant-loop-it l = l.places.items ≡ map place_of (take l.it-index l.all)

@@ -1,6 +1,0 @@
-use Rattle.std.proofs.Common.{◌≡◌}
-use Rattle.semver_c.specs.Sorting.{placed_from}
-use Rattle.semver_c.proofs.sorting.with_places.Given as goal
-
-abbrev pub invariant-loop-version : goal.invariant-loop-version
-invariant-loop-version l = l.all.items ≡ placed_from 0 l.yielded

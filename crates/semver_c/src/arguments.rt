@@ -1,0 +1,109 @@
+//! The arguments of a call: parsers by their numbers, texts by their bytes, and why a call has no answer.
+
+ghost use Rattle.std.specs.Prelude.{◌≡◌, ◌<◌, Err, IfOk, IsUtf8, map, MatchResult};
+ghost use Rattle.std.specs.Str.Lines.{lines};
+ghost use Rattle.answers.specs.declared.asking.Problem.TheVariants as unanswered;
+ghost use Rattle.semver_c.specs.Arguments.{parser_number, pre_release_of, problem_code, problem_message};
+ghost use Rattle.semver_c.specs.declared.arguments.Problem.TheVariants as problem;
+
+use answers::asking::{Kind, Problem as Unanswered};
+use deno_semver::PreRelease;
+use semver_req::common::values::Flavour;
+use std::alloc::{AllocError, Global};
+use std::str;
+
+/// Why a call has no answer.
+#[derive(Drop)]
+pub enum Problem {
+    /// The question of its texts has none.
+    Unanswered(Unanswered),
+    /// No parser has this number.
+    NoParser,
+    NotUtf8,
+}
+
+impl From<Unanswered> for Problem {
+    ghost from_gives = { λ why made. made ≡ problem.Unanswered why };
+
+    fn from(why: Unanswered) -> Problem {
+        Problem::Unanswered(why)
+    }
+}
+
+impl From<AllocError> for Problem {
+    ghost from_gives = { λ _ made. made ≡ problem.Unanswered unanswered.OutOfMemory };
+
+    fn from(_error: AllocError) -> Problem {
+        Problem::Unanswered(Unanswered::OutOfMemory)
+    }
+}
+
+impl Problem {
+    /// The code of the problem.
+    pub fn code(&self) -> u32
+        ensures { result ≡ problem_code self.now }
+    {
+        match self {
+            Problem::Unanswered(Unanswered::Invalid(argument)) => match argument.kind {
+                Kind::Version => 7,
+                Kind::Range | Kind::Package | Kind::Reference => 3,
+            },
+            Problem::Unanswered(Unanswered::OutOfMemory) => 5,
+            Problem::NoParser => 4,
+            Problem::NotUtf8 => 8,
+        }
+    }
+
+    /// What the problem is.
+    pub fn message(&self) -> &str
+        ensures { result.now ≡ problem_message self.now }
+    {
+        match self {
+            Problem::Unanswered(why) => why.message(),
+            Problem::NoParser => "No parser has this number.",
+            Problem::NotUtf8 => "The text isn't valid UTF-8.",
+        }
+    }
+}
+
+/// The parser of this number.
+pub fn parser(number: u32) -> Result<Flavour, Problem>
+    ensures { MatchResult result (λ flavour. number ≡ parser_number flavour)
+        (λ error. (error ≡ problem.NoParser) × (2 < number)) }
+{
+    match number {
+        0 => Ok(Flavour::Npm),
+        1 => Ok(Flavour::Normal),
+        2 => Ok(Flavour::Specifier),
+        _ => Err(Problem::NoParser),
+    }
+}
+
+/// Which pre-releases match: at 0 by npm's rule, at any other number all between the bounds.
+pub fn pre_release(number: u32) -> PreRelease
+    ensures { result ≡ pre_release_of number }
+{
+    if number == 0 {
+        PreRelease::Restricted
+    } else {
+        PreRelease::Admitted
+    }
+}
+
+/// The text of the bytes.
+pub fn text(bytes: &[u8]) -> Result<&str, Problem>
+    ensures { MatchResult result (λ text. (text.now ≡ bytes.now) × IsUtf8 bytes.now)
+        (λ error. (error ≡ problem.NotUtf8) × (IsUtf8 bytes.now → ⊥)) }
+{
+    match str::from_utf8(bytes) {
+        Ok(text) => Ok(text),
+        Err(_) => Err(Problem::NotUtf8),
+    }
+}
+
+/// The lines of a text.
+pub fn line_list<'a>(alloc: Global, text: &'a str) -> Result<Vec<&'a str>, AllocError>
+    ensures { IfOk result (λ list. map (λ line. line.now) list.items ≡ lines text.now) }
+{
+    text.lines().collect(alloc)
+}
