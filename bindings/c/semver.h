@@ -8,8 +8,8 @@
  * - `malloc`, `realloc` and `free` are those of one allocator, and a block is aligned to each power of two up to 16 that
  *   divides its size.
  *
- * A call returns a code. A question has one code, or SEMVER_NO_MEMORY where memory runs out. Arguments are checked from the left,
- * and the first that is invalid decides: of a requirement its reader, then its bytes, then its text.
+ * A call returns a code. A question has one code, or SEMVER_NO_MEMORY where memory runs out. The reader is checked first, then
+ * whether each text is UTF-8, then each text from the left; the first that is invalid decides.
  *
  * A text goes to the front of `out` where it fits, and the rest of `out` stays; where it doesn't, `out` stays as it was. Its
  * length is in `*needed` either way, and 0 where there is none. With the codes from SEMVER_NO_REQUIREMENT on the text is a

@@ -5,7 +5,9 @@
 
 pub mod import_map;
 pub mod lockfile;
+pub mod overlap;
 pub mod packages;
 pub mod requirements;
 pub mod stored;
+pub mod texts;
 pub mod versions;

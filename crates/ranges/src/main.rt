@@ -8,8 +8,8 @@
 //! can't be read or standard output can't be written.
 #![tactic(auto)]
 
-mod answers;
 mod args;
+mod comparing;
 mod console;
 mod explaining;
 mod input;
@@ -42,8 +42,8 @@ fn answer<R: Input, O: Write, E: Write>(
         "filter" => listed::filter(rt, console, matches, options),
         "best" => listed::best(rt, console, matches, options),
         "sort" => listed::sort(rt, console, matches, options),
-        "common" => answers::common(console, matches, options),
-        "within" => answers::within(console, matches, options),
+        "common" => comparing::common(console, matches, options),
+        "within" => comparing::within(console, matches, options),
         "package" => packaged::tell_package(console, matches, options),
         "reference" => packaged::tell_reference(console, matches, options),
         _ => Ok(Status::Usage),

@@ -1,0 +1,29 @@
+//! Do two requirements allow a version in common?
+
+ghost use Rattle.std.specs.Prelude.{◌≡◌, ◌&&◌, None, not};
+ghost use Rattle.std.specs.Bool.{OnTrue};
+ghost use Rattle.semver_req.specs.Requirement.{MatchNoVersion, inner_means, inner_overlap, tag_of};
+
+use deno_semver::{Version, VersionReq};
+
+/// Are the requirements so far apart that no version at all is allowed by both? They are exactly where their bounds don't
+/// overlap. A yes is sure; a no says nothing of versions.
+pub fn are_surely_apart(one: &VersionReq, other: &VersionReq) -> bool
+    ensures bounds { result ≡ not (inner_overlap one.now.inner other.now.inner) }
+    ensures no_common { OnTrue result (MatchNoVersion one.now.inner other.now.inner) }
+{
+    !one.intersects(other)
+}
+
+/// Is the version allowed by both requirements? Where they don't overlap it isn't, and neither is asked.
+pub fn is_allowed_by_both(one: &VersionReq, other: &VersionReq, version: &Version) -> bool
+    requires one_is_no_tag { tag_of one.now.inner ≡ None }
+    requires other_is_no_tag { tag_of other.now.inner ≡ None }
+    ensures { result
+        ≡ (inner_means one.now.inner version.now && inner_means other.now.inner version.now) }
+{
+    if are_surely_apart(one, other) {
+        return false;
+    }
+    one.matches(version) && other.matches(version)
+}
