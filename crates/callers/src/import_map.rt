@@ -69,7 +69,7 @@ fn npm_import(
 
 /// What does this `jsr:` specifier name, and does it allow the version?
 ///
-/// It is told of the reference that the text is. Otherwise the answer is the refusal of the text, or want of memory.
+/// Fails with what is wrong with the text, or out of memory.
 pub fn imported_from_jsr(
     alloc: Global,
     specifier: &str,
@@ -91,7 +91,7 @@ pub fn imported_from_jsr(
     }
 }
 
-/// What does this `npm:` specifier name, and does it allow the version? ([`imported_from_jsr`] says what is answered.)
+/// What does this `npm:` specifier name, and does it allow the version? ([`imported_from_jsr`] says more.)
 pub fn imported_from_npm(
     alloc: Global,
     specifier: &str,

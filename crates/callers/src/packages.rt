@@ -18,9 +18,9 @@ use std::alloc::Global;
 /// Why there is no answer.
 #[derive(Debug, Drop)]
 pub enum Unanswered {
-    /// The text of the package is refused, or memory was wanting.
+    /// The text of the package is invalid, or memory ran out.
     Package(PackageReqParseError),
-    /// The text of the version is refused, or memory was wanting.
+    /// The text of the version is invalid, or memory ran out.
     Version(NpmVersionParseError),
 }
 
@@ -40,11 +40,10 @@ impl From<NpmVersionParseError> for Unanswered {
     }
 }
 
-/// Is the version that one text is, as npm reads it, allowed by the package that the other is, such as `@scope/name@^1.2`,
-/// whose requirement npm's reader reads?
+/// Does the package, such as `@scope/name@^1.2`, allow the version, both parsed by npm's rules?
 ///
-/// For every tree of comparators that the requirement's part of the text has it is exactly where the tree means the version;
-/// a tag is told as one. There is no answer where either text is refused, and nowhere else, want of memory aside.
+/// For every tree of comparators that the range's part of the text has, exactly where the tree means the version; a tag is returned as
+/// one. Fails exactly where either text is invalid, out of memory aside.
 pub fn package_allows_by_npm(
     alloc: Global,
     text: &str,
@@ -58,7 +57,7 @@ pub fn package_allows_by_npm(
     Ok(allowance_by(&req.version_req, &version))
 }
 
-/// The same ([`package_allows_by_npm`]), where the strict reader reads the requirement.
+/// The same ([`package_allows_by_npm`]), where the strict parser parses the range.
 pub fn package_allows(alloc: Global, text: &str, version: &str) -> Result<Allowance, Unanswered>
     ensures { AllowsPackage Specifier text.now version.now result }
 {
@@ -71,9 +70,9 @@ pub fn package_allows(alloc: Global, text: &str, version: &str) -> Result<Allowa
 /// Why there is no answer for a reference.
 #[derive(Debug, Drop)]
 pub enum UnansweredReference {
-    /// The text of the reference is refused, or memory was wanting.
+    /// The text of the reference is invalid, or memory ran out.
     Reference(PackageReqReferenceParseError),
-    /// It is a reference, and the text of the version is refused, or memory was wanting.
+    /// It is a reference, and the text of the version is invalid, or memory ran out.
     Version(NpmVersionParseError),
 }
 
@@ -93,12 +92,10 @@ impl From<NpmVersionParseError> for UnansweredReference {
     }
 }
 
-/// Is the version that one text is, as npm reads it, allowed by the reference to a package of npm that the other is, such as
-/// `npm:@scope/name@^1.2/mod.js`?
+/// Does the reference to a package of npm, such as `npm:@scope/name@^1.2/mod.js`, allow the version?
 ///
-/// For every tree of comparators that the requirement's part of the text has it is exactly where the tree means the version;
-/// a tag is told as one. Otherwise the first fault of the reference's text is told, or of the version's where that is a
-/// reference, or want of memory.
+/// For every tree of comparators that the range's part of the text has, exactly where the tree means the version; a tag is returned as
+/// one. Fails with the first fault of the reference, or of the version if the other is a reference, or out of memory.
 pub fn npm_reference_allows(
     alloc: Global,
     text: &str,

@@ -39,10 +39,10 @@ pub fn allowance_by(requirement: &VersionReq, version: &Version) -> Allowance
     }
 }
 
-/// Is the version allowed by this text, as npm reads it?
+/// Does this range allow the version, by npm's grammar?
 ///
-/// It is exactly where the comparators of the text mean it, and a text that is a tag is told as one. Otherwise the
-/// answer is the refusal of npm's reader, or want of memory.
+/// Exactly where the comparators of the text mean the version; a tag is returned as one. Fails where npm's grammar rejects the
+/// text, or out of memory.
 pub fn allowed_by_npm(
     alloc: Global,
     text: &str,

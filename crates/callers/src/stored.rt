@@ -1,8 +1,7 @@
-//! Does a requirement that is stored as its normal text mean the same when it is read again?
+//! Does a requirement that is stored in canonical form mean the same when it is parsed again?
 //!
-//! What is answered of ranges holds of those that some reader answered. A tag that npm's or the strict reader made is read
-//! back; one of the normalized reader need not be: of the text ` 1` it makes the tag `1`, which is stored as a text that is
-//! read as a range.
+//! What is said of ranges holds of those that some parser returned. A tag that npm's or the strict parser returned is parsed back; one
+//! of the normalized parser need not be: the text ` 1` parses to the tag `1`, which is stored as a text that parses to a range.
 
 ghost use Rattle.std.specs.Prelude.{IfErr};
 ghost use Rattle.std.specs.Str.{trim};
@@ -16,16 +15,15 @@ use deno_semver::npm::NpmVersionReqParseError;
 use deno_semver::{ParseFailure, Version, VersionReq, VersionReqNormalizedParseError};
 use std::alloc::Global;
 
-/// What is read of a requirement's normal text, and of the normal text of that.
+/// What a requirement's canonical form parses to, and what the canonical form of that does.
 #[derive(Debug, Drop)]
 pub struct Reread {
     pub once: VersionReq,
     pub twice: VersionReq,
 }
 
-/// What does npm's reader make of the text that the requirement is stored as? Ranges, which mean the same where each of
-/// the requirement's keeps its meaning, and are the same where they are orderly too; and which are read again as
-/// themselves from then on. Or the tag, where the reader makes that of its text.
+/// What does npm's parser make of the stored requirement? Ranges, which mean the same if each of the requirement's keeps its meaning,
+/// are the same if each is orderly too, and parse to themselves from then on. Or the tag, if its text parses to that.
 pub fn read_again_by_npm(
     alloc: Global,
     requirement: &VersionReq,
@@ -37,7 +35,7 @@ pub fn read_again_by_npm(
     VersionReq::parse_from_npm(alloc, stored.as_str())
 }
 
-/// What does the normalized reader make of the text that the requirement is stored as? ([`read_again_by_npm`] says what.)
+/// What does the normalized parser make of the stored requirement? ([`read_again_by_npm`] says what.)
 pub fn read_again_by_normalized(
     alloc: Global,
     requirement: &VersionReq,
@@ -49,8 +47,7 @@ pub fn read_again_by_normalized(
     VersionReq::parse_from_normalized(alloc, stored.as_str())
 }
 
-/// What does npm's reader make of the text that the requirement is stored as, and of the text that this is stored as then?
-/// Of ranges, whatever they are, the same both times.
+/// What does npm's parser make of the stored requirement, and of that once it is stored? Of ranges, the same both times.
 pub fn read_again_twice(
     alloc: Global,
     requirement: &VersionReq,
@@ -62,8 +59,8 @@ pub fn read_again_twice(
     Ok(Reread { once, twice })
 }
 
-/// Is the version allowed by the requirement once that is stored and read again, by npm's reader? Exactly where the
-/// requirement means it, if each of its ranges keeps its meaning. A tag that the reader makes of its text is told as one.
+/// Does the requirement allow the version once it is stored and parsed again by npm's parser? Exactly where it means the version, if
+/// each of its ranges keeps its meaning. A tag that its text parses to is returned as one.
 pub fn allows_when_stored(
     alloc: Global,
     requirement: &VersionReq,
@@ -77,7 +74,7 @@ pub fn allows_when_stored(
     Ok(allowance_by(&again, version))
 }
 
-/// Is the version allowed by the requirement once that is stored and read again, by the normalized reader?
+/// Does the requirement allow the version once it is stored and parsed again by the normalized parser?
 /// ([`allows_when_stored`] says where.)
 pub fn allows_when_stored_as_normalized(
     alloc: Global,
@@ -92,9 +89,9 @@ pub fn allows_when_stored_as_normalized(
     Ok(allowance_by(&again, version))
 }
 
-/// Is the version allowed by the text of an npm requirement, once that is read, stored and read again by the normalized
-/// reader? Exactly where the comparators of the text mean it, if each range that is kept of them keeps its meaning. A tag is
-/// told as one, and a text is refused where npm's grammar refuses it.
+/// Does the text of an npm range allow the version, once it is parsed, stored and parsed again by the normalized parser? Exactly where
+/// its comparators mean the version, if each range that is kept of them keeps its meaning. A tag is returned as one; the text is
+/// rejected where npm's grammar rejects it.
 pub fn npm_text_allows_when_stored(
     alloc: Global,
     text: &str,
@@ -107,8 +104,8 @@ pub fn npm_text_allows_when_stored(
     Ok(allows_when_stored_as_normalized(alloc, &requirement, version)?)
 }
 
-/// Is the version allowed by the text of a package specifier, once that is read, stored and read again by the normalized
-/// reader? ([`npm_text_allows_when_stored`] says where, by the strict grammar.)
+/// Does the text of a strict range allow the version, once it is parsed, stored and parsed again by the normalized parser?
+/// ([`npm_text_allows_when_stored`] says where, by the strict grammar.)
 pub fn specifier_allows_when_stored(
     alloc: Global,
     text: &str,
@@ -121,7 +118,7 @@ pub fn specifier_allows_when_stored(
     Ok(allows_when_stored_as_normalized(alloc, &requirement, version)?)
 }
 
-/// What does the normalized reader make of the tag that npm's reader makes of a text? The same tag, whatever it is.
+/// What does the normalized parser make of a tag that npm's parser returned? The same tag.
 pub fn npm_tag_read_again(alloc: Global, text: &str) -> Result<VersionReq, ParseFailure>
     ensures { TagOfText Npm text.now (IsTagRead (λ failure. failure) result) }
 {
@@ -129,7 +126,7 @@ pub fn npm_tag_read_again(alloc: Global, text: &str) -> Result<VersionReq, Parse
     Ok(read_again_by_normalized(alloc, &requirement)?)
 }
 
-/// What does the normalized reader make of the tag that the strict reader makes of a text? The same tag, whatever it is.
+/// What does the normalized parser make of a tag that the strict parser returned? The same tag.
 pub fn specifier_tag_read_again(alloc: Global, text: &str) -> Result<VersionReq, ParseFailure>
     ensures { TagOfText Specifier text.now (IsTagRead (λ failure. failure) result) }
 {

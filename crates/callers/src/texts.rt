@@ -9,7 +9,7 @@ use std::alloc::{AllocError, Global};
 
 /// What is `name@text`, with the text of any value, in any kind of text? The three parts, in order.
 ///
-/// It is an error only where no memory is left.
+/// Fails only out of memory.
 pub fn named<T: StringType, A: StringAppendable>(
     alloc: Global,
     name: &str,
@@ -26,7 +26,7 @@ pub fn named<T: StringType, A: StringAppendable>(
 
 /// What is `name@version`? The name, an `@`, and the version's text.
 ///
-/// It is an error only where no memory is left.
+/// Fails only out of memory.
 pub fn named_version(alloc: Global, name: &str, version: &Version) -> Result<String, AllocError>
     ensures { IfOk result
         (λ text. string_bytes text ≡ name.now ++ (at_sign ∷ version_text version.now)) }

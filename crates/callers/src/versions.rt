@@ -40,8 +40,7 @@ fn read_again(alloc: Global, text: &str) -> Result<Version, ParseFailure>
     Ok(Version::parse_standard(alloc, text)?)
 }
 
-/// What is read of a version that was displayed? The same version, where its text reads back, as that of every version
-/// that was read does.
+/// What does a displayed version parse to? The same version, if its text reads back, as that of every parsed version does.
 pub fn displayed_and_read_again(alloc: Global, version: &Version) -> Result<Version, ParseFailure>
     ensures { ReadsBack version.now → IsSameAgain version.now result }
 {
@@ -49,7 +48,7 @@ pub fn displayed_and_read_again(alloc: Global, version: &Version) -> Result<Vers
     read_again(alloc, text.as_str())
 }
 
-/// What is read of a version that was appended to a text? The same version, where its text reads back.
+/// What does a version that was appended to a text parse to? The same version, if its text reads back.
 pub fn appended_and_read_again(alloc: Global, version: &Version) -> Result<Version, ParseFailure>
     ensures { ReadsBack version.now → IsSameAgain version.now result }
 {
@@ -57,8 +56,8 @@ pub fn appended_and_read_again(alloc: Global, version: &Version) -> Result<Versi
     read_again(alloc, text.as_str())
 }
 
-/// What is read of the text of a version that was itself read, displayed, read again, and appended to a text? The version that
-/// the first text is, build included. A text that is no version is refused as [`Version::parse_standard`] refuses it.
+/// What comes of a version that is parsed, displayed, parsed, appended to a text and parsed again? The version that the first text
+/// is, build included. An invalid text is rejected as by [`Version::parse_standard`].
 pub fn read_displayed_and_appended(alloc: Global, text: &str) -> Result<Version, ParseFailure>
     ensures same { (v : Version) → IsVersionOutcome (trim text.now) (Ok v) → IsSameAgain v result }
     ensures read { IfOk result (λ again. IsVersionOutcome (trim text.now) (Ok again)) }
@@ -77,8 +76,8 @@ pub fn is_pinned_to(alloc: Global, version: Version, other: &Version) -> Result<
     Ok(requirement.matches(other))
 }
 
-/// What does npm's reader make of the text that the requirement of this version alone is stored as? Where some text stands for
-/// the version, the same requirement.
+/// What does npm's parser make of the stored requirement of this version alone? The same requirement, if some text parses to the
+/// version.
 pub fn pinned_and_read_again(alloc: Global, version: Version) -> Result<VersionReq, ParseFailure>
     ensures { OfReadVersion version (Answers (λ failure. failure)
         (λ again. again.inner ≡ (pinned version).inner) result) }

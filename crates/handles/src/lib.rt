@@ -1,4 +1,4 @@
-//! What a caller of the border to C keeps across calls: a requirement or a version on the heap, behind a struct of one pointer.
+//! What callers of the C API keep across calls: a range or a version on the heap, behind a struct of one pointer.
 //!
 //! C holds such a struct and gives it back; what it owns is a clause of the handle, so each value is freed once.
 #![tactic(auto)]

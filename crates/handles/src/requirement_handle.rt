@@ -1,4 +1,4 @@
-//! A requirement that is kept across calls.
+//! A range that is kept across calls.
 
 ghost use Rattle.std.specs.Prelude.{◌≡◌, Option, None, Some};
 ghost use Rattle.semver_req.specs.Requirement.{Requirement};
@@ -10,7 +10,7 @@ use std::alloc::Global;
 use std::marker::Model;
 use std::{mem, ptr};
 
-/// A requirement on the heap, or none. For C it is a struct of one pointer, which no C code reads.
+/// A range on the heap, or none. For C it is a struct of one pointer, which no C code reads.
 #[repr(C)]
 #[derive(Drop)]
 pub struct RequirementHandle {
@@ -51,14 +51,14 @@ impl RequirementHandle {
         }
     }
 
-    /// The handle of a requirement.
+    /// The handle of a range.
     pub fn keep(value: Box<VersionReq>) -> RequirementHandle
         ensures { result.value ≡ Some value.value }
     {
         RequirementHandle::of(Loose::of(value))
     }
 
-    /// Takes the requirement out of the handle, which has none then.
+    /// Takes the range out of the handle, which has none then.
     pub fn take(&mut self, alloc: Global) -> Box<VersionReq>
         requires { Holds self.old.value }
         ensures taken { self.old.value ≡ Some result.value }

@@ -1,9 +1,9 @@
-//! The border to C: the questions as calls over bytes, each a pointer and a length, and what is kept across calls.
+//! The C API: questions as calls over bytes, each a pointer and a length, and values that are kept across calls.
 //!
-//! Each call answers a code. 0, 1 and 2 are its answers; 3 is that a requirement is invalid, 4 that no reader has the number,
-//! 5 out of memory, 7 that a version is invalid, and 8 that bytes aren't UTF-8. As statuses of the programs 3, 4 and 5 mean the
-//! same, and 6 is theirs alone. The readers are npm's, 0, the normalized one, 1, and the strict one, 2. A text goes to the
-//! front of the caller's buffer where it fits, and its length is always reported.
+//! Each call returns a code. 0, 1 and 2 are its answers; 3 means an invalid range, package or reference, 4 a number that no parser
+//! has, 5 out of memory, 7 an invalid version, and 8 bytes that aren't UTF-8. As exit statuses of the programs 3, 4 and 5 mean the
+//! same, and 6 is theirs alone. The parsers are npm's, 0, the normalized one, 1, and the strict one, 2. A text is written to the
+//! front of the caller's buffer if it fits, and its length is always stored.
 #![tactic(auto)]
 
 ghost use Rattle.std.specs.Prelude.{◌≡◌, IfSome, IsUtf8, List, None, ℕ};
@@ -37,8 +37,8 @@ use semver_req::laws::equal_requirements;
 use std::alloc::Global;
 use std::str;
 
-/// Whether the version fits the requirement: 0 no, 1 yes, 2 the requirement is a tag. Pre-releases are restricted by npm's rule
-/// at 0, and admitted at any other number.
+/// Whether the version matches the range: 0 no, 1 yes, 2 the range is a tag. Pre-releases match by npm's rule at 0, and
+/// wherever they are between the bounds at any other number.
 #[unsafe(no_mangle)]
 pub extern "C" fn semver_fits(
     alloc: Global,
@@ -59,7 +59,7 @@ pub extern "C" fn semver_fits(
     )
 }
 
-/// The order of two versions, in which the build has no part: 0 the first is before the other, 1 neither is, 2 it is after.
+/// The order of two versions, whose builds don't matter: 0 the first is before the other, 1 neither is, 2 it is after.
 #[unsafe(no_mangle)]
 pub extern "C" fn semver_compare(alloc: Global, one: &[u8], other: &[u8]) -> u32
     ensures { IsCode (OrdersOf one.now other.now) order_code result }
@@ -67,7 +67,7 @@ pub extern "C" fn semver_compare(alloc: Global, one: &[u8], other: &[u8]) -> u32
     code_of_order(order_of(alloc, one, other))
 }
 
-/// Whether two requirements overlap: 0 no, 1 yes.
+/// Whether two ranges overlap: 0 no, 1 yes.
 #[unsafe(no_mangle)]
 pub extern "C" fn semver_overlap(alloc: Global, reader: u32, one: &[u8], other: &[u8]) -> u32
     ensures { IsCode (OverlapsBy reader one.now other.now) bool_code result }
@@ -75,8 +75,8 @@ pub extern "C" fn semver_overlap(alloc: Global, reader: u32, one: &[u8], other: 
     code_of_bool(overlap(alloc, reader, one, other))
 }
 
-/// Whether the other requirement matches each version that the first one matches: 0 no, with the least that it doesn't, 1 yes,
-/// 2 one of them is a tag.
+/// Whether the other range matches each version that the first one matches: 0 no, with the lowest that it doesn't, 1 yes, 2 one of
+/// them is a tag.
 #[unsafe(no_mangle)]
 pub extern "C" fn semver_within(
     alloc: Global,
@@ -92,7 +92,7 @@ pub extern "C" fn semver_within(
     report_lowest(alloc, outside(alloc, reader, one, other), 0, 1, out, needed)
 }
 
-/// The least version that both requirements match: 0 none, 1 with its text, 2 one of them is a tag.
+/// The lowest version that both ranges match: 0 none, 1 with its text, 2 one of them is a tag.
 #[unsafe(no_mangle)]
 pub extern "C" fn semver_common(
     alloc: Global,
@@ -108,7 +108,7 @@ pub extern "C" fn semver_common(
     report_lowest(alloc, common(alloc, reader, one, other), 1, 0, out, needed)
 }
 
-/// The least version that the requirement matches: 0 none, 1 with its text, 2 it is a tag.
+/// The lowest version that the range matches: 0 none, 1 with its text, 2 it is a tag.
 #[unsafe(no_mangle)]
 pub extern "C" fn semver_least(
     alloc: Global,
@@ -123,7 +123,7 @@ pub extern "C" fn semver_least(
     report_lowest(alloc, lowest(alloc, reader, requirement), 1, 0, out, needed)
 }
 
-/// The normal text of the requirement: 1.
+/// The canonical form of the range: 1.
 #[unsafe(no_mangle)]
 pub extern "C" fn semver_normal(
     alloc: Global,
@@ -164,9 +164,8 @@ pub extern "C" fn semver_may_be_tag(text: &[u8]) -> u32
     }
 }
 
-/// Whether each version of a list, a line each, fits the requirement: 1, where answer n is the code of line n, 0 no, 1 yes, 2 the
-/// requirement is a tag, and 7 the version is invalid. `needed` is how many lines there are; where there are more than answers,
-/// these stay as they were.
+/// Whether each version of a list, one per line, matches the range: 1, and answer n is the code of line n: 0 no, 1 yes, 2 the range
+/// is a tag, 7 the version is invalid. `needed` is the number of lines; if there are more than answers, these stay as they were.
 #[unsafe(no_mangle)]
 pub extern "C" fn semver_filter(
     alloc: Global,
@@ -188,8 +187,8 @@ pub extern "C" fn semver_filter(
     )
 }
 
-/// Which of several versions, a line each, is the greatest that matches the requirement, the first of equal ones: 0 none, 1 the one
-/// at `place`, counted from 0, 2 the requirement is a tag. At any code but 1 `place` stays as it was.
+/// Which of several versions, one per line, is the highest that matches the range, the first of equal ones: 0 none, 1 the one at
+/// `place`, counted from 0, 2 the range is a tag. At any code but 1 `place` stays as it was.
 #[unsafe(no_mangle)]
 pub extern "C" fn semver_best(
     alloc: Global,
@@ -209,9 +208,9 @@ pub extern "C" fn semver_best(
     )
 }
 
-/// The places of several versions, a line each, in the order of precedence: 1, where the place of the lowest comes first, places are
-/// counted from 0, and versions that differ in the build alone keep their order. `needed` is how many lines there are; where there
-/// are more than places, these stay as they were.
+/// The places of several versions, one per line, in the order of precedence: 1. The place of the lowest comes first, places are
+/// counted from 0, and versions that differ in the build alone keep their order. `needed` is the number of lines; if there are more
+/// than places, these stay as they were.
 #[unsafe(no_mangle)]
 pub extern "C" fn semver_sort(
     alloc: Global,
@@ -226,8 +225,7 @@ pub extern "C" fn semver_sort(
     report_places(sorted_lines(alloc, versions), places, needed)
 }
 
-/// The parts of the text of a requirement of a package, as JSON: 1. The reader reads the text of the version; code 3 is that the text
-/// is refused.
+/// The parts of a package, as JSON: 1. The parser parses its range; code 3 means that the text is invalid.
 #[unsafe(no_mangle)]
 pub extern "C" fn semver_package(
     alloc: Global,
@@ -242,8 +240,8 @@ pub extern "C" fn semver_package(
     report_text(package_of(alloc, reader, text), out, needed)
 }
 
-/// The parts of the text of a reference to a package of JSR or npm, as JSON: 1. The strict reader reads the text of the version; code 3
-/// is that the text is refused.
+/// The parts of a reference to a package of JSR or npm, as JSON: 1. The strict parser parses its range; code 3 means that the text
+/// is invalid.
 #[unsafe(no_mangle)]
 pub extern "C" fn semver_reference(
     alloc: Global,
@@ -257,7 +255,7 @@ pub extern "C" fn semver_reference(
     report_text(reference_of(alloc, text), out, needed)
 }
 
-/// Reads a requirement into a handle that has none: 1.
+/// Parses a range into a handle that has none: 1.
 #[unsafe(no_mangle)]
 pub extern "C" fn semver_req_read(
     alloc: Global,
@@ -281,7 +279,7 @@ pub extern "C" fn semver_req_read(
     }
 }
 
-/// Reads a version into a handle that has none: 1.
+/// Parses a version into a handle that has none: 1.
 #[unsafe(no_mangle)]
 pub extern "C" fn semver_version_read(
     alloc: Global,
@@ -304,7 +302,7 @@ pub extern "C" fn semver_version_read(
     }
 }
 
-/// Frees the requirement of the handle, which has none then.
+/// Frees the range of the handle, which has none then.
 #[unsafe(no_mangle)]
 pub extern "C" fn semver_req_free(alloc: Global, handle: &mut RequirementHandle)
     requires { Holds handle.old.value }
@@ -322,7 +320,7 @@ pub extern "C" fn semver_version_free(alloc: Global, handle: &mut VersionHandle)
     let _version = handle.take(alloc);
 }
 
-/// Whether the version fits the requirement of the handle, as `semver_fits` tells it.
+/// Whether the version matches the range of the handle, as `semver_fits`.
 #[unsafe(no_mangle)]
 pub extern "C" fn semver_req_fits(
     alloc: Global,
@@ -341,7 +339,7 @@ pub extern "C" fn semver_req_fits(
     code
 }
 
-/// Whether the version of the one handle fits the requirement of the other: 0 no, 1 yes, 2 the requirement is a tag.
+/// Whether the version of the one handle matches the range of the other: 0 no, 1 yes, 2 the range is a tag.
 #[unsafe(no_mangle)]
 pub extern "C" fn semver_req_matches(
     alloc: Global,
@@ -362,7 +360,7 @@ pub extern "C" fn semver_req_matches(
     u32::from(code)
 }
 
-/// Whether the requirements of two handles overlap: 0 no, 1 yes.
+/// Whether the ranges of two handles overlap: 0 no, 1 yes.
 #[unsafe(no_mangle)]
 pub extern "C" fn semver_req_overlap(
     alloc: Global,
@@ -382,7 +380,7 @@ pub extern "C" fn semver_req_overlap(
     u32::from(overlap)
 }
 
-/// The order of the versions of two handles, as `semver_compare` tells it.
+/// The order of the versions of two handles, as `semver_compare`.
 #[unsafe(no_mangle)]
 pub extern "C" fn semver_version_compare(
     alloc: Global,
@@ -402,7 +400,7 @@ pub extern "C" fn semver_version_compare(
     order_code(order)
 }
 
-/// The normal text of the requirement of the handle: 1.
+/// The canonical form of the range of the handle: 1.
 #[unsafe(no_mangle)]
 pub extern "C" fn semver_req_normal(
     alloc: Global,
@@ -440,7 +438,7 @@ pub extern "C" fn semver_version_text(
     code
 }
 
-/// The text of the requirement of the handle as it was read: 1.
+/// The text that the range of the handle was parsed from: 1.
 #[unsafe(no_mangle)]
 pub extern "C" fn semver_req_text(
     alloc: Global,
@@ -460,7 +458,7 @@ pub extern "C" fn semver_req_text(
     1
 }
 
-/// The order of the versions of two handles in which versions that differ in the build alone are ordered by it.
+/// The order of the versions of two handles, where versions that differ in the build alone are ordered by it.
 #[unsafe(no_mangle)]
 pub extern "C" fn semver_version_order(
     alloc: Global,
@@ -480,7 +478,7 @@ pub extern "C" fn semver_version_order(
     order_code(order)
 }
 
-/// Whether the requirements of two handles stand for the same: 0 no, 1 yes. The texts that they were read of have no part.
+/// Whether the ranges of two handles mean the same: 0 no, 1 yes. The texts that they were parsed from don't matter.
 #[unsafe(no_mangle)]
 pub extern "C" fn semver_req_equal(
     alloc: Global,
