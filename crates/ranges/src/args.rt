@@ -58,7 +58,7 @@ fn versions<'a>(alloc: Global) -> Arg<'a> {
     Arg::new(alloc, "VERSION")
         .num_args(0..)
         .action(ArgAction::Append)
-        .help("A version; where none is given they are read from standard input, one a line")
+        .help("A version; without any, versions are read from standard input, one per line")
 }
 
 fn reader<'a>(alloc: Global) -> Arg<'a> {
@@ -67,11 +67,11 @@ fn reader<'a>(alloc: Global) -> Arg<'a> {
         .value_name("READER")
         .value_parser(READERS.as_slice())
         .default_value("npm")
-        .help("The reader of requirements")
+        .help("The grammar of ranges: npm's, the normalized one, or that of package specifiers")
 }
 
 fn requirements<'a>(alloc: Global) -> Arg<'a> {
-    word(alloc, "REQ", "The requirements, two or more")
+    word(alloc, "REQ", "The ranges, two or more")
         .num_args(2..)
         .action(ArgAction::Append)
 }
@@ -83,44 +83,31 @@ fn command<'a>(alloc: Global, name: &'a str, about: &'a str) -> Result<Command<'
         .version(VERSION)
         .arg(flag(alloc, "json", "Print JSON"))?
         .arg(reader(alloc))?
-        .arg(flag(
-            alloc,
-            "pre",
-            "Let every pre-release between the bounds match",
-        ))
+        .arg(flag(alloc, "pre", "Match every pre-release between the bounds"))
 }
 
 // A command that matches versions with a requirement.
 fn matching<'a>(alloc: Global, name: &'a str, about: &'a str) -> Result<Command<'a>, AllocError> {
     command(alloc, name, about)?
-        .arg(word(alloc, "REQ", "The requirement"))?
+        .arg(word(alloc, "REQ", "The range"))?
         .arg(versions(alloc))
 }
 
 fn explain<'a>(alloc: Global) -> Result<Command<'a>, AllocError> {
-    command(
-        alloc,
-        "explain",
-        "Tell what the reader makes of a requirement",
-    )?
-    .arg(word(alloc, "REQ", "The requirement"))
+    command(alloc, "explain", "Explain what a range means")?.arg(word(alloc, "REQ", "The range"))
 }
 
 fn sort<'a>(alloc: Global) -> Result<Command<'a>, AllocError> {
-    command(
-        alloc,
-        "sort",
-        "Print the versions in the order of precedence",
-    )?
-    .arg(flag(alloc, "reverse", "Print the greatest version first"))?
-    .arg(versions(alloc))
+    command(alloc, "sort", "Sort versions by precedence")?
+        .arg(flag(alloc, "reverse", "Print the highest version first"))?
+        .arg(versions(alloc))
 }
 
 fn common<'a>(alloc: Global) -> Result<Command<'a>, AllocError> {
     command(
         alloc,
         "common",
-        "Print the least version that suits all requirements",
+        "Print the lowest version that all ranges match",
     )?
     .arg(requirements(alloc))
 }
@@ -129,19 +116,19 @@ fn within<'a>(alloc: Global) -> Result<Command<'a>, AllocError> {
     command(
         alloc,
         "within",
-        "Tell whether OLD allows each version that NEW allows",
+        "Check whether OLD matches each version that NEW matches",
     )?
-    .arg(word(alloc, "NEW", "The new requirement"))?
-    .arg(word(alloc, "OLD", "The old requirement"))
+    .arg(word(alloc, "NEW", "The new range"))?
+    .arg(word(alloc, "OLD", "The old range"))
 }
 
 fn package<'a>(alloc: Global) -> Result<Command<'a>, AllocError> {
     command(
         alloc,
         "package",
-        "Print the parts of a requirement of a package",
+        "Print the parts of a package with a range",
     )?
-    .arg(word(alloc, "TEXT", "The text, as in @scope/name@^1.2"))
+    .arg(word(alloc, "TEXT", "The package, such as @scope/name@^1.2"))
 }
 
 fn reference<'a>(alloc: Global) -> Result<Command<'a>, AllocError> {
@@ -150,7 +137,11 @@ fn reference<'a>(alloc: Global) -> Result<Command<'a>, AllocError> {
         "reference",
         "Print the parts of a reference to a package",
     )?
-    .arg(word(alloc, "TEXT", "The text, as in jsr:@scope/name@1/mod.ts"))
+    .arg(word(
+        alloc,
+        "TEXT",
+        "The reference, such as jsr:@scope/name@1/mod.ts",
+    ))
 }
 
 // The program with one command more.
@@ -168,7 +159,7 @@ fn with_lists<'a>(
 ) -> Result<Command<'a>, AllocError> {
     let about = "Print the versions that match, in the order given";
     let program = with(program, matching(alloc, "filter", about));
-    let about = "Print the greatest version that matches";
+    let about = "Print the highest version that matches";
     let program = with(program, matching(alloc, "best", about));
     with(program, sort(alloc))
 }
@@ -185,7 +176,7 @@ fn with_packages<'a>(
 /// The program's commands.
 pub fn program<'a>(alloc: Global) -> Result<Command<'a>, AllocError> {
     let program = Command::new(alloc, "ranges")
-        .about("What requirements of npm and JSR packages mean, and which versions suit them")
+        .about("Explain version ranges of npm and JSR packages, and find the versions that match")
         .version(VERSION)
         .subcommand_required(true)
         .arg_required_else_help(true);

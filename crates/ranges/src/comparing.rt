@@ -18,7 +18,7 @@ impl<O: Write, E: Write> Console<O, E> {
             return Err(Stop::OutOfMemory);
         };
         let kind = match invalid.kind {
-            Kind::Range => "requirement",
+            Kind::Range => "range",
             Kind::Version => "version",
             Kind::Package => "package",
             Kind::Reference => "reference",

@@ -65,7 +65,7 @@ impl Stop {
             Stop::OutOfMemory => Some("out of memory"),
             Stop::Unread => Some("standard input can't be read"),
             Stop::Unwritten => None,
-            Stop::NoText => Some("a word is no UTF-8"),
+            Stop::NoText => Some("an argument isn't valid UTF-8"),
         }
     }
 

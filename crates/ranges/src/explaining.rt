@@ -1,4 +1,4 @@
-//! `ranges explain`: a requirement in words.
+//! `ranges explain`: what a range means.
 
 use crate::args::Options;
 use crate::console::{Console, Status, Stop, print_line};
@@ -11,7 +11,7 @@ use std::alloc::{AllocError, Global};
 use std::fmt;
 use std::io::Write;
 
-// The bounds of a range in words, as `from 1.2.0 to below 2.0.0`.
+// The bounds of a range as comparators, such as `>=1.2.0 <2.0.0`.
 #[derive(Clone, Copy)]
 struct Bounds<'a>(&'a VersionRange);
 
@@ -19,44 +19,28 @@ impl fmt::Display for Bounds<'_> {
     fn fmt<W: fmt::Write>(&self, f: &mut fmt::Formatter<W>) -> fmt::Result {
         match (&self.0.start, &self.0.end) {
             (RangeBound::Unbounded, RangeBound::Unbounded) => f.write_str("any version"),
-            (RangeBound::Unbounded, RangeBound::Version(end)) => only_end(f, end),
-            (RangeBound::Version(start), RangeBound::Unbounded) => only_start(f, start),
-            (RangeBound::Version(start), RangeBound::Version(end)) => between(f, start, end),
+            (RangeBound::Unbounded, RangeBound::Version(end)) => bound(f, '<', end),
+            (RangeBound::Version(start), RangeBound::Unbounded) => bound(f, '>', start),
+            (RangeBound::Version(start), RangeBound::Version(end)) => {
+                bound(f, '>', start)?;
+                f.write_str(" ")?;
+                bound(f, '<', end)
+            }
         }
     }
 }
 
-// A lower bound alone in words.
-fn only_start<W: fmt::Write>(f: &mut fmt::Formatter<W>, start: &VersionBound) -> fmt::Result {
-    let (before, after) = match start.kind {
-        VersionBoundKind::Inclusive => ("from", " on"),
-        VersionBoundKind::Exclusive => ("above", ""),
-    };
-    write!(f, "{before} {}{after}", start.version)
-}
-
-// An upper bound alone in words.
-fn only_end<W: fmt::Write>(f: &mut fmt::Formatter<W>, end: &VersionBound) -> fmt::Result {
-    let before = match end.kind {
-        VersionBoundKind::Inclusive => "up to",
-        VersionBoundKind::Exclusive => "below",
-    };
-    write!(f, "{before} {}", end.version)
-}
-
-// Two bounds in words.
-fn between<W: fmt::Write>(
+// A bound with its operator, which has a `=` if the version itself matches.
+fn bound<W: fmt::Write>(
     f: &mut fmt::Formatter<W>,
-    start: &VersionBound,
-    end: &VersionBound,
+    operator: char,
+    bound: &VersionBound,
 ) -> fmt::Result {
-    let (from, to) = match (start.kind, end.kind) {
-        (VersionBoundKind::Inclusive, VersionBoundKind::Inclusive) => ("from", "to"),
-        (VersionBoundKind::Inclusive, VersionBoundKind::Exclusive) => ("from", "to below"),
-        (VersionBoundKind::Exclusive, VersionBoundKind::Inclusive) => ("above", "up to"),
-        (VersionBoundKind::Exclusive, VersionBoundKind::Exclusive) => ("above", "and below"),
+    let equal = match bound.kind {
+        VersionBoundKind::Inclusive => "=",
+        VersionBoundKind::Exclusive => "",
     };
-    write!(f, "{from} {} {to} {}", start.version, end.version)
+    write!(f, "{operator}{equal}{}", bound.version)
 }
 
 // The version at which the range both starts and ends.
@@ -111,14 +95,14 @@ struct PreReleases<'a> {
 impl fmt::Display for PreReleases<'_> {
     fn fmt<W: fmt::Write>(&self, f: &mut fmt::Formatter<W>) -> fmt::Result {
         if self.pre_release == PreRelease::Admitted {
-            return f.write_str("pre-releases too");
+            return f.write_str("pre-releases included");
         }
         match pre_releases(self.matches) {
             (Some(first), Some(second)) => {
                 let (first, second) = (Numbers(first), Numbers(second));
-                write!(f, "of pre-releases only those of {first} and {second}")
+                write!(f, "pre-releases of {first} and {second}")
             }
-            (Some(only), None) => write!(f, "of pre-releases only those of {}", Numbers(only)),
+            (Some(only), None) => write!(f, "pre-releases of {}", Numbers(only)),
             (None, _) => f.write_str("no pre-releases"),
         }
     }
@@ -148,18 +132,18 @@ fn what_matches<W: fmt::Write>(
     matches: &Matches,
     pre_release: PreRelease,
 ) -> fmt::Result {
-    let Some(least) = &matches.least else {
+    let Some(lowest) = &matches.least else {
         return f.write_str("no version matches");
     };
     if let Some(only) = only_version(&matches.range) {
-        return write!(f, "{only} alone");
+        return write!(f, "only {only}");
     }
     let bounds = Bounds(&matches.range);
     let pre_releases = PreReleases {
         matches,
         pre_release,
     };
-    write!(f, "{bounds}; {pre_releases}; the least is {least}")
+    write!(f, "{bounds}, {pre_releases}, lowest {lowest}")
 }
 
 fn bound_json(alloc: Global, bound: &RangeBound) -> Result<Value, AllocError> {
@@ -205,8 +189,8 @@ fn push_numbers(
     Ok(())
 }
 
-fn least_json(alloc: Global, least: &Option<Version>) -> Result<Value, AllocError> {
-    match least {
+fn lowest_json(alloc: Global, lowest: &Option<Version>) -> Result<Value, AllocError> {
+    match lowest {
         Some(version) => shown_json(alloc, version),
         None => Ok(Value::Null),
     }
@@ -220,14 +204,14 @@ fn with_range(alloc: Global, json: Object, matches: &Matches, pre_release: PreRe
             "pre-releases",
             pre_releases_json(alloc, matches, pre_release),
         )
-        .put("least", least_json(alloc, &matches.least))
+        .put("lowest", lowest_json(alloc, &matches.least))
 }
 
 fn piece_json(alloc: Global, piece: &Piece, pre_release: PreRelease) -> Result<Value, AllocError> {
     let json = Object::new(alloc).put_text("text", Some(piece.text.as_str().trim()));
     let json = match &piece.meaning {
         Meaning::Range(matches) => with_range(alloc, json, matches, pre_release),
-        Meaning::LeftOut(refusal) => json.put_text("refused", Some(refusal.message())),
+        Meaning::LeftOut(refusal) => json.put_text("error", Some(refusal.message())),
     };
     json.into_json()
 }
@@ -268,7 +252,7 @@ fn tell_tag<O: Write, E: Write>(
     if !options.json {
         print_line(
             &mut console.out,
-            format_args!("\"{tag}\": a tag, the name of a version that a registry keeps"),
+            format_args!("\"{tag}\": a tag, a name that a registry gives a version"),
         )?;
         return Ok(Status::Tag);
     }
@@ -311,7 +295,7 @@ fn print_pieces<O: Write>(
     for piece in pieces {
         print_line(out, Line { piece, pre_release })?;
     }
-    print_line(out, format_args!("normal text: {normal}"))
+    print_line(out, format_args!("canonical form: {normal}"))
 }
 
 fn tell_explanation<O: Write, E: Write>(

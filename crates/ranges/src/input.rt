@@ -68,7 +68,7 @@ fn take_line<O: Write, E: Write, T: Take>(
     line: &[u8],
 ) -> Result<bool, Stop> {
     let Ok(text) = str::from_utf8(line) else {
-        console.refuse_line(number, "", "The line is no UTF-8.");
+        console.refuse_line(number, "", "The line isn't valid UTF-8.");
         return Ok(false);
     };
     let text = text.trim_end_matches(['\n', '\r'].as_slice());

@@ -27,8 +27,8 @@ fn print_package<O: Write, E: Write>(
     let out = &mut console.out;
     print_part(out, "scope", scope)?;
     print_part(out, "name", Some(name))?;
-    print_part(out, "requirement", Some(req.version_req.version_text()))?;
-    print_part(out, "normal text", Some(normal.as_str()))
+    print_part(out, "range", Some(req.version_req.version_text()))?;
+    print_part(out, "canonical form", Some(normal.as_str()))
 }
 
 // Prints the parts of a reference, each on a line.
