@@ -22,10 +22,12 @@ TEXTS = (
     "abcdefghijklmnopqrstuvwxyzabcdefghijklmn",
     "@scope/name@^1.0.0-a.b.c",
 )
-# Calls on texts that stand in the value, which never want memory.
-NEEDS_NONE = ("in-value",)
-# What a call says where it wants memory. One answers whether a reader wanted any, too; it is swept with the texts alone, with
-# nothing behind them.
+# Calls whose first argument says what is asked: rows of each are chosen, and each example is asked.
+KINDS = ("example", "order-of", "equal-of", "written", "json")
+# On texts that stand in the value, which never take memory.
+NEEDS_NONE = ("example in-value",)
+# What a call answers out of memory. One answers whether a parser ran out of it, too; it is swept with the texts alone, with nothing
+# behind them.
 WANTING = (b"out of memory",)
 WANTS = {"ample": (*WANTING, b"no")}
 ALONE = b',"0"],'
@@ -90,7 +92,7 @@ class Sweep:
 
 
 def row_is_right(line, may_want, wanting):
-    """The right answer; or want of memory, of the call (the row differs, with that answer) or of the program (status 5)."""
+    """The right answer; or out of memory, of the call (the row differs, with that answer) or of the program (status 5)."""
     wants = tuple(b"line 1: " + line + b"\n    answered [\"" + word + b"\"]\n" for word in wanting)
 
     def is_right(ample, ran):
@@ -113,13 +115,14 @@ def rows_of(table):
     rows = {}
     for line in table.read_bytes().split(b"\n"):
         if line.startswith(b"[["):
-            rows.setdefault(json.loads(line)[0][0], []).append(line)
+            call, *arguments = json.loads(line)[0]
+            rows.setdefault(f"{call} {arguments[0]}" if call in KINDS else call, []).append(line)
     return rows
 
 
 def chosen(lines):
     """Rows of one call: some in even steps; the first ones with a word that is too long to stand in a value; for each of the texts
-    the first one that holds it, by npm's reader where there is such a row; and so the first one with alternatives."""
+    the first one that holds it, by npm's grammar where there is such a row; and so the first one with alternatives."""
     step = max(1, (len(lines) - 1) // (ROWS - 1))
     picked = [lines[at] for at in sorted({*range(0, len(lines), step)} | {len(lines) - 1})][: ROWS + 1]
     picked += [line for line in lines if LONG_WORDS.search(line)][:ROWS]
@@ -172,7 +175,7 @@ def short_texts():
 
 
 def ample(rows):
-    """No reader wants memory where there is enough: the short texts, and every text of the table with 1 to 64 times `1` behind it."""
+    """No parser runs out of memory where there is enough: the short texts, and every text of the table with 1 to 64 times `1` behind it."""
     texts = dict.fromkeys(word for lines in rows.values() for line in lines for word in json.loads(line)[0][1:] if word is not None)
     short = short_texts()
     assert len(short) == SHORT, len(short)
@@ -205,7 +208,7 @@ def main():
     for it in wrong[:40]:
         print(it)
     runs, refusals = sum(it.runs for it in done), sum(it.refusals for it in done)
-    print(f"refuse: {len(rows)} calls and npmver, {len(sweeps)} questions, {runs} runs, {refusals} refusals, {texts} texts with ample memory, {asked} runs with odd streams or words, {len(wrong)} wrong answers")
+    print(f"refuse: {len(rows)} calls and kinds of calls, and npmver, {len(sweeps)} questions, {runs} runs, {refusals} refusals, {texts} texts with ample memory, {asked} runs with odd streams or words, {len(wrong)} wrong answers")
     return 1 if wrong else 0
 
 

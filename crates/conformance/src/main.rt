@@ -1,30 +1,40 @@
 //! `conformance` holds the public calls of `deno_semver` to a table.
 //!
 //! It reads the table from standard input. A line that begins with `#` is a heading, and a blank line is nothing; every
-//! other line is a row: a JSON array of two arrays of texts or nulls, the question and its answer. The first word of a
-//! question names the call. The program prints each row that has another answer, with that answer, each line that
-//! it can't read, with the reason, and then for each call that was asked how many rows were asked and how many differ. A row
-//! that it can't read differs.
+//! other line is a row: a JSON array of two arrays of texts or nulls, a call with its arguments and its answer. The program
+//! prints each row that has another answer, with that answer, each line that it can't read, with the reason, and then for
+//! each call how many rows were asked and how many differ.
 //!
-//! The status is 0 where nothing differs, else 1; it is 4 where standard input can't be read, 5 for want of memory and
-//! 6 where standard output can't be written.
+//! The status is 0 where nothing differs, else 1; it is 4 where standard input can't be read, 5 out of memory and 6 where
+//! standard output can't be written.
 #![tactic(auto)]
 
 ghost use Rattle.std.specs.Prelude.{◌≡◌, ◌↔◌, false, true};
-ghost use Rattle.cases.specs.declared.table.Problem.TheVariants.{OutOfMemory, Unread, Unwritten};
+ghost use Rattle.conformance.specs.declared.table.Problem.TheVariants.{OutOfMemory, Unread, Unwritten};
 
-use cases::table;
-use cases::table::Problem;
+mod answer;
+mod arguments;
+mod calls;
+mod examples;
+mod json;
+mod kinds;
+mod met;
+mod notation;
+mod packages;
+mod parse;
+mod ranges;
+mod requirements;
+mod table;
+mod versions;
+
 use std::alloc::Global;
 use std::io;
 use std::io::{BufWriter, ErrorKind, Read, Write};
 use std::process::ExitCode;
+use table::Problem;
 
 // All bytes of the reader.
-fn read_all<R: Read>(alloc: Global, mut reader: R) -> Result<Vec<u8>, Problem>
-where
-    R: Drop,
-{
+fn read_all<R: Read + Drop>(alloc: Global, mut reader: R) -> Result<Vec<u8>, Problem> {
     let mut bytes = Vec::new(alloc);
     match reader.read_to_end(&mut bytes) {
         Ok(_) => Ok(bytes),

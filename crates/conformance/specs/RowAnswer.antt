@@ -1,0 +1,18 @@
+-- Where a row of the table is met.
+use Rattle.std.specs.Prelude.{◌≡◌, ◌⊎◌, ℕ, List, [], ◌∷◌, Option, Some, None, String, codes, string_bytes}
+use Rattle.std.specs.declared.alloc.Global.{Global}
+
+abbrev pub item_text : Option (String Global) → Option (List ℕ)
+item_text None = None
+item_text (Some item) = Some (string_bytes item)
+
+abbrev pub refused_item : Option (List ℕ)
+refused_item = Some (codes "refused")
+
+abbrev pub first_item : List (Option (List ℕ)) → Option (List ℕ)
+first_item [] = None
+first_item (item ∷ items) = item
+
+-- the answer is the row's, or some refusal where the row has `refused` alone
+abbrev pub IsMet : List (Option (List ℕ)) → List (Option (List ℕ)) → Type 0
+IsMet expected answer = (expected ≡ answer) ⊎ ((expected ≡ refused_item ∷ []) × (first_item answer ≡ refused_item))

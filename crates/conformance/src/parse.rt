@@ -1,0 +1,138 @@
+//! The values that texts stand for, where one parser is meant.
+
+use crate::answer::{Answer, Fault, Item, OrFault, Reported, parsed};
+use crate::arguments::{pair, requirement};
+use crate::notation;
+use deno_semver::jsr::JsrDepPackageReq;
+use deno_semver::npm::NpmRegistry;
+use deno_semver::package::{
+    PackageNv, PackageNvReference, PackageReq, PackageReqReference, Registry, RegistryNvReference,
+    RegistryReqReference,
+};
+use semver_base::failure::ParseFailure;
+use semver_base::range::{VersionRange, VersionRangeSet};
+use semver_base::string::{SmallStackString, StackString, StringAppendable};
+use semver_base::version::Version;
+use semver_req::range_set_or_tag::RangeSetOrTag;
+use std::alloc::{AllocError, Global};
+use std::fmt::Display;
+
+/// A value that a text stands for, of packages and their requirements by npm's grammar.
+pub trait Parse: PartialEq + StringAppendable + Display + Drop {
+    fn parse(alloc: Global, text: &str) -> OrFault<Self>;
+}
+
+impl Parse for SmallStackString {
+    fn parse(alloc: Global, text: &str) -> OrFault<SmallStackString> {
+        Ok(SmallStackString::from_str(alloc, text)?)
+    }
+}
+
+impl Parse for StackString {
+    fn parse(alloc: Global, text: &str) -> OrFault<StackString> {
+        Ok(StackString::from_str(alloc, text)?)
+    }
+}
+
+impl Parse for Version {
+    fn parse(alloc: Global, text: &str) -> OrFault<Version> {
+        Ok(Version::parse_standard(alloc, text).map_err(ParseFailure::from)?)
+    }
+}
+
+impl Parse for VersionRange {
+    fn parse(alloc: Global, text: &str) -> OrFault<VersionRange> {
+        notation::range_of(alloc, text)
+    }
+}
+
+impl Parse for VersionRangeSet {
+    fn parse(alloc: Global, text: &str) -> OrFault<VersionRangeSet> {
+        notation::set_of(alloc, text)
+    }
+}
+
+impl Parse for RangeSetOrTag {
+    fn parse(alloc: Global, text: &str) -> OrFault<RangeSetOrTag> {
+        Ok(RangeSetOrTag::parse_npm(alloc, text)?)
+    }
+}
+
+impl Parse for PackageReq {
+    fn parse(alloc: Global, text: &str) -> OrFault<PackageReq> {
+        parsed(PackageReq::from_str_loose(alloc, text))
+    }
+}
+
+impl Parse for PackageNv {
+    fn parse(alloc: Global, text: &str) -> OrFault<PackageNv> {
+        parsed(PackageNv::from_str(alloc, text))
+    }
+}
+
+impl Parse for JsrDepPackageReq {
+    fn parse(alloc: Global, text: &str) -> OrFault<JsrDepPackageReq> {
+        parsed(JsrDepPackageReq::from_str_loose(alloc, text))
+    }
+}
+
+impl<R: Registry> Parse for RegistryReqReference<R> {
+    fn parse(alloc: Global, text: &str) -> OrFault<RegistryReqReference<R>> {
+        parsed(RegistryReqReference::from_str(alloc, text))
+    }
+}
+
+impl<R: Registry> Parse for RegistryNvReference<R> {
+    fn parse(alloc: Global, text: &str) -> OrFault<RegistryNvReference<R>> {
+        parsed(RegistryNvReference::from_str(alloc, text))
+    }
+}
+
+impl Parse for PackageReqReference {
+    fn parse(alloc: Global, text: &str) -> OrFault<PackageReqReference> {
+        let reference: RegistryReqReference<NpmRegistry> = Parse::parse(alloc, text)?;
+        Ok(reference.into_inner())
+    }
+}
+
+impl Parse for PackageNvReference {
+    fn parse(alloc: Global, text: &str) -> OrFault<PackageNvReference> {
+        let reference: RegistryNvReference<NpmRegistry> = Parse::parse(alloc, text)?;
+        Ok(reference.into_inner())
+    }
+}
+
+/// `ample`: whether no parser runs out of memory at a text, alone and with up to so many `1` behind it.
+pub fn ample(arguments: &[Item], answer: &mut Answer) -> Reported {
+    let (text, count) = pair(arguments)?;
+    let Ok(count) = count.parse::<usize>() else {
+        return Err(Fault::OtherArguments);
+    };
+    let answered = is_ample(answer.alloc(), text, count)?;
+    answer.yes_or_no(answered)
+}
+
+fn is_ample(alloc: Global, text: &str, count: usize) -> Result<bool, AllocError> {
+    let mut longer = String::from_str(alloc, text)?;
+    let mut answered = is_answered(alloc, longer.as_str());
+    for _ in 0..count {
+        longer.push('1')?;
+        answered = answered && is_answered(alloc, longer.as_str());
+    }
+    Ok(answered)
+}
+
+fn is_answered(alloc: Global, text: &str) -> bool {
+    has_memory(requirement(alloc, "npm", text))
+        && has_memory(requirement(alloc, "normal", text))
+        && has_memory(requirement(alloc, "strict", text))
+        && has_memory(Version::parse(alloc, text))
+        && has_memory(PackageReq::parse(alloc, text))
+}
+
+// Whether a value was parsed or rejected.
+fn has_memory<T: Drop>(read: OrFault<T>) -> bool {
+    let has_memory = !matches!(read, Err(Fault::OutOfMemory));
+    drop(read);
+    has_memory
+}

@@ -1,0 +1,211 @@
+//! How a table is gone through.
+
+ghost use Rattle.std.specs.Prelude.{◌≡◌, ◌↔◌, IsTrue, All};
+
+use crate::answer::{Answer, Fault, Item, OrFault};
+use crate::calls;
+use crate::met::is_met;
+use serde_json::Category;
+use std::alloc::{AllocError, Global};
+use std::io;
+use std::io::{ErrorKind, Write};
+
+/// Why a table was not gone through to its end.
+#[derive(Clone, Copy, Debug, PartialEq, Eq)]
+pub enum Problem {
+    /// Standard input can't be read.
+    Unread,
+    /// Standard output can't be written.
+    Unwritten,
+    OutOfMemory,
+}
+
+impl From<AllocError> for Problem {
+    fn from(_error: AllocError) -> Problem {
+        Problem::OutOfMemory
+    }
+}
+
+// An error of the writer.
+impl From<io::Error> for Problem {
+    fn from(error: io::Error) -> Problem {
+        if error.kind() == ErrorKind::OutOfMemory {
+            Problem::OutOfMemory
+        } else {
+            Problem::Unwritten
+        }
+    }
+}
+
+// How many rows of a call were asked, and how many of them differ.
+#[derive(Drop)]
+struct Count {
+    call: String,
+    asked: u64,
+    differ: u64,
+}
+
+// The counts of the calls, in the order of their first rows, and how many lines were no row.
+#[derive(Drop)]
+struct Tally {
+    counts: Vec<Count>,
+    unreadable: u64,
+}
+
+impl Tally {
+    // Counts a row of the call.
+    fn add(&mut self, alloc: Global, call: &str, differs: bool) -> Result<(), AllocError> {
+        let differ = u64::from(differs);
+        for count in self.counts.iter_mut() {
+            if count.call.as_str() == call {
+                count.asked = count.asked.saturating_add(1);
+                count.differ = count.differ.saturating_add(differ);
+                return Ok(());
+            }
+        }
+        let call = String::from_str(alloc, call)?;
+        let count = Count {
+            call,
+            asked: 1,
+            differ,
+        };
+        Ok(self.counts.push(count)?)
+    }
+
+    // Whether no row differs.
+    fn agrees(&self) -> bool
+        ensures { IsTrue result
+            ↔ (self.now.unreadable ≡ 0) × All (λ count. count.differ ≡ 0) self.now.counts.items }
+    {
+        self.unreadable == 0 && self.counts.iter().all(|count| count.differ == 0)
+    }
+
+    fn print<W: Write>(&self, out: &mut W) -> Result<(), Problem> {
+        for count in &self.counts {
+            let (call, asked, differ) = (&count.call, count.asked, count.differ);
+            writeln!(out, "{call}: {asked} asked, {differ} differ")?;
+        }
+        writeln!(out, "lines that are no row: {}", self.unreadable)?;
+        Ok(())
+    }
+}
+
+// A line of the table, with its number from 1.
+#[derive(Clone, Copy)]
+struct Line<'a> {
+    number: usize,
+    text: &'a [u8],
+}
+
+impl Line<'_> {
+    // Headings and blank lines are no rows.
+    fn is_row(&self) -> bool {
+        !self.text.starts_with(b"#") && !self.text.trim_ascii().is_empty()
+    }
+
+    // Prints the line, and below it what is said of it, in two parts.
+    fn print<W: Write>(&self, said: &str, more: &str, out: &mut W) -> Result<(), Problem> {
+        let number = self.number;
+        write!(out, "line {number}: ")?;
+        out.write_all(self.text)?;
+        writeln!(out, "\n    {said}{more}")?;
+        Ok(())
+    }
+}
+
+// A row that was asked: the call with its arguments, the answer that the table gives it, and the call's own.
+#[derive(Drop)]
+struct Asked {
+    question: Vec<Item>,
+    expected: Vec<Item>,
+    answer: Answer,
+}
+
+fn ask(alloc: Global, line: &[u8]) -> OrFault<Asked> {
+    let (question, expected): (Vec<Item>, Vec<Item>) = match serde_json::from_slice(alloc, line) {
+        Ok(row) => row,
+        Err(e) if e.classify() == Category::Memory => return Err(Fault::Unreported),
+        Err(_) => return Err(Fault::NoRow),
+    };
+    let answer = answer(alloc, question.as_slice())?;
+    Ok(Asked {
+        question,
+        expected,
+        answer,
+    })
+}
+
+fn answer(alloc: Global, question: &[Item]) -> OrFault<Answer> {
+    let [Some(call), arguments @ ..] = question else {
+        return Err(Fault::NoCall);
+    };
+    let mut answer = Answer::new(alloc);
+    match calls::ask(call.as_str(), arguments, &mut answer) {
+        Ok(()) => Ok(answer),
+        Err(fault) => {
+            drop(answer);
+            Answer::of_fault(alloc, fault)
+        }
+    }
+}
+
+/// Asks each row of the table, and prints on `out` the rows that differ, the lines that can't be read, and the counts of the calls
+/// that were asked. Returns whether none differs.
+pub fn compare<W: Write>(alloc: Global, table: &[u8], out: &mut W) -> Result<bool, Problem> {
+    let (counts, unreadable) = (Vec::new(alloc), 0);
+    let mut tally = Tally { counts, unreadable };
+    for (place, text) in table.split(|byte| *byte == b'\n').enumerate() {
+        let number = place.saturating_add(1);
+        let line = Line { number, text };
+        if line.is_row() {
+            compare_line(alloc, line, &mut tally, out)?;
+        }
+    }
+    tally.print(out)?;
+    Ok(tally.agrees())
+}
+
+fn compare_line<W: Write>(
+    alloc: Global,
+    line: Line<'_>,
+    tally: &mut Tally,
+    out: &mut W,
+) -> Result<(), Problem> {
+    let fault = match ask(alloc, line.text) {
+        Ok(asked) => {
+            let compared = compare_answer(alloc, line, &asked, tally, out);
+            drop(asked);
+            return compared;
+        }
+        Err(fault) => fault,
+    };
+    tally.unreadable = tally.unreadable.saturating_add(1);
+    let why = match fault {
+        Fault::NoRow => "no JSON array of two arrays of texts or nulls",
+        Fault::NoCall => "no call has this name",
+        Fault::OtherArguments => "the call takes other arguments",
+        _ => return Err(Problem::OutOfMemory),
+    };
+    line.print("can't be read: ", why, out)
+}
+
+fn compare_answer<W: Write>(
+    alloc: Global,
+    line: Line<'_>,
+    asked: &Asked,
+    tally: &mut Tally,
+    out: &mut W,
+) -> Result<(), Problem> {
+    let items = asked.answer.items();
+    let differs = !is_met(asked.expected.as_slice(), items.as_slice());
+    if let [Some(call), ..] = asked.question.as_slice() {
+        tally.add(alloc, call.as_str(), differs)?;
+    }
+    if !differs {
+        return Ok(());
+    }
+    match serde_json::to_string(alloc, items) {
+        Ok(items) => line.print("answered ", items.as_str(), out),
+        Err(_) => Err(Problem::OutOfMemory),
+    }
+}
