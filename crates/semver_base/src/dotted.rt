@@ -1,7 +1,7 @@
-//! Three numbers with `.` between, as one text.
+//! `M.m.p` as one text.
 //!
-//! Versions are most of what is written. Their numbers are put into one text on the stack first, from behind, so that they are
-//! one write, and not five.
+//! Versions are most of what is formatted. Their numbers are first put together on the stack, from the end, so that they take
+//! one write instead of five.
 
 ghost use Rattle.std.specs.Prelude.{◌≡◌, ◌≤◌, ◌+◌, ◌∷◌, ◌++◌, length, drop};
 ghost use Rattle.std.specs.Fmt.{decimal};
@@ -10,10 +10,10 @@ ghost use Rattle.semver_base.specs.Characters.{dot};
 use itoa::write_digits;
 use std::str::from_utf8_unchecked;
 
-/// Three numbers of at most 20 digits, and two dots.
+/// The room for three numbers of at most 20 digits and two dots.
 pub(crate) const DOTTED_ROOM: usize = 62;
 
-// Puts the number and a `.` before what begins at `end`, and answers where the number begins.
+// Writes the number and a `.` so that they end at `end`, and returns where the number begins.
 #[inline(always)]
 fn put_before(number: u64, bytes: &mut [u8], end: usize) -> usize
     requires low { 21 ≤ end }
@@ -26,7 +26,7 @@ fn put_before(number: u64, bytes: &mut [u8], end: usize) -> usize
     write_digits(number, bytes, end - 1)
 }
 
-/// The text of three numbers with `.` between, which stands in `room`.
+/// Formats three numbers with `.` between them into `room`.
 #[inline(always)]
 pub(crate) fn dotted(major: u64, minor: u64, patch: u64, room: &mut [u8; DOTTED_ROOM]) -> &str
     ensures { result.now ≡ decimal major ++ (dot ∷ (decimal minor ++ (dot ∷ decimal patch))) }

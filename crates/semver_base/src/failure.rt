@@ -1,4 +1,4 @@
-//! Why a text or a bound was refused.
+//! Why a text or a bound is invalid.
 
 ghost use Rattle.std.specs.Prelude.{◌≡◌, ◌↔◌, ◌⊎◌, IsTrue, IfOk, Some, None};
 ghost use Rattle.std.specs.Option.{option_copied};
@@ -9,12 +9,12 @@ use std::alloc::{AllocError, Global};
 use std::fmt;
 use std::marker::Model;
 
-/// The kinds of refusal of a version, a requirement or a bound, other than want of memory.
+/// Why a version, a version requirement or a bound is rejected, other than out of memory.
 #[derive(Clone, Copy, Debug, PartialEq, Eq)]
 pub enum Refusal {
-    /// The text is outside the grammar.
+    /// The text doesn't match the grammar.
     UnexpectedCharacter,
-    /// A requirement is blank, where that is no requirement.
+    /// A version requirement is only whitespace, where that is invalid.
     EmptyConstraint,
     /// No `.` follows the first number of a version.
     MissingMinor,
@@ -22,12 +22,12 @@ pub enum Refusal {
     MissingPatch,
     /// A number is larger than 18446744073709551615.
     NumberTooLarge,
-    /// A bound that is needed is larger than 18446744073709551615.
+    /// A computed bound is larger than 18446744073709551615.
     BoundTooLarge,
 }
 
 impl Refusal {
-    /// The line that tells of the refusal.
+    /// The error message.
     pub fn message(self) -> &'static str
         ensures { result.now ≡ refusal_message self }
     {
@@ -46,11 +46,10 @@ impl Refusal {
     }
 }
 
-/// Why a text or a bound was refused: a message and, for some refusals, the part of the text that is meant; or want
-/// of memory.
+/// A parse error: a message and, for some errors, the offending part of the text; or out of memory.
 ///
-/// Contracts see a failure as an optional pair of the message and the optional part; none is want of memory. Two
-/// failures are equal where these are. Which refusal it is, a caller learns by [`ParseFailure::tells_of`].
+/// Contracts see a failure as an optional pair of the message and the optional snippet, where `None` is out of memory. Two
+/// failures are equal if these are. [`ParseFailure::tells_of`] tests for a given [`Refusal`].
 #[derive(Debug, PartialEq, Eq)]
 pub struct ParseFailure {
     texts: Option<(SmallStackString, Option<SmallStackString>)>,
@@ -66,7 +65,7 @@ impl Model for ParseFailure {
     ghost inverse = { λ texts. record { texts = texts } };
 }
 
-// By hand, so that a failure that goes out of scope is one call.
+// Written out so that dropping a failure is one call.
 impl Drop for ParseFailure {
     fn drop(self) {
         let ParseFailure { texts } = self;
@@ -75,7 +74,7 @@ impl Drop for ParseFailure {
 }
 
 impl ParseFailure {
-    /// The failure with these texts, or want of memory where there is none for them.
+    /// Creates a failure with a message and an optional snippet, or an out-of-memory failure if they can't be copied.
     pub fn with_texts(alloc: Global, message: &str, code_snippet: Option<&str>) -> ParseFailure
         ensures { (result ≡ None) ⊎
             (result ≡ Some (message.now, option_copied code_snippet.entry)) }
@@ -86,21 +85,21 @@ impl ParseFailure {
         }
     }
 
-    /// The failure that tells of `refusal` and names no part of the text, or want of memory.
+    /// Creates a failure with the message of `refusal` and no snippet, or an out-of-memory failure.
     pub fn of_refusal(alloc: Global, refusal: Refusal) -> ParseFailure
         ensures { (result ≡ None) ⊎ (result ≡ Some (refusal_message refusal, None)) }
     {
         ParseFailure::with_texts(alloc, refusal.message(), None)
     }
 
-    /// Want of memory.
+    /// The out-of-memory failure.
     pub fn memory() -> ParseFailure
         ensures { result ≡ None }
     {
         ParseFailure { texts: None }
     }
 
-    /// The same failure again. It is an error only where no memory is left.
+    /// Returns a copy. Fails only out of memory.
     pub fn copy(&self) -> Result<ParseFailure, AllocError>
         ensures { IfOk result (λ failure. failure ≡ self.now) }
     {
@@ -115,21 +114,21 @@ impl ParseFailure {
         }
     }
 
-    /// Whether memory was wanting.
+    /// Whether the failure is out of memory.
     pub fn is_memory(&self) -> bool
         ensures { IsTrue result ↔ (self.now ≡ None) }
     {
         self.texts.is_none()
     }
 
-    /// Whether the failure tells of this refusal, by its message.
+    /// Whether the failure's message is that of `refusal`.
     pub fn tells_of(&self, refusal: Refusal) -> bool
         ensures { IsTrue result ↔ (message_of self.now ≡ refusal_message refusal) }
     {
         self.message() == refusal.message()
     }
 
-    /// What is wrong; `Out of memory.` where memory was wanting.
+    /// The error message; `Out of memory.` if out of memory.
     pub fn message(&self) -> &str
         ensures { result.now ≡ message_of self.now }
     {
@@ -139,7 +138,7 @@ impl ParseFailure {
         }
     }
 
-    /// The part of the text that is meant, if the failure names one.
+    /// The offending part of the text, if the failure has one.
     pub fn code_snippet(&self) -> Option<&str>
         ensures { option_copied result ≡ snippet_of self.now }
     {

@@ -1,13 +1,12 @@
-//! Laws of equality and hash, each as the contract of a call.
+//! Laws of equality and hashing, each as the contract of a call.
 //!
-//! `==` of each type of this crate says yes exactly where the two values are the same, as contracts see them; at a
-//! `CowVec` and a `Measured` it does so where `==` of what they hold does. A caller whose proof needs that calls the law
-//! of its type in place of `==`.
+//! `==` on each type of this crate is true exactly if the two values are the same, as contracts see them; on `CowVec` and
+//! `Measured` it is if `==` on their contents is. A caller whose proof needs that calls the type's law instead of `==`.
 //!
-//! Equal values hash alike: they write the same to every `Hasher`. `equal_hash_alike` says it of each type that has `Hash`.
+//! Equal values hash alike: they write the same to every `Hasher`. `equal_hash_alike` says so for each type with `Hash`.
 //!
-//! The last six laws speak of versions, ranges and their texts alone, so their calls do nothing: what they promise is what
-//! a caller cites.
+//! The last six laws are about versions, ranges and their texts alone. Their calls do nothing: a caller cites what they
+//! ensure.
 
 ghost use Rattle.std.specs.Prelude.{◌≡◌, ◌↔◌, IsTrue};
 ghost use Rattle.semver_base.specs.Clamp.{ClampedRangesMeanBoth};
@@ -35,21 +34,21 @@ pub fn same_texts(one: &SmallStackString, other: &SmallStackString) -> bool
     one == other
 }
 
-/// Whether two lists are the same, where `==` of their items tells whether those are.
+/// Whether two lists are the same, if `==` on their items is sameness.
 pub fn same_lists<T: PartialEq>(one: &CowVec<T>, other: &CowVec<T>) -> bool
     ensures { TellsSame T.eq → (IsTrue result ↔ (one.now ≡ other.now)) }
 {
     one == other
 }
 
-/// Whether two kinds of refusal are the same.
+/// Whether two refusals are the same.
 pub fn same_refusals(one: &Refusal, other: &Refusal) -> bool
     ensures { IsTrue result ↔ (one.now ≡ other.now) }
 {
     one == other
 }
 
-/// Whether two failures are the same: both are want of memory, or have the same message and show the same text.
+/// Whether two failures are the same: both are out of memory, or have the same message and snippet.
 pub fn same_failures(one: &ParseFailure, other: &ParseFailure) -> bool
     ensures { IsTrue result ↔ (one.now ≡ other.now) }
 {
@@ -63,7 +62,7 @@ pub fn same_strictness(one: &Strictness, other: &Strictness) -> bool
     one == other
 }
 
-/// Whether two readings are the same, where `==` of what they read tells whether that is.
+/// Whether two parsed values are the same, if `==` on their contents is sameness.
 pub fn same_measured<T: PartialEq>(one: &Measured<T>, other: &Measured<T>) -> bool
     ensures { TellsSame T.eq → (IsTrue result ↔ (one.now ≡ other.now)) }
 {
@@ -84,14 +83,14 @@ pub fn same_version_errors(one: &VersionParseError, other: &VersionParseError) -
     one == other
 }
 
-/// Whether two errors of npm's reader of versions are the same.
+/// Whether two errors of npm's version parser are the same.
 pub fn same_npm_version_errors(one: &NpmVersionParseError, other: &NpmVersionParseError) -> bool
     ensures { IsTrue result ↔ (one.now ≡ other.now) }
 {
     one == other
 }
 
-/// Whether two kinds of a bound are the same.
+/// Whether two kinds of bound are the same.
 pub fn same_bound_kinds(one: &VersionBoundKind, other: &VersionBoundKind) -> bool
     ensures { IsTrue result ↔ (one.now ≡ other.now) }
 {
@@ -112,14 +111,14 @@ pub fn same_version_bounds(one: &VersionBound, other: &VersionBound) -> bool
     one == other
 }
 
-/// Whether two bounds are the same; an absent one is the same as an absent one alone.
+/// Whether two bounds are the same; an absent bound is the same only as another absent one.
 pub fn same_range_bounds(one: &RangeBound, other: &RangeBound) -> bool
     ensures { IsTrue result ↔ (one.now ≡ other.now) }
 {
     one == other
 }
 
-/// Whether two ranges are the same, by their bounds; two that hold the same versions need not be.
+/// Whether two ranges have the same bounds; two with the same versions may have different ones.
 pub fn same_ranges(one: &VersionRange, other: &VersionRange) -> bool
     ensures { IsTrue result ↔ (one.now ≡ other.now) }
 {
@@ -140,7 +139,7 @@ pub fn same_components(one: &XRange, other: &XRange) -> bool
     one == other
 }
 
-/// Whether two primitive kinds are the same.
+/// Whether two operators are the same.
 pub fn same_primitive_kinds(one: &PrimitiveKind, other: &PrimitiveKind) -> bool
     ensures { IsTrue result ↔ (one.now ≡ other.now) }
 {
@@ -156,35 +155,35 @@ pub fn equal_hash_alike<T: Hash>(one: &T, other: &T) -> bool
     one == other
 }
 
-/// A text stands for one version or has one refusal, never two and never both.
+/// A text has one outcome: it parses to one version or has one error, never two and never both.
 pub fn version_texts_have_one_outcome()
     ensures { VersionTextsHaveOneOutcome }
 {}
 
-/// The text of a version whose identifiers are those of the grammar is read as that version, build included (SemVer 2.0.0,
-/// section 2).
+/// The text of a version whose identifiers match the grammar parses to that version, build included (SemVer 2.0.0, section
+/// 2).
 pub fn version_texts_read_back()
     ensures { VersionTextsReadBack }
 {}
 
-/// What two ranges are clamped to means what both mean together, as comparators of one alternative. `clamp_into` and
-/// `into_stopped` answer it too, so that what [`VersionRange::clamp`] says holds of their answers.
+/// The intersection of two ranges means what both mean together, as comparators of one alternative. `clamp_into` and
+/// `into_stopped` compute it too, so that what [`VersionRange::clamp`] ensures holds of their results.
 pub fn clamped_ranges_mean_both()
     ensures { ClampedRangesMeanBoth }
 {}
 
-/// The normal text of a range is the text that the table of short forms gives it, row by row.
+/// The canonical form of a range is the text that the table of short forms gives, row by row.
 pub fn normal_texts_follow_the_table()
     ensures { IsNormalTable }
 {}
 
-/// Each version that a text stands for is one of those among which `common_version` and `min_version` answer the lowest:
-/// its numbers fit, and the identifiers of its pre-release are those of the grammar (SemVer 2.0.0, sections 2 and 9).
+/// Every version that a text parses to is among those of which `common_version` and `min_version` return the lowest: its
+/// numbers fit, and the identifiers of its pre-release match the grammar (SemVer 2.0.0, sections 2 and 9).
 pub fn read_versions_are_readable()
     ensures { ReadVersionsAreReadable }
 {}
 
-/// The text of a version that was read is letters, digits, `-`, `.` and `+` alone.
+/// The text of a parsed version consists of letters, digits, `-`, `.` and `+`.
 pub fn version_texts_are_plain()
     ensures { VersionTextsArePlain }
 {}

@@ -1,7 +1,7 @@
-//! The words that versions and requirements are made of, read from the front of a text.
+//! Parsers of the tokens of versions and requirements.
 //!
-//! Each reader takes the longest front of the text that its grammar has, and answers what that front stands for and
-//! the rest of the text; it answers `None` where no front of the text is in the grammar. A text is read in one pass.
+//! Each parser takes the longest prefix of the text that its grammar matches, and returns its value and the rest of the text;
+//! or `None` if no prefix matches. A text is parsed in one pass.
 
 ghost use Rattle.std.specs.Prelude.{◌≡◌, ◌↔◌, ◌<◌, ◌++◌, [], ◌∷◌, IfOk, IsTrue, OnOk, length};
 ghost use Rattle.std.specs.List.{take_while};
@@ -15,7 +15,7 @@ use crate::string::{CowVec, SmallStackString};
 use std::alloc::{AllocError, Global};
 use values::{Measured, Qualifier, Strictness};
 
-/// What follows the ASCII character `character`, where the text begins with it.
+/// Strips the leading ASCII character `character`, if the text begins with it.
 #[inline(always)]
 pub fn after(text: &str, character: char) -> Option<&str>
     requires { character < 128 }
@@ -24,7 +24,7 @@ pub fn after(text: &str, character: char) -> Option<&str>
     text.strip_prefix(character)
 }
 
-/// What follows the blanks at the front; a blank is a character for which `char::is_whitespace` is true.
+/// Strips leading whitespace, the characters for which `char::is_whitespace` is true.
 #[inline(always)]
 pub fn after_blanks(text: &str) -> &str
     ensures { IsLongest IsBlanks text.now tt result.now }
@@ -32,14 +32,14 @@ pub fn after_blanks(text: &str) -> &str
     text.trim_start()
 }
 
-/// Whether the whole text is blanks, of which there may be none.
+/// Whether the text is empty or only whitespace.
 pub fn is_blank(text: &str) -> bool
     ensures { IsTrue result ↔ IsBlanks text.now tt }
 {
     after_blanks(text).is_empty()
 }
 
-// How many digits stand at the front.
+// Counts the leading digits.
 #[inline(always)]
 fn digits_len(bytes: &[u8]) -> usize
     ensures { result ≡ length (take_while is_ascii_digit bytes.now) }
@@ -47,7 +47,7 @@ fn digits_len(bytes: &[u8]) -> usize
     bytes.iter().take_while(|b| b.is_ascii_digit()).count()
 }
 
-// The digits at the front, which may be none, and what follows them.
+// Splits off the leading digits, of which there may be none.
 #[inline(always)]
 fn split_digits(text: &str) -> (&str, &str)
     ensures { CutsRun is_ascii_digit text.now result.0.now result.1.now }
@@ -62,7 +62,7 @@ fn is_identifier_byte(byte: u8) -> bool
     byte.is_ascii_alphanumeric() || byte == b'-'
 }
 
-// How many bytes at the front belong to an identifier.
+// Counts the leading identifier bytes.
 #[inline(always)]
 fn identifier_len(bytes: &[u8]) -> usize
     ensures { result ≡ length (take_while is_identifier_byte bytes.now) }
@@ -70,7 +70,7 @@ fn identifier_len(bytes: &[u8]) -> usize
     bytes.iter().take_while(|b| is_identifier_byte(**b)).count()
 }
 
-// The identifier at the front, which may be empty, and what follows it.
+// Splits off a leading identifier, which may be empty.
 #[inline(always)]
 fn identifier_front(text: &str) -> (&str, &str)
     ensures { CutsRun is_identifier_byte text.now result.0.now result.1.now }
@@ -78,7 +78,7 @@ fn identifier_front(text: &str) -> (&str, &str)
     text.split_at(identifier_len(text.as_bytes()))
 }
 
-// What `parse` made of digits, as a number that fits or not.
+// The result of `parse` on digits, as a number that fits or not.
 #[inline(always)]
 fn measured(number: Option<u64>) -> Measured<u64>
     ensures { result ≡ measured_of number }
@@ -89,7 +89,7 @@ fn measured(number: Option<u64>) -> Measured<u64>
     }
 }
 
-/// One or more ASCII digits, leading zeros allowed.
+/// Parses one or more ASCII digits, leading zeros allowed.
 #[inline(always)]
 pub fn loose_number(text: &str) -> Option<(Measured<u64>, &str)>
     ensures { ReadsAs sized IsLooseNumber text.now (answer_of result) }
@@ -101,7 +101,7 @@ pub fn loose_number(text: &str) -> Option<(Measured<u64>, &str)>
     Some((measured(digits.parse::<u64>().ok()), rest))
 }
 
-// `0`, or ASCII digits that don't begin with `0`.
+// Parses `0`, or ASCII digits that don't begin with `0`.
 #[inline(always)]
 fn strict_number(text: &str) -> Option<(Measured<u64>, &str)>
     ensures { ReadsAs sized IsStrictNumber text.now (answer_of result) }
@@ -112,7 +112,7 @@ fn strict_number(text: &str) -> Option<(Measured<u64>, &str)>
     loose_number(text)
 }
 
-/// A number by either grammar.
+/// Parses a number by either grammar.
 #[inline(always)]
 pub fn number(text: &str, strictness: Strictness) -> Option<(Measured<u64>, &str)>
     ensures { ReadsAs sized (IsNumber strictness) text.now (answer_of result) }
@@ -123,7 +123,7 @@ pub fn number(text: &str, strictness: Strictness) -> Option<(Measured<u64>, &str
     }
 }
 
-// The list of one identifier.
+// Creates a list of one identifier.
 #[inline(always)]
 fn one_identifier(alloc: Global, only: &str) -> Result<CowVec<SmallStackString>, AllocError>
     ensures { IfOk result (λ ids. ids ≡ only.now ∷ []) }
@@ -131,7 +131,7 @@ fn one_identifier(alloc: Global, only: &str) -> Result<CowVec<SmallStackString>,
     CowVec::of_one(alloc, SmallStackString::from_str(alloc, only)?)
 }
 
-// The list of two identifiers.
+// Creates a list of two identifiers.
 #[inline(always)]
 fn two_identifiers(
     alloc: Global,
@@ -145,7 +145,7 @@ fn two_identifiers(
     CowVec::of_two(alloc, first, second)
 }
 
-// Adds an identifier at the end.
+// Appends an identifier.
 fn push_identifier(
     alloc: Global,
     identifiers: &mut Vec<SmallStackString>,
@@ -157,8 +157,8 @@ fn push_identifier(
     Ok(())
 }
 
-// One or more identifiers, each one or more of `0-9`, `A-Z`, `a-z` and `-`, with a `.` between neighbours and at most
-// one `.` at the end, which adds no identifier.
+// Parses one or more identifiers, each one or more of `0-9`, `A-Z`, `a-z` and `-`, with a `.` between neighbours and at most
+// one trailing `.`, which adds no identifier.
 #[inline(never)]
 fn many_identifiers(
     alloc: Global,
@@ -183,7 +183,7 @@ fn many_identifiers(
     Ok(Some((CowVec::from_vec(alloc, ids)?, rest)))
 }
 
-// The same. One identifier or two, as most versions have them that have any, take no `Vec`.
+// Parses the same grammar. One or two identifiers, the usual case, take no `Vec`.
 #[inline(never)]
 fn identifiers(
     alloc: Global,
@@ -205,7 +205,7 @@ fn identifiers(
     Ok(Some((two_identifiers(alloc, first, second)?, rest)))
 }
 
-// A pre-release: identifiers after a `-`, which the loose grammar lets be missing.
+// Parses a pre-release: identifiers after a `-`, which the loose grammar may omit.
 #[inline(always)]
 fn pre(
     alloc: Global,
@@ -223,7 +223,7 @@ fn pre(
     }
 }
 
-// A build: identifiers after a `+`.
+// Parses a build: identifiers after a `+`.
 #[inline(always)]
 fn build(alloc: Global, text: &str) -> Result<Option<(CowVec<SmallStackString>, &str)>, AllocError>
     ensures { IfOk result (λ r. Reads IsBuild text.now (answer_of r)) }
@@ -258,7 +258,7 @@ fn optional_build(alloc: Global, text: &str) -> Result<(CowVec<SmallStackString>
     }
 }
 
-/// An optional pre-release, and then an optional build. The front may be empty, so there always is one.
+/// Parses an optional pre-release and then an optional build. Always succeeds but for memory, as both may be absent.
 #[inline(always)]
 pub fn qualifier(
     alloc: Global,

@@ -1,10 +1,10 @@
-//! Versions, ranges of versions and partial versions, and the words that they are written in.
+//! Versions, version ranges and partial versions, and the lexical grammar they share.
 //!
-//! The lowest crate of the port of `deno_semver`. Its modules, bottom up: `string`, texts and lists; `failure`, why
-//! something was refused; `lexical`, the words at the front of a text; `plain`, texts of one to three numbers, read in one
-//! pass; `dotted`, three numbers, written at once; `version`; `npm`, versions as npm reads them; `range`; `partial`;
-//! `primitive`, partial versions after a primitive kind; and `laws`, what `==`, hashes and texts of all of these say.
-//! Each stands on those before it alone.
+//! The lowest crate of the port of `deno_semver`. Its modules, bottom up: `string`, texts and lists; `failure`, why a parse
+//! failed; `lexical`, parsers of the tokens at the start of a text; `plain`, a fast path for texts of one to three numbers;
+//! `dotted`, `M.m.p` formatted in one write; `version`; `npm`, versions as npm parses them; `range`; `partial`; `primitive`,
+//! partial versions after a comparison operator; and `laws`, facts about `==`, hashes and texts of all of these. Each module
+//! depends only on those before it.
 #![tactic(auto)]
 
 mod dotted;

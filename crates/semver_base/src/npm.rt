@@ -1,4 +1,4 @@
-//! Versions as npm reads them.
+//! Versions as npm parses them.
 
 ghost use Rattle.std.specs.Prelude.{◌≡◌, ◌↔◌, Result, Ok, IfErr, IfOk, IsTrue, None};
 ghost use Rattle.std.specs.Str.{trim};
@@ -12,7 +12,7 @@ use crate::version::Version;
 use std::alloc::{AllocError, Global};
 use thiserror::Error;
 
-/// An npm version could not be read.
+/// An npm version failed to parse.
 #[derive(Debug, PartialEq, Eq, Drop, Error)]
 #[error("Invalid npm version")]
 pub struct NpmVersionParseError {
@@ -21,21 +21,21 @@ pub struct NpmVersionParseError {
 }
 
 impl NpmVersionParseError {
-    /// What is wrong; `Out of memory.` where memory was wanting.
+    /// The error message; `Out of memory.` if out of memory.
     pub fn message(&self) -> &str
         ensures { result.now ≡ message_of self.now.source }
     {
         self.source.message()
     }
 
-    /// Whether memory was wanting.
+    /// Whether the error is out of memory.
     pub fn is_memory(&self) -> bool
         ensures { IsTrue result ↔ (self.now.source ≡ None) }
     {
         self.source.is_memory()
     }
 
-    /// The same error again. It is an error only where no memory is left.
+    /// Returns a copy. Fails only out of memory.
     pub fn copy(&self) -> Result<NpmVersionParseError, AllocError>
         ensures { IfOk result (λ error. error ≡ self.now) }
     {
@@ -64,8 +64,7 @@ impl From<NpmVersionParseError> for ParseFailure {
 }
 
 impl Version {
-    /// The version that a text stands for, as npm reads it: by the rule of [`Version::parse_standard`], where each
-    /// refusal is told.
+    /// Parses a version as npm does, by the rules of [`Version::parse_standard`], which lists each error.
     pub fn parse_from_npm(alloc: Global, text: &str) -> Result<Version, NpmVersionParseError>
         ensures read { IfOk result (λ version. IsVersionOutcome (trim text.now) (Ok version)) }
         ensures reads_back { IfOk result ReadsBack }

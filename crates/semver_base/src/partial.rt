@@ -1,4 +1,4 @@
-//! Partial versions, whose components may be wildcards, and the ranges that they stand for.
+//! Partial versions, whose components may be wildcards, and the ranges they mean.
 
 ghost use Rattle.std.specs.Prelude.{◌≡◌, ◌+◌, ◌∷◌, [], IfOk, IfErr, None, OnOk, true};
 ghost use Rattle.semver_base.specs.Meaning.{from, release, to_below};
@@ -16,7 +16,7 @@ use std::alloc::{AllocError, Global};
 /// A component of a partial version.
 #[derive(Clone, Copy, Debug, PartialEq, Eq)]
 pub enum XRange {
-    /// `x`, `X`, `*` or a component that is missing.
+    /// `x`, `X`, `*` or a missing component.
     Wildcard,
     /// A number.
     Val(u64),
@@ -32,7 +32,7 @@ pub struct Partial {
     pub build: CowVec<VersionPreOrBuild>,
 }
 
-// A wildcard counts as 0.
+// The component's number, or 0 for a wildcard.
 #[inline(always)]
 fn or_zero(component: XRange) -> u64
     ensures { result ≡ or_zero component }
@@ -43,7 +43,7 @@ fn or_zero(component: XRange) -> u64
     }
 }
 
-// The number after this one.
+// The number plus one.
 #[inline(always)]
 fn raised(alloc: Global, number: u64) -> Result<u64, ParseFailure>
     ensures raised { IfOk result (λ n. n ≡ number + 1) }
@@ -57,7 +57,7 @@ fn raised(alloc: Global, number: u64) -> Result<u64, ParseFailure>
 }
 
 impl Partial {
-    /// The same partial version again. It is an error only where no memory is left.
+    /// Returns a copy. Fails only out of memory.
     pub fn copy(&self) -> Result<Partial, AllocError>
         ensures { IfOk result (λ partial. partial ≡ self.now) }
     {
@@ -84,9 +84,9 @@ impl Partial {
         })
     }
 
-    /// The start from the lowest version that the partial names, wildcards as 0.
+    /// The inclusive start at the lowest version of the partial, with wildcards as 0.
     ///
-    /// A failure is want of memory.
+    /// Fails only out of memory.
     #[inline(always)]
     pub fn as_lower_bound(&self, _alloc: Global) -> Result<RangeBound, ParseFailure>
         ensures bound { IfOk result (λ bound. bound ≡ from (lowest self.now)) }
@@ -95,7 +95,7 @@ impl Partial {
         Ok(RangeBound::inclusive(self.lowest()?))
     }
 
-    // From the lower bound to below a release.
+    // The range from the lower bound to below a release.
     #[inline(always)]
     fn lower_to_below(
         &self,
@@ -114,11 +114,10 @@ impl Partial {
         })
     }
 
-    /// The range of `~` and the partial: patches may grow, or minors where none is given (node-semver, "Tilde
-    /// Ranges").
+    /// The range of `~` and the partial: patches may grow, or minors if no minor is given (node-semver, "Tilde Ranges").
     ///
-    /// The refusal "Version bound is too large." comes exactly where the raised number is past 18446744073709551615;
-    /// any other failure is want of memory.
+    /// Fails with "Version bound is too large." exactly if the incremented number exceeds 18446744073709551615; otherwise
+    /// only out of memory.
     #[inline(always)]
     pub fn as_tilde_version_range(&self, alloc: Global) -> Result<VersionRange, ParseFailure>
         ensures range { IfOk result (λ range. range ≡ (tilde self.now).range) }
@@ -138,11 +137,11 @@ impl Partial {
         }
     }
 
-    /// The range of `^` and the partial: what is right of the leftmost number that isn't 0 may grow (node-semver,
-    /// "Caret Ranges").
+    /// The range of `^` and the partial: what is right of the leftmost non-zero number may grow (node-semver, "Caret
+    /// Ranges").
     ///
-    /// The refusal "Version bound is too large." comes exactly where the raised number is past 18446744073709551615;
-    /// any other failure is want of memory.
+    /// Fails with "Version bound is too large." exactly if the incremented number exceeds 18446744073709551615; otherwise
+    /// only out of memory.
     #[inline(always)]
     pub fn as_caret_version_range(&self, alloc: Global) -> Result<VersionRange, ParseFailure>
         ensures range { IfOk result (λ range. range ≡ (caret self.now).range) }
@@ -169,10 +168,10 @@ impl Partial {
         }
     }
 
-    /// The versions that the partial names, where a wildcard stands for every number; the start is of this kind.
+    /// The versions that the partial names, where a wildcard is any number; the start is of this kind.
     ///
-    /// The refusal "Version bound is too large." comes exactly where the raised number is past 18446744073709551615;
-    /// any other failure is want of memory.
+    /// Fails with "Version bound is too large." exactly if the incremented number exceeds 18446744073709551615; otherwise
+    /// only out of memory.
     pub fn as_greater_range(
         &self,
         alloc: Global,
@@ -210,11 +209,10 @@ impl Partial {
         })
     }
 
-    /// The range of `=` and the partial, or of the partial alone: the one version, or where it has wildcards all that
-    /// they stand for.
+    /// The range of `=` and the partial, or of the partial alone: the one version, or with wildcards all that they match.
     ///
-    /// The refusal "Version bound is too large." comes exactly where the raised number is past 18446744073709551615;
-    /// any other failure is want of memory.
+    /// Fails with "Version bound is too large." exactly if the incremented number exceeds 18446744073709551615; otherwise
+    /// only out of memory.
     #[inline(always)]
     pub fn as_equal_range(&self, alloc: Global) -> Result<VersionRange, ParseFailure>
         ensures range { IfOk result (λ range. range ≡ (equal self.now).range) }
@@ -230,11 +228,11 @@ impl Partial {
         }
     }
 
-    /// The end up to the highest version that the partial names, which ends a hyphen range (node-semver, "Hyphen
-    /// Ranges"). It is absent where the major version is a wildcard.
+    /// The end at the highest version that the partial names, as the end of a hyphen range (node-semver, "Hyphen Ranges").
+    /// Unbounded if the major version is a wildcard.
     ///
-    /// The refusal "Version bound is too large." comes exactly where the raised number is past 18446744073709551615;
-    /// any other failure is want of memory.
+    /// Fails with "Version bound is too large." exactly if the incremented number exceeds 18446744073709551615; otherwise
+    /// only out of memory.
     pub fn as_upper_bound(&self, alloc: Global) -> Result<RangeBound, ParseFailure>
         ensures bound { IfOk result (λ bound. bound ≡ (upper self.now).end) }
         ensures fits { OnOk result (all_fit (upper self.now).sums ≡ true) }
@@ -289,11 +287,10 @@ impl Partial {
         })
     }
 
-    /// The range of `>=` and the partial where `kind` is inclusive, of `>` where it is exclusive (node-semver's
-    /// primitives).
+    /// The range of `>=` and the partial if `kind` is inclusive, of `>` if it is exclusive (node-semver's primitives).
     ///
-    /// The refusal "Version bound is too large." comes exactly where a number that is raised is past
-    /// 18446744073709551615; any other failure is want of memory.
+    /// Fails with "Version bound is too large." exactly if an incremented number exceeds 18446744073709551615; otherwise only
+    /// out of memory.
     pub fn as_greater_than(
         &self,
         alloc: Global,
@@ -352,11 +349,11 @@ impl Partial {
         })
     }
 
-    /// The range of `<=` and the partial where `kind` is inclusive, of `<` where it is exclusive; both start at 0.0.0
+    /// The range of `<=` and the partial if `kind` is inclusive, of `<` if it is exclusive; both start at 0.0.0
     /// (node-semver's primitives).
     ///
-    /// The refusal "Version bound is too large." comes exactly where a number that is raised is past
-    /// 18446744073709551615; any other failure is want of memory.
+    /// Fails with "Version bound is too large." exactly if an incremented number exceeds 18446744073709551615; otherwise only
+    /// out of memory.
     pub fn as_less_than(
         &self,
         alloc: Global,

@@ -1,14 +1,14 @@
-//! Plain texts: numbers with dots between and nothing else, read in one pass over their bytes.
+//! Plain texts: numbers with dots between them and nothing else, parsed in one pass over their bytes.
 //!
-//! Most versions and most requirements are such texts. Each reader tries this short way first; what it answers is what the
-//! grammar says, and where it answers `None` the reader takes the long way.
+//! Most versions and most requirements are such texts. Each parser tries this fast path first. What it returns is what the
+//! grammar says; on `None` the parser falls back to the full grammar.
 
 ghost use Rattle.std.specs.Prelude.{IfNone, IfSome};
 ghost use Rattle.semver_base.specs.Characters.{dot};
 ghost use Rattle.semver_base.specs.Grammar.{IsAfter};
 ghost use Rattle.semver_base.specs.PlainTexts.{AreShort, IsFewNumbers, IsPlainNumber, IsShort, IsTripleFront, LacksFewNumbers, LacksShortNumber};
 
-// Ten times a number below this, and a digit, is a `u64`.
+// A number below this, times ten plus a digit, is a `u64`.
 const LIMIT: u64 = 1_000_000_000_000_000_000;
 
 /// Three numbers.
@@ -27,7 +27,7 @@ pub enum FewNumbers {
     Three(Numbers),
 }
 
-// The number at the front, which has at most 19 digits and no leading zeros, and what follows it.
+// Parses a leading number of at most 19 digits without leading zeros, and returns it with the rest.
 #[inline(always)]
 fn number(bytes: &[u8]) -> Option<(u64, &[u8])>
     ensures number { IfSome result (λ r. IsPlainNumber bytes.now r.0 r.1.now) }
@@ -49,7 +49,7 @@ fn number(bytes: &[u8]) -> Option<(u64, &[u8])>
     Some((number, &bytes[len..]))
 }
 
-// What follows a `.`.
+// Returns what follows a leading `.`.
 #[inline(always)]
 fn after_dot(bytes: &[u8]) -> Option<&[u8]>
     ensures { IsAfter dot bytes.now result }
@@ -60,7 +60,7 @@ fn after_dot(bytes: &[u8]) -> Option<&[u8]>
     }
 }
 
-/// The one to three numbers that the whole text is, none exactly where it isn't such numbers of at most 19 digits each.
+/// Parses the whole text as one to three numbers; `None` exactly if it isn't such numbers of at most 19 digits each.
 #[inline(always)]
 pub fn few_numbers(text: &[u8]) -> Option<FewNumbers>
     ensures numbers { IfSome result (IsFewNumbers text.now) }
@@ -86,7 +86,7 @@ pub fn few_numbers(text: &[u8]) -> Option<FewNumbers>
     }))
 }
 
-// The three numbers at the front, and what follows them.
+// Parses three leading numbers, and returns them with the rest.
 #[inline(always)]
 fn triple(text: &[u8]) -> Option<(Numbers, &[u8])>
     ensures { IfSome result
@@ -103,7 +103,7 @@ fn triple(text: &[u8]) -> Option<(Numbers, &[u8])>
     Some((numbers, rest))
 }
 
-/// The three numbers at the front of the text, and what follows them.
+/// Parses three leading numbers, and returns them with the rest of the text.
 #[inline(always)]
 pub(crate) fn split_numbers(text: &str) -> Option<(Numbers, &str)>
     ensures { IfSome result

@@ -1,4 +1,4 @@
-//! The primitive kind before a partial version, and the range of both.
+//! Comparison operators before a partial version, and the ranges of both.
 
 ghost use Rattle.std.specs.Prelude.{◌≡◌, IfOk, IfErr, OnOk, true};
 ghost use Rattle.semver_base.specs.Comparators.{primitive_line};
@@ -9,7 +9,7 @@ use crate::partial::Partial;
 use crate::range::{VersionBoundKind, VersionRange};
 use std::alloc::Global;
 
-/// What stands before the partial version of a comparator that is neither a tilde, a caret nor plain.
+/// A comparison operator before a partial version.
 #[derive(Clone, Copy, Debug, PartialEq, Eq)]
 pub enum PrimitiveKind {
     /// `>`
@@ -25,10 +25,10 @@ pub enum PrimitiveKind {
 }
 
 impl PrimitiveKind {
-    /// The range of the primitive kind and the partial version after it (node-semver's primitives).
+    /// The range of the operator and the partial version after it (node-semver's primitives).
     ///
-    /// The refusal "Version bound is too large." comes exactly where a number that the range raises is past
-    /// 18446744073709551615; any other failure is want of memory.
+    /// Fails with "Version bound is too large." exactly if a number that the range increments exceeds 18446744073709551615;
+    /// otherwise only out of memory.
     pub fn range(self, alloc: Global, partial: &Partial) -> Result<VersionRange, ParseFailure>
         ensures range { IfOk result (λ range. range ≡ (primitive_line self partial.now).range) }
         ensures fits { OnOk result (all_fit (primitive_line self partial.now).sums ≡ true) }

@@ -1,4 +1,4 @@
-//! Ranges of versions: what their bounds hold, which versions they match, and how they are written (`display`).
+//! Version ranges: which versions their bounds include, which they match, and how they are formatted (`display`).
 
 ghost use Rattle.std.specs.Prelude.{◌≡◌, ◌∷◌, ◌⊎◌, [], IfOk, IfSome};
 ghost use Rattle.std.specs.Bool.{OnFalse, OnTrue};
@@ -16,26 +16,26 @@ use crate::version::Version;
 use std::alloc::{AllocError, Global};
 use std::cmp::Ordering;
 
-/// Whether a bound holds its own version.
+/// Whether a bound includes its own version.
 #[derive(Clone, Copy, Debug, PartialEq, Eq, Hash)]
 pub enum VersionBoundKind {
-    /// The bound holds its version.
+    /// The bound includes its version.
     Inclusive,
-    /// The bound doesn't hold its version.
+    /// The bound excludes its version.
     Exclusive,
 }
 
 /// Which pre-releases match, of those between the bounds.
 #[derive(Clone, Copy, Debug, PartialEq, Eq, Hash)]
 pub enum PreRelease {
-    /// Those of whose three numbers some bound is a pre-release (node-semver's rule).
+    /// Those whose three numbers are those of some pre-release bound (node-semver's rule).
     Restricted,
-    /// All of them (node-semver's `includePrerelease`, but with the bounds as they are).
+    /// All of them (node-semver's `includePrerelease`, but with the bounds unchanged).
     Admitted,
 }
 
 impl PreRelease {
-    // Whether the version matches wherever the bounds hold it: a release does, and any version where all are admitted.
+    // Whether the version matches wherever the bounds include it: a release does, and any version if all are admitted.
     #[inline(always)]
     fn is_unrestricted(self, version: &Version) -> bool
         ensures { result ≡ is_unrestricted self version.now }
@@ -55,14 +55,14 @@ pub struct VersionBound {
 }
 
 impl VersionBound {
-    /// The bound at `version` of this kind.
+    /// Creates a bound.
     pub fn new(kind: VersionBoundKind, version: Version) -> VersionBound
         ensures { result ≡ record { kind = kind; version = version } }
     {
         VersionBound { kind, version }
     }
 
-    /// The same bound again. It is an error only where no memory is left.
+    /// Returns a copy. Fails only out of memory.
     pub fn copy(&self) -> Result<VersionBound, AllocError>
         ensures { IfOk result (λ bound. bound ≡ self.now) }
     {
@@ -74,7 +74,7 @@ impl VersionBound {
 #[derive(Debug, PartialEq, Eq, Hash, Drop)]
 pub enum RangeBound {
     Version(VersionBound),
-    /// An absent bound, which holds every version.
+    /// An absent bound, which includes every version.
     Unbounded,
 }
 
@@ -85,12 +85,12 @@ pub struct VersionRange {
     pub end: RangeBound,
 }
 
-/// Ranges of which a version need match only one.
+/// Alternative ranges: a version need match only one.
 #[derive(Debug, PartialEq, Eq, Hash, Drop)]
 pub struct VersionRangeSet(pub CowVec<VersionRange>);
 
 impl RangeBound {
-    /// The bound at `version` that holds it.
+    /// Creates a bound that includes `version`.
     pub fn inclusive(version: Version) -> RangeBound
         ensures { result ≡ RangeBound.Version
             (record { kind = VersionBoundKind.Inclusive; version = version }) }
@@ -98,7 +98,7 @@ impl RangeBound {
         RangeBound::version(VersionBoundKind::Inclusive, version)
     }
 
-    /// The bound at `version` that doesn't hold it.
+    /// Creates a bound that excludes `version`.
     pub fn exclusive(version: Version) -> RangeBound
         ensures { result ≡ RangeBound.Version
             (record { kind = VersionBoundKind.Exclusive; version = version }) }
@@ -106,14 +106,14 @@ impl RangeBound {
         RangeBound::version(VersionBoundKind::Exclusive, version)
     }
 
-    /// The bound at `version` of this kind.
+    /// Creates a bound at `version` of this kind.
     pub fn version(kind: VersionBoundKind, version: Version) -> RangeBound
         ensures { result ≡ RangeBound.Version (record { kind = kind; version = version }) }
     {
         RangeBound::Version(VersionBound::new(kind, version))
     }
 
-    // Whether the version stands above this start, where the three numbers tell.
+    // Whether the version lies above this start, if the three numbers decide it.
     #[inline(always)]
     fn numbers_hold_as_start(&self, version: &Version) -> Option<bool>
         ensures { IfSome result (λ is_held. is_held ≡ start_holds self.now version.now) }
@@ -124,7 +124,7 @@ impl RangeBound {
         }
     }
 
-    // Whether the version stands below this end, where the three numbers tell.
+    // Whether the version lies below this end, if the three numbers decide it.
     #[inline(always)]
     fn numbers_hold_as_end(&self, version: &Version) -> Option<bool>
         ensures { IfSome result (λ is_held. is_held ≡ end_holds self.now version.now) }
@@ -138,7 +138,7 @@ impl RangeBound {
         }
     }
 
-    // Whether the version stands above this start.
+    // Whether this start includes the version.
     #[inline(always)]
     fn holds_as_start(&self, version: &Version) -> bool
         ensures { result ≡ start_holds self.now version.now }
@@ -158,7 +158,7 @@ impl RangeBound {
         }
     }
 
-    // Whether the version stands below this end.
+    // Whether this end includes the version.
     #[inline(always)]
     fn holds_as_end(&self, version: &Version) -> bool
         ensures { result ≡ end_holds self.now version.now }
@@ -178,7 +178,7 @@ impl RangeBound {
         }
     }
 
-    /// Whether this bound is a pre-release of the version's three numbers, so that it admits pre-releases of them.
+    /// Whether this bound is a pre-release of the version's three numbers, and so admits pre-releases of them.
     #[inline(always)]
     pub fn has_pre_with_exact_major_minor_patch(&self, version: &Version) -> bool
         ensures { result ≡ has_pre_of self.now version.now }
@@ -194,7 +194,7 @@ impl RangeBound {
         }
     }
 
-    /// The same bound again. It is an error only where no memory is left.
+    /// Returns a copy. Fails only out of memory.
     pub fn copy(&self) -> Result<RangeBound, AllocError>
         ensures { IfOk result (λ bound. bound ≡ self.now) }
     {
@@ -204,7 +204,7 @@ impl RangeBound {
         }
     }
 
-    // Of two bounds that tie, this one, of the kind `kind`, where it is exclusive, and else the other.
+    // Of two bounds that tie, returns this one if its kind `kind` is exclusive, and otherwise the other.
     fn of_tied(&self, kind: VersionBoundKind, other: &RangeBound) -> Result<RangeBound, AllocError>
         ensures { IfOk result (λ bound. bound ≡ of_tied kind self.now other.now) }
     {
@@ -214,10 +214,10 @@ impl RangeBound {
         }
     }
 
-    /// The start of what two ranges with these starts both hold: the greater start by precedence, and of two that tie
-    /// this one where it is exclusive and else the other. An absent start gives the other one.
+    /// The start of the intersection of two ranges with these starts: the higher by precedence, and of two that tie this one
+    /// if it is exclusive and otherwise the other. If one is absent, it is the other.
     ///
-    /// It is an error only where no memory is left.
+    /// Fails only out of memory.
     pub fn clamp_start(&self, _alloc: Global, other: &RangeBound) -> Result<RangeBound, AllocError>
         ensures { IfOk result (λ bound. bound ≡ clamped_start self.now other.now) }
     {
@@ -227,10 +227,10 @@ impl RangeBound {
         other.copy()
     }
 
-    /// The end of what two ranges with these ends both hold: the lesser end by precedence, and of two that tie this
-    /// one where it is exclusive and else the other. An absent end gives the other one.
+    /// The end of the intersection of two ranges with these ends: the lower by precedence, and of two that tie this one if it
+    /// is exclusive and otherwise the other. If one is absent, it is the other.
     ///
-    /// It is an error only where no memory is left.
+    /// Fails only out of memory.
     pub fn clamp_end(&self, _alloc: Global, other: &RangeBound) -> Result<RangeBound, AllocError>
         ensures { IfOk result (λ bound. bound ≡ clamped_end self.now other.now) }
     {
@@ -240,8 +240,8 @@ impl RangeBound {
         other.copy()
     }
 
-    // This start, where it lies below the end. One past the end stops there and holds nothing, and an inclusive one at
-    // the end becomes the end.
+    // Stops this start at the end: unchanged if it lies below the end. One past the end becomes exclusive at it, so that
+    // nothing is included, and an inclusive one at the end becomes the end.
     fn stopped_at(&self, end: &RangeBound) -> Result<RangeBound, AllocError>
         ensures { IfOk result (λ bound. bound ≡ stopped_at self.now end.now) }
     {
@@ -257,7 +257,7 @@ impl RangeBound {
         }
     }
 
-    // Whether the greater of two starts is this one, or one that ties with it, and not the other.
+    // Whether the higher of two starts is this one, rather than the other; of two that tie, whether this one is exclusive.
     #[inline(always)]
     fn is_clamped_start(&self, other: &RangeBound) -> bool
         ensures own { OnTrue result (clamped_start self.now other.now ≡ self.now) }
@@ -279,7 +279,7 @@ impl RangeBound {
         }
     }
 
-    // Whether the lesser of two ends is this one, or one that ties with it, and not the other.
+    // Whether the lower of two ends is this one, rather than the other; of two that tie, whether this one is exclusive.
     #[inline(always)]
     fn is_clamped_end(&self, other: &RangeBound) -> bool
         ensures own { OnTrue result (clamped_end self.now other.now ≡ self.now) }
@@ -301,7 +301,7 @@ impl RangeBound {
         }
     }
 
-    // Whether this start isn't stopped at the end, since it lies below it.
+    // Whether this start lies below the end, so that stopping it leaves it unchanged.
     #[inline(always)]
     fn is_unstopped(&self, end: &RangeBound) -> bool
         ensures { OnTrue result (stopped_at self.now end.now ≡ self.now) }
@@ -314,7 +314,7 @@ impl RangeBound {
         }
     }
 
-    // The start of what two ranges with these starts both hold.
+    // The start of the intersection of two ranges with these starts.
     #[inline(always)]
     fn clamped_start(self, other: RangeBound) -> RangeBound
         ensures { result ≡ clamped_start self other }
@@ -325,7 +325,7 @@ impl RangeBound {
         other
     }
 
-    // The end of what two ranges with these ends both hold.
+    // The end of the intersection of two ranges with these ends.
     #[inline(always)]
     fn clamped_end(self, other: RangeBound) -> RangeBound
         ensures { result ≡ clamped_end self other }
@@ -336,7 +336,7 @@ impl RangeBound {
         other
     }
 
-    // This start, stopped at the end.
+    // Stops this start at the end.
     #[inline(always)]
     fn into_stopped_at(self, end: &RangeBound) -> Result<RangeBound, AllocError>
         ensures { IfOk result (λ bound. bound ≡ stopped_at self end.now) }
@@ -347,7 +347,7 @@ impl RangeBound {
         self.stopped_at(end)
     }
 
-    // Whether this start lies below the end, or at it where both are inclusive.
+    // Whether this start lies below the end, or at it with both inclusive.
     #[inline(always)]
     fn starts_before(&self, end: &RangeBound) -> bool
         ensures { result ≡ starts_before self.now end.now }
@@ -379,7 +379,7 @@ impl VersionRange {
         }
     }
 
-    /// A range that nothing matches: from 0.0.0 to below 0.0.0.
+    /// A range that matches nothing: from 0.0.0 to below 0.0.0.
     pub fn none(alloc: Global) -> VersionRange
         ensures { result ≡ nothing }
     {
@@ -389,7 +389,7 @@ impl VersionRange {
         }
     }
 
-    // Whether the version matches, where the three numbers of it and of both bounds tell.
+    // Whether the version matches, if its three numbers and those of both bounds decide it.
     #[inline(always)]
     fn satisfies_by_numbers(&self, version: &Version, pre_release: PreRelease) -> Option<bool>
         ensures { IfSome result (λ is_match.
@@ -407,8 +407,8 @@ impl VersionRange {
         }
     }
 
-    /// Whether the version matches: it stands between both bounds, and, unless pre-releases are admitted, it is a release
-    /// or one of the two bounds is a pre-release of its three numbers (node-semver's rule about pre-releases).
+    /// Whether the version matches: it lies between both bounds and, unless pre-releases are admitted, it is a release or one
+    /// of the two bounds is a pre-release of its three numbers (node-semver's rule about pre-releases).
     #[inline(always)]
     pub fn satisfies_with(&self, version: &Version, pre_release: PreRelease) -> bool
         ensures { result ≡ alternative_means_with pre_release (self.now ∷ []) version.now }
@@ -419,9 +419,9 @@ impl VersionRange {
                 || self.end.has_pre_with_exact_major_minor_patch(version))
     }
 
-    /// Whether the version matches: it stands between both bounds, and it is a release or one of the two bounds is a
-    /// pre-release of its three numbers (node-semver's rule about pre-releases). It is [`VersionRange::satisfies_with`] at
-    /// [`PreRelease::Restricted`].
+    /// Whether the version matches: it lies between both bounds, and it is a release or one of the two bounds is a
+    /// pre-release of its three numbers (node-semver's rule about pre-releases). Same as [`VersionRange::satisfies_with`]
+    /// with [`PreRelease::Restricted`].
     #[inline(always)]
     pub fn satisfies(&self, version: &Version) -> bool
         ensures value { result ≡ alternative_means (self.now ∷ []) version.now }
@@ -431,7 +431,7 @@ impl VersionRange {
         self.satisfies_with(version, PreRelease::Restricted)
     }
 
-    /// The same range again. It is an error only where no memory is left.
+    /// Returns a copy. Fails only out of memory.
     pub fn copy(&self) -> Result<VersionRange, AllocError>
         ensures { IfOk result (λ range. range ≡ self.now) }
     {
@@ -441,15 +441,15 @@ impl VersionRange {
         })
     }
 
-    /// The range of what both ranges hold: the greater start and the lesser end.
+    /// Intersects two ranges: the higher start and the lower end.
     ///
-    /// A start that has passed the end becomes an exclusive start at the end's version: such a range holds nothing,
-    /// nor does any range that it is clamped to. An inclusive start at the end becomes a copy of the end. A
-    /// pre-release matches where the bounds of both ranges hold it and one of the four bounds is a pre-release of its
-    /// three numbers, as where both stand side by side (node-semver, "Prerelease Tags"). Where pre-releases are
-    /// admitted, a version matches where it matches both ranges.
+    /// A start past the end becomes an exclusive start at the end's version: such a range includes nothing, nor does any
+    /// range that it is clamped to. An inclusive start at the end becomes a copy of the end. A pre-release matches if the
+    /// bounds of both ranges include it and one of the four bounds is a pre-release of its three numbers, as if both stood
+    /// side by side (node-semver, "Prerelease Tags"). If pre-releases are admitted, a version matches if it matches both
+    /// ranges.
     ///
-    /// It is an error only where no memory is left.
+    /// Fails only out of memory.
     pub fn clamp(&self, alloc: Global, other: &VersionRange) -> Result<VersionRange, AllocError>
         ensures value { IfOk result (λ range. range ≡ clamped self.now other.now) }
         ensures bounds { IfOk result (HoldsBoth self.now other.now) }
@@ -467,8 +467,8 @@ impl VersionRange {
         Ok(VersionRange { start, end })
     }
 
-    /// The same ([`VersionRange::clamp`]) of ranges that are let go, whose bounds it takes over. Only a start that has
-    /// passed the end wants memory. What the answer means, the law `clamped_ranges_mean_both` says.
+    /// Like [`VersionRange::clamp`], but takes over the bounds of both ranges. Allocates only for a start past the end. The
+    /// law `clamped_ranges_mean_both` says what the result means.
     #[inline(always)]
     pub fn clamp_into(self, other: VersionRange) -> Result<VersionRange, AllocError>
         ensures value { IfOk result (λ range. range ≡ clamped self other) }
@@ -484,7 +484,7 @@ impl VersionRange {
         Ok(VersionRange { start, end })
     }
 
-    /// What [`VersionRange::clamp_into`] makes of the range without bounds and this one: its start is stopped at its end.
+    /// Stops the start at the end, as [`VersionRange::clamp_into`] of the range without bounds and this one does.
     #[inline(always)]
     pub fn into_stopped(self) -> Result<VersionRange, AllocError>
         ensures { IfOk result (λ range. range ≡ clamped everything self) }
@@ -497,8 +497,8 @@ impl VersionRange {
         Ok(VersionRange { start, end })
     }
 
-    /// Whether the end is exclusive and at the numbers 0.0.0, whatever its pre-release, so that no release matches. The
-    /// end of [`VersionRange::none`] is such a one.
+    /// Whether the end is exclusive and at 0.0.0, whatever its pre-release, so that no release matches. The end of
+    /// [`VersionRange::none`] is one.
     #[tactic(auto, using(crate::proofs::OverlapLemmas::ends_no_release))]
     pub fn is_none(&self) -> bool
         ensures value { result ≡ ends_at_zero self.now.end }
@@ -515,18 +515,18 @@ impl VersionRange {
         }
     }
 
-    /// Whether the version stands between both bounds, be it a pre-release or not.
+    /// Whether the version, a pre-release or not, lies between both bounds.
     pub fn intersects_version(&self, version: &Version) -> bool
         ensures { result ≡ bounds_hold self.now version.now }
     {
         self.start.holds_as_start(version) && self.end.holds_as_end(version)
     }
 
-    /// Whether the two ranges overlap: each start lies below the other's end, or at it with both bounds inclusive. An
-    /// absent bound is infinite.
+    /// Whether the two ranges overlap: each start lies below the other's end, or at it with both bounds inclusive. An absent
+    /// bound is infinite.
     ///
-    /// Only those pairs of bounds are compared, so a range whose start is above its own end can overlap another. Where
-    /// the ranges don't overlap, no version stands between the bounds of both.
+    /// Only those pairs of bounds are compared, so a range whose start is above its own end can overlap another. If the
+    /// ranges don't overlap, no version lies between the bounds of both.
     #[tactic(auto, using(crate::proofs::OverlapLemmas::range_no_common))]
     #[inline(always)]
     pub fn intersects_range(&self, other: &VersionRange) -> bool
@@ -556,12 +556,12 @@ impl VersionRangeSet {
             .any(|range| range.satisfies_with(version, pre_release))
     }
 
-    /// Whether the version matches some range, as [`VersionRange::satisfies_with`] says.
+    /// Whether the version matches some range, as in [`VersionRange::satisfies_with`].
     #[inline(always)]
     pub fn satisfies_with(&self, version: &Version, pre_release: PreRelease) -> bool
         ensures { result ≡ tree_means_with pre_release (alternatives self.now.0) version.now }
     {
-        // Mostly there is one range, and the numbers tell; then nothing is called.
+        // Usually there is one range and the numbers decide; then nothing is called.
         if let Some(range) = self.0.only()
             && let Some(is_match) = range.satisfies_by_numbers(version, pre_release)
         {
@@ -570,7 +570,7 @@ impl VersionRangeSet {
         self.has_match(version, pre_release)
     }
 
-    /// Whether the version matches some range. It is [`VersionRangeSet::satisfies_with`] at [`PreRelease::Restricted`].
+    /// Whether the version matches some range. Same as [`VersionRangeSet::satisfies_with`] with [`PreRelease::Restricted`].
     #[inline(always)]
     pub fn satisfies(&self, version: &Version) -> bool
         ensures value { result ≡ tree_means (alternatives self.now.0) version.now }
@@ -580,7 +580,7 @@ impl VersionRangeSet {
         self.satisfies_with(version, PreRelease::Restricted)
     }
 
-    /// The same ranges again. It is an error only where no memory is left.
+    /// Returns a copy. Fails only out of memory.
     pub fn copy(&self) -> Result<VersionRangeSet, AllocError>
         ensures { IfOk result (λ set. set ≡ self.now) }
     {
@@ -602,7 +602,7 @@ impl VersionRangeSet {
         self.0.iter().any(|range| other.overlaps(range))
     }
 
-    // The same. Mostly both sets have one range.
+    // Whether some range overlaps some range of the other set. Usually both sets have one range.
     #[inline(always)]
     fn has_overlap(&self, other: &VersionRangeSet) -> bool
         ensures { result ≡ some_overlap self.now.0 other.now.0 }
@@ -615,8 +615,7 @@ impl VersionRangeSet {
         self.some_overlap(other)
     }
 
-    /// Whether some range of the one set overlaps some range of the other. Where none does, no version matches both
-    /// sets.
+    /// Whether some range of one set overlaps some range of the other. If none does, no version matches both sets.
     #[tactic(auto, using(crate::proofs::OverlapLemmas::set_no_common, crate::proofs::OverlapLemmas::some_overlap_swap))]
     pub fn intersects_set(&self, other: &VersionRangeSet) -> bool
         ensures value { result ≡ some_overlap self.now.0 other.now.0 }

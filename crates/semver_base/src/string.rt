@@ -1,7 +1,7 @@
-//! Short texts. `append` has what they are appended to, and `list` the lists that hold them; both stand below.
+//! Short texts. `append` has the traits for appending to them, and `list` the lists that hold them.
 //!
-//! A contract sees a text as its UTF-8 bytes and a list as its items, whatever they are kept in. A short text stands in
-//! the value itself and a longer one in a `String`.
+//! A contract sees a text as its UTF-8 bytes and a list as its items, however they are stored. A short text is stored inline
+//! and a longer one in a `String`.
 
 ghost use Rattle.std.specs.Prelude.{◌≡◌, ◌≤◌, ◌<◌, ◌+◌, ◌++◌, ℕ, List, [], Some, IfOk, IsOk, OnOk, OnErr, IsTrue, ◌↔◌, encode_utf8, length, nat_eq, refl, string_bytes, IsUtf8};
 ghost use Rattle.std.proofs.Common.{rules};
@@ -27,10 +27,9 @@ use std::hash::{Hash, Hasher};
 use std::marker::Model;
 use std::{fmt, mem};
 
-/// A text: a sequence of Unicode characters, seen in contracts as its UTF-8 bytes. One of at most `LIMIT` bytes stands in
-/// the value itself, and takes no memory.
+/// A string, seen in contracts as its UTF-8 bytes. One of at most `LIMIT` bytes is stored inline and doesn't allocate.
 ///
-/// Two texts are equal where their bytes are, and they are ordered by bytes.
+/// Texts are equal if their bytes are, and are ordered by bytes.
 pub struct ShortText<const LIMIT: usize> {
     alloc: Global,
     kept: Kept<LIMIT>,
@@ -38,13 +37,13 @@ pub struct ShortText<const LIMIT: usize> {
     zeros: usize,
 }
 
-/// A text of which up to 15 bytes stand in the value itself.
+/// A text that stores up to 15 bytes inline.
 pub type SmallStackString = ShortText<15>;
 
-/// A text of which up to 23 bytes stand in the value itself.
+/// A text that stores up to 23 bytes inline.
 pub type StackString = ShortText<23>;
 
-// Where a text stands.
+// Where a text is stored.
 #[derive(Drop)]
 enum Kept<const LIMIT: usize> {
     Inline(ArrayString<LIMIT>),
@@ -62,7 +61,7 @@ impl<const LIMIT: usize> Model for ShortText<LIMIT> {
     ghost invariant = { λ s. IsKept s.kept s.zeros };
 }
 
-// By hand, so that a text that goes out of scope is one call.
+// Written out so that dropping a text is one call.
 impl<const LIMIT: usize> Drop for ShortText<LIMIT> {
     #[inline]
     fn drop(self) {
@@ -75,7 +74,7 @@ impl<const LIMIT: usize> Drop for ShortText<LIMIT> {
     }
 }
 
-// How many zeros stand at the front.
+// Counts the leading zeros.
 #[inline(always)]
 fn leading_zeros(bytes: &[u8]) -> usize
     ensures { result ≡ zeros_in_front bytes.now }
@@ -83,7 +82,7 @@ fn leading_zeros(bytes: &[u8]) -> usize
     bytes.iter().take_while(|byte| **byte == b'0').count()
 }
 
-// The same, where so many bytes at the front are known to be zeros.
+// Counts the leading zeros, given that the first `known` bytes are zeros.
 fn zeros_from(bytes: &[u8], known: usize) -> usize
     requires { known ≤ zeros_in_front bytes.now }
     ensures { result ≡ zeros_in_front bytes.now }
@@ -102,7 +101,7 @@ impl<const LIMIT: usize> Kept<LIMIT> {
         }
     }
 
-    // Appends a text. Where no memory is left the text is unchanged.
+    // Appends a text. On failure the text is unchanged.
     fn push_str(&mut self, alloc: Global, text: &str) -> Result<(), AllocError>
         ensures ok { OnOk result (kept_bytes self.new ≡ kept_bytes self.old ++ text.now) }
         ensures err { OnErr result (kept_bytes self.new ≡ kept_bytes self.old) }
@@ -126,7 +125,7 @@ impl<const LIMIT: usize> Kept<LIMIT> {
 }
 
 impl<const LIMIT: usize> ShortText<LIMIT> {
-    /// The empty text.
+    /// Creates an empty text.
     #[inline(always)]
     pub fn new(alloc: Global) -> Self
         ensures { result ≡ [] }
@@ -138,7 +137,7 @@ impl<const LIMIT: usize> ShortText<LIMIT> {
         }
     }
 
-    /// The empty text. The room that is asked for is a hint, and no memory is taken before a text needs it.
+    /// Creates an empty text. The capacity is only a hint: nothing is allocated until a text needs it.
     #[inline(always)]
     pub fn with_capacity(alloc: Global, _capacity: usize) -> Result<Self, AllocError>
         ensures value { IfOk result (λ s. s ≡ []) }
@@ -147,7 +146,7 @@ impl<const LIMIT: usize> ShortText<LIMIT> {
         Ok(ShortText::new(alloc))
     }
 
-    /// The text `text`. It is an error only where no memory is left, and never for a text of at most `LIMIT` bytes.
+    /// Creates a text from `text`. Fails only out of memory, and never for at most `LIMIT` bytes.
     #[inline(always)]
     pub fn from_str(alloc: Global, text: &str) -> Result<Self, AllocError>
         ensures value { IfOk result (λ s. s ≡ text.now) }
@@ -161,7 +160,7 @@ impl<const LIMIT: usize> ShortText<LIMIT> {
         Ok(ShortText { alloc, kept, zeros })
     }
 
-    /// The text of a literal, as [`ShortText::from_str`] makes it.
+    /// Creates a text from a literal, as [`ShortText::from_str`] does.
     pub fn from_static(alloc: Global, literal: &'static str) -> Result<Self, AllocError>
         ensures value { IfOk result (λ s. s ≡ literal.now) }
         ensures succeeds { length literal.now ≤ LIMIT → IsOk result }
@@ -169,7 +168,7 @@ impl<const LIMIT: usize> ShortText<LIMIT> {
         ShortText::from_str(alloc, literal)
     }
 
-    /// The text `text`, in whose own memory a long one stays. No memory is taken.
+    /// Creates a text from `text`, reusing its memory if it is long. Allocates nothing.
     pub fn from_string(alloc: Global, text: String) -> Result<Self, AllocError>
         ensures value { IfOk result (λ s. s ≡ string_bytes text) }
         ensures succeeds { IsOk result }
@@ -182,7 +181,7 @@ impl<const LIMIT: usize> ShortText<LIMIT> {
         Ok(ShortText { alloc, kept, zeros })
     }
 
-    /// The text `text`, as [`ShortText::from_str`] or [`ShortText::from_string`] makes it.
+    /// Creates a text from `text`, as [`ShortText::from_str`] or [`ShortText::from_string`] does.
     pub fn from_cow(alloc: Global, text: CowStr<'_, Global>) -> Result<Self, AllocError>
         ensures value { IfOk result (λ s. s ≡ cow_str_bytes text.entry) }
         ensures succeeds { FitsOrIsOwned LIMIT text.entry → IsOk result }
@@ -193,7 +192,7 @@ impl<const LIMIT: usize> ShortText<LIMIT> {
         }
     }
 
-    /// The text.
+    /// The text as a string slice.
     pub fn as_str(&self) -> &str
         ensures value { result.now ≡ self.now }
         ensures utf8 { IsUtf8 self.now }
@@ -201,7 +200,7 @@ impl<const LIMIT: usize> ShortText<LIMIT> {
         self.kept.as_str()
     }
 
-    // How many zeros the text begins with, which takes no reading.
+    // How many zeros the text begins with, in constant time.
     #[inline(always)]
     pub(crate) fn leading_zeros(&self) -> usize
         ensures { result ≡ zeros_in_front self.now }
@@ -209,14 +208,14 @@ impl<const LIMIT: usize> ShortText<LIMIT> {
         self.zeros
     }
 
-    /// Whether this is the text `other`.
+    /// Whether this text equals `other`.
     pub fn eq_str(&self, other: &str) -> bool
         ensures { IsTrue result ↔ (self.now ≡ other.now) }
     {
         other == self.as_str()
     }
 
-    /// Appends a text. Where no memory is left the text is unchanged; up to `LIMIT` bytes need none.
+    /// Appends a text. On failure the text is unchanged; up to `LIMIT` bytes nothing is allocated.
     pub fn push_str(&mut self, text: &str) -> Result<(), AllocError>
         ensures ok { OnOk result (self.new ≡ self.old ++ text.now) }
         ensures err { OnErr result (self.new ≡ self.old) }
@@ -227,7 +226,7 @@ impl<const LIMIT: usize> ShortText<LIMIT> {
         Ok(())
     }
 
-    /// Appends a character. Where no memory is left the text is unchanged; up to `LIMIT` bytes need none.
+    /// Appends a character. On failure the text is unchanged; up to `LIMIT` bytes nothing is allocated.
     pub fn push(&mut self, character: char) -> Result<(), AllocError>
         ensures ok { OnOk result (self.new ≡ self.old ++ encode_utf8 character) }
         ensures err { OnErr result (self.new ≡ self.old) }
@@ -237,7 +236,7 @@ impl<const LIMIT: usize> ShortText<LIMIT> {
         self.push_str(character.encode_utf8(&mut bytes))
     }
 
-    // The text with `to` before each character of `text` and at the end.
+    // Returns the text with `to` before each character of `text` and at the end.
     fn parted(alloc: Global, text: &str, to: &str) -> Result<Self, AllocError>
         ensures value { IfOk result (IsReplaced [] to.now text.now) }
         ensures succeeds { (parted : List ℕ) → IsReplaced [] to.now text.now parted
@@ -252,10 +251,10 @@ impl<const LIMIT: usize> ShortText<LIMIT> {
         Ok(parted)
     }
 
-    /// The text with `to` in place of each leftmost occurrence of `from` that doesn't overlap an earlier one. An empty
-    /// `from` puts `to` before each character and at the end, as `str::replace` does.
+    /// Returns the text with each leftmost, non-overlapping occurrence of `from` replaced by `to`. An empty `from` inserts
+    /// `to` before each character and at the end, as `str::replace` does.
     ///
-    /// It is an error only where no memory is left, and never where the new text has at most `LIMIT` bytes.
+    /// Fails only out of memory, and never if the new text has at most `LIMIT` bytes.
     pub fn replace(&self, alloc: Global, from: &str, to: &str) -> Result<Self, AllocError>
         ensures value { IfOk result (IsReplaced from.now to.now self.now) }
         ensures succeeds { (replaced : List ℕ) → IsReplaced from.now to.now self.now replaced
@@ -275,7 +274,7 @@ impl<const LIMIT: usize> ShortText<LIMIT> {
         Ok(replaced)
     }
 
-    /// The same text again. It is an error only where no memory is left, and never for a text of at most `LIMIT` bytes.
+    /// Returns a copy. Fails only out of memory, and never for at most `LIMIT` bytes.
     pub fn copy(&self) -> Result<Self, AllocError>
         ensures value { IfOk result (λ s. s ≡ self.now) }
         ensures succeeds { length self.now ≤ LIMIT → IsOk result }
@@ -291,15 +290,15 @@ impl<const LIMIT: usize> ShortText<LIMIT> {
         })
     }
 
-    /// The text in a `String`. It is an error only where no memory is left.
+    /// Copies the text into a `String`. Fails only out of memory.
     pub fn to_string(&self, alloc: Global) -> Result<String, AllocError>
         ensures { IfOk result (λ s. string_bytes s ≡ self.now) }
     {
         String::from_str(alloc, self.as_str())
     }
 
-    /// The text in a `String`. It is an error only where no memory is left, and never for a text of more than `LIMIT` bytes,
-    /// whose memory the `String` takes over.
+    /// Converts the text into a `String`. Fails only out of memory, and never for more than `LIMIT` bytes, whose memory the
+    /// `String` takes over.
     pub fn into_string(mut self, alloc: Global) -> Result<String, AllocError>
         ensures value { IfOk result (λ s. string_bytes s ≡ self.entry) }
         ensures succeeds { LIMIT < length self.entry → IsOk result }

@@ -1,4 +1,4 @@
-//! Versions: how they are read and written, and their precedence.
+//! Versions: parsing, formatting and precedence.
 
 ghost use Rattle.std.specs.Prelude.{◌≡◌, ◌<◌, ◌==◌, ◌&&◌, ◌∷◌, ◌↔◌, ◌⊎◌, length, refl, Result, Ok, Err, IfOk, IfErr, IfSome, IsTrue, [], None, Some, if◌then◌else◌};
 ghost use Rattle.std.specs.Fmt.{DisplaysOnOk};
@@ -32,7 +32,7 @@ use thiserror::Error;
 /// An identifier of a pre-release or a build.
 pub type VersionPreOrBuild = SmallStackString;
 
-/// A version could not be read.
+/// A version failed to parse.
 #[derive(Debug, PartialEq, Eq, Drop, Error)]
 #[error("Invalid version")]
 pub struct VersionParseError {
@@ -41,14 +41,14 @@ pub struct VersionParseError {
 }
 
 impl VersionParseError {
-    /// Whether memory was wanting.
+    /// Whether the error is out of memory.
     pub fn is_memory(&self) -> bool
         ensures { IsTrue result ↔ (self.now.source ≡ None) }
     {
         self.source.is_memory()
     }
 
-    /// The same error again. It is an error only where no memory is left.
+    /// Returns a copy. Fails only out of memory.
     pub fn copy(&self) -> Result<VersionParseError, AllocError>
         ensures { IfOk result (λ error. error ≡ self.now) }
     {
@@ -76,11 +76,10 @@ impl From<VersionParseError> for ParseFailure {
     }
 }
 
-/// A version of SemVer 2.0.0: three numbers, the identifiers of its pre-release and those of its build, either of
-/// which may be none.
+/// A SemVer 2.0.0 version: three numbers, and the identifiers of its pre-release and its build, either of which may be empty.
 ///
-/// Versions are equal where all of this is. Their order is precedence, where versions that it leaves equal are in the
-/// dictionary order of their builds.
+/// Versions are equal if all of this is. They are ordered by precedence, and where that ties by the dictionary order of their
+/// builds.
 #[derive(Debug, PartialEq, Eq, Hash, Drop)]
 pub struct Version {
     pub major: u64,
@@ -104,15 +103,15 @@ impl Version {
         }
     }
 
-    /// The version that a text stands for: an optional `=`, blanks, an optional `v`, blanks, three numbers with `.`
-    /// between, then an optional pre-release and an optional build, with blanks of any kind around it all (SemVer
-    /// 2.0.0, section 2, in node-semver's loose form).
+    /// Parses a version: an optional `=`, whitespace, an optional `v`, whitespace, three numbers with `.` between them, an
+    /// optional pre-release and an optional build, with any whitespace around it all (SemVer 2.0.0, section 2, in
+    /// node-semver's loose form).
     ///
-    /// The first fault from the left decides the error: a number past 18446744073709551615, a missing `.` after the
-    /// first or the second number, whose failure shows the whole trimmed text, or anything else that is outside the
-    /// grammar. Want of memory is an error too.
+    /// The leftmost fault decides the error: a number larger than 18446744073709551615, a missing `.` after the first or the
+    /// second number, whose snippet is the whole trimmed text, or anything else outside the grammar. Also fails out of
+    /// memory.
     ///
-    /// The text of a version that was read is read as that version again, build included.
+    /// A parsed version's text parses to that version again, build included.
     #[inline(always)]
     pub fn parse_standard(alloc: Global, text: &str) -> Result<Version, VersionParseError>
         ensures read { IfOk result (λ version. IsVersionOutcome (trim text.now) (Ok version)) }
@@ -142,7 +141,7 @@ impl Version {
         }
     }
 
-    /// The same version again. It is an error only where no memory is left.
+    /// Returns a copy. Fails only out of memory.
     pub fn copy(&self) -> Result<Version, AllocError>
         ensures { IfOk result (λ v. v ≡ self.now) }
     {
@@ -155,8 +154,8 @@ impl Version {
         })
     }
 
-    /// The order of precedence, in which the build has no part (SemVer 2.0.0, section 11). Numeric identifiers of the
-    /// same value are ordered by their text, and digits past 18446744073709551615 are a text.
+    /// Compares by precedence, which ignores the build (SemVer 2.0.0, section 11). Numeric identifiers of the same value are
+    /// ordered by their text, and digits above 18446744073709551615 compare as text.
     #[inline(always)]
     pub fn cmp_precedence(&self, other: &Version) -> Ordering
         ensures value { result ≡ precedence_cmp self.now other.now }
@@ -166,8 +165,8 @@ impl Version {
         precedence(self, other)
     }
 
-    // Whether the first number that differs is above the other's; none where all three tie. Mostly one differs, and then the
-    // kind of a bound has no say.
+    // Whether the first number that differs is above the other's; `None` if all three tie. Usually one differs, and then the
+    // kind of a bound doesn't matter.
     #[inline(always)]
     pub(crate) fn is_above_by_numbers(&self, other: &Version) -> Option<bool>
         ensures { IfSome result (λ is_above. precedence_cmp self.now other.now
@@ -186,7 +185,7 @@ impl Version {
     }
 }
 
-/// The version of these numbers, with no pre-release and no build.
+/// Creates the release of these numbers, without a pre-release or a build.
 #[inline(always)]
 pub(crate) fn release(alloc: Global, major: u64, minor: u64, patch: u64) -> Version
     ensures { result ≡ release major minor patch }
@@ -200,7 +199,7 @@ pub(crate) fn release(alloc: Global, major: u64, minor: u64, patch: u64) -> Vers
     }
 }
 
-// What follows an `=` at the front, or the whole text.
+// Skips an optional leading `=`.
 #[inline(always)]
 fn after_optional_equals(text: &str) -> &str
     ensures { IsSeen ignored (Optional (IsByte equals_sign)) text.now tt result.now }
@@ -211,7 +210,7 @@ fn after_optional_equals(text: &str) -> &str
     }
 }
 
-// What follows a `v` and blanks at the front, or the whole text.
+// Skips an optional leading `v` and whitespace after it.
 #[inline(always)]
 fn after_v(text: &str) -> &str
     ensures { IsSeen ignored (Optional (Prefixed letter_v IsBlanks)) text.now tt result.now }
@@ -222,7 +221,7 @@ fn after_v(text: &str) -> &str
     }
 }
 
-// What follows the lead.
+// Skips the lead: an optional `=`, whitespace, an optional `v` and whitespace.
 #[inline(always)]
 fn after_lead(text: &str) -> &str
     ensures { IsLongest IsLead text.now tt result.now }
@@ -230,7 +229,7 @@ fn after_lead(text: &str) -> &str
     after_v(lexical::after_blanks(after_optional_equals(text)))
 }
 
-// The number at the front, where it fits.
+// Parses a leading number that fits.
 #[inline(always)]
 fn fitting_number(text: &str) -> Result<(u64, &str), Refusal>
     ensures read { IfOk result (λ r. IsFittingNumber text.now r.0 r.1.now) }
@@ -243,7 +242,7 @@ fn fitting_number(text: &str) -> Result<(u64, &str), Refusal>
     }
 }
 
-// The three numbers at the front, where they fit.
+// Parses three leading numbers that fit.
 #[inline(always)]
 fn triple(text: &str) -> Result<(Numbers, &str), Refusal>
     ensures read { IfOk result
@@ -267,7 +266,7 @@ fn triple(text: &str) -> Result<(Numbers, &str), Refusal>
     Ok((numbers, rest))
 }
 
-// The failure of a refused version text.
+// The failure of an invalid version text.
 fn failure(alloc: Global, refusal: Refusal, text: &str) -> ParseFailure
     ensures { (result ≡ None) ⊎ (result ≡ version_failure refusal text.now) }
 {
@@ -278,7 +277,7 @@ fn failure(alloc: Global, refusal: Refusal, text: &str) -> ParseFailure
     ParseFailure::with_texts(alloc, refusal.message(), snippet)
 }
 
-// The version of a text that goes on after these three numbers.
+// Parses the rest of a version after these three numbers.
 #[inline(never)]
 fn read_on(
     alloc: Global,
@@ -306,7 +305,7 @@ fn read_on(
     read(alloc, text.trim())
 }
 
-// The version that a trimmed text stands for.
+// Parses a trimmed text.
 #[inline(never)]
 fn read(alloc: Global, text: &str) -> Result<Version, ParseFailure>
     ensures read { IfOk result (IsReadVersion text.now) }
@@ -329,8 +328,8 @@ fn read(alloc: Global, text: &str) -> Result<Version, ParseFailure>
     })
 }
 
-// An identifier without the zeros at its front, but for the last of them: the same number, if it is one. It is found
-// without reading the zeros, so that a number with many of them is compared in no time.
+// Strips the leading zeros of an identifier but the last, which keeps its number, if it is one. Takes constant time, so that
+// a number with many zeros compares fast.
 fn without_zeros(identifier: &VersionPreOrBuild) -> &str
     ensures { number_of result.now ≡ number_of identifier.now }
 {
@@ -372,7 +371,7 @@ fn cmp_identifiers(a: &[VersionPreOrBuild], b: &[VersionPreOrBuild]) -> Ordering
     a.len().cmp(&b.len())
 }
 
-// The order of pre-releases. Whether there is one is known without following the pointer of its list.
+// Compares pre-releases. Emptiness is known without following the list's pointer.
 #[inline(never)]
 fn cmp_pre(a: &CowVec<VersionPreOrBuild>, b: &CowVec<VersionPreOrBuild>) -> Ordering
     ensures { result ≡ pre_cmp a.now b.now }
@@ -385,7 +384,7 @@ fn cmp_pre(a: &CowVec<VersionPreOrBuild>, b: &CowVec<VersionPreOrBuild>) -> Orde
     }
 }
 
-// Precedence, by the first number that differs; pre-releases are compared only where all three tie.
+// Compares by precedence: by the first number that differs, and by pre-releases only if all three tie.
 #[inline(always)]
 fn precedence(a: &Version, b: &Version) -> Ordering
     ensures { result ≡ precedence_cmp a.now b.now }
@@ -402,9 +401,8 @@ fn precedence(a: &Version, b: &Version) -> Ordering
     cmp_pre(&a.pre, &b.pre)
 }
 
-// The order of the three numbers: those of `b` are taken off those of `a`, as digits are in writing, from the last on. So one
-// pass tells whether they are below and whether they tie, with no branch between, since what sorts versions can't foresee
-// which way it goes.
+// Compares the three numbers by subtracting `b` from `a` with borrow, from the last number on. One pass finds whether `a` is
+// below `b` and whether they tie, without the branches that a sort can't predict.
 #[inline(always)]
 pub(crate) fn cmp_numbers(a: &Version, b: &Version) -> Ordering
     ensures { result ≡ numbers_cmp a.now b.now }
@@ -412,7 +410,7 @@ pub(crate) fn cmp_numbers(a: &Version, b: &Version) -> Ordering
     let (patch, lacks) = a.patch.borrowing_sub(b.patch, false);
     let (minor, lacks) = a.minor.borrowing_sub(b.minor, lacks);
     let (major, is_below) = a.major.borrowing_sub(b.major, lacks);
-    // A sum, of which the compiler makes no three tests.
+    // Summed, so that the compiler emits a single test.
     if major as u128 + minor as u128 + patch as u128 == 0 {
         Ordering::Equal
     } else if is_below {
@@ -430,7 +428,7 @@ pub(crate) fn is_unqualified(version: &Version) -> bool
     version.pre.is_empty() & version.build.is_empty()
 }
 
-// The order of the pre-releases, and where they tie of the builds.
+// Compares the pre-releases, and if they tie the builds.
 #[inline(never)]
 fn cmp_lists(a: &Version, b: &Version) -> Ordering
     ensures { result ≡ qualifiers_cmp a.now b.now }
@@ -441,8 +439,8 @@ fn cmp_lists(a: &Version, b: &Version) -> Ordering
     }
 }
 
-// The same order. Mostly at most one of the versions has a pre-release and none has a build, and then nothing is called, and
-// no branch is taken that a sort can't foresee.
+// Compares the same way. Usually at most one version has a pre-release and none has a build; then nothing is called, and no
+// branch is taken that a sort can't predict.
 #[inline(never)]
 fn cmp_qualifiers(a: &Version, b: &Version) -> Ordering
     ensures { result ≡ qualifiers_cmp a.now b.now }
@@ -487,8 +485,8 @@ fn write_prefixed<W: fmt::Write>(
     Ok(())
 }
 
-/// `M.m.p`, then `-` and the pre-release where there is one, then `+` and the build where there is one; identifiers have a
-/// `.` between them (SemVer 2.0.0, sections 2, 9 and 10).
+/// Writes `M.m.p`, then `-` and the pre-release if any, then `+` and the build if any, with `.` between identifiers (SemVer
+/// 2.0.0, sections 2, 9 and 10).
 impl fmt::Display for Version {
     ghost output = { λ version. Some (version_text version) };
 

@@ -1,11 +1,11 @@
-//! The values that the words of versions and requirements stand for.
+//! The values that the tokens of versions and requirements parse to.
 
 ghost use Rattle.std.specs.Prelude.{◌≡◌, [], IfOk};
 
 use crate::string::{CowVec, SmallStackString};
 use std::alloc::{AllocError, Global};
 
-/// Which grammar a word is read by.
+/// Which grammar a token is parsed by.
 #[derive(Clone, Copy, Debug, PartialEq, Eq)]
 pub enum Strictness {
     /// Numbers may have leading zeros, and a pre-release may lack its `-`.
@@ -14,7 +14,7 @@ pub enum Strictness {
     Strict,
 }
 
-/// What was read, where each number of it is at most 18446744073709551615.
+/// A parsed value, if each of its numbers is at most 18446744073709551615.
 #[derive(Clone, Copy, Debug, PartialEq, Eq, Drop)]
 pub enum Measured<T> {
     /// The value.
@@ -31,7 +31,7 @@ pub struct Qualifier {
 }
 
 impl Qualifier {
-    /// No pre-release and no build.
+    /// Creates a qualifier without a pre-release or a build.
     pub fn new(alloc: Global) -> Self
         ensures { result ≡ record { pre = []; build = [] } }
     {
@@ -41,7 +41,7 @@ impl Qualifier {
         }
     }
 
-    /// The same identifiers again. It is an error only where no memory is left.
+    /// Returns a copy. Fails only out of memory.
     pub fn copy(&self) -> Result<Self, AllocError>
         ensures { IfOk result (λ qualifier. qualifier ≡ self.now) }
     {

@@ -1,7 +1,6 @@
-//! The ranges of one to three numbers, as the table has them for a partial version with nothing behind it, and the partial
-//! versions of such numbers.
+//! The ranges of one to three numbers, as for a partial version with no qualifier, and the partial versions of such numbers.
 //!
-//! A range is made as numbers first, which are cheap to move, and put together where it stays.
+//! A range is first computed as numbers, which are cheap to move, and built where it stays.
 
 ghost use Rattle.std.specs.Prelude.{◌≡◌, ◌+◌, ◌∷◌, [], IfNone, IfSome, false};
 ghost use Rattle.semver_base.specs.Meaning.{release};
@@ -14,7 +13,7 @@ use crate::string::CowVec;
 use crate::version::release;
 use std::alloc::Global;
 
-/// A range from one release, which it holds, to another.
+/// A range from one release, inclusive, to another.
 #[derive(Clone, Copy, Debug)]
 pub struct ReleaseRange {
     pub start: Numbers,
@@ -23,7 +22,7 @@ pub struct ReleaseRange {
 }
 
 impl ReleaseRange {
-    /// The range itself.
+    /// Builds the range.
     #[inline(always)]
     pub fn into_range(self, alloc: Global) -> VersionRange
         ensures { result ≡ release_range self }
@@ -41,7 +40,7 @@ impl ReleaseRange {
 }
 
 impl FewNumbers {
-    // Three numbers, zeros for those that are missing.
+    // The three numbers, with missing ones as 0.
     #[inline(always)]
     fn lowest(self) -> Numbers
         ensures { release_of result ≡ lowest (of_few self) }
@@ -61,7 +60,7 @@ impl FewNumbers {
         }
     }
 
-    // From these numbers to below others.
+    // The range from these numbers to below others.
     #[inline(always)]
     fn to_below(self, major: u64, minor: u64, patch: u64) -> ReleaseRange
         ensures { release_range result
@@ -78,7 +77,7 @@ impl FewNumbers {
         }
     }
 
-    // From these numbers to below the next major version; none where its number is too large.
+    // The range from these numbers to below the next major version; `None` if its number is too large.
     #[inline(always)]
     fn to_next_major(self, major: u64) -> Option<ReleaseRange>
         ensures range { let end = release (major + 1) 0 0 in IfSome result (λ range.
@@ -88,7 +87,7 @@ impl FewNumbers {
         Some(self.to_below(major.checked_add(1)?, 0, 0))
     }
 
-    // From these numbers to below the next minor version; none where its number is too large.
+    // The range from these numbers to below the next minor version; `None` if its number is too large.
     #[inline(always)]
     fn to_next_minor(self, major: u64, minor: u64) -> Option<ReleaseRange>
         ensures range { let end = release major (minor + 1) 0 in IfSome result (λ range.
@@ -98,8 +97,8 @@ impl FewNumbers {
         Some(self.to_below(major, minor.checked_add(1)?, 0))
     }
 
-    /// The range of `~` and these numbers, as [`Partial::as_tilde_version_range`] has it; none exactly where a bound is
-    /// too large.
+    /// The range of `~` and these numbers, as for [`Partial::as_tilde_version_range`]; `None` exactly if a bound is too
+    /// large.
     #[inline(always)]
     pub fn tilde_range(self) -> Option<ReleaseRange>
         ensures range { IfSome result
@@ -113,8 +112,8 @@ impl FewNumbers {
         }
     }
 
-    /// The range of `^` and these numbers, as [`Partial::as_caret_version_range`] has it; none exactly where a bound is
-    /// too large.
+    /// The range of `^` and these numbers, as for [`Partial::as_caret_version_range`]; `None` exactly if a bound is too
+    /// large.
     #[inline(always)]
     pub fn caret_range(self) -> Option<ReleaseRange>
         ensures range { IfSome result
@@ -131,8 +130,7 @@ impl FewNumbers {
         }
     }
 
-    /// The range of these numbers alone, as [`Partial::as_equal_range`] has it; none exactly where a bound is
-    /// too large.
+    /// The range of these numbers alone, as for [`Partial::as_equal_range`]; `None` exactly if a bound is too large.
     #[inline(always)]
     pub fn equal_range(self) -> Option<ReleaseRange>
         ensures range { IfSome result

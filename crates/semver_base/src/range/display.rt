@@ -1,4 +1,4 @@
-//! How ranges and sets of ranges are written.
+//! Formatting of ranges and range sets.
 
 ghost use Rattle.std.specs.Prelude.{◌≡◌, ◌+◌, ◌++◌, ◌==◌, ◌∷◌, [], Some, codes};
 ghost use Rattle.std.specs.Fmt.{DisplaysOnOk};
@@ -15,7 +15,7 @@ use crate::version::{Version, is_unqualified};
 use std::alloc::{AllocError, Global};
 use std::fmt;
 
-// How a range with both bounds is written.
+// How a range with both bounds is formatted.
 #[derive(Clone, Copy)]
 enum Form {
     // The version that is both bounds.
@@ -28,9 +28,9 @@ enum Form {
     Tilde,
     // `^` and the start.
     Caret,
-    // The end with its primitive kind.
+    // The end with its operator.
     End,
-    // Both bounds with their primitive kinds.
+    // Both bounds with their operators.
     Both,
 }
 
@@ -44,21 +44,21 @@ fn is_plain(version: &Version, major: u64, minor: u64, patch: u64) -> bool
         && is_unqualified(version)
 }
 
-// Whether `next` is the number after `number`. After 18446744073709551615 there is none.
+// Whether `next` is the number after `number`. Nothing follows 18446744073709551615.
 fn is_next(number: u64, next: u64) -> bool
     ensures { result ≡ (next == number + 1) }
 {
     number.checked_add(1) == Some(next)
 }
 
-// Whether `end` is the first release of the major number after that of `start`.
+// Whether `end` is the first release of the next major number after that of `start`.
 fn is_next_major(start: &Version, end: &Version) -> bool
     ensures { result ≡ is_plain end.now (start.now.major + 1) 0 0 }
 {
     is_next(start.major, end.major) && end.minor == 0 && end.patch == 0 && is_unqualified(end)
 }
 
-// Whether `end` is the first release of the minor number after that of `start`.
+// Whether `end` is the first release of the next minor number after that of `start`.
 fn is_next_minor(start: &Version, end: &Version) -> bool
     ensures { result ≡ is_plain end.now start.now.major (start.now.minor + 1) 0 }
 {
@@ -75,7 +75,7 @@ fn is_next_patch(start: &Version, end: &Version) -> bool
     end.major == 0 && end.minor == 0 && is_next(start.patch, end.patch) && is_unqualified(end)
 }
 
-// The form from `start` up to `end`: the first that fits.
+// The first form that fits from `start` up to `end`, both inclusive.
 fn closed_form(start: &Version, end: &Version) -> Form
     ensures { shortest_between VersionBoundKind.Inclusive VersionBoundKind.Inclusive
         start.now end.now
@@ -91,7 +91,7 @@ fn closed_form(start: &Version, end: &Version) -> Form
     Form::Both
 }
 
-// The form from `start` to below `end`: the first that fits.
+// The first form that fits from `start` to below `end`.
 fn half_open_form(start: &Version, end: &Version) -> Form
     ensures { shortest_between VersionBoundKind.Inclusive VersionBoundKind.Exclusive
         start.now end.now
@@ -119,7 +119,7 @@ fn half_open_form(start: &Version, end: &Version) -> Form
     Form::Both
 }
 
-// The form between two bounds: the first that fits.
+// The first form that fits between two bounds.
 fn form_between(start: &VersionBound, end: &VersionBound) -> Form
     ensures { shortest_between start.now.kind end.now.kind start.now.version end.now.version
         ≡ form_comparators result start.now.kind end.now.kind start.now.version end.now.version }
@@ -135,7 +135,7 @@ fn form_between(start: &VersionBound, end: &VersionBound) -> Form
     }
 }
 
-// Writes what leads the version, and the version.
+// Writes the lead and the version.
 #[inline(always)]
 fn write_led<W: fmt::Write>(f: &mut fmt::Formatter<W>, lead: &str, version: &Version) -> fmt::Result
     ensures { DisplaysOnOk W.write_str_gives f.old result
@@ -169,7 +169,7 @@ fn write_end<W: fmt::Write>(f: &mut fmt::Formatter<W>, end: &VersionBound) -> fm
     }
 }
 
-// Writes both bounds with a blank between.
+// Writes both bounds with a space between them.
 fn write_both<W: fmt::Write>(
     f: &mut fmt::Formatter<W>,
     start: &VersionBound,
@@ -206,8 +206,8 @@ fn write_between<W: fmt::Write>(
     }
 }
 
-/// The shortest usual form of the range: the first line of this table that fits, where `s` and `e` are the texts of the
-/// start's and the end's version. `s` and `e` are plain where they have neither a pre-release nor a build.
+/// Writes the shortest usual form of the range: the first row of this table that fits, where `s` and `e` are the texts of the
+/// start's and the end's version. `s` and `e` are plain if they have neither a pre-release nor a build.
 ///
 /// | Range | Text |
 /// |---|---|
@@ -221,9 +221,9 @@ fn write_between<W: fmt::Write>(
 /// | from `0.0.p` to below plain `0.0.(p+1)` | `^s` |
 /// | from `M.m.p`, `M` above 0, to below plain `(M+1).0.0` | `^s` |
 /// | from plain `0.0.0` | `<=e` or `<e` |
-/// | any other | `>=s` or `>s`, a blank, and `<=e` or `<e` |
+/// | any other | `>=s` or `>s`, a space, and `<=e` or `<e` |
 ///
-/// The forms are those of node-semver's "Advanced Range Syntax"; which of them is taken is `deno_semver`'s own choice.
+/// The forms are those of node-semver's "Advanced Range Syntax"; the choice among them is `deno_semver`'s own.
 impl fmt::Display for VersionRange {
     ghost output = { λ range. Some (range_text range) };
 
@@ -245,7 +245,7 @@ impl StringAppendable for VersionRange {
     }
 }
 
-// Writes the ranges, ` || ` before each.
+// Writes the ranges, each with ` || ` before it.
 fn write_others<W: fmt::Write>(f: &mut fmt::Formatter<W>, others: &[VersionRange]) -> fmt::Result
     ensures { DisplaysOnOk W.write_str_gives f.old result
         (Some (flat_map (λ range. codes " || " ++ range_text range) others.now)) f.new }
@@ -256,8 +256,8 @@ fn write_others<W: fmt::Write>(f: &mut fmt::Formatter<W>, others: &[VersionRange
     Ok(())
 }
 
-/// The texts of the ranges with ` || ` between (node-semver, ranges joined by `||`), or `<0.0.0`, which no release matches,
-/// where there are none.
+/// Writes the ranges with ` || ` between them (node-semver, ranges joined by `||`), or `<0.0.0`, which no release matches, if
+/// there are none.
 impl fmt::Display for VersionRangeSet {
     ghost output = { λ set. Some (set_text set.0) };
 

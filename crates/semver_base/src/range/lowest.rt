@@ -1,9 +1,9 @@
-//! The lowest version that ranges match: those of one set, of several sets together, or of one set where another doesn't match;
-//! and whether one set matches no more than another does, or the same.
+//! The lowest version that ranges match: those of one set, of several sets together, or of one set but not another; and
+//! whether one set is a subset of another, or equivalent to it.
 //!
-//! Each of these asks for the lowest version that all sets match and some other ranges don't. Such versions begin at few places: at
-//! the start of a range, or where the end of one of the other ranges is passed. So the lowest version from each of these places
-//! on, the lowest of each kind, is a candidate, and the answer is the lowest candidate that passes. Each candidate is compared
+//! Each of these asks for the lowest version that all sets match and some other ranges don't. Such versions begin at few
+//! places: at the start of a range, or just past the end of one of the other ranges. So the lowest version of each kind from
+//! each of these places on is a candidate, and the result is the lowest candidate that passes. Each candidate is compared
 //! with all ranges at most: the time grows with the square of their number.
 
 ghost use Rattle.std.specs.Prelude.{◌≡◌, ◌∷◌, ◌++◌, ◌&&◌, ◌↔◌, [], IfOk, IfSome, IsTrue, is_some};
@@ -60,7 +60,7 @@ fn zero_version(alloc: Global, version: &Version) -> Result<Version, AllocError>
     Ok(with_pre(alloc, version, pre))
 }
 
-// The same, where there is a version.
+// The lowest pre-release of the version's numbers, if there is a version.
 fn zero_of(alloc: Global, version: Option<Version>) -> Result<Option<Version>, AllocError>
     ensures { IfOk result (λ least. least ≡ zero_of version) }
 {
@@ -70,7 +70,7 @@ fn zero_of(alloc: Global, version: Option<Version>) -> Result<Option<Version>, A
     }
 }
 
-// The lowest pre-release of the same numbers from a start on that is a pre-release: itself, or the one with `0` appended.
+// The lowest pre-release of the same numbers from a pre-release start on: itself, or with `0` appended if exclusive.
 fn pre_from(alloc: Global, start: &VersionBound) -> Result<Version, AllocError>
     ensures { IfOk result (λ v. v ≡ pre_from start.now.kind start.now.version) }
 {
@@ -96,7 +96,7 @@ impl RangeBound {
         Some(release(alloc, version.major, version.minor, version.patch))
     }
 
-    // The lowest version from this start on, be it a release or not, if there is one.
+    // The lowest version from this start on, a release or not, if there is one.
     fn least_version(&self, alloc: Global) -> Result<Option<Version>, AllocError>
         ensures { IfOk result (λ least. least ≡ least_version self.now) }
     {
@@ -124,7 +124,7 @@ impl RangeBound {
         }
     }
 
-    // The lowest pre-release of this start's numbers from it on, where it is a pre-release.
+    // The lowest pre-release of this start's numbers from it on, if it is a pre-release.
     fn own_pre(&self, alloc: Global) -> Result<Option<Version>, AllocError>
         ensures { IfOk result (λ least. least ≡ own_pre self.now) }
     {
@@ -136,7 +136,7 @@ impl RangeBound {
         }
     }
 
-    // The lowest pre-release of this bound's numbers, where it is a pre-release.
+    // The lowest pre-release of this bound's numbers, if it is a pre-release.
     fn zero_pre(&self, alloc: Global) -> Result<Option<Version>, AllocError>
         ensures { IfOk result (λ least. least ≡ zero_pre self.now) }
     {
@@ -148,7 +148,7 @@ impl RangeBound {
         }
     }
 
-    // The start of what this end doesn't hold. An absent end holds everything, and is left as it is.
+    // The start of what this end excludes. An absent end excludes nothing, and is returned as it is.
     fn after(&self) -> Result<RangeBound, AllocError>
         ensures { IfOk result (λ start. start ≡ after self.now) }
     {
@@ -192,7 +192,7 @@ struct Question<'a> {
 }
 
 impl Question<'_> {
-    // Whether the ranges of its own and all other sets match the version, and no range of those that must not.
+    // Whether some own range and all other sets match the version, and none of the excluded ranges does.
     fn passes(&self, version: &Version) -> bool
         ensures { result ≡ passes self.now.pre_release self.now.own.now self.now.others.now
             self.now.without.now version.now }
@@ -202,7 +202,7 @@ impl Question<'_> {
             && !some_match(self.without, version, self.pre_release)
     }
 
-    // The lower of what was found and the candidate, where that passes.
+    // The lower of the version found so far and the candidate, if that passes.
     fn lower_passing(&self, found: Option<Version>, candidate: Option<Version>) -> Option<Version>
         ensures { result ≡ lower_passing (passes self.now.pre_release self.now.own.now
             self.now.others.now self.now.without.now) found candidate }
@@ -230,7 +230,7 @@ impl Question<'_> {
 }
 
 impl Question<'_> {
-    // The lowest that passes of what was found and of the candidates of this start.
+    // The lowest of the version found so far and this start's candidates that pass.
     fn from_start(
         &self,
         alloc: Global,
@@ -246,7 +246,7 @@ impl Question<'_> {
         Ok(self.lower_passing(found, start.zero_pre(alloc)?))
     }
 
-    // Also of the candidates of these ranges.
+    // The lowest of the version found so far and these ranges' candidates that pass.
     fn from_set(
         &self,
         alloc: Global,
@@ -265,7 +265,7 @@ impl Question<'_> {
         Ok(lowest)
     }
 
-    // Also of the candidates of where the ranges that must not match end.
+    // The lowest of the version found so far and the candidates past the ends of the excluded ranges that pass.
     fn from_ends(
         &self,
         alloc: Global,
@@ -296,11 +296,11 @@ impl Question<'_> {
 }
 
 impl VersionRange {
-    /// The lowest version that the range matches, with pre-releases restricted or admitted throughout, or none where it
+    /// The lowest version that the range matches, with pre-releases restricted or admitted throughout, or `None` if it
     /// matches none.
     ///
-    /// No version that a text stands for is lower by precedence and matches. It has no build, and its text is read back where
-    /// those of the bounds are. It is an error only where no memory is left.
+    /// No lower version by precedence that a text parses to matches. It has no build, and its text parses to it if those of
+    /// the bounds parse to theirs. Fails only out of memory.
     pub fn min_version(
         &self,
         alloc: Global,
@@ -336,11 +336,10 @@ impl VersionRange {
         }
     }
 
-    /// Whether some pre-release of the bound's three numbers matches, by npm's rule about pre-releases. Of `>=1.2.0 <2.0.0-0` no
-    /// pre-release of the end's numbers does, since none is below `2.0.0-0`.
+    /// Whether some pre-release of the bound's three numbers matches, by npm's rule about pre-releases. `>=1.2.0 <2.0.0-0`
+    /// matches none of the end's numbers, since none is below `2.0.0-0`.
     ///
-    /// Yes says that some version is such a one, and no that none is that a text stands for. It is an error only where no memory
-    /// is left.
+    /// True means that some version is such a pre-release; false, that no text parses to one. Fails only out of memory.
     pub fn matches_pre_of(&self, alloc: Global, bound: &RangeBound) -> Result<bool, AllocError>
         ensures { IfOk result (TellsSome (is_pre_match self.now bound.now)) }
     {
@@ -351,11 +350,11 @@ impl VersionRange {
 }
 
 impl VersionRangeSet {
-    /// The lowest version that some range matches, with pre-releases restricted or admitted throughout, or none where none
+    /// The lowest version that some range matches, with pre-releases restricted or admitted throughout, or `None` if no range
     /// matches any (node-semver's `minVersion`).
     ///
-    /// No version that a text stands for is lower by precedence and matches. It has no build, and its text is read back where
-    /// those of the bounds are. It is an error only where no memory is left.
+    /// No lower version by precedence that a text parses to matches. It has no build, and its text parses to it if those of
+    /// the bounds parse to theirs. Fails only out of memory.
     pub fn min_version(
         &self,
         alloc: Global,
@@ -375,14 +374,14 @@ impl VersionRangeSet {
         question.lowest(alloc)
     }
 
-    /// The lowest version that both sets match, with pre-releases restricted or admitted throughout, or none where no version
+    /// The lowest version that both sets match, with pre-releases restricted or admitted throughout, or `None` if no version
     /// matches both.
     ///
-    /// The answer matches both sets, and no version that a text stands for is lower by precedence and does too; where
-    /// there is none, no version that a text stands for matches both. So `>1.0.0` and `<1.0.1` have none by npm's rule, and
-    /// `1.0.1-0` with pre-releases admitted. It has no build, and its text is read back where those of the bounds are.
+    /// No lower version by precedence that a text parses to matches both; on `None`, no version that a text parses to does.
+    /// So `>1.0.0` and `<1.0.1` have none by npm's rule, and `1.0.1-0` with pre-releases admitted. The version has no build,
+    /// and its text parses to it if those of the bounds parse to theirs.
     ///
-    /// It is an error only where no memory is left.
+    /// Fails only out of memory.
     pub fn common_version(
         &self,
         alloc: Global,
@@ -404,14 +403,13 @@ impl VersionRangeSet {
         question.lowest(alloc)
     }
 
-    /// The lowest version that this set and all others match, with pre-releases restricted or admitted throughout, or none
-    /// where no version matches all.
+    /// The lowest version that this set and all others match, with pre-releases restricted or admitted throughout, or `None`
+    /// if no version matches all.
     ///
-    /// The answer matches all, and no version that a text stands for is lower by precedence and does too; where there is
-    /// none, no version that a text stands for matches all. It has no build, and its text is read back where those of the
-    /// bounds are.
+    /// No lower version by precedence that a text parses to matches all; on `None`, no version that a text parses to does.
+    /// The version has no build, and its text parses to it if those of the bounds parse to theirs.
     ///
-    /// It is an error only where no memory is left.
+    /// Fails only out of memory.
     pub fn common_version_of_all(
         &self,
         alloc: Global,
@@ -432,14 +430,14 @@ impl VersionRangeSet {
         question.lowest(alloc)
     }
 
-    /// The lowest version that this set matches and the other doesn't, with pre-releases restricted or admitted throughout, or
-    /// none where the other matches each version that this one matches.
+    /// The lowest version that this set matches and the other doesn't, with pre-releases restricted or admitted throughout,
+    /// or `None` if the other matches every version that this one matches.
     ///
-    /// No version that a text stands for is lower by precedence and is matched so; where there is none, the other set
-    /// matches each version that a text stands for and this one matches. It has no build, and its text is read back where
-    /// those of the bounds are.
+    /// No lower version by precedence that a text parses to is matched by this set alone; on `None`, the other set matches
+    /// every version that a text parses to and this one matches. The version has no build, and its text parses to it if those
+    /// of the bounds parse to theirs.
     ///
-    /// It is an error only where no memory is left.
+    /// Fails only out of memory.
     pub fn version_outside(
         &self,
         alloc: Global,
@@ -462,14 +460,14 @@ impl VersionRangeSet {
         question.lowest(alloc)
     }
 
-    /// Whether the other set matches each version that this one matches, with pre-releases restricted or admitted throughout
+    /// Whether the other set matches every version that this one matches, with pre-releases restricted or admitted throughout
     /// (node-semver's `subset`, here exactly by what the ranges match, pre-releases included).
     ///
-    /// Yes says so of each version that a text stands for. No says that some version matches this set alone; where the texts
-    /// of the bounds are read back, it is one that a text stands for, so that the answer is exact. The lowest such one is
-    /// what [`VersionRangeSet::version_outside`] answers.
+    /// True says so of every version that a text parses to. False says that some version matches this set alone; if the texts
+    /// of the bounds parse to them, a text parses to it, so that the result is exact. [`VersionRangeSet::version_outside`]
+    /// returns the lowest one.
     ///
-    /// It is an error only where no memory is left.
+    /// Fails only out of memory.
     pub fn is_subset(
         &self,
         alloc: Global,
@@ -488,10 +486,10 @@ impl VersionRangeSet {
 
     /// Whether both sets match the same versions, with pre-releases restricted or admitted throughout.
     ///
-    /// Yes says so of each version that a text stands for, and no that some version matches one of them alone; where the
-    /// texts of the bounds are read back, the answer is exact. It is what [`VersionRangeSet::is_subset`] says both ways.
+    /// True says so of every version that a text parses to, and false that some version matches only one of them; if the
+    /// texts of the bounds parse to them, the result is exact. Same as [`VersionRangeSet::is_subset`] both ways.
     ///
-    /// It is an error only where no memory is left.
+    /// Fails only out of memory.
     pub fn is_equivalent(
         &self,
         alloc: Global,

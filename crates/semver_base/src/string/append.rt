@@ -1,31 +1,31 @@
-//! What texts are appended to, and what is appended.
+//! Growable texts, and values that can be appended to them.
 
 ghost use Rattle.std.specs.Prelude.{List, ℕ, ◌≡◌, ◌++◌, [], IfOk, IfSome, OnOk, OnErr, encode_utf8, string_bytes};
 
 use std::alloc::{AllocError, Global};
 use std::fmt;
 
-/// A text that grows: it is what was pushed, in order, and a refused push changes nothing.
+/// A growable text. It is what was pushed, in order; a push that fails changes nothing.
 pub trait StringType: Drop {
     /// The bytes of the text.
     ghost text: { Self → List ℕ };
 
-    /// The empty text, with room for `capacity` bytes. It is an error only where no memory is left.
+    /// Creates an empty text with room for `capacity` bytes. Fails only out of memory.
     #[inline(always)]
     fn with_capacity(alloc: Global, capacity: usize) -> Result<Self, AllocError>
         ensures { IfOk result (λ s. text s ≡ []) };
 
-    /// Appends a character. Where no memory is left the text is unchanged.
+    /// Appends a character. On failure the text is unchanged.
     fn push(&mut self, character: char) -> Result<(), AllocError>
         ensures ok { OnOk result (text self.new ≡ text self.old ++ encode_utf8 character) }
         ensures err { OnErr result (text self.new ≡ text self.old) };
 
-    /// Appends a text. Where no memory is left this one is unchanged.
+    /// Appends a text. On failure this one is unchanged.
     fn push_str(&mut self, other: &str) -> Result<(), AllocError>
         ensures ok { OnOk result (text self.new ≡ text self.old ++ other.now) }
         ensures err { OnErr result (text self.new ≡ text self.old) };
 
-    /// The text.
+    /// The text as a string slice.
     fn as_str(&self) -> &str
         ensures { result.now ≡ text self.now };
 }
@@ -51,22 +51,21 @@ impl StringType for String {
     }
 }
 
-/// A value with a text, which can be appended to another one.
+/// A value whose text can be appended to another.
 pub trait StringAppendable {
     /// The bytes of the value's text.
     ghost text: { Self → List ℕ };
 
-    /// Appends exactly the value's text. Where no memory is left the target is unchanged.
+    /// Appends exactly the value's text. On failure the target is unchanged.
     fn append_to<T: StringType>(&self, alloc: Global, target: &mut T) -> Result<(), AllocError>
         ensures ok { OnOk result (T.text target.new ≡ T.text target.old ++ text self.now) }
         ensures err { OnErr result (T.text target.new ≡ T.text target.old) };
 }
 
-// The room that a text is begun with, into which most texts of requirements and packages fit.
+// The initial capacity, enough for most texts of requirements and packages.
 const ROOM: usize = 32;
 
-/// How the value is displayed, in a text that asks for its room at once and grows only where that is too little. It is an
-/// error only where no memory is left.
+/// Formats the value into a `String`, allocated up front and grown only if that is too small. Fails only out of memory.
 pub fn displayed<D: fmt::Display>(alloc: Global, value: &D) -> Result<String, AllocError>
     ensures { IfOk result (λ s. IfSome (D.output value.now) (λ text. string_bytes s ≡ text)) }
 {
@@ -75,7 +74,7 @@ pub fn displayed<D: fmt::Display>(alloc: Global, value: &D) -> Result<String, Al
     Ok(text)
 }
 
-/// Appends how the value is displayed. Where no memory is left the target is unchanged.
+/// Appends the displayed value. On failure the target is unchanged.
 pub fn append_displayed<D: fmt::Display, T: StringType>(
     value: &D,
     alloc: Global,

@@ -1,7 +1,7 @@
-//! One item or two, in the memory of a shared pointer, that are lent as a slice.
+//! One or two items in a shared pointer, borrowed as a slice.
 //!
-//! What is lent as a slice takes fewer than 2^63 bytes, and so does what a shared pointer has. Of a type parameter nothing
-//! tells that, so it is asked once, where the items are taken in, and kept beside them.
+//! A slice and the contents of a shared pointer take fewer than 2^63 bytes each. Nothing says that of a type parameter, so it
+//! is required once, when the items are taken in, and kept beside them.
 
 ghost use Rattle.std.specs.Prelude.{◌≡◌, ◌∷◌, [], IfOk};
 ghost use Rattle.std.specs.Mem.{FitsInMemory};
@@ -14,7 +14,7 @@ use std::mem::size_of_val;
 use std::rc::Rc;
 use std::slice;
 
-// That each value of `T` takes fewer than 2^63 bytes. It has no bytes itself.
+// Evidence that each value of `T` takes fewer than 2^63 bytes. Zero-sized itself.
 #[derive(Drop)]
 struct Small<T> {
     of: PhantomData<T>,
@@ -27,20 +27,20 @@ impl<T> Model for Small<T> {
 }
 
 impl<T> Small<T> {
-    // Of a type of which that is known.
+    // Records the evidence.
     fn new() -> Small<T>
         requires { FitsInMemory T.row }
     {
         Small { of: PhantomData }
     }
 
-    // What it keeps.
+    // Returns the evidence.
     fn tell(&self)
         ensures { FitsInMemory T.row }
     {}
 }
 
-// An item.
+// One item.
 #[derive(Drop)]
 pub(super) struct One<T> {
     small: Small<T>,
@@ -48,7 +48,7 @@ pub(super) struct One<T> {
 }
 
 impl<T> One<T> {
-    // This item. It is an error only where no memory is left, or where the item is larger than all memory.
+    // Shares `item`. Fails only out of memory, or if the item is larger than all memory.
     #[inline(always)]
     pub(super) fn new(alloc: Global, item: T) -> Result<One<T>, AllocError>
     where
@@ -72,7 +72,7 @@ impl<T> One<T> {
         self.item.as_ref()
     }
 
-    // The slice of the item alone.
+    // The item as a slice of one.
     #[inline(always)]
     pub(super) fn as_slice(&self) -> &[T]
         ensures { result.now ≡ self.now.item.value ∷ [] }
@@ -81,7 +81,7 @@ impl<T> One<T> {
         slice::from_ref(self.item())
     }
 
-    // The same item again, which both share.
+    // Returns a copy that shares the item.
     pub(super) fn copy(&self) -> Result<One<T>, AllocError>
     where
         T: Drop,
@@ -101,7 +101,7 @@ pub(super) struct Two<T> {
     items: Rc<[T; 2]>,
 }
 
-// By hand, since what drops the items asks that they fit in memory.
+// Written out, since dropping the items requires that they fit in memory.
 impl<T: Drop> Drop for Two<T> {
     #[inline]
     fn drop(self) {
@@ -112,7 +112,7 @@ impl<T: Drop> Drop for Two<T> {
 }
 
 impl<T> Two<T> {
-    // These items. It is an error only where no memory is left, or where they are larger than all memory.
+    // Shares two items. Fails only out of memory, or if they are larger than all memory.
     #[inline(always)]
     pub(super) fn new(alloc: Global, first: T, second: T) -> Result<Two<T>, AllocError>
     where
@@ -132,7 +132,7 @@ impl<T> Two<T> {
         })
     }
 
-    // The slice of both.
+    // Both items as a slice.
     #[inline(always)]
     pub(super) fn as_slice(&self) -> &[T]
         ensures { result.now ≡ self.now.items.value }
@@ -141,7 +141,7 @@ impl<T> Two<T> {
         self.items.as_slice()
     }
 
-    // The same items again, which both share.
+    // Returns a copy that shares the items.
     pub(super) fn copy(&self) -> Result<Two<T>, AllocError>
     where
         T: Drop,

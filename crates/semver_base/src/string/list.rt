@@ -18,13 +18,13 @@ use std::{fmt, slice};
 
 /// A value that a [`CowVec`] can hold: a copy of it is the same value.
 pub trait CowItem {
-    /// The same value again. It is an error only where no memory is left.
+    /// Returns a copy. Fails only out of memory.
     fn copy(&self) -> Result<Self, AllocError>
         ensures { IfOk result (λ x. x ≡ self.now) };
 }
 
-// Where the items of a list stand. One or two of them stand in the memory of the shared pointer itself, and whether there is
-// none is known without following it.
+// Where a list's items are stored. One or two are stored in the shared pointer itself, and emptiness is known without
+// following a pointer.
 enum Items<T> {
     None,
     One(One<T>),
@@ -32,7 +32,7 @@ enum Items<T> {
     Many(Rc<Vec<T>>),
 }
 
-// By hand, so that a list that goes out of scope is one call.
+// Written out so that dropping a list is one call.
 impl<T: Drop> Drop for Items<T> {
     #[inline]
     fn drop(self) {
@@ -47,7 +47,7 @@ impl<T: Drop> Drop for Items<T> {
 
 /// A list, seen in contracts as its items.
 ///
-/// Two lists are equal where they have equal items in the same order.
+/// Two lists are equal if they have equal items in the same order.
 #[derive(Drop)]
 pub struct CowVec<T> {
     alloc: Global,
@@ -66,7 +66,7 @@ impl<T> Model for CowVec<T> {
 }
 
 impl<T> CowVec<T> {
-    /// The empty list.
+    /// Creates an empty list.
     #[inline(always)]
     pub fn new(alloc: Global) -> Self
         ensures { result ≡ [] }
@@ -77,7 +77,7 @@ impl<T> CowVec<T> {
         }
     }
 
-    /// The items.
+    /// The items as a slice.
     #[inline(always)]
     pub(crate) fn as_slice(&self) -> &[T]
         ensures { result.now ≡ self.now }
@@ -90,7 +90,7 @@ impl<T> CowVec<T> {
         }
     }
 
-    // The item of a list of one that was made as such. It is found by one test; where it answers none nothing is known.
+    // The item of a list created with exactly one, found by a single test; `None` says nothing about the list.
     #[inline(always)]
     pub(crate) fn only(&self) -> Option<&T>
         ensures { IfSome result (λ item. self.now ≡ item.now ∷ []) }
@@ -101,14 +101,14 @@ impl<T> CowVec<T> {
         }
     }
 
-    /// How many items there are.
+    /// The number of items.
     pub fn len(&self) -> usize
         ensures { result ≡ length self.now }
     {
         self.as_slice().len()
     }
 
-    /// Whether there is no item.
+    /// Whether the list is empty.
     #[inline(always)]
     pub fn is_empty(&self) -> bool
         ensures { IsTrue result ↔ (self.now ≡ []) }
@@ -124,7 +124,7 @@ impl<T> CowVec<T> {
         self.as_slice().get(index)
     }
 
-    /// The items in order.
+    /// Iterates over the items in order.
     pub fn iter(&self) -> slice::Iter<'_, T>
         ensures rest { iter_rest result ≡ self.now }
         ensures len { length (iter_rest result) ≡ length self.now }
@@ -135,7 +135,7 @@ impl<T> CowVec<T> {
     }
 }
 
-/// The items in order, as [`CowVec::iter`] gives them.
+/// Iterates over the items in order, as [`CowVec::iter`] does.
 impl<'a, T> IntoIterator for &'a CowVec<T> {
     type Item = &'a T;
 
@@ -149,7 +149,7 @@ impl<'a, T> IntoIterator for &'a CowVec<T> {
     }
 }
 
-// A list of the same items.
+// Copies the items.
 fn copied<T: CowItem + Drop>(alloc: Global, items: &[T]) -> Result<Vec<T>, AllocError>
     ensures { IfOk result (λ v. v.items ≡ items.now) }
 {
@@ -160,7 +160,7 @@ fn copied<T: CowItem + Drop>(alloc: Global, items: &[T]) -> Result<Vec<T>, Alloc
     Ok(all)
 }
 
-// The items of a list, copied, and one more.
+// Copies the items and appends one more.
 fn extended<T: CowItem + Drop>(alloc: Global, items: &[T], item: T) -> Result<Vec<T>, AllocError>
     ensures { IfOk result (λ all. all.items ≡ items.now ++ item ∷ []) }
 {
@@ -170,7 +170,7 @@ fn extended<T: CowItem + Drop>(alloc: Global, items: &[T], item: T) -> Result<Ve
 }
 
 impl<T: CowItem + Drop> CowVec<T> {
-    /// Appends `item`. Where no memory is left the list is unchanged and the item is dropped.
+    /// Appends `item`. On failure the list is unchanged and the item is dropped.
     pub fn push(&mut self, item: T) -> Result<(), AllocError>
         ensures ok { OnOk result (self.new ≡ self.old ++ item ∷ []) }
         ensures err { OnErr result (self.new ≡ self.old) }
@@ -187,7 +187,7 @@ impl<T: CowItem + Drop> CowVec<T> {
         Ok(())
     }
 
-    /// The list of one item, in one request for memory. It is an error only where no memory is left.
+    /// Creates a list of one item with a single allocation. Fails only out of memory.
     #[inline(always)]
     pub fn of_one(alloc: Global, item: T) -> Result<Self, AllocError>
         ensures { IfOk result (λ v. v ≡ item ∷ []) }
@@ -198,7 +198,7 @@ impl<T: CowItem + Drop> CowVec<T> {
         })
     }
 
-    // The list of two items, in one request for memory. It is an error only where no memory is left.
+    // Creates a list of two items with a single allocation. Fails only out of memory.
     #[inline(always)]
     pub(crate) fn of_two(alloc: Global, first: T, second: T) -> Result<Self, AllocError>
         ensures { IfOk result (λ v. v ≡ first ∷ second ∷ []) }
@@ -209,7 +209,7 @@ impl<T: CowItem + Drop> CowVec<T> {
         })
     }
 
-    // The list of these items, which stay in their memory.
+    // Creates a list from a vector, reusing its memory.
     #[inline(always)]
     pub(crate) fn from_vec(alloc: Global, items: Vec<T>) -> Result<Self, AllocError>
         ensures { IfOk result (λ v. v ≡ items.items) }
@@ -223,7 +223,7 @@ impl<T: CowItem + Drop> CowVec<T> {
         })
     }
 
-    /// The same list again, whose items both share. It is an error only where no memory is left.
+    /// Returns a copy that shares the items. Fails only out of memory.
     pub fn copy(&self) -> Result<Self, AllocError>
         ensures { IfOk result (λ v. v ≡ self.now) }
     {
@@ -254,7 +254,7 @@ impl<T: Eq> Eq for CowVec<T> {
     ghost laws = { lists_equiv T.Eq.laws };
 }
 
-// A list shows as its items between `[` and `]`.
+// Formats the items between `[` and `]`.
 impl<T: fmt::Debug> fmt::Debug for CowVec<T> {
     fn fmt<W: fmt::Write>(&self, f: &mut fmt::Formatter<W>) -> fmt::Result {
         fmt::Debug::fmt(self.as_slice(), f)
