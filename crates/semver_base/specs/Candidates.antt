@@ -1,5 +1,5 @@
--- From which candidates the lowest version that passes a test is chosen: from each bound on the lowest release, or where
--- pre-releases are admitted the lowest version, and the lowest pre-releases of the bound's numbers.
+-- The candidates for the lowest version that passes a test: from each bound on, the lowest release, or the lowest version if
+-- pre-releases are admitted; and the lowest pre-releases of the bound's numbers.
 use Rattle.std.specs.Prelude.{ℕ, List, [], ◌∷◌, ◌++◌, ◌+◌, ◌&&◌, Bool, not, Option, Some, None, if◌then◌else◌}
 use Rattle.std.specs.List.{fold, list_all, list_any}
 use Rattle.std.specs.declared.cmp.Ordering.{Ordering}
@@ -20,7 +20,7 @@ use Rattle.semver_base.specs.declared.range.VersionRangeSet.{VersionRangeSet}
 
 -- ---- the lowest release from a start on
 
--- the three numbers, with the last one that can be raised raised, and 0 after it
+-- increments the last of the three numbers that can be incremented, with 0 after it
 abbrev pub next_release : Version → Option Version
 next_release v =
     if number_fits (v.patch + 1) then Some (release v.major v.minor (v.patch + 1))
@@ -38,7 +38,7 @@ least_release (bound.Version start) = release_from start.kind start.version
 
 -- ---- the lowest pre-releases of a bound's numbers
 
--- the identifier `0`, which none of the grammar is below
+-- the identifier `0`, the lowest of the grammar
 abbrev pub zero_identifier : List ℕ
 zero_identifier = zero_digit ∷ []
 
@@ -46,7 +46,7 @@ zero_identifier = zero_digit ∷ []
 abbrev pub with_pre : Version → List (List ℕ) → Version
 with_pre v pre = record { major = v.major; minor = v.minor; patch = v.patch; pre = pre; build = [] }
 
--- from a pre-release on: itself, or after it the one with `0` appended
+-- the lowest pre-release from a pre-release on: itself, or with `0` appended if exclusive
 abbrev pub pre_from : VersionBoundKind → Version → Version
 pre_from kind.Inclusive v = with_pre v v.pre
 pre_from kind.Exclusive v = with_pre v (v.pre ++ zero_identifier ∷ [])
@@ -55,19 +55,19 @@ abbrev pub own_pre : RangeBound → Option Version
 own_pre bound.Unbounded = None
 own_pre (bound.Version b) = if is_release b.version then None else Some (pre_from b.kind b.version)
 
--- of all the lowest one
+-- the lowest of all pre-releases of the bound's numbers
 abbrev pub zero_pre : RangeBound → Option Version
 zero_pre bound.Unbounded = None
 zero_pre (bound.Version b) = if is_release b.version then None else Some (with_pre b.version (zero_identifier ∷ []))
 
 -- ---- the lowest version from a start on
 
--- the lowest pre-release of the numbers of a version, where there is one
+-- the lowest pre-release of the version's numbers, if there is a version
 abbrev pub zero_of : Option Version → Option Version
 zero_of None = None
 zero_of (Some v) = Some (with_pre v (zero_identifier ∷ []))
 
--- the start's own version, or what comes next: after a release the lowest pre-release of the next one
+-- the start's own version, or the next one: after a release, the lowest pre-release of the next release
 abbrev pub version_from : VersionBoundKind → Version → Option Version
 version_from kind.Inclusive v = Some (pre_from kind.Inclusive v)
 version_from kind.Exclusive v = if is_release v then zero_of (next_release v) else Some (pre_from kind.Exclusive v)
@@ -76,25 +76,25 @@ abbrev pub least_version : RangeBound → Option Version
 least_version bound.Unbounded = Some (with_pre (release 0 0 0) (zero_identifier ∷ []))
 least_version (bound.Version start) = version_from start.kind start.version
 
--- the lowest one that no bound has to admit
+-- the lowest version that no bound has to admit
 abbrev pub least_free : PreRelease → RangeBound → Option Version
 least_free Restricted start = least_release start
 least_free Admitted start = least_version start
 
--- ---- where the end of a range is passed
+-- ---- just past the end of a range
 
 abbrev pub other_kind : VersionBoundKind → VersionBoundKind
 other_kind kind.Inclusive = kind.Exclusive
 other_kind kind.Exclusive = kind.Inclusive
 
--- the start of what an end doesn't hold; an absent one holds everything, and is left as it is
+-- the start of what an end excludes; an absent one excludes nothing, and is left as it is
 abbrev pub after : RangeBound → RangeBound
 after bound.Unbounded = bound.Unbounded
 after (bound.Version end) = bound.Version (record { kind = other_kind end.kind; version = end.version })
 
 -- ---- the lowest candidate that passes
 
--- the lower of two versions, where there are two
+-- the lower of two versions
 abbrev pub lower_by : Ordering → Version → Version → Version
 lower_by Greater x y = y
 lower_by Less x y = x
@@ -105,42 +105,42 @@ lesser None second = second
 lesser (Some x) None = Some x
 lesser (Some x) (Some y) = Some (lower_by (precedence_cmp x y) x y)
 
--- the version, where it passes the test
+-- the version, if it passes the test
 abbrev pub kept_if : (Version → Bool) → Option Version → Option Version
 kept_if test None = None
 kept_if test (Some v) = if test v then Some v else None
 
--- the lower of what was found and a candidate that passes
+-- the lower of the version found so far and a candidate that passes
 abbrev pub lower_passing : (Version → Bool) → Option Version → Option Version → Option Version
 lower_passing test found candidate = lesser found (kept_if test candidate)
 
--- and of the candidates of a start
+-- also considers the candidates of a start
 abbrev pub from_start : PreRelease → (Version → Bool) → Option Version → RangeBound → Option Version
 from_start flag test found start = lower_passing test (lower_passing test (lower_passing test found
     (least_free flag start)) (own_pre start)) (zero_pre start)
 
--- of a range, whose end may admit pre-releases too
+-- also considers those of a range, whose end may admit pre-releases too
 abbrev pub from_range : PreRelease → (Version → Bool) → Option Version → VersionRange → Option Version
 from_range flag test found range = lower_passing test (from_start flag test found range.start) (zero_pre range.end)
 
--- of the ranges of a set, and of several sets
+-- also considers those of the ranges of a set, and of several sets
 abbrev pub from_set : PreRelease → (Version → Bool) → Option Version → List VersionRange → Option Version
 from_set flag test found ranges = fold (λ least range. from_range flag test least range) found ranges
 
 abbrev pub from_sets : PreRelease → (Version → Bool) → Option Version → List VersionRangeSet → Option Version
 from_sets flag test found sets = fold (λ least (set : VersionRangeSet). from_set flag test least set.0) found sets
 
--- of where these ranges end
+-- also considers those just past the ends of these ranges
 abbrev pub from_ends : PreRelease → (Version → Bool) → Option Version → List VersionRange → Option Version
 from_ends flag test found ranges = fold (λ least (range : VersionRange). from_start flag test least (after range.end)) found ranges
 
 -- ---- what is asked
 
--- some range means the version
+-- some range matches the version
 abbrev pub some_means : PreRelease → List VersionRange → Version → Bool
 some_means flag ranges v = list_any (λ range. range_means_with flag range v) ranges
 
--- the ranges and all other sets mean the version, and the last ranges don't
+-- some own range and all other sets match the version, and none of the last ranges does
 abbrev pub passes : PreRelease → List VersionRange → List VersionRangeSet → List VersionRange → Version → Bool
 passes flag own others without v = (some_means flag own v
     && list_all (λ (set : VersionRangeSet). set_means_with flag set.0 v) others) && not (some_means flag without v)

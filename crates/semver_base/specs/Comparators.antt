@@ -1,5 +1,4 @@
--- Comparators, and the bounds that they stand for. Source: node-semver's range grammar (`primitive`, `tilde`, `caret`,
--- `hyphen`).
+-- Comparators and their bounds. Source: node-semver's range grammar (`primitive`, `tilde`, `caret`, `hyphen`).
 use Rattle.std.specs.Prelude.{ℕ, List, codes}
 use Rattle.semver_base.specs.Meaning.{from}
 use Rattle.semver_base.specs.PartialTable.{Line, between, caret, equal, greater_than, less_than, lowest, tilde, upper}
@@ -9,7 +8,7 @@ use Rattle.semver_base.specs.declared.primitive.PrimitiveKind.TheVariants.{Great
 use Rattle.semver_base.specs.declared.range.VersionBoundKind.TheVariants as kind
 use Rattle.semver_base.specs.declared.range.VersionRange.{VersionRange}
 
--- a primitive kind as it is written
+-- an operator's text
 abbrev pub primitive_kind_text : PrimitiveKind → List ℕ
 primitive_kind_text GreaterThan = codes ">"
 primitive_kind_text LessThan = codes "<"
@@ -27,7 +26,7 @@ pub data Comparator : Type 0 where
 abbrev pub of_primitive : PrimitiveKind × Partial → Comparator
 of_primitive v = OfPrimitive v.0 v.1
 
--- ---- what they stand for
+-- ---- what they mean
 
 abbrev pub primitive_line : PrimitiveKind → Partial → Line
 primitive_line GreaterThan p = greater_than kind.Exclusive p

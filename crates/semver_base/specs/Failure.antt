@@ -1,19 +1,19 @@
--- What a failure tells.
+-- Messages and snippets of failures.
 use Rattle.std.specs.Prelude.{ℕ, List, Option, Some, None, codes}
 use Rattle.semver_base.specs.declared.failure.Refusal.{Refusal}
 use Rattle.semver_base.specs.declared.failure.Refusal.TheVariants.{UnexpectedCharacter, EmptyConstraint, MissingMinor, MissingPatch, NumberTooLarge, BoundTooLarge}
 
--- the message of a failure; a failure with no texts is want of memory
+-- a failure's message; a failure without texts is out of memory
 abbrev pub message_of : Option (List ℕ × Option (List ℕ)) → List ℕ
 message_of None = codes "Out of memory."
 message_of (Some texts) = texts.0
 
--- the part of the text that a failure names
+-- the offending part of the text, if the failure has one
 abbrev pub snippet_of : Option (List ℕ × Option (List ℕ)) → Option (List ℕ)
 snippet_of None = None
 snippet_of (Some texts) = texts.1
 
--- the line that tells of a refusal
+-- a refusal's message
 abbrev pub refusal_message : Refusal → List ℕ
 refusal_message UnexpectedCharacter = codes "Unexpected character."
 refusal_message EmptyConstraint = codes "Empty version constraint."

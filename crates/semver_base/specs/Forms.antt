@@ -1,4 +1,4 @@
--- The forms in which a range with two bounds is written, as comparators.
+-- The forms in which a range with two bounds is printed, as comparators.
 use Rattle.std.specs.Prelude.{List, [], ◌∷◌}
 use Rattle.semver_base.specs.Comparators.{Caret, Comparator, Plain, Tilde}
 use Rattle.semver_base.specs.Shortest.{ending, numbered, starting, whole}

@@ -1,4 +1,4 @@
--- The lowest version of those that pass a test. Source: node-semver's `minVersion`, here of any test, and of several sets of
+-- The lowest version that passes a test. Source: node-semver's `minVersion`, here for any test, and for several sets of
 -- ranges at once.
 use Rattle.std.specs.Prelude.{◌≡◌, ℕ, List, [], Bool, not, ◌&&◌, IfSome, Option, Some, None, Ok, true, false}
 use Rattle.std.specs.List.{list_all}
@@ -12,12 +12,12 @@ use Rattle.semver_base.specs.declared.range.PreRelease.{PreRelease}
 use Rattle.semver_base.specs.declared.range.VersionRange.{VersionRange}
 use Rattle.semver_base.specs.declared.range.VersionRangeSet.{VersionRangeSet}
 
--- every number fits, and every identifier of the pre-release is one of the grammar
+-- every number fits, and every identifier of the pre-release matches the grammar
 pub record IsReadable (v : Version) : Type 0 where
   pub numbers : AllNumbersFit v
   pub pre : AreIdentifiers v.pre
 
--- each version that a text stands for is readable
+-- every version that a text parses to is readable
 abbrev pub ReadVersionsAreReadable : Type 0
 ReadVersionsAreReadable = (text : List ℕ) (v : Version) → IsVersionOutcome text (Ok v) → IsReadable v
 
@@ -30,33 +30,33 @@ IsLeast test None = (v : Version) → IsReadable v → test v ≡ false
 abbrev pub HasNoBuild : Version → Type 0
 HasNoBuild v = v.build ≡ []
 
--- the lowest version as it is answered: it has no build, and its text is read back; or no readable version passes
+-- the lowest version as returned: it has no build, and its text parses back; or no readable version passes
 pub record IsLowest (test : Version → Bool) (answer : Option Version) : Type 0 where
   pub least : IsLeast test answer
   pub no_build : IfSome answer HasNoBuild
   pub reads_back : IfSome answer ReadsBack
 
--- no other version without a build whose text is read back, or none, is the lowest of the test
+-- no other version without a build whose text parses back, nor none, is the lowest of the test
 abbrev pub IsOnlyLeast : (Version → Bool) → Option Version → Type 0
 IsOnlyLeast test least =
     (other : Option Version) → IsLeast test other → IfSome other HasNoBuild → IfSome other ReadsBack → other ≡ least
 
--- yes says that some version passes the test, and no that no readable one does
+-- true says that some version passes the test, and false that no readable one does
 abbrev pub TellsSome : (Version → Bool) → Bool → Type 0
 TellsSome test true = (v : Version) × (test v ≡ true)
 TellsSome test false = (v : Version) → IsReadable v → test v ≡ false
 
--- ---- what two or more mean
+-- ---- several sets together
 
--- both sets mean the version
+-- both sets match the version
 abbrev pub sets_mean_with : PreRelease → List VersionRange → List VersionRange → Version → Bool
 sets_mean_with flag some others v = set_means_with flag some v && set_means_with flag others v
 
--- the set means the version, and so do all of the others
+-- the set matches the version, and so do all the others
 abbrev pub all_mean_with : PreRelease → List VersionRange → List VersionRangeSet → Version → Bool
 all_mean_with flag own others v = set_means_with flag own v
     && list_all (λ (other : VersionRangeSet). set_means_with flag other.0 v) others
 
--- the first set means the version, and the other doesn't
+-- the first set matches the version, and the other doesn't
 abbrev pub set_means_alone_with : PreRelease → List VersionRange → List VersionRange → Version → Bool
 set_means_alone_with flag some others v = set_means_with flag some v && not (set_means_with flag others v)

@@ -1,6 +1,6 @@
--- The words of versions and requirements: blanks, numbers, identifiers, pre-releases, builds and qualifiers, as texts
--- of bytes. Sources: SemVer 2.0.0, sections 2, 9 and 10, for numbers and identifiers; node-semver's range grammar, with
--- its loose forms, for numbers with leading zeros and pre-releases without `-`.
+-- The tokens of versions and requirements: whitespace, numbers, identifiers, pre-releases, builds and qualifiers, as bytes.
+-- Sources: SemVer 2.0.0, sections 2, 9 and 10, for numbers and identifiers; node-semver's range grammar, with its loose
+-- forms, for numbers with leading zeros and pre-releases without `-`.
 use Rattle.std.specs.Prelude.{◌≡◌, ◌<◌, ℕ, List, [], ◌∷◌, length, Bool, true, ◌||◌, ◌==◌, Option, Some, None, ◌⊎◌, slice_index, if◌then◌else◌, nat_lt, ◌^◌}
 use Rattle.std.specs.Char.{is_ascii_digit, is_ascii_alphanumeric, is_not_whitespace}
 use Rattle.std.specs.Str.{NoCharPasses}
@@ -17,13 +17,13 @@ use Rattle.semver_base.specs.declared.lexical.values.Strictness.TheVariants.{Loo
 abbrev pub IsByte : ℕ → List ℕ → Unit {0} → Type 0
 IsByte m text v = text ≡ m ∷ []
 
--- ---- blanks
+-- ---- whitespace
 
--- characters of white space, or none
+-- whitespace characters, or none
 abbrev pub IsBlanks : List ℕ → Unit {0} → Type 0
 IsBlanks text v = NoCharPasses is_not_whitespace text
 
--- one or more
+-- one or more whitespace characters
 abbrev pub IsSomeBlanks : List ℕ → Unit {0} → Type 0
 IsSomeBlanks text v = (0 < length text) × NoCharPasses is_not_whitespace text
 
@@ -46,15 +46,15 @@ IsNumber Strict = IsStrictNumber
 abbrev pub NoDigitFollows : List ℕ → List ℕ → Type 0
 NoDigitFollows before after = is_ascii_digit (slice_index after 0) ≡ true → ⊥
 
--- no digit follows a number: before begins with a digit exactly where it is a number
+-- no digit follows a number: before begins with a digit exactly if it is a number
 abbrev pub IsNumberEnd : List ℕ → List ℕ → Type 0
 IsNumberEnd before after = is_ascii_digit (slice_index before 0) ≡ true → NoDigitFollows before after
 
--- what 64 bits can tell of a number
+-- the number if it fits in 64 bits
 abbrev pub sized : ℕ → Measured ℕ
 sized n = if nat_lt n (2 ^ 64) then Fits n else TooLarge
 
--- what was read, and None for what is too large, seen so
+-- a parsed number, where None means too large
 abbrev pub measured_of : Option ℕ → Measured ℕ
 measured_of None = TooLarge
 measured_of (Some n) = Fits n
@@ -68,13 +68,13 @@ is_identifier_byte b = is_ascii_alphanumeric b || (b == hyphen_sign)
 abbrev pub IsIdentifier : List ℕ → List ℕ → Type 0
 IsIdentifier = Run is_identifier_byte
 
--- identifiers with a dot between neighbours, and one at the end or none
+-- identifiers with a dot between neighbours, and at most one at the end
 abbrev pub IsIdentifiers : List ℕ → List (List ℕ) → Type 0
 IsIdentifiers = Listed IsIdentifier (IsByte dot)
 
 -- ---- qualifiers
 
--- what begins with `-` loses exactly that; what begins with no `-` is identifiers as it stands
+-- a leading `-` is stripped, and only that one; a text without one is identifiers as it is
 abbrev pub IsLoosePre : List ℕ → List (List ℕ) → Type 0
 IsLoosePre [] ids = ⊥
 IsLoosePre (b ∷ rest) ids =
@@ -93,7 +93,7 @@ IsPre Strict = IsStrictPre
 abbrev pub IsBuild : List ℕ → List (List ℕ) → Type 0
 IsBuild = Prefixed plus_sign IsIdentifiers
 
--- the identifiers, and none where nothing was read
+-- the identifiers, or none if nothing was parsed
 abbrev pub or_none : Option (List (List ℕ)) → List (List ℕ)
 or_none None = []
 or_none (Some ids) = ids

@@ -1,4 +1,4 @@
--- What bounds hold, and which versions comparators, alternatives and trees of them mean. Source: node-semver's
+-- Which versions bounds include, and which match comparators, alternatives and trees of them. Source: node-semver's
 -- description of ranges and of pre-release tags.
 use Rattle.std.specs.Prelude.{ℕ, List, [], ◌∷◌, length, map, Bool, true, false, ◌==◌, ◌&&◌, ◌||◌, not}
 use Rattle.std.specs.List.{list_all, list_any}
@@ -16,12 +16,12 @@ use Rattle.semver_base.specs.declared.range.VersionRange.{VersionRange}
 
 -- ---- bounds
 
--- a version that compares so to a start is above it, or at it where the start is inclusive
+-- whether a version that compares so to a start is above it, or at it if the start is inclusive
 abbrev pub is_above : VersionBoundKind → Ordering → Bool
 is_above kind.Inclusive order = is_ge order
 is_above kind.Exclusive order = is_gt order
 
--- a version that compares so to an end is below it, or at it where the end is inclusive
+-- whether a version that compares so to an end is below it, or at it if the end is inclusive
 abbrev pub is_below : VersionBoundKind → Ordering → Bool
 is_below kind.Inclusive order = is_le order
 is_below kind.Exclusive order = is_lt order
@@ -34,7 +34,7 @@ abbrev pub end_holds : RangeBound → Version → Bool
 end_holds (bound.Version b) v = is_below b.kind (precedence_cmp v b.version)
 end_holds bound.Unbounded v = true
 
--- the bound is a pre-release of the version's three numbers
+-- whether the bound is a pre-release of the version's three numbers
 abbrev pub has_pre_of : RangeBound → Version → Bool
 has_pre_of (bound.Version b) v = not (length b.version.pre == 0)
     && ((b.version.major == v.major) && ((b.version.minor == v.minor) && (b.version.patch == v.patch)))
@@ -51,56 +51,56 @@ admits_pre range v = has_pre_of range.start v || has_pre_of range.end v
 abbrev pub is_release : Version → Bool
 is_release v = length v.pre == 0
 
--- a version that no bound has to admit: a release, and any where pre-releases are admitted throughout
+-- whether the version needs no bound to admit it: a release, or any version if pre-releases are admitted throughout
 abbrev pub is_unrestricted : PreRelease → Version → Bool
 is_unrestricted Restricted v = is_release v
 is_unrestricted Admitted v = true
 
--- an alternative means the versions that the bounds of every comparator hold; a restricted one only where some bound of
+-- an alternative matches the versions that the bounds of every comparator include; a restricted one only if some bound of
 -- some comparator is a pre-release of its three numbers
 abbrev pub alternative_means_with : PreRelease → List VersionRange → Version → Bool
 alternative_means_with flag comparators v = list_all (λ range. bounds_hold range v) comparators
     && (is_unrestricted flag v || list_any (λ range. admits_pre range v) comparators)
 
--- a tree means what some alternative does
+-- a tree matches what some alternative matches
 abbrev pub tree_means_with : PreRelease → List (List VersionRange) → Version → Bool
 tree_means_with flag tree v = list_any (λ comparators. alternative_means_with flag comparators v) tree
 
--- the two by npm's rule, which restricts every pre-release
+-- the same two by npm's rule, which restricts every pre-release
 abbrev pub alternative_means : List VersionRange → Version → Bool
 alternative_means comparators v = alternative_means_with Restricted comparators v
 
 abbrev pub tree_means : List (List VersionRange) → Version → Bool
 tree_means tree v = tree_means_with Restricted tree v
 
--- ranges, each as the alternative whose only comparator it is
+-- turns each range into an alternative with it as the only comparator
 abbrev pub alternatives : List VersionRange → List (List VersionRange)
 alternatives ranges = map (λ range. range ∷ []) ranges
 
--- a range means what it does alone, and a set of ranges what some range of it means
+-- a range matches what it does alone, and a set what some range of it matches
 abbrev pub range_means_with : PreRelease → VersionRange → Version → Bool
 range_means_with flag range v = alternative_means_with flag (range ∷ []) v
 
 abbrev pub set_means_with : PreRelease → List VersionRange → Version → Bool
 set_means_with flag ranges v = tree_means_with flag (alternatives ranges) v
 
--- the two by npm's rule
+-- the same two by npm's rule
 abbrev pub range_means : VersionRange → Version → Bool
 range_means range v = alternative_means (range ∷ []) v
 
 abbrev pub set_means : List VersionRange → Version → Bool
 set_means ranges v = tree_means (alternatives ranges) v
 
--- a pre-release of the bound's three numbers that the range means by npm's rule
+-- whether the version is a pre-release of the bound's three numbers that the range matches by npm's rule
 abbrev pub is_pre_match : VersionRange → RangeBound → Version → Bool
 is_pre_match range b v = (not (is_release v) && has_pre_of b v) && range_means range v
 
--- ---- two ranges by name
+-- ---- two named ranges
 
 abbrev pub everything : VersionRange
 everything = record { start = bound.Unbounded; end = bound.Unbounded }
 
--- a release of these three numbers
+-- the release of these three numbers
 abbrev pub release : ℕ → ℕ → ℕ → Version
 release major minor patch = record { major = major; minor = minor; patch = patch; pre = []; build = [] }
 

@@ -1,5 +1,5 @@
--- The table of normal texts as letters, which the definition by comparators keeps. s and e are the versions of the
--- start and the end.
+-- The table of canonical forms as text, which the definition by comparators follows. s and e are the versions of the start
+-- and the end.
 use Rattle.std.specs.Prelude.{◌≡◌, ◌<◌, ◌+◌, ℕ, ◌∷◌, ◌++◌, codes}
 use Rattle.std.specs.Fmt.{decimal}
 use Rattle.semver_base.specs.Characters.{dot}
@@ -19,7 +19,7 @@ above v = bound_at kind.Exclusive v
 abbrev pub zero_version : Version
 zero_version = release 0 0 0
 
--- a line for each row; a row's condition says too that no row above it fits
+-- a field for each row; a row's condition also says that no row above it fits
 pub record IsNormalTable : Type 0 where
   pub no_bounds : range_text everything ≡ codes "*"
   pub end_alone : (e : Version) → range_text (between bound.Unbounded (up_to e)) ≡ codes "<=" ++ version_text e

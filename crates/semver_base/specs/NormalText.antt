@@ -1,5 +1,5 @@
--- The normal text of a requirement: the shortest form of each range, as letters. Source: node-semver's "Advanced Range
--- Syntax" for the forms; which of them is taken is `deno_semver`'s own choice.
+-- The canonical form of a requirement as text: the shortest form of each range. Source: node-semver's "Advanced Range Syntax"
+-- for the forms; the choice among them is `deno_semver`'s own.
 use Rattle.std.specs.Prelude.{ℕ, List, [], ◌∷◌, ◌++◌, codes}
 use Rattle.std.specs.Fmt.{decimal}
 use Rattle.std.specs.List.{AllByRecursion, join_by}
@@ -15,9 +15,9 @@ use Rattle.semver_base.specs.declared.range.RangeBound.{RangeBound}
 use Rattle.semver_base.specs.declared.range.RangeBound.TheVariants as bound
 use Rattle.semver_base.specs.declared.range.VersionRange.{VersionRange}
 
--- ---- as letters
+-- ---- as text
 
--- wildcards at the end aren't written, unless there is nothing else
+-- trailing wildcards aren't printed, unless there is nothing else
 abbrev pub text_by : Partial → XRange → XRange → XRange → List ℕ
 text_by p Wildcard minor patch = codes "*"
 text_by p (Val major) Wildcard patch = decimal major
@@ -40,12 +40,12 @@ comparators_text cs = join_by comparator_text (codes " ") cs
 abbrev pub range_text : VersionRange → List ℕ
 range_text r = comparators_text (shortest r)
 
--- the ranges' texts, or for no ranges what means nothing
+-- the ranges' texts joined by ` || `, or without ranges the text that matches no release
 abbrev pub set_text : List VersionRange → List ℕ
 set_text [] = codes "<0.0.0"
 set_text (r ∷ more) = join_by range_text (codes " || ") (r ∷ more)
 
--- ---- which ranges have a text that reads back
+-- ---- which ranges have a text that parses back
 
 abbrev pub IsWritableBound : RangeBound → Type 0
 IsWritableBound bound.Unbounded = Unit {0}

@@ -1,4 +1,4 @@
--- What is kept of a type beside its values.
+-- What is recorded of a type beside its values.
 use Rattle.std.specs.Prelude.{◌^◌}
 use prog.Memory.{size}
 use denote.RattleType.{RattleType}

@@ -1,6 +1,6 @@
--- What a comparator is: the two bounds that a partial version stands for under `~`, `^`, a primitive kind or alone, and
--- the sums that they need. Numbers are of any size. Source: node-semver's "Advanced Range Syntax" and its range
--- grammar, with the cases of wildcards before numbers that `deno_semver` has.
+-- The two bounds of a partial version under `~`, `^`, a comparison operator or alone, and the sums that they need. Numbers
+-- are of any size. Source: node-semver's "Advanced Range Syntax" and its range grammar, with `deno_semver`'s cases of
+-- wildcards before numbers.
 use Rattle.std.specs.Prelude.{◌≡◌, ℕ, List, [], ◌∷◌, ◌+◌, ◌^◌, Bool, false, true, Option, Some, None, ◌⊎◌, nat_lt, if◌then◌else◌}
 use Rattle.std.specs.List.{list_all}
 use Rattle.semver_base.specs.Failure.{refusal_message}
@@ -20,7 +20,7 @@ use Rattle.semver_base.specs.declared.partial.Partial.{Partial}
 use Rattle.semver_base.specs.declared.partial.XRange.{XRange}
 use Rattle.semver_base.specs.declared.partial.XRange.TheVariants.{Wildcard, Val}
 
--- ---- lines of the table: an answer, and the sums that it needs
+-- ---- lines of the table: a range or an end, and the sums that it needs
 
 pub record Line : Type 0 where
   pub range : VersionRange
@@ -41,7 +41,7 @@ all_fit sums = list_all number_fits sums
 abbrev pub bound_too_large : Option (List ℕ × Option (List ℕ))
 bound_too_large = Some (refusal_message BoundTooLarge, None)
 
--- the failure of a call whose line has these sums: want of memory, or a bound too large where one of them doesn't fit
+-- how a call whose line has these sums fails: out of memory, or with a bound too large if one of them doesn't fit
 abbrev pub IsBoundRefusal : List ℕ → Option (List ℕ × Option (List ℕ)) → Type 0
 IsBoundRefusal sums failure = (failure ≡ None) ⊎ ((failure ≡ bound_too_large) × (all_fit sums ≡ false))
 
@@ -62,7 +62,7 @@ abbrev pub without_build : Partial → Version
 without_build p =
     record { major = or_zero p.major; minor = or_zero p.minor; patch = or_zero p.patch; pre = p.pre; build = [] }
 
--- the end at a version that holds it
+-- the end that includes its version
 abbrev pub up_to : Version → RangeBound
 up_to = bound_at kind.Inclusive
 
@@ -81,7 +81,7 @@ pub record IsLineRange (line : Line) (range : VersionRange) : Type 0 where
 abbrev pub of_numbers : Numbers → Partial
 of_numbers n = record { major = Val n.major; minor = Val n.minor; patch = Val n.patch; pre = []; build = [] }
 
--- one to three numbers, as a partial version: what is missing is a wildcard
+-- one to three numbers, as a partial version with wildcards for the missing ones
 abbrev pub of_few : FewNumbers → Partial
 of_few (few.One m) = record { major = Val m; minor = Wildcard; patch = Wildcard; pre = []; build = [] }
 of_few (few.Two m n) = record { major = Val m; minor = Val n; patch = Wildcard; pre = []; build = [] }
@@ -91,7 +91,7 @@ of_few (few.Three n) = of_numbers n
 abbrev pub release_of : Numbers → Version
 release_of n = release n.major n.minor n.patch
 
--- the range from one release, which it holds, to another
+-- the range from one release, inclusive, to another
 abbrev pub release_range : ReleaseRange → VersionRange
 release_range r = between (from (release_of r.start)) (bound_at r.end_kind (release_of r.end))
 
@@ -99,7 +99,7 @@ release_range r = between (from (release_of r.start)) (bound_at r.end_kind (rele
 abbrev pub lower_to_below : Partial → Version → List ℕ → Line
 lower_to_below p end sums = record { range = between (from (lowest p)) (to_below end); sums = sums }
 
--- ---- tilde: patches may grow, or minors where none is given
+-- ---- tilde: patches may grow, or minors if no minor is given
 
 abbrev pub tilde_by : Partial → XRange → XRange → Line
 tilde_by p Wildcard minor = any
@@ -109,7 +109,7 @@ tilde_by p (Val major) (Val minor) = lower_to_below p (release major (minor + 1)
 abbrev pub tilde : Partial → Line
 tilde p = tilde_by p p.major p.minor
 
--- ---- caret: what is right of the leftmost number that isn't 0 may grow
+-- ---- caret: what is right of the leftmost non-zero number may grow
 
 abbrev pub caret_patch : Partial → XRange → Line
 caret_patch p Wildcard = lower_to_below p (release 0 1 0) []

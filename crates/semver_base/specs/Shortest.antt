@@ -1,5 +1,5 @@
--- The shortest usual form of a range, as comparators. Source: node-semver's range grammar, whose tilde, caret and
--- partial versions are short for two bounds.
+-- The shortest usual form of a range, as comparators. Source: node-semver's range grammar, whose tilde, caret and partial
+-- versions abbreviate two bounds.
 use Rattle.std.specs.Prelude.{ℕ, List, [], ◌∷◌, length, map, ◌+◌, Bool, ◌==◌, ◌&&◌, ◌||◌, nat_lt, if◌then◌else◌}
 use Rattle.semver_base.specs.Comparators.{Caret, Comparator, OfPrimitive, Plain, Tilde}
 use Rattle.semver_base.specs.Meaning.{release}
@@ -34,7 +34,7 @@ ending kind.Exclusive e = OfPrimitive primitive.LessThan (whole e)
 
 -- ---- the shortest form of a range: the first line that fits
 
--- the version has these numbers, neither a pre-release nor a build
+-- the version has these numbers, and neither a pre-release nor a build
 abbrev pub is_plain : Version → ℕ → ℕ → ℕ → Bool
 is_plain v major minor patch =
     (v.major == major) && ((v.minor == minor) && ((v.patch == patch) && ((length v.pre == 0) && (length v.build == 0))))
@@ -78,7 +78,7 @@ shortest_of (bound.Version s) (bound.Version e) = shortest_between s.kind e.kind
 abbrev pub shortest : VersionRange → List Comparator
 shortest range = shortest_of range.start range.end
 
--- a form of one comparator, for a range from s to below e
+-- a range from s to below e has a form of one comparator
 abbrev pub has_short_form : Version → Version → Bool
 has_short_form s e = is_major s e || (is_tilde s e || (is_caret_patch s e || is_caret_major s e))
 

@@ -1,5 +1,4 @@
--- Texts that stand in the value itself where they are short, lists whose copies share their items, and what replacing
--- is.
+-- Short texts that are stored inline, lists whose copies share their items, and what replacing means.
 use Rattle.std.specs.Prelude.{◌≡◌, ℕ, List, [], ◌∷◌, ◌++◌, ◌<◌, ◌≤◌, ◌==◌, length, take, drop, slice_get, string_bytes, encode_utf8, Some, None}
 use Rattle.std.specs.List.{take_while}
 use Rattle.std.specs.Str.{chars}
@@ -12,21 +11,21 @@ use Rattle.semver_base.specs.declared.string.Kept.TheVariants as kept
 use Rattle.semver_base.specs.declared.string.list.Items.{Items}
 use Rattle.semver_base.specs.declared.string.list.Items.TheVariants as items
 
--- the bytes of a text, however it is kept
+-- the bytes of a text, however it is stored
 abbrev pub kept_bytes : {limit : ℕ} → Kept limit → List ℕ
 kept_bytes (kept.Inline s) = s.bytes
 kept_bytes (kept.Heap s) = string_bytes s
 
--- only a text of more than limit bytes stands in a `String`
+-- only a text of more than limit bytes is stored in a `String`
 abbrev pub IsInlineIfShort : {limit : ℕ} → Kept limit → Type 0
 IsInlineIfShort (kept.Inline s) = Unit {0}
 IsInlineIfShort {limit} (kept.Heap s) = limit < length (string_bytes s)
 
--- how many zeros stand at the front
+-- how many zeros the text begins with
 abbrev pub zeros_in_front : List ℕ → ℕ
 zeros_in_front bytes = length (take_while (λ b. b == zero_digit) bytes)
 
--- how a text stands, with the number of its zeros
+-- a text is stored inline if short, with its number of leading zeros
 pub record IsKept {limit : ℕ} (text : Kept limit) (zeros : ℕ) : Type 0 where
   pub inline : IsInlineIfShort text
   pub zeros_are : zeros ≡ zeros_in_front (kept_bytes text)
@@ -38,14 +37,14 @@ items_of (items.One one) = one.item.value ∷ []
 items_of (items.Two two) = two.items.value
 items_of (items.Many many) = many.value.items
 
--- a list with a shared pointer has items
+-- a list with a shared pointer isn't empty
 abbrev pub IsFilledIfShared : {T : Type 0} → Items T → Type 0
 IsFilledIfShared items.None = Unit {0}
 IsFilledIfShared (items.One one) = Unit {0}
 IsFilledIfShared (items.Two two) = 0 < length two.items.value
 IsFilledIfShared (items.Many many) = 0 < length many.value.items
 
--- no memory is needed to take the text over: it is owned, or has at most limit bytes
+-- taking the text over needs no allocation: it is owned, or has at most limit bytes
 abbrev pub FitsOrIsOwned : {Z : Type 0} → ℕ → CowStr Z → Type 0
 FitsOrIsOwned limit (cow.Borrowed text) = length text.now ≤ limit
 FitsOrIsOwned limit (cow.Owned text) = Unit {0}
@@ -53,8 +52,7 @@ FitsOrIsOwned limit (cow.Owned text) = Unit {0}
 abbrev pub IsFirstCharacter : ℕ → List ℕ → Type 0
 IsFirstCharacter c text = slice_get (chars text) 0 ≡ Some c
 
--- text with to in place of each leftmost from that doesn't overlap an earlier one; an empty from stands before each
--- character and at the end
+-- text with each leftmost, non-overlapping from replaced by to; an empty from matches before each character and at the end
 pub data IsReplaced (from to : List ℕ) : List ℕ → List ℕ → Type 0 where
   no_more : {text : List ℕ} → FindsText from text None → IsReplaced from to text text
   one_more : {text replaced : List ℕ} {start end : ℕ} → FindsText from text (Some (start, end)) → 0 < length from

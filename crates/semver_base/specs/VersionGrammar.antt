@@ -1,5 +1,5 @@
--- The grammar of version texts, and which fault of a text is the first from the left. Source: SemVer 2.0.0, section 2
--- and its grammar, in the loose form of node-semver: leading `=`, `v` and zeros, a pre-release without `-`.
+-- The grammar of version texts, and which fault of a text comes first. Source: SemVer 2.0.0, section 2 and its grammar, in
+-- node-semver's loose form: a leading `=` or `v`, leading zeros, and a pre-release without `-`.
 use Rattle.std.specs.Prelude.{◌≡◌, ◌≤◌, ◌<◌, ◌^◌, ℕ, List, [], ◌∷◌, Option, Some, None, Result, Ok, Err, ◌⊎◌, MatchResult, IsErrAnd}
 use Rattle.semver_base.specs.Characters.{dot, equals_sign, letter_v}
 use Rattle.semver_base.specs.Failure.{refusal_message}
@@ -16,11 +16,11 @@ use Rattle.semver_base.specs.declared.version.Version.{Version}
 abbrev pub ignored : Option (Unit {0}) → Unit {0}
 ignored v = tt
 
--- an optional `=`, blanks, and optionally a `v` with blanks after it
+-- an optional `=`, whitespace, and an optional `v` with whitespace after it
 abbrev pub IsLead : List ℕ → Unit {0} → Type 0
 IsLead = Mapped ignored (After (Optional (IsByte equals_sign)) (After IsBlanks (Optional (Prefixed letter_v IsBlanks))))
 
--- three numbers with dots between
+-- three numbers with dots between them
 abbrev pub IsTriple : List ℕ → ℕ × (ℕ × ℕ) → Type 0
 IsTriple = Followed IsLooseNumber (Prefixed dot (Followed IsLooseNumber (Prefixed dot IsLooseNumber)))
 
@@ -42,7 +42,7 @@ pub record AllNumbersFit (v : Version) : Type 0 where
 abbrev pub LacksDot : List ℕ → Type 0
 LacksDot text = (rest : List ℕ) → text ≡ dot ∷ rest → ⊥
 
--- the first fault of numbers with dots between, each number as long as it goes; missing has the refusal for each dot
+-- the first fault of numbers with dots between them, each number as long as possible; missing has the refusal of each dot
 -- that has to come
 pub data IsNumberFault : List Refusal → List ℕ → Refusal → Type 0 where
   too_large : {missing : List Refusal} {text rest : List ℕ} {n : ℕ} → IsLongest IsLooseNumber text n rest → 2 ^ 64 ≤ n
@@ -54,22 +54,22 @@ pub data IsNumberFault : List Refusal → List ℕ → Refusal → Type 0 where
       → IsLongest IsLooseNumber text n (dot ∷ rest) → n < 2 ^ 64 → IsNumberFault missing rest fault
       → IsNumberFault (refusal ∷ missing) text fault
 
--- a number that is too large or a component that is missing is the first fault of the text
+-- the first fault of the text is a number that is too large or a missing component
 pub record IsFirstFault (text : List ℕ) (fault : Refusal) : Type 0 where
   pub rest : List ℕ
   pub lead : IsLongest IsLead text tt rest
   pub fault_of_rest : IsNumberFault (MissingMinor ∷ MissingPatch ∷ []) rest fault
 
--- what a trimmed text stands for: a version, the refusal of its first fault, or any other text
+-- the outcome of a trimmed text: a version, its first fault, or outside the grammar
 pub data IsVersionOutcome (text : List ℕ) : Result Version Refusal → Type 0 where
   is_version : {v : Version} → IsVersion text v → AllNumbersFit v → IsVersionOutcome text (Ok v)
   is_fault : {fault : Refusal} → IsFirstFault text fault → IsVersionOutcome text (Err fault)
   is_outside : ((v : Version) → IsVersion text v → ⊥) → ((fault : Refusal) → IsFirstFault text fault → ⊥)
       → IsVersionOutcome text (Err UnexpectedCharacter)
 
--- ---- answers
+-- ---- results
 
--- a missing component shows the whole text
+-- the snippet of a missing component is the whole text
 abbrev pub version_snippet : Refusal → List ℕ → Option (List ℕ)
 version_snippet MissingMinor text = Some text
 version_snippet MissingPatch text = Some text
@@ -78,16 +78,16 @@ version_snippet EmptyConstraint text = None
 version_snippet NumberTooLarge text = None
 version_snippet BoundTooLarge text = None
 
--- what a failure shows of a refusal
+-- the failure that reports a refusal
 abbrev pub version_failure : Refusal → List ℕ → Option (List ℕ × Option (List ℕ))
 version_failure fault text = Some (refusal_message fault, version_snippet fault text)
 
--- the failure is want of memory, or shows the refusal that the text has as its outcome
+-- the failure is out of memory, or reports the refusal that is the text's outcome
 abbrev pub IsVersionRefusal : List ℕ → Option (List ℕ × Option (List ℕ)) → Type 0
 IsVersionRefusal text failure =
     (failure ≡ None) ⊎ ((fault : Refusal) × IsVersionOutcome text (Err fault) × (failure ≡ version_failure fault text))
 
--- the answer to a text with this outcome, want of memory aside; source is the failure in the error
+-- the result for a text with this outcome, or out of memory; source is the failure in the error
 abbrev pub IsVersionAnswer : {E : Type 0} → (E → Option (List ℕ × Option (List ℕ))) → List ℕ → Result Version Refusal
     → Result Version E → Type 0
 IsVersionAnswer source text (Ok v) result = MatchResult result (λ version. version ≡ v) (λ e. source e ≡ None)

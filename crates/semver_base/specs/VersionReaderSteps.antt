@@ -1,4 +1,4 @@
--- The private steps of the version reader: what each of its private functions answers. No public contract cites them.
+-- The private steps of the version parser: what each of its private functions returns. No public contract cites them.
 use Rattle.std.specs.Prelude.{◌≡◌, ◌≤◌, ◌<◌, ◌^◌, ℕ, List, [], ◌∷◌, true, ◌⊎◌, slice_index}
 use Rattle.std.specs.Char.{is_ascii_digit}
 use Rattle.semver_base.specs.Grammar.{HasNone, IsLongest}
@@ -12,12 +12,12 @@ use Rattle.semver_base.specs.declared.version.Version.{Version}
 use Rattle.semver_base.specs.declared.failure.Refusal.{Refusal}
 use Rattle.semver_base.specs.declared.failure.Refusal.TheVariants.{UnexpectedCharacter, MissingMinor, MissingPatch, NumberTooLarge}
 
--- the longest number at the front, which fits
+-- the longest leading number, which fits
 pub record IsFittingNumber (text : List ℕ) (n : ℕ) (rest : List ℕ) : Type 0 where
   pub number : IsLongest IsLooseNumber text n rest
   pub fits : n < 2 ^ 64
 
--- the longest number at the front doesn't fit
+-- the longest leading number doesn't fit
 pub record HasLargeNumber (text : List ℕ) : Type 0 where
   pub n : ℕ
   pub rest : List ℕ
@@ -28,7 +28,7 @@ abbrev pub IsNumberRefusal : List ℕ → Refusal → Type 0
 IsNumberRefusal text refusal =
     ((refusal ≡ NumberTooLarge) × HasLargeNumber text) ⊎ ((refusal ≡ UnexpectedCharacter) × HasNone IsLooseNumber text)
 
--- the longest three numbers at the front, which fit
+-- the longest three leading numbers, which fit
 pub record IsFittingTriple (text : List ℕ) (v : ℕ × (ℕ × ℕ)) (rest : List ℕ) : Type 0 where
   pub triple : IsLongest IsTriple text v rest
   pub major_fits : v.0 < 2 ^ 64
@@ -36,11 +36,11 @@ pub record IsFittingTriple (text : List ℕ) (v : ℕ × (ℕ × ℕ)) (rest : L
   pub patch_fits : v.1.1 < 2 ^ 64
   pub no_digit : is_ascii_digit (slice_index rest 0) ≡ true → ⊥
 
--- what the numbers of a version may have as their first fault
+-- the first fault that a version's numbers may have
 abbrev pub IsFaultOfNumbers : List ℕ → Refusal → Type 0
 IsFaultOfNumbers = IsNumberFault (MissingMinor ∷ MissingPatch ∷ [])
 
--- no three numbers stand at the front, and nothing of them has a fault of its own
+-- the text doesn't begin with three numbers, and none of them has a fault of its own
 pub record IsOutsideTriple (text : List ℕ) : Type 0 where
   pub no_triple : HasNone IsTriple text
   pub no_fault : (fault : Refusal) → IsFaultOfNumbers text fault → ⊥
@@ -48,18 +48,18 @@ pub record IsOutsideTriple (text : List ℕ) : Type 0 where
 abbrev pub IsTripleRefusal : List ℕ → Refusal → Type 0
 IsTripleRefusal text refusal = IsFaultOfNumbers text refusal ⊎ ((refusal ≡ UnexpectedCharacter) × IsOutsideTriple text)
 
--- the whole text is the longest front that is a version, and its numbers fit
+-- the longest prefix that is a version is the whole text, and its numbers fit
 pub record IsReadVersion (text : List ℕ) (v : Version) : Type 0 where
   pub longest : IsLongest IsVersion text v []
   pub fits : AllNumbersFit v
 
--- the version of these numbers and of the qualifier that the whole text is
+-- the version of these numbers and the qualifier that is the whole text
 pub record IsQualified (numbers : Numbers) (text : List ℕ) (v : Version) : Type 0 where
   pub qualifier : Qualifier
   pub longest : IsLongest (IsQualifier Loose) text qualifier []
   pub version_is : v ≡ version_of ((numbers.major, (numbers.minor, numbers.patch)), qualifier)
 
--- the whole text is read as the version, and there is nothing to trim
+-- the whole text parses to the version, and trimming leaves it unchanged
 pub record IsPlainVersion (text : List ℕ) (v : Version) : Type 0 where
   pub version : IsReadVersion text v
   pub trimmed : trim text ≡ text
