@@ -1,8 +1,7 @@
-//! Partial versions and primitive kinds, read from the front of a text or at a place in it.
+//! Parsers of partial versions and operators, at the start of a text or at a position in it.
 //!
-//! Each reader takes the longest front that its grammar has, and answers what that front stands for and what follows
-//! it; it answers `None` where no front is in the grammar. A number that is too large is read to its end, so the rest
-//! is the same as if it fitted.
+//! Each parser takes the longest prefix that its grammar matches, and returns its value and what follows it; or `None` if no
+//! prefix matches. A number that is too large is parsed to its end, so the rest is the same as if it fitted.
 
 ghost use Rattle.std.specs.Prelude.{◌≡◌, IfOk, IfSome, drop};
 ghost use Rattle.std.specs.Str.{IsCharBoundary};
@@ -27,7 +26,7 @@ use separators::after_operator;
 use std::alloc::{AllocError, Global};
 use values::{Flavour, Primitive, PrimitiveKind};
 
-// What follows a wildcard, where the text begins with one.
+// Strips a leading wildcard.
 #[inline(always)]
 fn wildcard(text: &str, flavour: Flavour) -> Option<&str>
     ensures { IsAfterOne (is_wildcard flavour) text.now result }
@@ -55,7 +54,7 @@ fn component_of(number: Measured<u64>) -> Measured<XRange>
     }
 }
 
-// A wildcard or a number.
+// Parses a wildcard or a number.
 #[inline(always)]
 fn component(text: &str, flavour: Flavour) -> Option<(Measured<XRange>, &str)>
     ensures { ReadsAs sized_component (IsComponent flavour) text.now (answer_of result) }
@@ -67,13 +66,13 @@ fn component(text: &str, flavour: Flavour) -> Option<(Measured<XRange>, &str)>
     Some((component_of(value), rest))
 }
 
-// The third component, and what follows it.
+// The third component and the qualifier.
 struct FromPatch {
     patch: Measured<XRange>,
     qualifier: Qualifier,
 }
 
-// `.`, a component and a qualifier.
+// Parses `.`, a component and a qualifier.
 #[inline(always)]
 fn third(
     alloc: Global,
@@ -92,7 +91,7 @@ fn third(
     Ok(Some((FromPatch { patch, qualifier }, rest)))
 }
 
-// The third part, or a wildcard.
+// Parses the third part, or a wildcard if it is missing.
 #[inline(always)]
 fn optional_third(
     alloc: Global,
@@ -121,7 +120,7 @@ struct FromMinor {
     qualifier: Qualifier,
 }
 
-// `.`, a component, and then the third part or nothing.
+// Parses `.`, a component, and then an optional third part.
 #[inline(always)]
 fn second(
     alloc: Global,
@@ -146,7 +145,7 @@ fn second(
     Ok(Some((second, rest)))
 }
 
-// What follows the first component, or wildcards.
+// Parses what follows the first component, or wildcards if it is missing.
 #[inline(always)]
 fn optional_second(
     alloc: Global,
@@ -169,7 +168,7 @@ fn optional_second(
     }
 }
 
-// The partial version of these components, where none is too large.
+// Assembles the partial version of these components, if none is too large.
 #[inline(always)]
 fn assemble(major: Measured<XRange>, second: FromMinor) -> Measured<Partial>
     ensures { result ≡ assembled major second }
@@ -193,7 +192,7 @@ fn assemble(major: Measured<XRange>, second: FromMinor) -> Measured<Partial>
     }
 }
 
-// A partial version with no `v` before it.
+// Parses a partial version without a `v` before it.
 #[inline(always)]
 fn plain_partial(
     alloc: Global,
@@ -210,7 +209,7 @@ fn plain_partial(
     Ok(Some((assemble(major, second), rest)))
 }
 
-// A partial version, which may have a `v` before it.
+// Parses a partial version with an optional `v` before it.
 #[inline(always)]
 fn npm_partial(alloc: Global, text: &str) -> Result<Option<(Measured<Partial>, &str)>, AllocError>
     ensures { IfOk result
@@ -222,10 +221,10 @@ fn npm_partial(alloc: Global, text: &str) -> Result<Option<(Measured<Partial>, &
     }
 }
 
-/// The partial version at the front of the text, and what follows it (node-semver's range grammar, `partial`).
+/// Parses a leading partial version (node-semver's range grammar, `partial`).
 ///
-/// The value is `Measured::TooLarge` exactly where a number among the components is larger than
-/// 18446744073709551615. It is an error only where no memory is left.
+/// The value is `Measured::TooLarge` exactly if a number among the components is larger than 18446744073709551615. Fails only
+/// out of memory.
 pub fn partial_front(
     alloc: Global,
     text: &str,
@@ -240,7 +239,7 @@ pub fn partial_front(
     }
 }
 
-// The primitive kind `with_equal` where a `=` comes next, else the primitive kind `alone`; and what follows it.
+// The operator `with_equal` if a `=` comes next, otherwise `alone`; and what follows it.
 fn with_equal(rest: &str, alone: PrimitiveKind, with_equal: PrimitiveKind) -> (PrimitiveKind, &str)
     ensures { IsMaybeEqual rest.now alone with_equal result.0 result.1.now }
 {
@@ -250,7 +249,7 @@ fn with_equal(rest: &str, alone: PrimitiveKind, with_equal: PrimitiveKind) -> (P
     }
 }
 
-/// The primitive kind at the front, and what follows it.
+/// Parses a leading operator.
 pub fn primitive_kind_front(text: &str) -> Option<(PrimitiveKind, &str)>
     ensures { Reads IsPrimitiveKind text.now (answer_of result) }
 {
@@ -281,7 +280,7 @@ fn primitive_of(kind: PrimitiveKind, partial: Measured<Partial>) -> Measured<Pri
     }
 }
 
-// The primitive kind and the partial version at the front, and what follows them.
+// Parses a leading operator and partial version.
 fn primitive_front(
     alloc: Global,
     text: &str,
@@ -299,10 +298,10 @@ fn primitive_front(
     Ok(Some((primitive_of(kind, partial), rest)))
 }
 
-/// The partial version at the place in the text, and the place that it reaches.
+/// Parses the partial version at a position in the text, and returns the position after it.
 ///
-/// The value is `Measured::TooLarge` exactly where a number among the components is larger than
-/// 18446744073709551615. It is an error only where no memory is left.
+/// The value is `Measured::TooLarge` exactly if a number among the components is larger than 18446744073709551615. Fails only
+/// out of memory.
 pub fn partial(
     alloc: Global,
     text: &str,
@@ -319,10 +318,10 @@ pub fn partial(
     }
 }
 
-/// The qualifier at the place in the text, which may be empty, and the place that it reaches (node-semver's range
+/// Parses the qualifier at a position in the text, which may be empty, and returns the position after it (node-semver's range
 /// grammar, `qualifier`).
 ///
-/// It is an error only where no memory is left.
+/// Fails only out of memory.
 pub fn qualifier(
     alloc: Global,
     text: &str,
@@ -338,7 +337,7 @@ pub fn qualifier(
     Ok((qualifier, text.len() - rest.len()))
 }
 
-/// The primitive kind at the place in the text, and the place that it reaches.
+/// Parses the operator at a position in the text, and returns the position after it.
 pub fn primitive_kind(text: &str, place: usize) -> Option<(PrimitiveKind, usize)>
     requires { IsCharBoundary text.now place }
     ensures value { Reads IsPrimitiveKind (drop place text.now) (answer_at text.now result) }
@@ -348,11 +347,11 @@ pub fn primitive_kind(text: &str, place: usize) -> Option<(PrimitiveKind, usize)
     Some((kind, text.len() - rest.len()))
 }
 
-/// The primitive kind and the partial version at the place in the text, with blanks between them or none, and the place
-/// that they reach (node-semver's range grammar, `primitive`).
+/// Parses the operator and the partial version at a position in the text, with optional whitespace between them, and returns
+/// the position after them (node-semver's range grammar, `primitive`).
 ///
-/// The value is `Measured::TooLarge` exactly where a number among the components is larger than
-/// 18446744073709551615. It is an error only where no memory is left.
+/// The value is `Measured::TooLarge` exactly if a number among the components is larger than 18446744073709551615. Fails only
+/// out of memory.
 pub fn primitive(
     alloc: Global,
     text: &str,
@@ -369,8 +368,8 @@ pub fn primitive(
     }
 }
 
-/// The `||` at the place in the text with the blanks round it, and the place that they reach (node-semver's range
-/// grammar, `logical-or`).
+/// Parses the `||` at a position in the text with the whitespace around it, and returns the position after them
+/// (node-semver's range grammar, `logical-or`).
 pub fn logical_or(text: &str, place: usize) -> Option<usize>
     requires { IsCharBoundary text.now place }
     ensures value { Reads (IsOperator bar) (drop place text.now) (place_answer text.now result) }
@@ -380,7 +379,7 @@ pub fn logical_or(text: &str, place: usize) -> Option<usize>
     Some(text.len() - rest.len())
 }
 
-/// The `&&` at the place in the text with the blanks round it, and the place that they reach.
+/// Parses the `&&` at a position in the text with the whitespace around it, and returns the position after them.
 pub fn logical_and(text: &str, place: usize) -> Option<usize>
     requires { IsCharBoundary text.now place }
     ensures value { Reads (IsOperator ampersand) (drop place text.now)

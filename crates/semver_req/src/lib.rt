@@ -1,8 +1,8 @@
-//! Requirements: what they are made of, and their three readers.
+//! Version requirements and their three parsers.
 //!
-//! The second crate of the port of `deno_semver`. Its modules, bottom up: `common`, comparators read from a text; `tag`,
-//! which texts are tags; `range_set_or_tag` and `req`, what a requirement is, and the normalized reader; `specifier`, the
-//! strict reader; `npm`, npm's reader; `parse`, the reader of any of the three grammars.
+//! The second crate of the port of `deno_semver`. Its modules, bottom up: `common`, comparators parsed from a text; `tag`,
+//! which texts are tags; `range_set_or_tag` and `req`, requirements and their canonical form, and the normalized parser;
+//! `specifier`, the strict parser; `npm`, npm's parser; `parse`, the parser of any of the three grammars.
 #![tactic(auto)]
 
 pub mod common;

@@ -1,4 +1,4 @@
-//! What npm's rules say of requirements and versions: npm's readers, and which texts are tags.
+//! npm's parsers of requirements and versions, and its rule for tags.
 
 mod read;
 mod version;

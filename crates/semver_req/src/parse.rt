@@ -1,4 +1,4 @@
-//! Requirements by a grammar that is an argument.
+//! Parsing by any of the three grammars.
 
 ghost use Rattle.std.specs.Prelude.{IfErr};
 ghost use Rattle.semver_req.specs.Readers.{IsReaderAnswer};
@@ -10,9 +10,9 @@ use semver_base::failure::ParseFailure;
 use std::alloc::Global;
 
 impl VersionReq {
-    /// The requirement that the text is by this grammar: npm's, the normalized one or that of package specifiers.
+    /// Parses a requirement by this grammar: npm's, the normalized one or that of package specifiers.
     ///
-    /// Any failure but the grammar's own is out of memory.
+    /// Fails with that grammar's errors, or out of memory.
     pub fn parse(alloc: Global, text: &str, flavour: Flavour) -> Result<VersionReq, ParseFailure>
         ensures reads { IsReaderAnswer (λ failure. failure) flavour text.now result }
         ensures refusal { IfErr result (IsTextRefusal flavour text.now) }

@@ -1,4 +1,4 @@
-//! What a requirement stands for, ranges of versions or a tag, and how npm's and the normalized grammar read it.
+//! What a requirement means, version ranges or a tag, and its parsers by npm's and the normalized grammar.
 
 ghost use Rattle.std.specs.Prelude.{◌≡◌, ◌⊎◌, IfErr, IfOk, IfSome, None, Some, true, false};
 ghost use Rattle.std.specs.Bool.{OnFalse};
@@ -29,16 +29,16 @@ use std::fmt;
 /// The text of a tag.
 pub type PackageTag = SmallStackString;
 
-/// Ranges of versions, or the name of a version that a registry keeps.
+/// Version ranges, or the name of a version in a registry.
 #[derive(Debug, PartialEq, Eq, Hash, Drop)]
 pub enum RangeSetOrTag {
-    /// Ranges, of which a version need match only one.
+    /// Alternative ranges: a version need match only one.
     RangeSet(VersionRangeSet),
-    /// A tag, such as `latest`: a registry alone knows which version it names.
+    /// A tag, such as `latest`: only a registry knows which version it names.
     Tag(PackageTag),
 }
 
-// The text as a tag, or the refusal where it is none.
+// Returns the text as a tag; fails with `refusal` if it isn't a valid one.
 fn tag_or(alloc: Global, text: &str, refusal: Refusal) -> Result<RangeSetOrTag, ParseFailure>
     ensures tag { IfOk result
         (λ inner. (inner ≡ RangeSetOrTag.Tag text.now) × (is_valid_tag text.now ≡ true)) }
@@ -51,7 +51,7 @@ fn tag_or(alloc: Global, text: &str, refusal: Refusal) -> Result<RangeSetOrTag, 
     Err(ParseFailure::of_refusal(alloc, refusal))
 }
 
-// The ranges of a plain text, where each reader answers the same. Where it answers `None` nothing is known of the text.
+// The range of a plain text, which each parser returns alike. `None` says nothing about the text.
 #[inline(always)]
 fn plain_set(alloc: Global, text: &str) -> Result<Option<RangeSetOrTag>, AllocError>
     ensures { IfOk result (λ r. IfSome r (IsPlainReading text.now)) }
@@ -64,13 +64,13 @@ fn plain_set(alloc: Global, text: &str) -> Result<Option<RangeSetOrTag>, AllocEr
 }
 
 impl RangeSetOrTag {
-    /// What the normalized grammar makes of a text, which it cuts at each `||`: the ranges of its pieces, without those
+    /// Parses a text by the normalized grammar, which splits it at each `||`: into the ranges of its pieces, without those
     /// that end below 0.0.0, or a tag.
     ///
-    /// Blanks that follow a `||` are skipped, and a last piece of nothing after one is left out. A text of one bad piece
-    /// is a tag where the trimmed piece is a valid one. Else a text with a bad piece is refused as its first bad piece
-    /// is: with "Unexpected character." outside the grammar, with "Number is too large." or "Version bound is too large."
-    /// where that is all that is wrong. Any other failure is want of memory.
+    /// Whitespace after a `||` is skipped, and an empty last piece after one is left out. If the only piece is invalid, the
+    /// text is a tag if the trimmed piece is a valid one. Otherwise a text with an invalid piece fails as its first invalid
+    /// piece does: with "Unexpected character." outside the grammar, with "Number is too large." or "Version bound is too
+    /// large." if that is all that is wrong. Also fails out of memory.
     pub fn parse(alloc: Global, text: &str) -> Result<RangeSetOrTag, ParseFailure>
         ensures reading { IfOk result (IsReading Normal text.now) }
         ensures refused { IfErr result
@@ -83,7 +83,7 @@ impl RangeSetOrTag {
         }
     }
 
-    // What the normalized grammar makes of a text, piece by piece.
+    // Parses a text by the normalized grammar, piece by piece.
     #[inline(never)]
     fn parse_pieces(alloc: Global, text: &str) -> Result<RangeSetOrTag, ParseFailure>
         ensures reading { IfOk result (IsReading Normal text.now) }
@@ -100,13 +100,13 @@ impl RangeSetOrTag {
         }
     }
 
-    /// What npm's grammar makes of a text, which it trims and then cuts at each `||`: the ranges of its good pieces,
+    /// Parses a text by npm's grammar, which trims it and then splits it at each `||`: into the ranges of its valid pieces,
     /// without those that end below 0.0.0, or a tag.
     ///
-    /// Blanks that follow a `||` are skipped, and a last piece of nothing after one is left out. A text of one bad piece
-    /// is a tag where the trimmed piece is a valid one, and else is refused: with "Unexpected character." outside the
-    /// grammar, with "Number is too large." or "Version bound is too large." where that is all that is wrong. Of a text
-    /// of two or more pieces the bad ones are left out. Any other failure is want of memory.
+    /// Whitespace after a `||` is skipped, and an empty last piece after one is left out. If the only piece is invalid, the
+    /// text is a tag if the trimmed piece is a valid one, and otherwise fails: with "Unexpected character." outside the
+    /// grammar, with "Number is too large." or "Version bound is too large." if that is all that is wrong. Of two or more
+    /// pieces, the invalid ones are left out. Also fails out of memory.
     pub fn parse_npm(alloc: Global, text: &str) -> Result<RangeSetOrTag, ParseFailure>
         ensures reading { IfOk result (IsReading Npm text.now) }
         ensures refused { IfErr result
@@ -119,7 +119,7 @@ impl RangeSetOrTag {
         }
     }
 
-    // What npm's grammar makes of a text, piece by piece.
+    // Parses a text by npm's grammar, piece by piece.
     #[inline(never)]
     fn parse_npm_pieces(alloc: Global, text: &str) -> Result<RangeSetOrTag, ParseFailure>
         ensures reading { IfOk result (IsReading Npm text.now) }
@@ -136,8 +136,8 @@ impl RangeSetOrTag {
         }
     }
 
-    /// Whether the two overlap: two range sets by the rule of [`VersionRangeSet::intersects_set`], two tags where they are
-    /// the same, a tag and ranges never. Where two range sets don't overlap, no version matches both.
+    /// Whether the two overlap: two range sets as in [`VersionRangeSet::intersects_set`], two tags if they are the same, a
+    /// tag and ranges never. If two range sets don't overlap, no version matches both.
     #[tactic(auto, using(crate::proofs::Overlaps::inner_swap, crate::proofs::Overlaps::inner_no_common, crate::proofs::Overlaps::inner_tags))]
     pub fn intersects(&self, other: &RangeSetOrTag) -> bool
         ensures value { result ≡ inner_overlap self.now other.now }
@@ -154,7 +154,7 @@ impl RangeSetOrTag {
         }
     }
 
-    /// The same ranges or tag again. It is an error only where no memory is left.
+    /// Returns a copy. Fails only out of memory.
     pub fn copy(&self) -> Result<Self, AllocError>
         ensures { IfOk result (λ inner. inner ≡ self.now) }
     {
@@ -165,8 +165,8 @@ impl RangeSetOrTag {
     }
 }
 
-/// The normal text of ranges (node-semver, "Advanced Range Syntax"; which of the forms is taken is `deno_semver`'s own
-/// choice), and a tag as it is.
+/// Writes the canonical form of ranges (node-semver, "Advanced Range Syntax"; the choice among the forms is `deno_semver`'s
+/// own), and a tag as it is.
 impl fmt::Display for RangeSetOrTag {
     ghost output = { λ inner. Some (inner_text inner) };
 

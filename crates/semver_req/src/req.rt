@@ -1,4 +1,4 @@
-//! Requirements of versions.
+//! Version requirements.
 
 ghost use Rattle.std.specs.Prelude.{◌≡◌, ◌↔◌, IfErr, IfOk, IsTrue, None, Some, string_bytes};
 ghost use Rattle.std.specs.Bool.{OnFalse};
@@ -23,10 +23,9 @@ use std::fmt;
 use std::marker::Model;
 use thiserror::Error;
 
-/// A requirement of a version: the text that it was read from, and what that stands for.
+/// A version requirement: the text it was parsed from, and its ranges or tag.
 ///
-/// Two requirements are equal where they stand for the same, whatever their texts are. A requirement is displayed as
-/// its text.
+/// Two requirements are equal if their ranges or tags are, whatever their texts. A requirement is displayed as its text.
 #[derive_where(Debug, PartialEq, Eq, Hash)]
 pub struct VersionReq {
     #[derive_where(skip)]
@@ -44,7 +43,7 @@ impl Model for VersionReq {
     ghost inverse = { λ req. record { raw_text = req.raw_text; inner = req.inner } };
 }
 
-// By hand, so that a requirement that goes out of scope is one call.
+// Written out so that dropping a requirement is one call.
 impl Drop for VersionReq {
     #[inline]
     fn drop(self) {
@@ -54,7 +53,7 @@ impl Drop for VersionReq {
     }
 }
 
-/// Why a text is no normalized requirement, or that memory was wanting.
+/// A normalized requirement failed to parse.
 #[derive(Debug, PartialEq, Eq, Drop, Error)]
 #[error("Invalid normalized version requirement")]
 pub struct VersionReqNormalizedParseError {
@@ -63,14 +62,14 @@ pub struct VersionReqNormalizedParseError {
 }
 
 impl VersionReqNormalizedParseError {
-    /// Whether memory was wanting.
+    /// Whether the error is out of memory.
     pub fn is_memory(&self) -> bool
         ensures { IsTrue result ↔ (self.now.source ≡ None) }
     {
         self.source.is_memory()
     }
 
-    /// The same error again. It is an error only where no memory is left.
+    /// Returns a copy. Fails only out of memory.
     pub fn copy(&self) -> Result<Self, AllocError>
         ensures { IfOk result (λ error. error ≡ self.now) }
     {
@@ -106,7 +105,7 @@ impl From<VersionReqNormalizedParseError> for ParseFailure {
     }
 }
 
-// How what the requirement stands for is displayed.
+// Formats the requirement's ranges or tag.
 fn normal_text(alloc: Global, requirement: &VersionReq) -> Result<String, AllocError>
     ensures { IfOk result (λ text. string_bytes text ≡ inner_text requirement.now.inner) }
 {
@@ -114,7 +113,7 @@ fn normal_text(alloc: Global, requirement: &VersionReq) -> Result<String, AllocE
 }
 
 impl VersionReq {
-    /// The requirement that was read from this text, and stands for this.
+    /// Creates a requirement from its text and its ranges or tag.
     #[inline(always)]
     pub fn from_raw_text_and_inner(raw_text: SmallStackString, inner: RangeSetOrTag) -> Self
         ensures { result ≡ record { raw_text = raw_text; inner = inner } }
@@ -122,7 +121,7 @@ impl VersionReq {
         VersionReq { raw_text, inner }
     }
 
-    /// The requirement that a text of the normalized grammar is ([`RangeSetOrTag::parse`], where each refusal is told).
+    /// Parses a requirement by the normalized grammar ([`RangeSetOrTag::parse`], which lists each error).
     pub fn parse_from_normalized(
         alloc: Global,
         text: &str,
@@ -135,7 +134,7 @@ impl VersionReq {
         Ok(VersionReq::from_raw_text_and_inner(raw_text, inner))
     }
 
-    /// What the requirement stands for.
+    /// The requirement's ranges or tag.
     pub fn inner(&self) -> &RangeSetOrTag
         ensures { result.now ≡ self.now.inner }
     {
@@ -152,7 +151,7 @@ impl VersionReq {
         }
     }
 
-    /// The ranges, if the requirement is no tag.
+    /// The ranges, unless the requirement is a tag.
     pub fn range(&self) -> Option<&VersionRangeSet>
         ensures { option_copied result ≡ set_of self.now.inner }
     {
@@ -162,15 +161,15 @@ impl VersionReq {
         }
     }
 
-    /// The text that the requirement was read from.
+    /// The text that the requirement was parsed from.
     pub fn version_text(&self) -> &str
         ensures { result.now ≡ self.now.raw_text }
     {
         self.raw_text.as_str()
     }
 
-    /// Whether the version matches some range of the requirement, which is no tag: by npm's rule about pre-releases, or with
-    /// all of them that stand between the bounds.
+    /// Whether the version matches some range of the requirement, which must not be a tag: by npm's rule about pre-releases,
+    /// or with all pre-releases between the bounds.
     pub fn matches_with(&self, version: &Version, pre_release: PreRelease) -> bool
         requires { tag_of self.now.inner ≡ None }
         ensures { result ≡ inner_means_with pre_release self.now.inner version.now }
@@ -181,8 +180,8 @@ impl VersionReq {
         }
     }
 
-    /// Whether the version matches some range of the requirement, which is no tag. It is [`VersionReq::matches_with`] at
-    /// [`PreRelease::Restricted`].
+    /// Whether the version matches some range of the requirement, which must not be a tag. Same as
+    /// [`VersionReq::matches_with`] with [`PreRelease::Restricted`].
     pub fn matches(&self, version: &Version) -> bool
         requires { tag_of self.now.inner ≡ None }
         ensures value { result ≡ inner_means self.now.inner version.now }
@@ -191,9 +190,8 @@ impl VersionReq {
         self.matches_with(version, PreRelease::Restricted)
     }
 
-    /// Whether the two requirements overlap: two of ranges by the rule of [`VersionRangeSet::intersects_set`], two tags
-    /// where they are the same, a tag and ranges never. Where two requirements of ranges don't overlap, no version matches
-    /// both.
+    /// Whether the two requirements overlap: two range sets as in [`VersionRangeSet::intersects_set`], two tags if they are
+    /// the same, a tag and ranges never. If two requirements of ranges don't overlap, no version matches both.
     pub fn intersects(&self, other: &VersionReq) -> bool
         ensures value { result ≡ inner_overlap self.now.inner other.now.inner }
         ensures symmetric { result ≡ inner_overlap other.now.inner self.now.inner }
@@ -203,16 +201,16 @@ impl VersionReq {
         self.inner.intersects(&other.inner)
     }
 
-    /// The normal text of what the requirement stands for: of ranges the shortest usual form of each, with ` || `
-    /// between, and `<0.0.0` of none; of a tag the tag.
+    /// Returns the canonical form: the shortest usual form of each range, joined by ` || `, or `<0.0.0` without ranges; a tag
+    /// as it is.
     ///
-    /// Of ranges that some reader answered it is read by npm's reader and by the normalized one, which take it for the
-    /// same comparators. It keeps the meaning: what either reader makes of it matches the same versions, with npm's rule about
-    /// pre-releases and without, unless a range with an end starts at a pre-release of 0.0.0 and is neither one version nor
-    /// `^0.0.0-pre` or `~0.0.0-pre` of it.
-    /// Without builds and crossed bounds it is read back equal, and what is read back is read back equal from then on.
+    /// If the ranges are a parser's result, npm's and the normalized parser both accept it, as the same comparators. It keeps
+    /// the meaning: what either parser makes of it matches the same versions, with or without npm's rule about pre-releases,
+    /// unless a range with an end starts at a pre-release of 0.0.0 and is neither one version nor its `^0.0.0-pre` or
+    /// `~0.0.0-pre`. Without builds and crossed bounds it parses back to an equal requirement; once parsed back, it does so
+    /// from then on.
     ///
-    /// It is an error only where no memory is left.
+    /// Fails only out of memory.
     pub fn to_string_normalized(&self, alloc: Global) -> Result<String, AllocError>
         ensures text { IfOk result (λ text. string_bytes text ≡ inner_text self.now.inner) }
         ensures forms { IfOk result
@@ -229,7 +227,7 @@ impl VersionReq {
         normal_text(alloc, self)
     }
 
-    /// The same requirement again. It is an error only where no memory is left.
+    /// Returns a copy. Fails only out of memory.
     pub fn copy(&self) -> Result<Self, AllocError>
         ensures { IfOk result (λ req. req ≡ self.now) }
     {
@@ -248,10 +246,10 @@ impl fmt::Display for VersionReq {
     }
 }
 
-/// The requirement of any version, which stands where none is written (npm's package specifiers): its text is `*`, and it
-/// has one range without bounds.
+/// Returns the requirement of any version, for where none is written (npm's package specifiers): its text is `*`, and it has
+/// one range without bounds.
 ///
-/// It is an error only where no memory is left.
+/// Fails only out of memory.
 pub fn wildcard_version_req(alloc: Global) -> Result<VersionReq, AllocError>
     ensures { IfOk result (λ req. req ≡ wildcard) }
 {
@@ -262,16 +260,16 @@ pub fn wildcard_version_req(alloc: Global) -> Result<VersionReq, AllocError>
     Ok(VersionReq::from_raw_text_and_inner(raw_text, inner))
 }
 
-/// A value of which a requirement can be made.
+/// A value that can be made into a requirement.
 pub trait IntoVersionReq {
     /// The version that the requirement is for.
     ghost version: { Self → Version };
 
-    /// The requirement of the versions of the same precedence: one range from the version to itself, both inclusive. Its
-    /// text is the version's. That of a version that was read is also one that a reader answers, and its normal text is read
-    /// as that range again, build included.
+    /// Converts into the requirement of the versions of the same precedence: one range from the version to itself, both
+    /// inclusive. Its text is the version's. For a parsed version it is also one that a parser returns, and its canonical
+    /// form parses to that range again, build included.
     ///
-    /// It is an error only where no memory is left.
+    /// Fails only out of memory.
     fn into_req(self, alloc: Global) -> Result<VersionReq, AllocError>
         ensures value { IfOk result (λ req. req ≡ pinned (version self)) }
         ensures matches { IfOk result (λ req. PinsTo (version self) req.inner) }
@@ -281,7 +279,7 @@ pub trait IntoVersionReq {
             (λ req. OfReadVersion (version self) (IsSettledSet (ranges_of req.inner).0)) };
 }
 
-// The requirement from the version to itself.
+// Creates the requirement from the version to itself.
 fn pinned(alloc: Global, version: Version) -> Result<VersionReq, AllocError>
     ensures { IfOk result (λ req. req ≡ pinned version) }
 {

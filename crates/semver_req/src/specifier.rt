@@ -1,4 +1,4 @@
-//! The strict reader, of the requirements in package specifiers.
+//! The strict parser, for the requirements in package specifiers.
 
 ghost use Rattle.std.specs.Prelude.{◌≡◌, ◌↔◌, ◌⊎◌, ◌∷◌, [], IfErr, IfOk, IsTrue, None, true};
 ghost use Rattle.semver_base.specs.Lexical.{IsBlanks};
@@ -20,7 +20,7 @@ use semver_base::string::{CowVec, SmallStackString};
 use std::alloc::{AllocError, Global};
 use thiserror::Error;
 
-/// Why the text of a package specifier is no requirement, or that memory was wanting.
+/// The requirement of a package specifier failed to parse.
 #[derive(Debug, PartialEq, Eq, Drop, Error)]
 #[error("Invalid specifier version requirement")]
 pub struct VersionReqSpecifierParseError {
@@ -29,14 +29,14 @@ pub struct VersionReqSpecifierParseError {
 }
 
 impl VersionReqSpecifierParseError {
-    /// Whether memory was wanting.
+    /// Whether the error is out of memory.
     pub fn is_memory(&self) -> bool
         ensures { IsTrue result ↔ (self.now.source ≡ None) }
     {
         self.source.is_memory()
     }
 
-    /// The same error again. It is an error only where no memory is left.
+    /// Returns a copy. Fails only out of memory.
     pub fn copy(&self) -> Result<Self, AllocError>
         ensures { IfOk result (λ error. error ≡ self.now) }
     {
@@ -72,7 +72,7 @@ impl From<VersionReqSpecifierParseError> for ParseFailure {
     }
 }
 
-// The whole text as a tag, or the refusal where it is none.
+// Returns the whole text as a tag; fails with `refusal` if it isn't a valid one.
 fn whole_text_as_tag(
     alloc: Global,
     text: &str,
@@ -91,7 +91,7 @@ fn whole_text_as_tag(
     Err(ParseFailure::of_refusal(alloc, refusal))
 }
 
-// The set of one range.
+// Creates the set of one range.
 #[inline(always)]
 fn only(alloc: Global, range: VersionRange) -> Result<VersionRangeSet, AllocError>
     ensures { IfOk result (λ set. set ≡ record { 0 = range ∷ [] }) }
@@ -99,7 +99,7 @@ fn only(alloc: Global, range: VersionRange) -> Result<VersionRangeSet, AllocErro
     Ok(VersionRangeSet(CowVec::of_one(alloc, range)?))
 }
 
-// What the text stands for, by the grammar from its front on.
+// Parses the text by the full grammar.
 #[inline(never)]
 fn read(alloc: Global, text: &str) -> Result<RangeSetOrTag, ParseFailure>
     ensures reading { IfOk result (IsReading Flavour.Specifier text.now) }
@@ -125,15 +125,14 @@ fn read(alloc: Global, text: &str) -> Result<RangeSetOrTag, ParseFailure>
     }
 }
 
-/// The requirement that the text of a package specifier is: `~` or `^` and a partial version, or a partial version
-/// alone, or else a tag.
+/// Parses the requirement of a package specifier: `~` or `^` and a partial version, or a partial version alone, or else a
+/// tag.
 ///
-/// Numbers have no leading zeros, a missing component or `x`, `X` or `*` stands for every number, and a pre-release
-/// begins with `-`; the ranges are node-semver's for the same marks. A text that begins with such a range, whose
-/// numbers and bounds fit, is refused with "Unexpected character." where something follows it. Any other text is a tag
-/// where it is a valid one, and is refused otherwise: with "Empty version constraint." where it is blank, with "Number
-/// is too large." or "Version bound is too large." where it begins with a range in which that is so, and else with
-/// "Unexpected character.".
+/// Numbers have no leading zeros, a missing component or `x`, `X` or `*` means any number, and a pre-release begins with `-`;
+/// the ranges are node-semver's for the same operators. If something follows a leading range whose numbers and bounds fit,
+/// the text fails with "Unexpected character.". Any other text is a tag if it is a valid one. Otherwise it fails: with "Empty
+/// version constraint." if it is blank, with "Number is too large." or "Version bound is too large." if it begins with a
+/// range of which that is so, and with "Unexpected character." in all other cases.
 pub fn parse_version_req_from_specifier(
     alloc: Global,
     text: &str,
@@ -154,8 +153,8 @@ pub fn parse_version_req_from_specifier(
 }
 
 impl VersionReq {
-    /// The requirement that the text of a package specifier is, by the strict reader
-    /// ([`parse_version_req_from_specifier`], where each refusal is told).
+    /// Parses the requirement of a package specifier by the strict grammar ([`parse_version_req_from_specifier`], which lists
+    /// each error).
     pub fn parse_from_specifier(
         alloc: Global,
         text: &str,

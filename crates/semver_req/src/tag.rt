@@ -9,7 +9,7 @@ ghost use Rattle.semver_req.specs.Tag.{is_number_category, is_tag_character, is_
 use semver_base::lexical::is_blank;
 use unicode::properties::{GeneralCategory, is_alphabetic};
 
-// Whether the character is a decimal digit, a letter of numbers, or another number.
+// Whether the character is a decimal number, a letter number or another number.
 fn is_number(c: char) -> bool
     ensures { result ≡ is_number_category (general_category c) }
 {
@@ -33,11 +33,10 @@ fn has_tag_characters_only(text: &str) -> bool
     text.chars().all(is_tag_character)
 }
 
-/// Whether the text is a valid tag: each character is a letter or a number, by the tables of `unicode`, or one of
-/// `-`, `_`, `.` and `~`, and not all of them are blanks.
+/// Whether the text is a valid tag: each character is a letter or a number, by the tables of `unicode`, or one of `-`, `_`,
+/// `.` and `~`, and not all of them are whitespace.
 ///
-/// That is npm's rule that a tag needs no escape in a URL (npm-package-arg). Time is linear, and no memory is asked
-/// for.
+/// That is npm's rule that a tag needs no escape in a URL (npm-package-arg). Takes linear time and allocates nothing.
 pub fn is_valid_npm_tag(value: &str) -> bool
     ensures { result ≡ is_valid_tag value.now }
 {

@@ -1,4 +1,4 @@
-//! Comparators: what stands before a partial version, and the range of both.
+//! Comparators: the operator before a partial version, and the range of both.
 
 ghost use Rattle.std.specs.Prelude.{◌≡◌, IfErr, IfOk, OnOk, true};
 ghost use Rattle.semver_base.specs.Comparators.{comparator_line, comparator_range};
@@ -19,7 +19,7 @@ use semver_base::partial::Partial;
 use semver_base::range::VersionRange;
 use std::alloc::{AllocError, Global};
 
-/// What stands before the partial version of a comparator.
+/// The operator before the partial version of a comparator.
 #[derive(Clone, Copy, Debug)]
 pub enum Mark {
     /// `~`
@@ -28,15 +28,15 @@ pub enum Mark {
     Caret,
     /// `<`, `<=`, `>`, `>=` or `=`
     Primitive(PrimitiveKind),
-    /// Nothing, which is the range of the partial version itself.
+    /// No operator: the range of the partial version itself.
     Absent,
 }
 
 impl Mark {
-    /// The range of the mark and the partial version after it (node-semver, "Advanced Range Syntax").
+    /// The range of the operator and the partial version after it (node-semver, "Advanced Range Syntax").
     ///
-    /// The refusal "Version bound is too large." comes exactly where a number that the range raises is past
-    /// 18446744073709551615; any other failure is want of memory.
+    /// Fails with "Version bound is too large." exactly if a number that the range increments exceeds 18446744073709551615;
+    /// otherwise only out of memory.
     #[inline(always)]
     pub fn range(self, alloc: Global, partial: &Partial) -> Result<VersionRange, ParseFailure>
         ensures range { IfOk result
@@ -55,15 +55,15 @@ impl Mark {
     }
 }
 
-/// A comparator as it is written.
+/// A parsed comparator.
 #[derive(Debug, Drop)]
 pub struct Written {
     pub mark: Mark,
-    /// The partial version after the mark; `Measured::TooLarge` where a number in it is past 18446744073709551615.
+    /// The partial version after the operator; `Measured::TooLarge` if a number in it exceeds 18446744073709551615.
     pub partial: Measured<Partial>,
 }
 
-/// The mark at the front, and what follows it.
+/// Splits off a leading operator.
 #[inline(always)]
 pub(crate) fn split_mark(text: &str) -> (Mark, &str)
     ensures { IsMarkCut text.now result.0 result.1.now }
@@ -77,8 +77,8 @@ pub(crate) fn split_mark(text: &str) -> (Mark, &str)
     (Mark::Absent, text)
 }
 
-/// The comparator without a primitive kind at the front, and what follows it: `~`, `^` or nothing, and a partial
-/// version (node-semver's range grammar, `simple` without `primitive`). It is an error only where no memory is left.
+/// Parses a leading comparator without a comparison operator: `~`, `^` or nothing, and a partial version (node-semver's range
+/// grammar, `simple` without `primitive`). Fails only out of memory.
 #[inline(always)]
 pub fn non_primitive_front(
     alloc: Global,
@@ -94,8 +94,7 @@ pub fn non_primitive_front(
     }
 }
 
-/// The normalized comparator at the front, and what follows it (node-semver's range grammar, `simple`). It is an error
-/// only where no memory is left.
+/// Parses a leading normalized comparator (node-semver's range grammar, `simple`). Fails only out of memory.
 pub fn normal_front(alloc: Global, text: &str) -> Result<Option<(Written, &str)>, AllocError>
     ensures { IfOk result (λ r. ReadsComparator (IsComparator Normal) text.now (answer_of r)) }
 {
@@ -111,7 +110,7 @@ pub fn normal_front(alloc: Global, text: &str) -> Result<Option<(Written, &str)>
     }
 }
 
-// What follows any number of `=`.
+// Strips every leading `=`.
 fn after_every_equals(text: &str) -> &str
     ensures { IsLongest IsEquals text.now tt result.now }
 {
@@ -122,7 +121,8 @@ fn after_every_equals(text: &str) -> &str
     rest
 }
 
-// What npm's grammar has after a `~` or a `^`: any number of `=`, blanks, an optional `v`, blanks and a partial version.
+// Parses what npm's grammar has after a `~` or a `^`: any number of `=`, whitespace, an optional `v`, whitespace and a
+// partial version.
 fn led_partial(alloc: Global, text: &str) -> Result<Option<(Measured<Partial>, &str)>, AllocError>
     ensures { IfOk result (λ r. ReadsAs sized_partial IsLed text.now (answer_of r)) }
 {
@@ -133,7 +133,7 @@ fn led_partial(alloc: Global, text: &str) -> Result<Option<(Measured<Partial>, &
     }
 }
 
-// npm's mark at the front, where `~>` is a `~`, and what follows it.
+// Splits off npm's leading operator, where `~>` is a `~`.
 #[inline(always)]
 fn split_npm_mark(text: &str) -> (Mark, &str)
     ensures { IsNpmMarkCut text.now result.0 result.1.now }
@@ -145,7 +145,7 @@ fn split_npm_mark(text: &str) -> (Mark, &str)
     }
 }
 
-// The partial version that was read, with this mark.
+// The parsed partial version with this operator.
 #[inline(always)]
 fn with_mark<'a>(
     mark: Mark,
@@ -157,7 +157,7 @@ fn with_mark<'a>(
     Some((Written { mark, partial }, rest))
 }
 
-// The npm comparator at the front, which has the mark `other` where it begins with neither `~` nor `^`.
+// Parses a leading npm comparator, with the operator `other` if it begins with neither `~` nor `^`.
 #[inline(always)]
 fn npm_by_mark(
     alloc: Global,
@@ -175,9 +175,8 @@ fn npm_by_mark(
     }
 }
 
-/// The npm comparator at the front, and what follows it (node-semver's range grammar, `simple`, with `~>`, with what npm
-/// ignores before a partial version, and with a primitive kind that is ignored before a `~` or a `^`). It is an error
-/// only where no memory is left.
+/// Parses a leading npm comparator (node-semver's range grammar, `simple`, with `~>`, with what npm ignores before a partial
+/// version, and with a comparison operator that is ignored before a `~` or a `^`). Fails only out of memory.
 #[inline(always)]
 pub fn npm_front(alloc: Global, text: &str) -> Result<Option<(Written, &str)>, AllocError>
     ensures { IfOk result (λ r. ReadsComparator (IsComparator Npm) text.now (answer_of r)) }
@@ -192,8 +191,7 @@ pub fn npm_front(alloc: Global, text: &str) -> Result<Option<(Written, &str)>, A
     }
 }
 
-/// The comparator of the grammar at the front, and what follows it (node-semver's range grammar, `simple`). It is an
-/// error only where no memory is left.
+/// Parses a leading comparator of the grammar (node-semver's range grammar, `simple`). Fails only out of memory.
 pub fn comparator_front(
     alloc: Global,
     text: &str,

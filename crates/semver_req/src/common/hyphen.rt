@@ -14,16 +14,16 @@ use semver_base::lexical::{after, after_blanks};
 use semver_base::partial::Partial;
 use std::alloc::{AllocError, Global};
 
-/// A hyphen range as it is written.
+/// A parsed hyphen range.
 #[derive(Drop)]
 pub struct HyphenRange {
-    /// The partial version before the `-`; `Measured::TooLarge` where a number in it is past 18446744073709551615.
+    /// The partial version before the `-`; `Measured::TooLarge` if a number in it exceeds 18446744073709551615.
     pub lower: Measured<Partial>,
-    /// The one after it.
+    /// The partial version after it.
     pub upper: Measured<Partial>,
 }
 
-// A partial version, and the blanks after it.
+// Parses a partial version and the whitespace after it.
 fn upper(alloc: Global, text: &str) -> Result<Option<(Measured<Partial>, &str)>, AllocError>
     ensures { IfOk result (λ r. ReadsAs sized_partial IsUpper text.now (answer_of r)) }
 {
@@ -33,7 +33,7 @@ fn upper(alloc: Global, text: &str) -> Result<Option<(Measured<Partial>, &str)>,
     }
 }
 
-// A `-` with blanks on both sides, and the partial version after it.
+// Parses a `-` with whitespace on both sides, and the partial version after it.
 fn hyphened(alloc: Global, text: &str) -> Result<Option<(Measured<Partial>, &str)>, AllocError>
     ensures { IfOk result (λ r. ReadsAs sized_partial IsHyphened text.now (answer_of r)) }
 {
@@ -49,8 +49,8 @@ fn hyphened(alloc: Global, text: &str) -> Result<Option<(Measured<Partial>, &str
     upper(alloc, rest)
 }
 
-/// The hyphen range at the front of the text, two partial versions round a `-` with blanks on both sides, and what
-/// follows it and its blanks (node-semver, "Hyphen Ranges"). It is an error only where no memory is left.
+/// Parses a leading hyphen range, two partial versions around a `-` with whitespace on both sides, and the whitespace after
+/// it (node-semver, "Hyphen Ranges"). Fails only out of memory.
 pub fn hyphen_front(alloc: Global, text: &str) -> Result<Option<(HyphenRange, &str)>, AllocError>
     ensures { IfOk result (λ r. ReadsAs sized_hyphen IsHyphenPair text.now (answer_of r)) }
 {

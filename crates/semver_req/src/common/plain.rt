@@ -1,7 +1,7 @@
-//! Comparators of plain texts, which are a mark and one to three numbers, and nothing else.
+//! A fast path for plain comparators: an operator or none, one to three numbers, and nothing else.
 //!
-//! Most comparators are such texts. What is read so is a comparator by the grammar, and a text stands for one thing alone;
-//! so each reader asks here first, and takes the long way where it is told nothing.
+//! Most comparators are such texts. What this parses is a comparator by the grammar, and a text has only one meaning; so each
+//! parser tries this first, and falls back to the full grammar on `None`.
 
 ghost use Rattle.std.specs.Prelude.{◌≡◌, ◌++◌, ◌∷◌, IfSome};
 ghost use Rattle.semver_base.specs.Characters.{space};
@@ -17,7 +17,7 @@ use semver_base::partial::ReleaseRange;
 use semver_base::plain::{FewNumbers, few_numbers};
 use std::alloc::Global;
 
-// The range of the mark and the numbers, where its bounds fit; none of a primitive kind.
+// The range of the operator and the numbers, if its bounds fit; `None` for a comparison operator.
 #[inline(always)]
 fn numbers_range(mark: Mark, numbers: FewNumbers) -> Option<ReleaseRange>
     ensures { IfSome result (λ range. IsLineRange
@@ -31,8 +31,8 @@ fn numbers_range(mark: Mark, numbers: FewNumbers) -> Option<ReleaseRange>
     }
 }
 
-/// The range of `~`, `^` or nothing before one to three numbers, where that is the whole text and its bounds fit. Where it
-/// answers `None` nothing is known of the text.
+/// The range of `~`, `^` or nothing before one to three numbers, if that is the whole text and its bounds fit. `None` says
+/// nothing about the text.
 #[inline(always)]
 pub(crate) fn plain_range(text: &str) -> Option<ReleaseRange>
     ensures { IfSome result (λ range. IsPlainComparator text.now (release_range range)) }
@@ -42,7 +42,7 @@ pub(crate) fn plain_range(text: &str) -> Option<ReleaseRange>
     numbers_range(mark, numbers)
 }
 
-// The mark at the front, and what follows it.
+// Splits off a leading operator.
 #[inline(always)]
 fn after_any_mark(text: &[u8]) -> (Mark, &[u8])
     ensures { text.now ≡ mark_text result.0 ++ result.1.now }
@@ -59,7 +59,7 @@ fn after_any_mark(text: &[u8]) -> (Mark, &[u8])
     }
 }
 
-// The text without the blank that ends it, or the whole text.
+// Strips one trailing space, if there is one.
 #[inline(always)]
 fn unclosed(text: &[u8]) -> &[u8]
     ensures { IsUnclosed text.now result.now }
@@ -70,7 +70,7 @@ fn unclosed(text: &[u8]) -> &[u8]
     }
 }
 
-// The comparator that is a mark or none before one to three numbers, where that is the whole text.
+// Parses the whole text as an optional operator and one to three numbers.
 #[inline(always)]
 fn few_marked(alloc: Global, text: &[u8]) -> Option<Written>
     ensures { IfSome result (IsFewMarked text.now) }
@@ -81,8 +81,8 @@ fn few_marked(alloc: Global, text: &[u8]) -> Option<Written>
     Some(Written { mark, partial })
 }
 
-/// The comparator that is a mark or none before one to three numbers, where that is the whole piece, by npm's and by the
-/// normalized grammar; a blank may end the piece. Where it answers `None` nothing is known of the piece.
+/// Parses the whole piece as an optional operator and one to three numbers, by npm's and by the normalized grammar; a space
+/// may follow. `None` says nothing about the piece.
 #[inline(always)]
 pub(crate) fn few_alone(alloc: Global, piece: &str) -> Option<Written>
     ensures { IfSome result (IsFewAlone piece.now) }
@@ -90,7 +90,7 @@ pub(crate) fn few_alone(alloc: Global, piece: &str) -> Option<Written>
     few_marked(alloc, unclosed(piece.as_bytes()))
 }
 
-// What stands before the first blank, and what follows it.
+// Splits the text at the first space.
 #[inline(always)]
 fn at_blank(text: &str) -> Option<(&str, &str)>
     ensures { IfSome result (λ p. text.now ≡ p.0.now ++ space ∷ p.1.now) }
@@ -98,7 +98,7 @@ fn at_blank(text: &str) -> Option<(&str, &str)>
     text.split_once(' ')
 }
 
-/// The two such comparators with a blank between that are the whole piece.
+/// Parses the whole piece as two such comparators with a space between them.
 #[inline(always)]
 pub(crate) fn few_pair(alloc: Global, piece: &str) -> Option<(Written, Written)>
     ensures { IfSome result (λ p. IsFewPair piece.now p.0 p.1) }

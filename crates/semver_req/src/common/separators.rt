@@ -1,4 +1,4 @@
-//! What stands between comparators, and the words of which that is made.
+//! Separators between comparators, and the tokens they are made of.
 
 ghost use Rattle.std.specs.Prelude.{◌≡◌, ◌<◌, ◌∷◌, [], false};
 ghost use Rattle.std.specs.Char.{is_whitespace};
@@ -9,7 +9,7 @@ ghost use Rattle.semver_req.specs.Pieces.{IsMark, IsNpmSeparator, IsOperator, Is
 use crate::common::values::Flavour;
 use semver_base::lexical::{after, after_blanks};
 
-/// What follows one or more blanks at the front.
+/// Strips leading whitespace, if there is any.
 pub fn after_some_blanks(text: &str) -> Option<&str>
     ensures { Reads IsSomeBlanks text.now (rest_answer result) }
 {
@@ -20,7 +20,7 @@ pub fn after_some_blanks(text: &str) -> Option<&str>
     Some(rest)
 }
 
-/// What follows the ASCII character `mark`, twice, at the front.
+/// Strips the ASCII character `mark`, twice, from the start.
 pub fn after_twice(text: &str, mark: char) -> Option<&str>
     requires { mark < 128 }
     ensures { Reads (IsText (mark ∷ mark ∷ [])) text.now (rest_answer result) }
@@ -29,7 +29,7 @@ pub fn after_twice(text: &str, mark: char) -> Option<&str>
     after(rest, mark)
 }
 
-/// What follows the ASCII character `mark`, twice, with the blanks round it.
+/// Strips the ASCII character `mark`, twice, from the start, with the whitespace around it.
 pub fn after_operator(text: &str, mark: char) -> Option<&str>
     requires ascii { mark < 128 }
     requires no_blank { is_whitespace mark ≡ false }
@@ -41,7 +41,7 @@ pub fn after_operator(text: &str, mark: char) -> Option<&str>
     }
 }
 
-// What follows a `&&` or a `,`.
+// Strips a leading `&&` or `,`.
 fn after_mark(text: &str) -> Option<&str>
     ensures { Reads IsMark text.now (rest_answer result) }
 {
@@ -51,7 +51,7 @@ fn after_mark(text: &str) -> Option<&str>
     after_twice(text, '&')
 }
 
-// What follows a separator of npm's comparators: `&&` or `,` with blanks round it or none, or one or more blanks.
+// Strips a separator of npm's comparators: `&&` or `,` with optional whitespace around it, or whitespace alone.
 fn after_npm_separator(text: &str) -> Option<&str>
     ensures { Reads IsNpmSeparator text.now (rest_answer result) }
 {
@@ -65,8 +65,8 @@ fn after_npm_separator(text: &str) -> Option<&str>
     Some(rest)
 }
 
-/// What follows a separator of the grammar's comparators at the front: in npm's grammar `&&` or `,` with blanks round it
-/// or none, or blanks (node-semver's range grammar, `range`; npm accepts the two marks); in the normalized one blanks.
+/// Strips a leading separator of the grammar's comparators: in npm's grammar `&&` or `,` with optional whitespace around it,
+/// or whitespace alone (node-semver's range grammar, `range`; npm accepts `&&` and `,`); in the normalized one whitespace.
 pub fn after_separator(text: &str, flavour: Flavour) -> Option<&str>
     ensures { Reads (IsSeparator flavour) text.now (rest_answer result) }
 {

@@ -1,4 +1,4 @@
-//! The three grammars of requirements, and the primitive kinds of comparators.
+//! The three grammars of requirements, and comparators of comparison operators.
 
 ghost use Rattle.std.specs.Prelude.{◌≡◌, IfErr, IfOk, OnOk, true};
 ghost use Rattle.semver_base.specs.Comparators.{primitive_line};
@@ -12,11 +12,11 @@ pub use semver_base::primitive::PrimitiveKind;
 use semver_base::range::VersionRange;
 use std::alloc::{AllocError, Global};
 
-/// Which grammar of requirements a text is read by.
+/// Which grammar a requirement is parsed by.
 #[derive(Clone, Copy, Debug, PartialEq, Eq)]
 pub enum Flavour {
-    /// npm's own, which is the widest: numbers may have leading zeros, a pre-release may lack its `-`, and a `v` may
-    /// stand before a partial version.
+    /// npm's own, the widest: numbers may have leading zeros, a pre-release may lack its `-`, and a `v` may precede a partial
+    /// version.
     Npm,
     /// The normalized grammar, whose only wildcard is `*`; its numbers and pre-releases are npm's.
     Normal,
@@ -25,7 +25,7 @@ pub enum Flavour {
 }
 
 impl Flavour {
-    /// By which grammar the flavour's numbers and pre-releases are read.
+    /// The grammar of the flavour's numbers and pre-releases.
     pub fn strictness(self) -> Strictness
         ensures { result ≡ strictness_of self }
     {
@@ -37,7 +37,7 @@ impl Flavour {
     }
 }
 
-/// A primitive kind and the partial version after it.
+/// A comparison operator and the partial version after it.
 #[derive(Debug, Drop)]
 pub struct Primitive {
     pub kind: PrimitiveKind,
@@ -45,7 +45,7 @@ pub struct Primitive {
 }
 
 impl Primitive {
-    /// The same primitive kind and partial version again. It is an error only where no memory is left.
+    /// Returns a copy. Fails only out of memory.
     pub fn copy(&self) -> Result<Self, AllocError>
         ensures { IfOk result (λ primitive. primitive ≡ self.now) }
     {
@@ -57,8 +57,8 @@ impl Primitive {
 
     /// The range of the comparator (node-semver's primitives).
     ///
-    /// The refusal "Version bound is too large." comes exactly where a number that the range raises is past
-    /// 18446744073709551615; any other failure is want of memory.
+    /// Fails with "Version bound is too large." exactly if a number that the range increments exceeds 18446744073709551615;
+    /// otherwise only out of memory.
     pub fn into_version_range(self, alloc: Global) -> Result<VersionRange, ParseFailure>
         ensures range { IfOk result
             (λ range. range ≡ (primitive_line self.kind self.partial).range) }

@@ -1,4 +1,4 @@
-//! npm's reader of requirements.
+//! npm's parser of requirements.
 
 ghost use Rattle.std.specs.Prelude.{◌≡◌, ◌↔◌, IfErr, IfOk, IsTrue, None};
 ghost use Rattle.std.specs.Str.{trim};
@@ -13,7 +13,7 @@ use semver_base::string::SmallStackString;
 use std::alloc::{AllocError, Global};
 use thiserror::Error;
 
-/// Why a text is no requirement of npm's grammar, or that memory was wanting.
+/// A requirement of npm's grammar failed to parse.
 #[derive(Debug, PartialEq, Eq, Drop, Error)]
 #[error("Invalid version requirement")]
 pub struct NpmVersionReqParseError {
@@ -22,14 +22,14 @@ pub struct NpmVersionReqParseError {
 }
 
 impl NpmVersionReqParseError {
-    /// Whether memory was wanting.
+    /// Whether the error is out of memory.
     pub fn is_memory(&self) -> bool
         ensures { IsTrue result ↔ (self.now.source ≡ None) }
     {
         self.source.is_memory()
     }
 
-    /// The same error again. It is an error only where no memory is left.
+    /// Returns a copy. Fails only out of memory.
     pub fn copy(&self) -> Result<Self, AllocError>
         ensures { IfOk result (λ error. error ≡ self.now) }
     {
@@ -65,14 +65,14 @@ impl From<NpmVersionReqParseError> for ParseFailure {
     }
 }
 
-/// The requirement that a text is in npm's grammar of ranges (node-semver, "Range Grammar", with the separators `&&` and
-/// `,` and the ignored primitive kinds that npm accepts): alternatives with `||` between, or a tag.
+/// Parses a requirement by npm's range grammar (node-semver, "Range Grammar", with the separators `&&` and `,` and the
+/// ignored operators that npm accepts): alternatives with `||` between them, or a tag.
 ///
-/// The text is trimmed, and the requirement keeps the trimmed text. A text without `||` that is outside the grammar, or
-/// has a number or a bound past 18446744073709551615, is a tag where it is a valid one; else it is refused, with
-/// "Unexpected character.", "Number is too large." or "Version bound is too large.". Of alternatives the bad ones are
-/// left out ([`RangeSetOrTag::parse_npm`]). Any other failure is want of memory. No piece is read more than twice by the
-/// grammar, after a short way for comparators of few numbers; each comparator takes over the bounds that are kept so far.
+/// The text is trimmed, and the requirement keeps the trimmed text. A text without `||` that is outside the grammar, or has a
+/// number or a bound larger than 18446744073709551615, is a tag if it is a valid one; otherwise it fails with "Unexpected
+/// character.", "Number is too large." or "Version bound is too large.". Invalid alternatives are left out if there are
+/// several ([`RangeSetOrTag::parse_npm`]). Also fails out of memory. No piece is parsed more than twice by the full grammar,
+/// after a fast path for comparators of few numbers; each comparator takes over the bounds kept so far.
 pub fn parse_npm_version_req(
     alloc: Global,
     text: &str,
@@ -86,7 +86,7 @@ pub fn parse_npm_version_req(
 }
 
 impl VersionReq {
-    /// The requirement that a text is in npm's grammar ([`parse_npm_version_req`], where each refusal is told).
+    /// Parses a requirement by npm's grammar ([`parse_npm_version_req`], which lists each error).
     pub fn parse_from_npm(alloc: Global, text: &str) -> Result<VersionReq, NpmVersionReqParseError>
         ensures reads { IsReaderAnswer (λ e. e.source) Npm text.now result }
         ensures refusal { IfErr result (λ e. IsCutRefusal Npm (trim text.now) e.source) }

@@ -1,4 +1,4 @@
-//! npm's reader of versions.
+//! npm's parser of versions.
 
 ghost use Rattle.std.specs.Prelude.{Result, Ok, IfErr, IfOk};
 ghost use Rattle.std.specs.Str.{trim};
@@ -10,7 +10,7 @@ use semver_base::npm::NpmVersionParseError;
 use semver_base::version::Version;
 use std::alloc::Global;
 
-/// The version that a text stands for, as npm reads it ([`Version::parse_standard`], where each refusal is told).
+/// Parses a version as npm does ([`Version::parse_standard`], which lists each error).
 pub fn parse_npm_version(alloc: Global, text: &str) -> Result<Version, NpmVersionParseError>
     ensures read { IfOk result (λ version. IsVersionOutcome (trim text.now) (Ok version)) }
     ensures reads_back { IfOk result ReadsBack }

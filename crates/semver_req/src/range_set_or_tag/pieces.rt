@@ -1,4 +1,4 @@
-//! How npm's and the normalized grammar cut a text at each `||`, and what they read of each piece.
+//! How npm's and the normalized grammar split a text at each `||`, and how they parse each piece.
 
 ghost use Rattle.std.specs.Prelude.{◌≡◌, ◌↔◌, ◌++◌, ◌∷◌, [], IfErr, IfOk, IsTrue, List, MatchOption, None, OnOk};
 ghost use Rattle.semver_base.specs.Comparators.{Comparator};
@@ -26,16 +26,16 @@ use semver_base::range::VersionRange;
 use semver_base::string::CowVec;
 use std::alloc::{AllocError, Global};
 
-/// What is read of a piece of a text, which is what stands between two `||`.
+/// The result of parsing a piece of a text, which lies between two `||`.
 #[derive(Debug, Drop)]
 pub enum RangeOrInvalid {
     /// The range of its comparators.
     Range(VersionRange),
-    /// The piece is bad: it is outside the grammar, or a number or a bound in it is too large.
+    /// The piece is invalid: it is outside the grammar, or a number or a bound in it is too large.
     Invalid(Refusal),
 }
 
-// Whether a piece is nothing, or blanks that are followed by `||`.
+// Whether a piece is empty, or is whitespace followed by `||`.
 fn is_everything(piece: &str, is_followed: bool) -> bool
     ensures { IsTrue result ↔ IsEverything is_followed piece.now }
 {
@@ -45,7 +45,7 @@ fn is_everything(piece: &str, is_followed: bool) -> bool
     piece.is_empty()
 }
 
-// Why a range couldn't be made: a bound is too large, or no memory is left.
+// Why a range couldn't be made: a bound is too large, or out of memory.
 fn no_range(failure: ParseFailure) -> Result<RangeOrInvalid, ParseFailure>
     ensures bound { IfOk result (λ read. (read ≡ Invalid BoundTooLarge) × (failure ≡ None → ⊥)) }
     ensures memory { IfErr result (λ failure. failure ≡ None) }
@@ -57,8 +57,8 @@ fn no_range(failure: ParseFailure) -> Result<RangeOrInvalid, ParseFailure>
 }
 
 impl RangeOrInvalid {
-    // The range of one comparator. It is taken over as it is, and only its start is looked at. (Here and below what is let go
-    // is dropped by name: to the prover that is one call, and else its steps at each way out.)
+    // The range of one comparator, passed on unchanged but for its start. (Here and below values are dropped by name: to the
+    // prover that is one call, instead of its steps at each way out.)
     #[inline(always)]
     fn of_one(alloc: Global, written: Written) -> Result<RangeOrInvalid, ParseFailure>
         ensures value { (p : Partial) → written.partial ≡ sized_partial p
@@ -107,7 +107,7 @@ impl RangeOrInvalid {
         }
     }
 
-    // The comparators at the front, with separators between, and what follows them.
+    // Parses leading comparators with separators between them.
     #[inline(always)]
     fn comparators(
         alloc: Global,
@@ -132,7 +132,7 @@ impl RangeOrInvalid {
         Ok(Some((read, rest)))
     }
 
-    // The whole piece as comparators.
+    // Parses the whole piece as comparators.
     #[inline(always)]
     fn list(
         alloc: Global,
@@ -172,7 +172,7 @@ impl RangeOrInvalid {
         }
     }
 
-    // The same, of what was measured of both.
+    // The range of a hyphen range, if its numbers fit.
     fn between(alloc: Global, hyphen: HyphenRange) -> Result<RangeOrInvalid, ParseFailure>
         ensures value { IfOk result (IsHyphenRead hyphen) }
         ensures memory { IfErr result (λ failure. failure ≡ None) }
@@ -192,7 +192,7 @@ impl RangeOrInvalid {
         read
     }
 
-    // The whole piece as a hyphen range.
+    // Parses the whole piece as a hyphen range.
     #[inline(always)]
     fn hyphen(alloc: Global, piece: &str) -> Result<Option<RangeOrInvalid>, ParseFailure>
         ensures value { IfOk result (IsWholeRead IsHyphen piece.now) }
@@ -207,7 +207,7 @@ impl RangeOrInvalid {
         Ok(Some(RangeOrInvalid::between(alloc, hyphen)?))
     }
 
-    // The whole piece, which is not empty; in the short way where it is one comparator of few numbers, or two.
+    // Parses the whole piece, which isn't empty; one or two comparators of few numbers take the fast path.
     #[inline(always)]
     fn filled(
         alloc: Global,
@@ -230,7 +230,7 @@ impl RangeOrInvalid {
         RangeOrInvalid::by_grammar(alloc, piece, flavour)
     }
 
-    // The same, by the grammar from its front on.
+    // Parses the whole piece, which isn't empty, by the full grammar.
     fn by_grammar(
         alloc: Global,
         piece: &str,
@@ -249,10 +249,10 @@ impl RangeOrInvalid {
         }
     }
 
-    /// What a piece of npm's or the normalized grammar is, which is followed by `||` or not: nothing, or blanks that are
-    /// followed by `||`, is the range without bounds; comparators with separators between, and one at the end or none,
-    /// are their ranges clamped to one another; two partial versions round a `-` are npm's hyphen range; anything else
-    /// is bad. It is an error only where no memory is left.
+    /// Parses a piece of npm's or the normalized grammar, which is followed by `||` or not. An empty piece, or whitespace
+    /// followed by `||`, is the range without bounds; comparators with separators between them, and at most one at the end,
+    /// are the intersection of their ranges; two partial versions around a `-` are npm's hyphen range; anything else is
+    /// invalid. Fails only out of memory.
     pub fn parse(
         alloc: Global,
         piece: &str,
@@ -271,7 +271,7 @@ impl RangeOrInvalid {
         }
     }
 
-    /// The range that a set keeps of the piece: none of a bad one, and none that ends below 0.0.0.
+    /// The range that a set keeps of the piece: `None` if it is invalid or ends below 0.0.0.
     #[inline(always)]
     pub fn into_range(self) -> Option<VersionRange>
         ensures { result ≡ kept_of self }
@@ -287,22 +287,22 @@ impl RangeOrInvalid {
 /// The first piece of a text.
 #[derive(Clone, Copy)]
 pub struct FirstPiece<'a> {
-    /// What stands before the leftmost `||`, or the whole text.
+    /// The text before the leftmost `||`, or the whole text.
     pub piece: &'a str,
-    /// Whether a `||` follows it.
+    /// Whether a `||` follows the piece.
     pub is_followed: bool,
     /// What follows its `||`, or nothing.
     pub rest: &'a str,
 }
 
-// The text before the leftmost `||`, and what follows that.
+// Splits the text at the leftmost `||`.
 fn cut(text: &str) -> Option<(&str, &str)>
     ensures { MatchOption result (HasNoBar text.now) (λ p. IsCutAt text.now p.0.now p.1.now) }
 {
     text.split_once("||")
 }
 
-/// The first piece of the text, which is cut at its leftmost `||`, and what follows it (node-semver's `range-set`).
+/// Splits off the first piece of the text, at its leftmost `||` (node-semver's `range-set`).
 pub fn first_piece(text: &str) -> FirstPiece<'_>
     ensures { IsFirstPiece text.now result.piece.now result.is_followed result.rest.now }
 {
@@ -320,8 +320,7 @@ pub fn first_piece(text: &str) -> FirstPiece<'_>
     }
 }
 
-/// The next piece of what follows a `||`, with the blanks behind that left out, and what follows it in turn; none where
-/// blanks alone follow.
+/// Splits off the next piece of what follows a `||`, without leading whitespace; `None` if only whitespace follows.
 pub fn next_piece(rest: &str) -> Option<(&str, &str)>
     ensures { IsNextPiece rest.now (both_now result) }
 {
@@ -332,19 +331,19 @@ pub fn next_piece(rest: &str) -> Option<(&str, &str)>
     Some(cut(start).unwrap_or((start, "")))
 }
 
-/// What was read of the pieces of a text.
+/// The parsed pieces of a text.
 #[derive(Drop)]
 pub(super) struct Alternatives {
-    /// The ranges that are kept of the good ones, in order.
+    /// The ranges kept of the valid pieces, in order.
     pub(super) ranges: CowVec<VersionRange>,
-    /// Why the first bad one is bad.
+    /// Why the first invalid piece is invalid.
     pub(super) refused: Option<Refusal>,
-    /// Whether only one piece was read.
+    /// Whether there is only one piece.
     pub(super) is_only: bool,
 }
 
 impl Alternatives {
-    // One piece more.
+    // Adds one piece.
     #[inline(always)]
     fn add(&mut self, alloc: Global, read: RangeOrInvalid) -> Result<(), AllocError>
         ensures { OnOk result (IsOneMore read self.old self.new) }
@@ -363,7 +362,7 @@ impl Alternatives {
     }
 }
 
-/// What is read of each piece of a text, whose first one is cut off. It is an error only where no memory is left.
+/// Parses each piece of a text, whose first piece is already split off. Fails only out of memory.
 pub(super) fn read_pieces(
     alloc: Global,
     first: FirstPiece<'_>,

@@ -1,9 +1,8 @@
-//! The lowest version that requirements match, alone or together, and whether each version that one of them matches
-//! another does too.
+//! The lowest version that requirements match, alone or together, and whether one requirement is a subset of another.
 //!
-//! None of these is a question of tags, which stand for versions that a registry alone knows: each call asks that no
-//! requirement is one, as [`VersionReq::matches`] does. Each takes whether pre-releases are restricted by npm's rule or admitted
-//! throughout, as [`VersionReq::matches_with`] does. Its time grows with the square of the number of ranges of all requirements.
+//! Tags name versions that only a registry knows, so each call requires that no requirement is one, as
+//! [`VersionReq::matches`] does. Each takes whether pre-releases are restricted by npm's rule or admitted throughout, as
+//! [`VersionReq::matches_with`] does. The time grows with the square of the number of ranges of all requirements.
 
 ghost use Rattle.std.specs.Prelude.{◌≡◌, ◌↔◌, IfOk, IfSome, IsTrue, None, map, true};
 ghost use Rattle.semver_base.specs.Containment.{AreEquivalent, IsWithin, TellsEquivalent, TellsWithin};
@@ -55,14 +54,13 @@ impl VersionReq {
             .all(|requirement| requirement.tag().is_none())
     }
 
-    /// The lowest version that the requirement, which is no tag, matches, with pre-releases restricted or admitted
-    /// throughout, or none where it matches none.
+    /// The lowest version that the requirement, not a tag, matches, with pre-releases restricted or admitted throughout, or
+    /// `None` if it matches none.
     ///
-    /// The answer matches, and no version that a text stands for is lower by precedence and does too; where there is none,
-    /// no version that a text stands for matches. It has no build, and of a requirement that some reader answered its text
-    /// is read back.
+    /// No lower version by precedence that a text parses to matches; on `None`, no version that a text parses to does. The
+    /// version has no build, and for a parser's result its text parses back.
     ///
-    /// It is an error only where no memory is left.
+    /// Fails only out of memory.
     pub fn min_version(
         &self,
         alloc: Global,
@@ -82,14 +80,14 @@ impl VersionReq {
         }
     }
 
-    /// The lowest version that both requirements, which are no tags, match, with pre-releases restricted or admitted
-    /// throughout, or none where no version matches both.
+    /// The lowest version that both requirements, neither a tag, match, with pre-releases restricted or admitted throughout,
+    /// or `None` if no version matches both.
     ///
-    /// The answer matches both, and no version that a text stands for is lower by precedence and does too; where there is
-    /// none, no version that a text stands for matches both. So `>1.0.0` and `<1.0.1` have none by npm's rule, and `1.0.1-0`
-    /// with pre-releases admitted. It has no build, and of requirements that some reader answered its text is read back.
+    /// No lower version by precedence that a text parses to matches both; on `None`, no version that a text parses to does.
+    /// So `>1.0.0` and `<1.0.1` have none by npm's rule, and `1.0.1-0` with pre-releases admitted. The version has no build,
+    /// and for parsers' results its text parses back.
     ///
-    /// It is an error only where no memory is left.
+    /// Fails only out of memory.
     pub fn common_version(
         &self,
         alloc: Global,
@@ -116,15 +114,13 @@ impl VersionReq {
         }
     }
 
-    /// The lowest version that this requirement and all others match, none of which is a tag
-    /// ([`VersionReq::have_no_tag`]), with pre-releases restricted or admitted throughout, or none where no version matches
-    /// all.
+    /// The lowest version that this requirement and all others match, none of them a tag ([`VersionReq::have_no_tag`]), with
+    /// pre-releases restricted or admitted throughout, or `None` if no version matches all.
     ///
-    /// The answer matches all, and no version that a text stands for is lower by precedence and does too; where there is
-    /// none, no version that a text stands for matches all. It has no build, and of requirements that some reader answered
-    /// its text is read back.
+    /// No lower version by precedence that a text parses to matches all; on `None`, no version that a text parses to does.
+    /// The version has no build, and for parsers' results its text parses back.
     ///
-    /// It is an error only where no memory is left.
+    /// Fails only out of memory.
     pub fn common_version_of_all(
         &self,
         alloc: Global,
@@ -148,14 +144,14 @@ impl VersionReq {
         own.common_version_of_all(alloc, sets.as_slice(), pre_release)
     }
 
-    /// The lowest version that this requirement matches and the other, which is no tag either, doesn't, with pre-releases
-    /// restricted or admitted throughout, or none where the other matches each version that this one matches.
+    /// The lowest version that this requirement matches and the other, not a tag either, doesn't, with pre-releases
+    /// restricted or admitted throughout, or `None` if the other matches every version that this one matches.
     ///
-    /// No version that a text stands for is lower by precedence and is matched so; where there is none, the other matches
-    /// each version that a text stands for and this one matches. It has no build, and of requirements that some reader
-    /// answered its text is read back.
+    /// No lower version by precedence that a text parses to is matched by this one alone; on `None`, the other matches every
+    /// version that a text parses to and this one matches. The version has no build, and for parsers' results its text parses
+    /// back.
     ///
-    /// It is an error only where no memory is left.
+    /// Fails only out of memory.
     pub fn version_outside(
         &self,
         alloc: Global,
@@ -182,14 +178,14 @@ impl VersionReq {
         }
     }
 
-    /// Whether the other requirement matches each version that this one matches, with pre-releases restricted or admitted
+    /// Whether the other requirement matches every version that this one matches, with pre-releases restricted or admitted
     /// throughout; neither is a tag.
     ///
-    /// Yes says so of each version that a text stands for, and no that some version matches this requirement alone; of
-    /// requirements that some reader answered, yes is said exactly where so it is of each version that a text stands for.
-    /// The lowest that matches this one alone is what [`VersionReq::version_outside`] answers.
+    /// True says so of every version that a text parses to, and false that some version matches only this requirement; for
+    /// parsers' results, it is true exactly if that is so of every version that a text parses to.
+    /// [`VersionReq::version_outside`] returns the lowest version that matches only this one.
     ///
-    /// It is an error only where no memory is left.
+    /// Fails only out of memory.
     pub fn is_subset(
         &self,
         alloc: Global,
@@ -208,14 +204,14 @@ impl VersionReq {
         Ok(outside.is_none())
     }
 
-    /// Whether both requirements, which are no tags, match the same versions, with pre-releases restricted or admitted
+    /// Whether both requirements, neither a tag, match the same versions, with pre-releases restricted or admitted
     /// throughout.
     ///
-    /// Yes says so of each version that a text stands for, and no that some version matches one of them alone; of
-    /// requirements that some reader answered, yes is said exactly where so it is of each version that a text stands for.
-    /// It is what [`VersionReq::is_subset`] says both ways.
+    /// True says so of every version that a text parses to, and false that some version matches only one of them; for
+    /// parsers' results, it is true exactly if that is so of every version that a text parses to. Same as
+    /// [`VersionReq::is_subset`] both ways.
     ///
-    /// It is an error only where no memory is left.
+    /// Fails only out of memory.
     pub fn is_equivalent(
         &self,
         alloc: Global,
