@@ -1,4 +1,4 @@
--- Requirements with the same ranges in any order, and that they have one lowest version.
+-- Requirements with the same ranges in any order, which have one lowest version.
 use Rattle.std.specs.Prelude.{◌≡◌, List, [], ◌∷◌, Bool, Option, IsPermutation, map}
 use Rattle.semver_base.specs.LeastVersion.{IsOnlyLeast}
 use Rattle.semver_base.specs.declared.range.PreRelease.{PreRelease}
@@ -18,24 +18,24 @@ AreEachReordered [] [] = Unit {0}
 AreEachReordered (one ∷ some) (other ∷ others) = IsReordered one other × AreEachReordered some others
 AreEachReordered some others = ⊥
 
--- the same in any order, the ranges of each in any order
+-- the same requirements in any order, with the ranges of each in any order
 pub record AreReordered (some others : List RangeSetOrTag) : Type 0 where
   pub moved : List RangeSetOrTag
   pub in_order : IsPermutation some moved
   pub each : AreEachReordered moved others
 
--- in whatever order the ranges stand, no other answer is the lowest
+-- in any order of the ranges, no other result is the lowest
 abbrev pub InAnyOrder : (RangeSetOrTag → Version → Bool) → RangeSetOrTag → Option Version → Type 0
 InAnyOrder test one least = (same : RangeSetOrTag) → IsReordered one same → IsOnlyLeast (test same) least
 
--- of two requirements
+-- the same for two requirements
 abbrev pub BothInAnyOrder : (RangeSetOrTag → RangeSetOrTag → Version → Bool) → RangeSetOrTag → RangeSetOrTag
     → Option Version → Type 0
 BothInAnyOrder test one other least =
     (same others : RangeSetOrTag) → IsReordered one same → IsReordered other others
     → IsOnlyLeast (test same others) least
 
--- of a requirement and others, which stand in any order too
+-- the same for a requirement and others, which are in any order too
 abbrev pub AllInAnyOrder : PreRelease → RangeSetOrTag → List Requirement → Option Version → Type 0
 AllInAnyOrder flag own others least = (same : RangeSetOrTag) (rest : List Requirement)
     → AreReordered (own ∷ map (λ (req : Requirement). req.inner) others)

@@ -1,5 +1,5 @@
--- Comparators as they are written. Source: node-semver's range grammar (`primitive`, `tilde`, `caret`), with the
--- ignored primitive kinds and the leading `v` that npm accepts.
+-- Comparators as texts. Source: node-semver's range grammar (`primitive`, `tilde`, `caret`), with the ignored operators and
+-- the leading `v` that npm accepts.
 use Rattle.std.specs.Prelude.{◌≡◌, ◌⊎◌, ℕ, List, [], ◌∷◌, ◌++◌, Bool, ◌&&◌, Option, codes, if◌then◌else◌}
 use Rattle.semver_base.specs.Characters.{caret_sign, equals_sign, letter_v, tilde_sign}
 use Rattle.semver_base.specs.Comparators.{Caret, Comparator, Hyphen, OfPrimitive, Plain, Tilde, comparator_line, of_primitive, primitive_kind_text}
@@ -17,43 +17,42 @@ use Rattle.semver_req.specs.declared.common.values.Flavour.{Flavour}
 use Rattle.semver_req.specs.declared.common.values.Flavour.TheVariants.{Npm, Normal, Specifier}
 use Rattle.semver_req.specs.declared.common.values.Primitive.{Primitive}
 
--- ---- primitive kinds
+-- ---- comparison operators
 
 abbrev pub IsPrimitiveKind : List ℕ → PrimitiveKind → Type 0
 IsPrimitiveKind text kind = text ≡ primitive_kind_text kind
 
--- the primitive kind is with_equal, which a `=` at the front of text ends, or where there is none the kind alone; rest
--- is what follows
+-- the operator is with_equal if text begins with a `=`, which is part of it, and otherwise alone; rest is what follows
 abbrev pub IsMaybeEqual : List ℕ → PrimitiveKind → PrimitiveKind → PrimitiveKind → List ℕ → Type 0
 IsMaybeEqual text alone with_equal kind rest =
     ((kind ≡ with_equal) × (text ≡ equals_sign ∷ rest))
     ⊎ ((kind ≡ alone) × (rest ≡ text) × ((more : List ℕ) → text ≡ equals_sign ∷ more → ⊥))
 
--- a primitive kind, blanks and a partial version
+-- a comparison operator, whitespace and a partial version
 abbrev pub IsPrimitive : Flavour → List ℕ → PrimitiveKind × Partial → Type 0
 IsPrimitive f = Followed IsPrimitiveKind (After IsBlanks (IsPartial f))
 
--- a primitive kind and a partial version, unless a number in it is too large
+-- a comparison operator and a partial version, unless a number in it is too large
 abbrev pub sized_primitive : PrimitiveKind × Partial → Measured Primitive
 sized_primitive v = if partial_fits v.1 then Fits (record { kind = v.0; partial = v.1 }) else TooLarge
 
--- the same, of a partial version that is sized already
+-- the same, for a partial version that is measured already
 abbrev pub primitive_of : PrimitiveKind → Measured Partial → Measured Primitive
 primitive_of kind (Fits p) = Fits (record { kind = kind; partial = p })
 primitive_of kind TooLarge = TooLarge
 
--- ---- comparators as they are written
+-- ---- comparators as texts
 
 -- any number of `=`
 pub data IsEquals : List ℕ → Unit {0} → Type 0 where
   no_more : IsEquals [] tt
   one_more : {rest : List ℕ} → IsEquals rest tt → IsEquals (equals_sign ∷ rest) tt
 
--- what npm's grammar allows before the partial of a tilde or caret: any number of `=`, blanks, a `v`, blanks
+-- what npm's grammar allows before the partial of a tilde or caret: any number of `=`, whitespace, a `v`, whitespace
 abbrev pub IsLed : List ℕ → Partial → Type 0
 IsLed = After IsEquals (After IsBlanks (After (Optional (IsByte letter_v)) (After IsBlanks (IsPartial Npm))))
 
--- a primitive kind that says nothing, with one or more blanks after it, or nothing
+-- an ignored operator with whitespace after it, or nothing
 abbrev pub IsIgnored : List ℕ → Option (PrimitiveKind × Unit {0}) → Type 0
 IsIgnored = Optional (Followed IsPrimitiveKind IsSomeBlanks)
 
@@ -63,7 +62,7 @@ IsNpmTilde = Mapped Tilde (After IsIgnored (After (Either (IsText (codes "~>")) 
 abbrev pub IsNpmCaret : List ℕ → Comparator → Type 0
 IsNpmCaret = Mapped Caret (After IsIgnored (Prefixed caret_sign IsLed))
 
--- a primitive kind, blanks and a partial
+-- a comparison operator, whitespace and a partial
 abbrev pub IsOfPrimitive : Flavour → List ℕ → Comparator → Type 0
 IsOfPrimitive f = Mapped of_primitive (IsPrimitive f)
 

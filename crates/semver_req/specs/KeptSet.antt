@@ -1,5 +1,5 @@
--- The ranges that a reader keeps of the comparators of a text. Source: node-semver's description of ranges, in which
--- the comparators of an alternative are joined by "and", and alternatives by "or".
+-- The ranges that a parser keeps of the comparators of a text. Source: node-semver's description of ranges, in which the
+-- comparators of an alternative are joined by "and", and alternatives by "or".
 use Rattle.std.specs.Prelude.{◌≡◌, ℕ, List, [], ◌∷◌, map, not}
 use Rattle.std.specs.List.{filter, fold}
 use Rattle.semver_base.specs.Clamp.{clamped}
@@ -13,7 +13,7 @@ use Rattle.semver_req.specs.Outcome.{IsOutcome, Ranges, tree_ranges}
 use Rattle.semver_req.specs.declared.common.values.Flavour.{Flavour}
 use Rattle.semver_req.specs.declared.common.values.Flavour.TheVariants.{Npm, Normal, Specifier}
 
--- the ranges clamped to one another from left to right, beginning with everything
+-- the intersection of the ranges, clamped from left to right, beginning with everything
 abbrev pub folded : List VersionRange → VersionRange
 folded ranges = fold clamped everything ranges
 
@@ -22,17 +22,17 @@ abbrev pub kept_range : List Comparator → VersionRange
 kept_range (Hyphen p q ∷ []) = comparator_range (Hyphen p q)
 kept_range comparators = folded (map comparator_range comparators)
 
--- without those that end below 0.0.0, of which `VersionRange::is_none` says yes
+-- without the ranges that end below 0.0.0, for which `VersionRange::is_none` is true
 abbrev pub without_none : List VersionRange → List VersionRange
 without_none ranges = filter (λ range. not (ends_at_zero range.end)) ranges
 
--- the ranges of the alternatives of a tree; the strict reader drops none
+-- the ranges of the alternatives of a tree; the strict parser drops none
 abbrev pub kept : Flavour → List (List Comparator) → List VersionRange
 kept Npm tree = without_none (map kept_range tree)
 kept Normal tree = without_none (map kept_range tree)
 kept Specifier tree = map kept_range tree
 
--- what some reader keeps of some text
+-- what some parser keeps of some text
 pub record IsReadSet (ranges : List VersionRange) : Type 0 where
   pub flavour : Flavour
   pub text : List ℕ
@@ -40,7 +40,7 @@ pub record IsReadSet (ranges : List VersionRange) : Type 0 where
   pub is_outcome : IsOutcome flavour text (Ranges tree)
   pub is_kept : ranges ≡ kept flavour tree
 
--- what is kept of a tree means what the tree means, with npm's rule about pre-releases and without
+-- what is kept of a tree matches what the tree matches, with or without npm's rule about pre-releases
 abbrev pub KeptSetsMeanTheirTrees : Type 0
 KeptSetsMeanTheirTrees = (f : Flavour) (tree : List (List Comparator)) (flag : PreRelease) (v : Version)
     → tree_means_with flag (alternatives (kept f tree)) v ≡ tree_means_with flag (tree_ranges tree) v

@@ -1,5 +1,5 @@
--- What each reader makes of a text: the comparators of its alternatives, a tag, or a refusal. Source: node-semver's
--- reading of range sets for the npm and the normalized reader; the strict reader is `deno_semver`'s own.
+-- The outcome of a text in each grammar: the comparators of its alternatives, a tag, or an error. Source: node-semver's
+-- parsing of range sets for npm's and the normalized parser; the strict parser is `deno_semver`'s own.
 use Rattle.std.specs.Prelude.{◌≡◌, ◌<◌, ℕ, List, [], ◌∷◌, length, map, Bool, true, false, ◌⊎◌}
 use Rattle.std.specs.List.{list_all}
 use Rattle.std.specs.Str.{trim}
@@ -23,14 +23,14 @@ pub data Outcome : Type 0 where
 abbrev pub tree_ranges : List (List Comparator) → List (List VersionRange)
 tree_ranges tree = map (λ comparators. map comparator_range comparators) tree
 
--- the text as a tag where it is a valid one, else a refusal
+-- the text as a tag if it is a valid one, otherwise an error
 pub data IsTagOr : List ℕ → Outcome → Type 0 where
   tag : {text : List ℕ} → is_valid_tag text ≡ true → IsTagOr text (Tag text)
   no_tag : {text : List ℕ} → is_valid_tag text ≡ false → IsTagOr text Refused
 
--- ---- the npm and the normalized reader
+-- ---- npm's and the normalized parser
 
--- the piece is in the grammar, as comparators that all fit, or it is blanks before a `||`, which is everything
+-- the piece is valid: comparators of the grammar that all fit, or whitespace before a `||`, which is everything
 abbrev pub IsGood : Flavour → Bool → List ℕ → List Comparator → Type 0
 IsGood f followed piece cs =
     (IsPiece f piece cs × (list_all fits cs ≡ true)) ⊎ ((followed ≡ true) × IsBlanks piece tt × (cs ≡ []))
@@ -38,7 +38,7 @@ IsGood f followed piece cs =
 abbrev pub IsBad : Flavour → Bool → List ℕ → Type 0
 IsBad f followed piece = (cs : List Comparator) → IsGood f followed piece cs → ⊥
 
--- the good ones of these pieces, in order
+-- the valid ones of these pieces, in order
 pub data AreGoodOnes (f : Flavour) : Bool → List (List ℕ) → List (List Comparator) → Type 0 where
   none_left : {b : Bool} → AreGoodOnes f b [] []
   good : {b : Bool} {piece : List ℕ} {pieces : List (List ℕ)} {cs : List Comparator} {tree : List (List Comparator)}
@@ -46,14 +46,14 @@ pub data AreGoodOnes (f : Flavour) : Bool → List (List ℕ) → List (List Com
   bad : {b : Bool} {piece : List ℕ} {pieces : List (List ℕ)} {tree : List (List Comparator)} → IsBad f b piece
       → AreGoodOnes f false pieces tree → AreGoodOnes f b (piece ∷ pieces) tree
 
--- what is made of a text that is cut at its `||`
+-- the outcome of a text that is split at its `||`
 pub data IsCutOutcome : Flavour → List ℕ → Outcome → Type 0 where
   -- exactly one piece
   one_good : {f : Flavour} {text piece : List ℕ} {b : Bool} {cs : List Comparator} → ArePieces text b (piece ∷ [])
       → IsGood f b piece cs → IsCutOutcome f text (Ranges (cs ∷ []))
   one_bad : {f : Flavour} {text piece : List ℕ} {b : Bool} {o : Outcome} → ArePieces text b (piece ∷ [])
       → IsBad f b piece → IsTagOr (trim piece) o → IsCutOutcome f text o
-  -- two or more: npm ignores bad ones, the normalized reader refuses the whole text for one
+  -- two or more: npm ignores invalid ones, the normalized parser rejects the whole text for one
   npm_many : {text one two : List ℕ} {more : List (List ℕ)} {b : Bool} {tree : List (List Comparator)}
       → ArePieces text b (one ∷ two ∷ more) → AreGoodOnes Npm b (one ∷ two ∷ more) tree
       → IsCutOutcome Npm text (Ranges tree)
@@ -64,14 +64,14 @@ pub data IsCutOutcome : Flavour → List ℕ → Outcome → Type 0 where
       → ArePieces text b (one ∷ two ∷ more) → AreGoodOnes Normal b (one ∷ two ∷ more) tree
       → length tree < length (one ∷ two ∷ more) → IsCutOutcome Normal text Refused
 
--- ---- the strict reader
+-- ---- the strict parser
 
--- the front of a text that the strict reader takes
+-- the prefix of a text that the strict parser takes
 abbrev pub IsSpecifierRange : List ℕ → Comparator → Type 0
 IsSpecifierRange = IsComparator Specifier
 
--- the longest front that is a range of a specifier, where it fits, is the whole text or makes it refused; where there
--- is no such front, or something in it doesn't fit, the whole text is a tag or refused
+-- the longest prefix that is a range of a specifier, if it fits, has to be the whole text; without such a prefix, or if
+-- something in it doesn't fit, the whole text is a tag or rejected
 pub data IsSpecifierOutcome : List ℕ → Outcome → Type 0 where
   whole : {text : List ℕ} {c : Comparator} → IsLongest IsSpecifierRange text c [] → fits c ≡ true
       → IsSpecifierOutcome text (Ranges ((c ∷ []) ∷ []))
@@ -81,15 +81,15 @@ pub data IsSpecifierOutcome : List ℕ → Outcome → Type 0 where
   no_fit : {text rest : List ℕ} {c : Comparator} {o : Outcome} → IsLongest IsSpecifierRange text c rest → fits c ≡ false
       → IsTagOr text o → IsSpecifierOutcome text o
 
--- ---- the three readers
+-- ---- the three parsers
 
--- what a reader works on: npm's takes the blanks off both ends first
+-- the text that is parsed: npm's parser trims it first
 abbrev pub worked_on : Flavour → List ℕ → List ℕ
 worked_on Npm text = trim text
 worked_on Normal text = text
 worked_on Specifier text = text
 
--- what the reader of a flavour makes of a text, as it is given
+-- the outcome of a text, as it is given, in the grammar of a flavour
 abbrev pub IsOutcome : Flavour → List ℕ → Outcome → Type 0
 IsOutcome Npm text o = IsCutOutcome Npm (trim text) o
 IsOutcome Normal text o = IsCutOutcome Normal text o

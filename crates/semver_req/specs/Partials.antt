@@ -1,5 +1,5 @@
--- Partial versions as they are written in the three grammars of requirements. Numbers are of any size. Source:
--- node-semver's range grammar (`xr`, `partial`, `qualifier`); the normalized and the strict grammar are narrower.
+-- Partial versions in the three grammars of requirements. Numbers are of any size. Source: node-semver's range grammar (`xr`,
+-- `partial`, `qualifier`); the normalized and the strict grammar are narrower.
 use Rattle.std.specs.Prelude.{ℕ, List, [], Bool, true, ◌||◌, ◌&&◌, ◌==◌, Option, Some, None, if◌then◌else◌, drop}
 use Rattle.semver_base.specs.Characters.{asterisk, capital_x, dot, letter_v, letter_x}
 use Rattle.semver_base.specs.Grammar.{Either, Followed, IsLongest, Joined, Mapped, Prefixed, OneByte, Optional, ReadsAs}
@@ -26,7 +26,7 @@ strictness_of Npm = Loose
 strictness_of Normal = Loose
 strictness_of Specifier = Strict
 
--- `*`, and but for the normalized grammar `x` and `X`
+-- `*`, and except in the normalized grammar `x` and `X`
 abbrev pub is_wildcard : Flavour → ℕ → Bool
 is_wildcard Npm b = (b == asterisk) || (b == letter_x) || (b == capital_x)
 is_wildcard Normal b = b == asterisk
@@ -43,7 +43,7 @@ IsComponent f text (Val n) = IsNumber (strictness_of f) text n
 abbrev pub IsThird : Flavour → List ℕ → XRange × Qualifier → Type 0
 IsThird f = Prefixed dot (Joined IsNumberEnd (IsComponent f) (IsQualifier (strictness_of f)))
 
--- `.` and a component, and then the third or nothing
+-- `.` and a component, and then an optional third part
 abbrev pub IsSecond : Flavour → List ℕ → XRange × Option (XRange × Qualifier) → Type 0
 IsSecond f = Prefixed dot (Followed (IsComponent f) (Optional (IsThird f)))
 
@@ -53,17 +53,17 @@ partial_of (m, None) = record { major = m; minor = Wildcard; patch = Wildcard; p
 partial_of (m, Some (n, None)) = record { major = m; minor = n; patch = Wildcard; pre = []; build = [] }
 partial_of (m, Some (n, Some (p, q))) = record { major = m; minor = n; patch = p; pre = q.pre; build = q.build }
 
--- a component, and then the second or nothing
+-- a component, and then an optional second part
 abbrev pub IsPlainPartial : Flavour → List ℕ → Partial → Type 0
 IsPlainPartial f = Mapped partial_of (Followed (IsComponent f) (Optional (IsSecond f)))
 
--- before the first component npm's grammar allows one `v`
+-- npm's grammar allows one `v` before the first component
 abbrev pub IsPartial : Flavour → List ℕ → Partial → Type 0
 IsPartial Npm = Either (Prefixed letter_v (IsPlainPartial Npm)) (IsPlainPartial Npm)
 IsPartial Normal = IsPlainPartial Normal
 IsPartial Specifier = IsPlainPartial Specifier
 
--- ---- what 64 bits can tell of them
+-- ---- whether they fit in 64 bits
 
 abbrev pub component_fits : XRange → Bool
 component_fits Wildcard = true
@@ -79,9 +79,9 @@ partial_fits p = component_fits p.major && component_fits p.minor && component_f
 abbrev pub sized_partial : Partial → Measured Partial
 sized_partial p = if partial_fits p then Fits p else TooLarge
 
--- ---- what the readers of their parts answer
+-- ---- what the parsers of their parts return
 
--- a number, measured, as a component
+-- a measured number, as a component
 abbrev pub component_of : Measured ℕ → Measured XRange
 component_of (Fits n) = Fits (Val n)
 component_of TooLarge = TooLarge
@@ -89,7 +89,7 @@ component_of TooLarge = TooLarge
 abbrev pub sized_third : XRange × Qualifier → FromPatch
 sized_third v = record { patch = sized_component v.0; qualifier = v.1 }
 
--- a third part that is missing is a wildcard with no qualifier
+-- a missing third part is a wildcard without a qualifier
 abbrev pub third_or_none : Option (XRange × Qualifier) → FromPatch
 third_or_none None = record { patch = Fits Wildcard; qualifier = record { pre = []; build = [] } }
 third_or_none (Some v) = sized_third v
@@ -111,20 +111,19 @@ assembled_by TooLarge n p q = TooLarge
 assembled_by (Fits m) TooLarge p q = TooLarge
 assembled_by (Fits m) (Fits n) TooLarge q = TooLarge
 
--- a partial version of its components, where none is too large
+-- the partial version of these components, if none is too large
 abbrev pub assembled : Measured XRange → FromMinor → Measured Partial
 assembled major second = assembled_by major second.minor second.patch second.qualifier
 
--- the answer of a reader over a text and a place, as one over what follows the place
+-- a parser's result at a position in a text, as one on the text from there on
 abbrev pub answer_at : {X : Type 0} → List ℕ → Option (X × ℕ) → Option (X × List ℕ)
 answer_at text None = None
 answer_at text (Some p) = Some (p.0, drop p.1 text)
 
--- what a reader answers over a text and a place: the value of the longest front of what follows the place, and the
--- place that it reaches
+-- what a parser returns at a position in a text: the value of the longest prefix from there on, and the position after it
 abbrev pub ReadsAt : {V X : Type 0} → (V → X) → (List ℕ → V → Type 0) → List ℕ → ℕ → Option (X × ℕ) → Type 0
 ReadsAt see R text place answer = ReadsAs see R (drop place text) (answer_at text answer)
 
--- the longest front of what follows the place has this value, and reaches the end
+-- the longest prefix from the position on has this value, and ends at end
 abbrev pub IsLongestAt : {V : Type 0} → (List ℕ → V → Type 0) → List ℕ → ℕ → V → ℕ → Type 0
 IsLongestAt R text place value end = IsLongest R (drop place text) value (drop end text)

@@ -1,4 +1,4 @@
--- The steps in which the pieces of a text are read; no public call speaks of them.
+-- The steps in which the pieces of a text are parsed; no public contract cites them.
 use Rattle.std.specs.Prelude.{◌≡◌, ◌<◌, ◌==◌, ◌⊎◌, ℕ, List, [], ◌∷◌, ◌++◌, length, Bool, true, Option, Some, None}
 use Rattle.std.specs.Borrow.{Bor}
 use Rattle.std.specs.Option.{option_to_list}
@@ -17,7 +17,7 @@ use Rattle.semver_req.specs.declared.range_set_or_tag.pieces.Alternatives.{Alter
 use Rattle.semver_req.specs.declared.range_set_or_tag.pieces.RangeOrInvalid.{RangeOrInvalid}
 use Rattle.semver_req.specs.declared.range_set_or_tag.pieces.RangeOrInvalid.TheVariants as read
 
--- ---- cutting
+-- ---- splitting
 
 -- the first piece of a text, and what follows its `||`; nothing follows the only one
 abbrev pub IsFirstPiece : List ℕ → List ℕ → Bool → List ℕ → Type 0
@@ -36,9 +36,9 @@ abbrev pub both_now : Option (Bor (List ℕ) × Bor (List ℕ)) → Option (List
 both_now None = None
 both_now (Some p) = Some (p.0.now, p.1.now)
 
--- ---- reading
+-- ---- parsing
 
--- the piece is nothing, or blanks that are followed by `||`
+-- the piece is empty, or whitespace followed by `||`
 abbrev pub IsEverything : Bool → List ℕ → Type 0
 IsEverything followed piece = (piece ≡ []) ⊎ ((followed ≡ true) × IsBlanks piece tt)
 
@@ -46,16 +46,16 @@ IsEverything followed piece = (piece ≡ []) ⊎ ((followed ≡ true) × IsBlank
 abbrev pub sized_hyphen : Partial × Partial → HyphenRange
 sized_hyphen v = record { lower = sized_partial v.0; upper = sized_partial v.1 }
 
--- what is read of a hyphen range, where this is what was measured of it
+-- what a hyphen range parses to, if this is what was measured of it
 abbrev pub IsHyphenRead : HyphenRange → RangeOrInvalid → Type 0
 IsHyphenRead measured answer = (v : Partial × Partial) → measured ≡ sized_hyphen v → answer ≡ as_kept (hyphen v)
 
--- the whole piece is comparators of the grammar, which are answered so, or it is none
+-- the whole piece is comparators of the grammar, which parse to this, or it isn't any
 abbrev pub IsWholeRead : (List ℕ → List Comparator → Type 0) → List ℕ → Option RangeOrInvalid → Type 0
 IsWholeRead R piece None = (cs : List Comparator) → R piece cs → ⊥
 IsWholeRead R piece (Some answer) = (cs : List Comparator) × R piece cs × (answer ≡ as_kept cs)
 
--- why the first bad piece is bad, with one more piece
+-- why the first invalid piece is invalid, with one more piece
 abbrev pub first_refusal : Option Refusal → RangeOrInvalid → Option Refusal
 first_refusal (Some refusal) piece = Some refusal
 first_refusal None (read.Range range) = None
@@ -66,12 +66,12 @@ pub record IsOneMore (piece : RangeOrInvalid) (old new : Alternatives) : Type 0 
   pub refused : new.refused ≡ first_refusal old.refused piece
   pub is_only : new.is_only ≡ old.is_only
 
--- all of the pieces are good, or the first bad one is bad for this reason
+-- all the pieces are valid, or the first invalid one is so for this reason
 abbrev pub IsTold : Flavour → Bool → List (List ℕ) → List (List Comparator) → Option Refusal → Type 0
 IsTold f b pieces tree None = length tree ≡ length pieces
 IsTold f b pieces tree (Some refusal) = (length tree < length pieces) × IsFirstBad f b pieces refusal
 
--- these pieces were read so
+-- what these pieces parse to
 pub record AreRead (f : Flavour) (b : Bool) (pieces : List (List ℕ)) (all : Alternatives) : Type 0 where
   pub tree : List (List Comparator)
   pub good_ones : AreGoodOnes f b pieces tree
@@ -79,7 +79,7 @@ pub record AreRead (f : Flavour) (b : Bool) (pieces : List (List ℕ)) (all : Al
   pub told : IsTold f b pieces tree all.refused
   pub is_only : all.is_only ≡ (length pieces == 1)
 
--- the first piece, and those of what follows its `||`
+-- what the first piece and those of what follows its `||` parse to
 pub record AreAllRead (f : Flavour) (piece : List ℕ) (b : Bool) (rest : List ℕ) (all : Alternatives) : Type 0 where
   pub others : List (List ℕ)
   pub more : AreMorePieces rest others

@@ -1,4 +1,4 @@
--- What a reader answers to a text, by the outcome that its grammar gives the text.
+-- What a parser returns for a text, by the outcome of the text in its grammar.
 use Rattle.std.specs.Prelude.{◌≡◌, ◌⊎◌, ℕ, List, Option, None, Result, Ok, IfErr, IfOk, IsErr, IsUtf8, MatchResult}
 use Rattle.std.specs.List.{AllByRecursion}
 use Rattle.std.specs.Str.{trim_start}
@@ -14,42 +14,41 @@ use Rattle.semver_req.specs.declared.common.values.Flavour.TheVariants.{Npm, Nor
 use Rattle.semver_req.specs.declared.range_set_or_tag.RangeSetOrTag.{RangeSetOrTag}
 use Rattle.semver_req.specs.declared.range_set_or_tag.RangeSetOrTag.TheVariants as inner
 
--- the message of a failure and the part of the text that is meant; none for want of memory
+-- a failure's message and snippet; None is out of memory
 abbrev pub Failure : Type 0
 Failure = Option (List ℕ × Option (List ℕ))
 
--- what is read of a text with this outcome: the kept set of its tree, or its tag
+-- what a text with this outcome parses to: the kept set of its tree, or its tag
 abbrev pub IsRead : Flavour → Outcome → RangeSetOrTag → Type 0
 IsRead f (Ranges tree) answer = answer ≡ inner.RangeSet (record { 0 = kept f tree })
 IsRead f (Tag text) answer = answer ≡ inner.Tag text
 IsRead f Refused answer = ⊥
 
--- some outcome of the text is answered so
+-- some outcome of the text parses to this
 pub record IsReading (f : Flavour) (text : List ℕ) (answer : RangeSetOrTag) : Type 0 where
   pub outcome : Outcome
   pub is_outcome : IsOutcome f text outcome
   pub is_read : IsRead f outcome answer
 
--- the answer to a text with this outcome, want of memory aside; source is the failure in the error
+-- the result for a text with this outcome, or out of memory; source is the failure in the error
 abbrev pub IsAnswer : {E : Type 0} → (E → Failure) → Flavour → Outcome → Result Requirement E → Type 0
 IsAnswer source f (Ranges tree) result =
     MatchResult result (λ req. IsRead f (Ranges tree) req.inner) (λ e. source e ≡ None)
 IsAnswer source f (Tag text) result = MatchResult result (λ req. IsRead f (Tag text) req.inner) (λ e. source e ≡ None)
 IsAnswer source f Refused result = IsErr result
 
--- for every tree that the grammar gives the text, the answer means the versions that the tree means, with npm's rule
--- about pre-releases and without
+-- the result matches what every tree of the text in the grammar matches, with or without npm's rule about pre-releases
 abbrev pub MeansTrees : Flavour → List ℕ → RangeSetOrTag → Type 0
 MeansTrees f text answer = (tree : List (List Comparator)) → IsOutcome f text (Ranges tree)
     → (flag : PreRelease) (v : Version) → inner_means_with flag answer v ≡ tree_means_with flag (tree_ranges tree) v
 
--- an answer that is no tag is what is kept of a tree that the grammar gives the text
+-- a result that isn't a tag is what is kept of a tree of the text in the grammar
 abbrev pub HasTree : Flavour → List ℕ → RangeSetOrTag → Type 0
 HasTree f text (inner.RangeSet set) =
     (tree : List (List Comparator)) × IsOutcome f text (Ranges tree) × (set.0 ≡ kept f tree)
 HasTree f text (inner.Tag tag) = Unit {0}
 
--- ranges that are answered are what some reader keeps
+-- ranges in the result are what some parser keeps
 abbrev pub IsReadOrTag : RangeSetOrTag → Type 0
 IsReadOrTag (inner.RangeSet set) = IsReadSet set.0
 IsReadOrTag (inner.Tag tag) = Unit {0}
@@ -57,42 +56,42 @@ IsReadOrTag (inner.Tag tag) = Unit {0}
 abbrev pub AreReadOrTags : List Requirement → Type 0
 AreReadOrTags requirements = AllByRecursion (λ (req : Requirement). IsReadOrTag req.inner) requirements
 
--- only the normalized reader makes a tag of a text that begins with a blank, and leaves the blank out
+-- only the normalized parser makes a tag of a text with leading whitespace, which it strips
 abbrev pub StartsFit : Flavour → List ℕ → Type 0
 StartsFit Npm text = Unit {0}
 StartsFit Normal text = trim_start text ≡ text
 StartsFit Specifier text = Unit {0}
 
--- a tag is what the normalized reader makes of it again
+-- the normalized parser returns the same tag for a tag
 abbrev pub TagReadsBack : Flavour → List ℕ → RangeSetOrTag → Type 0
 TagReadsBack f text (inner.RangeSet set) = Unit {0}
 TagReadsBack f text (inner.Tag tag) = StartsFit f text → IsOutcome Normal tag (Tag tag)
 
--- the requirement stands for some outcome of the text, and keeps the text that the reader worked on
+-- the requirement means some outcome of the text, and keeps the text that was parsed
 pub record IsReadFrom (f : Flavour) (text : List ℕ) (req : Requirement) : Type 0 where
   pub reading : IsReading f text req.inner
   pub raw_text : req.raw_text ≡ worked_on f text
 
--- what the reader of a flavour answers to a text
+-- what the parser of a flavour returns for a text
 pub record IsReaderAnswer {E : Type 0} (source : E → Failure) (f : Flavour) (text : List ℕ)
     (result : Result Requirement E) : Type 0 where
-  -- what is read is what some outcome of the text stands for
+  -- the result means some outcome of the text
   pub outcome : IfOk result (λ req. IsReading f text req.inner)
-  -- a refusal comes only where that is the outcome, or memory was wanting
+  -- it fails only if that is the outcome, or out of memory
   pub refused : IfErr result (λ e. (source e ≡ None) ⊎ IsOutcome f text Refused)
-  -- every outcome of the text is answered, want of memory aside
+  -- every outcome of the text is returned, or out of memory
   pub answer : (o : Outcome) → IsOutcome f text o → IsAnswer source f o result
-  -- a version matches exactly where the comparators of the text mean it, be pre-releases restricted or admitted
+  -- a version matches exactly if it matches the text's comparators, with pre-releases restricted or admitted
   pub means : IfOk result (λ req. MeansTrees f text req.inner)
   -- ranges are kept of a tree of the text
   pub tree : IfOk result (λ req. HasTree f text req.inner)
   pub read_set : IfOk result (λ req. IsReadOrTag req.inner)
-  -- a tag is read back
+  -- a tag parses back
   pub tag : IfOk result (λ req. TagReadsBack f text req.inner)
-  -- the requirement keeps the text that the reader worked on
+  -- the requirement keeps the text that was parsed
   pub raw_text : IfOk result (λ req. req.raw_text ≡ worked_on f text)
 
--- all that is said of a reader's answer holds of what is read from a text
+-- all that is said of a parser's result holds of what a text parses to
 abbrev pub ReadRequirementsAreAnswers : Type 0
 ReadRequirementsAreAnswers = (f : Flavour) (text : List ℕ) (req : Requirement) → IsUtf8 text → IsReadFrom f text req
     → IsReaderAnswer (λ (failure : Failure). failure) f text (Ok req)

@@ -1,5 +1,5 @@
--- What a requirement is, and which versions it matches. Source: node-semver's description of ranges; a requirement may
--- also be a tag, as in npm's package specifiers.
+-- What a requirement is, and which versions it matches. Source: node-semver's description of ranges; a requirement may also
+-- be a tag, as in npm's package specifiers.
 use Rattle.std.specs.Prelude.{◌≡◌, ◌&&◌, ◌↔◌, IsTrue, ℕ, List, [], ◌∷◌, Bool, true, false, not, Option, Some, None, nat_eq, codes}
 use Rattle.std.specs.Cmp.Lexicographic.{pointwise}
 use Rattle.std.specs.List.{list_all}
@@ -16,7 +16,7 @@ use Rattle.semver_base.specs.declared.version.Version.{Version}
 use Rattle.semver_req.specs.declared.range_set_or_tag.RangeSetOrTag.{RangeSetOrTag}
 use Rattle.semver_req.specs.declared.range_set_or_tag.RangeSetOrTag.TheVariants as inner
 
--- the text that was read, and what it stands for
+-- the text that was parsed, and its ranges or tag
 pub record Requirement : Type 0 where
   pub raw_text : List ℕ
   pub inner : RangeSetOrTag
@@ -34,18 +34,18 @@ abbrev pub inner_means_with : PreRelease → RangeSetOrTag → Version → Bool
 inner_means_with flag (inner.RangeSet set) v = tree_means_with flag (alternatives set.0) v
 inner_means_with flag (inner.Tag text) v = false
 
--- by npm's rule about pre-releases
+-- the same by npm's rule about pre-releases
 abbrev pub inner_means : RangeSetOrTag → Version → Bool
 inner_means answer v = inner_means_with Restricted answer v
 
--- two range sets overlap by the bound rule, two tags where they are the same, a tag and ranges never
+-- two range sets overlap by the bound rule, two tags if they are the same, a tag and ranges never
 abbrev pub inner_overlap : RangeSetOrTag → RangeSetOrTag → Bool
 inner_overlap (inner.RangeSet set) (inner.RangeSet other) = some_overlap set.0 other.0
 inner_overlap (inner.Tag text) (inner.Tag other) = pointwise nat_eq text other
 inner_overlap (inner.RangeSet set) (inner.Tag text) = false
 inner_overlap (inner.Tag text) (inner.RangeSet set) = false
 
--- no version matches both, with npm's rule about pre-releases and without
+-- no version matches both, with or without npm's rule about pre-releases
 abbrev pub MatchNoVersion : RangeSetOrTag → RangeSetOrTag → Type 0
 MatchNoVersion one other =
     (flag : PreRelease) (v : Version) → (inner_means_with flag one v && inner_means_with flag other v) ≡ false
@@ -58,7 +58,7 @@ inners_mean_with flag one other v = inner_means_with flag one v && inner_means_w
 abbrev pub inner_means_alone_with : PreRelease → RangeSetOrTag → RangeSetOrTag → Version → Bool
 inner_means_alone_with flag one other v = inner_means_with flag one v && not (inner_means_with flag other v)
 
--- the ranges of a requirement, and none of a tag
+-- the ranges of a requirement; a tag has none
 abbrev pub ranges_of : RangeSetOrTag → VersionRangeSet
 ranges_of (inner.RangeSet set) = set
 ranges_of (inner.Tag text) = record { 0 = [] }
@@ -76,14 +76,14 @@ abbrev pub all_inners_mean_with : PreRelease → RangeSetOrTag → List Requirem
 all_inners_mean_with flag own others v = inner_means_with flag own v
     && list_all (λ (other : Requirement). inner_means_with flag other.inner v) others
 
--- two tags overlap where they are the same
+-- two tags overlap exactly if they are the same
 abbrev pub OverlapAsTags : RangeSetOrTag → RangeSetOrTag → Bool → Type 0
 OverlapAsTags (inner.Tag text) (inner.Tag other) result = IsTrue result ↔ (text ≡ other)
 OverlapAsTags one other result = Unit {0}
 
 -- ---- texts
 
--- the normal text of ranges, and a tag as it is
+-- the canonical form of ranges, and a tag as it is
 abbrev pub inner_text : RangeSetOrTag → List ℕ
 inner_text (inner.RangeSet set) = set_text set.0
 inner_text (inner.Tag text) = text
@@ -94,7 +94,7 @@ inner_text (inner.Tag text) = text
 abbrev pub pinned : Version → Requirement
 pinned v = record { raw_text = version_text v; inner = inner.RangeSet (record { 0 = between (from v) (up_to v) ∷ [] }) }
 
--- the versions of the same precedence match, and no other
+-- exactly the versions of the same precedence match
 abbrev pub PinsTo : Version → RangeSetOrTag → Type 0
 PinsTo v answer = (w : Version) → IsTrue (inner_means answer w) ↔ SamePrecedence v w
 

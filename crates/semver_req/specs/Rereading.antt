@@ -1,5 +1,5 @@
--- The normal text of a set that was read, read again. Source: `deno_semver`, whose text of a requirement is meant to be
--- read back.
+-- The canonical form of a parsed set, parsed again. Source: `deno_semver`, whose text of a requirement is meant to parse
+-- back.
 use Rattle.std.specs.Prelude.{◌≡◌, ◌≤◌, ◌<◌, ◌↔◌, ℕ, List, [], ◌∷◌, length, Bool, true, false, not, ◌==◌, ◌&&◌, ◌||◌, IsUtf8, Ok, codes}
 use Rattle.std.specs.List.{AllByRecursion, list_all}
 use Rattle.std.specs.Str.{trim}
@@ -53,72 +53,72 @@ keeps_start start end = true
 abbrev pub keeps_meaning : VersionRange → Bool
 keeps_meaning range = keeps_start range.start range.end
 
--- ---- which ranges are read back equal
+-- ---- which ranges parse back equal
 
 abbrev pub has_no_build : RangeBound → Bool
 has_no_build (bound.Version b) = length b.version.build == 0
 has_no_build bound.Unbounded = true
 
--- no bound carries a build, and the start is below the end, or at it where both are inclusive
+-- no bound has a build, and the start is below the end, or at it with both inclusive
 abbrev pub is_orderly : VersionRange → Bool
 is_orderly range = (has_no_build range.start && has_no_build range.end) && starts_before range.start range.end
 
--- ---- rereading
+-- ---- parsing again
 
--- the reader takes the text for this tree
+-- the parser parses the text to this tree
 abbrev pub IsTree : Flavour → List ℕ → List (List Comparator) → Type 0
 IsTree f text tree = IsOutcome f text (Ranges tree)
 
--- npm's and the normalized reader take the text for the shortest forms of the ranges, and for nothing else
+-- npm's and the normalized parser both parse the text to the shortest forms of the ranges, and to nothing else
 abbrev pub IsReadAsForms : List ℕ → List VersionRange → Type 0
 IsReadAsForms text ranges = (f : Flavour) → IsCutting f
     → IsTree f text (shortest_tree ranges) × ((o : Outcome) → IsOutcome f text o → o ≡ Ranges (shortest_tree ranges))
 
--- where every range keeps its meaning, each tree of the text means what the ranges mean, with npm's rule about
--- pre-releases and without
+-- if every range keeps its meaning, each tree of the text matches what the ranges match, with or without npm's rule about
+-- pre-releases
 abbrev pub MeansTheSame : List ℕ → List VersionRange → Type 0
 MeansTheSame text ranges = list_all keeps_meaning ranges ≡ true → (f : Flavour) → IsCutting f
     → (tree : List (List Comparator)) → IsTree f text tree
     → (flag : PreRelease) (v : Version)
     → tree_means_with flag (tree_ranges tree) v ≡ tree_means_with flag (alternatives ranges) v
 
--- so do the ranges that either reader keeps of it
+-- so do the ranges that either parser keeps of it
 abbrev pub KeepsTheSame : List ℕ → List VersionRange → Type 0
 KeepsTheSame text ranges = list_all keeps_meaning ranges ≡ true → (f : Flavour) → IsCutting f
     → (tree : List (List Comparator)) → IsTree f text tree
     → (flag : PreRelease) (v : Version)
     → tree_means_with flag (alternatives (kept f tree)) v ≡ tree_means_with flag (alternatives ranges) v
 
--- they are the ranges themselves where these are orderly too
+-- they are the ranges themselves if these are orderly too
 abbrev pub KeepsEqual : List ℕ → List VersionRange → Type 0
 KeepsEqual text ranges =
     list_all is_orderly ranges ≡ true → list_all keeps_meaning ranges ≡ true → (f : Flavour) → IsCutting f
     → (tree : List (List Comparator)) → IsTree f text tree → kept f tree ≡ ranges
 
--- ---- settling
+-- ---- reaching a fixed point
 
--- the reader takes the set's normal text for comparators, and keeps of them the set itself
+-- the parser parses the set's canonical form to comparators, of which it keeps the set itself
 pub record IsReadAsItself (f : Flavour) (ranges : List VersionRange) : Type 0 where
   pub tree : List (List Comparator)
   pub is_tree : IsTree f (set_text ranges) tree
   pub is_kept : kept f tree ≡ ranges
 
--- npm's reader and the normalized one do so
+-- the set is stable: npm's and the normalized parser both do so
 abbrev pub IsSettledSet : List VersionRange → Type 0
 IsSettledSet ranges = (f : Flavour) → IsCutting f → IsReadAsItself f ranges
 
--- what either reader keeps of the text is settled
+-- what either parser keeps of the text is stable
 abbrev pub KeepsSettled : List ℕ → List VersionRange → Type 0
 KeepsSettled text ranges =
     (f : Flavour) → IsCutting f → (tree : List (List Comparator)) → IsTree f text tree → IsSettledSet (kept f tree)
 
--- said of a version that some text stands for
+-- what is said of a version that some text parses to
 abbrev pub OfReadVersion : Version → Type 0 → Type 0
 OfReadVersion v Says = (text : List ℕ) → IsVersionOutcome text (Ok v) → Says
 
 -- ---- laws
 
--- the normal text of a read set, read again by npm's or the normalized reader
+-- the canonical form of a parsed set, parsed again by npm's or the normalized parser
 pub record IsRereading (text : List ℕ) (ranges : List VersionRange) : Type 0 where
   pub forms : IsReadAsForms text ranges
   pub is_trimmed : trim text ≡ text
@@ -129,22 +129,22 @@ pub record IsRereading (text : List ℕ) (ranges : List VersionRange) : Type 0 w
 abbrev pub NormalTextsKeepTheirMeaning : Type 0
 NormalTextsKeepTheirMeaning = (ranges : List VersionRange) → IsReadSet ranges → IsRereading (set_text ranges) ranges
 
--- a read set whose ranges keep their meaning is equivalent to whatever either reader makes of its normal text
+-- a parsed set whose ranges keep their meaning is equivalent to what either parser makes of its canonical form
 abbrev pub NormalTextsAreEquivalent : Type 0
 NormalTextsAreEquivalent = (ranges : List VersionRange) → IsReadSet ranges → list_all keeps_meaning ranges ≡ true
     → (f : Flavour) → IsCutting f → (again : RangeSetOrTag) → IsReading f (set_text ranges) again
     → AreEquivalent (set_means ranges) (inner_means again)
 
--- what either reader keeps of the normal text of a read set is settled
+-- what either parser keeps of the canonical form of a parsed set is stable
 abbrev pub OneRereadingSettles : Type 0
 OneRereadingSettles = (ranges : List VersionRange) → IsReadSet ranges → KeepsSettled (set_text ranges) ranges
 
--- settled sets are the same exactly where their normal texts are
+-- stable sets are the same exactly if their canonical forms are
 abbrev pub SettledSetsAreTheirTexts : Type 0
 SettledSetsAreTheirTexts = (some others : List VersionRange) → IsSettledSet some → IsSettledSet others
     → (some ≡ others) ↔ (set_text some ≡ set_text others)
 
--- the text is one piece without `||`, in npm's grammar and in the normalized one of these one or two comparators, which fit
+-- the text is one piece without `||`, in npm's and in the normalized grammar of these one or two comparators, which fit
 pub record IsOnePiece (text : List ℕ) (comparators : List Comparator) : Type 0 where
   pub no_bar : HasNoBar text
   pub piece : (f : Flavour) → IsCutting f → IsPiece f text comparators
@@ -152,13 +152,13 @@ pub record IsOnePiece (text : List ℕ) (comparators : List Comparator) : Type 0
   pub few : length comparators ≤ 2
   pub fit : list_all fits comparators ≡ true
 
--- so is the normal text of each range of a read set, and that of the empty set, `<0.0.0`
+-- so is the canonical form of each range of a parsed set, and that of the empty set, `<0.0.0`
 pub record RangesAreWrittenAsPieces : Type 0 where
   pub ranges : (ranges : List VersionRange) → IsReadSet ranges
       → AllByRecursion (λ range. IsOnePiece (range_text range) (shortest range)) ranges
   pub none : IsOnePiece (set_text []) (ending kind.Exclusive (release 0 0 0) ∷ [])
 
--- the texts of the bounds are read back: of the range of a piece, and of each range of a read set
+-- the texts of the bounds parse back, for the range of a piece and for each range of a parsed set
 pub record ReadRangesAreWritable : Type 0 where
   pub pieces : (f : Flavour) (followed : Bool) (piece : List ℕ) (range : VersionRange)
       → IsPieceRead f followed piece (read.Range range) → IsWritableRange range
@@ -166,7 +166,7 @@ pub record ReadRangesAreWritable : Type 0 where
 
 -- ---- tags
 
--- the normalized reader makes a tag of what some reader made a tag of; its own text begins with no blank
+-- the normalized parser returns the same tag for a tag that some parser returned; its own text must not begin with whitespace
 abbrev pub TagsReadBack : Type 0
 TagsReadBack =
     (f : Flavour) (text t : List ℕ) → IsUtf8 text → StartsFit f text → IsOutcome f text (Tag t)
@@ -174,12 +174,12 @@ TagsReadBack =
 
 -- ---- in texts of packages
 
--- no `@` and no `/`, which stand before and behind a requirement in the text of a package
+-- no `@` and no `/`, which delimit a requirement in the text of a package
 pub record HoldsNoSeparator (text : List ℕ) : Type 0 where
   pub no_at : list_all (λ b. not (b == at_sign)) text ≡ true
   pub no_slash : list_all (λ b. not (b == slash)) text ≡ true
 
--- neither the normal text of a read set holds one, nor a tag that some reader makes of a text
+-- neither the canonical form of a parsed set nor a tag that some parser returns contains one
 abbrev pub NormalTextsHoldNoSeparator : Type 0
 NormalTextsHoldNoSeparator = (ranges : List VersionRange) → IsReadSet ranges → HoldsNoSeparator (set_text ranges)
 
@@ -187,13 +187,13 @@ abbrev pub TagsHoldNoSeparator : Type 0
 TagsHoldNoSeparator = (f : Flavour) (text t : List ℕ) → IsUtf8 text → StartsFit f text
     → IsOutcome f text (Tag t) → HoldsNoSeparator t
 
--- each reader takes `*` for any version
+-- each parser parses `*` to any version
 abbrev pub StarIsAnyVersion : Type 0
 StarIsAnyVersion = (f : Flavour) → IsReadFrom f (codes "*") wildcard
 
 -- ---- requirements
 
--- the text of a requirement of ranges that some reader answered
+-- what is said of the text of a requirement whose ranges some parser returned
 abbrev pub OfReadRanges : (List ℕ → List VersionRange → Type 0) → RangeSetOrTag → List ℕ → Type 0
 OfReadRanges Says (inner.RangeSet set) text = IsReadSet set.0 → Says text set.0
 OfReadRanges Says (inner.Tag tag) text = Unit {0}

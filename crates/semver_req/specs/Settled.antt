@@ -1,4 +1,4 @@
--- What the normal text of a range is read back as, and the ranges that are read back as they are.
+-- What the canonical form of a range parses to, and the ranges that parse back unchanged.
 use Rattle.std.specs.Prelude.{◌≡◌, List, [], true}
 use Rattle.std.specs.Ordering.{is_ge}
 use Rattle.std.specs.declared.cmp.Ordering.TheVariants.{Less}
@@ -18,18 +18,18 @@ use Rattle.semver_req.specs.declared.common.values.Flavour.TheVariants.{Normal}
 abbrev pub reread : VersionRange → VersionRange
 reread range = kept_range (shortest range)
 
--- the ranges that npm's and the normalized reader keep of the shortest form of a set
+-- the ranges that npm's and the normalized parser keep of the shortest form of a set
 abbrev pub reread_set : List VersionRange → List VersionRange
 reread_set ranges = kept Normal (shortest_tree ranges)
 
--- the ranges that are read back as they are, by what they look like
+-- the ranges that parse back unchanged, by their bounds
 pub data IsSettled : VersionRange → Type 0 where
   all : IsSettled everything
   no_end : {k : VersionBoundKind} {s : Version} → s.build ≡ [] → IsSettled (between (bound_at k s) bound.Unbounded)
   one_version : {s : Version} → IsSettled (between (from s) (up_to s))
   -- the start may have a build
   short : {s e : Version} → has_short_form s e ≡ true → IsSettled (between (from s) (to_below e))
-  -- the start is not below 0.0.0, and below the end
+  -- the start isn't below 0.0.0, and is below the end
   ordered : {k l : VersionBoundKind} {s e : Version} → s.build ≡ [] → e.build ≡ []
       → is_ge (precedence_cmp s (release 0 0 0)) ≡ true
       → precedence_cmp s e ≡ Less → IsSettled (between (bound_at k s) (bound_at l e))

@@ -1,4 +1,4 @@
--- Why the strict reader refuses a text.
+-- Why the strict parser rejects a text.
 use Rattle.std.specs.Prelude.{◌≡◌, ◌<◌, ℕ, List, length, true, false, Some, None}
 use Rattle.semver_base.specs.Comparators.{Comparator, comparator_line}
 use Rattle.semver_base.specs.Failure.{refusal_message}
@@ -21,29 +21,29 @@ unexpected_character = Some (refusal_message UnexpectedCharacter, None)
 abbrev pub number_too_large : Failure
 number_too_large = Some (refusal_message NumberTooLarge, None)
 
--- the failure of a text that is no tag: want of memory, or that it is blank, or else the given refusal
+-- the failure of a text that isn't a tag: out of memory, or that it is blank, or else the given refusal
 pub data IsNoTag (text : List ℕ) (refusal : Refusal) : Failure → Type 0 where
   no_memory_left : IsNoTag text refusal None
   blank_no_tag : is_valid_tag text ≡ false → IsBlanks text tt → IsNoTag text refusal empty_constraint
   other_no_tag : is_valid_tag text ≡ false → (IsBlanks text tt → ⊥)
       → IsNoTag text refusal (Some (refusal_message refusal, None))
 
--- why the strict reader refuses a text, and the failure that tells it
+-- why the strict parser rejects a text, and the failure that reports it
 pub data IsSpecifierRefusal (text : List ℕ) : Failure → Type 0 where
   memory_wanting : IsSpecifierRefusal text None
   -- something follows a range of a specifier that fits
   something_follows : {rest : List ℕ} {c : Comparator} → IsLongest IsSpecifierRange text c rest → fits c ≡ true
       → 0 < length rest → IsSpecifierRefusal text unexpected_character
-  -- the text is no tag, and blank
+  -- the text isn't a tag, and is blank
   blank_text : HasNone IsSpecifierRange text → is_valid_tag text ≡ false → IsBlanks text tt
       → IsSpecifierRefusal text empty_constraint
-  -- it is no tag and not blank, and begins with no range of a specifier
+  -- it isn't a tag, isn't blank, and doesn't begin with a range of a specifier
   no_range : HasNone IsSpecifierRange text → is_valid_tag text ≡ false → (IsBlanks text tt → ⊥)
       → IsSpecifierRefusal text unexpected_character
-  -- it is no tag, and begins with a range of a specifier that has a number that doesn't fit
+  -- it isn't a tag, and begins with a range of a specifier that has a number that doesn't fit
   large_number : {rest : List ℕ} {c : Comparator} → IsLongest IsSpecifierRange text c rest
       → all_fit (comparator_numbers c) ≡ false → is_valid_tag text ≡ false → IsSpecifierRefusal text number_too_large
-  -- it is no tag, and begins with a range of a specifier whose numbers fit, but not a bound that it needs
+  -- it isn't a tag, and begins with a range of a specifier whose numbers fit, but not a bound that it needs
   large_bound : {rest : List ℕ} {c : Comparator} → IsLongest IsSpecifierRange text c rest
       → all_fit (comparator_numbers c) ≡ true → all_fit (comparator_line c).sums ≡ false → is_valid_tag text ≡ false
       → IsSpecifierRefusal text bound_too_large

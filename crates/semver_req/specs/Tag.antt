@@ -1,5 +1,5 @@
--- Which texts are valid tags. Source: npm's rule that a tag is a text that needs no escape in a URL; letters and
--- numbers are those of the tables of `unicode`.
+-- Which texts are valid tags. Source: npm's rule that a tag needs no escape in a URL; letters and numbers are those of the
+-- tables of `unicode`.
 use Rattle.std.specs.Prelude.{ℕ, List, Bool, true, false, not, ◌&&◌, ◌||◌, ◌==◌}
 use Rattle.std.specs.Char.{is_whitespace}
 use Rattle.std.specs.List.{list_all}
@@ -22,6 +22,6 @@ abbrev pub is_tag_character : ℕ → Bool
 is_tag_character c = is_alphabetic c || is_number_category (general_category c)
     || ((c == hyphen_sign) || (c == underscore) || (c == dot) || (c == tilde_sign))
 
--- the characters of a valid tag are such, and not all of them are blanks
+-- all characters of a valid tag are such, and not all of them are whitespace
 abbrev pub is_valid_tag : List ℕ → Bool
 is_valid_tag text = not (list_all is_whitespace (chars text)) && list_all is_tag_character (chars text)
