@@ -1,4 +1,4 @@
--- Blanks at the front of a text, and texts of blanks alone.
+-- Leading whitespace, and texts of only whitespace.
 use Rattle.std.proofs.Common.{◌≡◌, ◌≤◌, ◌<◌, ℕ, Bool, true, List, [], ◌∷◌, ◌++◌, length, take, get_or, refl, sym, ap, ◌∙◌, arith, inl, inr, append_assoc, append-nil, length-append}
 use Rattle.std.specs.Prelude.{◌↔◌, ◌==◌, ◌||◌, nat_le, IsTrue, IsUtf8}
 use Rattle.std.specs.Char.{is_not_whitespace, is_whitespace}
@@ -17,7 +17,7 @@ use Rattle.semver_base.proofs.Fronts.{narrowed}
 use Rattle.semver_base.proofs.Bytes.{MadeOf, list_all-append}
 use Rattle.semver_base.proofs.Orders.{and_first, and_second}
 
--- no blanks at the front are longer than those after which no blank follows
+-- leading whitespace is no longer than that after which no more whitespace follows
 no_longer : (cs ds rest b after : List ℕ) → NonePass is_not_whitespace cs → NonePass is_not_whitespace ds → EmptyOrStartsWithPassing is_not_whitespace rest after
     → encode_utf8_all cs ++ b ≡ encode_utf8_all ds ++ rest → length (encode_utf8_all cs) ≤ length (encode_utf8_all ds)
 no_longer [] ds rest b after pa pf stop e = omega arith
@@ -48,7 +48,7 @@ blanks_longest text rest h = record {
         let chars_split : encode_utf8_all k.0 ++ b ≡ encode_utf8_all h.2.0 ++ rest = ap (λ t. t ++ b) k.1 ∙ (split ∙ ap (λ t. t ++ rest) (sym h.2.1)) in
         omega (arith, no_longer k.0 h.2.0 rest b h.3.0 k.2 h.2.2 h.3.1 chars_split, ap length k.1, ap length h.2.1)
 
--- ---- the bytes of blanks
+-- ---- the bytes of whitespace
 
 abbrev pub is_blank_byte : ℕ → Bool
 is_blank_byte b = is_whitespace b || nat_le 128 b
@@ -70,7 +70,7 @@ all_blank (c ∷ cs) h = list_all-append is_blank_byte (encode_utf8 c) (encode_u
 pub blanks_made : MadeOf IsBlanks is_blank_byte
 blanks_made = record { made = λ text v h. rw (← h.1) (all_blank h.0 h.2) }
 
--- ---- one or more blanks
+-- ---- one or more whitespace characters
 
 pub some_blanks : (text rest : List ℕ) → IsLongest IsBlanks text tt rest → length rest < length text → IsLongest IsSomeBlanks text tt rest
 some_blanks text rest p less = narrowed IsSomeBlanks (λ a w h. h.1) p (omega (arith, less, ap length p.text_is, length-append p.front rest), p.stands)
@@ -78,9 +78,9 @@ some_blanks text rest p less = narrowed IsSomeBlanks (λ a w h. h.1) p (omega (a
 pub no_blanks : (text rest : List ℕ) → IsLongest IsBlanks text tt rest → length text ≤ length rest → HasNone IsSomeBlanks text
 no_blanks text rest p same_size = record { none = λ a b w e h. omega (arith, h.0, (p.longest a b tt e h.1).0, ap length p.text_is, length-append p.front rest, same_size) }
 
--- ---- texts of blanks alone
+-- ---- texts of only whitespace
 
--- a text is blanks exactly where nothing follows the blanks at its front
+-- a text is only whitespace exactly if nothing follows its leading whitespace
 pub blank_whole : (text rest : List ℕ) (b : Bool) → b ≡ (length rest == 0) → IsLongest IsBlanks text tt rest → IsTrue b ↔ IsBlanks text tt
 blank_whole text rest b e p = (forward, backward)
   where
@@ -103,7 +103,7 @@ none_other : (cs : List ℕ) → list_all is_whitespace cs ≡ true → NonePass
 none_other [] h = tt
 none_other (c ∷ cs) h = (rw (and_first (is_whitespace c) (list_all is_whitespace cs) h) refl, none_other cs (and_second (is_whitespace c) (list_all is_whitespace cs) h))
 
--- a text is blanks exactly where each of its characters is white space
+-- a text is only whitespace exactly if each of its characters is
 pub blank_characters : (text : List ℕ) → IsUtf8 text → IsTrue (list_all is_whitespace (chars text)) ↔ IsBlanks text tt
 blank_characters text utf8 = (forward, backward)
   where
@@ -113,6 +113,6 @@ blank_characters text utf8 = (forward, backward)
     backward : IsBlanks text tt → IsTrue (list_all is_whitespace (chars text))
     backward h = rw (← chars_from_encodes h.0 text utf8 h.1) (all_white h.0 h.2)
 
--- so what tells whether a text is blanks is that test
+-- so that test decides whether a text is only whitespace
 pub blank_test : (text : List ℕ) (b : Bool) → IsUtf8 text → IsTrue b ↔ IsBlanks text tt → b ≡ list_all is_whitespace (chars text)
 blank_test text b utf8 told = same_from_decides b (list_all is_whitespace (chars text)) told (blank_characters text utf8)

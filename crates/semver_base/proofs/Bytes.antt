@@ -1,4 +1,4 @@
--- With which bytes the texts of a grammar begin, and with which they go on.
+-- The bytes with which the texts of a grammar begin and continue.
 use Rattle.std.proofs.Common.{◌≡◌, ℕ, Bool, true, List, [], ◌∷◌, ◌++◌, Option, Some, None, refl, sym, ap, ◌∙◌, append_assoc, ◌==◌}
 use Rattle.std.specs.List.{list_all}
 use Rattle.std.proofs.lemmas.Bool.{and_from, and_parts}
@@ -6,7 +6,7 @@ use Rattle.std.proofs.lemmas.Bool.{eq-eqb}
 use Rattle.semver_base.specs.Grammar.{Either, this, that, HasNone, Joined, Listed, last_item, closed_item, more_items, Mapped, Prefixed, Optional, Run}
 use Rattle.semver_base.proofs.Fronts.{Apart, Begins, GoesOn, NoClash, NonEmpty, fronts, same, shorter, longer}
 
--- p holds of each byte with which a text of A begins, q of each with which a text of A goes on to a longer one
+-- p holds of each byte with which a text of A begins, q of each with which a text of A continues to a longer one
 pub record BeginsBy {V : Type 0} (A : List ℕ → V → Type 0) (p : ℕ → Bool) : Type 0 where
   pub begins : (x : ℕ) → Begins A x → p x ≡ true
 
@@ -221,7 +221,7 @@ joined_made {p = p} a b = record { made = λ text v h. rw h.text_is (list_all-ap
 pub run_made : (p : ℕ → Bool) → MadeOf (Run p) p
 run_made p = record { made = λ text v h. h.pass }
 
--- a text that begins with another byte has no front in A
+-- a text that begins with another byte has no prefix in A
 pub none_by_byte : {V : Type 0} {A : List ℕ → V → Type 0} {p : ℕ → Bool} → NonEmpty A → BeginsBy A p → (text : List ℕ) → ((x : ℕ) (rest : List ℕ) → text ≡ x ∷ rest → p x ≡ true → ⊥) → HasNone A text
 none_by_byte {V} {A} never b text other = record { none = go }
   where

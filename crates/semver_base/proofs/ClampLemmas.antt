@@ -1,4 +1,4 @@
--- What the bounds of a clamped range hold.
+-- What the bounds of a clamped range include.
 use Rattle.std.proofs.Common.{◌≡◌, ◌&&◌, Bool, true, false, refl, sym, ◌∙◌, inl, inr}
 use Rattle.std.proofs.lemmas.Cmp.{alike_right}
 use Rattle.std.specs.Ordering.{is_ge, is_le}
@@ -19,7 +19,7 @@ use Rattle.semver_base.proofs.Orders.{and_false, and_true, implied_first, implie
 
 -- ---- bounds and comparisons
 
--- what a start holds is not below it, and what is above it is held
+-- what a start includes isn't below it, and what is above it is included
 pub above_ge : (k : VersionBoundKind) (r : Ordering) → is_above k r ≡ true → is_ge r ≡ true
 above_ge kind.Inclusive r h = h
 above_ge kind.Exclusive Less h = h
@@ -44,18 +44,18 @@ not_below : (k : VersionBoundKind) (r : Ordering) → r ≡ Greater → is_below
 not_below kind.Inclusive r e = rw e refl
 not_below kind.Exclusive r e = rw e refl
 
--- what a start above y holds is above y
+-- what a start above y includes is above y
 over : (k : VersionBoundKind) (x y v : Version) → precedence_cmp x y ≡ Greater → is_above k (precedence_cmp v x) ≡ true → precedence_cmp v y ≡ Greater
 over k x y v e h =
     let below : precedence_cmp y x ≡ Less = turned precedence_total x y Greater e in
     let held : is_le (precedence_cmp x v) ≡ true = le_turned precedence_total v x (above_ge k (precedence_cmp v x) h) in
     turned precedence_total y v Less (less_le precedence_total y x v below held)
 
--- what an end below y holds is below y
+-- what an end below y includes is below y
 under : (k : VersionBoundKind) (x y v : Version) → precedence_cmp x y ≡ Less → is_below k (precedence_cmp v x) ≡ true → precedence_cmp v y ≡ Less
 under k x y v e h = le_less precedence_total v x y (below_le k (precedence_cmp v x) h) e
 
--- ---- the greater start and the lesser end
+-- ---- the higher start and the lower end
 
 exclusive_above : (k : VersionBoundKind) (r : Ordering) → is_above kind.Exclusive r ≡ (is_above kind.Exclusive r && is_above k r)
 exclusive_above k Less = refl
@@ -91,7 +91,7 @@ tied_ends : (k l : VersionBoundKind) (x y v : Version) → precedence_cmp v x �
 tied_ends kind.Exclusive l x y v e = rw (← e) (exclusive_below l (precedence_cmp v x))
 tied_ends kind.Inclusive l x y v e = rw e (inclusive_below l (precedence_cmp v y))
 
--- a clamped start holds what both starts hold
+-- a clamped start includes what both starts include
 pub start_both : (s t : RangeBound) (v : Version) → start_holds (clamped_start s t) v ≡ (start_holds s v && start_holds t v)
 start_both bound.Unbounded t v = refl
 start_both (bound.Version x) bound.Unbounded v = sym (and_true (start_holds (bound.Version x) v))
@@ -103,7 +103,7 @@ start_both (bound.Version x) (bound.Version y) v = go (precedence_cmp x.version 
     go Equal e = tied_starts x.kind y.kind x.version y.version v (alike_right precedence_total x.version y.version v e)
     go Greater e = implied_second _ _ (λ h. above_from y.kind (precedence_cmp v y.version) (over x.kind x.version y.version v e h))
 
--- a clamped end holds what both ends hold
+-- a clamped end includes what both ends include
 pub end_both : (s t : RangeBound) (v : Version) → end_holds (clamped_end s t) v ≡ (end_holds s v && end_holds t v)
 end_both bound.Unbounded t v = refl
 end_both (bound.Version x) bound.Unbounded v = sym (and_true (end_holds (bound.Version x) v))
@@ -129,7 +129,7 @@ at_end kind.Exclusive Less = refl
 at_end kind.Exclusive Equal = refl
 at_end kind.Exclusive Greater = refl
 
--- a start that has passed the end holds nothing with it
+-- a start past the end includes nothing with it
 pub passed_holds : (k l : VersionBoundKind) (x y v : Version) → precedence_cmp x y ≡ Greater → (is_above k (precedence_cmp v x) && is_below l (precedence_cmp v y)) ≡ false
 passed_holds k l x y v e = never_both _ _ (λ h. not_below l (precedence_cmp v y) (over k x y v e h))
 
@@ -138,7 +138,7 @@ stopped_tied : (k l : VersionBoundKind) (x y v : Version) → precedence_cmp v x
 stopped_tied kind.Exclusive l x y v e = refl
 stopped_tied kind.Inclusive l x y v e = rw e (at_end l (precedence_cmp v y))
 
--- stopping the start changes nothing of what the two hold together
+-- stopping the start doesn't change what the two include together
 stopped_holds : (s e : RangeBound) (v : Version) → (start_holds (stopped_at s e) v && end_holds e v) ≡ (start_holds s v && end_holds e v)
 stopped_holds bound.Unbounded e v = refl
 stopped_holds (bound.Version x) bound.Unbounded v = refl
@@ -156,13 +156,13 @@ grouped true true false d = refl
 grouped true false false d = refl
 grouped false b c d = refl
 
--- the bounds of a clamped range hold what the bounds of both hold
+-- the bounds of a clamped range include what the bounds of both include
 pub clamped_bounds : (a b : VersionRange) → HoldsBoth a b (clamped a b)
 clamped_bounds a b v =
     stopped_holds (clamped_start a.start b.start) (clamped_end a.end b.end) v
     ∙ rw (start_both a.start b.start v, end_both a.end b.end v) (grouped (start_holds a.start v) (start_holds b.start v) (end_holds a.end v) (end_holds b.end v))
 
--- a clamped range whose start has passed its end holds nothing
+-- a clamped range whose start is past its end includes nothing
 pub clamped_crossed : (a b : VersionRange) → HaveCrossed a b → HoldsNothing (clamped a b)
 clamped_crossed a b crossed v = stopped_holds (clamped_start a.start b.start) (clamped_end a.end b.end) v ∙ go (clamped_start a.start b.start) (clamped_end a.end b.end) crossed
   where
@@ -171,7 +171,7 @@ clamped_crossed a b crossed v = stopped_holds (clamped_start a.start b.start) (c
     go (bound.Version x) bound.Unbounded h = absurd h
     go (bound.Version x) (bound.Version y) h = passed_holds x.kind y.kind x.version y.version v h
 
--- what is clamped to a range that holds nothing holds nothing
+-- a range clamped to one that includes nothing includes nothing
 pub clamped_empty : (a b : VersionRange) → HoldsNothing a ⊎ HoldsNothing b → HoldsNothing (clamped a b)
 clamped_empty a b (inl none) v = clamped_bounds a b v ∙ rw (none v) refl
 clamped_empty a b (inr none) v = clamped_bounds a b v ∙ rw (none v) (and_false (bounds_hold a v))

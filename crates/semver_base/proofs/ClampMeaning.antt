@@ -1,4 +1,4 @@
--- What a clamped range means, pre-releases included.
+-- What a clamped range matches, pre-releases included.
 use Rattle.std.proofs.Common.{◌≡◌, ◌&&◌, ◌||◌, [], ◌∷◌, Bool, true, false, refl, sym, ap, ◌∙◌, inl, inr}
 use Rattle.std.proofs.lemmas.Bool.{cases_Bool}
 use Rattle.std.specs.Cmp.{both_ways}
@@ -44,7 +44,7 @@ tied_from : (k : VersionBoundKind) (first second : RangeBound) (v : Version) →
 tied_from kind.Exclusive first second v h = or_first _ _ h
 tied_from kind.Inclusive first second v h = or_second _ _ h
 
--- where the first of two starts that hold the pre-release v admits it, so does the greater
+-- if the first of two starts that include the pre-release v admits it, so does the higher
 start_kept_first : (s t : RangeBound) (v : Version) → is_release v ≡ false → start_holds t v ≡ true → has_pre_of s v ≡ true → has_pre_of (clamped_start s t) v ≡ true
 start_kept_first bound.Unbounded t v pre held h = cc h
 start_kept_first (bound.Version x) bound.Unbounded v pre held h = h
@@ -65,7 +65,7 @@ start_kept_second (bound.Version x) (bound.Version y) v pre held h = go (precede
     go Equal e = tied_admits x.kind (bound.Version x) (bound.Version y) v (start_between y.version x.version v pre h (le_tied _ (turned precedence_total x.version y.version Equal e)) (start_le x v held)) h
     go Greater e = start_between y.version x.version v pre h (le_by _ (turned precedence_total x.version y.version Greater e)) (start_le x v held)
 
--- where the first of two ends that hold v admits it, so does the lesser
+-- if the first of two ends that include v admits it, so does the lower
 end_kept_first : (s t : RangeBound) (v : Version) → end_holds t v ≡ true → has_pre_of s v ≡ true → has_pre_of (clamped_end s t) v ≡ true
 end_kept_first bound.Unbounded t v held h = cc h
 end_kept_first (bound.Version x) bound.Unbounded v held h = h
@@ -86,7 +86,7 @@ end_kept_second (bound.Version x) (bound.Version y) v held h = go (precedence_cm
     go Equal e = tied_admits x.kind (bound.Version x) (bound.Version y) v (end_between y.version x.version v h (end_le x v held) (le_tied _ e)) h
     go Greater e = h
 
--- a start that stops at the end admits what it did, of what both hold
+-- a stopped start admits what it did, of what both bounds include
 stop_kept : (s e : RangeBound) (v : Version) → is_release v ≡ false → start_holds s v ≡ true → end_holds e v ≡ true → has_pre_of s v ≡ true → has_pre_of (stopped_at s e) v ≡ true
 stop_kept bound.Unbounded e v pre above below h = cc h
 stop_kept (bound.Version x) bound.Unbounded v pre above below h = h
@@ -101,7 +101,7 @@ stop_kept (bound.Version x) (bound.Version y) v pre above below h = go (preceden
         let none = rw (above, below) at (passed_holds x.kind y.kind x.version y.version v e) in
         cc none
 
--- ---- what a chosen bound admits, one of the two admits
+-- ---- what the chosen bound admits, one of the two admits
 
 start_from : (s t : RangeBound) (v : Version) → has_pre_of (clamped_start s t) v ≡ true → (has_pre_of s v || has_pre_of t v) ≡ true
 start_from bound.Unbounded t v h = h
@@ -175,7 +175,7 @@ admits_kept a b v pre ha hb h = elim (or_cases _ _ h) [
     ends : has_pre_of (clamped_end a.end b.end) v ≡ true → admits_pre (clamped a b) v ≡ true
     ends k = or_second _ _ k
 
--- a clamped range means what the two mean as comparators of one alternative
+-- a clamped range matches what the two match as comparators of one alternative
 pub clamped_means : (a b : VersionRange) → MeansBoth a b (clamped a b)
 clamped_means a b flag v = same_where _ _ _ _ held (admitted flag)
   where
@@ -196,10 +196,10 @@ alone range v release = rw release (and_true (bounds_hold range v && true) ∙ a
 held_alone : (range : VersionRange) (v : Version) → alternative_means_with Admitted (range ∷ []) v ≡ bounds_hold range v
 held_alone range v = and_true (bounds_hold range v && true) ∙ and_true (bounds_hold range v)
 
--- where pre-releases are admitted, a version matches a clamped range where it matches both
+-- if pre-releases are admitted, a version matches a clamped range exactly if it matches both
 pub clamped_admits : (a b : VersionRange) → AdmitsBoth a b (clamped a b)
 clamped_admits a b v = held_alone (clamped a b) v ∙ clamped_bounds a b v ∙ sym (rw (held_alone a v, held_alone b v) refl)
 
--- a release matches a clamped range where it matches both
+-- a release matches a clamped range exactly if it matches both
 pub clamped_matches : (a b : VersionRange) → MatchesBoth a b (clamped a b)
 clamped_matches a b v release = alone (clamped a b) v release ∙ clamped_bounds a b v ∙ sym (rw (alone a v release, alone b v release) refl)

@@ -1,4 +1,4 @@
--- Whether one test passes what another does, told by the least version that only the first one passes.
+-- Whether one test passes what another does, by the lowest version that only the first one passes.
 use Rattle.std.proofs.Common.{◌≡◌, ◌&&◌, Bool, true, false, not, Option, Some, None, refl, sym, inl, inr, ◌∙◌}
 use Rattle.std.specs.Str.{trim}
 use Rattle.std.proofs.lemmas.Bool.{cases_Bool}
@@ -12,7 +12,7 @@ use Rattle.semver_base.proofs.Orders.{and_first, and_second}
 use Rattle.semver_base.proofs.ReadVersions.{read_writable}
 use Rattle.semver_base.proofs.Triples.{not_true}
 
--- whether something is found tells whether the second test passes what the first one passes
+-- the second test passes what the first one passes exactly if nothing is found
 pub within_told : (test other : Version → Bool) (x : Option Version) (told : Bool) → is_some x ≡ not told → IsLeast (λ v. test v && not (other v)) x → TellsWithin test other told
 within_told test other None false e h = cc e
 within_told test other (Some v) true e h = cc e
@@ -28,7 +28,7 @@ back_readable v back = go (trim (version_text v)) back
     go : (text : List ℕ) → IsVersionOutcome text (Ok v) → IsReadable v
     go text (is_version h fits) = record { numbers = fits; pre = (read_writable text v h fits).pre }
 
--- and it tells so exactly, where what is found has a text that is read back
+-- and it does so exactly, if what is found has a text that parses back
 pub within_exact : (test other : Version → Bool) (x : Option Version) (told : Bool) → is_some x ≡ not told → IsLeast (λ v. test v && not (other v)) x → IfSome x ReadsBack → IsTrue told ↔ IsWithin test other
 within_exact test other None false e h back = cc e
 within_exact test other (Some v) true e h back = cc e

@@ -1,5 +1,5 @@
--- That the derived `==` of the public types tells whether two values are the same. Each `.._eq` is the `==` of its
--- type, and each `.._told` that it tells.
+-- The derived `==` of the public types decides whether two values are the same. Each `.._eq` is the `==` of its type, and
+-- each `.._told` says that it decides.
 use Rattle.std.proofs.Common.{◌≡◌, ◌&&◌, ℕ, List, Bool, true, false, nat_eq, refl, ap}
 use Rattle.std.specs.Bool.{Decides}
 use Rattle.std.specs.Cmp.{unsigned_Decides}
@@ -19,7 +19,7 @@ use Rattle.semver_base.specs.declared.range.VersionRange.{VersionRange}
 use Rattle.semver_base.specs.declared.range.VersionRangeSet.{VersionRangeSet}
 use Rattle.semver_base.specs.declared.version.Version.{Version}
 
--- an answer that is the test tells what the test decides
+-- a result that is the test decides what the test decides
 pub told_by : {P : Type 0} (r test : Bool) → r ≡ test → Decides test P → Decides r P
 told_by r test e d = rw e d
 
@@ -28,7 +28,7 @@ pub both_told : {P Q : Type 0} (a b : Bool) → Decides a P → Decides b Q → 
 both_told true b p q = (λ e. (p.0 refl, q.0 e), λ h. q.1 h.1)
 both_told false b p q = (λ e. cc e, λ h. p.1 h.0)
 
--- a test that decides a fact decides each that says the same
+-- a test that decides a fact decides every equivalent one
 pub told_as : {P Q : Type 0} (a : Bool) → (P → Q) → (Q → P) → Decides a P → Decides a Q
 told_as a f g d = (λ e. f (d.0 e), λ q. d.1 (g q))
 

@@ -1,9 +1,9 @@
--- How the longest front of a grammar comes from those of its parts.
+-- How the longest prefix of a grammar comes from those of its parts.
 use Rattle.std.proofs.Common.{◌≡◌, ◌≤◌, ◌<◌, ◌+◌, ℕ, List, [], ◌∷◌, ◌++◌, length, Option, Some, None, refl, sym, ap, ◌∙◌, arith, append_assoc, length-append}
 use Rattle.std.proofs.lemmas.List.{nil_from_length}
 use Rattle.semver_base.specs.Grammar.{Either, this, that, IsLongest, HasNone, Followed, Joined, Mapped, Prefixed, Optional}
 
--- two fronts of one text: they are the same, or one goes on
+-- two prefixes of one text: they are the same, or one is longer
 pub data Fronts (a b c d : List ℕ) : Type 0 where
   same : a ≡ b → c ≡ d → Fronts a b c d
   shorter : (x : ℕ) (more : List ℕ) → b ≡ a ++ (x ∷ more) → c ≡ (x ∷ more) ++ d → Fronts a b c d
@@ -23,7 +23,7 @@ fronts (x ∷ a) (y ∷ b) c d e =
     go (shorter z more p q) = shorter z more (cc) q
     go (longer z more p q) = longer z more (cc) q
 
--- x is the byte with which a text of A goes on to a longer text of A
+-- x is a byte with which a text of A continues to a longer text of A
 pub record GoesOn {V : Type 0} (A : List ℕ → V → Type 0) (x : ℕ) : Type 0 where
   pub front : List ℕ
   pub more : List ℕ
@@ -32,17 +32,17 @@ pub record GoesOn {V : Type 0} (A : List ℕ → V → Type 0) (x : ℕ) : Type 
   pub short : A front short_value
   pub long : A (front ++ (x ∷ more)) long_value
 
--- x is the byte with which a text of A begins
+-- x is a byte with which a text of A begins
 pub record Begins {V : Type 0} (A : List ℕ → V → Type 0) (x : ℕ) : Type 0 where
   pub more : List ℕ
   pub value : V
   pub stands : A (x ∷ more) value
 
--- where a text of A goes on with a byte, no text of B that begins with that byte follows it
+-- if a text of A continues with a byte, no text of B that begins with that byte follows it
 pub record NoClash {V W : Type 0} (S : List ℕ → List ℕ → Type 0) (A : List ℕ → V → Type 0) (B : List ℕ → W → Type 0) : Type 0 where
   pub apart : (a more b : List ℕ) (x : ℕ) (v u : V) (w : W) → A a v → A (a ++ (x ∷ more)) u → B (x ∷ b) w → S a (x ∷ b) → ⊥
 
--- no text of A goes on with a byte with which a text of B begins
+-- no text of A continues with a byte with which a text of B begins
 pub record Apart {V W : Type 0} (A : List ℕ → V → Type 0) (B : List ℕ → W → Type 0) : Type 0 where
   pub apart : (x : ℕ) → GoesOn A x → Begins B x → ⊥
 
@@ -55,7 +55,7 @@ no_clash d = record {
 pub record NonEmpty {V : Type 0} (A : List ℕ → V → Type 0) : Type 0 where
   pub some : (v : V) → A [] v → ⊥
 
--- two fronts of one length
+-- two prefixes of one length
 pub same_fronts : (a b c d : List ℕ) → a ++ c ≡ b ++ d → length a ≡ length b → (a ≡ b) × (c ≡ d)
 same_fronts a b c d e h = elim (fronts a b c d e) [
   | same p q ↦ (p, q)
@@ -67,7 +67,7 @@ pair_is : {V W : Type 0} (u : V × W) (v : V) (w : W) → u.0 ≡ v → u.1 ≡ 
 pair_is (x, y) v w p q = cc
 
 module _ {V W : Type 0} {S : List ℕ → List ℕ → Type 0} {A : List ℕ → V → Type 0} {B : List ℕ → W → Type 0} where
-  -- what follows a text of A that could go on is no text of B, unless it is empty
+  -- what follows a text of A that could continue isn't a text of B, unless it is empty
   nothing_more : (a more s b m : List ℕ) (x : ℕ) {v u : V} {w : W} → NoClash S A B → A a v → A (a ++ (x ∷ more)) u → s ++ b ≡ (x ∷ more) ++ m → B s w → S a s → s ≡ []
   nothing_more a more [] b m x apart short long e h seam = refl
   nothing_more a more (y ∷ s) b m x {v} {u} {w} apart short long e h seam =
@@ -171,7 +171,7 @@ module _ {V : Type 0} {A : List ℕ → V → Type 0} where
   pub mapped_none : {W : Type 0} {f : V → W} {text : List ℕ} → HasNone A text → HasNone (Mapped f A) text
   mapped_none p = record { none = λ a b w e h. p.none a b h.value e h.stands }
 
--- the same with no condition on the two texts
+-- the same without a condition on the two texts
 module _ {V W : Type 0} {A : List ℕ → V → Type 0} {B : List ℕ → W → Type 0} where
   pub followed : {text middle rest : List ℕ} {v : V} {w : W} → Apart A B → IsLongest A text v middle → IsLongest B middle w rest → IsLongest (Followed A B) text (v, w) rest
   followed apart p q = joined (no_clash apart) p q tt
@@ -179,14 +179,14 @@ module _ {V W : Type 0} {A : List ℕ → V → Type 0} {B : List ℕ → W → 
   pub followed_none_second : {text middle : List ℕ} {v : V} → Apart A B → IsLongest A text v middle → HasNone B middle → HasNone (Followed A B) text
   followed_none_second apart p q = joined_none_second (no_clash apart) p q
 
--- a grammar with fewer texts, which has this front
+-- a grammar with fewer texts, which has this prefix
 pub narrowed : {V : Type 0} {A : List ℕ → V → Type 0} (B : List ℕ → V → Type 0) {text rest : List ℕ} {v : V} → ((a : List ℕ) (w : V) → B a w → A a w) → (p : IsLongest A text v rest) → B p.front v → IsLongest B text v rest
 narrowed B fewer p stands = record { front = p.front; text_is = p.text_is; stands = stands; longest = λ a b w e h. p.longest a b w e (fewer a w h) }
 
 pub narrowed_none : {V : Type 0} {A : List ℕ → V → Type 0} (B : List ℕ → V → Type 0) {text : List ℕ} → ((a : List ℕ) (w : V) → B a w → A a w) → HasNone A text → HasNone B text
 narrowed_none B fewer p = record { none = λ a b w e h. p.none a b w e (fewer a w h) }
 
--- the same texts, which stand for f of what they stood for
+-- the same texts, with f applied to their values
 pub renamed : {V W : Type 0} {A : List ℕ → V → Type 0} (B : List ℕ → W → Type 0) (f : V → W) {text rest : List ℕ} {v : V} → ((a : List ℕ) (w : W) → B a w → Mapped f A a w) → ((a : List ℕ) (u : V) → A a u → B a (f u)) → IsLongest A text v rest → IsLongest B text (f v) rest
 renamed B f {v = v} to from p = record {
   front = p.front;
@@ -195,7 +195,7 @@ renamed B f {v = v} to from p = record {
   longest = λ a b w e h. let m = to a w h in let best = p.longest a b m.value e m.stands in (best.0, λ s. m.is ∙ ap f (best.1 s));
 }
 
--- one of two grammars, where the other has no front
+-- one of two grammars, where the other matches no prefix
 module _ {V : Type 0} {A B : List ℕ → V → Type 0} where
   pub either_this : {text rest : List ℕ} {v : V} → IsLongest A text v rest → HasNone B text → IsLongest (Either A B) text v rest
   either_this {text} {rest} {v} p n = record { front = p.front; text_is = p.text_is; stands = this p.stands; longest = go }
@@ -218,7 +218,7 @@ module _ {V : Type 0} {A B : List ℕ → V → Type 0} where
       go a b w e (this h) = m.none a b w e h
       go a b w e (that h) = n.none a b w e h
 
--- the longest front is one, with its value and what follows it
+-- the longest prefix is unique, with its value and what follows it
 pub one_front : {V : Type 0} {R : List ℕ → V → Type 0} {text rest end : List ℕ} {v w : V} → IsLongest R text v rest → IsLongest R text w end → (v ≡ w) × (rest ≡ end)
 one_front {V} {R} {text} {rest} {end} {v} {w} p q =
     let shorter_first = (q.longest p.front rest v p.text_is p.stands).0 in
@@ -226,7 +226,7 @@ one_front {V} {R} {text} {rest} {end} {v} {w} p q =
     let even : length p.front ≡ length q.front = omega (arith, shorter_first, first.0) in
     (sym (first.1 (sym even)), (same_fronts p.front q.front rest end (sym p.text_is ∙ q.text_is) even).1)
 
--- a front that a text of B follows is the longest, where no text of A goes on with a byte with which B begins
+-- a prefix that a text of B follows is the longest, if no text of A continues with a byte with which B begins
 pub rest_is : {V W : Type 0} {A : List ℕ → V → Type 0} {B : List ℕ → W → Type 0} {text middle : List ℕ} {v : V} → Apart A B → NonEmpty B → IsLongest A text v middle → (a b : List ℕ) (u : V) (w : W) → text ≡ a ++ b → A a u → B b w → b ≡ middle
 rest_is {V} {W} {A} {B} {text} {middle} {v} apart some p a b u w e h k = elim (fronts a p.front b middle (sym e ∙ p.text_is)) [
   | same one two ↦ two
@@ -240,7 +240,7 @@ rest_is {V} {W} {A} {B} {text} {middle} {v} apart some p a b u w e h k = elim (f
         let same_byte : y ≡ x = cc in
         apart.apart x (record { front = a; more = more; short_value = u; long_value = v; short = h; long = long }) (record { more = b; value = w; stands = rw same_byte at k })
 
--- both have a front, and the first has the longer one
+-- both match a prefix, and the first matches the longer one
 pub either_longer : {V : Type 0} {A B : List ℕ → V → Type 0} {text rest more : List ℕ} {v w : V} → IsLongest A text v rest → IsLongest B text w more → length rest < length more → IsLongest (Either A B) text v rest
 either_longer {V} {A} {B} {text} {rest} {more} {v} p q less = record { front = p.front; text_is = p.text_is; stands = this p.stands; longest = go }
   where

@@ -1,4 +1,4 @@
--- Identifiers at the front of a text.
+-- Leading identifiers.
 use Rattle.std.proofs.Common.{◌≡◌, ℕ, Bool, true, false, List, [], ◌∷◌, ◌++◌, length, refl, ap, arith, ◌==◌, Bor, Option, Some, None, is_some}
 use Rattle.std.specs.Prelude.{◌||◌}
 use Rattle.std.proofs.lemmas.Bool.{eq-eqb, or_left}
@@ -45,7 +45,7 @@ identifiers_listing = record {
   after_separator = λ x h k. cc h;
 }
 
--- ---- with which bytes identifiers begin and go on
+-- ---- the bytes with which identifiers begin and continue
 
 abbrev pub is_identifiers_byte : ℕ → Bool
 is_identifiers_byte x = is_identifier_byte x || (x == 46)

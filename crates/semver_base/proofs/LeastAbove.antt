@@ -1,4 +1,4 @@
--- The least version above a start, be it a release or not.
+-- The lowest version above a start, a release or not.
 use Rattle.std.proofs.Common.{◌≡◌, ◌==◌, ◌++◌, ℕ, true, false, List, [], ◌∷◌, length, Option, Some, None, refl, sym, ap, ◌∙◌, inl, inr, arith}
 use Rattle.std.proofs.lemmas.Bool.{cases_Bool}
 use Rattle.std.proofs.lemmas.Cmp.{tied_itself}
@@ -69,7 +69,7 @@ then_over Less s h e = cc e
 then_over Equal s h e = let low : is_le Greater ≡ true = rw e at h in cc low
 then_over Greater s h e = refl
 
--- what is above a release has greater numbers
+-- what is above a release has higher numbers
 numbers_over : (s v : Version) → is_release s ≡ true → is_gt (precedence_cmp v s) ≡ true → Under s v
 numbers_over s v plain h =
     let above : precedence_cmp v s ≡ Greater = greater_from _ h in
@@ -86,7 +86,7 @@ own_readable v readable = record { numbers = record { major = readable.numbers.m
 own_held : (s v : Version) → is_release s ≡ true → start_holds (bound_at kind.Exclusive s) v ≡ true → is_release_from (bound_at kind.Exclusive s) (own v) ≡ true
 own_held s v plain held = and_both _ _ (under_above s (own v) (numbers_over s v plain held)) refl
 
--- the least pre-release of the next release is the least of all
+-- the lowest pre-release of the next release is the lowest of all
 zero_next : (s : Version) → is_release s ≡ true → (next : Option Version) → IsLeast (is_release_from (bound_at kind.Exclusive s)) next → IsLeast (start_holds (bound_at kind.Exclusive s)) (zero_of next)
 zero_next s plain (Some w) h = (
   under_above s (with_pre w (zero_identifier ∷ [])) (above_under s w plain (and_second (start_holds (bound_at kind.Exclusive s) w) _ h.0) (and_first _ (is_release w) h.0)),

@@ -1,6 +1,6 @@
--- Of the versions that pass a test, the lowest that is found from a start: it isn't above a version that the start holds where
--- the test goes on below that version, as far as the start holds versions of its kind. With pre-releases admitted all versions are
--- of one kind.
+-- Of the versions that pass a test, the lowest that is found from a start. It isn't above any version that the start includes
+-- and below which the test keeps passing, as far as the start includes versions of its kind. With pre-releases admitted all
+-- versions are of one kind.
 use Rattle.std.proofs.Common.{◌≡◌, ◌&&◌, ◌||◌, Bool, true, false, not, [], ◌∷◌, Option, Some, None, refl, sym, ap, ◌∙◌, inl, inr}
 use Rattle.std.specs.Prelude.{◌⊎◌, if◌then◌else◌, IfSome}
 use Rattle.std.proofs.lemmas.Bool.{cases_Bool}
@@ -27,9 +27,9 @@ use Rattle.semver_base.proofs.Orders.{and_both, and_first, and_second, le_le, le
 use Rattle.semver_base.proofs.Triples as triples
 use Rattle.semver_base.proofs.Triples.{SameNumbers}
 
--- ---- least versions of tests
+-- ---- lowest versions of tests
 
--- a least version of one test is that of another that the same readable versions pass
+-- a lowest version of one test is that of another that passes the same readable versions
 pub least_alike : (P Q : Version → Bool) (x : Option Version) → ((v : Version) → P v ≡ true → Q v ≡ true) → ((v : Version) → IsReadable v → Q v ≡ true → P v ≡ true) → IsLeast P x → IsLeast Q x
 least_alike P Q (Some x) there back h = (there x h.0, λ v readable passes. h.1 v readable (back v readable passes))
 least_alike P Q None there back h = λ v readable. elim (cases_Bool (Q v)) [
@@ -37,16 +37,16 @@ least_alike P Q None there back h = λ v readable. elim (cases_Bool (Q v)) [
   | inr fails ↦ fails
 ]
 
--- the same test, said otherwise
+-- the same for an equal test
 pub least_as : (P Q : Version → Bool) (x : Option Version) → ((v : Version) → P v ≡ Q v) → IsLeast P x → IsLeast Q x
 least_as P Q x same h = least_alike P Q x (λ v passes. sym (same v) ∙ passes) (λ v readable passes. same v ∙ passes) h
 
--- the version is reached: something is found, and it is not above that
+-- the version is reached: something is found, and isn't above it
 abbrev pub Reaches : Option Version → Version → Type 0
 Reaches None v = ⊥
 Reaches (Some w) v = is_le (precedence_cmp w v) ≡ true
 
--- what passes a test and reaches each readable version that passes it is the least
+-- what passes a test and reaches each readable version that passes it is the lowest
 pub least_by : (test : Version → Bool) (x : Option Version) → IfSome x (λ w. test w ≡ true) → ((v : Version) → IsReadable v → test v ≡ true → Reaches x v) → IsLeast test x
 least_by test (Some w) passes reaches = (passes, reaches)
 least_by test None passes reaches = λ v readable. elim (cases_Bool (test v)) [
@@ -106,7 +106,7 @@ lower_kept test x y r e le = go (test y)
     go true = rw e (by_order r le)
     go false = refl
 
--- ---- what a range means
+-- ---- what a range matches
 
 abbrev pub means : PreRelease → VersionRange → Version → Bool
 means flag a v = alternative_means_with flag (a ∷ []) v
@@ -123,7 +123,7 @@ means_admits flag a v h = rw (or_false (admits_pre a v)) at (and_second (bounds_
 pub means_from : (flag : PreRelease) (a : VersionRange) (v : Version) → start_holds a.start v ≡ true → end_holds a.end v ≡ true → (is_unrestricted flag v || admits_pre a v) ≡ true → means flag a v ≡ true
 means_from flag a v start end admitted = rw (start, end, or_false (admits_pre a v)) admitted
 
--- an end that holds a version holds what is not above it
+-- an end that includes a version includes what isn't above it
 end_lower : (end : RangeBound) (w v : Version) → is_le (precedence_cmp w v) ≡ true → end_holds end v ≡ true → end_holds end w ≡ true
 end_lower bound.Unbounded w v le h = refl
 end_lower (bound.Version x) w v le h = go x.kind h
@@ -139,7 +139,7 @@ end_lower (bound.Version x) w v le h = go x.kind h
 
 -- ---- versions of one kind
 
--- both are releases, or both pre-releases of the same numbers; where pre-releases are admitted any two are alike
+-- both are releases, or both pre-releases of the same numbers; if pre-releases are admitted any two are alike
 abbrev pub AreAlike : PreRelease → Version → Version → Type 0
 AreAlike Admitted w v = Unit {0}
 AreAlike Restricted w v = ((is_release w ≡ true) × (is_release v ≡ true)) ⊎ ((is_release w ≡ false) × (is_release v ≡ false) × SameNumbers v w)
@@ -158,13 +158,13 @@ alike_admitted Restricted a w v (inr pre) h = or_second (is_release w) _ (elim (
   | inr end ↦ or_second (has_pre_of a.start w) _ (same_admits a.end w v pre.2 end)
 ])
 
--- a version that the start of a range holds is meant by it where one of its kind is that is not below it
+-- a range matches a version that its start includes if it matches one of the same kind that isn't below it
 pub lower_means : (flag : PreRelease) (a : VersionRange) (w v : Version) → start_holds a.start w ≡ true → AreAlike flag w v → is_le (precedence_cmp w v) ≡ true → means flag a v ≡ true → means flag a w ≡ true
 lower_means flag a w v start alike le h = means_from flag a w start (end_lower a.end w v le (means_end flag a v h)) (alike_admitted flag a w v alike (means_admits flag a v h))
 
 -- ---- from a start
 
--- the test passes what the start holds of the version's kind, down from the version
+-- the test passes what the start includes of the version's kind, from the version downwards
 abbrev pub GoesDown : PreRelease → (Version → Bool) → RangeBound → Version → Type 0
 GoesDown flag test start v = (w : Version) → start_holds start w ≡ true → AreAlike flag w v → is_le (precedence_cmp w v) ≡ true → test w ≡ true
 
@@ -184,7 +184,7 @@ both_numbers : (x : RangeBound) (w v : Version) → has_pre_of x w ≡ true → 
 both_numbers bound.Unbounded w v h k = cc h
 both_numbers (bound.Version x) w v h k = triples.same_on v x.version w (triples.same_back x.version v (triples.pre_numbers x.version v k)) (triples.pre_numbers x.version w h)
 
--- a pre-release of the numbers of the bound is reached
+-- a pre-release of the bound's numbers is reached
 pub pre_reached : (test : Version → Bool) (start x : RangeBound) (v : Version) → IsReadable v → start_holds start v ≡ true → is_release v ≡ false → has_pre_of x v ≡ true → GoesDown Restricted test start v
     → Reaches (kept_if test (least_pre start x)) v
 pre_reached test start x v readable held pre admitted down = kept_reaches (is_pre_above start x) test (least_pre start x) v (pre_least start x) readable (and_both _ _ held (rw (pre, admitted) refl)) low

@@ -46,7 +46,7 @@ nat_le_cmp m n h = go (nat_cmp m n) (ranked m n (nat_cmp m n) refl)
     go Equal k = refl
     go Greater k = absurd (omega (arith, h, k))
 
--- a list that has ended is not above any
+-- a list that has ended isn't above any
 nothing_least : {X : Type 0} (R : X → X → Ordering) (xs : List X) → is_le (slice_cmp R [] xs) ≡ true
 nothing_least R [] = refl
 nothing_least R (x ∷ xs) = refl
@@ -68,7 +68,7 @@ number_digit b bs identifier number =
     let own : all_ascii_digits (b ∷ bs) ≡ true = rw plain at digits in
     digit_from b (and_first _ _ own)
 
--- such an identifier is not below `0` as a text
+-- such an identifier isn't below `0` as a text
 zero_text : (id : List ℕ) → IsIdentifier id id → is_number id ≡ true → is_le (slice_cmp nat_cmp zero_identifier id) ≡ true
 zero_text [] identifier number = absurd (let some : 0 < 0 = identifier.some in omega arith)
 zero_text (b ∷ bs) identifier number =
@@ -89,11 +89,11 @@ zero_least id identifier = rw zero_number (
 
 -- ---- lists of identifiers
 
--- the list of `0` alone is below or at every other that has an identifier
+-- the list of `0` alone isn't above any other non-empty one
 pub zeros_least : (x : List ℕ) (xs : List (List ℕ)) → AreIdentifiers (x ∷ xs) → is_le (slice_cmp identifier_cmp (zero_identifier ∷ []) (x ∷ xs)) ≡ true
 zeros_least x xs identifiers = le_then (identifier_cmp zero_identifier x) _ (zero_least x identifiers.0) (λ _. nothing_least identifier_cmp xs)
 
--- with `0` appended a list is the next one
+-- a list with `0` appended is the next one
 pub appended_next : (some others : List (List ℕ)) → AreIdentifiers others → slice_cmp identifier_cmp some others ≡ Less → is_le (slice_cmp identifier_cmp (some ++ zero_identifier ∷ []) others) ≡ true
 appended_next [] [] identifiers below = cc below
 appended_next [] (y ∷ ys) identifiers below = zeros_least y ys identifiers

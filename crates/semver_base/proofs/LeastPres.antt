@@ -1,4 +1,4 @@
--- The least pre-release of three numbers above a start.
+-- The lowest pre-release of three numbers above a start.
 use Rattle.std.proofs.Common.{◌≡◌, ◌&&◌, ◌==◌, ◌++◌, ℕ, Bool, true, false, not, List, [], ◌∷◌, length, Option, Some, None, refl, sym, ap, ◌∙◌, inl, inr}
 use Rattle.std.specs.Prelude.{if◌then◌else◌}
 use Rattle.std.proofs.lemmas.Bool.{cases_Bool}
@@ -29,7 +29,7 @@ use Rattle.semver_base.proofs.Orders.{and_both, and_false, and_first, and_second
 use Rattle.semver_base.proofs.Triples as triples
 use Rattle.semver_base.proofs.Triples.{SameNumbers}
 
--- of the numbers of v, where those of the start compare so to them
+-- of the numbers of v, if those of the start compare so to them
 abbrev pub pre_by : Ordering → VersionBound → Version → Option Version
 pre_by Less start v = Some (with_pre v (zero_identifier ∷ []))
 pre_by Equal start v = if is_release start.version then None else Some (pre_from start.kind start.version)
@@ -44,7 +44,7 @@ abbrev pub least_pre : RangeBound → RangeBound → Option Version
 least_pre start bound.Unbounded = None
 least_pre start (bound.Version b) = if is_release b.version then None else pre_above start b.version
 
--- a pre-release of the bound's numbers that the start holds
+-- a pre-release of the bound's numbers that the start includes
 abbrev pub is_pre_above : RangeBound → RangeBound → Version → Bool
 is_pre_above start b v = start_holds start v && (not (is_release v) && has_pre_of b v)
 
@@ -111,7 +111,7 @@ tied_same t s tied ids = let same = tied_numbers s t tied in record { major = sy
 
 -- ---- from below the numbers
 
--- `0` is the least pre-release of its numbers
+-- `0` is the lowest pre-release of its numbers
 zero_le : (t v : Version) → SameNumbers t v → is_release v ≡ false → AreIdentifiers v.pre → is_le (precedence_cmp (with_pre t (zero_identifier ∷ [])) v) ≡ true
 zero_le t v same some identifiers = rw (by_numbers (with_pre t (zero_identifier ∷ [])) v, sym (same_right t t v same), numbers_tied t, pre_slice (zero_identifier ∷ []) v.pre refl some) (go v.pre some identifiers)
   where
@@ -126,7 +126,7 @@ zero_least start k t pre holds = (
   λ v readable h. let is = pre_above_is start k t v h in zero_le t v is.same is.some readable.pre,
 )
 
--- a version whose numbers are above those of a start is held by it
+-- a start includes a version whose numbers are above its own
 held_above : (k : VersionBoundKind) (s v : Version) → numbers_cmp v s ≡ Greater → start_holds (bound_at k s) v ≡ true
 held_above k s v h = above_from k (precedence_cmp v s) (rw (by_numbers v s, h) refl)
 
@@ -135,14 +135,14 @@ zero_above k s t less = held_above k s (with_pre t (zero_identifier ∷ [])) (tu
 
 -- ---- from among the numbers
 
--- what the start holds is not below it
+-- what the start includes isn't below it
 pub start_le : (k : VersionBoundKind) (s v : Version) → start_holds (bound_at k s) v ≡ true → is_le (precedence_cmp s v) ≡ true
 start_le k s v h = le_turned precedence_total v s (above_ge k (precedence_cmp v s) h)
 
 numbers_same : (s t v : Version) → numbers_cmp s t ≡ Equal → SameNumbers t v → numbers_cmp s v ≡ Equal
 numbers_same s t v tied same = sym (same_right s t v same) ∙ tied
 
--- no pre-release of the numbers of a release is above it
+-- no pre-release of a release's numbers is above it
 none_above_release : (k : VersionBoundKind) (s t v : Version) → numbers_cmp s t ≡ Equal → is_release s ≡ true → IsPreAbove (bound_at k s) t v → ⊥
 none_above_release k s t v tied plain h =
     let le : is_le (ordering_then (numbers_cmp s v) (pre_cmp s.pre v.pre)) ≡ true = rw (by_numbers s v) at (start_le k s v h.held) in
@@ -150,7 +150,7 @@ none_above_release k s t v tied plain h =
     let low : is_le Greater ≡ true = rw (plain, h.some) at ids in
     cc low
 
--- nor is one above a version of greater numbers
+-- nor is one above a version of higher numbers
 none_above_greater : (k : VersionBoundKind) (s t v : Version) → numbers_cmp s t ≡ Greater → IsPreAbove (bound_at k s) t v → ⊥
 none_above_greater k s t v above h =
     let le : is_le (ordering_then (numbers_cmp s v) (pre_cmp s.pre v.pre)) ≡ true = rw (by_numbers s v) at (start_le k s v h.held) in
@@ -210,7 +210,7 @@ from_bound : (start : RangeBound) (l : VersionBoundKind) (t : Version) → is_re
 from_bound bound.Unbounded l t pre = zero_least bound.Unbounded l t pre refl
 from_bound (bound.Version s) l t pre = from_start s.kind l s.version t pre (numbers_cmp s.version t) refl
 
--- a release is no pre-release of any numbers
+-- a release isn't a pre-release of any numbers
 not_of_release : (start : RangeBound) (k : VersionBoundKind) (t v : Version) → is_release t ≡ true → is_pre_above start (bound_at k t) v ≡ true → ⊥
 not_of_release start k t v plain h =
     let some : is_release t ≡ false = triples.pre_some t v (and_second (not (is_release v)) _ (and_second (start_holds start v) _ h)) in

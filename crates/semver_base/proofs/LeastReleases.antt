@@ -1,4 +1,4 @@
--- The least release above a start.
+-- The lowest release above a start.
 use Rattle.std.proofs.Common.{◌≡◌, ◌&&◌, ◌<◌, ◌≤◌, ◌==◌, ◌+◌, ◌^◌, ℕ, Bool, true, false, List, [], ◌∷◌, length, Some, refl, inl, inr, arith}
 use Rattle.std.proofs.lemmas.Bool.{cases_Bool, ltb-true, ltb-false}
 use Rattle.std.proofs.lemmas.Bool.Decides.{nat_tests}
@@ -23,7 +23,7 @@ use Rattle.semver_base.proofs.LeastIdentifiers.{le_then}
 use Rattle.semver_base.proofs.NumbersOrder.{by_numbers, greater_from, numbers_above, numbers_le, numbers_tied, numbers_under, Under}
 use Rattle.semver_base.proofs.Orders.{and_both, and_first, and_second, le_then_first, le_turned}
 
--- a release that the start holds
+-- a release that the start includes
 abbrev pub is_release_from : RangeBound → Version → Bool
 is_release_from start v = start_holds start v && is_release v
 
@@ -33,7 +33,7 @@ no_pre v h = nil_from_length v.pre (grind (arith, nat_tests))
 pub not_none : (x : List ℕ) (xs : List (List ℕ)) → (length (x ∷ xs) == 0) ≡ false
 not_none x xs = grind (arith, nat_tests)
 
--- the precedence of a release is below or at that of each release whose numbers are not below its own
+-- by precedence a release isn't above any release whose numbers aren't below its own
 release_le : (w v : Version) → w.pre ≡ [] → v.pre ≡ [] → is_le (numbers_cmp w v) ≡ true → is_le (precedence_cmp w v) ≡ true
 release_le w v e f h = rw (by_numbers w v) (le_then (numbers_cmp w v) _ h (λ _. rw (e, f) refl))
 
@@ -47,7 +47,7 @@ start_le k s v h =
     let le : is_le (precedence_cmp s v) ≡ true = le_turned precedence_total v s (above_ge k (precedence_cmp v s) h) in
     le_then_first _ (pre_cmp s.pre v.pre) (rw (by_numbers s v) at le)
 
--- the release of the start's own numbers, where the start holds it
+-- the release of the start's own numbers, if the start includes it
 own_least : (k : VersionBoundKind) (s : Version) → start_holds (bound_at k s) (release s.major s.minor s.patch) ≡ true
     → IsLeast (is_release_from (bound_at k s)) (Some (release s.major s.minor s.patch))
 own_least k s holds = (
@@ -61,7 +61,7 @@ own_ge s = rw (by_numbers (release s.major s.minor s.patch) s, numbers_tied s) (
 own_gt : (s : Version) → is_release s ≡ false → is_gt (precedence_cmp (release s.major s.minor s.patch) s) ≡ true
 own_gt s pre = rw (by_numbers (release s.major s.minor s.patch) s, numbers_tied s, pre) refl
 
--- ---- what is next after a release
+-- ---- what comes next after a release
 
 then_greater : (r s : Ordering) → s ≡ Equal → ordering_then r s ≡ Greater → r ≡ Greater
 then_greater Less s e h = h
@@ -77,7 +77,7 @@ above_under s v first second h =
 pub under_above : (s w : Version) → Under s w → is_gt (precedence_cmp w s) ≡ true
 under_above s w h = rw (by_numbers w s, numbers_above s w h) refl
 
--- a release above s whose numbers are the least above those of s
+-- a release above s whose numbers are the lowest above those of s
 raised_least : (s w : Version) → is_release s ≡ true → is_release w ≡ true → Under s w → ((v : Version) → AllNumbersFit v → Under s v → is_le (numbers_cmp w v) ≡ true)
     → IsLeast (is_release_from (bound_at kind.Exclusive s)) (Some w)
 raised_least s w first second above least = (
@@ -94,7 +94,7 @@ fits n h = ltb-true n (2 ^ 64) h
 too_large : (n : ℕ) → number_fits n ≡ false → 2 ^ 64 ≤ n
 too_large n h = ltb-false n (2 ^ 64) h
 
--- nothing is above a release none of whose numbers can be raised
+-- nothing is above a release none of whose numbers can be incremented
 none_above : (s v : Version) → is_release s ≡ true → AllNumbersFit v → 2 ^ 64 ≤ s.patch + 1 → 2 ^ 64 ≤ s.minor + 1 → 2 ^ 64 ≤ s.major + 1 → is_release_from (bound_at kind.Exclusive s) v ≡ false
 none_above s v plain numbers third second first = elim (cases_Bool (is_release_from (bound_at kind.Exclusive s) v)) [
   | inl held ↦

@@ -1,4 +1,4 @@
--- The lowest version that ranges match has no build, and its text is read back where the texts of their bounds are.
+-- The lowest version that ranges match has no build, and its text parses back if the texts of their bounds do.
 use Rattle.std.proofs.Common.{◌≡◌, ◌<◌, ◌+◌, ◌^◌, ◌++◌, ℕ, Bool, true, false, List, [], ◌∷◌, Option, Some, None, refl, arith}
 use Rattle.std.specs.List.{AllByRecursion}
 use Rattle.std.specs.Prelude.{IfSome, if◌then◌else◌}
@@ -30,7 +30,7 @@ module _ (P : Version → Type 0) where
   chosen true x y h k = h refl
   chosen false x y h k = k refl
 
-  -- what is next after a release, where each of its three forms is so that fits
+  -- what comes next after a release, if it holds of each of the three forms that fit
   next_keeps : (v : Version) → (number_fits (v.patch + 1) ≡ true → P (release v.major v.minor (v.patch + 1))) → (number_fits (v.minor + 1) ≡ true → P (release v.major (v.minor + 1) 0))
       → (number_fits (v.major + 1) ≡ true → P (release (v.major + 1) 0 0)) → IfSome (next_release v) P
   next_keeps v third second first =
@@ -86,7 +86,7 @@ lowest_no_build flag own others without =
     })
     own others without (record { from_own = λ r is. (tt, tt); from_others = λ set r is among. (tt, tt); from_without = λ r is. tt })
 
--- ---- texts that are read back
+-- ---- texts that parse back
 
 small : (n : ℕ) → number_fits n ≡ true → n < 2 ^ 64
 small n h = ltb-true n (2 ^ 64) h
@@ -160,7 +160,7 @@ read_back : (x : Option Version) → IfSome x IsWritable → IfSome x ReadsBack
 read_back None h = tt
 read_back (Some v) h = version_outcome v h
 
--- the ranges of each of the sets have bounds whose texts are read back
+-- the bounds of the ranges of each set have texts that parse back
 abbrev pub AreWritableSets : List VersionRangeSet → Type 0
 AreWritableSets sets = AllByRecursion (λ (set : VersionRangeSet). AreWritableRanges set.0) sets
 

@@ -138,7 +138,7 @@ module _ {V : Type 0} {A : List ℕ → V → Type 0} {S : List ℕ → Unit {0}
   pub listed_more : {text middle after rest : List ℕ} {v : V} {u : Unit {0}} {vs : List V} → IsLongest A text v middle → IsLongest S middle u after → IsLongest (Listed A S) after vs rest → IsLongest (Listed A S) text (v ∷ vs) rest
   listed_more a b c = listed (followed item_apart a (optional_some (joined_some_text is.separator_some) (followed separator_apart b (optional_some (listed_some is.item_some) c))))
 
--- ---- a loop that reads a list: these items so far, and rest is what follows the last
+-- ---- a loop that parses a list: these items so far, and rest is what follows the last
 pub record SoFar {V : Type 0} (A : List ℕ → V → Type 0) (S : List ℕ → Unit {0} → Type 0) (text : List ℕ) (items : List V) (rest : List ℕ) : Type 0 where
   pub at_end : HasNone S rest → IsLongest (Listed A S) text items rest
   pub at_separator : (after : List ℕ) (u : Unit {0}) → IsLongest S rest u after → HasNone A after → IsLongest (Listed A S) text items after

@@ -1,5 +1,5 @@
--- The lowest candidate that passes is the lowest version that passes: of the starts that a passing version lies behind, the test
--- goes down from it to the highest, and the lowest version of its kind from there on is a candidate.
+-- The lowest candidate that passes is the lowest version that passes. Take the highest of the starts below a passing version:
+-- the test passes from that version down to it, and the lowest version of its kind from there on is a candidate.
 use Rattle.std.proofs.Common.{◌≡◌, ◌&&◌, ◌||◌, Bool, true, false, not, List, [], ◌∷◌, Option, Some, None, refl, sym, subst, ap, ap₂, ◌∙◌, inl, inr}
 use Rattle.std.specs.Prelude.{◌⊎◌, IfSome}
 use Rattle.std.proofs.lemmas.Bool.{cases_Bool}
@@ -55,13 +55,13 @@ fold_has step P (x ∷ xs) each found h = fold_has step P xs (λ found y is. eac
 
 -- ---- what is true of all candidates is true of the lowest that passes
 
--- the bounds from which candidates are taken are such
+-- all bounds from which candidates are taken satisfy Such
 pub record AreSuch (Such : RangeBound → Type 0) (own : List VersionRange) (others : List VersionRangeSet) (without : List VersionRange) : Type 0 where
   pub from_own : (r : VersionRange) → IsAmong r own → Such r.start × Such r.end
   pub from_others : (set : VersionRangeSet) (r : VersionRange) → IsAmong set others → IsAmong r set.0 → Such r.start × Such r.end
   pub from_without : (r : VersionRange) → IsAmong r without → Such (after r.end)
 
--- what is chosen from such a bound is so
+-- what is chosen from such a bound satisfies P
 pub record ChoosesOnly (flag : PreRelease) (test : Version → Bool) (Such : RangeBound → Type 0) (P : Version → Type 0) : Type 0 where
   pub free : (b : RangeBound) → Such b → IfSome (kept_if test (least_free flag b)) P
   pub own : (b : RangeBound) → Such b → IfSome (kept_if test (own_pre b)) P
@@ -161,8 +161,8 @@ pre_cases start (bound.Version b) = elim (cases_Bool (is_release b.version)) [
     of_start bound.Unbounded = inr (inl refl)
     of_start (bound.Version s) = by_numbers (numbers_cmp s.version b.version) s
 
--- a version from a start on, that the test goes down from: a candidate of the start reaches it, or the lowest pre-release of a bound
--- that admits it
+-- for a version from a start on, down from which the test passes: a candidate of the start reaches it, or the lowest
+-- pre-release of a bound that admits it does
 from_reached : (flag : PreRelease) (test : Version → Bool) (start : RangeBound) (v : Version) (Goal : Type 0) → IsReadable v → start_holds start v ≡ true → GoesDown flag test start v
     → (Reaches (kept_if test (least_free flag start)) v → Goal) → (Reaches (kept_if test (own_pre start)) v → Goal)
     → (is_unrestricted flag v ≡ true) ⊎ ((b : RangeBound) × (has_pre_of b v ≡ true) × (Reaches (kept_if test (zero_pre b)) v → Goal)) → Goal
@@ -182,7 +182,7 @@ from_reached Restricted test start v Goal readable held down free own (inr admit
       ]
 ]
 
--- ---- the highest start that a version lies behind
+-- ---- the highest start below a version
 
 some_range : (flag : PreRelease) (ranges : List VersionRange) (v : Version) → some_means flag ranges v ≡ true → (r : VersionRange) × IsAmong r ranges × (means flag r v ≡ true)
 some_range flag [] v h = cc h
@@ -197,18 +197,18 @@ any_range flag r (x ∷ xs) v (inl e) meant = or_first (means flag x v) _ (subst
 any_range flag r (x ∷ xs) v (inr h) meant = or_second (means flag x v) _ (any_range flag r xs v h meant)
 
 module _ (flag : PreRelease) (v : Version) (Q : RangeBound → Type 0) where
-  -- the start holds the version, and is one of those
+  -- the start includes the version, and satisfies Q
   abbrev IsStart : RangeBound → Type 0
   IsStart s = (start_holds s v ≡ true) × Q s
 
-  -- of two starts one holds no more than either
+  -- one of two starts includes no more than either
   higher : (s t : RangeBound) → IsStart s → IsStart t → (u : RangeBound) × IsStart u × Within u s × Within u t
   higher s t h k = elim (one_within s t) [
     | inl inside ↦ (s, h, (λ w held. held), inside)
     | inr inside ↦ (t, k, inside, (λ w held. held))
   ]
 
-  -- a range of the set means the version, and its start holds what s does
+  -- a range of the set matches the version, and its start includes what s does
   abbrev HasBelow : RangeBound → List VersionRange → Type 0
   HasBelow s ranges = (r : VersionRange) × IsAmong r ranges × (means flag r v ≡ true) × Within s r.start
 
@@ -231,7 +231,7 @@ module _ (flag : PreRelease) (v : Version) (Q : RangeBound → Type 0) where
       let best = higher found.0 here.0.start found.1 (means_start flag here.0 v here.2, each set here.0 (inl refl) here.1) in
       (best.0, best.1, (λ w held. found.2 w (best.2 w held)), ((here.0, here.1, here.2, best.3), all_below best.0 found.0 sets best.2 found.3))
 
-  -- the end of each of the ranges that doesn't hold v holds nothing that the start does
+  -- the end of each of the ranges that excludes v excludes all that the start includes
   abbrev AllLetGo : RangeBound → List VersionRange → Type 0
   AllLetGo s ranges = AllByRecursion (λ b. end_holds b.end v ≡ false → (w : Version) → start_holds s w ≡ true → end_holds b.end w ≡ false) ranges
 
@@ -250,7 +250,7 @@ module _ (flag : PreRelease) (v : Version) (Q : RangeBound → Type 0) where
             (best.0, best.1, (λ w held. found.2 w (best.2 w held)), (λ gone w held. after_gone b.end v w gone (best.3 w held), all_let_go best.0 found.0 bs best.2 found.3))
       ]
 
--- ---- the test goes down to it
+-- ---- the test passes down to it
 
 below_means : (flag : PreRelease) (v : Version) (Q : RangeBound → Type 0) (s : RangeBound) (w : Version) (ranges : List VersionRange) → HasBelow flag v Q s ranges → start_holds s w ≡ true → AreAlike flag w v → is_le (precedence_cmp w v) ≡ true
     → some_means flag ranges w ≡ true

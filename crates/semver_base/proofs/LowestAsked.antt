@@ -14,7 +14,7 @@ use Rattle.semver_base.proofs.Lowest.{lowest_least}
 use Rattle.semver_base.proofs.MeaningLemmas.{any_alternatives}
 use Rattle.semver_base.proofs.Orders.{and_true, or_false}
 
--- what is true of what is found is true of the answer
+-- what is true of what is found is true of the result
 pub answered : {E : Type 0} (P : Option Version → Type 0) (x : Option Version) (r : Result (Option Version) E) → P x → IfOk r (λ lowest. lowest ≡ x) → IfOk r P
 answered P x (Ok lowest) h is = subst P (sym is) h
 answered P x (Err e) h is = tt

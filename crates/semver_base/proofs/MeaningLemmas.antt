@@ -7,7 +7,7 @@ use Rattle.semver_base.specs.declared.version.Version.{Version}
 use Rattle.semver_base.specs.declared.range.PreRelease.{PreRelease}
 use Rattle.semver_base.specs.declared.range.VersionRange.{VersionRange}
 
--- some range alone means the version exactly where the tree of the ranges does
+-- some range alone matches the version exactly if the tree of the ranges does
 pub any_alternatives : (flag : PreRelease) (ranges : List VersionRange) (v : Version)
     → list_any (λ range. alternative_means_with flag (range ∷ []) v) ranges ≡ tree_means_with flag (alternatives ranges) v
 any_alternatives flag [] v = refl

@@ -1,4 +1,4 @@
--- The normal texts, row by row.
+-- The canonical forms, row by row.
 use Rattle.std.proofs.Common.{◌≡◌, ◌<◌, ◌+◌, ℕ, Bool, true, false, List, [], ◌∷◌, ◌++◌, refl, ap, ◌∙◌, arith, inl, inr, append-nil, ◌==◌}
 use Rattle.std.specs.Prelude.{◌&&◌, codes, if◌then◌else◌, nat_lt}
 use Rattle.std.proofs.lemmas.Bool.{and_from, and_parts, cases_lt, eq-eqb, eqb-true, lt-ltb, ltb-true}

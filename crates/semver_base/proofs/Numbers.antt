@@ -1,4 +1,4 @@
--- Numbers at the front of a text: where runs of bytes end, and what digits say.
+-- Leading numbers: where runs of bytes end, and the value of digits.
 use Rattle.std.proofs.Common.{◌≡◌, ◌≤◌, ◌<◌, ◌^◌, ℕ, zero, suc, Bool, true, false, List, [], ◌∷◌, ◌++◌, length, take, drop, get_or, Option, Some, None, Result, Ok, Err, refl, sym, ap, ◌∙◌, arith, rules, inl, inr, ◌==◌, add-one, append_assoc, length-append}
 use Rattle.std.specs.Prelude.{slice_index}
 use Rattle.std.specs.Borrow.{Bor}
@@ -82,7 +82,7 @@ zero_ascii x h = grind (arith, nat_tests)
 pub identifier_ascii : (x : ℕ) → is_identifier_byte x ≡ true → x < 128
 identifier_ascii x h = grind (arith, nat_tests)
 
--- ---- what was cut off, as the longest front
+-- ---- what was split off, as the longest prefix
 
 pub run_seen : {p : ℕ → Bool} {text first rest : List ℕ} → CutsRun p text first rest → (length first == 0) ≡ false → IsLongest (Run p) text first rest
 run_seen {p} {text} {first} {rest} c some = rw c.text_is (run_longest p first rest (grind (arith, nat_tests)) c.pass c.stops)
@@ -93,7 +93,7 @@ run_unseen {p} {text} {first} {rest} c none =
     let whole : text ≡ rest = rw nil at c.text_is in
     rw whole (run_none p rest c.stops)
 
--- ---- what numbers say
+-- ---- the value of digits
 
 digits_test : IsDigitsTest (λ ds. list_all is_ascii_digit ds ≡ true)
 digits_test = search rules
@@ -101,7 +101,7 @@ digits_test = search rules
 pub own : IsNumeralModel (λ ds. list_all is_ascii_digit ds ≡ true) (digits_value 10)
 own = numerals_by_value (λ ds. list_all is_ascii_digit ds ≡ true) digits_test
 
--- what `parse` answers for digits is the number, where it fits
+-- what `parse` returns for digits is the number, if it fits
 pub parsed : {E : Type 0} (bs : List ℕ) (r : Result ℕ E) → ParsesUnsigned 64 10 bs r → list_all is_ascii_digit bs ≡ true → (length bs == 0) ≡ false → measured_of (result_ok r) ≡ sized (digits_value 10 bs)
 parsed {E} bs r h digits some = go r (parse_digits own 64 bs r h digits)
   where
@@ -148,7 +148,7 @@ strict_other text (Some p) other h = record {
   seen = h.seen;
 }
 
--- ---- with which bytes numbers begin and go on
+-- ---- the bytes with which numbers begin and continue
 
 pub loose_begins : BeginsBy IsLooseNumber is_ascii_digit
 loose_begins = mapped_begins (run_begins is_ascii_digit)
@@ -163,7 +163,7 @@ pub number_is_loose : (s : Strictness) (a : List ℕ) (n : ℕ) → IsNumber s a
 number_is_loose Loose a n h = h
 number_is_loose Strict a n h = h.digits
 
--- a longest loose number is followed by no digit
+-- no digit follows a longest loose number
 pub loose_end : {text middle : List ℕ} {n : ℕ} (p : IsLongest IsLooseNumber text n middle) (y : ℕ) (rest : List ℕ) → middle ≡ y ∷ rest → is_ascii_digit y ≡ true → ⊥
 loose_end {text} p y rest e k =
     let pass : list_all is_ascii_digit (p.front ++ (y ∷ [])) ≡ true = list_all-append is_ascii_digit p.front (y ∷ []) p.stands.stands.pass (rw k refl) in

@@ -17,7 +17,7 @@ then_in_threes Equal Equal c d = refl
 then_in_threes Equal Greater c d = refl
 then_in_threes Greater b c d = refl
 
--- precedence is the numbers, and then the pre-release
+-- precedence compares the numbers, and then the pre-release
 pub by_numbers : (x y : Version) → precedence_cmp x y ≡ ordering_then (numbers_cmp x y) (pre_cmp x.pre y.pre)
 by_numbers x y = then_in_threes (nat_cmp x.major y.major) (nat_cmp x.minor y.minor) (nat_cmp x.patch y.patch) (pre_cmp x.pre y.pre)
 

@@ -1,4 +1,4 @@
--- The least version without a build of those that pass a test is one alone.
+-- The lowest version without a build that passes a test is unique.
 use Rattle.std.proofs.Common.{◌≡◌, Bool, true, List, ℕ, Option, Some, None, refl, sym, ap, ◌∙◌}
 use Rattle.std.specs.Ordering.{is_le}
 use Rattle.std.specs.Prelude.{IfSome}
@@ -16,7 +16,7 @@ use Rattle.semver_base.proofs.Orders.{turned}
 abbrev version_of : ℕ → ℕ → ℕ → List (List ℕ) → List (List ℕ) → Version
 version_of major minor patch pre build = record { major = major; minor = minor; patch = patch; pre = pre; build = build }
 
--- two versions without builds of which neither is above the other are the same
+-- two versions without builds, neither above the other, are the same
 same_version : (v w : Version) → HasNoBuild v → HasNoBuild w → is_le (precedence_cmp v w) ≡ true → is_le (precedence_cmp w v) ≡ true → w ≡ v
 same_version v w plain others h k = go (precedence_cmp v w) refl h
   where
@@ -36,6 +36,6 @@ only_least test (Some v) h plain back None k others read = absurd (cc (sym h.0 �
 only_least test (Some v) h plain back (Some w) k others read =
     ap Some (same_version v w plain others (h.1 w (back_readable w read) k.0) (k.1 v (back_readable v back) h.0))
 
--- the same of a test that says the same
+-- the same for an equal test
 pub only_alike : (test same : Version → Bool) (least : Option Version) → ((v : Version) → same v ≡ test v) → IsOnlyLeast test least → IsOnlyLeast same least
 only_alike test same least alike h = λ other k. h other (least_as same test other alike k)

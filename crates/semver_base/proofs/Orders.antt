@@ -42,7 +42,7 @@ pub never_both : (a b : Bool) → (a ≡ true → b ≡ false) → (a && b) ≡ 
 never_both true b h = h refl
 never_both false b h = refl
 
--- what has to be compared only where the first test holds
+-- what has to be compared only if the first test holds
 pub same_where : (a b c d : Bool) → a ≡ c → (c ≡ true → b ≡ d) → (a && b) ≡ (c && d)
 same_where true b true d e h = h refl
 same_where true b false d e h = cc e
@@ -103,7 +103,7 @@ le_le {K} {R} total x y z h k = go (R y z) refl k
     go Equal e k = sym (ap is_le (alike_right total y z x e)) ∙ h
     go Greater e k = cc k
 
--- what is at or above is at or below, the other way round
+-- what is at or above is at or below the other way round
 pub le_turned : {K : Type 0} {R : K → K → Ordering} (total : IsTotalOrder R) (x y : K) → is_ge (R x y) ≡ true → is_le (R y x) ≡ true
 le_turned {K} {R} total x y h = go (R x y) refl h
   where

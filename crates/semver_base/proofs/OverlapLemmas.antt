@@ -1,4 +1,4 @@
--- Overlap is symmetric, and what two ranges both hold makes them overlap.
+-- Overlap is symmetric, and two ranges that both include a version overlap.
 use Rattle.std.proofs.Common.{◌≡◌, ◌&&◌, ◌||◌, ◌==◌, ◌<◌, ℕ, length, arith, List, [], ◌∷◌, Bool, true, false, refl, sym, ap, ◌∙◌, inl, inr}
 use Rattle.std.proofs.lemmas.Bool.{cases_Bool}
 use Rattle.std.proofs.lemmas.Bool.Decides.{nat_tests}
@@ -38,7 +38,7 @@ end_le : (k : VersionBoundKind) (r : Ordering) → is_below k r ≡ true → is_
 end_le kind.Inclusive r h = h
 end_le kind.Exclusive r h = rw (less_from r h) refl
 
--- a start and an end that hold one version
+-- a start and an end that include one version
 held_between : (k l : VersionBoundKind) (x y v : Version) → is_above k (precedence_cmp v x) ≡ true → is_below l (precedence_cmp v y) ≡ true → lies_within k l (precedence_cmp x y) ≡ true
 held_between kind.Exclusive l x y v h e =
     let above : precedence_cmp x v ≡ Less = turned precedence_total v x Greater (greater_from _ h) in
@@ -51,13 +51,13 @@ held_by bound.Unbounded e v h k = refl
 held_by (bound.Version x) bound.Unbounded v h k = refl
 held_by (bound.Version x) (bound.Version y) v h k = held_between x.kind y.kind x.version y.version v h k
 
--- two ranges that hold one version overlap
+-- two ranges that include one version overlap
 held_overlap : (a b : VersionRange) (v : Version) → bounds_hold a v ≡ true → bounds_hold b v ≡ true → overlap a b ≡ true
 held_overlap a b v h k = and_both (starts_before a.start b.end) (starts_before b.start a.end)
     (held_by a.start b.end v (and_first _ _ h) (and_second _ _ k))
     (held_by b.start a.end v (and_first _ _ k) (and_second _ _ h))
 
--- ranges that do not overlap hold nothing together
+-- ranges that don't overlap include nothing together
 pub range_no_common : (result : Bool) (a b : VersionRange) → result ≡ overlap a b → OnFalse result (HoldNothingTogether a b)
 range_no_common true a b e = tt
 range_no_common false a b e = λ v. elim (cases_Bool (bounds_hold a v && bounds_hold b v)) [
@@ -113,7 +113,7 @@ matched_overlap flag some others v h k =
     (λ b second. held_overlap a b v (matches_held flag a v first) (matches_held flag b v second)) others (any_alternatives flag others v ∙ k))
     some (any_alternatives flag some v ∙ h)
 
--- sets that do not overlap match nothing together
+-- sets that don't overlap match nothing together
 pub set_no_common : (result : Bool) (some others : List VersionRange) → result ≡ some_overlap some others → OnFalse result (MatchNothingTogether some others)
 set_no_common true some others e = tt
 set_no_common false some others e = λ flag v. elim (cases_Bool (tree_means_with flag (alternatives some) v && tree_means_with flag (alternatives others) v)) [
@@ -155,7 +155,7 @@ exclusive_lt : (k : VersionBoundKind) (r : Ordering) → is_exclusive k ≡ true
 exclusive_lt kind.Inclusive r h e = cc h
 exclusive_lt kind.Exclusive r h e = e
 
--- a range that ends at 0.0.0 holds no release
+-- a range that ends at 0.0.0 includes no release
 pub ends_no_release : (result : Bool) (range : VersionRange) → result ≡ ends_at_zero range.end → OnTrue result (HoldsNoRelease range)
 ends_no_release false range e = tt
 ends_no_release true range e = λ v release. rw (go range.end v release (sym e)) (and_false (start_holds range.start v))

@@ -1,4 +1,4 @@
--- What an end doesn't hold, and which of two starts holds no more than the other.
+-- What an end excludes, and which of two starts includes no more than the other.
 use Rattle.std.proofs.Common.{◌≡◌, ◌&&◌, true, false, refl, sym, ◌∙◌, inl, inr}
 use Rattle.std.specs.Prelude.{◌⊎◌}
 use Rattle.std.proofs.lemmas.Bool.{cases_Bool}
@@ -23,7 +23,7 @@ use Rattle.semver_base.proofs.LeastFrom.{alike_admitted, means, means_admits, me
 use Rattle.semver_base.proofs.Orders.{and_first, and_second, le_le, le_turned, less_le, turned}
 use Rattle.semver_base.proofs.Triples as triples
 
--- ---- what an end lets go
+-- ---- what an end excludes
 
 let_go : (k : VersionBoundKind) (r : Ordering) → is_below k r ≡ false → is_above (other_kind k) r ≡ true
 let_go kind.Inclusive Less e = cc e
@@ -41,12 +41,12 @@ gone kind.Exclusive Less e = cc e
 gone kind.Exclusive Equal e = refl
 gone kind.Exclusive Greater e = refl
 
--- a version that an end doesn't hold is held by what it lets go
+-- a version that an end excludes is included by the start past it
 pub after_holds : (end : RangeBound) (v : Version) → end_holds end v ≡ false → start_holds (after end) v ≡ true
 after_holds bound.Unbounded v e = refl
 after_holds (bound.Version x) v e = let_go x.kind (precedence_cmp v x.version) e
 
--- and where an end lets some version go, it holds none of those
+-- and if an end excludes some version, it includes none of those past it
 pub after_gone : (end : RangeBound) (v w : Version) → end_holds end v ≡ false → start_holds (after end) w ≡ true → end_holds end w ≡ false
 after_gone bound.Unbounded v w e h = cc e
 after_gone (bound.Version x) v w e h = gone x.kind (precedence_cmp w x.version) h
@@ -66,7 +66,7 @@ gt_from Less h = cc h
 gt_from Equal h = cc h
 gt_from Greater h = refl
 
--- a start that holds a version holds what is not below it
+-- a start that includes a version includes what isn't below it
 start_upper : (start : RangeBound) (w v : Version) → is_le (precedence_cmp w v) ≡ true → start_holds start w ≡ true → start_holds start v ≡ true
 start_upper bound.Unbounded w v le h = refl
 start_upper (bound.Version x) w v le h = go x.kind h
@@ -82,7 +82,7 @@ alike_back Admitted w v alike = alike
 alike_back Restricted w v (inl plain) = inl (plain.1, plain.0)
 alike_back Restricted w v (inr pre) = inr (pre.1, pre.0, triples.same_back v w pre.2)
 
--- a range that doesn't mean a version means none below it of its kind, unless only its end let the version go
+-- a range that doesn't match a version matches none of its kind below it, unless only its end excludes the version
 pub not_meant : (flag : PreRelease) (b : VersionRange) (w v : Version) → AreAlike flag w v → is_le (precedence_cmp w v) ≡ true → (end_holds b.end v ≡ false → end_holds b.end w ≡ false) → means flag b v ≡ false → means flag b w ≡ false
 not_meant flag b w v alike le ends none = elim (cases_Bool (means flag b w)) [
   | inl meant ↦
@@ -95,9 +95,9 @@ not_meant flag b w v alike le ends none = elim (cases_Bool (means flag b w)) [
   | inr other ↦ other
 ]
 
--- ---- the greatest start that holds a version
+-- ---- the highest start that includes a version
 
--- what the first start holds the second does
+-- the second start includes what the first does
 abbrev pub Within : RangeBound → RangeBound → Type 0
 Within s t = (w : Version) → start_holds s w ≡ true → start_holds t w ≡ true
 

@@ -1,4 +1,4 @@
--- Numbers that are read digit by digit, and texts that are three of them with dots between.
+-- Numbers that are parsed digit by digit, and texts of three of them with dots between.
 use Rattle.std.proofs.Common.{◌≡◌, ◌≤◌, ◌<◌, ◌+◌, ◌*◌, ◌-◌, ◌^◌, ℕ, zero, suc, true, false, List, [], ◌∷◌, ◌++◌, length, take, drop, get_or, refl, sym, ap, subst, ◌∙◌, arith, inl, inr, append-nil, length-append, length-drop, length-take-le, take-append-drop}
 use Rattle.std.specs.Int.{IsInRange}
 use Rattle.std.specs.Prelude.{slice_index}
@@ -57,7 +57,7 @@ stops_past bytes n stops = elim (cases_lt n (length bytes)) [
   | inr past ↦ let nil = nil_from_length (drop n bytes) (omega (arith, length-drop n bytes)) in rw nil tt
 ]
 
--- a number with no leading zero is a strict one
+-- a number without a leading zero is a strict one
 strict_too : {text rest : List ℕ} {n : ℕ} → (slice_index text 0 ≡ 48 → length text ≡ length rest + 1) → IsLongest IsLooseNumber text n rest → IsLongest IsStrictNumber text n rest
 strict_too {text} {rest} no_zero p = narrowed IsStrictNumber (λ a w h. h.digits) p (record { digits = p.stands; no_leading_zero = alone })
   where
@@ -67,7 +67,7 @@ strict_too {text} {rest} no_zero p = narrowed IsStrictNumber (λ a w h. h.digits
     alone : slice_index p.front 0 ≡ 48 → length p.front ≡ 1
     alone z = omega (arith, no_zero (first ∙ z), ap length p.text_is, length-append p.front rest)
 
--- the digits before place n, which no digit follows, are the longest number
+-- the first n digits, which no digit follows, are the longest number
 pub number_read : (bytes : List ℕ) (n number : ℕ) → 0 < n → (slice_index bytes 0 ≡ 48 → n ≡ 1) → n ≤ length bytes → list_all is_ascii_digit (take n bytes) ≡ true
     → (n < length bytes → is_ascii_digit (slice_index bytes n) ≡ false) → number ≡ digits_value 10 (take n bytes) → number < 2 ^ 64 → IsPlainNumber bytes number (drop n bytes)
 number_read bytes n number some no_zero inside pass stops is fits = record { loose = loose; strict = strict_too (λ z. omega (arith, no_zero z, length-drop n bytes)) loose; fits = fits }
@@ -75,16 +75,16 @@ number_read bytes n number some no_zero inside pass stops is fits = record { loo
     loose : IsLongest IsLooseNumber bytes number (drop n bytes)
     loose = rw is (rw (take-append-drop n bytes) at (mapped {f = digits_value 10} (run_longest is_ascii_digit (take n bytes) (drop n bytes) (omega (arith, length-take-le n bytes inside)) pass (stops_past bytes n stops))))
 
--- ---- where no short number is at the front
+-- ---- where the text doesn't begin with a short number
 
--- digits at the front belong to the longest number
+-- leading digits belong to the longest number
 reaches : (bytes : List ℕ) (k : ℕ) {n : ℕ} {rest : List ℕ} → 0 < k → k ≤ length bytes → list_all is_ascii_digit (take k bytes) ≡ true → (p : IsLongest IsLooseNumber bytes n rest) → k ≤ length p.front
 reaches bytes k some inside pass p =
     let size = length-take-le k bytes inside in
     let number : IsLooseNumber (take k bytes) (digits_value 10 (take k bytes)) = record { value = take k bytes; stands = record { some = omega (arith, size, some); pass = pass; is = refl }; is = refl } in
     omega (arith, size, (p.longest (take k bytes) (drop k bytes) (digits_value 10 (take k bytes)) (sym (take-append-drop k bytes)) number).0)
 
--- more digits say no less
+-- more digits don't have a lower value
 grows : (bytes : List ℕ) (k m : ℕ) → m ≤ length bytes → k ≤ m → digits_value 10 (take k bytes) ≤ digits_value 10 (take m bytes)
 grows bytes k zero inside within = let none : k ≡ 0 = omega arith in rw none (omega arith)
 grows bytes k (suc m) inside within = elim (cases_lt k (suc m)) [
@@ -92,7 +92,7 @@ grows bytes k (suc m) inside within = elim (cases_lt k (suc m)) [
   | inr same ↦ let whole : k ≡ suc m = omega arith in rw whole (omega arith)
 ]
 
--- what the longest number says
+-- the value of the longest number
 value_of : {bytes rest : List ℕ} {n : ℕ} (p : IsLongest IsLooseNumber bytes n rest) → n ≡ digits_value 10 (take (length p.front) bytes)
 value_of {bytes} {rest} p = p.stands.is ∙ (ap (digits_value 10) p.stands.stands.is ∙ ap (digits_value 10) front_is)
   where
@@ -118,7 +118,7 @@ zero_led bytes n more inside pass zero_first m rest p short =
 
 -- ---- three numbers
 
--- a text may be cut after its ASCII front
+-- a text may be split after its ASCII prefix
 cut_after : (front rest : List ℕ) → IsAscii front → IsUtf8 (front ++ rest) → IsCharBoundary (front ++ rest) (length (front ++ rest) - length rest)
 cut_after front rest low utf8 =
     let place : length (front ++ rest) - length rest ≡ length front = omega (arith, length-append front rest) in
@@ -138,7 +138,7 @@ fits p = record { number = p.loose; fits = p.fits }
 front_fits : {text rest : List ℕ} {major minor patch : ℕ} → IsTripleFront text major minor patch rest → IsFittingTriple text (major, (minor, patch)) rest
 front_fits p = triple_read (fits p.major) refl (fits p.minor) refl (fits p.patch)
 
--- the text has bytes, and all are solid
+-- the text isn't empty, and all its bytes are solid
 abbrev pub IsSolid : List ℕ → Type 0
 IsSolid text = (list_all is_solid_byte text ≡ true) × (0 < length text)
 
@@ -155,7 +155,7 @@ solid_joined a b h k = (list_all-append is_solid_byte a b h.0 k, omega (arith, h
 numbers_front : {text rest : List ℕ} {numbers : ℕ × (ℕ × ℕ)} (p : IsFittingTriple text numbers rest) → IsSolid p.triple.front
 numbers_front {numbers = numbers} p = (numbers_solid.made p.triple.front numbers p.triple.stands, some_text (joined_some_text loose_some) p.triple.front p.triple.stands)
 
--- ---- versions with nothing before or behind them
+-- ---- versions with nothing around them
 
 -- three numbers and a qualifier
 pub qualified_version : {text rest : List ℕ} {numbers : Numbers} {v : Version} → IsTripleFront text numbers.major numbers.minor numbers.patch rest → IsQualified numbers rest v → IsPlainVersion text v
@@ -178,14 +178,14 @@ plain_version plain = qualified_version plain (record {
   version_is = refl;
 })
 
--- where the numbers end a text may be cut
+-- a text may be split where the numbers end
 pub numbers_boundary : {text rest : List ℕ} {major minor patch : ℕ} → IsTripleFront text major minor patch rest → IsUtf8 text → IsCharBoundary text (length text - length rest)
 numbers_boundary {text} {rest} front utf8 =
     let p = front_fits front in
     let solid = numbers_front p in
     rw p.triple.text_is (cut_after p.triple.front rest (all_ascii p.triple.front (solid_all_ascii p.triple.front solid.0)) (rw p.triple.text_is at utf8))
 
--- and go on with the rest
+-- and continues with the rest
 pub numbers_rest : {text rest : List ℕ} {major minor patch : ℕ} → IsTripleFront text major minor patch rest → drop (length text - length rest) text ≡ rest
 numbers_rest {text} {rest} front =
     let p = (front_fits front).triple in
@@ -204,9 +204,9 @@ few_solid text (few.One m) p = number_front_solid p refl
 few_solid text (few.Two m n) p = number_front_solid p.major (solid_some 46 p.from_minor refl (number_front_solid p.minor refl).0).0
 few_solid text (few.Three n) p = number_front_solid p.major (solid_some 46 p.from_minor refl (number_front_solid p.minor (solid_some 46 p.from_patch refl (number_front_solid p.patch refl).0).0).0).0
 
--- ---- where a text is no one to three short numbers
+-- ---- where a text isn't one to three short numbers
 
--- the text is no short number
+-- the text isn't a short number
 abbrev pub LacksOne : List ℕ → Type 0
 LacksOne text = (n : ℕ) → IsPlainNumber text n [] → IsShort n → ⊥
 
@@ -215,7 +215,7 @@ pub record LacksTwo (text : List ℕ) : Type 0 where
   pub one : LacksOne text
   pub two : (m n : ℕ) (rest : List ℕ) → IsPlainNumber text m (dot ∷ rest) → IsPlainNumber rest n [] → IsShort m → IsShort n → ⊥
 
--- something follows a number, and where that is a dot, so does a text that lacks numbers
+-- something follows a number, and if that is a dot, then a text that lacks numbers follows it
 pub record IsNoMore (Lacks : List ℕ → Type 0) (rest : List ℕ) : Type 0 where
   pub some : rest ≡ [] → ⊥
   pub dotted : (more : List ℕ) → rest ≡ dot ∷ more → Lacks more

@@ -1,4 +1,4 @@
--- Whether some pre-release of a bound's numbers matches is seen at two candidates: the lowest one of these numbers, and the
+-- Two candidates decide whether some pre-release of a bound's numbers matches: the lowest one of these numbers, and the
 -- lowest of the start's numbers from it on.
 use Rattle.std.proofs.Common.{◌≡◌, ◌&&◌, Bool, true, false, not, Option, Some, None, refl, sym, subst, ◌∙◌, inl, inr}
 use Rattle.std.specs.Prelude.{◌||◌, is_some}

@@ -1,4 +1,4 @@
--- Pre-releases, builds and qualifiers at the front of a text.
+-- Leading pre-releases, builds and qualifiers.
 use Rattle.std.proofs.Common.{◌≡◌, ◌≤◌, ℕ, true, List, [], ◌∷◌, ◌++◌, length, Option, Some, None, refl, ap, ◌∙◌, arith, inl, inr, ◌==◌}
 use Rattle.std.specs.Prelude.{◌||◌}
 use Rattle.std.specs.Char.{is_ascii_digit}
@@ -62,7 +62,7 @@ module _ {text : List ℕ} (other : (rest : List ℕ) → text ≡ 45 ∷ rest �
     longest = λ a b w e k. h.longest a b w e (identifiers_from_loose a b w e k);
   }
 
--- ---- what the readers answer
+-- ---- what the parsers return
 
 pub pre_prefixed : (s : Strictness) (text rest : List ℕ) (r : Option (List (List ℕ) × List ℕ)) → text ≡ 45 ∷ rest → Reads IsIdentifiers rest r → Reads (IsPre s) text r
 pre_prefixed Loose text rest r e h = loose_prefixed e r h
@@ -77,7 +77,7 @@ pub build_prefixed : (text rest : List ℕ) (r : Option (List (List ℕ) × List
 build_prefixed text rest None e h = prefixed_none e h
 build_prefixed text rest (Some p) e h = prefixed_some e h
 
--- ---- with which bytes they begin and go on
+-- ---- the bytes with which they begin and continue
 
 loose_made : MadeOf IsLoosePre is_identifiers_byte
 loose_made = record { made = go }
@@ -111,7 +111,7 @@ qualifier_read s p q =
     let both = mapped {f = qualifier_of} (followed (pre_build_apart s) p.longest q.longest) in
     rw (p.seen, q.seen) both
 
--- no qualifier in no text
+-- the empty text has no qualifier
 no_pre : (s : Strictness) → HasNone (IsPre s) []
 no_pre s = record { none = go s }
   where
@@ -132,7 +132,7 @@ no_qualifier s = qualifier_read s (record { value = None; longest = optional_non
 
 -- ---- a number and a qualifier
 
--- a strict qualifier begins with no digit
+-- a strict qualifier doesn't begin with a digit
 strict_begins : BeginsBy (IsQualifier Strict) (λ x. (x == 45) || (x == 43))
 strict_begins = mapped_begins (joined_begins_either
     (optional_begins (begins_wider (λ x. x == 45) (λ x. (x == 45) || (x == 43)) (λ x h. or_left (x == 45) (x == 43) h) (prefixed_begins 45)))

@@ -1,4 +1,4 @@
--- The identifiers that were read are those of the grammar, so a version that was read has a text that reads back.
+-- Parsed identifiers match the grammar, so a parsed version has a text that parses back.
 use Rattle.std.proofs.Common.{ℕ, List, [], ◌∷◌, Option, Some, None, Ok, refl, sym, subst, inl, inr}
 use Rattle.semver_base.specs.Grammar.{After, last_item, closed_item, more_items, Mapped, Prefixed, Optional}
 use Rattle.semver_base.specs.Lexical.{IsBuild, IsIdentifier, IsIdentifiers, IsPre, IsQualifier, or_none}
@@ -10,7 +10,7 @@ use Rattle.semver_base.specs.declared.lexical.values.Strictness.TheVariants.{Loo
 use Rattle.semver_base.specs.declared.version.Version.{Version}
 use Rattle.semver_base.proofs.WrittenVersions.{version_outcome}
 
--- ---- combinators: what is true of what the inner rule says
+-- ---- combinators: what is true of the values of the inner rule
 
 pub by_mapped : {V W : Type 0} {f : V → W} {A : List ℕ → V → Type 0} (P : W → Type 0) → ((t : List ℕ) (v : V) → A t v → P (f v)) → {text : List ℕ} {w : W} → Mapped f A text w → P w
 by_mapped P inner m = subst P (sym m.is) (inner _ m.value m.stands)
@@ -60,6 +60,6 @@ version_has text v h = by_mapped (λ (w : Version). AreIdentifiers w.pre × AreI
 pub read_writable : (text : List ℕ) (v : Version) → IsVersion text v → AllNumbersFit v → IsWritable v
 read_writable text v h fits = let identifiers = version_has text v h in record { numbers = fits; pre = identifiers.0; build = identifiers.1 }
 
--- what a text stands for is read back from its own text
+-- a version that a text parses to parses back from its own text
 pub read_back : (text : List ℕ) (v : Version) → IsVersionOutcome text (Ok v) → ReadsBack v
 read_back text v (is_version h fits) = version_outcome v (read_writable text v h fits)

@@ -1,4 +1,4 @@
--- Grammars in which a text stands for one value.
+-- Grammars in which a text has one value.
 use Rattle.std.proofs.Common.{◌≡◌, ◌≤◌, ℕ, Bool, true, false, List, [], ◌∷◌, ◌++◌, length, Option, Some, None, refl, sym, ap, ◌∙◌, arith, append-nil, length-append}
 use Rattle.std.specs.List.{list_all}
 use Rattle.std.proofs.lemmas.Bool.{and_from, and_parts, both_ways}
@@ -7,11 +7,11 @@ use Rattle.semver_base.proofs.Fronts.{Apart, GoesOn, NoClash, NonEmpty, fronts, 
 use Rattle.semver_base.proofs.Bytes.{BeginsBy, Disjoint, GoesBy, MadeOf, list_all-wider}
 use Rattle.semver_base.proofs.Lists.{IsListing, item_apart, listed_some, separator_apart, stops_here}
 
--- a text of A stands for one value
+-- a text of A has one value
 pub record Unambiguous {V : Type 0} (A : List ℕ → V → Type 0) : Type 0 where
   pub one : (text : List ℕ) (v w : V) → A text v → A text w → v ≡ w
 
--- a text of A that is followed by nothing, or by a byte with which no text of A goes on, is the longest front
+-- a text of A is the longest prefix if nothing follows it, or a byte with which no text of A continues
 pub in_place : {V : Type 0} {A : List ℕ → V → Type 0} {p : ℕ → Bool} {v : V} → Unambiguous A → GoesBy A p → (t rest : List ℕ) → A t v → Stops p rest → IsLongest A (t ++ rest) v rest
 in_place {V} {A} {p} {v} u g t rest h stops = record { front = t; text_is = refl; stands = h; longest = go }
   where
@@ -60,7 +60,7 @@ narrowed_one B fewer u = record { one = λ text v w h k. u.one text v w (fewer t
 pub run_one : (p : ℕ → Bool) → Unambiguous (Run p)
 run_one p = record { one = λ text v w h k. h.is ∙ sym k.is }
 
--- a value that says nothing
+-- a grammar without values
 pub unit_one : (A : List ℕ → Unit {0} → Type 0) → Unambiguous A
 unit_one A = record { one = λ text v w h k. refl }
 
@@ -85,7 +85,7 @@ module _ {V : Type 0} {A : List ℕ → V → Type 0} where
   mapped_one {f = f} u = record { one = λ text v w h k. h.is ∙ (ap f (u.one text h.value k.value h.stands k.stands) ∙ sym k.is) }
 
 module _ {V W : Type 0} {S : List ℕ → List ℕ → Type 0} {A : List ℕ → V → Type 0} {B : List ℕ → W → Type 0} where
-  -- a text is cut in one way
+  -- a text is split in one way
   pub one_split : {text : List ℕ} {u w : V × W} → NoClash S A B → (h : Joined S A B text u) (k : Joined S A B text w) → (h.first ≡ k.first) × (h.second ≡ k.second)
   one_split {u = u} {w = w} apart h k = elim (fronts h.first k.first h.second k.second (sym h.text_is ∙ k.text_is)) [
     | same one two ↦ (one, two)
@@ -108,11 +108,11 @@ module _ {V W : Type 0} {A : List ℕ → V → Type 0} {B : List ℕ → W → 
   pub followed_one : Apart A B → Unambiguous A → Unambiguous B → Unambiguous (Followed A B)
   followed_one apart a b = joined_one (no_clash apart) a b
 
-  -- what A says doesn't count
+  -- the value of A doesn't count
   pub after_one : Apart A B → Unambiguous B → Unambiguous (After A B)
   after_one apart b = record { one = λ text v w h k. h.is ∙ (b.one k.stands.second h.value.1 k.value.1 (rw (one_split (no_clash apart) h.stands k.stands).1 at h.stands.in_second) k.stands.in_second ∙ sym k.is) }
 
-  -- what B says doesn't count
+  -- the value of B doesn't count
   pub before_one : Apart A B → Unambiguous A → Unambiguous (Before A B)
   before_one apart a = record { one = λ text v w h k. h.is ∙ (a.one k.stands.first h.value.0 k.value.0 (rw (one_split (no_clash apart) h.stands k.stands).0 at h.stands.in_first) k.stands.in_first ∙ sym k.is) }
 
@@ -193,7 +193,7 @@ module _ {V : Type 0} {A : List ℕ → V → Type 0} {S : List ℕ → Unit {0}
 
 -- ---- texts with a byte that fails a test
 
--- each text of A has a byte that p does not hold of
+-- each text of A has a byte of which p doesn't hold
 pub record HasOther {V : Type 0} (A : List ℕ → V → Type 0) (p : ℕ → Bool) : Type 0 where
   pub other : (text : List ℕ) (v : V) → A text v → list_all p text ≡ true → ⊥
 

@@ -1,4 +1,4 @@
--- What is replaced so far, while a text is gone through from its front.
+-- What is replaced so far, while a text is scanned from its start.
 use Rattle.std.proofs.Common.{◌≡◌, ◌≤◌, ◌<◌, ◌+◌, ◌-◌, ℕ, List, [], ◌++◌, length, take, drop, slice_get, Some, None, refl, sym, ap, ◌∙◌, subst, arith, inl, inr, length-append}
 use Rattle.std.proofs.lemmas.Bool.{cases_lt}
 use Rattle.std.proofs.lemmas.List.{append_assoc, append_cancel_left, length-drop, nil_from_length}
@@ -7,14 +7,14 @@ use Rattle.std.specs.Prelude.{encode_utf8}
 use Rattle.std.specs.Str.Pattern.{FindsText, HasTextAt}
 use Rattle.semver_base.specs.Texts.{IsFirstCharacter, IsReplaced, at_end, before_character, no_more, one_more}
 
--- nothing is found in front of what is found
+-- nothing is found before what is found
 first_found : (from s : List ℕ) (a b i j : ℕ) → FindsText from s (Some (a, b)) → HasTextAt from s i j → a ≤ i
 first_found from s a b i j found at = elim (cases_lt i a) [
   | inl earlier ↦ absurd (found.0 i earlier (drop j s) at.split)
   | inr later ↦ omega (arith, later)
 ]
 
--- what is found stands inside the text
+-- what is found lies inside the text
 within : (from s : List ℕ) (i j : ℕ) → 0 < length from → HasTextAt from s i j → i ≤ length s
 within from s i j some at =
     let same : length s - i ≡ length from + length (drop j s) = sym (length-drop i s) ∙ (ap length at.split ∙ length-append from (drop j s)) in
@@ -27,7 +27,7 @@ module _ (from to : List ℕ) where
     pub is : r ≡ front ++ more
     pub replaced : IsReplaced from to rest more
 
-  -- done is what became of the text, but for the rest of it
+  -- done is the replaced text, but for the rest of it
   pub record IsPartly (whole done rest : List ℕ) : Type 0 where
     pub goes_on : (r : List ℕ) → IsReplaced from to rest r → IsReplaced from to whole (done ++ r)
     pub comes_from : (r : List ℕ) → IsReplaced from to whole r → IsBegun whole rest done r
@@ -35,7 +35,7 @@ module _ (from to : List ℕ) where
   pub start : (whole : List ℕ) → IsPartly whole [] whole
   start whole = record { goes_on = λ r h. h; comes_from = λ r h. record { more = r; is = refl; replaced = h } }
 
-  -- a step: what becomes of s begins with front, and goes on with what becomes of the rest
+  -- a step: the replaced text of s begins with front, and continues with that of the rest
   pub record IsStep (s front rest : List ℕ) : Type 0 where
     pub goes_on : (r : List ℕ) → IsReplaced from to rest r → IsReplaced from to s (front ++ r)
     pub comes_from : (r : List ℕ) → IsReplaced from to s r → IsBegun s rest front r
@@ -49,7 +49,7 @@ module _ (from to : List ℕ) where
         record { more = after.more; is = before.is ∙ (ap (λ t. done ++ t) after.is ∙ sym (append_assoc done front after.more)); replaced = after.replaced };
   }
 
-  -- ---- of a text that is not empty
+  -- ---- of a non-empty text
 
   module _ (some : 0 < length from) where
     found_begins : (s r : List ℕ) (a b : ℕ) → FindsText from s (Some (a, b)) → IsReplaced from to s r → IsBegun s (drop b s) (take a s ++ to) r
@@ -115,16 +115,16 @@ module _ (from to : List ℕ) where
     last_one s r none (before_character c _ first same _) = absurd (no_first c (subst (IsFirstCharacter c) (nil_from_length s none) first))
     last_one s r none (at_end _) = refl
 
--- ---- how long it gets
+-- ---- its length
 
--- what is pushed next is no longer than what becomes of the whole
+-- what is pushed next is no longer than the whole replaced text
 pub no_longer : (from to whole done s front rest r : List ℕ) → IsPartly from to whole done s → IsStep from to s front rest → IsReplaced from to whole r → length done + length front ≤ length r
 no_longer from to whole done s front rest r h step k =
     let all = (next from to whole done s front rest h step).comes_from r k in
     let long : length r ≡ (length done + length front) + length all.more = ap length all.is ∙ (length-append (done ++ front) all.more ∙ ap (λ n. n + length all.more) (length-append done front)) in
     omega (arith, long)
 
--- the parts of what is pushed fit where the whole of it does
+-- the parts of what is pushed fit if the whole of it does
 pub first_fits : (done a b : List ℕ) (n : ℕ) → length done + length (a ++ b) ≤ n → length done + length a ≤ n
 first_fits done a b n h = omega (arith, h, length-append a b)
 

@@ -1,4 +1,4 @@
--- Texts that neither begin nor end with a blank, and which bytes the words of versions are made of.
+-- Texts that neither begin nor end with whitespace, and the bytes of the tokens of versions.
 use Rattle.std.proofs.Common.{◌≡◌, ◌<◌, ℕ, Bool, true, false, cond, List, [], ◌∷◌, ◌++◌, length, refl, sym, ap, ◌∙◌, arith, append_assoc, length-append, ◌==◌}
 use Rattle.std.specs.Prelude.{◌&&◌, not, encode_utf8_all}
 use Rattle.std.specs.Char.{is_ascii, is_ascii_digit, is_ascii_graphic, is_whitespace}
@@ -17,7 +17,7 @@ use Rattle.semver_base.proofs.Fronts.{NonEmpty}
 use Rattle.semver_base.proofs.Identifiers.{identifiers_made, is_identifiers_byte}
 use Rattle.semver_base.proofs.Qualifiers.{pre_made}
 
--- a graphic byte of ASCII, so of no blank, and none of `|`, `@` and `/`
+-- a graphic byte of ASCII, so not whitespace, and not `|`, `@` or `/`
 abbrev pub is_solid_byte : ℕ → Bool
 is_solid_byte b = is_ascii_graphic b && (not (b == 124) && (not (b == 64) && not (b == 47)))
 
@@ -53,14 +53,14 @@ some_text never (x ∷ text) h = omega arith
 
 -- ---- how a text begins and ends
 
--- the first byte is such a one
+-- the first byte is solid
 pub record StartsSolid (text : List ℕ) : Type 0 where
   pub first : ℕ
   pub rest : List ℕ
   pub text_is : text ≡ first ∷ rest
   pub solid : is_solid_byte first ≡ true
 
--- the last byte is such a one
+-- the last byte is solid
 pub record EndsSolid (text : List ℕ) : Type 0 where
   pub front : List ℕ
   pub last : ℕ

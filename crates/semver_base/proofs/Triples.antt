@@ -1,4 +1,4 @@
--- What stands between two pre-releases of the same three numbers.
+-- What lies between two pre-releases of the same three numbers.
 use Rattle.std.proofs.Common.{◌≡◌, ◌==◌, ◌≤◌, ℕ, List, length, Bool, true, false, not, refl, sym, ◌∙◌, arith}
 use Rattle.std.proofs.lemmas.Bool.Decides.{nat_tests}
 use Rattle.std.proofs.lemmas.Cmp.{nat_cmp_total, tied_itself}
@@ -29,7 +29,7 @@ below_pre xs ys h pre = go (length xs == 0) refl
     go false e = refl
     go true e = let low : 1 ≤ 0 = le_from 1 0 (rw (e, pre) at h) in absurd (omega arith)
 
--- what stands between two versions of three numbers, of which the upper is a pre-release, is a pre-release of them
+-- what lies between two versions of three numbers, the upper a pre-release, is a pre-release of them
 between : (low x high : Version) → SameNumbers low high → (length high.pre == 0) ≡ false
     → is_le (precedence_cmp low x) ≡ true → is_le (precedence_cmp x high) ≡ true → SameNumbers low x × ((length x.pre == 0) ≡ false)
 between low x high same pre lower upper =

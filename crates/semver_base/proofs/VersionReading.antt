@@ -1,4 +1,4 @@
--- How the version reader's steps give the outcome of a text, and why it is the only one.
+-- How the version parser's steps give the outcome of a text, and why it is the only one.
 use Rattle.std.proofs.Common.{◌≡◌, ◌≤◌, ◌<◌, ◌^◌, ℕ, Bool, true, List, [], ◌∷◌, ◌++◌, length, Option, None, Result, Ok, Err, refl, sym, ap, ◌∙◌, arith, inl, inr, ◌==◌, append_assoc, append-nil, length-append}
 use Rattle.std.specs.Prelude.{◌||◌, ◌⊎◌, slice_index}
 use Rattle.std.specs.Char.{is_ascii_digit}
@@ -147,13 +147,13 @@ no_lead {text} {rest} {numbers} p = record { front = []; text_is = refl; stands 
 
 -- ---- faults
 
--- where there is no number there is no fault of numbers
+-- without a number there is no fault of numbers
 none_no_fault : {missing : List Refusal} {text : List ℕ} {fault : Refusal} → HasNone IsLooseNumber text → IsNumberFault missing text fault → ⊥
 none_no_fault none (too_large {rest = rest} {n = n} p h) = none.none p.front rest n p.text_is p.stands
 none_no_fault none (no_dot {rest = rest} {n = n} p h k) = none.none p.front rest n p.text_is p.stands
 none_no_fault none (later {rest = rest} {n = n} p h k) = none.none p.front (46 ∷ rest) n p.text_is p.stands
 
--- a number that fits and has its dot leaves the fault to what follows
+-- if a number fits and has its dot, the fault is in what follows
 next_fault : {refusal fault : Refusal} {missing : List Refusal} {text rest : List ℕ} {n : ℕ} → IsLongest IsLooseNumber text n (46 ∷ rest) → n < 2 ^ 64 → IsNumberFault (refusal ∷ missing) text fault → IsNumberFault missing rest fault
 next_fault p fits (too_large q large) = let same = one_front p q in absurd (omega (arith, same.0))
 next_fault {rest = rest} p fits (no_dot q small lacks) = absurd (lacks rest (sym (one_front p q).1))
@@ -225,7 +225,7 @@ stops_at : (rest : List ℕ) → (is_ascii_digit (slice_index rest 0) ≡ true �
 stops_at [] no_digit = tt
 stops_at (y ∷ rest) no_digit = false_from_ne_true (is_ascii_digit y) no_digit
 
--- three numbers that fit, each as long as it goes, have no fault
+-- three numbers that fit, each as long as possible, have no fault
 triple_no_fault : (front rest : List ℕ) (v : ℕ × (ℕ × ℕ)) {text : List ℕ} {fault : Refusal} → IsTriple front v → text ≡ front ++ rest → v.0 < 2 ^ 64 → v.1.0 < 2 ^ 64 → v.1.1 < 2 ^ 64 → (is_ascii_digit (slice_index rest 0) ≡ true → ⊥) → IsFaultOfNumbers text fault → ⊥
 triple_no_fault front rest v {text} {fault} h e major minor patch no_digit f = at_second h.second h.in_second (e ∙ ap (λ t. t ++ rest) h.text_is ∙ append_assoc h.first h.second rest)
   where
@@ -266,7 +266,7 @@ version_no_fault {text} {v} {fault} h all_fit f =
 whole : (text : List ℕ) → text ≡ text ++ []
 whole text = sym (append-nil text)
 
--- a version is the value of the longest front
+-- a version is the value of the longest prefix
 one_version : {text : List ℕ} {v w : Version} → IsLongest IsVersion text v [] → IsVersion text w → w ≡ v
 one_version {text} {v} {w} p h =
     let size = ap length p.text_is ∙ ap length (append-nil p.front) in
@@ -290,7 +290,7 @@ one_number_fault (later {rest = rest} p h f) (later {rest = other} q k g) =
 one_fault : {text : List ℕ} {a b : Refusal} → IsFirstFault text a → IsFirstFault text b → a ≡ b
 one_fault f g = let same = (one_front f.lead g.lead).1 in one_number_fault (rw same at f.fault_of_rest) g.fault_of_rest
 
--- what has one of the refusals as its outcome has no other outcome
+-- a text that has a refusal as its outcome has no other outcome
 one_refusal : {text : List ℕ} {fault : Refusal} {o : Result Version Refusal} → IsVersionOutcome text (Err fault) → IsVersionOutcome text o → o ≡ Err fault
 one_refusal (is_fault f) (is_version k small) = absurd (version_no_fault k small f)
 one_refusal (is_fault f) (is_fault g) = ap Err (one_fault g f)
@@ -299,7 +299,7 @@ one_refusal (is_outside none no_fault) (is_version {v} k small) = absurd (none v
 one_refusal (is_outside none no_fault) (is_fault {fault} g) = absurd (no_fault fault g)
 one_refusal (is_outside none no_fault) (is_outside other no_other) = refl
 
--- a text is one version at most
+-- a text is at most one version
 version_one : Unambiguous IsVersion
 version_one = mapped_one (after_one lead_apart (joined_one core_clash (followed_one number_apart loose_one (prefixed_one 46 (followed_one number_apart loose_one (prefixed_one 46 loose_one)))) (qualifier_one Loose)))
 
@@ -308,7 +308,7 @@ one_outcome text (Ok v) (Ok w) (is_version h small) (is_version k _) = ap Ok (ve
 one_outcome text (Err fault) (Ok w) h k = sym (one_refusal h k)
 one_outcome text o (Err fault) h k = one_refusal k h
 
--- ---- answers
+-- ---- results
 
 pub read_outcome : {text : List ℕ} {v : Version} → IsReadVersion text v → IsVersionOutcome text (Ok v)
 read_outcome {text} {v} h =
@@ -332,7 +332,7 @@ refused_answer source text e (inl memory) (Err fault) k = inl memory
 refused_answer source text e (inr h) (Ok w) k = let same = one_refusal h.1 k in cc same
 refused_answer source text e (inr h) (Err fault) k = let same : fault ≡ h.0 = cc (one_refusal h.1 k) in inr (rw same h.2)
 
--- ---- what the steps answer
+-- ---- what the steps return
 
 -- a failure of a text with this outcome
 pub shown_refusal : {text : List ℕ} {fault : Refusal} {failure : Option (List ℕ × Option (List ℕ))} → IsVersionOutcome text (Err fault) → (failure ≡ None) ⊎ (failure ≡ version_failure fault text) → IsVersionRefusal text failure
@@ -352,7 +352,7 @@ triple_outcome {text} {rest} lead (inr outside) = rw outside.0 (is_outside no_ve
     no_fault : (fault : Refusal) → IsFirstFault text fault → ⊥
     no_fault fault f = let same = (one_front f.lead lead).1 in outside.1.no_fault fault (rw same at f.fault_of_rest)
 
--- what the lead, the numbers and the qualifier say of the whole
+-- what the lead, the numbers and the qualifier are of the whole
 pub version_read : {text first second rest : List ℕ} {numbers : ℕ × (ℕ × ℕ)} {q : Qualifier} → IsLongest IsLead text tt first → IsFittingTriple first numbers second → IsLongest (IsQualifier Loose) second q rest → IsLongest IsVersion text (version_of (numbers, q)) rest
 version_read {second = second} {rest = rest} lead triple q = mapped (mapped (followed lead_apart lead (joined core_clash triple.triple q (seam q.front q.text_is))))
   where

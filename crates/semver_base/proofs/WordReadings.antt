@@ -1,4 +1,4 @@
--- Each text of numbers, identifiers and qualifiers stands for one value.
+-- Each text of numbers, identifiers and qualifiers has one value.
 use Rattle.std.proofs.Common.{◌≡◌, ℕ, Bool, List, [], ◌∷◌, inl, inr, refl, ◌==◌}
 use Rattle.std.specs.Prelude.{◌||◌}
 use Rattle.std.specs.Char.{is_ascii_digit}

@@ -1,4 +1,4 @@
--- What is written of a version is in the grammar, and stands for that version.
+-- The text of a version matches the grammar, and parses to that version.
 use Rattle.std.proofs.Common.{◌≡◌, ◌<◌, ◌^◌, ℕ, zero, suc, true, List, [], ◌∷◌, ◌++◌, length, Option, Some, None, Ok, refl, sym, ap, ◌∙◌, arith, inl, append_assoc, append-nil}
 use Rattle.std.specs.Prelude.{slice_index}
 use Rattle.std.specs.Char.{is_ascii_digit}
@@ -19,7 +19,7 @@ use Rattle.semver_base.proofs.Bytes.{MadeOf, joined_made, joined_some_text, pref
 use Rattle.semver_base.proofs.Numbers.{loose_some, own}
 use Rattle.semver_base.proofs.Solid.{ends_solid, is_solid_byte, number_made, qualifier_made, solid_all_ascii, some_text, starts_solid, trim_same}
 
--- ---- texts of grammars that are made of others
+-- ---- texts of combined grammars
 
 -- two texts, one after the other
 pub follow : {V W : Type 0} {A : List ℕ → V → Type 0} {B : List ℕ → W → Type 0} (a b : List ℕ) {v : V} {w : W} → A a v → B b w → Followed A B (a ++ b) (v, w)
@@ -49,7 +49,7 @@ identifiers_written : (id : List ℕ) (ids : List (List ℕ)) → AreIdentifiers
 identifiers_written id [] h = rw append-nil (last_item h.0)
 identifiers_written id (other ∷ ids) h = more_items h.0 refl (identifiers_written other ids h.1)
 
--- the identifiers, where there are some
+-- the identifiers, if there are any
 abbrev some_ids : List (List ℕ) → Option (List (List ℕ))
 some_ids [] = None
 some_ids (id ∷ ids) = Some (id ∷ ids)
@@ -74,7 +74,7 @@ qualifier_written s pre build h k = record {
   is = let p = back pre in let b = back build in cc;
 }
 
--- a qualifier that is written begins with no digit
+-- a printed qualifier doesn't begin with a digit
 pub no_digit_written : (pre build : List (List ℕ)) → is_ascii_digit (slice_index (prefixed 45 pre ++ prefixed 43 build) 0) ≡ true → ⊥
 no_digit_written [] [] h = cc h
 no_digit_written [] (id ∷ ids) h = cc h
@@ -100,7 +100,7 @@ version_joined v h = record {
   seam = no_digit_written v.pre v.build;
 }
 
--- the text of a version reads back as that version
+-- the text of a version parses back to that version
 pub version_written : (v : Version) → IsWritable v → IsVersion (version_text v) v
 version_written v h = record { value = _; stands = after [] (version_text v) tt no_lead (version_joined v h); is = refl }
 
@@ -116,6 +116,6 @@ version_trimmed v h =
     let solid = version_solid v h in
     trim_same (version_text v) (solid_all_ascii (version_text v) solid) (starts_solid (version_text v) some solid) (ends_solid (version_text v) some solid)
 
--- so is what the reader of versions makes of it
+-- so does the version parser's result for it
 pub version_outcome : (v : Version) → IsWritable v → IsVersionOutcome (trim (version_text v)) (Ok v)
 version_outcome v h = rw (version_trimmed v h) (is_version (version_written v h) h.numbers)

@@ -1,4 +1,4 @@
--- What passes at the front of a list, where some of that is known, and zeros at the front of a number.
+-- The leading items of a list that pass, if some of that is known, and leading zeros of a number.
 use Rattle.std.proofs.Common.{◌≡◌, ◌≤◌, ◌<◌, ◌+◌, ◌-◌, ◌==◌, ℕ, suc, zero, Bool, true, false, List, [], ◌∷◌, ◌++◌, length, take, drop, ap, refl, sym, subst, ◌∙◌, inl, inr, arith}
 use Rattle.std.proofs.Math.Seq.{take-length}
 use Rattle.std.proofs.lemmas.Bool.{cases_Bool, eqb-true, lt-ltb}
@@ -28,7 +28,7 @@ module _ (p : ℕ → Bool) where
     | inr fails ↦ absurd (omega (arith, h, failing b bs fails))
   ]
 
-  -- what is appended leaves it there
+  -- appending leaves it unchanged
   pub front_stays : (xs ys : List ℕ) → length (take_while p xs) ≤ length (take_while p (xs ++ ys))
   front_stays [] ys = omega arith
   front_stays (x ∷ xs) ys = elim (cases_Bool (p x)) [
@@ -42,7 +42,7 @@ one_zero : (more : List ℕ) → number_of (48 ∷ more) ≡ number_of (48 ∷ (
 unfolding number_of
 one_zero more = rw (lt-ltb 0 (length (48 ∷ more)) (omega arith), lt-ltb 0 (length (48 ∷ (48 ∷ more))) (omega arith)) refl
 
--- what a zero at the front says of the text
+-- what a leading zero says of the text
 begins : (text : List ℕ) → 0 < zeros_in_front text → number_of text ≡ number_of (48 ∷ text)
 begins [] h = absurd (omega (arith, h))
 begins (b ∷ bs) h = elim (cases_Bool (b == 48)) [
@@ -50,7 +50,7 @@ begins (b ∷ bs) h = elim (cases_Bool (b == 48)) [
   | inr other ↦ absurd (omega (arith, h, failing (λ x. x == 48) b bs other))
 ]
 
--- all zeros but the last may go
+-- all zeros but the last may be stripped
 some_fewer : (text : List ℕ) (k : ℕ) → k < zeros_in_front text → number_of (drop k text) ≡ number_of text
 some_fewer text zero h = refl
 some_fewer [] (suc k) h = absurd (omega (arith, h))

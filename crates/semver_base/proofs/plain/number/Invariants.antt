@@ -4,7 +4,7 @@ use Rattle.std.specs.List.{list_all}
 use Rattle.std.specs.Str.Parse.{digits_value}
 use Rattle.semver_base.proofs.plain.number.Given as goal
 
--- the bytes so far are digits, which say the number so far
+-- the bytes so far are digits with the value of the number so far
 abbrev pub invariant-loop-len : goal.invariant-loop-len
 invariant-loop-len l = record {
   in_range : l.len ≤ length l.bytes;

@@ -4,7 +4,7 @@ use denote.Shadow.{shadow}
 use Rattle.semver_base.proofs.Replaced.{IsPartly}
 use Rattle.semver_base.proofs.string.ShortText.replace.Given as goal
 
--- what became of the text so far
+-- the replacement of the text so far
 abbrev pub invariant-loop-before : goal.invariant-loop-before
 invariant-loop-before g l = shadow (Utf8 l.rest) × IsPartly l.from l.to l.self l.replaced l.rest
 

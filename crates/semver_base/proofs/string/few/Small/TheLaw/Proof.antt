@@ -1,4 +1,4 @@
--- A `&` to a `Small` tells the same of the type.
+-- A `&` to a `Small` says the same of the type.
 use denote.RattleType.{RattleType}
 use denote.Param.Laws.{Laws}
 use denote.Param.Shared.{copy_shared}

@@ -1,4 +1,4 @@
--- `new` holds what it asks for.
+-- `new` holds what it requires.
 use Rattle.std.proofs.Common.{[], ◌∷◌, ◌^◌, refl}
 use mir.Syntax.{a_type, dnil}
 use mir.Val.{Val}

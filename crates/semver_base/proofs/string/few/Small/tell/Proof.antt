@@ -1,4 +1,4 @@
--- `tell` reads what a `&` holds.
+-- `tell` returns what a `&` holds.
 use Rattle.std.proofs.Common.{List, [], ◌∷◌, refl}
 use mir.Syntax.{a_type, dnil, named}
 use mir.Val.{Val, vptr, vunit}
