@@ -26,7 +26,7 @@ reordered_means flag (inner.Tag text) (inner.Tag other) moved v = refl
 reordered_means flag (inner.RangeSet set) (inner.Tag other) moved v = absurd moved
 reordered_means flag (inner.Tag text) (inner.RangeSet other) moved v = absurd moved
 
--- all pass where none fails
+-- all pass if none fails
 none_fails : {X : Type 0} (p : X → Bool) (xs : List X) → list_all p xs ≡ not (list_any (λ x. not (p x)) xs)
 none_fails p [] = refl
 none_fails p (x ∷ xs) = ap (λ (b : Bool). p x && b) (none_fails p xs) ∙ go (p x) (list_any (λ y. not (p y)) xs)
@@ -64,7 +64,7 @@ all_means flag own same others rest moved v =
     ∙ sym (all_moved (λ inner. inner_means_with flag inner v) (own ∷ map (λ (req : Requirement). req.inner) others) moved.moved moved.in_order)
     ∙ sym (as_list flag own others v)
 
--- ---- the answers
+-- ---- the results
 
 -- what is asked of two
 abbrev asked : PreRelease → (Bool → Bool → Bool) → RangeSetOrTag → RangeSetOrTag → Version → Bool

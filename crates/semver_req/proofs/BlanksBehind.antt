@@ -1,4 +1,4 @@
--- A piece with blanks behind it: where the piece is good, so is the longer one, in both cutting grammars.
+-- A piece with trailing whitespace: if the piece is valid, so is the longer one, in both grammars that split a text.
 use Rattle.std.proofs.Common.{◌≡◌, ◌<◌, ℕ, Bool, true, false, List, [], ◌∷◌, ◌++◌, length, ap, inl, inr, arith, append_assoc, append-nil, length-append}
 use Rattle.std.specs.Char.{is_not_whitespace}
 use Rattle.std.proofs.lemmas.Str.{NoCharPasses-append}
@@ -12,7 +12,7 @@ use Rattle.semver_req.specs.declared.common.values.Flavour.{Flavour}
 use Rattle.semver_req.specs.declared.common.values.Flavour.TheVariants.{Npm, Normal, Specifier}
 use Rattle.semver_req.proofs.Wider.{pieces_wider}
 
--- blanks behind a list close it
+-- trailing whitespace closes a list
 closed : {V : Type 0} (A : List ℕ → V → Type 0) (text s : List ℕ) (vs : List V) → Listed A IsSomeBlanks text vs → IsSomeBlanks s tt → Listed A IsSomeBlanks (text ++ s) vs
 closed A text s vs (last_item h) b = closed_item h b
 closed A text s vs (closed_item {a = a} {s = r} h k) b =
@@ -26,7 +26,7 @@ piece_closed text s [] some b h = absurd (omega (arith, some, ap length h))
 piece_closed text [] (c ∷ cs) some b h = rw append-nil h
 piece_closed text (x ∷ s) (c ∷ cs) some b h = closed (IsComparator Normal) text (x ∷ s) (c ∷ cs) h (omega arith, b)
 
--- so where the longer piece is bad, the normalized grammar has nothing for the shorter one
+-- so if the longer piece is invalid, the shorter one isn't in the normalized grammar
 pub bad_before : (f : Flavour) (followed : Bool) → IsCutting f → (text s : List ℕ) → 0 < length text → IsBlanks s tt → IsBad f followed (text ++ s) → IsBad Normal false text
 bad_before Npm followed npm text s some b h cs (inl k) = h cs (inl (pieces_wider (text ++ s) cs (piece_closed text s cs some b k.0), k.1))
 bad_before Normal followed normal text s some b h cs (inl k) = h cs (inl (piece_closed text s cs some b k.0, k.1))

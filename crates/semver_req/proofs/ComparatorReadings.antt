@@ -1,4 +1,4 @@
--- Each text of a comparator stands for one value.
+-- Each text of a comparator has one value.
 use Rattle.std.proofs.Common.{◌≡◌, ℕ, Bool, true, false, List, [], ◌∷◌, ◌++◌, length, refl, sym, ap, ◌∙◌, arith, append_assoc, ◌==◌}
 use Rattle.std.specs.Prelude.{◌||◌, if◌then◌else◌, slice_index}
 use Rattle.std.specs.List.{list_all}
@@ -24,7 +24,7 @@ use Rattle.semver_req.proofs.PartialReadings.{is_plain_byte, partial_one, plain_
 use Rattle.semver_req.proofs.Partials.{partial_begins, partial_some}
 use Rattle.semver_req.proofs.PrimitiveKinds.{any_begins, blanks_apart, is_partial_byte, primitive_kind_apart}
 
--- ---- primitive kinds
+-- ---- comparison operators
 
 primitive_kind_of : List ℕ → PrimitiveKind
 primitive_kind_of text =
@@ -70,7 +70,7 @@ primitive_kind_some = record { some = λ s h. go s h }
 
 -- ---- the partial version at the end of a comparator
 
--- what may stand before it
+-- what may precede it
 abbrev pub is_lead_byte : ℕ → Bool
 is_lead_byte x = is_primitive_kind_byte x || (x == 126) || (x == 94) || (x == 118) || is_blank_byte x
 
@@ -92,7 +92,7 @@ core_goes f = mapped_goes (joined_goes_second (no_clash (lead_apart f)) (partial
 pub core_some : (f : Flavour) → NonEmpty (IsCore f)
 core_some f = mapped_some_text (joined_some_second (partial_some f))
 
--- a text of B is bytes that lead and then a plain partial version, with the value that B gives it
+-- a text of B is leading bytes and then a plain partial version, with the value that B gives it
 pub record HasCore (f : Flavour) (B : List ℕ → Partial → Type 0) : Type 0 where
   pub core : (text : List ℕ) (p : Partial) → B text p → IsCore f text p
 
@@ -258,7 +258,7 @@ tildes_other = either_other (record { other = λ text v h k. no_true (rw h at k)
 caret_made : MadeOf IsNpmCaret is_caret_byte
 caret_made = mapped_made (mapped_made (joined_made (made_wider is_word_byte is_caret_byte word_caret ignored_word) (prefixed_made (made_wider is_word_byte is_caret_byte word_caret led_word) 94 refl)))
 
--- ---- marks of both grammars, and the others
+-- ---- `~` and `^` of both grammars, and the others
 
 abbrev pub IsTildeOf : Flavour → List ℕ → Comparator → Type 0
 IsTildeOf Npm = IsNpmTilde
@@ -326,7 +326,7 @@ comparator_one Npm = either_one (never_made is_word_byte (marks_other Npm) (othe
 comparator_one Normal = either_one (never_made is_word_byte (marks_other Normal) (others_word Normal)) (marks_one Normal) (others_one Normal)
 comparator_one Specifier = either_one (never_made is_word_byte (marks_other Specifier) (plainly_word Specifier)) (marks_one Specifier) (plainly_one Specifier)
 
--- ---- with which bytes comparators go on and begin
+-- ---- the bytes with which comparators begin and continue
 
 mapped_core : {W : Type 0} {g : Partial → W} {B : List ℕ → Partial → Type 0} (f : Flavour) → HasCore f B → Within (Mapped g B) (IsCore f)
 mapped_core f b = record { texts = λ text c h. (h.value, b.core text h.value h.stands) }

@@ -1,4 +1,4 @@
--- Components at the front of a text.
+-- Leading components.
 use Rattle.std.proofs.Common.{◌≡◌, ◌≤◌, ◌^◌, ℕ, Bool, true, List, [], ◌∷◌, ◌++◌, length, refl, ap, ◌∙◌, arith, inl, inr, ◌==◌}
 use Rattle.std.specs.Prelude.{◌||◌, nat_lt, slice_index}
 use Rattle.std.specs.Char.{is_ascii_digit}
@@ -57,14 +57,14 @@ module _ (f : Flavour) (text : List ℕ) (other : (b : ℕ) (r : List ℕ) → i
       go a c Wildcard k h = other h.0 c h.1.passes (k ∙ ap (λ t. t ++ c) h.1.text_is)
       go a c (Val m) k h = p.none a c m k h
 
-  -- what the reader of components answers
+  -- what the parser of components returns
   pub component_read : (rest : List ℕ) (answer : Measured ℕ) → IsSeen sized (IsNumber (strictness_of f)) text answer rest → IsSeen sized_component (IsComponent f) text (component_of answer) rest
   component_read rest answer h = record { value = Val h.value; longest = component_number rest h.value h.longest; seen = ap component_of h.seen ∙ same_size h.value }
     where
       same_size : (n : ℕ) → component_of (sized n) ≡ sized_component (Val n)
       same_size n = elim (cases_Bool (nat_lt n (2 ^ 64))) [ inl fits ↦ rw fits refl | inr over ↦ rw over refl ]
 
--- ---- with which bytes components begin and go on
+-- ---- the bytes with which components begin and continue
 
 pub component_goes : (f : Flavour) → GoesBy (IsComponent f) is_ascii_digit
 component_goes f = record { goes = λ x o. go x o.front o.more o.short_value o.long_value o.short o.long }
@@ -83,7 +83,7 @@ component_goes f = record { goes = λ x o. go x o.front o.more o.short_value o.l
         absurd (wildcard_no_digit f h.0 h.1.passes (rw byte at digit))
     go x (y ∷ a) m (Val l) (Val n) h k = loose_goes.goes x (record { front = y ∷ a; more = m; short_value = l; long_value = n; short = is_loose f (y ∷ a) l h; long = is_loose f (y ∷ (a ++ (x ∷ m))) n k })
 
--- what goes on is a number
+-- what continues is a number
 component_goes_first : (f : Flavour) (x : ℕ) (a m : List ℕ) (v u : XRange) → IsComponent f a v → IsComponent f (a ++ (x ∷ m)) u → is_ascii_digit (slice_index a 0) ≡ true
 component_goes_first f x [] m Wildcard u h k = cc h.1.text_is
 component_goes_first f x [] m (Val n) u h k = absurd (loose_some.some n (is_loose f [] n h))
@@ -120,7 +120,7 @@ component_begins f = record { begins = λ x o. go x o.more o.value o.stands }
 
 -- ---- a component and a qualifier
 
--- a longest number of a loose grammar is followed by no digit
+-- no digit follows a longest number of a loose grammar
 loose_component_end : (f : Flavour) {text middle : List ℕ} (v : XRange) (p : IsLongest (IsComponent f) text v middle) (y : ℕ) (rest : List ℕ) → ((a : List ℕ) (m : ℕ) → IsLooseNumber a m → IsNumber (strictness_of f) a m) → middle ≡ y ∷ rest → is_ascii_digit (slice_index p.front 0) ≡ true → is_ascii_digit y ≡ true → ⊥
 loose_component_end f Wildcard p y rest loose e h k =
     let same_byte : slice_index p.front 0 ≡ p.stands.0 = ap (λ t. slice_index t 0) p.stands.1.text_is in
@@ -146,7 +146,7 @@ component_clash f = record {
       seam (component_goes_first f x a m v u short long) ((component_goes f).goes x (record { front = a; more = m; short_value = v; long_value = u; short = short; long = long }));
 }
 
--- what the reader of the third part answers
+-- what the parser of the third part returns
 pub third_read : (f : Flavour) {text after middle rest : List ℕ} {answer : Measured XRange} {q : Qualifier} → text ≡ 46 ∷ after → IsSeen sized_component (IsComponent f) after answer middle → IsLongest (IsQualifier (strictness_of f)) middle q rest → IsSeen sized_third (IsThird f) text (record { patch = answer; qualifier = q }) rest
 third_read f {rest = rest} {q = q} e a b = record {
   value = (a.value, q);

@@ -1,4 +1,4 @@
--- Where a text is cut, and what its pieces are then.
+-- Where a text is split, and what its pieces are then.
 use Rattle.std.proofs.Common.{◌≡◌, ◌≤◌, ◌<◌, ◌+◌, ◌==◌, ℕ, true, false, List, [], ◌∷◌, ◌++◌, length, take, drop, Option, Some, None, refl, sym, subst, ap, ◌∙◌, arith, length-append, inl, inr}
 use Rattle.std.specs.Prelude.{MatchOption, unwrap_or}
 use Rattle.std.specs.Borrow.{Bor}
@@ -73,7 +73,7 @@ module _ {rest start : List ℕ} (blanks : IsLongest IsBlanks rest tt start) whe
       let some : 0 < length start = grind (arith, nat_tests) in
       (λ pieces m. subst (λ (others : List (List ℕ)). AreMorePieces rest (start ∷ others)) (none_of_nothing pieces m) (last_piece trimmed some n), omega (arith, some, shorter))
 
-  -- the cut, or the whole
+  -- the split, or the whole
   pub next_of : (length start == 0) ≡ false → (r : Option (Bor (List ℕ) × Bor (List ℕ))) → MatchOption r (HasNoBar start) (λ p. IsCutAt start p.0.now p.1.now)
       → (piece more : List ℕ) → MatchOption r ((piece ≡ start) × (more ≡ [])) (λ p. (piece ≡ p.0.now) × (more ≡ p.1.now)) → IsNextPiece rest (Some (piece, more))
   next_of full None n piece more is = rw (is.0, is.1) (next_whole full n)

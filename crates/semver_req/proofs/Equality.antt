@@ -1,4 +1,4 @@
--- That the derived `==` of requirements tells whether they stand for the same.
+-- The derived `==` of requirements decides whether their ranges or tags are the same.
 use Rattle.std.proofs.Common.{◌≡◌, ℕ, List, Bool, ap}
 use Rattle.std.specs.Bool.{Decides}
 use Rattle.semver_base.specs.declared.range.VersionRangeSet.{VersionRangeSet}

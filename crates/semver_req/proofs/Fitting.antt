@@ -1,4 +1,4 @@
--- Which comparators at the front of a text have numbers that fit.
+-- Which leading comparators have numbers that fit.
 use Rattle.std.proofs.Common.{◌≡◌, ℕ, true, false, List, ◌++◌, refl, sym, ap, ◌∙◌, inl, inr}
 use Rattle.std.specs.Prelude.{◌&&◌}
 use Rattle.std.proofs.lemmas.Bool.{cases_Bool}
@@ -33,12 +33,12 @@ comparator_all mark.Caret p = numbers_all p
 comparator_all (mark.Primitive kind) p = numbers_all p
 comparator_all mark.Absent p = numbers_all p
 
--- a front whose numbers fit
+-- a prefix whose numbers fit
 pub record FittingFront (R : List ℕ → Comparator → Type 0) (text : List ℕ) (m : Mark) (p : Partial) (rest : List ℕ) : Type 0 where
   pub longest : IsLongest R text (comparator_of m p) rest
   pub numbers_fit : all_fit (comparator_numbers (comparator_of m p)) ≡ true
 
--- a front of which some number doesn't fit
+-- a prefix of which some number doesn't fit
 pub record LargeFront (R : List ℕ → Comparator → Type 0) (text : List ℕ) (m : Mark) (p : Partial) (rest : List ℕ) : Type 0 where
   pub longest : IsLongest R text (comparator_of m p) rest
   pub number_large : all_fit (comparator_numbers (comparator_of m p)) ≡ false

@@ -1,4 +1,4 @@
--- What the ranges that a reader keeps mean.
+-- What the ranges that a parser keeps match.
 use Rattle.std.proofs.Common.{◌≡◌, ◌&&◌, ◌||◌, ◌==◌, ◌+◌, ℕ, List, [], ◌∷◌, Bool, true, false, map, not, refl, sym, ap, ap₂, ◌∙◌, inl, inr, arith}
 use Rattle.std.proofs.lemmas.Bool.Decides.{nat_tests}
 use Rattle.std.specs.List.{fold, list_all}
@@ -75,17 +75,17 @@ folded_from : (flag : PreRelease) (start : VersionRange) (ranges : List VersionR
 folded_from flag start [] v = refl
 folded_from flag start (range ∷ ranges) v = folded_from flag (clamped start range) ranges v ∙ clamped_joined flag start range ranges v
 
--- the fold means what the ranges mean as comparators of one alternative
+-- the fold matches what the ranges match as comparators of one alternative
 pub folded_means : (flag : PreRelease) (ranges : List VersionRange) (v : Version) → alternative_means_with flag (folded ranges ∷ []) v ≡ alternative_means_with flag ranges v
 folded_means flag ranges v = folded_from flag everything ranges v
 
 -- ---- an end at 0.0.0
 
--- a range that ends at 0.0.0 holds nothing
+-- a range that ends at 0.0.0 includes nothing
 abbrev IsEmptyAtZero : VersionRange → Type 0
 IsEmptyAtZero range = ends_at_zero range.end ≡ true → HoldsNothing range
 
--- what isn't below a version isn't below one that isn't above it
+-- what isn't below a version isn't below a lower one
 above_none : (low v end : Version) → is_lt (precedence_cmp low end) ≡ false → is_ge (precedence_cmp v low) ≡ true → is_lt (precedence_cmp v end) ≡ false
 above_none low v end h k = go (precedence_cmp v end) refl
   where
@@ -109,7 +109,7 @@ from_zero_empty (bound.Version end) h v = by_kind end.kind (and_first (is_exclus
 
 -- ---- lines that don't end at 0.0.0
 
--- a raised number isn't 0
+-- an incremented number isn't 0
 raised : (n : ℕ) → (n + 1 == 0) ≡ false
 raised n = grind (arith, nat_tests)
 
@@ -158,7 +158,7 @@ upper_ends p (Val major) Wildcard patch = raised_first major _
 upper_ends p (Val major) (Val minor) Wildcard = raised_second (major == 0) minor _
 upper_ends p (Val major) (Val minor) (Val patch) = refl
 
--- ---- the others hold nothing where they do
+-- ---- the others include nothing if they do
 
 not_at_zero : (range : VersionRange) → ends_at_zero range.end ≡ false → IsEmptyAtZero range
 not_at_zero range other h = cc (other, h)
@@ -194,7 +194,7 @@ primitive_empty primitive.GreaterThanOrEqual p h = at_least_empty p p.major h
 primitive_empty primitive.LessThanOrEqual p h = at_most_empty p p.major p.minor p.patch h
 primitive_empty primitive.Equal p h = not_at_zero (equal_by p p.major p.minor p.patch).range (equal_ends p p.major p.minor p.patch) h
 
--- a comparator that ends at 0.0.0 holds nothing
+-- a comparator that ends at 0.0.0 includes nothing
 pub comparator_empty : (c : Comparator) → ends_at_zero (comparator_range c).end ≡ true → HoldsNothing (comparator_range c)
 comparator_empty (Tilde p) h = not_at_zero (comparator_range (Tilde p)) (tilde_ends p p.major p.minor) h
 comparator_empty (Caret p) h = not_at_zero (comparator_range (Caret p)) (caret_ends p p.major p.minor p.patch) h
@@ -231,12 +231,12 @@ folded_empty_from start (c ∷ cs) empty = folded_empty_from (clamped start (com
 folded_empty : (comparators : List Comparator) → IsEmptyAtZero (folded (map comparator_range comparators))
 folded_empty comparators = folded_empty_from everything comparators (λ h. cc h)
 
--- the range of an alternative that ends at 0.0.0 holds nothing
+-- the range of an alternative that ends at 0.0.0 includes nothing
 pub kept_empty : (comparators : List Comparator) → ends_at_zero (kept_range comparators).end ≡ true → HoldsNothing (kept_range comparators)
 kept_empty (Hyphen p q ∷ []) = comparator_empty (Hyphen p q)
 kept_empty comparators = folded_empty comparators
 
--- the range of an alternative means what the alternative means
+-- the range of an alternative matches what the alternative matches
 pub kept_range_means : (flag : PreRelease) (comparators : List Comparator) (v : Version)
     → alternative_means_with flag (kept_range comparators ∷ []) v ≡ alternative_means_with flag (map comparator_range comparators) v
 kept_range_means flag (Hyphen p q ∷ []) v = refl
@@ -250,7 +250,7 @@ all_mean : (flag : PreRelease) (tree : List (List Comparator)) (v : Version)
 all_mean flag [] v = refl
 all_mean flag (comparators ∷ tree) v = ap₂ (λ (a b : Bool). a || b) (kept_range_means flag comparators v) (all_mean flag tree v)
 
--- those that are dropped mean nothing
+-- those that are dropped match nothing
 rest_means : (flag : PreRelease) (tree : List (List Comparator)) (v : Version)
     → tree_means_with flag (alternatives (kept Normal tree)) v ≡ tree_means_with flag (tree_ranges tree) v
 rest_means flag [] v = refl
@@ -261,7 +261,7 @@ rest_means flag (comparators ∷ tree) v = go (ends_at_zero (kept_range comparat
     go true e same = rw (← kept_range_means flag comparators v, nothing_means flag (kept_range comparators) v (kept_empty comparators e)) same
     go false e same = rw (kept_range_means flag comparators v, same) refl
 
--- what is kept of a tree means what the tree means
+-- what is kept of a tree matches what the tree matches
 pub kept_means : KeptSetsMeanTheirTrees
 kept_means Npm tree flag v = rest_means flag tree v
 kept_means Normal tree flag v = rest_means flag tree v

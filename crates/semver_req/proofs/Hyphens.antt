@@ -1,4 +1,4 @@
--- Hyphen ranges at the front of a text.
+-- Leading hyphen ranges.
 use Rattle.std.proofs.Common.{◌≡◌, ℕ, false, List, ◌∷◌, length, ◌==◌, Option, Some, None, ap₂}
 use Rattle.semver_base.specs.Comparators.{Comparator}
 use Rattle.semver_base.specs.Grammar.{HasNone, IsLongest, IsSeen, ReadsAs}
@@ -13,7 +13,7 @@ use Rattle.semver_req.specs.declared.common.values.Flavour.TheVariants.{Npm}
 use Rattle.semver_req.proofs.PieceReadings.{blanks_hyphen, blanks_upper, partial_blanks, partial_hyphened}
 use Rattle.semver_req.proofs.PiecesRead.{more_follows, none_whole}
 
--- ---- at the front of a text
+-- ---- at the start of a text
 
 pub upper_read : {text rest end : List ℕ} {answer : Measured Partial} → IsSeen sized_partial (IsPartial Npm) text answer rest → IsLongest IsBlanks rest tt end → IsSeen sized_partial IsUpper text answer end
 upper_read h b = record { value = h.value; longest = mapped (followed partial_blanks h.longest b); seen = h.seen }

@@ -26,7 +26,7 @@ use Rattle.semver_req.specs.declared.range_set_or_tag.pieces.RangeOrInvalid.{Ran
 use Rattle.semver_req.specs.declared.range_set_or_tag.pieces.RangeOrInvalid.TheVariants as read
 use Rattle.semver_req.proofs.Fitting.{comparator_all}
 
--- ---- what is read, by what fits
+-- ---- the result, by what fits
 
 abbrev pub read_of : Bool → Bool → VersionRange → RangeOrInvalid
 read_of numbers sums range = if numbers then (if sums then read.Range range else read.Invalid BoundTooLarge) else read.Invalid NumberTooLarge
@@ -77,7 +77,7 @@ module _ (cs : List Comparator) (c : Comparator) where
 
 -- ---- a comparator whose partial version is measured
 
--- the partial version that fits is the one that was written
+-- the partial version that fits is the one in the text
 pub fitting_partial : (p : Partial) {q : Partial} → Fits q ≡ sized_partial p → (p ≡ q) × (partial_fits p ≡ true)
 fitting_partial p {q} e = elim (cases_Bool (partial_fits p)) [
   | inl fit ↦ let seen : Fits q ≡ Fits p = e ∙ rw fit refl in (cc seen, fit)

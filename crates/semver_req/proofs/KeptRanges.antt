@@ -1,4 +1,4 @@
--- What is true of every range that a reader keeps.
+-- What is true of every range that a parser keeps.
 use Rattle.std.proofs.Common.{◌≡◌, ◌&&◌, ℕ, List, [], ◌∷◌, Bool, true, false, not, refl, ap}
 use Rattle.std.specs.List.{list_all}
 use Rattle.std.specs.Prelude.{if◌then◌else◌}
@@ -13,7 +13,7 @@ use Rattle.semver_req.specs.declared.common.values.Flavour.TheVariants.{Npm, Nor
 use Rattle.semver_req.proofs.Starts.{has_start, kept_range_starts}
 use Rattle.semver_req.proofs.SpecifierKept.{specifier_ends}
 
--- what is true of every range that a reader keeps: it has a start or no bounds, and doesn't end below 0.0.0
+-- every range that a parser keeps has a start or no bounds, and doesn't end below 0.0.0
 abbrev pub is_kept : VersionRange → Bool
 is_kept range = has_start range && not (ends_at_zero range.end)
 
@@ -26,9 +26,9 @@ rest_is_kept (comparators ∷ tree) = go (ends_at_zero (kept_range comparators).
     go true e rest = rest
     go false e rest = and_both _ _ (and_both _ _ (kept_range_starts comparators) (ap not e)) rest
 
--- ---- the strict reader, which drops no range
+-- ---- the strict parser, which drops no range
 
--- the ranges that the strict reader keeps of an outcome
+-- the ranges that the strict parser keeps of an outcome
 abbrev AreKept : Outcome → Type 0
 AreKept (Ranges tree) = list_all is_kept (kept Specifier tree) ≡ true
 AreKept (Tag text) = Unit {0}
@@ -44,7 +44,7 @@ specifier_is_kept (left_over s fit more) = tt
 specifier_is_kept (no_front n t) = tag_or_kept t
 specifier_is_kept (no_fit s e t) = tag_or_kept t
 
--- what a reader keeps
+-- what a parser keeps
 pub outcome_is_kept : (f : Flavour) (text : List ℕ) (tree : List (List Comparator)) → IsOutcome f text (Ranges tree) → list_all is_kept (kept f tree) ≡ true
 outcome_is_kept Npm text tree o = rest_is_kept tree
 outcome_is_kept Normal text tree o = rest_is_kept tree

@@ -1,4 +1,4 @@
--- The least version of requirements whose ranges some reader answered has a text that is read back.
+-- The lowest version of requirements whose ranges a parser returned has a text that parses back.
 use Rattle.std.proofs.Common.{◌≡◌, ◌&&◌, Bool, List, [], ◌∷◌, map, Option, Result, Ok, Err, refl, sym, ap₂, subst, ◌∙◌}
 use Rattle.std.specs.List.{list_all, AllByRecursion}
 use Rattle.std.specs.Prelude.{IfOk, IfSome}

@@ -1,4 +1,4 @@
--- What leads the partial version of npm's tildes and carets, as a rule that can be read from left to right.
+-- What leads the partial version of npm's tildes and carets, as a rule that parses from left to right.
 use Rattle.std.proofs.Common.{◌≡◌, ℕ, Bool, true, List, [], ◌∷◌, ◌++◌, Option, Some, None, refl, sym, ap, ◌∙◌, arith, append_assoc, ◌==◌}
 use Rattle.std.specs.Prelude.{◌||◌}
 use Rattle.std.specs.Char.{is_not_whitespace}
@@ -20,7 +20,7 @@ use Rattle.semver_req.proofs.Components.{is_component_byte}
 use Rattle.semver_req.proofs.Partials.{no_v, partial_begins, partial_some}
 use Rattle.semver_req.proofs.PrimitiveKinds.{blanks_apart}
 
--- after the blanks: a `v`, blanks and a partial version, which may have its own `v`, or a plain one
+-- after the whitespace: a `v`, whitespace and a partial version, which may have its own `v`, or a plain one
 abbrev pub IsAfterBlanks : List ℕ → Partial → Type 0
 IsAfterBlanks = Either (Prefixed 118 (After IsBlanks (IsPartial Npm))) (IsPlainPartial Npm)
 
@@ -34,7 +34,7 @@ IsAfterMaybeV = After (Optional (IsByte 118)) (After IsBlanks (IsPartial Npm))
 blanks_append : (a b : List ℕ) → IsBlanks a tt → IsBlanks b tt → IsBlanks (a ++ b) tt
 blanks_append a b h k = NoCharPasses-append is_not_whitespace a b h k
 
--- a partial version, with its own `v` or without, has no blanks in front
+-- a partial version, with its own `v` or without, doesn't begin with whitespace
 partial_after : (t : List ℕ) (p : Partial) → IsPartial Npm t p → IsAfterBlanks t p
 partial_after [] p (this h) = absurd h
 partial_after (x ∷ t) p (this h) = this (h.0, after_of [] t tt p (NoCharPasses-nil is_not_whitespace) (that h.1))
@@ -76,7 +76,7 @@ led_longest {p = p} h = narrowed IsLed led_to h (led_from h.front p h.stands)
 pub led_none : {text : List ℕ} → HasNone IsOrderedLed text → HasNone IsLed text
 led_none h = narrowed_none IsLed led_to h
 
--- ---- how it is read: any number of `=`, blanks, and then by whether a `v` follows
+-- ---- how it is parsed: any number of `=`, whitespace, and then by whether a `v` follows
 
 abbrev is_after_byte : ℕ → Bool
 is_after_byte x = (x == 118) || is_component_byte x
@@ -106,7 +106,7 @@ blanks_led = mapped_begins (joined_begins_either
 equals_led : Apart IsEquals (After IsBlanks IsAfterBlanks)
 equals_led = apart_by is_primitive_kind_byte is_led_byte primitive_kind_no_led (goes_from_made equals_made) blanks_led
 
--- with which byte all of it begins
+-- the byte with which all of it begins
 abbrev pub is_ordered_byte : ℕ → Bool
 is_ordered_byte x = (x == 61) || is_led_byte x
 
@@ -123,7 +123,7 @@ pub led_begins : BeginsBy IsLed is_ordered_byte
 led_begins = record { begins = λ x b. ordered_begins.begins x (record { more = b.more; value = b.value; stands = led_to (x ∷ b.more) b.value b.stands }) }
 
 module _ {X : Type 0} (see : Partial → X) where
-  -- a `v`, and the partial version after its blanks
+  -- a `v`, and the partial version after its whitespace
   pub after_v : {text middle start : List ℕ} (r : Option (X × List ℕ)) → text ≡ 118 ∷ middle → IsLongest IsBlanks middle tt start → ReadsAs see (IsPartial Npm) start r → ReadsAs see IsAfterBlanks text r
   after_v {text} {middle} {start} r e b p = go r p
     where

@@ -1,4 +1,4 @@
--- Comparators at the front of a text, by the mark that comes first.
+-- Leading comparators, by the operator that comes first.
 use Rattle.std.proofs.Common.{◌≡◌, ℕ, true, List, [], ◌∷◌, ◌++◌, Option, Some, None, refl, sym, ap, ◌∙◌, arith}
 use Rattle.std.specs.Prelude.{slice_index}
 use Rattle.std.proofs.lemmas.Bool.Decides.{nat_tests}
@@ -66,9 +66,9 @@ non_primitive_none f mark.Caret e n = either_none (either_none (mapped_none (pre
 non_primitive_none f (mark.Primitive kind) e n = absurd e
 non_primitive_none f mark.Absent e n = either_none (either_none (mapped_none (prefixed_other e.1)) (mapped_none (prefixed_other e.2))) (mapped_none (rw e.0 at n))
 
--- ---- a primitive kind, or none
+-- ---- a comparison operator, or none
 
--- a text of three grammars where the second has no front
+-- a text of three grammars where the second matches no prefix
 module _ {V : Type 0} {A B C : List ℕ → V → Type 0} where
   passed_over : (text : List ℕ) (v : V) → Either A C text v → Either A (Either B C) text v
   passed_over text v (this h) = this h
@@ -103,7 +103,7 @@ caret_no_primitive_kind x e h = grind (arith, nat_tests)
 partial_no_primitive_kind : Disjoint is_partial_byte is_primitive_kind_byte
 partial_no_primitive_kind x h k = grind (arith, nat_tests)
 
--- a text that begins with a primitive kind has no other comparator
+-- a text that begins with a comparison operator has no other comparator
 module _ {text middle : List ℕ} {kind : PrimitiveKind} (s : IsLongest IsPrimitiveKind text kind middle) where
   pub primitive_byte : (x : ℕ) (t : List ℕ) → text ≡ x ∷ t → is_primitive_kind_byte x ≡ true
   primitive_byte x t e = go s.front s.text_is s.stands

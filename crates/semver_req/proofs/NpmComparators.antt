@@ -1,5 +1,4 @@
--- npm's comparators at the front of a text: a primitive kind that says nothing, a mark, and what leads the partial
--- version.
+-- npm's leading comparators: an ignored operator, an operator, and what leads the partial version.
 use Rattle.std.proofs.Common.{◌≡◌, ◌≤◌, ℕ, true, List, [], ◌∷◌, ◌++◌, length, get_or, Option, Some, None, refl, sym, ap, ◌∙◌, arith, length-append, ◌==◌}
 use Rattle.std.specs.Char.{is_not_whitespace}
 use Rattle.std.specs.Borrow.{Bor}
@@ -92,7 +91,7 @@ tildes_byte {text} {rest} p = go p.stands
     go (this h) = (62 ∷ rest, p.text_is ∙ ap (λ t. t ++ rest) h)
     go (that h) = (rest, p.text_is ∙ ap (λ t. t ++ rest) h)
 
--- ---- a primitive kind that says nothing, and a mark
+-- ---- an ignored operator, and an operator
 
 equal_no_blank : Disjoint (λ x. x == 61) is_blank_byte
 equal_no_blank x h k = grind (arith, nat_tests)
@@ -140,16 +139,16 @@ module _ {text start : List ℕ} {o : Option (PrimitiveKind × Unit {0})} (i : I
 tilde_no_caret : {text rest : List ℕ} → text ≡ 126 ∷ rest → (more : List ℕ) → text ≡ 94 ∷ more → ⊥
 tilde_no_caret e more f = omega (arith, ap (λ t. get_or t 0 0) (sym e ∙ f))
 
--- ---- the comparator, by its mark
+-- ---- the comparator, by its operator
 
--- the comparators that have a mark, and those that have none
+-- the comparators with `~` or `^`, and those without
 abbrev IsNpmMarked : List ℕ → Comparator → Type 0
 IsNpmMarked = Either IsNpmTilde IsNpmCaret
 
 abbrev IsNpmOther : List ℕ → Comparator → Type 0
 IsNpmOther = Either (IsOfPrimitive Npm) (IsPlain Npm)
 
--- where no mark follows, the partial version after the mark m is read
+-- if neither `~` nor `^` follows, the partial version after the operator m is parsed
 record ReadsOther (m : Mark) (text start : List ℕ) : Type 0 where
   none : HasNone (IsPartial Npm) start → HasNone IsNpmOther text
   some : {p : Partial} {rest : List ℕ} → IsLongest (IsPartial Npm) start p rest → IsLongest IsNpmOther text (comparator_of m p) rest
@@ -175,13 +174,13 @@ module _ {text start : List ℕ} {o : Option (PrimitiveKind × Unit {0})} {other
   npm_front : {r : Option (Written × List ℕ)} → IsNpmFront other start r → ReadsComparator (IsComparator Npm) text r
   npm_front {r} h = by_mark h.mark h.rest r h.cut h.reads
 
--- ---- a partial version that was read, with a mark
+-- ---- a parsed partial version, with an operator
 
 pub marked_read : (m : Mark) (B : List ℕ → Partial → Type 0) (text : List ℕ) (r : Option (Measured Partial × List ℕ)) → ReadsAs sized_partial B text r → ReadsMarked m B text (with_mark m r)
 marked_read m B text None h = h
 marked_read m B text (Some p) h = (refl, h)
 
--- ---- no primitive kind
+-- ---- no comparison operator
 
 pub non_primitive_npm : {text : List ℕ} (r : Option (Written × List ℕ)) → HasNone IsPrimitiveKind text → IsNpmFront mark.Absent text r → ReadsComparator (IsComparator Npm) text r
 non_primitive_npm {text} r n h = npm_front (optional_none (joined_none_first n)) others h
@@ -192,7 +191,7 @@ non_primitive_npm {text} r n h = npm_front (optional_none (joined_none_first n))
       some = λ p. either_that (mapped_none (joined_none_first n)) (mapped p);
     }
 
--- ---- a primitive kind, with blanks after it or without
+-- ---- a comparison operator, with optional whitespace after it
 
 blanks_of_some : {text rest : List ℕ} → IsLongest IsSomeBlanks text tt rest → IsLongest IsBlanks text tt rest
 blanks_of_some {text} p = record { front = p.front; text_is = p.text_is; stands = p.stands.1; longest = λ a b w e h. (go a b e h, λ _. refl) }

@@ -1,4 +1,4 @@
--- A text has one outcome, in the grammar of each reader.
+-- A text has one outcome in each grammar.
 use Rattle.std.proofs.Common.{◌≡◌, ◌<◌, ℕ, Bool, true, false, List, [], ◌∷◌, length, refl, sym, ap, ◌∙◌, arith, inl, inr, length-append}
 use Rattle.std.specs.Str.{trim}
 use Rattle.semver_base.specs.Comparators.{Comparator}
@@ -11,7 +11,7 @@ use Rattle.semver_req.specs.declared.common.values.Flavour.{Flavour}
 use Rattle.semver_req.specs.declared.common.values.Flavour.TheVariants.{Npm, Normal, Specifier}
 use Rattle.semver_req.proofs.PieceReadings.{blank_piece, piece_one}
 
--- ---- how a text is cut
+-- ---- how a text is split
 
 cut_one : {text piece more rest end : List ℕ} → IsCutAt text piece rest → IsCutAt text more end → (piece ≡ more) × (rest ≡ end)
 cut_one {text} {piece} {more} {rest} {end} p q =
@@ -54,7 +54,7 @@ pieces_one (first_cut {piece = p} {rest = a} {pieces = vs} c m) (first_cut {piec
     let others = more_pieces_one a b vs ws both.1 m n in
     (refl, cc (both.0, others))
 
--- ---- which pieces are good
+-- ---- which pieces are valid
 
 good_one : (f : Flavour) (b : Bool) (piece : List ℕ) (cs ds : List Comparator) → IsGood f b piece cs → IsGood f b piece ds → cs ≡ ds
 good_one f b piece cs ds (inl h) (inl k) = (piece_one f).one piece cs ds h.0 k.0
@@ -72,7 +72,7 @@ good_ones_one (good {cs = cs} h m) (bad k n) = absurd (k cs h)
 good_ones_one (bad h m) (good {cs = cs} k n) = absurd (h cs k)
 good_ones_one (bad h m) (bad k n) = good_ones_one m n
 
--- ---- outcomes of a text that is cut
+-- ---- outcomes of a text that is split
 
 one_tag : {text : List ℕ} {o u : Outcome} → IsTagOr text o → IsTagOr text u → o ≡ u
 one_tag (tag f) (tag g) = refl
@@ -80,7 +80,7 @@ one_tag (tag f) (no_tag g) = cc
 one_tag (no_tag f) (tag g) = cc
 one_tag (no_tag f) (no_tag g) = refl
 
--- two readings of one text cut it alike
+-- one text is split in one way
 single : {text p q : List ℕ} {b c : Bool} → ArePieces text b (p ∷ []) → ArePieces text c (q ∷ []) → (b ≡ c) × (p ≡ q)
 single h k = let both = pieces_one h k in (both.0, cc (both.1))
 
@@ -96,7 +96,7 @@ many_one h k m n = let both = pieces_one h k in (good_ones_one (rw (both.0, both
 tag_one : {p q : List ℕ} {o u : Outcome} → p ≡ q → IsTagOr (trim p) o → IsTagOr (trim q) u → o ≡ u
 tag_one e i j = one_tag (rw e at i) j
 
--- all are good or not
+-- all are valid or not
 all_or_not : {T : Type 0} {f : Flavour} {text : List ℕ} {b c : Bool} {ps qs : List (List ℕ)} {t u : List (List Comparator)} → ArePieces text b ps → ArePieces text c qs → AreGoodOnes f b ps t → AreGoodOnes f c qs u → length t ≡ length ps → length u < length qs → T
 all_or_not h k m n all less = let both = many_one h k m n in absurd (omega (arith, all, less, ap length both.0, ap length both.1))
 
@@ -123,7 +123,7 @@ cut_one_outcome (normal_refused h m less) (one_bad k n t) = one_or_many k h
 cut_one_outcome (normal_refused h m less) (normal_many k n all) = all_or_not k h n m all less
 cut_one_outcome (normal_refused h m less) (normal_refused k n fewer) = refl
 
--- ---- outcomes of the strict reader
+-- ---- outcomes of the strict parser
 
 pub some_or_none : {V T : Type 0} {R : List ℕ → V → Type 0} {text rest : List ℕ} {v : V} → IsLongest R text v rest → HasNone R text → T
 some_or_none {rest = rest} p n = absurd (n.none p.front rest _ p.text_is p.stands)
@@ -152,7 +152,7 @@ specifier_one_outcome (no_fit p f t) (left_over q g some) = fits_or_not q p g f
 specifier_one_outcome (no_fit p f t) (no_front n s) = some_or_none p n
 specifier_one_outcome (no_fit p f t) (no_fit q g s) = one_tag t s
 
--- ---- the three readers
+-- ---- the three parsers
 
 pub one_outcome : TextsHaveOneOutcome
 one_outcome Npm text o p h k = cut_one_outcome h k

@@ -40,7 +40,7 @@ specifier_outcome_fits (left_over s fit more) = tt
 specifier_outcome_fits (no_front n t) = tag_or_fits t
 specifier_outcome_fits (no_fit s e t) = tag_or_fits t
 
--- the comparators of every tree of a reader fit
+-- the comparators of every tree of a parser fit
 pub outcome_fits : (f : Flavour) (text : List ℕ) (tree : List (List Comparator)) → IsOutcome f text (Ranges tree) → all_trees_fit tree ≡ true
 outcome_fits Npm text tree o = cut_outcome_fits o
 outcome_fits Normal text tree o = cut_outcome_fits o

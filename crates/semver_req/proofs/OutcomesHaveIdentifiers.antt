@@ -1,4 +1,4 @@
--- The identifiers of the comparators of every outcome are those of the grammar.
+-- The identifiers of the comparators of every outcome match the grammar.
 use Rattle.std.proofs.Common.{ℕ, List, [], ◌∷◌, Bool, true, Option, Some, None, refl, sym, subst, ◌≡◌, inl, inr}
 use Rattle.std.specs.List.{list_all}
 use Rattle.semver_base.specs.Comparators.{Comparator}
@@ -133,7 +133,7 @@ outcome_has Npm text tree o = cut_outcome_has o
 outcome_has Normal text tree o = cut_outcome_has o
 outcome_has Specifier text tree o = specifier_outcome_has o
 
--- what a reader keeps has a text that reads back
+-- what a parser keeps has a text that parses back
 pub outcome_writable : (f : Flavour) (text : List ℕ) (tree : List (List Comparator)) → IsOutcome f text (Ranges tree) → AreWritableRanges (kept f tree)
 outcome_writable f text tree o = kept_writable f tree (outcome_fits f text tree o) (outcome_has f text tree o)
 

@@ -24,7 +24,7 @@ no_common (inner.RangeSet set) (inner.RangeSet others) e flag v = set_no_common 
 no_common (inner.RangeSet set) (inner.Tag text) e flag v = and_false (tree_means_with flag (alternatives set.0) v)
 no_common (inner.Tag text) other e flag v = refl
 
--- where they don't overlap, no version matches both
+-- if they don't overlap, no version matches both
 pub inner_no_common : (result : Bool) (one other : RangeSetOrTag) → result ≡ inner_overlap one other → OnFalse result (MatchNoVersion one other)
 inner_no_common true one other e = tt
 inner_no_common false one other e = no_common one other (sym e)
@@ -35,7 +35,7 @@ same_tags text other = (
   λ e. rw e (nat_list_eq_equiv.refl other),
 )
 
--- two tags overlap where they are the same
+-- two tags overlap exactly if they are the same
 pub inner_tags : (result : Bool) (one other : RangeSetOrTag) → result ≡ inner_overlap one other → OverlapAsTags one other result
 inner_tags result (inner.Tag text) (inner.Tag other) e = rw e (same_tags text other)
 inner_tags result (inner.RangeSet set) other e = tt

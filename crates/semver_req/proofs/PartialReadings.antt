@@ -1,4 +1,4 @@
--- Each text of a partial version stands for one value.
+-- Each text of a partial version has one value.
 use Rattle.std.proofs.Common.{◌≡◌, ℕ, Bool, true, List, [], ◌∷◌, refl, ap, arith, ◌==◌}
 use Rattle.std.specs.Prelude.{◌||◌}
 use Rattle.std.specs.Char.{is_ascii_digit}

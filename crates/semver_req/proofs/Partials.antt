@@ -1,4 +1,4 @@
--- Partial versions at the front of a text.
+-- Leading partial versions.
 use Rattle.std.proofs.Common.{◌≡◌, ℕ, Bool, true, false, List, [], ◌∷◌, Option, Some, None, refl, ap, ap₂, ◌∙◌, arith, ◌==◌}
 use Rattle.std.specs.Prelude.{◌&&◌, if◌then◌else◌}
 use Rattle.std.specs.Char.{is_ascii_digit}
@@ -19,7 +19,7 @@ use Rattle.semver_req.specs.declared.common.values.Flavour.{Flavour}
 use Rattle.semver_req.specs.declared.common.values.Flavour.TheVariants.{Npm}
 use Rattle.semver_req.proofs.Components.{component_begins, component_goes, component_some, is_component_byte}
 
--- an optional part, as its reader sees it
+-- an optional part, as its parser sees it
 module _ {V X : Type 0} {A : List ℕ → V → Type 0} {see : V → X} (or : Option V → X) where
   pub optional_seen : {text rest : List ℕ} {answer : X} → ((v : V) → see v ≡ or (Some v)) → NonEmpty A → IsSeen see A text answer rest → IsSeen or (Optional A) text answer rest
   optional_seen same some h = record { value = Some h.value; longest = optional_some some h.longest; seen = h.seen ∙ same h.value }

@@ -1,4 +1,4 @@
--- Each piece stands for one list of comparators.
+-- Each piece has one list of comparators.
 use Rattle.std.proofs.Common.{◌≡◌, ◌<◌, ℕ, Bool, true, false, List, [], ◌∷◌, ◌++◌, length, refl, sym, ap, ◌∙◌, arith, append-nil, length-append, ◌==◌}
 use Rattle.std.specs.Prelude.{◌||◌}
 use Rattle.std.specs.List.{list_all}
@@ -139,7 +139,7 @@ abbrev is_hyphen : List ℕ → Bool
 is_hyphen [] = false
 is_hyphen (x ∷ rest) = x == 45
 
--- a comparator, bytes that separate, and then nothing or another byte, which is a hyphen or not
+-- a comparator, separator bytes, and then nothing or another byte, which is a hyphen or not
 record IsLaidOut (hyphen : Bool) (text : List ℕ) : Type 0 where
   first : List ℕ
   between : List ℕ
@@ -235,7 +235,7 @@ no_both = record { both = λ text v w h k. differ (one_layout true false text (h
     differ : true ≡ false → ⊥
     differ e = cc e
 
--- after a separator and a comparator less is left
+-- less is left after a separator and a comparator
 pub list_shorter : (f : Flavour) {rest next more : List ℕ} {c : Comparator} → IsLongest (IsSeparator f) rest tt next → IsLongest (IsComparator f) next c more → length more < length rest
 list_shorter f {rest} {next} {more} p q =
     omega (arith, some_length (listing f).separator_some p.front p.stands, ap length p.text_is, length-append p.front next, ap length q.text_is, length-append q.front more)
@@ -282,7 +282,7 @@ piece_one f = record { one = go }
 start_no_blank : Disjoint is_start_byte is_blank_byte
 start_no_blank x h k = grind (arith, nat_tests)
 
--- blanks are no piece but the empty one
+-- the only piece that is whitespace is the empty one
 pub blank_piece : (f : Flavour) (text : List ℕ) (cs : List Comparator) → IsPiece f text cs → IsBlanks text tt → cs ≡ []
 blank_piece f text [] h k = refl
 blank_piece f text (c ∷ cs) h k = absurd ((never_by is_start_byte is_blank_byte start_no_blank (filled_some f) (filled_begins f) (begins_from_made blanks_made)).both text (c ∷ cs) tt h k)

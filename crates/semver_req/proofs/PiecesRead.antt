@@ -1,4 +1,4 @@
--- What is read of a piece, and of the pieces of a text.
+-- What a piece parses to, and the pieces of a text.
 use Rattle.std.proofs.Common.{◌≡◌, ◌≤◌, ◌<◌, ◌==◌, ℕ, Bool, true, false, List, [], ◌∷◌, ◌++◌, length, map, not, Option, Some, None, refl, sym, subst, ap, ap₂, ◌∙◌, inl, inr, arith, append-nil, length-append}
 use Rattle.std.proofs.lemmas.Bool.Decides.{nat_tests}
 use Rattle.std.proofs.lemmas.List.{map-append, nil_from_length}
@@ -115,7 +115,7 @@ module _ (f : Flavour) where
   pub list_read : {piece rest : List ℕ} {cs : List Comparator} {answer : RangeOrInvalid} → IsLongest (IsComparators f) piece cs rest → answer ≡ joined cs → (length rest == 0) ≡ true → IsWholeRead (IsComparators f) piece (Some answer)
   list_read {cs = cs} p seen empty = let whole = whole_of p empty in (cs, whole, seen ∙ ap (read_as cs) (sym (list_kept whole)))
 
--- ---- pieces that are not empty
+-- ---- pieces that aren't empty
 
 pub npm_list : {piece : List ℕ} (r : Option RangeOrInvalid) → IsWholeRead IsHyphen piece None → IsWholeRead (IsComparators Npm) piece r → IsWholeRead (IsFilled Npm) piece r
 npm_list {piece} None no_pair no_list = go
@@ -155,7 +155,7 @@ sums_of [] h = refl
 sums_of (c ∷ cs) h = and_both _ _ (and_second (numbers_fit c) _ (and_first (fits c) _ h)) (sums_of cs (and_second (fits c) _ h))
 
 module _ (f : Flavour) (b : Bool) (piece : List ℕ) where
-  -- a piece of comparators that pass no test which those that fit pass
+  -- a piece of comparators that fail a test which those that fit pass
   never_good : (cs : List Comparator) → IsPiece f piece cs → (p : List Comparator → Bool) → p cs ≡ false → p [] ≡ true → ((ds : List Comparator) → list_all fits ds ≡ true → p ds ≡ true) → IsBad f b piece
   never_good cs h p fails none passes = go
     where
@@ -176,7 +176,7 @@ module _ (f : Flavour) (b : Bool) (piece : List ℕ) where
   pub filled_read : {answer : RangeOrInvalid} → IsWholeRead (IsFilled f) piece (Some answer) → IsPieceRead f b piece answer
   filled_read h = subst (IsPieceRead f b piece) (sym h.2) (kept_read h.0 (filled_piece f piece h.0 h.1))
 
-  -- no comparators, nor nothing, nor blanks that are followed by `||`
+  -- no comparators, nor empty, nor whitespace followed by `||`
   pub outside_read : IsWholeRead (IsFilled f) piece None → (IsEverything b piece → ⊥) → IsPieceRead f b piece (read.Invalid UnexpectedCharacter)
   outside_read no_list other = (λ ds k. no_good ds k, outside no_piece)
     where
@@ -209,7 +209,7 @@ module _ {f : Flavour} where
   first_stays ms (this_bad g r) = this_bad g r
   first_stays ms (later_bad cs g m) = later_bad cs g (first_stays ms m)
 
-  -- all pieces so far are good, and the next one isn't
+  -- all pieces so far are valid, and the next one isn't
   first_more : {ps : List (List ℕ)} {t : List (List Comparator)} {piece : List ℕ} {refusal : Refusal} → AreGoodOnes f false ps t → length t ≡ length ps → IsBad f false piece → IsPieceRefusal f piece refusal → IsFirstBad f false (ps ++ piece ∷ []) refusal
   first_more none_left e g r = this_bad g r
   first_more (good {cs = cs} h m) e g r = later_bad cs h (first_more m (omega (arith, e)) g r)
@@ -236,7 +236,7 @@ without_one range = go (ends_at_zero range.end)
     go true = refl
     go false = refl
 
--- the two readers that cut a text keep the same of a tree
+-- the two parsers that split a text keep the same of a tree
 kept_without : (f : Flavour) → IsCutting f → (tree : List (List Comparator)) → kept f tree ≡ without_none (map kept_range tree)
 kept_without Npm npm tree = refl
 kept_without Normal normal tree = refl
@@ -271,7 +271,7 @@ told_same (Some refusal) range = refl
 none_only : (p : List ℕ) (ps : List (List ℕ)) (piece : List ℕ) → false ≡ (length ((p ∷ ps) ++ piece ∷ []) == 1)
 none_only p ps piece = let more : 0 < length (ps ++ piece ∷ []) = omega (arith, length-append ps (piece ∷ [])) in grind (arith, nat_tests)
 
--- a further piece is read
+-- a further piece is parsed
 pub read_more : {f : Flavour} → IsCutting f → (b : Bool) (p : List ℕ) (ps : List (List ℕ)) (old new : Alternatives) (piece : List ℕ) (answer : RangeOrInvalid)
     → AreRead f b (p ∷ ps) old → IsPieceRead f false piece answer
     → new.ranges ≡ old.ranges ++ option_to_list (kept_of answer) → new.refused ≡ first_refusal old.refused answer → new.is_only ≡ false → AreRead f b ((p ∷ ps) ++ piece ∷ []) new
@@ -290,7 +290,7 @@ read_more {f} cutting b p ps old new piece (read.Invalid refusal) all h ranges r
   is_only = only ∙ none_only p ps piece;
 }
 
--- the first piece is read
+-- the first piece is parsed
 pub read_first : {f : Flavour} → IsCutting f → (b : Bool) (new : Alternatives) (piece : List ℕ) (answer : RangeOrInvalid) → IsPieceRead f b piece answer
     → new.ranges ≡ option_to_list (kept_of answer) → new.refused ≡ first_refusal None answer → new.is_only ≡ true → AreRead f b (piece ∷ []) new
 read_first {f} cutting b new piece (read.Range range) h ranges refused only = record {
@@ -332,7 +332,7 @@ module _ {f : Flavour} {text piece rest : List ℕ} {b : Bool} {all : Alternativ
   pieces : ArePieces text b (piece ∷ h.others)
   pieces = first h.others h.more
 
-  -- no piece is bad
+  -- no piece is invalid
   good_outcome : ((q : List ℕ) (more : List (List ℕ)) → ArePieces text b (piece ∷ q ∷ more) → AreGoodOnes f b (piece ∷ q ∷ more) h.read.tree → length h.read.tree ≡ length (piece ∷ q ∷ more) → IsCutOutcome f text (Ranges h.read.tree))
       → all.refused ≡ None → IsCutOutcome f text (Ranges h.read.tree)
   good_outcome many none = go h.others pieces h.read.good_ones (rw none at h.read.told)
@@ -362,7 +362,7 @@ module _ {f : Flavour} {text piece rest : List ℕ} {b : Bool} {all : Alternativ
         let nil = only_one piece h.others (sym h.read.is_only ∙ only) in
         one_refused (rw nil at h.read.good_ones) (rw nil at told.0) (rw nil at pieces) o t
 
--- ---- what is answered to a text
+-- ---- the result for a text
 
 module _ {f : Flavour} (cutting : IsCutting f) (text : List ℕ) {piece rest : List ℕ} {b : Bool} {all : Alternatives} (first : IsFirstPiece (worked_on f text) piece b rest) (h : AreAllRead f piece b rest all) where
   ranges_reading : {answer : RangeSetOrTag} → IsCutOutcome f (worked_on f text) (Ranges h.read.tree) → answer ≡ inner.RangeSet (record { 0 = all.ranges }) → IsReading f text answer
@@ -384,7 +384,7 @@ module _ {f : Flavour} (cutting : IsCutting f) (text : List ℕ) {piece rest : L
     tag_refusal failure (inl e) = first_refused first h some (inl e)
     tag_refusal failure (inr k) = first_refused first h some (inr k.0)
 
--- the normalized reader
+-- the normalized parser
 module _ (text : List ℕ) {piece rest : List ℕ} {b : Bool} {all : Alternatives} (first : IsFirstPiece text piece b rest) (h : AreAllRead Normal piece b rest all) where
   pub normal_ranges : {answer : RangeSetOrTag} → all.refused ≡ None → answer ≡ inner.RangeSet (record { 0 = all.ranges }) → IsReading Normal text answer
   normal_ranges none is = ranges_reading normal text first h (good_outcome first h (λ q more k m size. normal_many k m size) none) is
@@ -392,7 +392,7 @@ module _ (text : List ℕ) {piece rest : List ℕ} {b : Bool} {all : Alternative
   pub many_refused : {refusal : Refusal} → all.refused ≡ Some refusal → all.is_only ≡ false → IsOutcome Normal text Refused
   many_refused some more = many_outcome first h (λ q others k m is. normal_refused k m (rw is at (told first h some).0)) more
 
--- npm's reader
+-- npm's parser
 module _ (text : List ℕ) {piece rest : List ℕ} {b : Bool} {all : Alternatives} (first : IsFirstPiece (trim text) piece b rest) (h : AreAllRead Npm piece b rest all) where
   pub npm_ranges : {answer : RangeSetOrTag} → all.refused ≡ None → answer ≡ inner.RangeSet (record { 0 = all.ranges }) → IsReading Npm text answer
   npm_ranges none is = ranges_reading npm text first h (good_outcome first h (λ q more k m size. npm_many k m) none) is

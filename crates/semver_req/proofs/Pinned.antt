@@ -1,4 +1,4 @@
--- Which versions the requirement of one version matches, and that its normal text is read as it again.
+-- Which versions the requirement of one version matches, and that its canonical form parses to it again.
 use Rattle.std.proofs.Common.{◌≡◌, ◌==◌, ℕ, Bool, true, false, List, [], ◌∷◌, length, Ok, refl, sym, ap, ◌∙◌}
 use Rattle.std.specs.Prelude.{◌&&◌, ◌||◌, not}
 use Rattle.std.specs.Ordering.{is_ge, is_le}
@@ -36,7 +36,7 @@ tied Greater h k = cc k
 turned : (v w : Version) → SamePrecedence v w → SamePrecedence w v
 turned v w s = record { major = sym s.major; minor = sym s.minor; patch = sym s.patch; pre = sym s.pre }
 
--- a pre-release of the version's precedence has its numbers and is one where the version is
+-- a pre-release of the version's precedence has its numbers and is one if the version is
 admitted : (v w : Version) → SamePrecedence v w → (is_release w || (admits_pre (between (from v) (up_to v)) w || false)) ≡ true
 admitted v w s = go (is_release w) refl
   where
@@ -69,7 +69,7 @@ also v w s =
 pub pinned_means : (v : Version) → PinsTo v (pinned v).inner
 pinned_means v w = (only v w, also v w)
 
--- ---- its normal text
+-- ---- its canonical form
 
 abbrev only_range : Version → List VersionRange
 only_range v = one v ∷ []
@@ -87,7 +87,7 @@ one_settled v w f cut = record {
 pub pinned_settled : (v : Version) (text : List ℕ) → IsVersionOutcome text (Ok v) → IsSettledSet (only_range v)
 pinned_settled v text (is_version h fits) = one_settled v (read_writable text v h fits)
 
--- so it is a read set
+-- so it is a parsed set
 pub pinned_read : (v : Version) (text : List ℕ) → IsVersionOutcome text (Ok v) → IsReadSet (only_range v)
 pinned_read v text h =
     let s = pinned_settled v text h Normal normal in

@@ -1,4 +1,4 @@
--- Readers over a text and a place.
+-- Parsers at a position in a text.
 use Rattle.std.proofs.Common.{◌≡◌, ◌≤◌, ◌+◌, ◌-◌, ℕ, List, length, drop, sym, ap, ◌∙◌, refl, arith, length-append, length-drop}
 use Rattle.std.proofs.lemmas.List.{drop-drop, drop_at}
 use Rattle.std.proofs.lemmas.Str.{IsCharBoundary-from_drop}
@@ -6,7 +6,7 @@ use Rattle.std.specs.Str.{IsCharBoundary, IsUtf8}
 use Rattle.semver_base.specs.Grammar.{IsLongest, IsSeen}
 
 module _ {V : Type 0} {R : List ℕ → V → Type 0} {value : V} (text rest : List ℕ) (place : ℕ) (le : place ≤ length text) (h : IsLongest R (drop place text) value rest) where
-  -- the place reached leaves just what the reader left
+  -- what follows the position reached is just what the parser left
   reached : rest ≡ drop (length text - length rest) text
   reached =
       let size = ap length h.text_is ∙ length-append h.front rest in
@@ -16,7 +16,7 @@ module _ {V : Type 0} {R : List ℕ → V → Type 0} {value : V} (text rest : L
   pub longest_at : IsLongest R (drop place text) value (drop (length text - length rest) text)
   longest_at = rw (← reached) h
 
-  -- the place reached is the start of a character
+  -- the position reached is the start of a character
   pub longest_reaches : IsUtf8 rest → IsCharBoundary text (length text - length rest)
   longest_reaches is_text = IsCharBoundary-from_drop text (length text - length rest) (omega arith) (rw (← reached) is_text)
 

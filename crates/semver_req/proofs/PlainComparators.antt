@@ -84,7 +84,7 @@ plain_seen f n t =
     let second = optional_seen second_or_none (λ v. refl) (prefixed_some_text 46) (second_read f refl (number_seen f t.minor) third) in
     partial_read f refl (number_seen f t.major) second
 
--- nothing goes on with a dot
+-- nothing continues with a dot
 nothing_more : {V : Type 0} {A : List ℕ → V → Type 0} → HasNone (Prefixed 46 A) []
 nothing_more = prefixed_other (λ rest e. cc e)
 
@@ -110,7 +110,7 @@ few_seen Specifier n t = few_plain Specifier n t
 pub plain_front : (f : Flavour) {text : List ℕ} {range : VersionRange} (p : IsPlainComparator text range) → IsFront (IsNonPrimitive f) text (record { mark = p.mark; partial = Fits (of_few p.numbers) }) []
 plain_front f p = non_primitive_some f p.mark p.cut (few_seen f p.numbers p.few)
 
--- the strict reader's ranges
+-- the strict parser's ranges
 pub specifier_reading : {text : List ℕ} {range : VersionRange} (answer : RangeSetOrTag) → IsPlainComparator text range → answer ≡ inner.RangeSet (record { 0 = range ∷ [] }) → IsReading Specifier text answer
 specifier_reading {range = range} answer p answered = whole_reading (fitting (plain_front Specifier p)) range answer p.line.fits refl p.line.is answered
 
@@ -160,7 +160,7 @@ kept_alone p =
 cut_outcome : (f : Flavour) {text : List ℕ} {range : VersionRange} (p : IsPlainComparator text range) → IsPiece f text (comparator p ∷ []) → IsCutOutcome f text (Ranges ((comparator p ∷ []) ∷ []))
 cut_outcome f p piece = one_good (one_piece (text_no_bar p)) (inl (piece, all_fits p))
 
--- each reader's ranges
+-- each parser's ranges
 pub plain_reading : {text : List ℕ} {range : VersionRange} (answer : RangeSetOrTag) → IsPlainComparator text range → answer ≡ inner.RangeSet (record { 0 = range ∷ [] }) → IsPlainReading text answer
 plain_reading answer p answered Specifier = specifier_reading answer p answered
 plain_reading answer p answered Normal = record {
@@ -198,7 +198,7 @@ by_mark (mark.Primitive kind) text rest p e h = that (this (record { value = (ki
     both = record { first = primitive_kind_text kind; second = rest; text_is = e; in_first = refl; in_second = unspaced; seam = tt }
 by_mark mark.Absent text rest p e h = that (that (record { value = p; stands = rw e h; is = refl }))
 
--- the text is a comparator of the normalized grammar, whose partial version is answered so
+-- the text is a comparator of the normalized grammar, whose partial version parses to this
 record IsNormal (text : List ℕ) (written : Written) : Type 0 where
   partial : Partial
   measured : written.partial ≡ sized_partial partial
@@ -220,7 +220,7 @@ only_item {piece} {written} p n = go p.unclosed
     go (inl e) = rw e (last_item n.stands)
     go (inr e) = rw e (closed_item n.stands one_blank)
 
--- what is read of comparators of the normalized grammar, in each grammar that cuts
+-- what comparators of the normalized grammar parse to, in each grammar that splits
 read_as_list : (f : Flavour) → (f ≡ Specifier → ⊥) → {piece : List ℕ} {cs : List Comparator} {answer : RangeOrInvalid} → IsComparators Normal piece cs → IsFilled Npm piece cs → answer ≡ joined cs → IsWholeRead (IsFilled f) piece (Some answer)
 read_as_list f cuts {piece} {cs} {answer} whole filled read = go f cuts
   where
@@ -232,7 +232,7 @@ read_as_list f cuts {piece} {cs} {answer} whole filled read = go f cuts
     go Normal other = (cs, whole, is_kept)
     go Specifier other = absurd (other refl)
 
--- what is read of one such comparator
+-- what one such comparator parses to
 pub few_filled : (f : Flavour) → (f ≡ Specifier → ⊥) → {piece : List ℕ} {only : Written} {answer : RangeOrInvalid} → IsFewAlone piece only
     → ((p : Partial) → only.partial ≡ sized_partial p → answer ≡ joined (comparator_of only.mark p ∷ [])) → IsWholeRead (IsFilled f) piece (Some answer)
 few_filled f cuts {only = only} p read =
@@ -240,7 +240,7 @@ few_filled f cuts {only = only} p read =
     let whole = only_item p n in
     read_as_list f cuts whole (pieces_wider _ (comparator_of only.mark n.partial ∷ []) whole) (read n.partial n.measured)
 
--- what is read of two
+-- what two parse to
 pub pair_filled : (f : Flavour) → (f ≡ Specifier → ⊥) → {piece : List ℕ} {first second : Written} {one answer : RangeOrInvalid} → IsFewPair piece first second
     → ((p : Partial) → first.partial ≡ sized_partial p → one ≡ joined (comparator_of first.mark p ∷ []))
     → ((cs : List Comparator) (p : Partial) → one ≡ joined cs → second.partial ≡ sized_partial p → answer ≡ joined (cs ++ comparator_of second.mark p ∷ []))
@@ -259,7 +259,7 @@ pair_filled f cuts {piece} {first} {second} {one} {answer} p read_one read_both 
     whole : IsComparators Normal piece (c ∷ comparator_of second.mark b.partial ∷ [])
     whole = rw p.text_is (more_items a.stands one_blank (only_item p.in_back b))
 
--- a text at its first blank
+-- a text at its first space
 pub parts_at_blank : (text : List ℕ) (r : Option (Bor (List ℕ) × Bor (List ℕ))) → IsSplitOnceResult 32 text r → IfSome r (λ p. text ≡ p.0.now ++ 32 ∷ p.1.now)
 parts_at_blank text None h = tt
 parts_at_blank text (Some p) h = (split_parts 32 text (Some p) h (omega arith)).0

@@ -1,4 +1,4 @@
--- Primitive kinds at the front of a text, and the partial versions after them.
+-- Leading comparison operators, and the partial versions after them.
 use Rattle.std.proofs.Common.{◌≡◌, ◌≤◌, ◌<◌, ℕ, Bool, true, List, [], ◌∷◌, ◌++◌, length, refl, ap, ◌∙◌, arith, inl, inr, ◌==◌, length-append}
 use Rattle.std.specs.Prelude.{◌||◌}
 use Rattle.std.proofs.lemmas.Bool.{cases_Bool, eq-eqb, or_left, or_right}
@@ -20,7 +20,7 @@ use Rattle.semver_req.specs.declared.common.values.Flavour.TheVariants.{Normal, 
 use Rattle.semver_req.proofs.Components.{is_component_byte}
 use Rattle.semver_req.proofs.Partials.{partial_begins}
 
--- ---- with which byte primitive kinds go on
+-- ---- the bytes with which operators continue
 
 second_byte : (x : ℕ) (a more : List ℕ) (w : PrimitiveKind) → 0 < length a → a ++ (x ∷ more) ≡ primitive_kind_text w → (x == 61) ≡ true
 second_byte x [] more w some e = absurd (omega arith)
@@ -48,7 +48,7 @@ primitive_kind_some Equal = omega arith
 pub primitive_kind_goes : GoesBy IsPrimitiveKind (λ x. x == 61)
 primitive_kind_goes = record { goes = λ x o. second_byte x o.front o.more o.long_value (let size : length o.front ≡ length (primitive_kind_text o.short_value) = ap length o.short in omega (arith, primitive_kind_some o.short_value)) o.long }
 
--- ---- a primitive kind, blanks and a partial version
+-- ---- a comparison operator, whitespace and a partial version
 
 abbrev pub is_partial_byte : ℕ → Bool
 is_partial_byte x = is_component_byte x || (x == 118)

@@ -1,4 +1,4 @@
--- No tag begins with a primitive kind or a caret.
+-- No tag begins with a comparison operator or a caret.
 use Rattle.std.proofs.Common.{◌≡◌, ℕ, Bool, false, List, [], ◌∷◌, refl}
 use Rattle.std.specs.List.{list_all}
 use Rattle.std.specs.Str.{chars}

@@ -1,4 +1,4 @@
--- What holds of every set that was read.
+-- What holds of every parsed set.
 use Rattle.std.proofs.Common.{◌≡◌, List, [], ◌∷◌, true, refl, sym, subst, ap, ◌∙◌}
 use Rattle.std.specs.List.{list_all}
 use Rattle.semver_base.specs.Meaning.{alternatives, tree_means_with}
@@ -20,7 +20,7 @@ use Rattle.semver_req.proofs.Starts.{has_start}
 read_is_kept : (ranges : List VersionRange) → IsReadSet ranges → list_all is_kept ranges ≡ true
 read_is_kept ranges r = ap (list_all is_kept) r.is_kept ∙ outcome_is_kept r.flavour r.text r.tree r.is_outcome
 
--- its text reads back
+-- its text parses back
 pub read_writable : (ranges : List VersionRange) → IsReadSet ranges → AreWritableRanges ranges
 read_writable ranges r = subst AreWritableRanges (sym r.is_kept) (outcome_writable r.flavour r.text r.tree r.is_outcome)
 
@@ -28,7 +28,7 @@ starts_of : (ranges : List VersionRange) → list_all is_kept ranges ≡ true �
 starts_of [] h = refl
 starts_of (range ∷ ranges) h = and_both _ _ (and_first (has_start range) _ (and_first _ _ h)) (starts_of ranges (and_second (is_kept range) _ h))
 
--- under the premise its shortest form means what it means
+-- under the premise its shortest form matches what it matches
 pub read_form_means : (ranges : List VersionRange) → IsReadSet ranges → list_all keeps_meaning ranges ≡ true
     → (flag : PreRelease) (v : Version) → tree_means_with flag (tree_ranges (shortest_tree ranges)) v ≡ tree_means_with flag (alternatives ranges) v
 read_form_means ranges r k flag v = tree_form_means ranges (starts_of ranges (read_is_kept ranges r)) k flag v
@@ -38,10 +38,10 @@ pub read_again_means : (ranges : List VersionRange) → IsReadSet ranges → lis
     → (flag : PreRelease) (v : Version) → tree_means_with flag (alternatives (reread_set ranges)) v ≡ tree_means_with flag (alternatives ranges) v
 read_again_means ranges r k flag v = reread_set_means ranges (starts_of ranges (read_is_kept ranges r)) k flag v
 
--- what it is read back as is read back as itself
+-- what it parses back to parses back to itself
 pub read_settles : (ranges : List VersionRange) → IsReadSet ranges → reread_set (reread_set ranges) ≡ reread_set ranges
 read_settles ranges r = set_settles ranges (read_is_kept ranges r)
 
--- without builds and crossed bounds it is read back as itself, under the premise
+-- without builds and crossed bounds it parses back to itself, under the premise
 pub read_orderly : (ranges : List VersionRange) → IsReadSet ranges → list_all is_orderly ranges ≡ true → list_all keeps_meaning ranges ≡ true → reread_set ranges ≡ ranges
 read_orderly ranges r orderly k = orderly_reread ranges (read_is_kept ranges r) orderly k

@@ -1,4 +1,4 @@
--- What a reader answers, from the outcome that it read.
+-- What a parser returns, from the outcome that it found.
 use Rattle.std.proofs.Common.{◌≡◌, ℕ, List, Result, Ok, Err, None, refl, sym, subst, inl, inr}
 use Rattle.std.specs.Prelude.{◌⊎◌, IfErr, IsUtf8}
 use Rattle.std.specs.Result.{IsErrAnd}
@@ -59,7 +59,7 @@ module _ (f : Flavour) (text : List ℕ) where
       go (Tag t) p k = subst (TagReadsBack f text) (sym k) (λ start. tag_back f text t u start p)
       go Refused p k = absurd k
 
-  -- what is read of a text
+  -- what a text parses to
   pub answers_read : {E : Type 0} (source : E → Failure) (req : Requirement) → IsUtf8 text → IsReading f text req.inner → req.raw_text ≡ worked_on f text → IsReaderAnswer source f text (Ok req)
   answers_read source req u h raw = record {
     outcome = h;
@@ -72,7 +72,7 @@ module _ (f : Flavour) (text : List ℕ) where
     raw_text = raw;
   }
 
-  -- why a text is refused
+  -- why a text is rejected
   pub answers_refused : {E : Type 0} (source : E → Failure) (e : E) → (source e ≡ None) ⊎ IsOutcome f text Refused → IsReaderAnswer source f text (Err e)
   answers_refused source e h = record {
     outcome = tt;
@@ -85,12 +85,12 @@ module _ (f : Flavour) (text : List ℕ) where
     raw_text = tt;
   }
 
-  -- a result that tells this failure
+  -- a result that reports this failure
   pub answers_err : {E : Type 0} (source : E → Failure) (r : Result Requirement E) (failure : Failure) → IsErrAnd r (λ e. source e ≡ failure) → (failure ≡ None) ⊎ IsOutcome f text Refused → IsReaderAnswer source f text r
   answers_err source (Ok req) failure is h = absurd is
   answers_err source (Err e) failure is h = answers_refused source e (rw (sym is) at h)
 
--- what is true of a failure is true of the error that tells it
+-- what is true of a failure is true of the error that reports it
 pub err_tells : {T E : Type 0} (source : E → Failure) (r : Result T E) (failure : Failure) (P : Failure → Type 0) → IsErrAnd r (λ e. source e ≡ failure) → P failure → IfErr r (λ e. P (source e))
 err_tells source (Ok x) failure P is h = tt
 err_tells source (Err e) failure P is h = rw is h

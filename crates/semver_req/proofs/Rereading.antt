@@ -1,4 +1,4 @@
--- The normal text of a set that was read, read again.
+-- The canonical form of a parsed set, parsed again.
 use Rattle.std.proofs.Common.{◌≡◌, ℕ, List, refl, sym, subst, ap, ◌∙◌}
 use Rattle.semver_base.specs.Comparators.{Comparator}
 use Rattle.semver_base.specs.Containment.{AreEquivalent}
@@ -25,7 +25,7 @@ use Rattle.semver_req.proofs.WrittenSets.{set_outcome, set_trimmed}
 one_tree : (t u : List (List Comparator)) → Ranges t ≡ Ranges u → t ≡ u
 one_tree t u e = cc e
 
--- both readers keep the same of a tree
+-- both parsers keep the same of a tree
 pub kept_alike : (f : Flavour) → IsCutting f → (tree : List (List Comparator)) → kept f tree ≡ kept Normal tree
 kept_alike f npm tree = refl
 kept_alike f normal tree = refl
@@ -37,7 +37,7 @@ module _ (f : Flavour) (cut : IsCutting f) (ranges : List VersionRange) (r : IsR
   tree_read : (tree : List (List Comparator)) → IsTree f (set_text ranges) tree → tree ≡ shortest_tree ranges
   tree_read tree h = one_tree tree (shortest_tree ranges) (one_outcome f (set_text ranges) (Ranges tree) (Ranges (shortest_tree ranges)) h text_read)
 
-  -- what is kept of the tree that the text is read as
+  -- what is kept of the tree that the text parses to
   kept_read : (tree : List (List Comparator)) → IsTree f (set_text ranges) tree → kept f tree ≡ reread_set ranges
   kept_read tree h = kept_alike f cut tree ∙ ap (kept Normal) (tree_read tree h)
 
@@ -74,7 +74,7 @@ equivalent_again ranges r k f cut again reading = go reading.outcome reading.is_
     go (Tag text) h is = absurd (cc (one_outcome f (set_text ranges) (Tag text) (Ranges (shortest_tree ranges)) h (text_read f cut ranges r)))
     go Refused h is = absurd is
 
--- two sets that a reader keeps of their texts are the same where the texts are
+-- two sets that a parser keeps of their texts are the same if the texts are
 same_by_text : (some others : List VersionRange) → IsReadAsItself Normal some → IsReadAsItself Normal others → set_text some ≡ set_text others → some ≡ others
 same_by_text some others one other same =
     let read : IsTree Normal (set_text others) one.tree = subst (λ text. IsTree Normal text one.tree) same one.is_tree in
@@ -84,7 +84,7 @@ same_by_text some others one other same =
 pub settled_by_text : SettledSetsAreTheirTexts
 settled_by_text some others one other = (ap set_text, same_by_text some others (one Normal normal) (other Normal normal))
 
--- what is true of the normal text of every read set is true of the text of a requirement
+-- what is true of the canonical form of every parsed set is true of the text of a requirement
 pub of_text : (Says : List ℕ → List VersionRange → Type 0) → ((ranges : List VersionRange) → IsReadSet ranges → Says (set_text ranges) ranges)
     → (answer : RangeSetOrTag) (text : List ℕ) → text ≡ inner_text answer → OfReadRanges Says answer text
 of_text Says law (inner.RangeSet set) text is = λ r. subst (λ t. Says t set.0) (sym is) (law set.0 r)

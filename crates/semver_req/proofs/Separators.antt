@@ -1,4 +1,4 @@
--- What stands between comparators, at the front of a text.
+-- Leading separators between comparators.
 use Rattle.std.proofs.Common.{◌≡◌, ◌≤◌, ◌<◌, ℕ, Bool, true, false, List, [], ◌∷◌, ◌++◌, length, get_or, Option, Some, None, refl, sym, ap, ◌∙◌, arith, length-append, inl, inr, ◌==◌}
 use Rattle.std.specs.Prelude.{◌||◌, codes, nat_le}
 use Rattle.std.specs.Char.{is_whitespace}
@@ -12,7 +12,7 @@ use Rattle.semver_base.proofs.Fronts.{Apart, NonEmpty, either_longer, either_non
 use Rattle.semver_req.specs.Pieces.{IsMark, IsNpmSeparator, IsOperator}
 use Rattle.semver_req.proofs.PieceReadings.{mark_some}
 
--- ---- a word
+-- ---- a token
 
 pub text_longest : (t text rest : List ℕ) → text ≡ t ++ rest → IsLongest (IsText t) text tt rest
 text_longest t text rest e = record { front = t; text_is = e; stands = refl; longest = λ a b w f h. (omega (arith, ap length h), λ _. refl) }
@@ -33,7 +33,7 @@ module _ {text : List ℕ} (other : (rest : List ℕ) → text ≡ 44 ∷ rest �
   mark_or_none None n = either_none n no_comma
   mark_or_none (Some p) h = either_this h no_comma
 
--- ---- a mark and blanks
+-- ---- `&&` or `,`, and whitespace
 
 abbrev is_mark_byte : ℕ → Bool
 is_mark_byte b = (b == 38) || (b == 44)
@@ -45,7 +45,7 @@ mark_begins = record { begins = λ x b. go x b.more b.value b.stands }
     go x more v (this h) = let same_byte : x ≡ 38 = cc in or_left (x == 38) (x == 44) (eq-eqb x 38 same_byte)
     go x more v (that h) = let same_byte : x ≡ 44 = cc in or_right (x == 38) (x == 44) (eq-eqb x 44 same_byte)
 
--- a mark goes on with nothing
+-- neither `&&` nor `,` continues
 mark_apart : Apart IsMark IsBlanks
 mark_apart = record { apart = λ x g b. go x g.front g.more g.short_value g.long_value g.short g.long }
   where
@@ -85,7 +85,7 @@ module _ {text rest : List ℕ} (p : IsLongest IsBlanks text tt rest) (n : HasNo
   pub separator_none : length text ≤ length rest → HasNone IsNpmSeparator text
   separator_none no_blank = either_none no_mark (no_blanks text rest p no_blank)
 
--- ---- a byte twice, and the blanks round it
+-- ---- a byte twice, and the whitespace around it
 
 module _ (m : ℕ) where
   word_begins : BeginsBy (IsText (m ∷ m ∷ [])) (λ x. x == m)
@@ -94,7 +94,7 @@ module _ (m : ℕ) where
   word_some : NonEmpty (IsText (m ∷ m ∷ []))
   word_some = record { some = λ v h. cc h }
 
-  -- the word goes on with nothing
+  -- the token doesn't continue
   word_apart : Apart (IsText (m ∷ m ∷ [])) IsBlanks
   word_apart = record { apart = λ x g b. omega (arith, ap length g.short, ap length g.long, length-append g.front (x ∷ g.more)) }
 

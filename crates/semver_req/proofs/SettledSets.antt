@@ -1,4 +1,4 @@
--- What the shortest form of a set means, and what it reads back as.
+-- What the shortest form of a set matches, and what it parses back to.
 use Rattle.std.proofs.Common.{◌≡◌, ◌&&◌, ◌||◌, ◌==◌, List, [], ◌∷◌, length, Bool, true, false, map, not, refl, sym, ap, ap₂, subst, ◌∙◌}
 use Rattle.std.proofs.lemmas.List.{nil_from_length}
 use Rattle.std.specs.List.{list_all}
@@ -32,7 +32,7 @@ use Rattle.semver_req.proofs.Settling.{both_kept, end_kept, form_read, reread_se
 use Rattle.semver_req.proofs.ShortestMeaning.{by_form, by_test, ge_turned, short_end, shortest_means, zero_le}
 use Rattle.semver_req.proofs.Starts.{has_start, kept_range_starts, starts_or_is_open}
 
--- ---- what the form of a set means
+-- ---- what the form of a set matches
 
 forms_mean : (ranges : List VersionRange) → list_all has_start ranges ≡ true → list_all keeps_meaning ranges ≡ true
     → (flag : PreRelease) (v : Version) → tree_means_with flag (tree_ranges (map shortest ranges)) v ≡ tree_means_with flag (alternatives ranges) v
@@ -41,7 +41,7 @@ forms_mean (range ∷ ranges) h k flag v = ap₂ (λ (a b : Bool). a || b)
     (shortest_means range (and_first _ _ h) (and_first _ _ k) flag v)
     (forms_mean ranges (and_second (has_start range) _ h) (and_second (keeps_meaning range) _ k) flag v)
 
--- the shortest form of a set means what the set means
+-- the shortest form of a set matches what the set matches
 pub tree_form_means : (ranges : List VersionRange) → list_all has_start ranges ≡ true → list_all keeps_meaning ranges ≡ true
     → (flag : PreRelease) (v : Version) → tree_means_with flag (tree_ranges (shortest_tree ranges)) v ≡ tree_means_with flag (alternatives ranges) v
 tree_form_means [] h k flag v =
@@ -49,14 +49,14 @@ tree_form_means [] h k flag v =
     ap (λ (b : Bool). b || false) none
 tree_form_means (range ∷ ranges) h k flag v = forms_mean (range ∷ ranges) h k flag v
 
--- what is kept of it means what the set means
+-- what is kept of it matches what the set matches
 pub reread_set_means : (ranges : List VersionRange) → list_all has_start ranges ≡ true → list_all keeps_meaning ranges ≡ true
     → (flag : PreRelease) (v : Version) → tree_means_with flag (alternatives (reread_set ranges)) v ≡ tree_means_with flag (alternatives ranges) v
 reread_set_means ranges h k flag v = kept_means Normal (shortest_tree ranges) flag v ∙ tree_form_means ranges h k flag v
 
 -- ---- no range is dropped
 
--- the comparators are read back with an end at 0.0.0 exactly where the given one is
+-- the comparators parse back with an end at 0.0.0 exactly if the given one is
 abbrev EndsAs : RangeBound → List Comparator → Type 0
 EndsAs end cs = ends_at_zero (kept_range cs).end ≡ ends_at_zero end
 
@@ -98,12 +98,12 @@ forms_kept (range ∷ ranges) h = go (not (ends_at_zero (reread range).end)) (re
     go true e later = ap (λ (rest : List VersionRange). reread range ∷ rest) later
     go false e later = cc e
 
--- of kept ranges each is read back, in order
+-- each of the kept ranges parses back, in order
 pub set_reread : (ranges : List VersionRange) → list_all is_kept ranges ≡ true → reread_set ranges ≡ map reread ranges
 set_reread [] h = refl
 set_reread (range ∷ ranges) h = forms_kept (range ∷ ranges) h
 
--- ---- settling
+-- ---- reaching a fixed point
 
 rereads_kept : (ranges : List VersionRange) → list_all is_kept ranges ≡ true → list_all is_kept (map reread ranges) ≡ true
 rereads_kept [] h = refl
@@ -117,13 +117,13 @@ twice (range ∷ ranges) h = ap₂ (λ (r : VersionRange) (rest : List VersionRa
     (settled_reread (reread range) (reread_settled range (and_first (has_start range) _ (and_first _ _ h))))
     (twice ranges (and_second (is_kept range) _ h))
 
--- what a kept set is read back as is read back as itself
+-- what a kept set parses back to parses back to itself
 pub set_settles : (ranges : List VersionRange) → list_all is_kept ranges ≡ true → reread_set (reread_set ranges) ≡ reread_set ranges
 set_settles ranges h =
     let once = set_reread ranges h in
     ap reread_set once ∙ set_reread (map reread ranges) (rereads_kept ranges h) ∙ twice ranges h ∙ sym once
 
--- ---- ranges that are settled as they were read
+-- ---- ranges that are stable as parsed
 
 no_build : (v : Version) → (length v.build == 0) ≡ true → v.build ≡ []
 no_build v h = nil_from_length v.build (same_number _ _ h)
@@ -167,7 +167,7 @@ orderly_bounds (bound.Version s) bound.Unbounded h built below k = no_end (no_bu
 orderly_bounds (bound.Version s) (bound.Version e) h built below k =
     orderly_between s.kind e.kind s.version e.version (no_build s.version (and_first _ _ built)) (no_build e.version (and_second (has_no_build (bound.Version s)) _ built)) below k
 
--- a range without builds that starts below its end is settled, under the premise
+-- a range without builds that starts below its end is stable, under the premise
 pub orderly_settled : (range : VersionRange) → has_start range ≡ true → is_orderly range ≡ true → keeps_meaning range ≡ true → IsSettled range
 orderly_settled range h orderly k = orderly_bounds range.start range.end h (and_first _ _ orderly) (and_second (has_no_build range.start && has_no_build range.end) _ orderly) k
 
@@ -177,6 +177,6 @@ orderly_twice (range ∷ ranges) h orderly k = ap₂ (λ (r : VersionRange) (res
     (settled_reread range (orderly_settled range (and_first (has_start range) _ (and_first _ _ h)) (and_first _ _ orderly) (and_first _ _ k)))
     (orderly_twice ranges (and_second (is_kept range) _ h) (and_second (is_orderly range) _ orderly) (and_second (keeps_meaning range) _ k))
 
--- a kept set of such ranges is read back as itself
+-- a kept set of such ranges parses back to itself
 pub orderly_reread : (ranges : List VersionRange) → list_all is_kept ranges ≡ true → list_all is_orderly ranges ≡ true → list_all keeps_meaning ranges ≡ true → reread_set ranges ≡ ranges
 orderly_reread ranges h orderly k = set_reread ranges h ∙ orderly_twice ranges h orderly k

@@ -1,4 +1,4 @@
--- What the shortest form of a range reads back as.
+-- What the shortest form of a range parses back to.
 use Rattle.std.proofs.Common.{◌≡◌, ◌&&◌, ◌==◌, ◌+◌, ◌<◌, ℕ, List, [], ◌∷◌, true, false, refl, sym, ap, ap₂, ◌∙◌, inl, inr, arith, subst}
 use Rattle.std.proofs.lemmas.Cmp.{nat_cmp_total, tied_itself}
 use Rattle.std.specs.Cmp.{nat_cmp_is}
@@ -74,7 +74,7 @@ short_less s e h = elim (or_cases (is_major s e) _ h) [
 
 -- ---- what is kept of one comparator, or of two
 
--- a comparator that stands for a range which stopping leaves alone
+-- a comparator whose range stopping leaves unchanged
 alone_kept : (c : Comparator) (range : VersionRange) → comparator_range c ≡ range → clamped everything range ≡ range → kept_range (c ∷ []) ≡ range
 alone_kept (Tilde p) range own same = ap (λ (r : VersionRange). clamped everything r) own ∙ same
 alone_kept (Caret p) range own same = ap (λ (r : VersionRange). clamped everything r) own ∙ same
@@ -101,7 +101,7 @@ pub end_kept : (l : VersionBoundKind) (e : Version) → kept_range (ending l e �
 end_kept kind.Inclusive e = refl
 end_kept kind.Exclusive e = refl
 
--- the greater of the start and 0.0.0, stopped at the end
+-- the higher of the start and 0.0.0, stopped at the end
 abbrev pub of_both : VersionBoundKind → VersionBoundKind → Version → Version → VersionRange
 of_both k l s e = stopped (greater_of (precedence_cmp s (release 0 0 0)) k (bound_at k s) (from (release 0 0 0))) (bound_at l e)
 
@@ -111,7 +111,7 @@ both_kept kind.Inclusive kind.Exclusive s e = refl
 both_kept kind.Exclusive kind.Inclusive s e = refl
 both_kept kind.Exclusive kind.Exclusive s e = refl
 
--- ---- a range whose form is read back is of some kind
+-- ---- a range whose form parses back is of some kind
 
 tied_settled : (j l : VersionBoundKind) (t e : Version) → e.build ≡ [] → t ≡ e → IsSettled (between (of_tied j (bound_at j t) (bound_at l e)) (bound_at l e))
 tied_settled kind.Exclusive l t e built same = subst (λ (x : Version). IsSettled (between (bound_at kind.Exclusive x) (bound_at l e))) (sym same) (empty_at_end built)
@@ -136,7 +136,7 @@ both_settled k l s e no_build built = go k (precedence_cmp s (release 0 0 0)) re
     go kind.Exclusive Equal tie = stopped_settled kind.Exclusive l s e no_build built (rw tie refl)
     go k Greater above = stopped_settled k l s e no_build built (rw above refl)
 
--- the comparators are read back as a range of some kind
+-- the comparators parse back to a range of some kind
 abbrev Settles : List Comparator → Type 0
 Settles cs = IsSettled (kept_range cs)
 
@@ -166,17 +166,17 @@ bounds_settle bound.Unbounded (bound.Version e) h = cc h
 bounds_settle (bound.Version s) bound.Unbounded h = settles_by (starting s.kind s.version ∷ []) (start_kept s.kind s.version) (no_end refl)
 bounds_settle (bound.Version s) (bound.Version e) h = between_settles s.kind e.kind s.version e.version
 
--- what a range is read back as is of some kind
+-- what a range parses back to is of some kind
 pub reread_settled : (range : VersionRange) → has_start range ≡ true → IsSettled (reread range)
 reread_settled range h = bounds_settle range.start range.end h
 
--- ---- a range of some kind is its own reread
+-- ---- a range of some kind parses back to itself
 
--- the comparators are read back as the range
+-- the comparators parse back to the range
 abbrev pub Reads : VersionRange → List Comparator → Type 0
 Reads range cs = kept_range cs ≡ range
 
--- a start that isn't below 0.0.0 is the greater
+-- a start that isn't below 0.0.0 is the higher
 greater_start : (k : VersionBoundKind) (s : Version) → s.build ≡ [] → is_ge (precedence_cmp s (release 0 0 0)) ≡ true
     → greater_of (precedence_cmp s (release 0 0 0)) k (bound_at k s) (from (release 0 0 0)) ≡ bound_at k s
 greater_start k s no_build above = go k (precedence_cmp s (release 0 0 0)) refl above
@@ -253,7 +253,7 @@ empty_reread l e built =
     ∙ ap (λ (x : Version). of_both kind.Exclusive l x x) (unbuilt_same e built)
     ∙ empty_stopped l e
 
--- a range of some kind is what it is read back as
+-- a range of some kind is what it parses back to
 pub settled_reread : (range : VersionRange) → IsSettled range → reread range ≡ range
 settled_reread range all = refl
 settled_reread range (no_end {k} {s} no_build) = start_reread k s no_build

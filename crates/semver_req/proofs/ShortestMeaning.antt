@@ -1,4 +1,4 @@
--- The shortest form of a range means what the range means.
+-- The shortest form of a range matches what the range matches.
 use Rattle.std.proofs.Common.{◌≡◌, ◌&&◌, ◌||◌, ◌==◌, ◌+◌, ◌<◌, ℕ, List, [], ◌∷◌, length, Bool, true, false, map, not, refl, sym, ap, ap₂, ◌∙◌, inl, inr, arith}
 use Rattle.std.proofs.lemmas.Bool.Decides.{nat_tests}
 use Rattle.std.proofs.lemmas.Cmp.{ranked}
@@ -27,7 +27,7 @@ use Rattle.semver_base.proofs.PlainVersions.{plain_is, same_number}
 use Rattle.semver_req.specs.Rereading.{has_own_form, is_pre_of_zero, keeps_meaning, keeps_start}
 use Rattle.semver_req.proofs.Starts.{has_start, starts_or_is_open}
 
--- the comparators mean what the range means
+-- the comparators match what the range matches
 abbrev Means : List Comparator → VersionRange → Type 0
 Means comparators range = (flag : PreRelease) (v : Version) → alternative_means_with flag (map comparator_range comparators) v ≡ alternative_means_with flag (range ∷ []) v
 
@@ -66,7 +66,7 @@ release_le : (pre : List (List ℕ)) (zeros : Bool) → (not (length pre == 0) &
 release_le [] zeros h k = refl
 release_le (x ∷ xs) zeros h k = let none : true ≡ false = rw (some_length x xs, k) at h in cc none
 
--- a version that is no pre-release of 0.0.0 isn't below it
+-- a version that isn't a pre-release of 0.0.0 isn't below it
 pub zero_le : (s : Version) → is_pre_of_zero s ≡ false → is_le (precedence_cmp (release 0 0 0) s) ≡ true
 zero_le s h =
     le_then _ _ (zero_le_number s.major) (λ major.
@@ -79,7 +79,7 @@ ge_turned Less x y e h = rw (turned precedence_total x y Less e) refl
 ge_turned Equal x y e h = rw (turned precedence_total x y Equal e) refl
 ge_turned Greater x y e h = cc h
 
--- what a start holds that isn't below 0.0.0, 0.0.0 as a start holds
+-- what a start that isn't below 0.0.0 includes, 0.0.0 as a start includes
 held_from_zero : (k : VersionBoundKind) (s v : Version) → is_pre_of_zero s ≡ false → is_above k (precedence_cmp v s) ≡ true → is_ge (precedence_cmp v (release 0 0 0)) ≡ true
 held_from_zero k s v low h = ge_turned _ (release 0 0 0) v refl
     (le_le precedence_total (release 0 0 0) s v (zero_le s low) (le_turned precedence_total v s (above_ge k (precedence_cmp v s) h)))
@@ -109,7 +109,7 @@ end_means : (k : VersionBoundKind) (s e : Version) → is_plain s 0 0 0 ≡ true
 end_means kind.Inclusive s e h flag v = ap (λ (start : Version). alternative_means_with flag (between (from start) (up_to e) ∷ []) v) (sym (plain_is s 0 0 0 h))
 end_means kind.Exclusive s e h flag v = ap (λ (start : Version). alternative_means_with flag (between (from start) (to_below e) ∷ []) v) (sym (plain_is s 0 0 0 h))
 
--- a comparator that stands for the range itself
+-- a comparator with the range itself
 alone_means : (c : Comparator) (range : VersionRange) → comparator_range c ≡ range → Means (c ∷ []) range
 alone_means c range same flag v = ap (λ (r : VersionRange). alternative_means_with flag (r ∷ []) v) same
 
@@ -163,7 +163,7 @@ short_by_caret_patch s e h = or_second (is_major s e) _ (or_second (is_tilde s e
 short_by_caret_major : (s e : Version) → is_caret_major s e ≡ true → has_short_form s e ≡ true
 short_by_caret_major s e h = or_second (is_major s e) _ (or_second (is_tilde s e) _ (or_second (is_caret_patch s e) _ h))
 
--- the comparators from s to below e: one that stands for the range itself, or those of the last two lines
+-- the comparators from s to below e: one with the range itself, or those of the last two lines
 pub by_form : (P : List Comparator → Type 0) (s e : Version)
     → (has_short_form s e ≡ true → (c : Comparator) → comparator_range c ≡ between (from s) (to_below e) → P (c ∷ []))
     → (has_short_form s e ≡ false → P (if is_plain s 0 0 0 then ending kind.Exclusive e ∷ [] else starting kind.Inclusive s ∷ ending kind.Exclusive e ∷ []))
@@ -223,7 +223,7 @@ bounds_mean bound.Unbounded (bound.Version e) h k flag v = cc h
 bounds_mean (bound.Version s) bound.Unbounded h k flag v = start_means s.kind s.version flag v
 bounds_mean (bound.Version s) (bound.Version e) h k flag v = between_means s.kind e.kind s.version e.version k flag v
 
--- the shortest form of a range means what the range means
+-- the shortest form of a range matches what the range matches
 pub shortest_means : (range : VersionRange) → has_start range ≡ true → keeps_meaning range ≡ true
     → (flag : PreRelease) (v : Version) → alternative_means_with flag (map comparator_range (shortest range)) v ≡ alternative_means_with flag (range ∷ []) v
 shortest_means range h k flag v = bounds_mean range.start range.end h k flag v

@@ -1,4 +1,4 @@
--- The longest strict front of a text that the normalized grammar takes fits where that does.
+-- The longest strict prefix of a text that the normalized grammar matches fits if that does.
 use Rattle.std.proofs.Common.{◌≡◌, ◌+◌, ℕ, true, List, [], ◌∷◌, ◌++◌, refl, ◌∙◌}
 use Rattle.std.proofs.lemmas.Bool.{and_parts}
 use Rattle.semver_base.specs.Comparators.{Comparator, Plain, Tilde, comparator_line}
@@ -12,7 +12,7 @@ use Rattle.semver_req.proofs.SpecifierFronts.{IsCut, IsCutOf, all_same, major_cu
 abbrev partial : XRange → XRange → XRange → List (List ℕ) → List (List ℕ) → Partial
 partial major minor patch pre build = record { major = major; minor = minor; patch = patch; pre = pre; build = build }
 
--- what fits doesn't look at the pre-release and the build
+-- what fits doesn't depend on the pre-release and the build
 plain_same : (m n p : XRange) (a b c d : List (List ℕ)) → fits (Plain (partial m n p a b)) ≡ fits (Plain (partial m n p c d))
 plain_same Wildcard n p a b c d = refl
 plain_same (Val m) Wildcard p a b c d = refl
@@ -41,7 +41,7 @@ module _ (make : Partial → Comparator) (numbers_are : (p : Partial) → compar
 abbrev Numbers : XRange → XRange → XRange → List ℕ
 Numbers m n p = component_numbers m ++ component_numbers n ++ component_numbers p
 
--- cut after a `0`, a plain partial version fits where it did
+-- cut after a `0`, a plain partial version fits if it did
 plain_cut_fits : (m n p x y z : XRange) (a b c d : List (List ℕ)) → IsCutOf m n p x y z → fits (Plain (partial m n p a b)) ≡ true → fits (Plain (partial x y z c d)) ≡ true
 plain_cut_fits m n p x y z a b c d all_same h = plain_same m n p c d a b ∙ h
 plain_cut_fits m n p x y z a b c d major_cut h = refl

@@ -1,4 +1,4 @@
--- The longest strict partial version at the front of a text that begins with a normalized one.
+-- The longest strict partial version that leads a text with a leading normalized one.
 use Rattle.std.proofs.Common.{◌≡◌, ◌≤◌, ◌+◌, ℕ, Bool, true, false, List, [], ◌∷◌, ◌++◌, length, Option, Some, None, refl, sym, ap, subst, ◌∙◌, arith, inl, inr, append-nil, append_assoc, length-append, ◌==◌}
 use Rattle.std.specs.Prelude.{slice_index}
 use Rattle.std.specs.Char.{is_ascii_digit}
@@ -22,7 +22,7 @@ use Rattle.semver_base.proofs.Qualifiers.{strict_no_digit}
 use Rattle.semver_req.proofs.Components.{component_goes, component_number, component_wildcard, wildcard_no_digit}
 use Rattle.semver_req.proofs.Partials.{component_dot_apart}
 
--- ---- fronts of which only the length is known to be the greatest
+-- ---- prefixes that are only known to have the greatest length
 
 record Longest {V : Type 0} (R : List ℕ → V → Type 0) (text : List ℕ) (v : V) (rest : List ℕ) : Type 0 where
   front : List ℕ
@@ -30,7 +30,7 @@ record Longest {V : Type 0} (R : List ℕ → V → Type 0) (text : List ℕ) (v
   stands : R front v
   longest : (a b : List ℕ) (w : V) → text ≡ a ++ b → R a w → length a ≤ length front
 
--- the longest text of A, and then the longest text of C, which may be nothing
+-- the longest text of A, and then the longest text of C, which may be empty
 module _ {V W : Type 0} {A : List ℕ → V → Type 0} {C : List ℕ → W → Type 0} (apart : Apart A C) (none : W) (empty : C [] none) where
   joined_front : (a c : List ℕ) (v : V) (w : W) → A a v → C c w → Followed A C (a ++ c) (v, w)
   joined_front a c v w h k = record { first = a; second = c; text_is = refl; in_first = h; in_second = k; seam = tt }
@@ -75,7 +75,7 @@ module _ {V W : Type 0} {A : List ℕ → V → Type 0} {C : List ℕ → W → 
 
 -- ---- a part that a dot begins
 
--- a text that begins with no dot has none
+-- a text that doesn't begin with a dot has none
 no_dot : {V : Type 0} {D : List ℕ → V → Type 0} {text rest : List ℕ} (o : Option V) → ((more : List ℕ) → text ≡ 46 ∷ more → ⊥) → Longest (Optional (Prefixed 46 D)) text o rest → o ≡ None
 no_dot None other h = refl
 no_dot {D = D} {text} {rest} (Some v) other h = absurd (go h.front h.text_is h.stands)
@@ -89,7 +89,7 @@ record AfterDot {V : Type 0} (D : List ℕ → V → Type 0) (text : List ℕ) (
   is : o ≡ Some value
   longest : Longest D text value rest
 
--- a part stands there where a text of it does
+-- a part is found where a text of it is
 dot : {V : Type 0} {D : List ℕ → V → Type 0} {text rest : List ℕ} (o : Option V) (a b : List ℕ) (w : V) → text ≡ a ++ b → D a w → Longest (Optional (Prefixed 46 D)) (46 ∷ text) o rest → AfterDot D text o rest
 dot {text = text} None a b w e k h =
     let long = h.longest (46 ∷ a) b (Some w) (ap (λ t. 46 ∷ t) e) (refl, k) in
@@ -139,7 +139,7 @@ number_front x a rest n h stops other =
       longest = λ b c w e k. let best = p.longest b c w e k.digits in (omega (arith, best.0, size), λ s. best.1 (s ∙ sym size));
     })
 
--- a `0` alone is, and of any other number that begins with it the `0` is cut off
+-- a `0` alone is, and of any other number that begins with it the `0` is split off
 zero_front : (a rest : List ℕ) (n : ℕ) → IsLooseNumber (48 ∷ a) n → IsCutComponent (Val n) rest (48 ∷ (a ++ rest))
 zero_front [] rest n h =
     let zero : n ≡ 0 = h.is ∙ ap (digits_value 10) h.stands.is in
@@ -192,7 +192,7 @@ module _ {text middle rest : List ℕ} {x : XRange} (v : XRange × Qualifier) (h
     | longer y more e f ↦ absurd (omega (arith, (p.longest h.stands.first (h.stands.second ++ rest) v.0 third_whole h.stands.in_first).0, ap length e, length-append p.front (y ∷ more)))
   ]
 
--- ---- the numbers of a partial version, and those of its longest strict front
+-- ---- the numbers of a partial version, and those of its longest strict prefix
 
 -- the same, or cut after the `0` of a number that begins with it
 pub data IsCutOf (major minor patch : XRange) : XRange → XRange → XRange → Type 0 where
@@ -255,7 +255,7 @@ Seconds = Followed (IsComponent Specifier) (Optional (IsThird Specifier))
 second_alone : {text middle : List ℕ} {x : XRange} (p : IsLongest (IsComponent Specifier) text x middle) → Seconds (p.front ++ []) (x, None)
 second_alone p = record { first = p.front; second = []; text_is = refl; in_first = p.stands; in_second = refl; seam = tt }
 
--- what follows a component is no digit
+-- no digit follows a component
 after_component : (s w : List ℕ) (t : Option (XRange × Qualifier)) → Optional (IsThird Normal) s t → IsPast w → Stops is_ascii_digit (s ++ w)
 after_component s w None k past = rw k past.no_digit
 after_component [] w (Some v) k past = absurd k
@@ -295,7 +295,7 @@ module _ (major : XRange) {rest : List ℕ} (w : List ℕ) (past : IsPast w) whe
       let found = component_cut k.first (k.second ++ w) x k.in_first (λ d. after_component k.second w t k.in_second past) in
       second_found (s ++ w) x t k.second k.in_second (subst (IsCutComponent x (k.second ++ w)) (sym (ap (λ t. t ++ w) k.text_is ∙ append_assoc k.first k.second w)) found) o (rw e at h)
 
--- the strict reading of a partial version that the normalized grammar takes
+-- how the strict grammar parses a partial version that the normalized grammar matches
 module _ (w : List ℕ) (past : IsPast w) {rest : List ℕ} where
   first_found : (text : List ℕ) (x : XRange) (t : Option (XRange × Option (XRange × Qualifier))) (s : List ℕ) → Optional (IsSecond Normal) s t → IsCutComponent x (s ++ w) text
       → (v : XRange × Option (XRange × Option (XRange × Qualifier))) → Longest (Followed (IsComponent Specifier) (Optional (IsSecond Specifier))) text v rest → IsCut (partial_of (x, t)) (partial_of v)
@@ -320,7 +320,7 @@ module _ (w : List ℕ) (past : IsPast w) {rest : List ℕ} where
       } in
       rw (m.is, h.stands.is) (first_found (text ++ w) m.value.0 m.value.1 k.second k.in_second (subst (IsCutComponent m.value.0 (k.second ++ w)) (sym same) found) h.stands.value long)
 
--- some strict partial version stands there
+-- the text begins with some strict partial version
 pub record HasSpecifier (text : List ℕ) : Type 0 where
   pub front : List ℕ
   pub rest : List ℕ

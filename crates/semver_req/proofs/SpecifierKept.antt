@@ -1,4 +1,4 @@
--- What is kept of one comparator of the strict reader is the comparator's own range, which is no empty one at 0.0.0.
+-- The strict parser keeps of one comparator the comparator's own range, which isn't an empty one at 0.0.0.
 use Rattle.std.proofs.Common.{◌≡◌, ◌+◌, ℕ, List, [], ◌∷◌, Bool, true, false, refl, ap, ◌∙◌, arith}
 use Rattle.std.proofs.lemmas.Bool.Decides.{nat_tests}
 use Rattle.std.specs.Prelude.{if◌then◌else◌, nat_lt}
@@ -21,7 +21,7 @@ use Rattle.semver_req.specs.Outcome.{IsSpecifierRange}
 use Rattle.semver_req.proofs.Folding.{caret_ends, equal_ends, tilde_ends, upper_ends}
 use Rattle.semver_req.proofs.Settling.{below_major, below_minor, below_patch, less_stays, number_below, version_stays}
 
--- stopping leaves the range alone
+-- stopping leaves the range unchanged
 abbrev Stays : VersionRange → Type 0
 Stays range = clamped everything range ≡ range
 
@@ -69,9 +69,9 @@ equal_stays (Val major) Wildcard patch pre build = below_stays _ _ (next_major m
 equal_stays (Val major) (Val minor) Wildcard pre build = below_stays _ _ (below_minor (release major minor 0))
 equal_stays (Val major) (Val minor) (Val patch) pre build = version_stays (lowest (partial (Val major) (Val minor) (Val patch) pre build))
 
--- ---- comparators of the strict reader
+-- ---- comparators of the strict parser
 
--- without a primitive kind in front
+-- without a leading comparison operator
 abbrev is_non_primitive : Comparator → Bool
 is_non_primitive (OfPrimitive primitive_kind p) = false
 is_non_primitive c = true

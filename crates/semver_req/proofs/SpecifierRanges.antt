@@ -1,4 +1,4 @@
--- What the strict reader makes of a text.
+-- What the strict parser makes of a text.
 use Rattle.std.proofs.Common.{◌≡◌, ◌<◌, ℕ, Bool, true, false, List, [], ◌∷◌, length, Some, None, Result, Ok, Err, refl, sym, ap, ◌∙◌, arith, inl, inr, ◌==◌}
 use Rattle.std.specs.Prelude.{◌||◌, ◌&&◌, ◌⊎◌, IfErr}
 use Rattle.std.specs.Result.{IsErrAnd}
@@ -33,7 +33,7 @@ use Rattle.semver_req.proofs.OneOutcome.{some_or_none}
 use Rattle.semver_req.proofs.Partials.{partial_begins, partial_some}
 use Rattle.semver_req.proofs.SpecifierKept.{specifier_kept}
 
--- ---- blanks begin with no range of a specifier
+-- ---- whitespace doesn't begin with a range of a specifier
 
 abbrev is_specifier_byte : ℕ → Bool
 is_specifier_byte x = is_component_byte x || ((x == 126) || (x == 94))
@@ -69,7 +69,7 @@ pub blank_of : (text : List ℕ) (refusal : Refusal) (failure : Failure) → (fa
 blank_of text refusal failure (inl e) v b = rw e no_memory_left
 blank_of text refusal failure (inr e) v b = rw e (blank_no_tag v b)
 
--- the text as a tag, where its outcome is what it is as a tag
+-- the text as a tag, if its outcome is what it is as a tag
 tag_reading : {text : List ℕ} {answer : RangeSetOrTag} → ((o : Outcome) → IsTagOr text o → IsSpecifierOutcome text o) → (answer ≡ inner.Tag text) × (is_valid_tag text ≡ true) → IsReading Specifier text answer
 tag_reading {text} to h = record { outcome = Tag text; is_outcome = to (Tag text) (tag h.1); is_read = h.0 }
 
@@ -104,7 +104,7 @@ module _ {text rest : List ℕ} {m : Mark} {p : Partial} (f : FittingFront IsSpe
   fits_by : (b : Bool) → all_fit (comparator_line (comparator_of m p)).sums ≡ b → fits (comparator_of m p) ≡ b
   fits_by b e = and_true _ _ f.numbers_fit ∙ e
 
-  -- some bound is too large, and memory wasn't wanting
+  -- some bound is too large, and it isn't out of memory
   over : (cause : Failure) → IsBoundRefusal (comparator_line (comparator_of m p)).sums cause → (cause ≡ None → ⊥) → all_fit (comparator_line (comparator_of m p)).sums ≡ false
   over cause (inl e) other = absurd (other e)
   over cause (inr h) other = h.1
@@ -135,7 +135,7 @@ pub memory_err : {T : Type 0} (r : Result T Failure) (P : Failure → Type 0) �
 memory_err (Ok x) P h k = tt
 memory_err (Err f) P h k = rw h k
 
--- ---- what refusals say
+-- ---- the outcomes of rejected texts
 
 pub refusal_outcome : {text : List ℕ} {failure : Failure} → IsSpecifierRefusal text failure → (failure ≡ None) ⊎ IsSpecifierOutcome text Refused
 refusal_outcome memory_wanting = inl refl

@@ -1,4 +1,4 @@
--- No tag of the strict reader is in the normalized grammar.
+-- No tag of the strict parser is in the normalized grammar.
 use Rattle.std.proofs.Common.{◌≡◌, ℕ, true, false, List, [], ◌∷◌, ◌++◌, length, refl, sym, ap, ◌∙◌, inl, inr, arith, append-nil}
 use Rattle.std.specs.Prelude.{not}
 use Rattle.std.specs.Char.{is_whitespace}
@@ -24,7 +24,7 @@ use Rattle.semver_req.proofs.PrimitiveKindsNoTag.{are_tag_characters, first_care
 use Rattle.semver_req.proofs.SpecifierFits.{plain_fits, tilde_fits}
 use Rattle.semver_req.proofs.SpecifierFronts.{IsPast, plain_cut, plain_has_specifier}
 
--- the text is a comparator, and nothing or a blank follows it
+-- the text is a comparator, and nothing or whitespace follows it
 record BeginsByComparator (text : List ℕ) (c : Comparator) : Type 0 where
   first : List ℕ
   rest : List ℕ
@@ -47,7 +47,7 @@ begins text c cs (last_item h) = record { first = text; rest = []; text_is = sym
 begins text c cs (closed_item {a} {s} h k) = record { first = a; rest = s; text_is = refl; stands = h; past = rw append-nil at (blank_past s [] k) }
 begins text c cs (more_items {a} {s} {b} h k t) = record { first = a; rest = s ++ b; text_is = refl; stands = h; past = blank_past s b k }
 
--- ---- the strict fronts of such a text
+-- ---- the strict prefixes of such a text
 
 plain_longest : {text after : List ℕ} {c : Comparator} (q : Partial) (h : IsLongest IsSpecifierRange text c after) → c ≡ Plain q → IsPlainPartial Specifier h.front q → IsLongest (IsPlainPartial Specifier) text q after
 plain_longest q h is k = record {
@@ -59,7 +59,7 @@ plain_longest q h is k = record {
       (best.0, λ s. let same : Plain u ≡ Plain q = best.1 s ∙ is in cc same);
 }
 
--- the strict front of a text after a tilde
+-- the strict prefix of a text after a tilde
 tilde_longest : {text after : List ℕ} {c : Comparator} (q : Partial) (front : List ℕ) (h : IsLongest IsSpecifierRange (126 ∷ text) c after) → h.front ≡ 126 ∷ front → c ≡ Tilde q → IsPlainPartial Specifier front q → IsLongest (IsPlainPartial Specifier) text q after
 tilde_longest {after = after} q front h f is k = record {
   front = front;
@@ -70,7 +70,7 @@ tilde_longest {after = after} q front h f is k = record {
       (omega (arith, best.0, ap length f), λ s. let same : Tilde u ≡ Tilde q = best.1 (omega (arith, s, ap length f)) ∙ is in cc same);
 }
 
--- what begins with a component begins with no mark
+-- what begins with a component doesn't begin with an operator
 no_mark : (text : List ℕ) (p : Partial) → IsPlainPartial Normal text p → (rest more : List ℕ) (m : ℕ) → text ++ rest ≡ m ∷ more → is_component_byte m ≡ false → ⊥
 no_mark [] p h rest more m e other = (partial_some Normal).some p h
 no_mark (x ∷ text) p h rest more m e other =
@@ -78,9 +78,9 @@ no_mark (x ∷ text) p h rest more m e other =
     let same : true ≡ false = sym ((partial_begins Normal).begins x (record { more = text; value = p; stands = h })) ∙ rw byte other in
     cc same
 
--- ---- such a text is no tag of the strict reader
+-- ---- such a text isn't a tag of the strict parser
 
--- the fact that the front doesn't fit
+-- the prefix that doesn't fit
 no_plain : (text rest after : List ℕ) (p : Partial) (c : Comparator) → IsPlainPartial Normal text p → IsPast rest → fits (Plain p) ≡ true → IsLongest IsSpecifierRange (text ++ rest) c after → fits c ≡ false → ⊥
 no_plain text rest after p c m past fit h misfit = go h.front refl h.stands
   where
@@ -113,7 +113,8 @@ no_tilde text rest after p c m past fit h misfit = go h.front refl h.stands
         let same : false ≡ true = rw (← byte) at begins in
         cc same
 
--- a text that begins with a normalized comparator that fits, and with no primitive kind, has another outcome than a tag
+-- a text that begins with a normalized comparator that fits, and not with a comparison operator, has an outcome other than a
+-- tag
 comparator_no_tag : (text : List ℕ) (c : Comparator) (t : List ℕ) → BeginsByComparator text c → fits c ≡ true → are_tag_characters text ≡ true → IsSpecifierOutcome text (Tag t) → ⊥
 comparator_no_tag text c t b fit characters o = go b.first refl b.stands
   where
@@ -156,7 +157,7 @@ of_tag : (text t : List ℕ) → IsSpecifierOutcome text (Tag t) → is_valid_ta
 of_tag text t (no_front n (tag h)) = h
 of_tag text t (no_fit l f (tag h)) = h
 
--- what the strict reader takes for a tag is in the normalized grammar no comparators that fit
+-- a tag of the strict parser isn't comparators that fit in the normalized grammar
 pub specifier_no_tag : (text t : List ℕ) (cs : List Comparator) → IsGood Normal false text cs → IsSpecifierOutcome text (Tag t) → ⊥
 specifier_no_tag text t [] (inl h) o = let same : false ≡ true = sym nothing_no_tag ∙ rw h.0 at (of_tag text t o) in cc same
 specifier_no_tag text t (c ∷ cs) (inl h) o =

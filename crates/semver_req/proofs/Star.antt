@@ -1,4 +1,4 @@
--- Each reader takes `*` for any version.
+-- Each parser parses `*` to any version.
 use Rattle.std.proofs.Common.{[], ◌∷◌, List, None, refl, sym}
 use Rattle.std.specs.Prelude.{codes}
 use Rattle.semver_base.specs.Comparators.{Plain}
@@ -17,7 +17,7 @@ use Rattle.semver_req.specs.declared.common.values.Flavour.TheVariants.{Npm, Nor
 use Rattle.semver_req.proofs.ComparatorReadings.{comparator_goes, comparator_one}
 use Rattle.semver_req.proofs.WrittenSets.{set_outcome, set_trimmed}
 
--- ---- in npm's grammar and the normalized one it is the normal text of everything
+-- ---- in npm's and the normalized grammar it is the canonical form of everything
 
 abbrev any_set : List VersionRange
 any_set = everything ∷ []

@@ -1,4 +1,4 @@
--- A range that a reader keeps has a start, or no bounds.
+-- A range that a parser keeps has a start, or no bounds.
 use Rattle.std.proofs.Common.{◌≡◌, ◌+◌, List, [], ◌∷◌, Bool, true, false, map, refl}
 use Rattle.std.specs.List.{fold}
 use Rattle.std.specs.Prelude.{if◌then◌else◌, nat_lt}

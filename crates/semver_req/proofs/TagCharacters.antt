@@ -1,4 +1,4 @@
--- No character of a tag is a blank, `|`, `@` or `/`.
+-- No character of a tag is whitespace, `|`, `@` or `/`.
 use Rattle.std.proofs.Common.{◌≡◌, ℕ, Bool, true, false, List, [], ◌∷◌, refl, arith, inl, inr, ◌==◌}
 use Rattle.std.specs.Prelude.{◌⊎◌, ◌||◌, not}
 use Rattle.std.specs.Char.{is_whitespace}
@@ -25,7 +25,7 @@ abbrev is_one_of : ℕ → List ℕ → Bool
 is_one_of c [] = false
 is_one_of c (b ∷ bs) = (c == b) || is_one_of c bs
 
--- the blanks
+-- the whitespace characters
 abbrev blanks : List ℕ
 blanks = 9 ∷ 10 ∷ 11 ∷ 12 ∷ 13 ∷ 32 ∷ 133 ∷ 160 ∷ 5760 ∷ 8192 ∷ 8193 ∷ 8194 ∷ 8195 ∷ 8196 ∷ 8197 ∷ 8198 ∷ 8199 ∷ 8200 ∷ 8201 ∷ 8202 ∷ 8232 ∷ 8233 ∷ 8239 ∷ 8287 ∷ 12288 ∷ []
 

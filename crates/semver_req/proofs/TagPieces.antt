@@ -1,4 +1,4 @@
--- What trimming leaves of a piece at the start of a text that begins with no blank.
+-- What trimming leaves of a piece at the start of a text that doesn't begin with whitespace.
 use Rattle.std.proofs.Common.{◌≡◌, ◌≤◌, ◌<◌, ◌⊎◌, ◌-◌, ℕ, Bool, true, false, List, [], ◌∷◌, ◌++◌, length, get_or, refl, sym, ap, subst, ◌∙◌, inl, inr, arith, length-append, ◌==◌}
 use Rattle.std.specs.Prelude.{◌&&◌, IsUtf8, encode_utf8_all}
 use Rattle.std.specs.Char.{is_not_whitespace, is_whitespace}
@@ -19,7 +19,7 @@ shorter (c ∷ cs) = elim (cases_Bool (is_whitespace c)) [
   | inr other ↦ rw other (omega arith)
 ]
 
--- what a text that begins with no blank begins with
+-- what a text that doesn't begin with whitespace begins with
 front_starts : (cs ds : List ℕ) → skip_leading_whitespace (cs ++ ds) ≡ cs ++ ds → skip_leading_whitespace cs ≡ cs
 front_starts [] ds e = refl
 front_starts (c ∷ cs) ds e = elim (cases_Bool (is_whitespace c)) [
@@ -68,7 +68,7 @@ front_scalars : (cs ds : List ℕ) → all_scalars (cs ++ ds) ≡ true → all_s
 front_scalars [] ds h = refl
 front_scalars (c ∷ cs) ds h = let both = and_parts _ _ h in and_from _ _ both.0 (front_scalars cs ds both.1)
 
--- what is left of a piece that begins with no blank, and the blanks behind it
+-- what is left of a piece that doesn't begin with whitespace, and the whitespace after it
 pub record IsLeft (piece left : List ℕ) : Type 0 where
   pub behind : List ℕ
   pub text_is : piece ≡ left ++ behind
@@ -89,7 +89,7 @@ end_left piece u =
 pub piece_left : (piece : List ℕ) → IsUtf8 piece → trim_start piece ≡ piece → IsLeft piece (trim piece)
 piece_left piece u start = rw start (end_left piece u)
 
--- ---- a text without the blanks at both ends
+-- ---- a text without the whitespace at both ends
 
 skipped_twice : (cs : List ℕ) → skip_leading_whitespace (skip_leading_whitespace cs) ≡ skip_leading_whitespace cs
 skipped_twice [] = refl
@@ -118,7 +118,7 @@ module _ (text : List ℕ) (utf8 : IsUtf8 text) where
 
 -- ---- the only piece of a text
 
--- it is some text, and begins with no blank where the text doesn't
+-- it is some text, and doesn't begin with whitespace if the text doesn't
 pub record IsFirst (piece : List ℕ) : Type 0 where
   pub utf8 : IsUtf8 piece
   pub start : trim_start piece ≡ piece

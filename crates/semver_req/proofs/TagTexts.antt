@@ -1,4 +1,5 @@
--- A valid tag is some text with no `||` and nothing to trim; and what trimming leaves of a text that begins with no blank.
+-- A valid tag is a text without `||` and with nothing to trim; and what trimming leaves of a text that doesn't begin with
+-- whitespace.
 use Rattle.std.proofs.Common.{◌≡◌, ◌<◌, ◌==◌, ℕ, Bool, true, false, List, [], ◌∷◌, length, get_or, refl, sym, ap, ◌∙◌, inl, inr, arith, append-nil}
 use Rattle.std.specs.Prelude.{not, IsUtf8, encode_utf8, encode_utf8_all}
 use Rattle.std.specs.Char.{is_whitespace}
@@ -22,7 +23,7 @@ is_other : (b : Bool) → (b ≡ true → ⊥) → b ≡ false
 is_other true h = absurd (h refl)
 is_other false h = refl
 
--- a character of ASCII that no tag has is none of its bytes
+-- an ASCII character that no tag has isn't one of its bytes
 module _ (b : ℕ) (low : b < 128) (none : is_tag_character b ≡ false) where
   abbrev pub is_other_byte : ℕ → Bool
   is_other_byte d = not (d == b)
@@ -50,7 +51,7 @@ module _ (b : ℕ) (low : b < 128) (none : is_tag_character b ≡ false) where
       let both = and_parts (is_tag_character c) _ h in
       list_all-append is_other_byte (encode_utf8 c) (encode_utf8_all cs) (character_bytes c both.0) (tag_bytes cs both.1)
 
--- ---- the blanks of a tag
+-- ---- a tag has no whitespace
 
 none_skipped : (cs : List ℕ) → list_all is_tag_character cs ≡ true → skip_leading_whitespace cs ≡ cs
 none_skipped [] h = refl
@@ -68,7 +69,7 @@ module _ (text : List ℕ) (utf8 : IsUtf8 text) (valid : is_valid_tag text ≡ t
   characters : list_all is_tag_character (chars text) ≡ true
   characters = (and_parts (not (list_all is_whitespace (chars text))) (are_tag_characters text) valid).1
 
-  -- no byte of a tag is a character of ASCII that no tag has
+  -- no byte of a tag is an ASCII character that no tag has
   pub tag_without : (b : ℕ) → b < 128 → is_tag_character b ≡ false → list_all (λ d. not (d == b)) text ≡ true
   tag_without b low none = rw (encodes-chars text utf8) at (tag_bytes b low none (chars text) characters)
 

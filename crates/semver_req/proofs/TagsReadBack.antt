@@ -1,4 +1,4 @@
--- A tag that a reader made of a text that begins with no blank is what the normalized reader makes of that tag.
+-- If a parser makes a tag of a text that doesn't begin with whitespace, the normalized parser returns the same tag for it.
 use Rattle.std.proofs.Common.{◌≡◌, ◌<◌, ℕ, Bool, true, false, List, [], ◌∷◌, ◌++◌, length, sym, ◌∙◌, arith}
 use Rattle.std.specs.Prelude.{IsUtf8}
 use Rattle.std.specs.Str.{trim, trim_start}
@@ -14,7 +14,7 @@ use Rattle.semver_req.proofs.SpecifierTags.{nothing_no_tag, specifier_no_tag}
 use Rattle.semver_req.proofs.TagPieces.{IsFirst, only_piece, piece_left, trimmed}
 use Rattle.semver_req.proofs.TagTexts.{tag_no_bar, tag_trimmed}
 
--- what the normalized reader makes of a valid tag that is bad as a piece
+-- what the normalized parser makes of a valid tag that is invalid as a piece
 bad_tag : (text : List ℕ) → IsUtf8 text → is_valid_tag text ≡ true → IsBad Normal false text → IsCutOutcome Normal text (Tag text)
 bad_tag text u valid bad =
     let is : IsTagOr (trim text) (Tag text) = rw (tag_trimmed text u valid) (tag valid) in

@@ -1,4 +1,4 @@
--- npm's grammar takes what the normalized one takes, for the same comparators.
+-- npm's grammar matches what the normalized one matches, with the same comparators.
 use Rattle.std.proofs.Common.{ℕ, List, [], ◌∷◌, Option, Some, None, refl, ◌==◌}
 use Rattle.std.specs.Prelude.{◌||◌, codes}
 use Rattle.std.specs.Char.{is_not_whitespace}

@@ -1,4 +1,4 @@
--- Neither a normal text nor a tag holds what separates a requirement from the rest of the text of a package.
+-- Neither a canonical form nor a tag contains what separates a requirement from the rest of the text of a package.
 use Rattle.std.proofs.Common.{◌≡◌, ◌==◌, ℕ, true, refl, arith}
 use Rattle.std.specs.Prelude.{not}
 use Rattle.std.proofs.lemmas.Bool.Decides.{nat_tests}

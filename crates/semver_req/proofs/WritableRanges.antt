@@ -1,5 +1,4 @@
--- The bounds of what is kept of comparators that fit, whose identifiers are those of the grammar, have a text that reads
--- back.
+-- The bounds of what is kept of comparators that fit, whose identifiers match the grammar, have a text that parses back.
 use Rattle.std.proofs.Common.{◌≡◌, ◌<◌, ◌+◌, ℕ, List, [], ◌∷◌, Bool, true, false, map, not, refl, sym, ◌∙◌}
 use Rattle.std.specs.List.{fold, list_all}
 use Rattle.std.proofs.lemmas.Bool.{ltb-true}

@@ -1,4 +1,4 @@
--- What is written of a range: comparators that npm's and the normalized grammar read back as they are.
+-- The text of a range: comparators that parse back unchanged in npm's and the normalized grammar.
 use Rattle.std.proofs.Common.{◌≡◌, ◌<◌, ◌^◌, ◌+◌, ℕ, Bool, true, false, List, [], ◌∷◌, ◌++◌, length, Some, None, refl, sym, ap, ◌∙◌, arith, append-nil, ◌==◌, length-append}
 use Rattle.std.specs.Prelude.{◌&&◌, codes, if◌then◌else◌, nat_lt}
 use Rattle.std.specs.Char.{is_not_whitespace}
@@ -39,7 +39,7 @@ use Rattle.semver_req.proofs.Partials.{partial_some}
 
 -- ---- partial versions
 
--- what is written of the partial version is one of each grammar and stands for it, and its numbers fit
+-- the text of the partial version is one in each grammar and parses to it, and its numbers fit
 pub record IsWrittenPartial (p : Partial) : Type 0 where
   pub reads : (f : Flavour) → IsPlainPartial f (partial_text p) p
   pub fit : all_fit (numbers p) ≡ true
@@ -132,7 +132,7 @@ partial_made = mapped_made (joined_made component_made (optional_made (prefixed_
 
 -- ---- comparators
 
--- what is written of the comparator is one of both grammars and stands for it, with no blank in it, and it fits
+-- the text of the comparator is one in both grammars and parses to it, contains no whitespace, and it fits
 pub record IsWritten (c : Comparator) : Type 0 where
   pub npm : IsComparator Npm (comparator_text c) c
   pub normal : IsComparator Normal (comparator_text c) c
@@ -197,7 +197,7 @@ module _ {p : Partial} (w : IsWrittenPartial p) where
 
 -- ---- the rows of the table
 
--- one or more comparators, each of which is written so
+-- one or more comparators, each with such a text
 pub data AreWritten : List Comparator → Type 0 where
   one : {c : Comparator} → IsWritten c → AreWritten (c ∷ [])
   more : {c d : Comparator} {cs : List Comparator} → IsWritten c → AreWritten (d ∷ cs) → AreWritten (c ∷ d ∷ cs)

@@ -1,5 +1,5 @@
--- What is written of a set of ranges is cut into the texts of its ranges, each of which is read back as its shortest
--- form, by npm's and by the normalized reader.
+-- The text of a set of ranges is split into the texts of its ranges, each of which npm's and the normalized parser parse to
+-- its shortest form.
 use Rattle.std.proofs.Common.{◌≡◌, ◌≤◌, ◌<◌, ℕ, suc, Bool, true, false, List, [], ◌∷◌, ◌++◌, length, map, refl, sym, ap, ◌∙◌, arith, inl, append-nil, append_assoc, length-append, ◌==◌}
 use Rattle.std.specs.Prelude.{codes, if◌then◌else◌, not}
 use Rattle.std.specs.Char.{is_ascii}
@@ -39,7 +39,7 @@ use Rattle.semver_req.proofs.WrittenComparators.{AreWritten, one, more, IsWritte
 pub one_blank : IsSomeBlanks (codes " ") tt
 one_blank = (omega arith, (codes " ", ap (λ t. t ++ []) (encode_ascii 32 (omega arith)), (refl, tt)))
 
--- comparators with a blank between, where the last is followed by end
+-- comparators with a space between them, where end follows the last
 module _ {A : List ℕ → Comparator → Type 0} {S : List ℕ → Unit {0} → Type 0} (blank : S (codes " ") tt) (item : (c : Comparator) → IsWritten c → A (comparator_text c) c) where
   listed_with : (end : List ℕ) → ((c : Comparator) → IsWritten c → Listed A S (comparator_text c ++ end) (c ∷ [])) → (cs : List Comparator) → AreWritten cs → Listed A S (comparators_text cs ++ end) cs
   listed_with end last cs (one {c} h) = rw append-nil (last c h)
@@ -48,7 +48,7 @@ module _ {A : List ℕ → Comparator → Type 0} {S : List ℕ → Unit {0} →
   listed_written : (cs : List Comparator) → AreWritten cs → Listed A S (comparators_text cs) cs
   listed_written cs h = rw append-nil at (listed_with [] (λ c w. rw append-nil (last_item (item c w))) cs h)
 
-  -- the same with one blank behind them
+  -- the same with one space after them
   listed_closed : (cs : List Comparator) → AreWritten cs → Listed A S (comparators_text cs ++ codes " ") cs
   listed_closed cs h = listed_with (codes " ") (λ c w. closed_item (item c w) blank) cs h
 
@@ -65,11 +65,11 @@ piece_of f text cs (one h) k = k
 piece_of f text cs (more h t) k = k
 
 module _ (f : Flavour) (cut : IsCutting f) (r : VersionRange) (h : IsWritableRange r) where
-  -- the text of a range is one piece, which stands for its shortest form
+  -- the text of a range is one piece, which parses to its shortest form
   pub range_piece : IsPiece f (range_text r) (shortest r)
   range_piece = piece_of f _ (shortest r) (shortest_written r h) (filled f cut (shortest r) (shortest_written r h))
 
-  -- the same with one blank behind it
+  -- the same with one space after it
   pub range_piece_closed : IsPiece f (range_text r ++ codes " ") (shortest r)
   range_piece_closed = piece_of f _ (shortest r) (shortest_written r h) (filled_closed f cut (shortest r) (shortest_written r h))
 
@@ -81,7 +81,7 @@ is_no_bar b = not (b == 124)
 solid_no_bar : (b : ℕ) → is_solid_byte b ≡ true → is_no_bar b ≡ true
 solid_no_bar b h = grind (arith, nat_tests)
 
--- a test that passes each such byte and the blank passes each byte of these comparators
+-- a test that passes each such byte and the space passes each byte of these comparators
 comparators_pass : (p : ℕ → Bool) → ((b : ℕ) → is_solid_byte b ≡ true → p b ≡ true) → p 32 ≡ true → (cs : List Comparator) → AreWritten cs → list_all p (comparators_text cs) ≡ true
 comparators_pass p wider blank cs (one {c} h) = rw append-nil (list_all-wider is_solid_byte p wider (comparator_text c) h.solid)
 comparators_pass p wider blank cs (more {c} {d} {cs = ds} h t) = list_all-append p (comparator_text c) _ (list_all-wider is_solid_byte p wider (comparator_text c) h.solid) (and_from (p 32) _ blank (comparators_pass p wider blank (d ∷ ds) t))
@@ -111,7 +111,7 @@ module _ (r : VersionRange) (h : IsWritableRange r) where
   pub range_fits : list_all fits (shortest r) ≡ true
   range_fits = all_comparators_fit (shortest r) (shortest_written r h)
 
--- ---- cuts
+-- ---- splits
 
 bar_there : (a b : List ℕ) → list_all is_no_bar (a ++ (124 ∷ b)) ≡ true → ⊥
 bar_there [] b h = let same_bits : false ≡ true = (and_parts false (list_all is_no_bar b) h).0 in cc same_bits
@@ -146,7 +146,7 @@ one_trimmed text s = record { longest = record { front = codes " "; text_is = re
 
 -- ---- sets
 
--- the text, with a blank behind it where more ranges follow
+-- the text, with a space after it if more ranges follow
 abbrev pub closed_before : List VersionRange → List ℕ → List ℕ
 closed_before [] text = text
 closed_before (r ∷ others) text = text ++ codes " "
@@ -195,7 +195,7 @@ many_outcome : (f : Flavour) → IsCutting f → (r q : VersionRange) (others : 
 many_outcome f npm r q others h = npm_many (first_cut (range_cut r q others h.0) (more_pieces q others h.1)) (good_ones Npm npm true (r ∷ q ∷ others) h)
 many_outcome f normal r q others h = normal_many (first_cut (range_cut r q others h.0) (more_pieces q others h.1)) (good_ones Normal normal true (r ∷ q ∷ others) h) (as_many (r ∷ q ∷ others))
 
--- the text of a set is cut into the shortest forms of its ranges
+-- the text of a set is split into the shortest forms of its ranges
 cut_outcome : (f : Flavour) → IsCutting f → (ranges : List VersionRange) → AreWritableRanges ranges → IsCutOutcome f (set_text ranges) (Ranges (shortest_tree ranges))
 cut_outcome f cut [] h = one_good (one_piece (no_bar (codes "<0.0.0") refl)) (inl (none_piece f cut, all_comparators_fit _ (one none_written)))
 cut_outcome f cut (r ∷ []) h = rw append-nil (one_good (one_piece (no_bar (range_text r) (range_no_bar r h.0))) (inl (range_piece f cut r h.0, range_fits r h.0)))
@@ -203,7 +203,7 @@ cut_outcome f cut (r ∷ q ∷ others) h = many_outcome f cut r q others h
 
 -- ---- nothing of a set's text is trimmed
 
--- a test that passes each byte of comparators, the blank and the bars passes each byte of the text of a set
+-- a test that passes each byte of comparators, the space and the bars passes each byte of the text of a set
 pub set_passes : (p : ℕ → Bool) → ((b : ℕ) → is_solid_byte b ≡ true → p b ≡ true) → p 32 ≡ true → list_all p (codes " || ") ≡ true → (ranges : List VersionRange) → AreWritableRanges ranges → list_all p (set_text ranges) ≡ true
 set_passes p wider blank bars [] h = list_all-wider is_solid_byte p wider (codes "<0.0.0") refl
 set_passes p wider blank bars (r ∷ []) h = rw append-nil (comparators_pass p wider blank (shortest r) (shortest_written r h.0))
@@ -222,7 +222,7 @@ set_ends (r ∷ q ∷ others) h = ends_after (range_text r) _ (ends_after (codes
 pub set_trimmed : (ranges : List VersionRange) → AreWritableRanges ranges → trim (set_text ranges) ≡ set_text ranges
 set_trimmed ranges h = trim_same (set_text ranges) (set_passes is_ascii solid_ascii refl refl ranges h) (set_starts ranges h) (set_ends ranges h)
 
--- the text of a set is read, by npm's and by the normalized reader, as the shortest forms of its ranges
+-- npm's and the normalized parser parse the text of a set to the shortest forms of its ranges
 pub set_outcome : (f : Flavour) → IsCutting f → (ranges : List VersionRange) → AreWritableRanges ranges → IsOutcome f (set_text ranges) (Ranges (shortest_tree ranges))
 set_outcome f npm ranges h = rw (set_trimmed ranges h) (cut_outcome Npm npm ranges h)
 set_outcome f normal ranges h = cut_outcome Normal normal ranges h
