@@ -290,7 +290,7 @@ one_number_fault (later {rest = rest} p h f) (later {rest = other} q k g) =
 one_fault : {text : List ℕ} {a b : Refusal} → IsFirstFault text a → IsFirstFault text b → a ≡ b
 one_fault f g = let same = (one_front f.lead g.lead).1 in one_number_fault (rw same at f.fault_of_rest) g.fault_of_rest
 
--- a text that has a refusal as its outcome has no other outcome
+-- a text whose outcome is an error has no other outcome
 one_refusal : {text : List ℕ} {fault : Refusal} {o : Result Version Refusal} → IsVersionOutcome text (Err fault) → IsVersionOutcome text o → o ≡ Err fault
 one_refusal (is_fault f) (is_version k small) = absurd (version_no_fault k small f)
 one_refusal (is_fault f) (is_fault g) = ap Err (one_fault g f)

@@ -13,7 +13,7 @@ abbrev pub snippet_of : Option (List ℕ × Option (List ℕ)) → Option (List 
 snippet_of None = None
 snippet_of (Some texts) = texts.1
 
--- a refusal's message
+-- the message of a `Refusal`
 abbrev pub refusal_message : Refusal → List ℕ
 refusal_message UnexpectedCharacter = codes "Unexpected character."
 refusal_message EmptyConstraint = codes "Empty version constraint."

@@ -16,7 +16,7 @@ use Rattle.semver_base.specs.declared.version.Version.{Version}
 abbrev pub ignored : Option (Unit {0}) → Unit {0}
 ignored v = tt
 
--- an optional `=`, whitespace, and an optional `v` with whitespace after it
+-- an optional `=`, and an optional `v`, with optional whitespace after each
 abbrev pub IsLead : List ℕ → Unit {0} → Type 0
 IsLead = Mapped ignored (After (Optional (IsByte equals_sign)) (After IsBlanks (Optional (Prefixed letter_v IsBlanks))))
 
@@ -42,8 +42,8 @@ pub record AllNumbersFit (v : Version) : Type 0 where
 abbrev pub LacksDot : List ℕ → Type 0
 LacksDot text = (rest : List ℕ) → text ≡ dot ∷ rest → ⊥
 
--- the first fault of numbers with dots between them, each number as long as possible; missing has the refusal of each dot
--- that has to come
+-- the first fault of numbers with dots between them, each number as long as possible; missing has the error of each dot that
+-- has to come
 pub data IsNumberFault : List Refusal → List ℕ → Refusal → Type 0 where
   too_large : {missing : List Refusal} {text rest : List ℕ} {n : ℕ} → IsLongest IsLooseNumber text n rest → 2 ^ 64 ≤ n
       → IsNumberFault missing text NumberTooLarge
@@ -78,11 +78,11 @@ version_snippet EmptyConstraint text = None
 version_snippet NumberTooLarge text = None
 version_snippet BoundTooLarge text = None
 
--- the failure that reports a refusal
+-- the failure that reports a `Refusal`
 abbrev pub version_failure : Refusal → List ℕ → Option (List ℕ × Option (List ℕ))
 version_failure fault text = Some (refusal_message fault, version_snippet fault text)
 
--- the failure is out of memory, or reports the refusal that is the text's outcome
+-- the failure is out of memory, or reports the error that is the text's outcome
 abbrev pub IsVersionRefusal : List ℕ → Option (List ℕ × Option (List ℕ)) → Type 0
 IsVersionRefusal text failure =
     (failure ≡ None) ⊎ ((fault : Refusal) × IsVersionOutcome text (Err fault) × (failure ≡ version_failure fault text))

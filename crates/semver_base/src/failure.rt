@@ -14,7 +14,7 @@ use std::marker::Model;
 pub enum Refusal {
     /// The text doesn't match the grammar.
     UnexpectedCharacter,
-    /// A version requirement is only whitespace, where that is invalid.
+    /// A version requirement is empty or only whitespace, where that is invalid.
     EmptyConstraint,
     /// No `.` follows the first number of a version.
     MissingMinor,

@@ -41,7 +41,7 @@ pub fn same_lists<T: PartialEq>(one: &CowVec<T>, other: &CowVec<T>) -> bool
     one == other
 }
 
-/// Whether two refusals are the same.
+/// Whether two [`Refusal`]s are the same.
 pub fn same_refusals(one: &Refusal, other: &Refusal) -> bool
     ensures { IsTrue result ↔ (one.now ≡ other.now) }
 {
@@ -118,7 +118,7 @@ pub fn same_range_bounds(one: &RangeBound, other: &RangeBound) -> bool
     one == other
 }
 
-/// Whether two ranges have the same bounds; two with the same versions may have different ones.
+/// Whether two ranges have the same bounds; two that include the same versions may differ.
 pub fn same_ranges(one: &VersionRange, other: &VersionRange) -> bool
     ensures { IsTrue result ↔ (one.now ≡ other.now) }
 {

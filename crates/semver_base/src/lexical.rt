@@ -258,7 +258,7 @@ fn optional_build(alloc: Global, text: &str) -> Result<(CowVec<SmallStackString>
     }
 }
 
-/// Parses an optional pre-release and then an optional build. Always succeeds but for memory, as both may be absent.
+/// Parses an optional pre-release and then an optional build. Fails only out of memory, as both may be absent.
 #[inline(always)]
 pub fn qualifier(
     alloc: Global,

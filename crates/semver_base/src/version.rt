@@ -103,9 +103,9 @@ impl Version {
         }
     }
 
-    /// Parses a version: an optional `=`, whitespace, an optional `v`, whitespace, three numbers with `.` between them, an
-    /// optional pre-release and an optional build, with any whitespace around it all (SemVer 2.0.0, section 2, in
-    /// node-semver's loose form).
+    /// Parses a version: an optional `=` and an optional `v`, each with optional whitespace after it, three numbers with `.`
+    /// between them, an optional pre-release and an optional build, with optional whitespace around it all (SemVer 2.0.0,
+    /// section 2, in node-semver's loose form).
     ///
     /// The leftmost fault decides the error: a number larger than 18446744073709551615, a missing `.` after the first or the
     /// second number, whose snippet is the whole trimmed text, or anything else outside the grammar. Also fails out of
@@ -210,7 +210,7 @@ fn after_optional_equals(text: &str) -> &str
     }
 }
 
-// Skips an optional leading `v` and whitespace after it.
+// Skips an optional leading `v` and any whitespace after it.
 #[inline(always)]
 fn after_v(text: &str) -> &str
     ensures { IsSeen ignored (Optional (Prefixed letter_v IsBlanks)) text.now tt result.now }
@@ -221,7 +221,7 @@ fn after_v(text: &str) -> &str
     }
 }
 
-// Skips the lead: an optional `=`, whitespace, an optional `v` and whitespace.
+// Skips the lead: an optional `=` and an optional `v`, each with optional whitespace after it.
 #[inline(always)]
 fn after_lead(text: &str) -> &str
     ensures { IsLongest IsLead text.now tt result.now }
@@ -305,7 +305,7 @@ fn read_on(
     read(alloc, text.trim())
 }
 
-// Parses a trimmed text.
+// Parses the version of a trimmed text.
 #[inline(never)]
 fn read(alloc: Global, text: &str) -> Result<Version, ParseFailure>
     ensures read { IfOk result (IsReadVersion text.now) }

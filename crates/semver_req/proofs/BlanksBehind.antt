@@ -26,7 +26,7 @@ piece_closed text s [] some b h = absurd (omega (arith, some, ap length h))
 piece_closed text [] (c ∷ cs) some b h = rw append-nil h
 piece_closed text (x ∷ s) (c ∷ cs) some b h = closed (IsComparator Normal) text (x ∷ s) (c ∷ cs) h (omega arith, b)
 
--- so if the longer piece is invalid, the shorter one isn't in the normalized grammar
+-- so if the longer piece is invalid, the shorter one isn't valid in the normalized grammar
 pub bad_before : (f : Flavour) (followed : Bool) → IsCutting f → (text s : List ℕ) → 0 < length text → IsBlanks s tt → IsBad f followed (text ++ s) → IsBad Normal false text
 bad_before Npm followed npm text s some b h cs (inl k) = h cs (inl (pieces_wider (text ++ s) cs (piece_closed text s cs some b k.0), k.1))
 bad_before Normal followed normal text s some b h cs (inl k) = h cs (inl (piece_closed text s cs some b k.0, k.1))

@@ -20,7 +20,7 @@ use Rattle.semver_req.proofs.Components.{is_component_byte}
 use Rattle.semver_req.proofs.Partials.{no_v, partial_begins, partial_some}
 use Rattle.semver_req.proofs.PrimitiveKinds.{blanks_apart}
 
--- after the whitespace: a `v`, whitespace and a partial version, which may have its own `v`, or a plain one
+-- after the whitespace: a `v`, optional whitespace and a partial version, which may have its own `v`, or a plain one
 abbrev pub IsAfterBlanks : List ℕ → Partial → Type 0
 IsAfterBlanks = Either (Prefixed 118 (After IsBlanks (IsPartial Npm))) (IsPlainPartial Npm)
 
@@ -76,7 +76,7 @@ led_longest {p = p} h = narrowed IsLed led_to h (led_from h.front p h.stands)
 pub led_none : {text : List ℕ} → HasNone IsOrderedLed text → HasNone IsLed text
 led_none h = narrowed_none IsLed led_to h
 
--- ---- how it is parsed: any number of `=`, whitespace, and then by whether a `v` follows
+-- ---- how it is parsed: any number of `=`, optional whitespace, and then by whether a `v` follows
 
 abbrev is_after_byte : ℕ → Bool
 is_after_byte x = (x == 118) || is_component_byte x

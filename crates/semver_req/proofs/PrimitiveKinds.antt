@@ -48,7 +48,7 @@ primitive_kind_some Equal = omega arith
 pub primitive_kind_goes : GoesBy IsPrimitiveKind (λ x. x == 61)
 primitive_kind_goes = record { goes = λ x o. second_byte x o.front o.more o.long_value (let size : length o.front ≡ length (primitive_kind_text o.short_value) = ap length o.short in omega (arith, primitive_kind_some o.short_value)) o.long }
 
--- ---- a comparison operator, whitespace and a partial version
+-- ---- a comparison operator, optional whitespace and a partial version
 
 abbrev pub is_partial_byte : ℕ → Bool
 is_partial_byte x = is_component_byte x || (x == 118)

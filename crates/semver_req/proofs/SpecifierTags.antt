@@ -80,7 +80,7 @@ no_mark (x ∷ text) p h rest more m e other =
 
 -- ---- such a text isn't a tag of the strict parser
 
--- the prefix that doesn't fit
+-- the prefix doesn't fit
 no_plain : (text rest after : List ℕ) (p : Partial) (c : Comparator) → IsPlainPartial Normal text p → IsPast rest → fits (Plain p) ≡ true → IsLongest IsSpecifierRange (text ++ rest) c after → fits c ≡ false → ⊥
 no_plain text rest after p c m past fit h misfit = go h.front refl h.stands
   where

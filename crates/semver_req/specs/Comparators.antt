@@ -28,7 +28,7 @@ IsMaybeEqual text alone with_equal kind rest =
     ((kind ≡ with_equal) × (text ≡ equals_sign ∷ rest))
     ⊎ ((kind ≡ alone) × (rest ≡ text) × ((more : List ℕ) → text ≡ equals_sign ∷ more → ⊥))
 
--- a comparison operator, whitespace and a partial version
+-- a comparison operator, optional whitespace and a partial version
 abbrev pub IsPrimitive : Flavour → List ℕ → PrimitiveKind × Partial → Type 0
 IsPrimitive f = Followed IsPrimitiveKind (After IsBlanks (IsPartial f))
 
@@ -48,7 +48,8 @@ pub data IsEquals : List ℕ → Unit {0} → Type 0 where
   no_more : IsEquals [] tt
   one_more : {rest : List ℕ} → IsEquals rest tt → IsEquals (equals_sign ∷ rest) tt
 
--- what npm's grammar allows before the partial of a tilde or caret: any number of `=`, whitespace, a `v`, whitespace
+-- what npm's grammar allows before the partial of a tilde or caret: any number of `=` and an optional `v`, with optional
+-- whitespace after each
 abbrev pub IsLed : List ℕ → Partial → Type 0
 IsLed = After IsEquals (After IsBlanks (After (Optional (IsByte letter_v)) (After IsBlanks (IsPartial Npm))))
 
@@ -62,7 +63,7 @@ IsNpmTilde = Mapped Tilde (After IsIgnored (After (Either (IsText (codes "~>")) 
 abbrev pub IsNpmCaret : List ℕ → Comparator → Type 0
 IsNpmCaret = Mapped Caret (After IsIgnored (Prefixed caret_sign IsLed))
 
--- a comparison operator, whitespace and a partial
+-- a comparison operator, optional whitespace and a partial
 abbrev pub IsOfPrimitive : Flavour → List ℕ → Comparator → Type 0
 IsOfPrimitive f = Mapped of_primitive (IsPrimitive f)
 

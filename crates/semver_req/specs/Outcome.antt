@@ -70,8 +70,8 @@ pub data IsCutOutcome : Flavour → List ℕ → Outcome → Type 0 where
 abbrev pub IsSpecifierRange : List ℕ → Comparator → Type 0
 IsSpecifierRange = IsComparator Specifier
 
--- the longest prefix that is a range of a specifier, if it fits, has to be the whole text; without such a prefix, or if
--- something in it doesn't fit, the whole text is a tag or rejected
+-- if the longest prefix that is a range of a specifier fits, it is the whole text or the text is rejected; without such a
+-- prefix, or if something in it doesn't fit, the whole text is a tag or rejected
 pub data IsSpecifierOutcome : List ℕ → Outcome → Type 0 where
   whole : {text : List ℕ} {c : Comparator} → IsLongest IsSpecifierRange text c [] → fits c ≡ true
       → IsSpecifierOutcome text (Ranges ((c ∷ []) ∷ []))

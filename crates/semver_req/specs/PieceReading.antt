@@ -69,7 +69,7 @@ pub data IsFirstBad (f : Flavour) : Bool → List (List ℕ) → Refusal → Typ
   later_bad : {b : Bool} {piece : List ℕ} {pieces : List (List ℕ)} {refusal : Refusal} (cs : List Comparator)
       → IsGood f b piece cs → IsFirstBad f false pieces refusal → IsFirstBad f b (piece ∷ pieces) refusal
 
--- the failure that reports a refusal, without a snippet
+-- the failure that reports a `Refusal`, without a snippet
 abbrev pub refusal_failure : Refusal → Failure
 refusal_failure refusal = Some (refusal_message refusal, None)
 

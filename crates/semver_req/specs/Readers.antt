@@ -37,7 +37,8 @@ IsAnswer source f (Ranges tree) result =
 IsAnswer source f (Tag text) result = MatchResult result (λ req. IsRead f (Tag text) req.inner) (λ e. source e ≡ None)
 IsAnswer source f Refused result = IsErr result
 
--- the result matches what every tree of the text in the grammar matches, with or without npm's rule about pre-releases
+-- for every tree of the text in the grammar, the result matches what the tree matches, with or without npm's rule about
+-- pre-releases
 abbrev pub MeansTrees : Flavour → List ℕ → RangeSetOrTag → Type 0
 MeansTrees f text answer = (tree : List (List Comparator)) → IsOutcome f text (Ranges tree)
     → (flag : PreRelease) (v : Version) → inner_means_with flag answer v ≡ tree_means_with flag (tree_ranges tree) v

@@ -166,7 +166,8 @@ pub record ReadRangesAreWritable : Type 0 where
 
 -- ---- tags
 
--- the normalized parser returns the same tag for a tag that some parser returned; its own text must not begin with whitespace
+-- the normalized parser returns the same tag for a tag that some parser returned; if that was the normalized parser, of a
+-- text that doesn't begin with whitespace
 abbrev pub TagsReadBack : Type 0
 TagsReadBack =
     (f : Flavour) (text t : List ℕ) → IsUtf8 text → StartsFit f text → IsOutcome f text (Tag t)

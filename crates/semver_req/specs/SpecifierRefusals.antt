@@ -21,7 +21,7 @@ unexpected_character = Some (refusal_message UnexpectedCharacter, None)
 abbrev pub number_too_large : Failure
 number_too_large = Some (refusal_message NumberTooLarge, None)
 
--- the failure of a text that isn't a tag: out of memory, or that it is blank, or else the given refusal
+-- the failure of a text that isn't a tag: out of memory, that it is empty or only whitespace, or else the given `Refusal`
 pub data IsNoTag (text : List ℕ) (refusal : Refusal) : Failure → Type 0 where
   no_memory_left : IsNoTag text refusal None
   blank_no_tag : is_valid_tag text ≡ false → IsBlanks text tt → IsNoTag text refusal empty_constraint
@@ -34,10 +34,10 @@ pub data IsSpecifierRefusal (text : List ℕ) : Failure → Type 0 where
   -- something follows a range of a specifier that fits
   something_follows : {rest : List ℕ} {c : Comparator} → IsLongest IsSpecifierRange text c rest → fits c ≡ true
       → 0 < length rest → IsSpecifierRefusal text unexpected_character
-  -- the text isn't a tag, and is blank
+  -- the text isn't a tag, and is empty or only whitespace
   blank_text : HasNone IsSpecifierRange text → is_valid_tag text ≡ false → IsBlanks text tt
       → IsSpecifierRefusal text empty_constraint
-  -- it isn't a tag, isn't blank, and doesn't begin with a range of a specifier
+  -- it isn't a tag, isn't only whitespace, and doesn't begin with a range of a specifier
   no_range : HasNone IsSpecifierRange text → is_valid_tag text ≡ false → (IsBlanks text tt → ⊥)
       → IsSpecifierRefusal text unexpected_character
   -- it isn't a tag, and begins with a range of a specifier that has a number that doesn't fit

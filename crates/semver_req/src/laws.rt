@@ -73,8 +73,8 @@ pub fn texts_have_one_outcome()
     ensures { TextsHaveOneOutcome }
 {}
 
-/// Whatever means an outcome of a text, and keeps the text that is parsed, is a result of the text's parser: all that the
-/// parser ensures holds of it.
+/// A requirement that means an outcome of a text, and keeps the text that was parsed, is a result of the text's parser: all
+/// that the parser ensures holds of it.
 pub fn read_requirements_are_answers()
     ensures { ReadRequirementsAreAnswers }
 {}
@@ -92,14 +92,14 @@ pub fn kept_sets_mean_their_trees()
 
 /// The canonical form of ranges that a parser returned has one outcome in npm's and in the normalized grammar, the same
 /// comparators in both. They match the versions that the ranges match, unless a range with an end starts at a pre-release of
-/// 0.0.0 and is neither one version nor its `^0.0.0-pre` or `~0.0.0-pre`.
+/// 0.0.0 and is neither that version alone nor its `^` or `~` range, as `^0.0.0-pre`.
 pub fn normal_texts_keep_their_meaning()
     ensures { NormalTextsKeepTheirMeaning }
 {}
 
 /// Ranges that a parser returned are equivalent to what npm's or the normalized parser makes of their canonical form: both
-/// match the same versions, unless a range with an end starts at a pre-release of 0.0.0 and is neither one version nor its
-/// `^0.0.0-pre` or `~0.0.0-pre`.
+/// match the same versions, unless a range with an end starts at a pre-release of 0.0.0 and is neither that version alone nor
+/// its `^` or `~` range, as `^0.0.0-pre`.
 pub fn normal_texts_are_equivalent()
     ensures { NormalTextsAreEquivalent }
 {}

@@ -204,11 +204,11 @@ impl VersionReq {
     /// Returns the canonical form: the shortest usual form of each range, joined by ` || `, or `<0.0.0` without ranges; a tag
     /// as it is.
     ///
-    /// If the ranges are a parser's result, npm's and the normalized parser both accept it, as the same comparators. It keeps
+    /// If the ranges are a parser's result, npm's and the normalized parser both parse it to the same comparators. It keeps
     /// the meaning: what either parser makes of it matches the same versions, with or without npm's rule about pre-releases,
-    /// unless a range with an end starts at a pre-release of 0.0.0 and is neither one version nor its `^0.0.0-pre` or
-    /// `~0.0.0-pre`. Without builds and crossed bounds it parses back to an equal requirement; once parsed back, it does so
-    /// from then on.
+    /// unless a range with an end starts at a pre-release of 0.0.0 and is neither that version alone nor its `^` or `~`
+    /// range, as `^0.0.0-pre`. Without builds and crossed bounds it parses back to an equal requirement. What it parses to is
+    /// stable: it parses back to an equal requirement from then on.
     ///
     /// Fails only out of memory.
     pub fn to_string_normalized(&self, alloc: Global) -> Result<String, AllocError>

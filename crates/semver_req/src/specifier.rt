@@ -131,8 +131,8 @@ fn read(alloc: Global, text: &str) -> Result<RangeSetOrTag, ParseFailure>
 /// Numbers have no leading zeros, a missing component or `x`, `X` or `*` means any number, and a pre-release begins with `-`;
 /// the ranges are node-semver's for the same operators. If something follows a leading range whose numbers and bounds fit,
 /// the text fails with "Unexpected character.". Any other text is a tag if it is a valid one. Otherwise it fails: with "Empty
-/// version constraint." if it is blank, with "Number is too large." or "Version bound is too large." if it begins with a
-/// range of which that is so, and with "Unexpected character." in all other cases.
+/// version constraint." if it is empty or only whitespace, with "Number is too large." or "Version bound is too large." if it
+/// begins with a range of which that is so, and with "Unexpected character." in all other cases.
 pub fn parse_version_req_from_specifier(
     alloc: Global,
     text: &str,

@@ -299,8 +299,8 @@ impl VersionRange {
     /// The lowest version that the range matches, with pre-releases restricted or admitted throughout, or `None` if it
     /// matches none.
     ///
-    /// No lower version by precedence that a text parses to matches. It has no build, and its text parses to it if those of
-    /// the bounds parse to theirs. Fails only out of memory.
+    /// No lower version by precedence that a text parses to matches. It has no build, and its text parses back if those of
+    /// the bounds do. Fails only out of memory.
     pub fn min_version(
         &self,
         alloc: Global,
@@ -353,8 +353,8 @@ impl VersionRangeSet {
     /// The lowest version that some range matches, with pre-releases restricted or admitted throughout, or `None` if no range
     /// matches any (node-semver's `minVersion`).
     ///
-    /// No lower version by precedence that a text parses to matches. It has no build, and its text parses to it if those of
-    /// the bounds parse to theirs. Fails only out of memory.
+    /// No lower version by precedence that a text parses to matches. It has no build, and its text parses back if those of
+    /// the bounds do. Fails only out of memory.
     pub fn min_version(
         &self,
         alloc: Global,
@@ -379,7 +379,7 @@ impl VersionRangeSet {
     ///
     /// No lower version by precedence that a text parses to matches both; on `None`, no version that a text parses to does.
     /// So `>1.0.0` and `<1.0.1` have none by npm's rule, and `1.0.1-0` with pre-releases admitted. The version has no build,
-    /// and its text parses to it if those of the bounds parse to theirs.
+    /// and its text parses back if those of the bounds do.
     ///
     /// Fails only out of memory.
     pub fn common_version(
@@ -407,7 +407,7 @@ impl VersionRangeSet {
     /// if no version matches all.
     ///
     /// No lower version by precedence that a text parses to matches all; on `None`, no version that a text parses to does.
-    /// The version has no build, and its text parses to it if those of the bounds parse to theirs.
+    /// The version has no build, and its text parses back if those of the bounds do.
     ///
     /// Fails only out of memory.
     pub fn common_version_of_all(
@@ -434,8 +434,8 @@ impl VersionRangeSet {
     /// or `None` if the other matches every version that this one matches.
     ///
     /// No lower version by precedence that a text parses to is matched by this set alone; on `None`, the other set matches
-    /// every version that a text parses to and this one matches. The version has no build, and its text parses to it if those
-    /// of the bounds parse to theirs.
+    /// every version that a text parses to and this one matches. The version has no build, and its text parses back if those
+    /// of the bounds do.
     ///
     /// Fails only out of memory.
     pub fn version_outside(
@@ -464,8 +464,8 @@ impl VersionRangeSet {
     /// (node-semver's `subset`, here exactly by what the ranges match, pre-releases included).
     ///
     /// True says so of every version that a text parses to. False says that some version matches this set alone; if the texts
-    /// of the bounds parse to them, a text parses to it, so that the result is exact. [`VersionRangeSet::version_outside`]
-    /// returns the lowest one.
+    /// of the bounds parse back, so does that version's, and the result is exact. [`VersionRangeSet::version_outside`]
+    /// returns the lowest such version.
     ///
     /// Fails only out of memory.
     pub fn is_subset(
@@ -487,7 +487,7 @@ impl VersionRangeSet {
     /// Whether both sets match the same versions, with pre-releases restricted or admitted throughout.
     ///
     /// True says so of every version that a text parses to, and false that some version matches only one of them; if the
-    /// texts of the bounds parse to them, the result is exact. Same as [`VersionRangeSet::is_subset`] both ways.
+    /// texts of the bounds parse back, the result is exact. Same as [`VersionRangeSet::is_subset`] both ways.
     ///
     /// Fails only out of memory.
     pub fn is_equivalent(

@@ -121,8 +121,8 @@ fn after_every_equals(text: &str) -> &str
     rest
 }
 
-// Parses what npm's grammar has after a `~` or a `^`: any number of `=`, whitespace, an optional `v`, whitespace and a
-// partial version.
+// Parses what npm's grammar has after a `~` or a `^`: any number of `=`, an optional `v` and a partial version, with optional
+// whitespace between them.
 fn led_partial(alloc: Global, text: &str) -> Result<Option<(Measured<Partial>, &str)>, AllocError>
     ensures { IfOk result (λ r. ReadsAs sized_partial IsLed text.now (answer_of r)) }
 {

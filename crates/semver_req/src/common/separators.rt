@@ -9,7 +9,7 @@ ghost use Rattle.semver_req.specs.Pieces.{IsMark, IsNpmSeparator, IsOperator, Is
 use crate::common::values::Flavour;
 use semver_base::lexical::{after, after_blanks};
 
-/// Strips leading whitespace, if there is any.
+/// Strips leading whitespace; `None` if there is none.
 pub fn after_some_blanks(text: &str) -> Option<&str>
     ensures { Reads IsSomeBlanks text.now (rest_answer result) }
 {
