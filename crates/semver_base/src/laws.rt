@@ -1,7 +1,7 @@
 //! Laws of equality and hashing, each as the contract of a call.
 //!
 //! `==` on each type of this crate is true exactly if the two values are the same, as contracts see them; on `CowVec` and
-//! `Measured` it is if `==` on their contents is. A caller whose proof needs that calls the type's law instead of `==`.
+//! `Measured`, if `==` on their contents is. A caller whose proof needs that calls the type's law instead of `==`.
 //!
 //! Equal values hash alike: they write the same to every `Hasher`. `equal_hash_alike` says so for each type with `Hash`.
 //!

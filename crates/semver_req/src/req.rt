@@ -53,7 +53,7 @@ impl Drop for VersionReq {
     }
 }
 
-/// A normalized requirement failed to parse.
+/// Why a normalized requirement failed to parse, which may be out of memory.
 #[derive(Debug, PartialEq, Eq, Drop, Error)]
 #[error("Invalid normalized version requirement")]
 pub struct VersionReqNormalizedParseError {

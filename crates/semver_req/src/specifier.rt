@@ -20,7 +20,7 @@ use semver_base::string::{CowVec, SmallStackString};
 use std::alloc::{AllocError, Global};
 use thiserror::Error;
 
-/// The requirement of a package specifier failed to parse.
+/// Why the requirement of a package specifier failed to parse, which may be out of memory.
 #[derive(Debug, PartialEq, Eq, Drop, Error)]
 #[error("Invalid specifier version requirement")]
 pub struct VersionReqSpecifierParseError {

@@ -13,7 +13,7 @@ use semver_base::string::SmallStackString;
 use std::alloc::{AllocError, Global};
 use thiserror::Error;
 
-/// A requirement of npm's grammar failed to parse.
+/// Why a requirement of npm's grammar failed to parse, which may be out of memory.
 #[derive(Debug, PartialEq, Eq, Drop, Error)]
 #[error("Invalid version requirement")]
 pub struct NpmVersionReqParseError {
@@ -70,8 +70,8 @@ impl From<NpmVersionReqParseError> for ParseFailure {
 ///
 /// The text is trimmed, and the requirement keeps the trimmed text. A text without `||` that is outside the grammar, or has a
 /// number or a bound larger than 18446744073709551615, is a tag if it is a valid one; otherwise it fails with "Unexpected
-/// character.", "Number is too large." or "Version bound is too large.". Invalid alternatives are left out if there are
-/// several ([`RangeSetOrTag::parse_npm`]). Also fails out of memory. No piece is parsed more than twice by the full grammar,
+/// character.", "Number is too large." or "Version bound is too large.". Of several alternatives the invalid ones are left
+/// out ([`RangeSetOrTag::parse_npm`]). Also fails out of memory. No piece is parsed more than twice by the full grammar,
 /// after a fast path for comparators of few numbers; each comparator takes over the bounds kept so far.
 pub fn parse_npm_version_req(
     alloc: Global,

@@ -1,4 +1,5 @@
-//! The lowest version that requirements match, alone or together, and whether one requirement is a subset of another.
+//! The lowest version that requirements match, alone or together, and whether one requirement is a subset of another or
+//! equivalent to it.
 //!
 //! Tags name versions that only a registry knows, so each call requires that no requirement is one, as
 //! [`VersionReq::matches`] does. Each takes whether pre-releases are restricted by npm's rule or admitted throughout, as
