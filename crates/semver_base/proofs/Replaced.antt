@@ -35,7 +35,7 @@ module _ (from to : List ℕ) where
   pub start : (whole : List ℕ) → IsPartly whole [] whole
   start whole = record { goes_on = λ r h. h; comes_from = λ r h. record { more = r; is = refl; replaced = h } }
 
-  -- a step: the replaced text of s begins with front, and continues with that of the rest
+  -- a step: the replaced text of s begins with `front`, and continues with that of the rest
   pub record IsStep (s front rest : List ℕ) : Type 0 where
     pub goes_on : (r : List ℕ) → IsReplaced from to rest r → IsReplaced from to s (front ++ r)
     pub comes_from : (r : List ℕ) → IsReplaced from to s r → IsBegun s rest front r
