@@ -61,13 +61,17 @@ pub fn optional_pre_release(arguments: &[Item]) -> OrFault<Rule> {
 
 /// The requirement that a text is by the grammar of this name.
 pub fn requirement(alloc: Global, grammar: &str, text: &str) -> OrFault<VersionReq> {
-    let flavour = match grammar {
-        "npm" => Flavour::Npm,
-        "normal" => Flavour::Normal,
-        "strict" => Flavour::Specifier,
-        _ => return Err(Fault::OtherArguments),
-    };
-    Ok(VersionReq::parse(alloc, text, flavour)?)
+    Ok(VersionReq::parse(alloc, text, flavour(grammar)?)?)
+}
+
+/// The grammar of this name.
+pub fn flavour(grammar: &str) -> OrFault<Flavour> {
+    match grammar {
+        "npm" => Ok(Flavour::Npm),
+        "normal" => Ok(Flavour::Normal),
+        "strict" => Ok(Flavour::Specifier),
+        _ => Err(Fault::OtherArguments),
+    }
 }
 
 /// The requirements that the arguments are by the grammar of this name.

@@ -17,6 +17,8 @@ pub fn ask(call: &str, arguments: &[Item], answer: &mut Answer) -> Reported {
         "same-requirement" | "overlap" => requirements::of_two(call, arguments, answer),
         "fits" => requirements::fits(arguments, answer),
         "reread" => requirements::reread(arguments, answer),
+        "error-place" => requirements::place_of_error(arguments, answer),
+        "may-follow" => requirements::follows(arguments, answer),
         "min-version"
         | "common-version"
         | "common-of-all"

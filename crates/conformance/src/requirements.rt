@@ -2,12 +2,14 @@
 
 use crate::answer::{Answer, Fault, Item, OrFault, Reported};
 use crate::arguments::{
-    Rule, both, only, optional_pre_release, pair, pre_release, requirement, requirements, triple,
+    Rule, both, flavour, only, optional_pre_release, pair, pre_release, requirement, requirements,
+    triple,
 };
 use crate::notation;
 use crate::parse::Parse;
 use deno_semver::npm::is_valid_npm_tag;
 use deno_semver::{IntoVersionReq, PreRelease, RangeSetOrTag, Version, VersionReq};
+use error_places::{error_place, may_follow};
 use std::alloc::{AllocError, Global};
 
 /// `tag`: whether a text is a valid tag.
@@ -84,6 +86,20 @@ fn again(alloc: Global, grammar: &str, text: &str, other: &str) -> OrFault<Versi
     let text = first.to_string_normalized(alloc);
     drop(first);
     requirement(alloc, other, text?.as_str())
+}
+
+/// `error-place`: the index at which a text leaves the grammar.
+pub fn place_of_error(arguments: &[Item], answer: &mut Answer) -> Reported {
+    let (grammar, text) = pair(arguments)?;
+    let place = error_place(answer.alloc(), text, flavour(grammar)?)?;
+    answer.displayed(&place)
+}
+
+/// `may-follow`: whether some text of the grammar begins with the one text and then the other.
+pub fn follows(arguments: &[Item], answer: &mut Answer) -> Reported {
+    let (grammar, prefix, next) = triple(arguments)?;
+    let follows = may_follow(answer.alloc(), prefix, next, flavour(grammar)?)?;
+    answer.yes_or_no(follows)
 }
 
 /// `fits`: whether a version matches, by the rule for pre-releases that is an argument or else by npm's; or `tag` and the tag.

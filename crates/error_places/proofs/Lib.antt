@@ -1,0 +1,9 @@
+pub mod Endings
+pub mod Words
+pub mod Partials
+pub mod Npm
+pub mod Parts
+pub mod Versions
+pub mod Alike
+pub mod AlikeWords
+pub mod AlikeParts

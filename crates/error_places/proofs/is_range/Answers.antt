@@ -1,0 +1,8 @@
+use Rattle.error_places.proofs.Parts.{front_range, none_range}
+use Rattle.error_places.proofs.is_range.Goals as goal
+
+pub returns-in_default-clause-value : goal.returns-in_default-clause-value
+returns-in_default-clause-value c = none_range (rw c.in_default.is at c.in_ok-written.ensures)
+
+pub returns-clause-value : goal.returns-clause-value
+returns-clause-value c = front_range c.is_empty.ensures (rw c.in-Some.is at c.in_ok-written.ensures)

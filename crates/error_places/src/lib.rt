@@ -1,0 +1,172 @@
+//! The exact place of a syntax error: the end of the longest prefix with which some text of the grammar begins.
+//!
+//! No second parser decides it. Whether a prefix is viable is asked of the parser itself, on the prefix with a few endings behind it.
+#![tactic(auto)]
+
+ghost use Rattle.std.specs.Prelude.{◌≡◌, ◌↔◌, ◌++◌, IfErr, IfOk, IsTrue, List, ℕ, false, true, None};
+ghost use Rattle.semver_base.specs.Comparators.{Comparator};
+ghost use Rattle.semver_req.specs.Outcome.{IsSpecifierRange};
+ghost use Rattle.error_places.specs.Viable.{HasPiece, IsErrorPlace, IsPart, IsPieceOrCut, IsViablePrefix};
+ghost use Rattle.semver_req.specs.Pieces.{IsCutting};
+
+use semver_base::failure::{ParseFailure, Refusal};
+use semver_req::common::comparator::non_primitive_front;
+use semver_req::common::values::Flavour;
+use semver_req::range_set_or_tag::RangeOrInvalid;
+use std::alloc::Global;
+
+// Whether the text, which is followed by `||` or not, is an alternative of the grammar.
+fn is_piece(
+    alloc: Global,
+    text: &str,
+    is_followed: bool,
+    flavour: Flavour,
+) -> Result<bool, ParseFailure>
+    ensures value { IfOk result (λ yes. IsTrue yes ↔ HasPiece flavour is_followed text.now) }
+    ensures memory { IfErr result (λ failure. failure ≡ None) }
+{
+    match RangeOrInvalid::parse(alloc, text, is_followed, flavour)? {
+        RangeOrInvalid::Range(range) => {
+            drop(range);
+            Ok(true)
+        }
+        RangeOrInvalid::Invalid(refusal) => Ok(refusal != Refusal::UnexpectedCharacter),
+    }
+}
+
+// Whether the prefix with this ending is an alternative.
+fn is_piece_with(
+    alloc: Global,
+    prefix: &str,
+    ending: &str,
+    flavour: Flavour,
+) -> Result<bool, ParseFailure>
+    ensures value { IfOk result
+        (λ yes. IsTrue yes ↔ HasPiece flavour false (prefix.now ++ ending.now)) }
+    ensures memory { IfErr result (λ failure. failure ≡ None) }
+{
+    let text = format!(in alloc; "{prefix}{ending}")?;
+    is_piece(alloc, &text, false, flavour)
+}
+
+// Whether the prefix is an alternative with these bars behind it.
+fn is_piece_before(
+    alloc: Global,
+    prefix: &str,
+    bars: &str,
+    flavour: Flavour,
+) -> Result<bool, ParseFailure>
+    ensures value { IfOk result (λ yes. IsTrue yes
+        ↔ ((piece : List ℕ) × (prefix.now ≡ piece ++ bars.now) × HasPiece flavour true piece)) }
+    ensures memory { IfErr result (λ failure. failure ≡ None) }
+{
+    match prefix.strip_suffix(bars) {
+        Some(piece) => is_piece(alloc, piece, true, flavour),
+        None => Ok(false),
+    }
+}
+
+// Whether some alternative of the grammar, alone or with the `||` that follows it, begins with the prefix.
+fn is_viable_piece(alloc: Global, prefix: &str, flavour: Flavour) -> Result<bool, ParseFailure>
+    requires { IsCutting flavour }
+    ensures value { IfOk result (λ yes. IsTrue yes ↔ IsViablePrefix (IsPieceOrCut flavour) prefix.now) }
+    ensures memory { IfErr result (λ failure. failure ≡ None) }
+{
+    if is_piece(alloc, prefix, true, flavour)? {
+        return Ok(true);
+    }
+    if is_piece_with(alloc, prefix, "1", flavour)? {
+        return Ok(true);
+    }
+    if is_piece_with(alloc, prefix, " 1", flavour)? {
+        return Ok(true);
+    }
+    if is_piece_with(alloc, prefix, "&", flavour)? {
+        return Ok(true);
+    }
+    if is_piece_before(alloc, prefix, "|", flavour)? {
+        return Ok(true);
+    }
+    is_piece_before(alloc, prefix, "||", flavour)
+}
+
+// Whether the text is a range of the strict grammar.
+fn is_range(alloc: Global, text: &str) -> Result<bool, ParseFailure>
+    ensures value { IfOk result
+        (λ yes. IsTrue yes ↔ ((c : Comparator) × IsSpecifierRange text.now c)) }
+    ensures memory { IfErr result (λ failure. failure ≡ None) }
+{
+    let Some((written, rest)) = non_primitive_front(alloc, text, Flavour::Specifier)? else {
+        return Ok(false);
+    };
+    drop(written);
+    Ok(rest.is_empty())
+}
+
+// Whether some range of the strict grammar begins with the prefix.
+fn is_viable_range(alloc: Global, prefix: &str) -> Result<bool, ParseFailure>
+    ensures value { IfOk result (λ yes. IsTrue yes ↔ IsViablePrefix IsSpecifierRange prefix.now) }
+    ensures memory { IfErr result (λ failure. failure ≡ None) }
+{
+    if is_range(alloc, prefix)? {
+        return Ok(true);
+    }
+    let text = format!(in alloc; "{prefix}1")?;
+    is_range(alloc, &text)
+}
+
+// Whether some text of the grammar begins with the prefix.
+fn is_viable(alloc: Global, prefix: &str, flavour: Flavour) -> Result<bool, ParseFailure>
+    ensures value { IfOk result (λ yes. IsTrue yes ↔ IsViablePrefix (IsPart flavour) prefix.now) }
+    ensures memory { IfErr result (λ failure. failure ≡ None) }
+{
+    match flavour {
+        Flavour::Npm => is_viable_piece(alloc, prefix, Flavour::Npm),
+        Flavour::Normal => is_viable_piece(alloc, prefix, Flavour::Normal),
+        Flavour::Specifier => is_viable_range(alloc, prefix),
+    }
+}
+
+/// The index in the text at which it leaves the grammar: the end of the longest prefix with which some text of the grammar begins. Texts of
+/// npm's and the normalized grammar are alternatives here, alone or with the `||` that follows. A text of the grammar, and one
+/// that only stops too early, has its length as that index. Sizes of numbers don't matter.
+///
+/// Takes time that grows as n log n. Fails only out of memory.
+pub fn error_place(alloc: Global, text: &str, flavour: Flavour) -> Result<usize, ParseFailure>
+    ensures place { IfOk result (IsErrorPlace (IsPart flavour) text.now) }
+    ensures memory { IfErr result (λ failure. failure ≡ None) }
+{
+    if is_viable(alloc, text, flavour)? {
+        return Ok(text.len());
+    }
+    let mut low: usize = 0;
+    let mut high = text.len();
+    while high - low > 1 {
+        let middle = low + (high - low) / 2;
+        let prefix = text.floor_char_boundary(middle);
+        if is_viable(alloc, &text[..prefix], flavour)? {
+            low = middle;
+        } else {
+            high = middle;
+        }
+    }
+    Ok(text.floor_char_boundary(low))
+}
+
+/// Whether some text of the grammar begins with the prefix and then `next`. What could have followed at an [`error_place`] is asked with
+/// the text before it as the prefix.
+///
+/// Fails only out of memory.
+pub fn may_follow(
+    alloc: Global,
+    prefix: &str,
+    next: &str,
+    flavour: Flavour,
+) -> Result<bool, ParseFailure>
+    ensures follows { IfOk result
+        (λ yes. IsTrue yes ↔ IsViablePrefix (IsPart flavour) (prefix.now ++ next.now)) }
+    ensures memory { IfErr result (λ failure. failure ≡ None) }
+{
+    let text = format!(in alloc; "{prefix}{next}")?;
+    is_viable(alloc, &text, flavour)
+}
