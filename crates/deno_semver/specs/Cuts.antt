@@ -1,4 +1,4 @@
--- The characters that a part of a package's text may not hold.
+-- The characters that a part of a package's text can't contain.
 use Rattle.std.specs.Prelude.{ℕ, Bool, not, ◌==◌}
 
 -- any byte but this one

@@ -1,5 +1,4 @@
--- The order of dependencies of JSR packages, and how they are written. Source: the crate `deno_semver`, which compares
--- field by field.
+-- The order of dependencies of JSR packages, and their texts. Source: the crate `deno_semver`, which compares field by field.
 use Rattle.std.specs.Prelude.{◌≡◌, ◌&&◌, ℕ, List, Bool, Some}
 use Rattle.std.specs.Cmp.{IsPartialOrder, IsTotalOrder, on_total, po, then_total}
 use Rattle.std.specs.Ordering.{eq_by_cmp, on, then_cmp}
@@ -12,14 +11,14 @@ use Rattle.deno_semver.specs.RequirementText.{normal_req_text, req_text}
 use Rattle.deno_semver.specs.Ties.{then_ties}
 use Rattle.deno_semver.specs.declared.jsr.dependency.JsrDepPackageReq.{JsrDepPackageReq}
 
--- the scheme and the requirement; the same with its normal text
+-- the scheme and the package requirement; the same with its canonical form
 abbrev pub dependency_text : JsrDepPackageReq → List ℕ
 dependency_text d = with_scheme d.kind (req_text d.req)
 
 abbrev pub normal_dependency_text : JsrDepPackageReq → List ℕ
 normal_dependency_text d = with_scheme d.kind (normal_req_text d.req)
 
--- the registry, and then the requirement
+-- the registry, and then the package requirement
 abbrev pub dependency_cmp : JsrDepPackageReq → JsrDepPackageReq → Ordering
 dependency_cmp =
     then_cmp (on (λ (d : JsrDepPackageReq). d.kind) kind_cmp) (on (λ (d : JsrDepPackageReq). d.req) req_cmp)

@@ -1,4 +1,4 @@
--- What the text of a dependency of a JSR package stands for, and why it is refused. Source: the crate `deno_semver`.
+-- What the text of a JSR package's dependency parses to, and why it is rejected. Source: the crate `deno_semver`.
 use Rattle.std.specs.Prelude.{◌≡◌, ◌++◌, ◌⊎◌, ℕ, List, Option, Result, Ok, Err, MatchOption, MatchResult, IsErrAnd, string_bytes}
 use Rattle.std.specs.Borrow.{Bor}
 use Rattle.std.specs.List.{take_while}
@@ -16,13 +16,13 @@ use Rattle.deno_semver.specs.declared.package.errors.PackageReqPartsParseError.T
 use Rattle.deno_semver.specs.declared.package.kind.PackageKind.{PackageKind}
 use Rattle.deno_semver.specs.declared.package.values.PackageReq.{PackageReq}
 
--- why a text is refused
+-- why a text is rejected
 pub data DependencyFault : Type 0 where
   OtherScheme : DependencyFault
-  -- the text after the scheme is no requirement
+  -- the text after the scheme isn't a valid package requirement
   BadRequirement : List ℕ → Fault → DependencyFault
 
--- what a text stands for: a requirement after the scheme of either registry, or its first fault
+-- what a text parses to: a package requirement after either registry's scheme, or its first fault
 pub data IsDependencyOutcome (f : Flavour) (text : List ℕ) : Result JsrDepPackageReq DependencyFault → Type 0 where
   other_scheme : ((kind : PackageKind) → LacksScheme kind text) → IsDependencyOutcome f text (Err OtherScheme)
   is_dependency : (kind : PackageKind) (body : List ℕ) {req : PackageReq} → text ≡ scheme_of kind ++ body
@@ -32,23 +32,23 @@ pub data IsDependencyOutcome (f : Flavour) (text : List ℕ) : Result JsrDepPack
       → IsPackageOutcome f body (Err fault)
       → IsDependencyOutcome f text (Err (BadRequirement body fault))
 
--- what stands before the first `:`, or the whole text
+-- the text before the first `:`, or the whole text
 abbrev pub told_scheme : List ℕ → List ℕ
 told_scheme text = take_while (is_not colon) text
 
--- the error tells of the fault
+-- the error reports the fault
 abbrev pub TellsDependency : Flavour → List ℕ → DependencyFault → JsrDepPackageReqParseError → Type 0
 TellsDependency f text OtherScheme (error.NotExpectedScheme scheme) = string_bytes scheme ≡ told_scheme text
 TellsDependency f text (BadRequirement body fault) (error.PackageReqParse inner) = TellsFault f fault body inner
 TellsDependency f text fault e = ⊥
 
--- the error is want of memory, or tells the fault that the text has as its outcome
+-- the error is out of memory, or reports the fault that is the text's outcome
 abbrev pub IsDependencyRefusal : Flavour → List ℕ → JsrDepPackageReqParseError → Type 0
 IsDependencyRefusal f text e =
     (e ≡ error.Memory)
     ⊎ ((fault : DependencyFault) × IsDependencyOutcome f text (Err fault) × TellsDependency f text fault e)
 
--- the answer to a text with this outcome, want of memory aside
+-- the result for a text with this outcome, or out of memory
 abbrev pub IsDependencyAnswer : Flavour → List ℕ → Result JsrDepPackageReq DependencyFault
     → Result JsrDepPackageReq JsrDepPackageReqParseError → Type 0
 IsDependencyAnswer f text (Ok dependency) result =
@@ -58,25 +58,25 @@ IsDependencyAnswer f text (Err fault) result =
 
 -- ---- steps
 
--- the error that an error of a requirement turns into
+-- the error made of a package requirement's error
 abbrev pub IsOfPackageError : PackageReqParseError → JsrDepPackageReqParseError → Type 0
 IsOfPackageError inner e =
     ((inner.source ≡ parts.Memory) × (e ≡ error.Memory))
     ⊎ ((inner.source ≡ parts.Memory → ⊥) × (e ≡ error.PackageReqParse inner))
 
--- the same error, whatever its texts are kept in
+-- the same error, however its texts are stored
 abbrev pub IsSameError : JsrDepPackageReqParseError → JsrDepPackageReqParseError → Type 0
 IsSameError (error.NotExpectedScheme scheme) (error.NotExpectedScheme other) = string_bytes other ≡ string_bytes scheme
 IsSameError (error.PackageReqParse inner) e = e ≡ error.PackageReqParse inner
 IsSameError error.Memory e = e ≡ error.Memory
 IsSameError (error.NotExpectedScheme scheme) e = ⊥
 
--- the registry and what follows its scheme, or none where the text begins with neither scheme
+-- the registry and what follows its scheme, or none if the text begins with neither scheme
 abbrev pub IsAfterEither : List ℕ → Option (PackageKind × Bor (List ℕ)) → Type 0
 IsAfterEither text r =
     MatchOption r ((kind : PackageKind) → LacksScheme kind text) (λ p. text ≡ scheme_of p.0 ++ p.1.now)
 
--- the error shows the scheme, unless memory was wanting
+-- the error shows the scheme, or is out of memory
 abbrev pub IsToldScheme : List ℕ → JsrDepPackageReqParseError → Type 0
 IsToldScheme text (error.NotExpectedScheme scheme) = string_bytes scheme ≡ told_scheme text
 IsToldScheme text (error.PackageReqParse inner) = ⊥

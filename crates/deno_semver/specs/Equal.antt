@@ -1,11 +1,11 @@
--- When requirements of packages, and what is made of them, are equal. Source: the crate `deno_semver`, in which the
--- text of a version has no part in it.
+-- When package requirements, and what is made of them, are equal. Source: the crate `deno_semver`, which ignores the
+-- version's text.
 use Rattle.std.specs.Prelude.{◌≡◌}
 use Rattle.deno_semver.specs.declared.jsr.dependency.JsrDepPackageReq.{JsrDepPackageReq}
 use Rattle.deno_semver.specs.declared.package.reference.PackageReqReference.{PackageReqReference}
 use Rattle.deno_semver.specs.declared.package.values.PackageReq.{PackageReq}
 
--- the names are the same, and the requirements of versions stand for the same
+-- the names are the same, and the version requirements mean the same
 abbrev pub AreEqualReqs : PackageReq → PackageReq → Type 0
 AreEqualReqs x y = (x.name ≡ y.name) × (x.version_req.inner ≡ y.version_req.inner)
 

@@ -1,5 +1,5 @@
--- The JSON of versions, ranges, requirements and packages, and which values a JSON value stands for. Source: the crate
--- `deno_semver`, whose values are stored so.
+-- The JSON of versions, ranges, requirements and packages, and which values JSON parses to. Source: the JSON of the crate
+-- `deno_semver`.
 use Rattle.std.specs.Prelude.{◌≡◌, ℕ, List, [], ◌∷◌, Some, Ok, codes, map}
 use Rattle.std.specs.Str.{trim}
 use Rattle.serde_json.specs.Data.{Data, array, object, string, Items, item, no_items, member, no_members}
@@ -31,13 +31,13 @@ use Rattle.deno_semver.specs.declared.package.values.PackageReq.{PackageReq}
 
 -- ---- strings
 
--- a string, whose text is read as the value
+-- a string whose text parses to the value
 pub record IsStringOf {T : Type 0} (Reads : List ℕ → T → Type 0) (json : Data) (value : T) : Type 0 where
   pub text : List ℕ
   pub is_string : json ≡ string text
   pub reads : Reads text value
 
--- how the text of a string is read, by the type of the value
+-- how a string's text is parsed, by the type of the value
 abbrev pub IsTextItself : List ℕ → List ℕ → Type 0
 IsTextItself text value = value ≡ text
 
@@ -57,11 +57,11 @@ IsTextOfReference kind text reference = IsNvReferenceOutcome kind text (Ok refer
 abbrev pub IsTextOfDependency : List ℕ → JsrDepPackageReq → Type 0
 IsTextOfDependency text dependency = IsDependencyOutcome Normal text (Ok dependency)
 
--- as ranges or a tag by the normalized grammar
+-- as ranges or a tag, by the normalized grammar
 abbrev pub IsTextOfInner : List ℕ → RangeSetOrTag → Type 0
 IsTextOfInner = IsReading Normal
 
--- the word of a bound's kind
+-- the string for a bound's kind
 abbrev pub kind_text : VersionBoundKind → List ℕ
 kind_text kind.Inclusive = codes "Inclusive"
 kind_text kind.Exclusive = codes "Exclusive"
@@ -71,13 +71,13 @@ IsTextOfKind text k = text ≡ kind_text k
 
 -- ---- members and items
 
--- an object has a member with this key, which is read as the value
+-- an object has a member with this key that parses to the value
 pub record IsMemberOf {T : Type 0} (Reads : Data → T → Type 0) (key : List ℕ) (json : Data) (value : T) : Type 0 where
   pub member_json : Data
   pub is_member : get key json ≡ Some member_json
   pub reads : Reads member_json value
 
--- the items are read as the values, one by one
+-- the items parse to the values, one by one
 abbrev pub AreItemsOf : {T : Type 0} → (Data → T → Type 0) → Items → List T → Type 0
 AreItemsOf Reads no_items [] = Unit {0}
 AreItemsOf Reads no_items (x ∷ xs) = ⊥
@@ -95,7 +95,7 @@ pub record IsJsonOfBound (json : Data) (b : VersionBound) : Type 0 where
   pub kind : IsMemberOf (IsStringOf IsTextOfKind) (codes "kind") json b.kind
   pub version : IsMemberOf (IsStringOf IsTextOfVersion) (codes "version") json b.version
 
--- an absent bound is a word, and another an object with one member
+-- an absent bound is a string, any other an object with one member
 abbrev pub range_bound_json : RangeBound → Data
 range_bound_json bound.Unbounded = string (codes "Unbounded")
 range_bound_json (bound.Version b) = object (member (codes "Version") (bound_json b) no_members)
@@ -128,7 +128,7 @@ version_req_json req =
     object (member (codes "inner") (string (inner_text req.inner))
     (member (codes "raw_text") (string req.raw_text) no_members))
 
--- the text that was read isn't examined
+-- the `raw_text` is any string
 pub record IsJsonOfVersionReq (json : Data) (req : Requirement) : Type 0 where
   pub raw_text : IsMemberOf (IsStringOf IsTextItself) (codes "raw_text") json req.raw_text
   pub inner : IsMemberOf (IsStringOf IsTextOfInner) (codes "inner") json req.inner

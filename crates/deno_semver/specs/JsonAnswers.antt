@@ -1,13 +1,13 @@
--- Why a JSON value is refused, and what is answered to one that stands for a value.
+-- Why JSON is rejected, and the result for JSON that parses.
 use Rattle.std.specs.Prelude.{◌≡◌, ◌⊎◌, Result, MatchResult}
 use Rattle.serde_json.specs.Data.{Data}
 use Rattle.deno_semver.specs.declared.json.error.JsonError.{JsonError}
 use Rattle.deno_semver.specs.declared.json.error.JsonError.TheVariants as error
 
--- it is want of memory, or the JSON stands for no value
+-- out of memory, or the JSON doesn't parse to a value
 abbrev pub IsJsonRefusal : {T : Type 0} → (Data → T → Type 0) → Data → JsonError → Type 0
 IsJsonRefusal {T} StandsFor json e = (e ≡ error.Memory) ⊎ ((value : T) → StandsFor json value → ⊥)
 
--- the value, want of memory aside
+-- the value, or out of memory
 abbrev pub IsJsonAnswer : {T : Type 0} → T → Result T JsonError → Type 0
 IsJsonAnswer value result = MatchResult result (λ answer. answer ≡ value) (λ e. e ≡ error.Memory)

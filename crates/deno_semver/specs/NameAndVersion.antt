@@ -1,4 +1,4 @@
--- How a name and version is cut and written, and what it stands for. Source: the crate `deno_semver`.
+-- How a name and version is split and written, and what it parses to. Source: the crate `deno_semver`.
 use Rattle.std.specs.Prelude.{◌≡◌, ◌<◌, ◌++◌, ◌∷◌, ◌&&◌, ◌==◌, ◌⊎◌, [], ℕ, List, Bool, true, length, Option, Some, None, Result, Ok, Err, MatchResult, IsErrAnd, if◌then◌else◌}
 use Rattle.std.specs.List.{list_all, take_while}
 use Rattle.std.specs.Str.{trim}
@@ -16,7 +16,7 @@ use Rattle.deno_semver.specs.declared.package.name_version.PackageNvParseError.{
 
 -- ---- the text
 
--- one byte or more; past the first, which may be that of a scope, there is no `@`
+-- non-empty; after the first byte, which may begin a scope, there is no `@`
 abbrev pub IsNvName : List ℕ → Type 0
 IsNvName [] = ⊥
 IsNvName (first ∷ more) = list_all (is_not at_sign) more ≡ true
@@ -25,7 +25,7 @@ IsNvName (first ∷ more) = list_all (is_not at_sign) more ≡ true
 abbrev pub is_version_byte : ℕ → Bool
 is_version_byte b = is_not underscore b && is_not slash b
 
--- a name, `@`, a version that isn't empty and runs to the first `_` or `/`, and what follows it
+-- a name, `@`, a non-empty version up to the first `_` or `/`, and what follows it
 pub record IsNvText (text name version rest : List ℕ) : Type 0 where
   pub text_is : text ≡ name ++ (at_sign ∷ (version ++ rest))
   pub name_is : IsNvName name
@@ -37,18 +37,18 @@ pub record IsNvText (text name version rest : List ℕ) : Type 0 where
 abbrev pub nv_text : PackageNv → List ℕ
 nv_text nv = nv.name ++ (at_sign ∷ version_text nv.version)
 
--- of a name that begins with `@` what stands before its first `/`, or all of it where it has none
+-- for a name that begins with `@`, the part before its first `/`, or all of it if it has none
 abbrev pub scope_of : List ℕ → Option (List ℕ)
 scope_of [] = None
 scope_of (first ∷ more) = if first == at_sign then Some (take_while (is_not slash) (first ∷ more)) else None
 
 -- ---- outcomes
 
--- the text isn't cut so
+-- the text isn't of this form
 abbrev pub IsNoNvText : List ℕ → Type 0
 IsNoNvText text = (name version rest : List ℕ) → IsNvText text name version rest → ⊥
 
--- what stands at the front of a text: a name and version with what follows them, or the refusal of the first fault
+-- the result for the start of a text: a name and version with what follows it, or the error for the first fault
 pub data IsNvFront (text : List ℕ) : Result (PackageNv × List ℕ) Refusal → Type 0 where
   is_front : {name version rest : List ℕ} {v : Version} → IsNvText text name version rest
       → IsVersionOutcome (trim version) (Ok v)
@@ -57,7 +57,7 @@ pub data IsNvFront (text : List ℕ) : Result (PackageNv × List ℕ) Refusal �
   is_bad_version : {name version rest : List ℕ} {fault : Refusal} → IsNvText text name version rest
       → IsVersionOutcome (trim version) (Err fault) → IsNvFront text (Err fault)
 
--- what a text stands for: a name and version with nothing after it, or the refusal of its first fault
+-- what a text parses to: a name and version with nothing after it, or the error for its first fault
 pub data IsNvOutcome (text : List ℕ) : Result PackageNv Refusal → Type 0 where
   is_nv : {nv : PackageNv} → IsNvFront text (Ok (nv, [])) → IsNvOutcome text (Ok nv)
   is_bad : {fault : Refusal} → IsNvFront text (Err fault) → IsNvOutcome text (Err fault)
@@ -66,25 +66,25 @@ pub data IsNvOutcome (text : List ℕ) : Result PackageNv Refusal → Type 0 whe
 
 -- ---- answers
 
--- want of memory has no texts
+-- out of memory has no texts
 pub record IsNvMemory (e : PackageNvParseError) : Type 0 where
   pub message : e.message ≡ []
   pub text : e.text ≡ []
 
--- the line that tells of the fault, and the whole text
+-- the message for the fault, and the whole text
 pub record TellsNvFault (fault : Refusal) (text : List ℕ) (e : PackageNvParseError) : Type 0 where
   pub message : e.message ≡ refusal_message fault
   pub text_is : e.text ≡ text
 
--- the error is want of memory, or tells the refusal that the text has as its outcome
+-- the error is out of memory, or reports the parse error that is the text's outcome
 abbrev pub IsNvRefusal : List ℕ → PackageNvParseError → Type 0
 IsNvRefusal text e = IsNvMemory e ⊎ ((fault : Refusal) × IsNvOutcome text (Err fault) × TellsNvFault fault text e)
 
--- the answer to a text with this outcome, want of memory aside
+-- the result for a text with this outcome, or out of memory
 abbrev pub IsNvAnswer : List ℕ → Result PackageNv Refusal → Result PackageNv PackageNvParseError → Type 0
 IsNvAnswer text (Ok nv) result = MatchResult result (λ answer. answer ≡ nv) IsNvMemory
 IsNvAnswer text (Err fault) result = IsErrAnd result (λ e. IsNvMemory e ⊎ TellsNvFault fault text e)
 
--- the text of a name and version stands for it again
+-- the text of a name and version parses to it
 abbrev pub NvReadsBack : PackageNv → Type 0
 NvReadsBack nv = IsNvOutcome (nv_text nv) (Ok nv)

@@ -1,4 +1,4 @@
--- The steps of the reader of names with versions.
+-- The steps of parsing names with versions.
 use Rattle.std.specs.Prelude.{◌≡◌, ◌<◌, ◌+◌, ◌++◌, ◌∷◌, ◌⊎◌, [], ℕ, List, length, Option, None, Result, Ok, Err, MatchResult, IsErrAnd}
 use Rattle.std.specs.Borrow.{Bor}
 use Rattle.std.specs.List.{take_while}
@@ -11,30 +11,30 @@ use Rattle.semver_base.specs.declared.failure.Refusal.{Refusal}
 use Rattle.deno_semver.specs.declared.package.values.PackageNv.{PackageNv}
 use Rattle.deno_semver.specs.declared.package.name_version.PackageNvParseError.{PackageNvParseError}
 
--- how many bytes the name at the front has
+-- the length of the leading name in bytes
 abbrev pub name_len : List ℕ → ℕ
 name_len [] = 0
 name_len (first ∷ more) = length (take_while (is_not at_sign) more) + 1
 
--- the text is cut before the first `@` past its first byte
+-- the text is split before the first `@` after its first byte
 pub record IsNameCut (text name rest : List ℕ) : Type 0 where
   pub text_is : text ≡ name ++ rest
   pub name_is : 0 < length text → IsNvName name
   pub ends : Stops (is_not at_sign) rest
 
--- the message of a failure that isn't want of memory, and the whole text
+-- the message of a failure that isn't out of memory, and the whole text
 pub record TellsFailure (failure : Option (List ℕ × Option (List ℕ))) (text : List ℕ)
     (e : PackageNvParseError) : Type 0 where
   pub no_memory : failure ≡ None → ⊥
   pub message : e.message ≡ message_of failure
   pub text_is : e.text ≡ text
 
--- the error is want of memory, or tells the whole text and the fault at the front of a text
+-- the error is out of memory, or reports the whole text and the fault at the start of a text
 abbrev pub IsFrontRefusal : List ℕ → List ℕ → PackageNvParseError → Type 0
 IsFrontRefusal text whole e =
     IsNvMemory e ⊎ ((fault : Refusal) × IsNvFront text (Err fault) × TellsNvFault fault whole e)
 
--- the answer to a text with this at its front, want of memory aside
+-- the result for a text with this at its start, or out of memory
 abbrev pub IsFrontAnswer : List ℕ → Result (PackageNv × List ℕ) Refusal
     → Result (PackageNv × Bor (List ℕ)) PackageNvParseError → Type 0
 IsFrontAnswer whole (Ok front) result =

@@ -1,5 +1,5 @@
--- How references to one version of a package are read and written, and what they stand for. Sources: npm's and JSR's
--- specifiers; the crate `deno_semver`.
+-- How references to one version of a package are parsed and written, and what they mean. Sources: npm's and JSR's specifiers;
+-- the crate `deno_semver`.
 use Rattle.std.specs.Prelude.{◌≡◌, ◌≢◌, ◌++◌, ◌∷◌, ◌⊎◌, [], ℕ, List, Option, Result, Ok, Err, MatchResult, IsErrAnd}
 use Rattle.semver_base.specs.Characters.{slash}
 use Rattle.semver_base.specs.declared.failure.Refusal.{Refusal}
@@ -14,17 +14,17 @@ use Rattle.deno_semver.specs.declared.package.name_version.PackageNvParseError.{
 use Rattle.deno_semver.specs.declared.package.nv_reference.PackageNvReference.{PackageNvReference}
 use Rattle.deno_semver.specs.declared.package.nv_reference.PackageNvReferenceParseError.{PackageNvReferenceParseError}
 
--- `name@version`, and `/` and the path where there is one
+-- `name@version`, followed by `/` and the path if there is one
 abbrev pub nv_reference_text : PackageNvReference → List ℕ
 nv_reference_text reference = nv_text reference.nv ++ path_text reference.sub_path
 
--- what begins with neither a path nor the end
+-- what begins neither with a path nor with the end
 abbrev pub IsNoPath : List ℕ → Type 0
 IsNoPath [] = ⊥
 IsNoPath (first ∷ rest) = first ≢ slash
 
--- what a text stands for: a name and version after the scheme and one `/` or none, with a path, which may be empty, or
--- nothing after it; or the refusal of its first fault
+-- what a text parses to: a name and version after the scheme and at most one `/`, with a path, which may be empty, or nothing
+-- after it; or the error for its first fault
 pub data IsNvReferenceOutcome (kind : PackageKind) (text : List ℕ) : Result PackageNvReference Refusal → Type 0 where
   other_scheme : LacksScheme kind text → IsNvReferenceOutcome kind text (Err UnexpectedCharacter)
   is_reference : (body : List ℕ) {nv : PackageNv} {path : Option (List ℕ)} → text ≡ scheme_of kind ++ body
@@ -38,17 +38,17 @@ pub data IsNvReferenceOutcome (kind : PackageKind) (text : List ℕ) : Result Pa
 
 -- ---- answers
 
--- the same texts as the error of a name and version
+-- the same texts as a name and version's error
 abbrev pub nv_error : PackageNvReferenceParseError → PackageNvParseError
 nv_error e = record { message = e.message; text = e.text }
 
--- the error is want of memory, or tells the refusal that the text has as its outcome
+-- the error is out of memory, or reports the parse error that is the text's outcome
 abbrev pub IsNvReferenceRefusal : PackageKind → List ℕ → PackageNvReferenceParseError → Type 0
 IsNvReferenceRefusal kind text e =
     IsNvMemory (nv_error e)
     ⊎ ((fault : Refusal) × IsNvReferenceOutcome kind text (Err fault) × TellsNvFault fault text (nv_error e))
 
--- the answer to a text with this outcome, want of memory aside
+-- the result for a text with this outcome, or out of memory
 abbrev pub IsNvReferenceAnswer : List ℕ → Result PackageNvReference Refusal
     → Result PackageNvReference PackageNvReferenceParseError → Type 0
 IsNvReferenceAnswer text (Ok reference) result =
@@ -56,7 +56,7 @@ IsNvReferenceAnswer text (Ok reference) result =
 IsNvReferenceAnswer text (Err fault) result =
     IsErrAnd result (λ e. IsNvMemory (nv_error e) ⊎ TellsNvFault fault text (nv_error e))
 
--- with the scheme in front the text of a reference stands for it again, where its name doesn't begin with `/`
+-- after the scheme, the text of a reference parses to it, if its name doesn't begin with `/`
 abbrev pub NvReferenceReadsBack : PackageKind → PackageNvReference → Type 0
 NvReferenceReadsBack kind reference = ((rest : List ℕ) → reference.nv.name ≡ slash ∷ rest → ⊥)
     → IsNvReferenceOutcome kind (scheme_of kind ++ nv_reference_text reference) (Ok reference)

@@ -9,7 +9,7 @@ use Rattle.deno_semver.specs.NvOrder.{nv_cmp, nv_eq, nv_ties, nv_total}
 use Rattle.deno_semver.specs.Ties.{option_ties, then_ties}
 use Rattle.deno_semver.specs.declared.package.nv_reference.PackageNvReference.{PackageNvReference}
 
--- the name and version, and then the path, an absent one below every other
+-- the name and version, and then the path, an absent one lowest
 abbrev pub nv_reference_cmp : PackageNvReference → PackageNvReference → Ordering
 nv_reference_cmp =
     then_cmp (on (λ (r : PackageNvReference). r.nv) nv_cmp)

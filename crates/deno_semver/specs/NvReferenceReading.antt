@@ -1,4 +1,4 @@
--- What the step after the name and version answers, in the reader of references to versions.
+-- The result of the step after the name and version in parsing references to versions.
 use Rattle.std.specs.Prelude.{◌≡◌, ◌⊎◌, ℕ, List, Result, MatchResult}
 use Rattle.semver_base.specs.declared.failure.Refusal.TheVariants.{UnexpectedCharacter}
 use Rattle.deno_semver.specs.NameAndVersion.{IsNvMemory, TellsNvFault}
@@ -8,7 +8,7 @@ use Rattle.deno_semver.specs.declared.package.values.PackageNv.{PackageNv}
 use Rattle.deno_semver.specs.declared.package.name_version.PackageNvParseError.{PackageNvParseError}
 use Rattle.deno_semver.specs.declared.package.nv_reference.PackageNvReference.{PackageNvReference}
 
--- the name and version with the path that the rest is, or the refusal of a rest that is none
+-- the name and version with the path that the rest is, or the error for a rest that isn't a path
 abbrev pub IsWithRest : PackageNv → List ℕ → List ℕ → Result PackageNvReference PackageNvParseError → Type 0
 IsWithRest nv rest whole result =
     MatchResult result (λ r. (r.nv ≡ nv) × (rest ≡ path_text r.sub_path))

@@ -1,5 +1,5 @@
--- No text of a package, a name with a version, a reference or a dependency has two outcomes, and none of a package two
--- cuts; no JSON stands for two values of a type.
+-- No text of a package, a name with a version, a reference or a dependency has two outcomes, and none of a package has two
+-- splits; no JSON parses to two values of a type.
 use Rattle.std.specs.Prelude.{◌≡◌, ℕ, List, Result}
 use Rattle.serde_json.specs.Data.{Data}
 use Rattle.semver_base.specs.declared.failure.Refusal.{Refusal}
@@ -17,12 +17,12 @@ use Rattle.deno_semver.specs.declared.package.reference.PackageReqReference.{Pac
 use Rattle.deno_semver.specs.declared.package.values.PackageNv.{PackageNv}
 use Rattle.deno_semver.specs.declared.package.values.PackageReq.{PackageReq}
 
--- no text is cut as a package in two ways
+-- no text splits as a package in two ways
 abbrev pub PackageTextsHaveOneCut : Type 0
 PackageTextsHaveOneCut =
     (text : List ℕ) (cut other : PackageParts) → IsPackageText text cut → IsPackageText text other → cut ≡ other
 
--- no text stands for two requirements of packages, nor for one and a fault, nor has it two faults
+-- no text parses to two package requirements, nor to one and a fault, nor has it two faults
 abbrev pub PackageTextsHaveOneOutcome : Type 0
 PackageTextsHaveOneOutcome =
     (f : Flavour) (text : List ℕ) (o p : Result PackageReq Fault) → IsPackageOutcome f text o
@@ -47,6 +47,6 @@ abbrev pub VersionReferencesHaveOneOutcome : Type 0
 VersionReferencesHaveOneOutcome = (kind : PackageKind) (text : List ℕ) (o p : Result PackageNvReference Refusal)
     → IsNvReferenceOutcome kind text o → IsNvReferenceOutcome kind text p → o ≡ p
 
--- no JSON stands for two values
+-- no JSON parses to two values
 abbrev pub StandsForOne : {T : Type 0} → (Data → T → Type 0) → Type 0
 StandsForOne {T} StandsFor = (json : Data) (x y : T) → StandsFor json x → StandsFor json y → x ≡ y

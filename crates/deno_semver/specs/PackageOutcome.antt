@@ -1,5 +1,5 @@
--- What the text of a package stands for, and why it is refused. Sources: npm's package specifiers; which fault comes
--- first is the crate `deno_semver`'s choice.
+-- What the text of a package parses to, and why it is rejected. Sources: npm's package specifiers; which fault comes first is
+-- the crate `deno_semver`'s choice.
 use Rattle.std.specs.Prelude.{◌≡◌, ◌<◌, ◌∷◌, ◌⊎◌, [], ℕ, List, length, Option, Some, None, Result, Ok, Err, MatchResult, IsErrAnd, codes, if◌then◌else◌}
 use Rattle.std.specs.Str.{trim}
 use Rattle.semver_base.specs.Characters.{slash}
@@ -16,22 +16,22 @@ use Rattle.deno_semver.specs.declared.package.errors.PackageReqPartsParseError.T
 use Rattle.deno_semver.specs.declared.package.errors.PackageReqParseError.{PackageReqParseError}
 use Rattle.deno_semver.specs.declared.package.values.PackageReq.{PackageReq}
 
--- the requirement is read from the version's text; without such a text it is that of any version
+-- the version's text parses to the version requirement; without a text, any version matches
 abbrev pub IsVersionReq : Flavour → Option (List ℕ) → Requirement → Type 0
 IsVersionReq f None req = req ≡ wildcard
 IsVersionReq f (Some text) req = IsReadFrom f text req
 
--- why a text is refused
+-- why a text is rejected
 pub data Fault : Type 0 where
   NoName : Fault
   BadName : Fault
-  -- the text of the version is refused
+  -- the version's text is invalid
   BadVersion : List ℕ → Fault
-  -- a path stands after the requirement
+  -- a path follows the package requirement
   HasPath : List ℕ → Fault
   NoAt : Fault
 
--- the first fault of a text: the part of it that is missing, then its version, then its path
+-- the first fault of a text: the part that is missing, then its version, then its path
 pub data IsFirstFault (f : Flavour) (text : List ℕ) : Fault → Type 0 where
   no_name : LacksPart (without_slash text) → IsFirstFault f text NoName
   bad_name : IsScopeAlone (without_slash text) → IsFirstFault f text BadName
@@ -42,7 +42,7 @@ pub data IsFirstFault (f : Flavour) (text : List ℕ) : Fault → Type 0 where
       → 0 < length cut.path
       → IsFirstFault f text (HasPath cut.path)
 
--- the requirement that a text is: its parts, without a path
+-- the package requirement that a text parses to: its parts, without a path
 pub record IsReadReq (f : Flavour) (text : List ℕ) (req : PackageReq) : Type 0 where
   pub cut : PackageParts
   pub is_cut : IsPackageText text cut
@@ -50,7 +50,7 @@ pub record IsReadReq (f : Flavour) (text : List ℕ) (req : PackageReq) : Type 0
   pub version_req : IsVersionReq f cut.version req.version_req
   pub no_path : length cut.path ≡ 0
 
--- what a text stands for; whatever its fault, one that holds a `/` and doesn't begin with `@` lacks an `@`
+-- what a text parses to; whatever the fault, a text that contains a `/` and doesn't begin with `@` lacks an `@`
 pub data IsPackageOutcome (f : Flavour) (text : List ℕ) : Result PackageReq Fault → Type 0 where
   is_package : {req : PackageReq} → IsReadReq f text req → IsPackageOutcome f text (Ok req)
   is_fault : {fault : Fault} → IsFirstFault f text fault
@@ -58,13 +58,13 @@ pub data IsPackageOutcome (f : Flavour) (text : List ℕ) : Result PackageReq Fa
 
 -- ---- answers
 
--- why the reader of a flavour refuses the text of a version
+-- why the grammar of a flavour rejects the version's text
 abbrev pub IsRefusalOf : Flavour → List ℕ → Failure → Type 0
 IsRefusalOf Specifier text = IsSpecifierRefusal text
 IsRefusalOf Npm text = IsCutRefusal Npm (trim text)
 IsRefusalOf Normal text = IsCutRefusal Normal text
 
--- the error of that reader
+-- the error of that grammar
 abbrev pub refused_by : Flavour → Failure → PackageReqPartsParseError
 refused_by Specifier failure = parts.SpecifierVersionReq (record { source = failure })
 refused_by Npm failure = parts.NpmVersionReq (record { source = failure })
@@ -74,7 +74,7 @@ refused_by Normal failure = parts.NormalizedVersionReq (record { source = failur
 abbrev pub path_failure : List ℕ → Failure
 path_failure path = Some (codes "Unexpected character '/'", Some (slash ∷ path))
 
--- the error tells of the fault
+-- the error reports the fault
 abbrev pub Tells : Flavour → Fault → PackageReqPartsParseError → Type 0
 Tells f NoName e = e ≡ parts.NoPackageName
 Tells f BadName e = e ≡ parts.InvalidPackageName
@@ -83,22 +83,22 @@ Tells f (BadVersion version) e =
 Tells f (HasPath path) e = e ≡ parts.SpecifierVersionReq (record { source = path_failure path })
 Tells f NoAt e = e ≡ parts.MissingAtSymbol
 
--- want of memory has no text
+-- out of memory has no text
 pub record IsWantOfMemory (e : PackageReqParseError) : Type 0 where
   pub source : e.source ≡ parts.Memory
   pub text : e.text ≡ []
 
--- the error tells of the fault, and shows the whole text
+-- the error reports the fault and the whole text
 pub record TellsFault (f : Flavour) (fault : Fault) (text : List ℕ) (e : PackageReqParseError) : Type 0 where
   pub source : Tells f fault e.source
   pub text_is : e.text ≡ text
 
--- the error is want of memory, or tells the fault that the text has as its outcome
+-- the error is out of memory, or reports the fault that is the text's outcome
 abbrev pub IsPackageRefusal : Flavour → List ℕ → PackageReqParseError → Type 0
 IsPackageRefusal f text e =
     IsWantOfMemory e ⊎ ((fault : Fault) × IsPackageOutcome f text (Err fault) × TellsFault f fault text e)
 
--- the answer to a text with this outcome, want of memory aside
+-- the result for a text with this outcome, or out of memory
 abbrev pub IsPackageAnswer : Flavour → List ℕ → Result PackageReq Fault → Result PackageReq PackageReqParseError
     → Type 0
 IsPackageAnswer f text (Ok req) result = MatchResult result (λ answer. answer ≡ req) IsWantOfMemory

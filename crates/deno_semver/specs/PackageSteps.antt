@@ -1,4 +1,4 @@
--- The steps of the reader of packages.
+-- The steps of parsing packages.
 use Rattle.std.specs.Prelude.{◌≡◌, ◌⊎◌, ℕ, List, Option}
 use Rattle.deno_semver.specs.PackageText.{IsPackageText, IsPathPart, IsScopeAlone, LacksPart, without_slash}
 use Rattle.deno_semver.specs.declared.package.errors.PackageReqPartsParseError.{PackageReqPartsParseError}

@@ -1,13 +1,13 @@
--- How the text of a package is cut: a `/` that import maps may leave in front, a scope with `/` after it, the last part
--- of the name, `@` and the version's text, and a `/` with the path. Sources: npm's package specifiers; for the `/` in
--- front and the path the crate `deno_semver`.
+-- How the text of a package is split: a leading `/` that import maps may leave, a scope followed by `/`, the last part of the
+-- name, `@` and the version's text, and a `/` with the path. Sources: npm's package specifiers; for the leading `/` and the
+-- path the crate `deno_semver`.
 use Rattle.std.specs.Prelude.{◌≡◌, ◌<◌, ◌++◌, ◌∷◌, ◌&&◌, ◌==◌, [], ℕ, List, Bool, true, false, not, length, Option, Some, None, if◌then◌else◌}
 use Rattle.std.specs.List.{list_all, list_any}
 use Rattle.semver_base.specs.Characters.{at_sign, slash}
 use Rattle.semver_base.specs.Grammar.{Stops}
 use Rattle.deno_semver.specs.Cuts.{is_not}
 
--- what a text is cut into
+-- the parts of a text
 pub record PackageParts : Type 0 where
   pub scope : Option (List ℕ)
   -- the last part of the name
@@ -15,7 +15,7 @@ pub record PackageParts : Type 0 where
   pub version : Option (List ℕ)
   pub path : List ℕ
 
--- without the `/` at the front, where there is one
+-- without the leading `/`, if there is one
 abbrev pub without_slash : List ℕ → List ℕ
 without_slash [] = []
 without_slash (first ∷ rest) = if first == slash then rest else first ∷ rest
@@ -25,17 +25,17 @@ abbrev pub starts_with_at : List ℕ → Bool
 starts_with_at [] = false
 starts_with_at (first ∷ rest) = first == at_sign
 
--- `@`, and what follows it holds no `/`
+-- `@`, followed by anything without a `/`
 pub record IsScope (scope : List ℕ) : Type 0 where
   pub at : starts_with_at scope ≡ true
   pub no_slash : list_all (is_not slash) scope ≡ true
 
--- rest is what follows the scope and its `/`, or everything where that doesn't begin with `@`
+-- `rest` is what follows the scope and its `/`, or everything if the text doesn't begin with `@`
 abbrev pub IsAfterScope : Option (List ℕ) → List ℕ → List ℕ → Type 0
 IsAfterScope None body rest = (starts_with_at body ≡ false) × (body ≡ rest)
 IsAfterScope (Some scope) body rest = IsScope scope × (body ≡ scope ++ (slash ∷ rest))
 
--- the version stands after the last `@`; there is none where there is no `@`
+-- the version follows the last `@`; without an `@` there is none
 abbrev pub IsNamePart : List ℕ → List ℕ → Option (List ℕ) → Type 0
 IsNamePart last name None = (last ≡ name) × (list_all (is_not at_sign) name ≡ true)
 IsNamePart last name (Some version) = (last ≡ name ++ (at_sign ∷ version)) × (list_all (is_not at_sign) version ≡ true)
@@ -45,7 +45,7 @@ abbrev pub IsPathPart : List ℕ → List ℕ → Type 0
 IsPathPart [] path = path ≡ []
 IsPathPart (first ∷ rest) path = (first ≡ slash) × (path ≡ rest)
 
--- the parts of a text; the last part of the name with its version isn't empty and holds no `/`
+-- the parts of a text; the last part of the name with its version is non-empty and contains no `/`
 pub record IsPackageText (text : List ℕ) (parts : PackageParts) : Type 0 where
   pub rest : List ℕ
   pub scope : IsAfterScope parts.scope (without_slash text) rest
@@ -57,7 +57,7 @@ pub record IsPackageText (text : List ℕ) (parts : PackageParts) : Type 0 where
   pub named : IsNamePart last parts.name parts.version
   pub path : IsPathPart tail parts.path
 
--- the last part of a name, with the scope and `/` before it where there is one
+-- the last part of a name, preceded by the scope and `/` if there is one
 abbrev pub scoped_name : Option (List ℕ) → List ℕ → List ℕ
 scoped_name None name = name
 scoped_name (Some scope) name = scope ++ (slash ∷ name)
@@ -68,7 +68,7 @@ scoped_name (Some scope) name = scope ++ (slash ∷ name)
 abbrev pub LacksPart : List ℕ → Type 0
 LacksPart = Stops (is_not slash)
 
--- nothing stands after the scope's `/`, or there is no such `/`
+-- nothing follows the scope's `/`, or there is no such `/`
 abbrev pub LacksLast : List ℕ → Type 0
 LacksLast [] = Unit {0}
 LacksLast (first ∷ rest) = (first ≡ slash) × LacksPart rest
@@ -81,6 +81,6 @@ pub record IsScopeAlone (body : List ℕ) : Type 0 where
   pub is_scope : IsScope scope
   pub lacks : LacksLast tail
 
--- whether the text holds a `/` and doesn't begin with `@`
+-- whether the text contains a `/` and doesn't begin with `@`
 abbrev pub lacks_at : List ℕ → Bool
 lacks_at text = list_any (λ b. b == slash) text && not (starts_with_at text)

@@ -1,5 +1,5 @@
--- What the text of a reference to a package stands for, and why it is refused. Sources: npm's and JSR's specifiers;
--- which fault is told is the crate `deno_semver`'s choice.
+-- What the text of a package reference parses to, and why it is rejected. Sources: npm's and JSR's specifiers; which fault is
+-- reported is the crate `deno_semver`'s choice.
 use Rattle.std.specs.Prelude.{◌≡◌, ◌++◌, ◌∷◌, ◌⊎◌, [], ℕ, List, drop, true, Some, Result, Ok, Err, MatchResult, IsErrAnd, codes}
 use Rattle.std.specs.List.{list_all}
 use Rattle.semver_base.specs.Characters.{at_sign, slash}
@@ -17,7 +17,7 @@ use Rattle.deno_semver.specs.declared.package.reference_errors.PackageReqReferen
 use Rattle.deno_semver.specs.declared.package.reference_errors.PackageReqReferenceParseError.{PackageReqReferenceParseError}
 use Rattle.deno_semver.specs.declared.package.reference_errors.PackageReqReferenceParseError.TheVariants as boxed
 
--- a requirement, read by the strict reader, and the path after it, where the text has one: a text without a scheme
+-- a text without its scheme: a package requirement by the strict grammar, and the path after it, if there is one
 pub record IsReadReference (body : List ℕ) (reference : PackageReqReference) : Type 0 where
   pub cut : PackageParts
   pub is_cut : IsPackageText body cut
@@ -25,7 +25,7 @@ pub record IsReadReference (body : List ℕ) (reference : PackageReqReference) :
   pub version_req : IsVersionReq Specifier cut.version reference.req.version_req
   pub sub_path : reference.sub_path ≡ sub_path_of cut.path
 
--- any version is meant, as `*` says, and a version stands after the last `@` of the path
+-- any version is meant, as by `*`, and a version follows the last `@` of the path
 pub record HasVersionInPath (reference : PackageReqReference) (before version : List ℕ) : Type 0 where
   pub any : reference.req.version_req.raw_text ≡ codes "*"
   pub path : reference.sub_path ≡ Some (before ++ (at_sign ∷ version))
@@ -34,20 +34,20 @@ pub record HasVersionInPath (reference : PackageReqReference) (before version : 
 abbrev pub HasNoVersionInPath : PackageReqReference → Type 0
 HasNoVersionInPath reference = (before version : List ℕ) → HasVersionInPath reference before version → ⊥
 
--- why a text is refused
+-- why a text is rejected
 pub data ReferenceFault : Type 0 where
   OtherScheme : ReferenceFault
-  -- what follows the scheme is no requirement
+  -- what follows the scheme isn't a valid package requirement
   BadText : Fault → ReferenceFault
-  -- the text as it would be written, and with its version moved behind the name
+  -- the reference as written, and with its version moved after the name
   VersionInPath : List ℕ → List ℕ → ReferenceFault
 
--- a path may follow the requirement
+-- a path may follow the package requirement
 abbrev pub IsOfReference : Fault → Type 0
 IsOfReference (HasPath path) = ⊥
 IsOfReference fault = Unit {0}
 
--- what a text stands for: a reference without a version in its path, or its first fault
+-- what a text parses to: a reference without a version in its path, or its first fault
 pub data IsReferenceOutcome (kind : PackageKind)
     (text : List ℕ) : Result PackageReqReference ReferenceFault → Type 0 where
   other_scheme : LacksScheme kind text → IsReferenceOutcome kind text (Err OtherScheme)
@@ -77,7 +77,7 @@ unboxed (boxed.Invalid error) = Invalid error.value
 unboxed (boxed.InvalidPathWithVersion error) = InvalidPathWithVersion error.value
 unboxed boxed.Memory = Memory
 
--- the error tells of the fault
+-- the error reports the fault
 abbrev pub TellsReference : PackageKind → List ℕ → ReferenceFault → PackageReqReferenceParseError → Type 0
 TellsReference kind text OtherScheme e = unboxed e ≡ NotExpectedScheme kind
 TellsReference kind text (BadText fault) e =
@@ -86,13 +86,13 @@ TellsReference kind text (BadText fault) e =
 TellsReference kind text (VersionInPath current suggested) e =
     unboxed e ≡ InvalidPathWithVersion (record { kind = kind; current = current; suggested = suggested })
 
--- the error is want of memory, or tells the fault that the text has as its outcome
+-- the error is out of memory, or reports the fault that is the text's outcome
 abbrev pub IsReferenceRefusal : PackageKind → List ℕ → PackageReqReferenceParseError → Type 0
 IsReferenceRefusal kind text e =
     (unboxed e ≡ Memory)
     ⊎ ((fault : ReferenceFault) × IsReferenceOutcome kind text (Err fault) × TellsReference kind text fault e)
 
--- the answer to a text with this outcome, want of memory aside
+-- the result for a text with this outcome, or out of memory
 abbrev pub IsReferenceAnswer : PackageKind → List ℕ → Result PackageReqReference ReferenceFault
     → Result PackageReqReference PackageReqReferenceParseError → Type 0
 IsReferenceAnswer kind text (Ok reference) result =
@@ -102,13 +102,12 @@ IsReferenceAnswer kind text (Err fault) result =
 
 -- ---- rereading
 
--- no `@` past the first byte, which may be that of a scope, and no `/` at the end
+-- no `@` after the first byte, which may begin a scope, and no trailing `/`
 pub record IsPlainName (name : List ℕ) : Type 0 where
   pub no_at : list_all (is_not at_sign) (drop 1 name) ≡ true
   pub no_slash : (front : List ℕ) → name ≡ front ++ (slash ∷ []) → ⊥
 
--- with the scheme in front the text of a reference stands for it again, where the text of its version isn't `*` or its
--- name is plain
+-- after the scheme, the text of a reference parses to it, if the text of its version isn't `*` or its name is plain
 abbrev pub ReferenceReadsBack : PackageKind → PackageReqReference → Type 0
 ReferenceReadsBack kind reference = (reference.req.version_req.raw_text ≡ codes "*" → IsPlainName reference.req.name)
     → IsReferenceOutcome kind (scheme_of kind ++ reference_text reference) (Ok reference)

@@ -1,4 +1,4 @@
--- What the steps of the reader of references answer.
+-- The results of the steps of parsing references.
 use Rattle.std.specs.Prelude.{◌≡◌, ◌++◌, ◌⊎◌, ℕ, List, Option, Result, MatchOption, MatchResult}
 use Rattle.std.specs.Borrow.{Bor}
 use Rattle.semver_req.specs.declared.common.values.Flavour.{Flavour}
@@ -15,11 +15,11 @@ use Rattle.deno_semver.specs.declared.package.reference.PackageReqReference.{Pac
 use Rattle.deno_semver.specs.declared.package.reference_errors.PackageReqReferenceParseError.{PackageReqReferenceParseError}
 use Rattle.deno_semver.specs.declared.package.values.PackageReq.{PackageReq}
 
--- the answer is what follows the scheme, or none where the text doesn't begin with it
+-- what follows the scheme, or none if the text doesn't begin with it
 abbrev pub IsAfterScheme : PackageKind → List ℕ → Option (Bor (List ℕ)) → Type 0
 IsAfterScheme kind text r = MatchOption r (LacksScheme kind text) (λ body. text ≡ scheme_of kind ++ body.now)
 
--- the requirement at the front of a text, and the path after it, with its `/`
+-- the package requirement at the start of a text, and the path after it, with its `/`
 pub record IsReadWithPath (f : Flavour) (text : List ℕ) (req : PackageReq) (tail path : List ℕ) : Type 0 where
   pub cut : PackageParts
   pub is_cut : IsPackageText text cut
@@ -28,7 +28,7 @@ pub record IsReadWithPath (f : Flavour) (text : List ℕ) (req : PackageReq) (ta
   pub path_is : path ≡ cut.path
   pub tail_is : IsPathPart tail cut.path
 
--- the error tells the first fault of a text that may have a path, unless memory was wanting
+-- the error reports the first fault of a text that may have a path, or is out of memory
 abbrev pub IsFrontError : Flavour → List ℕ → PackageReqPartsParseError → Type 0
 IsFrontError f text e =
     (e ≡ parts.Memory) ⊎ ((fault : Fault) × IsFirstFault f text fault × IsOfReference fault × Tells f fault e)
@@ -36,18 +36,18 @@ IsFrontError f text e =
 abbrev pub IsReferenceRead : List ℕ → Result PackageReqReference PackageReqPartsParseError → Type 0
 IsReferenceRead body result = MatchResult result (IsReadReference body) (IsFrontError Specifier body)
 
--- the version in the path, and what stands before it
+-- the version in the path, and the text before it
 abbrev pub FindsVersion : PackageReqReference → Option (Bor (List ℕ) × Bor (List ℕ)) → Type 0
 FindsVersion reference r =
     MatchOption r (HasNoVersionInPath reference) (λ p. HasVersionInPath reference p.0.now p.1.now)
 
--- the error shows the whole text and what is wrong in it, unless memory was wanting
+-- the error shows the whole text and what is wrong in it, or is out of memory
 abbrev pub IsToldInvalid : List ℕ → PackageReqPartsParseError → PackageReqReferenceParseError → Type 0
 IsToldInvalid text source e =
     (unboxed e ≡ Memory)
     ⊎ ((source ≡ parts.Memory → ⊥) × (unboxed e ≡ Invalid (record { specifier = text; source = source })))
 
--- the error shows the reference as it is written and as it is suggested, unless memory was wanting
+-- the error shows the reference as written and as suggested, or is out of memory
 abbrev pub IsToldVersion : PackageKind → PackageReqReference → List ℕ → List ℕ → PackageReqReferenceParseError → Type 0
 IsToldVersion kind reference before version e = (unboxed e ≡ Memory)
     ⊎ (unboxed e ≡ InvalidPathWithVersion

@@ -1,5 +1,5 @@
--- How references to packages are written: the text of a requirement, or of a name and version, and the path of a module
--- after a `/`; before them may stand a registry's scheme. Sources: npm's and JSR's specifiers; the crate `deno_semver`.
+-- How package references are written: the text of a package requirement, or of a name and version, and a `/` and the path of
+-- a module; a registry's scheme may come first. Sources: npm's and JSR's specifiers; the crate `deno_semver`.
 use Rattle.std.specs.Prelude.{◌≡◌, ◌++◌, ◌∷◌, ◌||◌, [], ℕ, List, Option, Some, None, bytes_eq, codes, if◌then◌else◌}
 use Rattle.semver_base.specs.Characters.{at_sign, slash}
 use Rattle.deno_semver.specs.Kind.{scheme_of}
@@ -8,7 +8,7 @@ use Rattle.deno_semver.specs.declared.package.kind.PackageKind.{PackageKind}
 use Rattle.deno_semver.specs.declared.package.reference.PackageReqReference.{PackageReqReference}
 use Rattle.deno_semver.specs.declared.package.values.PackageReq.{PackageReq}
 
--- no text begins with the scheme so that the rest is this one
+-- the text isn't what follows the scheme in any text
 abbrev pub LacksScheme : PackageKind → List ℕ → Type 0
 LacksScheme kind text = (body : List ℕ) → text ≡ scheme_of kind ++ body → ⊥
 
@@ -16,7 +16,7 @@ LacksScheme kind text = (body : List ℕ) → text ≡ scheme_of kind ++ body �
 abbrev pub with_scheme : PackageKind → List ℕ → List ℕ
 with_scheme kind text = scheme_of kind ++ text
 
--- the path of a module that a text names; nothing and `/` name none
+-- the path of a module that a text names; an empty text and `/` name none
 abbrev pub sub_path_of : List ℕ → Option (List ℕ)
 sub_path_of path = if bytes_eq path [] || bytes_eq path (codes "/") then None else Some path
 
@@ -25,10 +25,10 @@ abbrev pub path_text : Option (List ℕ) → List ℕ
 path_text None = []
 path_text (Some path) = slash ∷ path
 
--- the requirement, and the path after a `/`
+-- the package requirement, and the path after a `/`
 abbrev pub reference_text : PackageReqReference → List ℕ
 reference_text reference = req_text reference.req ++ path_text reference.sub_path
 
--- the same with a version behind the requirement
+-- the same with a version after the package requirement
 abbrev pub text_with_version : PackageReq → List ℕ → List ℕ → List ℕ
 text_with_version req version path = req_text req ++ (at_sign ∷ (version ++ (slash ∷ path)))

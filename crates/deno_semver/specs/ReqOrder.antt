@@ -1,5 +1,5 @@
--- The order of requirements of packages. Source: the crate `deno_semver`, whose version after 0.10.1 puts requirements
--- that meet fewer versions first; the builds, which it leaves out, come last here, so that only equal requirements tie.
+-- The order of package requirements. Source: the crate `deno_semver`, whose version after 0.10.1 puts requirements that match
+-- fewer versions first; builds, which it ignores, come last here, so that only equal requirements tie.
 use Rattle.std.specs.Prelude.{ℕ, List, [], Option, Some, None}
 use Rattle.std.specs.Cmp.Lexicographic.{slice_cmp}
 use Rattle.std.specs.Option.{option_cmp}
@@ -76,12 +76,12 @@ abbrev pub ranges_of : RangeSetOrTag → List VersionRange
 ranges_of (inner.RangeSet set) = set.0
 ranges_of (inner.Tag text) = []
 
--- a tag before ranges, and of two tags the greater one; the ranges one by one, and their builds last
+-- a tag before ranges, and of two tags the greater one first; the ranges one by one, and their builds last
 abbrev pub inner_cmp : RangeSetOrTag → RangeSetOrTag → Ordering
 inner_cmp =
     then_cmp (on tag_of (flip_args (option_cmp text_cmp)))
     (then_cmp (on ranges_of (slice_cmp range_cmp)) (on ranges_of (slice_cmp builds_cmp)))
 
--- the name, and then what the requirement stands for
+-- the name, and then the version requirement's meaning
 abbrev pub req_cmp : PackageReq → PackageReq → Ordering
 req_cmp = then_cmp (on (λ (r : PackageReq). r.name) text_cmp) (on (λ (r : PackageReq). r.version_req.inner) inner_cmp)

@@ -1,4 +1,4 @@
--- The order of requirements is total, and ties only where the names are the same and the requirements stand for the
+-- The order of package requirements is total, and ties only if the names are the same and the version requirements mean the
 -- same.
 use Rattle.std.proofs.Common.{◌≡◌, ◌&&◌, ℕ, List, [], ◌∷◌, Bool, Some, nat_eq, refl, sym, ap}
 use Rattle.std.proofs.lemmas.Cmp.{back_total, lists_total, nat_list_cmp_total, tied_itself}

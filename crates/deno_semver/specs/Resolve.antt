@@ -1,5 +1,5 @@
--- Which of several versions is taken: of those that match, the first of the greatest or of the least by precedence.
--- Sources: node-semver's `maxSatisfying` and `minSatisfying`.
+-- Which of several versions is chosen: of those that match, the first of the highest or of the lowest by precedence. Sources:
+-- node-semver's `maxSatisfying` and `minSatisfying`.
 use Rattle.std.specs.Prelude.{◌≡◌, ◌++◌, ◌∷◌, ◌&&◌, ℕ, List, Bool, true, false, not, length, Option, Some, None}
 use Rattle.std.specs.List.{list_any}
 use Rattle.std.specs.Ordering.{is_lt}
@@ -14,7 +14,7 @@ lower one other = is_lt (precedence_cmp one other)
 abbrev pub greater : Version → Version → Bool
 greater one other = lower other one
 
--- the version stands at the place and matches; no match is better, and none before it is as good
+-- the version at the index matches; no match is better, and none before it is as good
 pub record IsBestAt (better : Version → Version → Bool) (means : Version → Bool) (versions : List Version) (place : ℕ)
     (version : Version) : Type 0 where
   pub before : List Version
@@ -25,11 +25,11 @@ pub record IsBestAt (better : Version → Version → Bool) (means : Version →
   pub best : list_any (λ other. means other && better other version) versions ≡ false
   pub first : list_any (λ other. means other && not (better version other)) before ≡ false
 
--- the place of the first of the best matches; none where no version matches
+-- the index of the first of the best matches; none if no version matches
 abbrev pub IsBestMatch : (Version → Version → Bool) → (Version → Bool) → List Version → Option ℕ → Type 0
 IsBestMatch better means versions None = list_any means versions ≡ false
 IsBestMatch better means versions (Some place) = (version : Version) × IsBestAt better means versions place version
 
--- no other answer is such a place
+-- no other result is such an index
 abbrev pub IsOnlyMatch : (Version → Version → Bool) → (Version → Bool) → List Version → Option ℕ → Type 0
 IsOnlyMatch better means versions answer = (other : Option ℕ) → IsBestMatch better means versions other → other ≡ answer

@@ -1,4 +1,4 @@
--- Steps of the search for the best version that matches.
+-- Steps of the search for the best matching version.
 use Rattle.std.specs.Prelude.{ℕ, Bool, true, Option, Some, None}
 use Rattle.std.specs.Borrow.{Bor}
 use Rattle.semver_base.specs.declared.version.Version.{Version}
@@ -11,7 +11,7 @@ abbrev pub nearer : End → Version → Version → Bool
 nearer end.Greatest one other = greater one other
 nearer end.Least one other = lower one other
 
--- the version is nearer to the end than the one that is known, if any
+-- the version is nearer to the end than the best match so far, if any
 abbrev pub exceeds : End → Version → Option (ℕ × Bor Version) → Bool
 exceeds e version None = true
 exceeds e version (Some known) = nearer e version known.1.now

@@ -1,5 +1,5 @@
--- The URL of a reference to a version: the crate `url` says what its text is parsed as, by the URL Standard. Source:
--- the crate `deno_semver`.
+-- The URL of a reference to a version: the crate `url` says what its text parses to under the URL Standard. Source: the crate
+-- `deno_semver`.
 use Rattle.std.specs.Prelude.{◌≡◌, ◌∷◌, ℕ, List, None, Result, Ok, Err, MatchResult}
 use Rattle.url.specs.Parser.{parse_url}
 use Rattle.url.specs.Parts.{Parts}
@@ -17,17 +17,17 @@ use Rattle.deno_semver.specs.declared.package.specifier.SpecifierError.TheVarian
 abbrev pub specifier_text : PackageKind → PackageNvReference → List ℕ
 specifier_text kind reference = with_scheme kind (slash ∷ nv_reference_text reference)
 
--- what a refusal of `url` is told as
+-- the error for a parse error of `url`
 abbrev pub told_refusal : ParseError → SpecifierError
 told_refusal OutOfMemory = error.Memory
 told_refusal Overflow = error.Memory
 told_refusal cause = error.Url
 
--- the URL Standard refuses the text; or memory is wanting, as it is for a URL of 4 GB, and no more is said
+-- the text isn't valid under the URL Standard; or out of memory, which includes a URL of 4 GB, and says no more
 abbrev pub IsUrlRefusal : List ℕ → SpecifierError → Type 0
 IsUrlRefusal text error.Url = (cause : ParseError) × (parse_url None text ≡ Err cause)
 IsUrlRefusal text error.Memory = Unit {0}
 
--- what `url` parses of the text, or why there is no URL
+-- what `url` parses the text to, or why there is no URL
 abbrev pub IsSpecifier : List ℕ → Result Parts SpecifierError → Type 0
 IsSpecifier text result = MatchResult result (λ url. parse_url None text ≡ Ok url) (IsUrlRefusal text)

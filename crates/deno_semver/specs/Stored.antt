@@ -1,5 +1,5 @@
--- What is read again of a requirement of a package, or a dependency, that was stored as its normal text. Source: the
--- crate `deno_semver`, whose text of a requirement is meant to be read back.
+-- What the stored canonical form of a package requirement, or a dependency, parses to. Source: the crate `deno_semver`, which
+-- means a requirement's text to be parsed again.
 use Rattle.std.specs.Prelude.{◌≡◌, ℕ, List, true, Ok, IsUtf8}
 use Rattle.std.specs.List.{list_all}
 use Rattle.serde_json.specs.Data.{Data, string}
@@ -19,22 +19,22 @@ use Rattle.deno_semver.specs.RequirementText.{normal_req_text}
 use Rattle.deno_semver.specs.declared.jsr.dependency.JsrDepPackageReq.{JsrDepPackageReq}
 use Rattle.deno_semver.specs.declared.package.values.PackageReq.{PackageReq}
 
--- ranges that are read in place of these
+-- ranges that are parsed in place of these
 pub record AreReadFor (ranges again : List VersionRange) : Type 0 where
-  -- they match the same versions where each of these keeps its meaning, with npm's rule about pre-releases and without
+  -- they match the same versions if each of these keeps its meaning, with npm's rule about pre-releases and without
   pub means : list_all keeps_meaning ranges ≡ true → (flag : PreRelease) (v : Version)
       → tree_means_with flag (alternatives again) v ≡ tree_means_with flag (alternatives ranges) v
-  -- they are the same where each of these is orderly too
+  -- they are the same if each of these is orderly too
   pub equal : list_all is_orderly ranges ≡ true → list_all keeps_meaning ranges ≡ true → again ≡ ranges
 
--- ranges are read as such ranges, and a tag as itself
+-- ranges parse to such ranges, and a tag to itself
 abbrev pub IsReadFor : RangeSetOrTag → RangeSetOrTag → Type 0
 IsReadFor (inner.RangeSet set) (inner.RangeSet again) = AreReadFor set.0 again.0
 IsReadFor (inner.RangeSet set) (inner.Tag again) = ⊥
 IsReadFor (inner.Tag tag) (inner.RangeSet again) = ⊥
 IsReadFor (inner.Tag tag) (inner.Tag again) = again ≡ tag
 
--- the JSON stands for a requirement that is equal to this one
+-- the JSON parses to a package requirement equal to this one
 pub record StandsForEqual (json : Data) (req : PackageReq) : Type 0 where
   pub again : PackageReq
   pub stands_for : IsStringOf IsTextOfReq json again
@@ -44,26 +44,26 @@ pub record StandsForEqual (json : Data) (req : PackageReq) : Type 0 where
 abbrev pub IsSettledReq : PackageReq → Type 0
 IsSettledReq req = StandsForEqual (string (normal_req_text req)) req
 
--- a requirement with the same name, which keeps what this one means, and is settled
+-- a package requirement with the same name, which keeps this one's meaning and is stable
 pub record IsKeptReq (req again : PackageReq) : Type 0 where
   pub name : again.name ≡ req.name
   pub kept : IsReadFor req.version_req.inner again.version_req.inner
   pub settled : IsSettledReq again
 
--- the JSON stands for such a requirement
+-- the JSON parses to such a package requirement
 pub record IsStoredReq (req : PackageReq) (json : Data) : Type 0 where
   pub again : PackageReq
   pub stands_for : IsStringOf IsTextOfReq json again
   pub is_kept : IsKeptReq req again
 
--- the JSON of each requirement that npm's reader read of some text does so
+-- the JSON of each package requirement that npm's grammar parsed from some text does so
 abbrev pub StoredRequirementsAreReadAgain : Type 0
 StoredRequirementsAreReadAgain = (req : PackageReq) (text : List ℕ) → IsUtf8 text → IsPackageOutcome Npm text (Ok req)
     → IsStoredReq req (string (normal_req_text req))
 
 -- ---- dependencies
 
--- the JSON stands for a dependency that is equal to this one
+-- the JSON parses to a dependency equal to this one
 pub record StandsForEqualDependency (json : Data) (dependency : JsrDepPackageReq) : Type 0 where
   pub again : JsrDepPackageReq
   pub stands_for : IsStringOf IsTextOfDependency json again
@@ -72,7 +72,7 @@ pub record StandsForEqualDependency (json : Data) (dependency : JsrDepPackageReq
 abbrev pub IsSettledDependency : JsrDepPackageReq → Type 0
 IsSettledDependency dependency = StandsForEqualDependency (string (normal_dependency_text dependency)) dependency
 
--- the JSON stands for a dependency of the same registry and name, which keeps what this one means, and is settled
+-- the JSON parses to a dependency of the same registry and name, which keeps this one's meaning and is stable
 pub record IsStoredDependency (dependency : JsrDepPackageReq) (json : Data) : Type 0 where
   pub again : JsrDepPackageReq
   pub stands_for : IsStringOf IsTextOfDependency json again

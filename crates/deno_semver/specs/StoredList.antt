@@ -1,6 +1,5 @@
--- Lists of requirements of packages as JSON: what an array stands for, the order in which it is read, and what is read
--- again of a list that was stored. Source: the crate `deno_semver`, which keeps lists of requirements in the order of
--- requirements.
+-- Lists of package requirements as JSON: what an array parses to, in which order, and what the JSON of a stored list parses
+-- to. Source: the crate `deno_semver`, which keeps lists of requirements in the order of requirements.
 use Rattle.std.specs.Prelude.{◌≡◌, ℕ, List, [], ◌∷◌, Ok, IsPermutation, IsSorted, IsUtf8, map}
 use Rattle.serde_json.specs.Data.{Data, array, string, Items}
 use Rattle.serde_json.specs.View.{items_of}
@@ -13,22 +12,22 @@ use Rattle.deno_semver.specs.RequirementText.{normal_req_text}
 use Rattle.deno_semver.specs.Stored.{IsKeptReq}
 use Rattle.deno_semver.specs.declared.package.values.PackageReq.{PackageReq}
 
--- the array of the JSON of the requirements, in their order
+-- the array of the JSON of the package requirements, in their order
 abbrev pub reqs_json : List PackageReq → Data
 reqs_json reqs = array (items_of (map (λ req. string (normal_req_text req)) reqs))
 
--- an array whose items are read as the requirements, one by one
+-- an array whose items parse to the package requirements, one by one
 pub record IsJsonOfReqs (json : Data) (reqs : List PackageReq) : Type 0 where
   pub items : Items
   pub is_array : json ≡ array items
   pub are_read : AreItemsOf (IsStringOf IsTextOfReq) items reqs
 
--- the same requirements, each as often, in ascending order
+-- the same package requirements, each as often, in ascending order
 pub record IsSortedFrom (reqs sorted : List PackageReq) : Type 0 where
   pub same : IsPermutation reqs sorted
   pub ascending : IsSorted req_cmp sorted
 
--- the requirements of an array, sorted
+-- the package requirements of an array, sorted
 pub record IsReadList (json : Data) (sorted : List PackageReq) : Type 0 where
   pub stored : List PackageReq
   pub stands_for : IsJsonOfReqs json stored
@@ -36,7 +35,7 @@ pub record IsReadList (json : Data) (sorted : List PackageReq) : Type 0 where
 
 -- ---- what is read again
 
--- the lists are equally long, and what stands at the same place is so related
+-- the lists have the same length, and the items at the same place are so related
 abbrev pub OneByOne : (PackageReq → PackageReq → Type 0) → List PackageReq → List PackageReq → Type 0
 OneByOne R [] [] = Unit {0}
 OneByOne R [] (y ∷ ys) = ⊥
@@ -46,19 +45,19 @@ OneByOne R (x ∷ xs) (y ∷ ys) = R x y × OneByOne R xs ys
 abbrev pub AreEqualLists : List PackageReq → List PackageReq → Type 0
 AreEqualLists = OneByOne AreEqualReqs
 
--- npm's reader read each of some text
+-- npm's grammar parsed the package requirement from some text
 pub record IsNpmReq (req : PackageReq) : Type 0 where
   pub text : List ℕ
   pub is_text : IsUtf8 text
   pub is_read : IsPackageOutcome Npm text (Ok req)
 
--- the JSON stands for a list that has, at each place, what is kept of the requirement there
+-- the JSON parses to a list that has, at each place, what is kept of the package requirement there
 pub record IsStoredList (reqs : List PackageReq) (json : Data) : Type 0 where
   pub again : List PackageReq
   pub stands_for : IsJsonOfReqs json again
   pub are_kept : OneByOne IsKeptReq reqs again
 
--- the JSON stands for a list that is equal to this one
+-- the JSON parses to a list equal to this one
 pub record StandsForEqualList (json : Data) (reqs : List PackageReq) : Type 0 where
   pub again : List PackageReq
   pub stands_for : IsJsonOfReqs json again

@@ -1,5 +1,5 @@
-//! Values as JSON: texts, versions, packages and what requirements stand for as strings of their texts; bounds, ranges
-//! and requirements of versions as objects and arrays; lists of requirements of packages as arrays.
+//! Values as JSON: texts, versions, packages and parsed ranges or tags as strings; bounds, ranges and version requirements as
+//! objects and arrays; lists of package requirements as arrays.
 
 ghost use Rattle.std.specs.Prelude.{IfErr, IfOk, ◌≡◌};
 ghost use Rattle.serde_json.specs.Data.{Data};
@@ -16,20 +16,20 @@ pub use list::{reqs_from_json, reqs_to_json};
 use serde_json::Value;
 use std::alloc::{AllocError, Global};
 
-/// A value that is stored as JSON, and read again, in the form that the crate `deno_semver` gives it.
+/// A value with the JSON form that the crate `deno_semver` gives it.
 pub trait JsonForm: Drop {
-    /// The JSON of a value.
+    /// The value's JSON.
     ghost json: { Self → Data };
 
-    /// What JSON stands for a value, be it its own or another.
+    /// The JSON, the value's own or other, parses to the value.
     ghost stands_for: { Data → Self → Type 0 };
 
-    /// The JSON of the value. It is an error only where no memory is left.
+    /// Returns the value's JSON. Fails only out of memory.
     fn to_json(&self, alloc: Global) -> Result<Value, AllocError>
         ensures { IfOk result (λ value. view value ≡ json self.now) };
 
-    /// The value that the JSON stands for. It is [`JsonError::Json`] exactly where it stands for none, and
-    /// [`JsonError::Memory`] only where no memory is left.
+    /// Parses the JSON. Fails with [`JsonError::Json`] exactly if the JSON doesn't parse to a value, and with
+    /// [`JsonError::Memory`] only out of memory.
     fn from_json(alloc: Global, value: &Value) -> Result<Self, JsonError>
         ensures read { IfOk result (stands_for (view value.now)) }
         ensures refused { IfErr result (IsJsonRefusal stands_for (view value.now)) }

@@ -1,4 +1,4 @@
-//! JSR: references to its packages, and the names of what they export, and dependencies of them.
+//! JSR: references to packages, the names of their exports, and their dependencies.
 
 mod dependency;
 mod export;

@@ -1,9 +1,9 @@
-//! Laws of equality, and of what texts and JSON stand for, each as the contract of a call.
+//! Laws of equality, and of what texts and JSON parse to, each as the contract of a call.
 //!
-//! `==` of each type of this crate says yes exactly where the two values are the same, as contracts see them; that of
-//! requirements of packages where the names are and the requirements of versions stand for the same. A caller whose proof
-//! needs that calls the law of its type in place of `==`. Equal values hash alike: `equal_hash_alike` of `semver_base` says it
-//! of each type that has `Hash`.
+//! `==` of each type in this crate holds exactly if the two values are the same, as contracts see them; of package
+//! requirements, if the names are the same and the version requirements mean the same. A caller whose proof needs this calls
+//! the type's law in place of `==`. Equal values hash alike: `equal_hash_alike` of `semver_base` says so of each type that
+//! has `Hash`.
 
 ghost use Rattle.std.specs.Prelude.{◌≡◌, ◌↔◌, IsTrue};
 ghost use Rattle.deno_semver.specs.Equal.{AreEqualDependencies, AreEqualReferences};
@@ -42,8 +42,8 @@ pub fn same_names_and_versions(one: &PackageNv, other: &PackageNv) -> bool
     one == other
 }
 
-/// Whether two requirements of packages are equal: they are where their names are and they stand for the same, whatever
-/// texts they were read from.
+/// Whether two package requirements are equal: their names are the same and they mean the same, whatever texts they were
+/// parsed from.
 pub fn equal_package_requirements(one: &PackageReq, other: &PackageReq) -> bool
     ensures { IsTrue result
         ↔ ((one.now.name ≡ other.now.name) × (one.now.version_req.inner ≡ other.now.version_req.inner)) }
@@ -58,28 +58,28 @@ pub fn same_parts_errors(one: &PackageReqPartsParseError, other: &PackageReqPart
     one == other
 }
 
-/// Whether two errors of reading JSON are the same.
+/// Whether two JSON errors are the same.
 pub fn same_json_errors(one: &JsonError, other: &JsonError) -> bool
     ensures { IsTrue result ↔ (one.now ≡ other.now) }
 {
     one == other
 }
 
-/// Whether two references are equal: their requirements are, and their paths are the same.
+/// Whether two references are equal: their package requirements are equal, and their paths are the same.
 pub fn equal_references(one: &PackageReqReference, other: &PackageReqReference) -> bool
     ensures { IsTrue result ↔ AreEqualReferences one.now other.now }
 {
     one == other
 }
 
-/// The same of references to packages of JSR.
+/// Whether two references to JSR packages are equal.
 pub fn equal_jsr_references(one: &JsrPackageReqReference, other: &JsrPackageReqReference) -> bool
     ensures { IsTrue result ↔ AreEqualReferences one.now other.now }
 {
     one == other
 }
 
-/// The same of references to packages of npm.
+/// Whether two references to npm packages are equal.
 pub fn equal_npm_references(one: &NpmPackageReqReference, other: &NpmPackageReqReference) -> bool
     ensures { IsTrue result ↔ AreEqualReferences one.now other.now }
 {
@@ -93,7 +93,7 @@ pub fn same_version_references(one: &PackageNvReference, other: &PackageNvRefere
     one == other
 }
 
-/// The same of references to packages of JSR.
+/// Whether two references to versions of JSR packages are the same, builds included.
 pub fn same_jsr_version_references(
     one: &JsrPackageNvReference,
     other: &JsrPackageNvReference,
@@ -103,7 +103,7 @@ pub fn same_jsr_version_references(
     one == other
 }
 
-/// The same of references to packages of npm.
+/// Whether two references to versions of npm packages are the same, builds included.
 pub fn same_npm_version_references(
     one: &NpmPackageNvReference,
     other: &NpmPackageNvReference,
@@ -113,14 +113,14 @@ pub fn same_npm_version_references(
     one == other
 }
 
-/// Whether two dependencies are equal: their registries are the same, and their requirements are equal.
+/// Whether two dependencies are equal: their registries are the same, and their package requirements are equal.
 pub fn equal_dependencies(one: &JsrDepPackageReq, other: &JsrDepPackageReq) -> bool
     ensures { IsTrue result ↔ AreEqualDependencies one.now other.now }
 {
     one == other
 }
 
-/// Whether two errors of references are the same, wherever their boxes lie.
+/// Whether two reference errors are the same, wherever their boxes lie.
 pub fn same_reference_errors(
     one: &PackageReqReferenceParseError,
     other: &PackageReqReferenceParseError,
@@ -198,7 +198,7 @@ pub fn version_references_have_one_outcome()
     version_texts_have_one_outcome();
 }
 
-/// JSON stands for at most one version, one range, and one set of ranges.
+/// JSON parses to at most one version, one range, and one set of ranges.
 pub fn json_stands_for_one_range()
     ensures versions { StandsForOne (IsStringOf IsTextOfVersion) }
     ensures ranges { StandsForOne IsJsonOfRange }
@@ -207,9 +207,9 @@ pub fn json_stands_for_one_range()
     version_texts_have_one_outcome();
 }
 
-/// JSON stands for at most one requirement of versions, one requirement of a package, one list of these, one name with a
-/// version, one reference to a version of a registry, and one dependency. Which list an array is read as is open where the
-/// order leaves equal ones.
+/// JSON parses to at most one version requirement, one package requirement, one list of these, one name with a version, one
+/// reference to a version of a registry, and one dependency. Which list an array parses to is unspecified where the order
+/// leaves equal ones.
 pub fn json_stands_for_one_value()
     ensures requirements { StandsForOne IsJsonOfVersionReq }
     ensures package_requirements { StandsForOne (IsStringOf IsTextOfReq) }
@@ -225,8 +225,8 @@ pub fn json_stands_for_one_value()
     dependencies_have_one_outcome();
 }
 
-/// The JSON of a requirement of a package that npm's reader read stands for one with the same name and the same tag, or ranges
-/// that match the same versions where each of the first ones keeps its meaning; its own JSON stands for an equal one.
+/// The JSON of a package requirement parsed by npm's grammar parses to one with the same name and the same tag, or ranges
+/// that match the same versions if each of the first ones keeps its meaning; its own JSON parses to an equal one.
 pub fn stored_requirements_are_read_again()
     ensures { StoredRequirementsAreReadAgain }
 {

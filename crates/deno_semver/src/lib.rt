@@ -1,7 +1,7 @@
-//! Versions and version requirements of npm and JSR packages: how they are read, compared and matched.
+//! Versions and version requirements of npm and JSR packages: parsing, comparing and matching.
 //!
-//! A verified port of the crate `deno_semver`. What each call promises stands in the contracts of the crates below,
-//! `semver_base` and `semver_req`; this crate shows their public names at the paths that users write.
+//! A verified port of the crate `deno_semver`. The contracts that state what each call promises are in the crates
+//! `semver_base` and `semver_req`; this crate exports their public names at the paths that users write.
 #![tactic(auto)]
 
 pub mod json;

@@ -1,5 +1,5 @@
-//! What npm's rules say of versions and requirements: its readers, their errors, and which texts are tags; and
-//! references to its packages.
+//! npm's rules for versions and version requirements: parsers, their errors, and which texts are tags; and references to npm
+//! packages.
 
 mod reference;
 

@@ -1,4 +1,4 @@
-//! Packages: requirements of them, names with versions, and how both are read, written and ordered.
+//! Packages: package requirements and names with versions, their parsing, texts and order.
 
 mod cut;
 mod errors;

@@ -1,4 +1,4 @@
-//! Which of several versions a requirement takes, as `maxSatisfying` and `minSatisfying` of node-semver answer it.
+//! Which of several versions is the best match, as `maxSatisfying` and `minSatisfying` of node-semver choose it.
 
 ghost use Rattle.std.specs.Prelude.{◌≡◌, ◌&&◌, None};
 ghost use Rattle.semver_req.specs.Requirement.{inner_means, inner_means_with, tag_of};
@@ -9,7 +9,7 @@ use semver_base::range::PreRelease;
 use semver_base::version::Version;
 use semver_req::req::VersionReq;
 
-// Which end of precedence is asked for.
+// Which end of the precedence order is wanted.
 #[derive(Clone, Copy)]
 enum End {
     Greatest,
@@ -17,7 +17,7 @@ enum End {
 }
 
 impl End {
-    // Whether the one version is nearer to this end than the other one.
+    // Whether one version is nearer to this end than the other.
     fn is_nearer(self, one: &Version, other: &Version) -> bool
         ensures { result ≡ nearer self one.now other.now }
     {
@@ -28,7 +28,7 @@ impl End {
     }
 }
 
-// Whether the version matches, and is nearer to the end than the match that is known, if any.
+// Whether the version matches and is nearer to the end than the best match so far, if any.
 fn is_better(
     version: &Version,
     known: Option<(usize, &Version)>,
@@ -47,7 +47,7 @@ fn is_better(
         }
 }
 
-// The place of the first of the matches that are nearest to the end.
+// The index of the first of the matches nearest to the end.
 fn first_best(
     versions: &[Version],
     requirement: &VersionReq,
@@ -72,8 +72,8 @@ fn first_best(
     }
 }
 
-/// The place of the greatest version by precedence that matches the requirement, which is no tag: of those that are equal,
-/// builds aside, the first. None exactly where no version matches.
+/// Returns the index of the highest version by precedence that matches `requirement`, which isn't a tag; of versions equal
+/// but for builds, the first. Returns none exactly if no version matches.
 pub fn max_satisfying(versions: &[Version], requirement: &VersionReq) -> Option<usize>
     requires { tag_of requirement.now.inner ≡ None }
     ensures greatest { IsBestMatch greater (λ v. inner_means requirement.now.inner v)
@@ -84,8 +84,8 @@ pub fn max_satisfying(versions: &[Version], requirement: &VersionReq) -> Option<
     max_satisfying_with(versions, requirement, PreRelease::Restricted)
 }
 
-/// The place of the least version by precedence that matches the requirement, which is no tag: of those that are equal,
-/// builds aside, the first. None exactly where no version matches.
+/// Returns the index of the lowest version by precedence that matches `requirement`, which isn't a tag; of versions equal but
+/// for builds, the first. Returns none exactly if no version matches.
 pub fn min_satisfying(versions: &[Version], requirement: &VersionReq) -> Option<usize>
     requires { tag_of requirement.now.inner ≡ None }
     ensures least { IsBestMatch lower (λ v. inner_means requirement.now.inner v)
@@ -96,7 +96,7 @@ pub fn min_satisfying(versions: &[Version], requirement: &VersionReq) -> Option<
     min_satisfying_with(versions, requirement, PreRelease::Restricted)
 }
 
-/// As [`max_satisfying`], with pre-releases restricted or admitted throughout.
+/// Like [`max_satisfying`], with pre-releases restricted by npm's rule or admitted throughout.
 pub fn max_satisfying_with(
     versions: &[Version],
     requirement: &VersionReq,
@@ -111,7 +111,7 @@ pub fn max_satisfying_with(
     first_best(versions, requirement, pre_release, End::Greatest)
 }
 
-/// As [`min_satisfying`], with pre-releases restricted or admitted throughout.
+/// Like [`min_satisfying`], with pre-releases restricted by npm's rule or admitted throughout.
 pub fn min_satisfying_with(
     versions: &[Version],
     requirement: &VersionReq,

@@ -1,30 +1,30 @@
-//! Why a JSON value is refused.
+//! Why JSON is rejected.
 
 ghost use Rattle.std.specs.Prelude.{◌≡◌, ◌↔◌, IfOk, IsTrue};
 
 use std::alloc::AllocError;
 use thiserror::Error;
 
-/// Why no value is read of a JSON value, or that memory was wanting.
+/// Why JSON doesn't parse to a value, or that memory ran out.
 #[derive(Debug, PartialEq, Eq, Drop, Error)]
 pub enum JsonError {
-    /// The JSON value has another form, lacks a member, or holds a text that its reader refuses.
+    /// The JSON has the wrong form, lacks a member, or holds a text that doesn't parse.
     #[error("Invalid JSON value")]
     Json,
-    /// Memory was wanting.
+    /// Out of memory.
     #[error("Out of memory.")]
     Memory,
 }
 
 impl JsonError {
-    /// Whether memory was wanting.
+    /// Whether the error is out of memory.
     pub fn is_memory(&self) -> bool
         ensures { IsTrue result ↔ (self.now ≡ JsonError.Memory) }
     {
         matches!(self, JsonError::Memory)
     }
 
-    /// The same error again. It is an error only where no memory is left.
+    /// Copies the error. Fails only out of memory.
     pub fn copy(&self) -> Result<Self, AllocError>
         ensures { IfOk result (λ error. error ≡ self.now) }
     {
@@ -34,7 +34,7 @@ impl JsonError {
         }
     }
 
-    /// The error for a text that its reader refuses: want of memory where that was wanting.
+    /// The error for a text that doesn't parse, or for running out of memory.
     pub(crate) fn of_reader(is_memory: bool) -> JsonError
         ensures { IsTrue is_memory ↔ (result ≡ JsonError.Memory) }
     {

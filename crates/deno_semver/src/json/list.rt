@@ -1,4 +1,4 @@
-//! Lists of requirements of packages as JSON.
+//! Lists of package requirements as JSON.
 
 ghost use Rattle.std.specs.Prelude.{◌≡◌, All, IfErr, IfOk, IsSorted, List, MatchResult};
 ghost use Rattle.serde_json.specs.View.{items_view, view};
@@ -16,7 +16,7 @@ use crate::package::PackageReq;
 use serde_json::Value;
 use std::alloc::{AllocError, Global};
 
-// The array of the JSON of the requirements.
+// The JSON array of the package requirements.
 fn stored(alloc: Global, reqs: &[PackageReq]) -> Result<Value, AllocError>
     ensures { IfOk result (λ json. view json ≡ reqs_json reqs.now) }
 {
@@ -24,10 +24,10 @@ fn stored(alloc: Global, reqs: &[PackageReq]) -> Result<Value, AllocError>
     Ok(Value::Array(items))
 }
 
-/// The array of the JSON of the requirements, in the given order. It is an error only where no memory is left.
+/// Returns the JSON array of the package requirements, in the given order. Fails only out of memory.
 ///
-/// Of the JSON of requirements that [`PackageReq::from_str_loose`] read requirements are read again, at the same places,
-/// as [`PackageReq`]'s JSON says; and of the JSON of what was read again so, equal ones.
+/// The JSON of requirements that [`PackageReq::from_str_loose`] parsed parses to requirements at the same places, as
+/// [`PackageReq`]'s JSON says, and the JSON of those parses to equal ones.
 pub fn reqs_to_json(alloc: Global, reqs: &[PackageReq]) -> Result<Value, AllocError>
     ensures value { IfOk result (λ json. view json ≡ reqs_json reqs.now) }
     ensures read_again { IfOk result (λ json. All IsNpmReq reqs.now
@@ -39,7 +39,7 @@ pub fn reqs_to_json(alloc: Global, reqs: &[PackageReq]) -> Result<Value, AllocEr
     stored(alloc, reqs)
 }
 
-// The values that the items stand for, in order.
+// The values that the items parse to, in order.
 fn of_items<T: JsonForm>(alloc: Global, items: &[Value]) -> Result<Vec<T>, JsonError>
     ensures read { IfOk result
         (λ values. AreItemsOf T.stands_for (items_view items.now) values.items) }
@@ -56,7 +56,7 @@ fn of_items<T: JsonForm>(alloc: Global, items: &[Value]) -> Result<Vec<T>, JsonE
     Ok(values)
 }
 
-// The same requirements in ascending order.
+// The same package requirements in ascending order.
 fn sorted(mut reqs: Vec<PackageReq>) -> Result<Vec<PackageReq>, AllocError>
     ensures { IfOk result (λ sorted. IsSortedFrom reqs.items sorted.items) }
 {
@@ -64,11 +64,11 @@ fn sorted(mut reqs: Vec<PackageReq>) -> Result<Vec<PackageReq>, AllocError>
     Ok(reqs)
 }
 
-/// The requirements that the items of an array stand for, each as often as it stands there, in ascending order. Which of
-/// several equal ones comes first is open.
+/// Parses an array to package requirements, each as often as it occurs, in ascending order. The order among equal ones is
+/// unspecified.
 ///
-/// It is [`JsonError::Json`] exactly where the JSON is no array, or an item stands for no requirement, and
-/// [`JsonError::Memory`] only where no memory is left. A list in ascending order that was stored is read as an equal one.
+/// Fails with [`JsonError::Json`] exactly if the JSON isn't an array or an item doesn't parse to a package requirement, and
+/// with [`JsonError::Memory`] only out of memory. A list stored in ascending order parses to an equal one.
 pub fn reqs_from_json(alloc: Global, value: &Value) -> Result<Vec<PackageReq>, JsonError>
     ensures read { IfOk result (λ reqs. IsReadList (view value.now) reqs.items) }
     ensures refused { IfErr result (IsJsonRefusal IsJsonOfReqs (view value.now)) }

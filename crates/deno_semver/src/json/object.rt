@@ -19,7 +19,7 @@ use semver_req::req::VersionReq;
 use serde_json::{Map, Value, put};
 use std::alloc::{AllocError, Global};
 
-// The value that is read of the member of an object with this key.
+// The value that the object's member with this key parses to.
 fn of_member<T: JsonForm>(alloc: Global, value: &Value, key: &str) -> Result<T, JsonError>
     ensures read { IfOk result (IsMemberOf T.stands_for key.now (view value.now)) }
     ensures answer { (x : T) → IsMemberOf T.stands_for key.now (view value.now) x
@@ -31,7 +31,7 @@ fn of_member<T: JsonForm>(alloc: Global, value: &Value, key: &str) -> Result<T, 
     }
 }
 
-// The values that are read of the members of an object with these two keys.
+// The values that the object's members with these two keys parse to.
 fn of_members<A: JsonForm, B: JsonForm>(
     alloc: Global,
     value: &Value,
@@ -48,7 +48,7 @@ fn of_members<A: JsonForm, B: JsonForm>(
     Ok((one, other))
 }
 
-// Puts the JSON of a value into an object, under this key.
+// Puts the JSON of a value into an object under this key.
 #[inline(always)]
 fn put_json<T: JsonForm>(
     alloc: Global,
@@ -89,7 +89,7 @@ fn is_single(members: &Map<String, Value>) -> bool
     members.len() == 1
 }
 
-// The member of an object that has this one alone.
+// The member with this key, if the object has no other.
 fn only_member<'v>(value: &'v Value, key: &str) -> Option<&'v Value>
     ensures { MatchOption result
         ((d : Data) → view value.now ≡ object (member key.now d no_members) → ⊥)
@@ -117,7 +117,7 @@ fn is_unbounded(value: &Value) -> bool
     }
 }
 
-/// The string `Unbounded`, or an object with the one member `Version`. An object with another member besides is refused.
+/// The string `Unbounded`, or an object whose only member is `Version`; one with further members is rejected.
 impl JsonForm for RangeBound {
     ghost json = { range_bound_json };
 
@@ -175,7 +175,7 @@ pub(super) fn items_json<T: JsonForm>(alloc: Global, values: &[T]) -> Result<Vec
     Ok(items)
 }
 
-// The ranges that the items stand for, in order.
+// The ranges that the items parse to, in order.
 fn of_items(alloc: Global, items: &[Value]) -> Result<CowVec<VersionRange>, JsonError>
     ensures read { IfOk result (AreItemsOf IsJsonOfRange (items_view items.now)) }
     ensures answer { (ranges : List VersionRange)

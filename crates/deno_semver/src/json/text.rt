@@ -1,4 +1,4 @@
-//! Values whose JSON is the string of their text.
+//! Values whose JSON is a string of their text.
 
 ghost use Rattle.std.specs.Prelude.{◌≡◌, ◌⊎◌, IfErr, IfOk, IfSome, IsUtf8, List, Ok, ℕ};
 ghost use Rattle.serde_json.specs.Data.{string};
@@ -34,25 +34,25 @@ use serde_json::Value;
 use std::alloc::{AllocError, Global};
 use std::fmt;
 
-// A value that is read of a text.
+// A value that is parsed from a text.
 trait TextForm: Drop {
-    // The text is read as the value.
+    // The text parses to the value.
     ghost reads: { List ℕ → Self → Type 0 };
 
-    // The value that the text is read as.
+    // Parses the text.
     fn of_text(alloc: Global, text: &str) -> Result<Self, JsonError>
         ensures read { IfOk result (reads text.now) }
         ensures answer { (x : Self) → reads text.now x → IsJsonAnswer x result };
 }
 
-// The string of how the value is displayed.
+// The JSON string of the value as displayed.
 fn string_of<D: fmt::Display>(alloc: Global, value: &D) -> Result<Value, AllocError>
     ensures { IfOk result (λ json. IfSome (D.output value.now) (λ text. view json ≡ string text)) }
 {
     Ok(Value::String(displayed(alloc, value)?))
 }
 
-// The value that is read of the text of a string.
+// Parses the text of a JSON string.
 fn of_string<T: TextForm>(alloc: Global, value: &Value) -> Result<T, JsonError>
     ensures read { IfOk result (IsStringOf T.reads (view value.now)) }
     ensures refused { IfErr result (IsJsonRefusal (IsStringOf T.reads) (view value.now)) }
@@ -215,7 +215,7 @@ impl TextForm for VersionBoundKind {
     }
 }
 
-/// The string that is the text.
+/// A string of the text.
 impl JsonForm for SmallStackString {
     ghost json = { string };
 
@@ -230,7 +230,7 @@ impl JsonForm for SmallStackString {
     }
 }
 
-/// The string that is the text.
+/// A string of the text.
 impl JsonForm for StackString {
     ghost json = { string };
 
@@ -245,7 +245,7 @@ impl JsonForm for StackString {
     }
 }
 
-/// The string of the version's text; it is read as [`Version::parse_standard`] reads it.
+/// A string of the version's text, parsed by [`Version::parse_standard`].
 impl JsonForm for Version {
     ghost json = { λ version. string (version_text version) };
 
@@ -260,7 +260,7 @@ impl JsonForm for Version {
     }
 }
 
-/// The string `name@version`; it is read as [`PackageNv::from_str`] reads it.
+/// The string `name@version`, parsed by [`PackageNv::from_str`].
 impl JsonForm for PackageNv {
     ghost json = { λ nv. string (nv_text nv) };
 
@@ -275,7 +275,7 @@ impl JsonForm for PackageNv {
     }
 }
 
-// The string of the normal text.
+// The JSON string of the canonical form.
 fn stored(alloc: Global, req: &PackageReq) -> Result<Value, AllocError>
     ensures { IfOk result (λ json. view json ≡ string (normal_req_text req.now)) }
 {
@@ -283,13 +283,12 @@ fn stored(alloc: Global, req: &PackageReq) -> Result<Value, AllocError>
     Ok(Value::String(text))
 }
 
-/// The string of the normal text ([`PackageReq::to_string_normalized`]); it is read as [`PackageReq::from_str_normalized`]
-/// reads it.
+/// A string of the canonical form ([`PackageReq::to_string_normalized`]), parsed by [`PackageReq::from_str_normalized`].
 ///
-/// Of the JSON of a requirement that [`PackageReq::from_str_loose`] read a requirement is read again, with the same name
-/// and the same tag, or ranges that match the same versions, unless a range with an end starts at a pre-release of 0.0.0
-/// and is neither one version nor `^0.0.0-pre` or `~0.0.0-pre` of it. What is read again is stored and read as an equal
-/// requirement from then on.
+/// The JSON of a package requirement that [`PackageReq::from_str_loose`] parsed parses to one with the same name and the same
+/// tag, or ranges that match the same versions, unless a range with an end starts at a pre-release of 0.0.0 and is neither
+/// one version nor `^0.0.0-pre` or `~0.0.0-pre` of it. The JSON of the parsed requirement, and of any parsed from that on,
+/// parses to an equal one.
 impl JsonForm for PackageReq {
     ghost json = { λ req. string (normal_req_text req) };
 
@@ -309,7 +308,7 @@ impl JsonForm for PackageReq {
     }
 }
 
-/// The string of the reference with its scheme; it is read as [`JsrPackageNvReference::from_str`] reads it.
+/// A string of the reference with its scheme, parsed by [`JsrPackageNvReference::from_str`].
 impl JsonForm for JsrPackageNvReference {
     ghost json = { λ reference. string (with_scheme kind.Jsr (nv_reference_text reference)) };
 
@@ -324,7 +323,7 @@ impl JsonForm for JsrPackageNvReference {
     }
 }
 
-/// The string of the reference with its scheme; it is read as [`NpmPackageNvReference::from_str`] reads it.
+/// A string of the reference with its scheme, parsed by [`NpmPackageNvReference::from_str`].
 impl JsonForm for NpmPackageNvReference {
     ghost json = { λ reference. string (with_scheme kind.Npm (nv_reference_text reference)) };
 
@@ -339,11 +338,11 @@ impl JsonForm for NpmPackageNvReference {
     }
 }
 
-/// The string of the normal text ([`JsrDepPackageReq::to_string_normalized`]); it is read as
-/// [`JsrDepPackageReq::from_str_normalized`] reads it.
+/// A string of the canonical form ([`JsrDepPackageReq::to_string_normalized`]), parsed by
+/// [`JsrDepPackageReq::from_str_normalized`].
 ///
-/// Of the JSON of a dependency that [`JsrDepPackageReq::from_str_loose`] read a dependency of the same registry is read
-/// again, and what is said of the JSON of a [`PackageReq`] holds of its requirement.
+/// The JSON of a dependency that [`JsrDepPackageReq::from_str_loose`] parsed parses to a dependency of the same registry, and
+/// what is said of [`PackageReq`]'s JSON holds for its package requirement.
 impl JsonForm for JsrDepPackageReq {
     ghost json = { λ dependency. string (normal_dependency_text dependency) };
 
@@ -364,7 +363,7 @@ impl JsonForm for JsrDepPackageReq {
     }
 }
 
-/// The string of the normal text; it is read as [`RangeSetOrTag::parse`] reads it.
+/// A string of the canonical form, parsed by [`RangeSetOrTag::parse`].
 impl JsonForm for RangeSetOrTag {
     ghost json = { λ inner. string (inner_text inner) };
 

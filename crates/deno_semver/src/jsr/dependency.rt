@@ -16,16 +16,16 @@ use std::cmp::Ordering;
 use std::fmt;
 use thiserror::Error;
 
-/// Why a text is no dependency of a JSR package, or that memory was wanting.
+/// Why a text isn't a valid dependency of a JSR package, or that memory ran out.
 #[derive(Debug, Drop, Error)]
 pub enum JsrDepPackageReqParseError {
-    /// The text begins with neither scheme. This shows what stands before its first `:`, or all of it.
+    /// The text begins with neither scheme. Holds the text before its first `:`, or all of it.
     #[error("Unexpected JSR dependency scheme '{0}'. Expected 'npm:' or 'jsr:'")]
     NotExpectedScheme(String),
-    /// What follows the scheme is no requirement of a package.
+    /// What follows the scheme isn't a valid package requirement.
     #[error(transparent)]
     PackageReqParse(PackageReqParseError),
-    /// Memory was wanting.
+    /// Out of memory.
     #[error("Out of memory.")]
     Memory,
 }
@@ -43,14 +43,14 @@ impl From<PackageReqParseError> for JsrDepPackageReqParseError {
 }
 
 impl JsrDepPackageReqParseError {
-    /// Whether memory was wanting.
+    /// Whether the error is out of memory.
     pub fn is_memory(&self) -> bool
         ensures { IsTrue result ↔ (self.now ≡ JsrDepPackageReqParseError.Memory) }
     {
         matches!(self, JsrDepPackageReqParseError::Memory)
     }
 
-    /// The same error again. It is an error only where no memory is left.
+    /// Copies the error. Fails only out of memory.
     pub fn copy(&self) -> Result<Self, AllocError>
         ensures { IfOk result (IsSameError self.now) }
     {
@@ -66,16 +66,16 @@ impl JsrDepPackageReqParseError {
     }
 }
 
-/// A requirement of a package of npm or of JSR, on which a JSR package depends.
+/// A package requirement for npm or JSR on which a JSR package depends.
 ///
-/// Two are ordered by their registries, JSR below npm, and then by their requirements.
+/// Ordered by registry, JSR below npm, and then by package requirement.
 #[derive(Debug, PartialEq, Eq, Hash, Drop)]
 pub struct JsrDepPackageReq {
     pub kind: PackageKind,
     pub req: PackageReq,
 }
 
-// What follows the scheme of either registry.
+// What follows either registry's scheme.
 fn after_either(text: &str) -> Option<(PackageKind, &str)>
     ensures { IsAfterEither text.now result }
 {
@@ -88,7 +88,7 @@ fn after_either(text: &str) -> Option<(PackageKind, &str)>
     }
 }
 
-// What stands before the first `:`, or the whole text.
+// The text before the first `:`, or the whole text.
 fn told_scheme(text: &str) -> &str
     ensures { result.now ≡ told_scheme text.now }
 {
@@ -98,7 +98,7 @@ fn told_scheme(text: &str) -> &str
     }
 }
 
-// The error for another scheme, or want of memory.
+// The error for another scheme, or out of memory.
 fn other_scheme(alloc: Global, text: &str) -> JsrDepPackageReqParseError
     ensures { IsToldScheme text.now result }
 {
@@ -108,7 +108,7 @@ fn other_scheme(alloc: Global, text: &str) -> JsrDepPackageReqParseError
     }
 }
 
-// The dependency that a text is, where the reader of a flavour reads its version.
+// Parses a dependency whose version has this flavour of grammar.
 fn read(
     alloc: Global,
     text: &str,
@@ -130,7 +130,7 @@ fn read(
 }
 
 impl JsrDepPackageReq {
-    /// The requirement of a package of JSR.
+    /// Makes a dependency on a JSR package.
     pub fn jsr(req: PackageReq) -> Self
         ensures { result ≡ record { kind = kind.Jsr; req = req } }
     {
@@ -140,7 +140,7 @@ impl JsrDepPackageReq {
         }
     }
 
-    /// The requirement of a package of npm.
+    /// Makes a dependency on an npm package.
     pub fn npm(req: PackageReq) -> Self
         ensures { result ≡ record { kind = kind.Npm; req = req } }
     {
@@ -150,12 +150,12 @@ impl JsrDepPackageReq {
         }
     }
 
-    /// The dependency that a text such as `jsr:@scope/name@^1.2` or `npm:name@1` is: the scheme of a registry, and a
-    /// requirement as [`PackageReq::from_str`] reads it (the dependencies of JSR's packages; the crate `deno_semver`).
+    /// Parses a dependency such as `jsr:@scope/name@^1.2` or `npm:name@1`: a registry's scheme, and a package requirement as
+    /// [`PackageReq::from_str`] parses it (the dependencies of JSR's packages; the crate `deno_semver`).
     ///
-    /// `NotExpectedScheme`: the text begins with neither `jsr:` nor `npm:`; what stands before its first `:` is shown, or
-    /// the whole text. `PackageReqParse`: what follows the scheme is refused, with that text. Any other error is want of
-    /// memory.
+    /// Fails with `NotExpectedScheme` if the text begins with neither `jsr:` nor `npm:`; the error holds the text before its
+    /// first `:`, or the whole text. Fails with `PackageReqParse` if what follows the scheme is invalid; the error holds that
+    /// text. Otherwise fails only out of memory.
     pub fn from_str(alloc: Global, text: &str) -> Result<Self, JsrDepPackageReqParseError>
         ensures read { IfOk result (λ d. IsDependencyOutcome Specifier text.now (Ok d)) }
         ensures refused { IfErr result (IsDependencyRefusal Specifier text.now) }
@@ -166,7 +166,7 @@ impl JsrDepPackageReq {
         read(alloc, text, Flavour::Specifier)
     }
 
-    /// The same ([`JsrDepPackageReq::from_str`]), by [`PackageReq::from_str_loose`].
+    /// Parses like [`JsrDepPackageReq::from_str`], but by [`PackageReq::from_str_loose`].
     pub fn from_str_loose(alloc: Global, text: &str) -> Result<Self, JsrDepPackageReqParseError>
         ensures read { IfOk result (λ d. IsDependencyOutcome Npm text.now (Ok d)) }
         ensures refused { IfErr result (IsDependencyRefusal Npm text.now) }
@@ -177,7 +177,7 @@ impl JsrDepPackageReq {
         read(alloc, text, Flavour::Npm)
     }
 
-    /// The same ([`JsrDepPackageReq::from_str`]), by [`PackageReq::from_str_normalized`].
+    /// Parses like [`JsrDepPackageReq::from_str`], but by [`PackageReq::from_str_normalized`].
     pub fn from_str_normalized(
         alloc: Global,
         text: &str,
@@ -191,8 +191,8 @@ impl JsrDepPackageReq {
         read(alloc, text, Flavour::Normal)
     }
 
-    /// The scheme, and the normal text of the requirement ([`PackageReq::to_string_normalized`]). It is an error only where
-    /// no memory is left.
+    /// Returns the scheme and the package requirement's canonical form ([`PackageReq::to_string_normalized`]). Fails only out
+    /// of memory.
     pub fn to_string_normalized(&self, alloc: Global) -> Result<StackString, AllocError>
         ensures { IfOk result (λ text. text ≡ normal_dependency_text self.now) }
     {
@@ -202,7 +202,7 @@ impl JsrDepPackageReq {
         StackString::from_string(alloc, text)
     }
 
-    /// The same dependency again. It is an error only where no memory is left.
+    /// Copies the dependency. Fails only out of memory.
     pub fn copy(&self) -> Result<Self, AllocError>
         ensures { IfOk result (λ d. d ≡ self.now) }
     {
@@ -213,7 +213,7 @@ impl JsrDepPackageReq {
     }
 }
 
-/// The scheme and the requirement.
+/// The scheme and the package requirement.
 impl fmt::Display for JsrDepPackageReq {
     ghost output = { λ d. Some (dependency_text d) };
 

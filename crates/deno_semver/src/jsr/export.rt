@@ -1,4 +1,4 @@
-//! The names of what a package exports.
+//! Names of a package's exports.
 
 ghost use Rattle.std.specs.Prelude.{◌≡◌, IfOk};
 ghost use Rattle.std.specs.Cow.{cow_str_bytes};
@@ -15,7 +15,7 @@ fn is_whole_package(path: &str) -> bool
     matches!(path, "" | "/" | ".")
 }
 
-// The path without one `/` at its end.
+// The path without one trailing `/`.
 fn without_last_slash(path: &str) -> &str
     ensures { result.now ≡ without_last_slash path.now }
 {
@@ -25,7 +25,7 @@ fn without_last_slash(path: &str) -> &str
     }
 }
 
-// The path with `./` in front, in place of one `/`, or as it is where it begins so.
+// The path with `./` in front in place of one `/`, or unchanged if it begins with `./`.
 fn dotted(alloc: Global, path: &str) -> Result<CowStr<'_, Global>, AllocError>
     ensures { IfOk result (λ name. cow_str_bytes name ≡ dotted path.now) }
 {
@@ -36,11 +36,11 @@ fn dotted(alloc: Global, path: &str) -> Result<CowStr<'_, Global>, AllocError>
     Ok(CowStr::Owned(format!(in alloc; "./{path}")?))
 }
 
-/// The name of the export that a path in a package of JSR is: `.`, which is the package's own, without a path and for
-/// the paths that are empty, `/` and `.`. Any other path loses one `/` at its end, and then has `./` in front, in place
-/// of one `/`, unless it begins so (the exports of JSR's packages; the crate `deno_semver`).
+/// Returns the name of the export that a path in a JSR package means: `.`, the package's own export, without a path and for
+/// an empty path, `/` and `.`. Any other path loses one trailing `/`, and then gets `./` in front in place of one `/`, unless
+/// it begins with `./` (the exports of JSR's packages; the crate `deno_semver`).
 ///
-/// It is an error only where no memory is left.
+/// Fails only out of memory.
 pub fn normalized_export_name(
     alloc: Global,
     sub_path: Option<&str>,

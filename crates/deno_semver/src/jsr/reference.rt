@@ -1,4 +1,4 @@
-//! References to packages of JSR.
+//! References to JSR packages.
 
 ghost use Rattle.std.specs.Prelude.{◌≡◌, IfOk};
 ghost use Rattle.std.specs.Cow.{cow_str_bytes};
@@ -10,7 +10,7 @@ use crate::package::{PackageKind, Registry, RegistryNvReference, RegistryReqRefe
 use std::alloc::{AllocError, Global};
 use std::borrow::CowStr;
 
-/// JSR, as the registry of references.
+/// JSR, as the registry of a reference.
 pub enum JsrRegistry {}
 
 impl Registry for JsrRegistry {
@@ -21,14 +21,14 @@ impl Registry for JsrRegistry {
     }
 }
 
-/// A reference to a package of JSR, as `jsr:@scope/name@1/mod.ts`.
+/// A reference to a JSR package, such as `jsr:@scope/name@1/mod.ts`.
 pub type JsrPackageReqReference = RegistryReqReference<JsrRegistry>;
 
-/// A reference to one version of a package of JSR, as `jsr:@scope/name@1.0.0/mod.ts`.
+/// A reference to one version of a JSR package, such as `jsr:@scope/name@1.0.0/mod.ts`.
 pub type JsrPackageNvReference = RegistryNvReference<JsrRegistry>;
 
 impl RegistryReqReference<JsrRegistry> {
-    /// The name of the export that the path is ([`normalized_export_name`]). It is an error only where no memory is left.
+    /// Returns the name of the export that the path means ([`normalized_export_name`]). Fails only out of memory.
     pub fn export_name(&self, alloc: Global) -> Result<CowStr<'_, Global>, AllocError>
         ensures { IfOk result (λ name. cow_str_bytes name ≡ export_name self.now.sub_path) }
     {
@@ -37,7 +37,7 @@ impl RegistryReqReference<JsrRegistry> {
 }
 
 impl RegistryNvReference<JsrRegistry> {
-    /// The name of the export that the path is ([`normalized_export_name`]). It is an error only where no memory is left.
+    /// Returns the name of the export that the path means ([`normalized_export_name`]). Fails only out of memory.
     pub fn export_name(&self, alloc: Global) -> Result<CowStr<'_, Global>, AllocError>
         ensures { IfOk result (λ name. cow_str_bytes name ≡ export_name self.now.sub_path) }
     {

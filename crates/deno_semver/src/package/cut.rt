@@ -1,4 +1,4 @@
-//! How the text of a package is cut.
+//! How the text of a package is split.
 
 ghost use Rattle.std.specs.Prelude.{◌≡◌, ◌⊎◌, IfErr, IfOk, ◌==◌};
 ghost use Rattle.std.specs.List.{list_any};
@@ -12,19 +12,19 @@ ghost use Rattle.deno_semver.specs.PackageText.{IsNamePart, IsPathPart, lacks_at
 use super::errors::PackageReqPartsParseError;
 use semver_base::lexical::after;
 
-/// What the text of a package is cut into.
+/// The parts of a package's text.
 #[derive(Clone, Copy)]
 pub(crate) struct Cut<'a> {
     pub(crate) scope: Option<&'a str>,
     // The last part of the name.
     pub(crate) name: &'a str,
     pub(crate) version: Option<&'a str>,
-    // What follows these: nothing, or a `/` and the path.
+    // What follows the parts: nothing, or a `/` and the path.
     pub(crate) tail: &'a str,
     pub(crate) path: &'a str,
 }
 
-/// The text without one `/` at its front.
+/// The text without one leading `/`.
 pub(crate) fn without_slash(text: &str) -> &str
     ensures { result.now ≡ without_slash text.now }
 {
@@ -34,7 +34,7 @@ pub(crate) fn without_slash(text: &str) -> &str
     }
 }
 
-// What stands before the first `/`, and what follows from that on.
+// The text before the first `/`, and the rest from that `/` on.
 fn segment_and_rest(text: &str) -> (&str, &str)
     ensures { CutsRun (is_not slash) text.now result.0.now result.1.now }
 {
@@ -44,7 +44,7 @@ fn segment_and_rest(text: &str) -> (&str, &str)
     }
 }
 
-// What follows the `/` at the front, or nothing.
+// What follows the leading `/`, or nothing.
 fn path_of(tail: &str) -> &str
     ensures { Stops (is_not slash) tail.now → IsPathPart tail.now result.now }
 {
@@ -54,7 +54,7 @@ fn path_of(tail: &str) -> &str
     }
 }
 
-/// What stands before the last `@`, and after it.
+/// The texts before and after the last `@`.
 pub(crate) fn name_and_version(last: &str) -> (&str, Option<&str>)
     ensures { IsNamePart last.now result.0.now (option_copied result.1) }
 {
@@ -73,7 +73,7 @@ fn starts_with_at(text: &str) -> bool
     }
 }
 
-/// The parts of the text of a package, or the part that is missing.
+/// The parts of a package's text, or which part is missing.
 pub(crate) fn parts_of(text: &str) -> Result<Cut<'_>, PackageReqPartsParseError>
     ensures cut { IfOk result (λ c. IsCut text.now (option_copied c.scope) c.name.now
         (option_copied c.version) c.tail.now c.path.now) }
@@ -113,7 +113,7 @@ fn holds_slash(bytes: &[u8]) -> bool
     bytes.contains(&b'/')
 }
 
-/// Whether the text holds a `/` and doesn't begin with `@`.
+/// Whether the text contains a `/` and doesn't begin with `@`.
 pub(crate) fn lacks_at(text: &str) -> bool
     ensures { result ≡ lacks_at text.now }
 {

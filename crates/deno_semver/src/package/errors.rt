@@ -1,4 +1,4 @@
-//! Why the text of a package is refused.
+//! Why the text of a package is rejected.
 
 ghost use Rattle.std.specs.Prelude.{◌≡◌, ◌↔◌, ◌⊎◌, IfOk, IsTrue};
 ghost use Rattle.deno_semver.specs.PackageOutcome.{IsWantOfMemory};
@@ -10,41 +10,41 @@ use semver_req::specifier::VersionReqSpecifierParseError;
 use std::alloc::{AllocError, Global};
 use thiserror::Error;
 
-/// What is wrong in the text of a package, or that memory was wanting.
+/// What is wrong in the text of a package, or that memory ran out.
 #[derive(Debug, PartialEq, Eq, Drop, Error)]
 pub enum PackageReqPartsParseError {
-    /// Nothing stands before the first `/`, or before the end.
+    /// Nothing stands before the first `/` or the end.
     #[error("Did not contain a package name")]
     NoPackageName,
     /// A scope stands alone.
     #[error("Did not contain a valid package name")]
     InvalidPackageName,
-    /// The text holds a `/` and doesn't begin with `@`.
+    /// The text contains a `/` and doesn't begin with `@`.
     #[error("Packages in the format <scope>/<name> must start with an '@' symbol")]
     MissingAtSymbol,
-    /// The strict reader refuses the version's text, or a path stands after the requirement.
+    /// The version's text isn't valid under the strict grammar, or a path follows the package requirement.
     #[error(transparent)]
     SpecifierVersionReq(VersionReqSpecifierParseError),
-    /// npm's reader refuses the version's text.
+    /// The version's text isn't valid under npm's grammar.
     #[error(transparent)]
     NpmVersionReq(NpmVersionReqParseError),
-    /// The normalized reader refuses the version's text.
+    /// The version's text isn't valid under the normalized grammar.
     #[error(transparent)]
     NormalizedVersionReq(VersionReqNormalizedParseError),
-    /// Memory was wanting.
+    /// Out of memory.
     #[error("Out of memory.")]
     Memory,
 }
 
 impl PackageReqPartsParseError {
-    /// Whether memory was wanting.
+    /// Whether the error is out of memory.
     pub fn is_memory(&self) -> bool
         ensures { IsTrue result ↔ (self.now ≡ PackageReqPartsParseError.Memory) }
     {
         matches!(self, PackageReqPartsParseError::Memory)
     }
 
-    /// The same error again. It is an error only where no memory is left.
+    /// Copies the error. Fails only out of memory.
     pub fn copy(&self) -> Result<Self, AllocError>
         ensures { IfOk result (λ error. error ≡ self.now) }
     {
@@ -72,7 +72,7 @@ impl PackageReqPartsParseError {
     }
 }
 
-/// Why a text is no requirement of a package, with the whole text, or that memory was wanting, with no text.
+/// Why a text isn't a valid package requirement, with the whole text; or that memory ran out, with no text.
 #[derive(Debug, Drop, Error)]
 #[error("Invalid package requirement '{text}'")]
 pub struct PackageReqParseError {
@@ -82,7 +82,7 @@ pub struct PackageReqParseError {
 }
 
 impl PackageReqParseError {
-    /// The error of want of memory.
+    /// The error for out of memory.
     pub(crate) fn memory(alloc: Global) -> PackageReqParseError
         ensures { IsWantOfMemory result }
     {
@@ -92,14 +92,14 @@ impl PackageReqParseError {
         }
     }
 
-    /// Whether memory was wanting.
+    /// Whether the error is out of memory.
     pub fn is_memory(&self) -> bool
         ensures { IsTrue result ↔ (self.now.source ≡ PackageReqPartsParseError.Memory) }
     {
         self.source.is_memory()
     }
 
-    /// The same error again. It is an error only where no memory is left.
+    /// Copies the error. Fails only out of memory.
     pub fn copy(&self) -> Result<Self, AllocError>
         ensures { IfOk result (λ error. error ≡ self.now) }
     {

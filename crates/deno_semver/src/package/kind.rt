@@ -1,4 +1,4 @@
-//! The registries that packages come from.
+//! The registries of packages.
 
 ghost use Rattle.std.specs.Prelude.{◌≡◌, refl};
 ghost use Rattle.std.specs.Ordering.{as_partial_cmp};
@@ -7,19 +7,19 @@ ghost use Rattle.deno_semver.specs.ReferenceReading.{IsAfterScheme};
 
 use std::cmp::Ordering;
 
-/// The registry that a package comes from.
+/// A package's registry.
 ///
 /// JSR is below npm.
 #[derive(Clone, Copy, Debug, PartialEq, Eq, Hash)]
 pub enum PackageKind {
-    /// A package of JSR.
+    /// JSR.
     Jsr,
-    /// A package of npm.
+    /// npm.
     Npm,
 }
 
 impl PackageKind {
-    /// The scheme of the registry's specifiers, with its colon: `jsr:` or `npm:`.
+    /// Returns the scheme of the registry's specifiers, with its colon: `jsr:` or `npm:`.
     pub fn scheme_with_colon(self) -> &'static str
         ensures { result.now ≡ scheme_of self }
     {
@@ -29,14 +29,14 @@ impl PackageKind {
         }
     }
 
-    /// What follows the registry's scheme, where the text begins with it.
+    /// What follows the registry's scheme, if the text begins with it.
     pub(crate) fn after_scheme(self, text: &str) -> Option<&str>
         ensures { IsAfterScheme self text.now result }
     {
         text.strip_prefix(self.scheme_with_colon())
     }
 
-    // Its place in the order.
+    // The registry's place in the order.
     fn rank(self) -> u8
         ensures { result ≡ kind_rank self }
     {

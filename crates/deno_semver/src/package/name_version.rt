@@ -1,4 +1,4 @@
-//! How names with versions are read.
+//! Parsing of names with versions.
 
 ghost use Rattle.std.specs.Prelude.{◌≡◌, ◌↔◌, ◌⊎◌, [], IfErr, IfOk, IsTrue, List, MatchOption, Ok, Result, length, true, ℕ};
 ghost use Rattle.std.specs.List.{list_all, take_while};
@@ -26,10 +26,10 @@ use semver_req::req::IntoVersionReq;
 use std::alloc::{AllocError, Global};
 use thiserror::Error;
 
-/// Why a text is no name and version, or that memory was wanting.
+/// Why a text isn't a valid name and version, or that memory ran out.
 ///
-/// The message is that of the version's refusal, or "Unexpected character." where anything else is wrong, and the text
-/// is the whole one that was given. Both are empty where memory was wanting.
+/// The message is the version's parse error, or "Unexpected character." if anything else is wrong, and the text is the whole
+/// one given. Out of memory, both are empty.
 #[derive(Debug, Drop, Error)]
 #[error("Invalid package name and version '{text}'. {message}")]
 pub struct PackageNvParseError {
@@ -38,14 +38,14 @@ pub struct PackageNvParseError {
 }
 
 impl PackageNvParseError {
-    /// Whether memory was wanting, which an error without a message says.
+    /// Whether the error is out of memory, which has no message.
     pub fn is_memory(&self) -> bool
         ensures { IsTrue result ↔ (self.now.message ≡ []) }
     {
         self.message.as_str().is_empty()
     }
 
-    /// The same error again. It is an error only where no memory is left.
+    /// Copies the error. Fails only out of memory.
     pub fn copy(&self) -> Result<Self, AllocError>
         ensures { IfOk result (λ error. error ≡ self.now) }
     {
@@ -56,7 +56,7 @@ impl PackageNvParseError {
     }
 }
 
-/// The error of want of memory.
+/// The error for out of memory.
 pub(crate) fn memory(alloc: Global) -> PackageNvParseError
     ensures { IsNvMemory result }
 {
@@ -76,7 +76,7 @@ fn texts(alloc: Global, message: &str, text: &str) -> Result<PackageNvParseError
     })
 }
 
-// The error with these texts, or want of memory where there is none for them.
+// The error with these texts, or out of memory.
 fn told(alloc: Global, message: &str, text: &str) -> PackageNvParseError
     ensures { IsNvMemory result ⊎ ((result.message ≡ message.now) × (result.text ≡ text.now)) }
 {
@@ -86,7 +86,7 @@ fn told(alloc: Global, message: &str, text: &str) -> PackageNvParseError
     }
 }
 
-// What a text is cut into.
+// The parts of a text.
 #[derive(Clone, Copy)]
 struct Parts<'a> {
     name: &'a str,
@@ -95,14 +95,14 @@ struct Parts<'a> {
     rest: &'a str,
 }
 
-// How many bytes stand before the first `@`.
+// The number of bytes before the first `@`.
 fn len_before_at(bytes: &[u8]) -> usize
     ensures { result ≡ length (take_while (is_not at_sign) bytes.now) }
 {
     bytes.iter().take_while(|b| **b != b'@').count()
 }
 
-// How many bytes the name at the front has: one, and those before the next `@`.
+// The number of bytes of the leading name: the first byte, and those before the next `@`.
 fn name_len(bytes: &[u8]) -> usize
     ensures { result ≡ name_len bytes.now }
 {
@@ -112,7 +112,7 @@ fn name_len(bytes: &[u8]) -> usize
     }
 }
 
-// The name at the front, and what follows it.
+// The leading name, and what follows it.
 fn name_front(text: &str) -> (&str, &str)
     ensures { IsNameCut text.now result.0.now result.1.now }
 {
@@ -125,21 +125,21 @@ fn is_version_byte(byte: u8) -> bool
     byte != b'_' && byte != b'/'
 }
 
-// How many bytes at the front belong to the version.
+// The number of leading bytes that belong to the version.
 fn version_len(bytes: &[u8]) -> usize
     ensures { result ≡ length (take_while is_version_byte bytes.now) }
 {
     bytes.iter().take_while(|b| is_version_byte(**b)).count()
 }
 
-// The version at the front, which may be empty, and what follows it.
+// The leading version, which may be empty, and what follows it.
 fn split_version(text: &str) -> (&str, &str)
     ensures { CutsRun is_version_byte text.now result.0.now result.1.now }
 {
     text.split_at(version_len(text.as_bytes()))
 }
 
-// The name and the version at the front.
+// Splits off the leading name and version.
 fn cut(text: &str) -> Option<Parts<'_>>
     ensures { MatchOption result (IsNoNvText text.now)
         (λ p. IsNvText text.now p.name.now p.version.now p.rest.now) }
@@ -159,7 +159,7 @@ fn cut(text: &str) -> Option<Parts<'_>>
     })
 }
 
-// The error that tells why a version is refused.
+// The error for an invalid version.
 fn version_error(alloc: Global, error: &NpmVersionParseError, text: &str) -> PackageNvParseError
     ensures { IsNvMemory result ⊎ TellsFailure error.now.source text.now result }
 {
@@ -169,14 +169,14 @@ fn version_error(alloc: Global, error: &NpmVersionParseError, text: &str) -> Pac
     told(alloc, error.message(), text)
 }
 
-/// The error for what is no fault of a version, or want of memory.
+/// The error for any other fault than an invalid version, or out of memory.
 pub(crate) fn unexpected(alloc: Global, whole: &str) -> PackageNvParseError
     ensures { IsNvMemory result ⊎ TellsNvFault UnexpectedCharacter whole.now result }
 {
     told(alloc, Refusal::UnexpectedCharacter.message(), whole)
 }
 
-/// The name and version at the front of a text, and what follows it; an error shows the whole text.
+/// Parses the name and version at the start of a text, and returns what follows it; an error holds the whole text.
 pub(crate) fn nv_at_front<'a>(
     alloc: Global,
     text: &'a str,
@@ -212,13 +212,12 @@ pub(crate) fn nv_at_front<'a>(
 }
 
 impl PackageNv {
-    /// The name and version that a text is, as in `@scope/name@1.0.0`: a name, which isn't empty and has no `@` past its
-    /// first character; `@`; and a version, which isn't empty, has neither `_` nor `/`, and is read as npm reads it
-    /// ([`Version::parse_from_npm`]).
+    /// Parses a name and version such as `@scope/name@1.0.0`: a non-empty name without an `@` after its first character; `@`;
+    /// and a non-empty version without `_` and `/`, parsed by npm's grammar ([`Version::parse_from_npm`]).
     ///
-    /// The text of a name and version that was read is read as it again, build included. A version that is refused gives
-    /// the message of its refusal; anything else that is wrong, as text after the version, gives "Unexpected character.".
-    /// Any other error is want of memory.
+    /// The text of a parsed name and version parses to the same one, build included. An invalid version fails with the
+    /// message of its parse error; anything else that is wrong, such as text after the version, fails with "Unexpected
+    /// character.". Otherwise fails only out of memory.
     pub fn from_str(alloc: Global, text: &str) -> Result<Self, PackageNvParseError>
         ensures read { IfOk result (λ nv. IsNvOutcome text.now (Ok nv)) }
         ensures reads_back { IfOk result NvReadsBack }
@@ -237,9 +236,8 @@ impl PackageNv {
         Ok(nv)
     }
 
-    /// The requirement of the package with this name, and of the versions of the same precedence
-    /// ([`IntoVersionReq::into_req`], which says what is known where the version was read). It is an error only where no memory
-    /// is left.
+    /// Returns the package requirement with this name, for the versions of the same precedence ([`IntoVersionReq::into_req`],
+    /// which says what holds if the version was parsed). Fails only out of memory.
     pub fn into_req(self, alloc: Global) -> Result<PackageReq, AllocError>
         ensures name { IfOk result (λ req. req.name ≡ self.name) }
         ensures version { IfOk result (λ req. req.version_req ≡ pinned self.version) }

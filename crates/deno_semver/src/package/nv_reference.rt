@@ -1,4 +1,4 @@
-//! References to packages: a name and version of one, and the path of a module in it.
+//! References to packages: a name and version, and the path of a module in the package.
 
 ghost use Rattle.std.specs.Prelude.{◌≡◌, ◌↔◌, [], IfErr, IfOk, IsTrue, Ok, Result, Some, refl};
 ghost use Rattle.std.specs.Ordering.{as_partial_cmp};
@@ -22,10 +22,10 @@ use std::cmp::Ordering;
 use std::fmt;
 use thiserror::Error;
 
-/// Why a text is no reference to a version of a package, or that memory was wanting.
+/// Why a text isn't a valid reference to a version of a package, or that memory ran out.
 ///
-/// The message is that of the version's refusal, or "Unexpected character." where anything else is wrong, and the text
-/// is the whole one that was given. Both are empty where memory was wanting.
+/// The message is the version's parse error, or "Unexpected character." if anything else is wrong, and the text is the whole
+/// one given. Out of memory, both are empty.
 #[derive(Debug, Drop, Error)]
 #[error("Invalid package name and version reference '{text}'. {message}")]
 pub struct PackageNvReferenceParseError {
@@ -34,14 +34,14 @@ pub struct PackageNvReferenceParseError {
 }
 
 impl PackageNvReferenceParseError {
-    /// Whether memory was wanting, which an error without a message says.
+    /// Whether the error is out of memory, which has no message.
     pub fn is_memory(&self) -> bool
         ensures { IsTrue result ↔ (self.now.message ≡ []) }
     {
         self.message.as_str().is_empty()
     }
 
-    /// The same error again. It is an error only where no memory is left.
+    /// Copies the error. Fails only out of memory.
     pub fn copy(&self) -> Result<Self, AllocError>
         ensures { IfOk result (λ error. error ≡ self.now) }
     {
@@ -52,16 +52,16 @@ impl PackageNvReferenceParseError {
     }
 }
 
-/// A reference to one version of a package, and to a module in it by its path, if one is named.
+/// A reference to one version of a package and, optionally, to the path of a module in it.
 ///
-/// Two are ordered by their names and versions, and then by their paths as texts, an absent one first.
+/// Ordered by name and version, and then by path as text, an absent path first.
 #[derive(Debug, PartialEq, Eq, Hash, Drop)]
 pub struct PackageNvReference {
     pub nv: PackageNv,
     pub sub_path: Option<PackageSubPath>,
 }
 
-// The error with the texts of that of a name and version.
+// The error with the texts of a name and version's error.
 fn of_nv_error(error: PackageNvParseError) -> PackageNvReferenceParseError
     ensures { nv_error result ≡ error }
 {
@@ -69,7 +69,7 @@ fn of_nv_error(error: PackageNvParseError) -> PackageNvReferenceParseError
     PackageNvReferenceParseError { message, text }
 }
 
-// The reference that a name and version is with what follows it.
+// The reference made of a name and version and what follows it.
 fn with_rest(
     alloc: Global,
     nv: PackageNv,
@@ -98,7 +98,7 @@ fn with_rest(
 }
 
 impl PackageNvReference {
-    /// The reference to a version of a package of this registry that a text is.
+    /// Parses a reference to a version of a package of this registry.
     pub(crate) fn from_str(
         alloc: Global,
         text: &str,
@@ -124,7 +124,7 @@ impl PackageNvReference {
         }
     }
 
-    /// The same reference again. It is an error only where no memory is left.
+    /// Copies the reference. Fails only out of memory.
     pub fn copy(&self) -> Result<Self, AllocError>
         ensures { IfOk result (λ reference. reference ≡ self.now) }
     {
@@ -135,7 +135,7 @@ impl PackageNvReference {
     }
 }
 
-/// `name@version`, and `/` and the path where there is one.
+/// `name@version`, followed by `/` and the path if there is one.
 impl fmt::Display for PackageNvReference {
     ghost output = { λ reference. Some (nv_reference_text reference) };
 

@@ -1,4 +1,4 @@
-//! The order of requirements of packages.
+//! The order of package requirements.
 
 ghost use Rattle.std.specs.Prelude.{◌≡◌, refl};
 ghost use Rattle.std.specs.Cmp.Lexicographic.{slice_cmp};
@@ -12,7 +12,7 @@ use semver_base::version::VersionPreOrBuild;
 use semver_req::range_set_or_tag::RangeSetOrTag;
 use std::cmp::Ordering;
 
-// The place of a kind: an exclusive one first.
+// The place of a kind in the order: an exclusive bound first.
 fn kind_place(kind: VersionBoundKind) -> u8
     ensures { result ≡ kind_place kind }
 {

@@ -1,4 +1,4 @@
-//! How requirements of packages are read.
+//! Parsing of package requirements.
 
 ghost use Rattle.std.specs.Prelude.{◌≡◌, ◌⊎◌, IfErr, IfOk, Ok, Result, Some};
 ghost use Rattle.std.specs.Option.{option_copied};
@@ -20,7 +20,7 @@ use semver_req::req::{VersionReq, wildcard_version_req};
 use semver_req::specifier::VersionReqSpecifierParseError;
 use std::alloc::{AllocError, Global};
 
-// The requirement that the strict reader reads.
+// Parses a version requirement by the strict grammar.
 fn specifier(alloc: Global, text: &str) -> Result<VersionReq, PackageReqPartsParseError>
     ensures read { IfOk result (IsVersionReq Specifier (Some text.now)) }
     ensures refused { IfErr result (IsVersionRefusal Specifier text.now) }
@@ -35,7 +35,7 @@ fn specifier(alloc: Global, text: &str) -> Result<VersionReq, PackageReqPartsPar
     }
 }
 
-// The requirement that npm's reader reads.
+// Parses a version requirement by npm's grammar.
 fn npm(alloc: Global, text: &str) -> Result<VersionReq, PackageReqPartsParseError>
     ensures read { IfOk result (IsVersionReq Npm (Some text.now)) }
     ensures refused { IfErr result (IsVersionRefusal Npm text.now) }
@@ -50,7 +50,7 @@ fn npm(alloc: Global, text: &str) -> Result<VersionReq, PackageReqPartsParseErro
     }
 }
 
-// The requirement that the normalized reader reads.
+// Parses a version requirement by the normalized grammar.
 fn normalized(alloc: Global, text: &str) -> Result<VersionReq, PackageReqPartsParseError>
     ensures read { IfOk result (IsVersionReq Normal (Some text.now)) }
     ensures refused { IfErr result (IsVersionRefusal Normal text.now) }
@@ -65,7 +65,7 @@ fn normalized(alloc: Global, text: &str) -> Result<VersionReq, PackageReqPartsPa
     }
 }
 
-// The requirement that the reader of a flavour reads.
+// Parses a version requirement by the grammar of a flavour.
 fn version_req(
     alloc: Global,
     text: &str,
@@ -81,7 +81,7 @@ fn version_req(
     }
 }
 
-// The same, and the requirement of any version where there is no text.
+// Parses a version requirement by the grammar of a flavour; without a text, any version matches.
 fn version_req_or_any(
     alloc: Global,
     text: Option<&str>,
@@ -99,7 +99,7 @@ fn version_req_or_any(
     }
 }
 
-// The name, with the scope and `/` before it where there is one.
+// The name, preceded by the scope and `/` if there is one.
 fn full_name(alloc: Global, scope: Option<&str>, name: &str) -> Result<PackageName, AllocError>
     ensures { IfOk result (λ full. full ≡ scoped_name (option_copied scope.entry) name.now) }
 {
@@ -112,7 +112,7 @@ fn full_name(alloc: Global, scope: Option<&str>, name: &str) -> Result<PackageNa
     Ok(full)
 }
 
-// The error that shows a path with the `/` before it.
+// The error for a path, shown with its leading `/`.
 fn path_error(alloc: Global, tail: &str) -> PackageReqPartsParseError
     ensures { IsPathError tail.now result }
 {
@@ -124,7 +124,7 @@ fn path_error(alloc: Global, tail: &str) -> PackageReqPartsParseError
     PackageReqPartsParseError::SpecifierVersionReq(VersionReqSpecifierParseError { source })
 }
 
-// The requirement of the name and the version that a text was cut into.
+// The package requirement made of a name and a version's text.
 fn req_of(
     alloc: Global,
     cut: Cut<'_>,
@@ -149,8 +149,8 @@ fn req_of(
     }
 }
 
-/// The requirement at the front of a text, and the path after it, with its `/` and without; or what is wrong first, which a
-/// path isn't.
+/// Parses the package requirement at the start of a text, and returns the path after it, with its `/` and without; or what is
+/// wrong first, which a path isn't.
 pub(crate) fn read_with_path(
     alloc: Global,
     text: &str,
@@ -169,7 +169,7 @@ pub(crate) fn read_with_path(
     }
 }
 
-// The requirement of a package, or what is wrong first.
+// Parses a package requirement, or returns what is wrong first.
 fn read(
     alloc: Global,
     text: &str,
@@ -192,7 +192,7 @@ fn read(
     Ok(req)
 }
 
-// The source that is told: that an `@` lacks goes before any other.
+// The source that is reported: a missing `@` goes before any other.
 fn told_source(text: &str, source: PackageReqPartsParseError) -> PackageReqPartsParseError
     ensures { result ≡ told_source text.now source }
 {
@@ -203,7 +203,7 @@ fn told_source(text: &str, source: PackageReqPartsParseError) -> PackageReqParts
     source
 }
 
-// The error with the whole text, or want of memory where there is none for it.
+// The error with the whole text, or out of memory.
 fn whole_error(alloc: Global, text: &str, source: PackageReqPartsParseError) -> PackageReqParseError
     ensures { IsWantOfMemory result ⊎ TellsSource text.now source result }
 {
@@ -221,7 +221,7 @@ fn whole_error(alloc: Global, text: &str, source: PackageReqPartsParseError) -> 
     }
 }
 
-/// The requirement of a package that a text is, where the reader of a flavour reads its version.
+/// Parses a package requirement, with the grammar of a flavour for its version.
 pub(crate) fn package_req(
     alloc: Global,
     text: &str,

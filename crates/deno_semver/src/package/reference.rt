@@ -1,4 +1,4 @@
-//! References to packages: a requirement of one, and the path of a module in it.
+//! References to packages: a package requirement and the path of a module in it.
 
 ghost use Rattle.std.specs.Prelude.{◌≡◌, IfErr, IfOk, Ok, Result, Some};
 ghost use Rattle.deno_semver.specs.ReferenceOutcome.{IsReferenceAnswer, IsReferenceOutcome, IsReferenceRefusal, ReferenceFault, ReferenceReadsBack};
@@ -22,17 +22,17 @@ use semver_req::laws::{star_is_any_version, texts_have_one_outcome};
 use std::alloc::{AllocError, Global};
 use std::fmt;
 
-/// A reference to a package: a requirement of it, and the path of a module in it, if one is named.
+/// A reference to a package: a package requirement and, optionally, the path of a module in the package.
 ///
-/// Two are equal where their requirements and their paths are. It is displayed as its requirement, with `/` and the path
-/// after it.
+/// Two are equal if their package requirements and their paths are. It is displayed as its package requirement, followed by
+/// `/` and the path.
 #[derive(Debug, PartialEq, Eq, Hash, Drop)]
 pub struct PackageReqReference {
     pub req: PackageReq,
     pub sub_path: Option<PackageSubPath>,
 }
 
-// The path of a module, if this path is one.
+// The path of a module, unless the path is empty or `/`.
 fn sub_path(alloc: Global, path: &str) -> Result<Option<PackageSubPath>, AllocError>
     ensures { IfOk result (λ sub_path. sub_path ≡ sub_path_of path.now) }
 {
@@ -42,7 +42,7 @@ fn sub_path(alloc: Global, path: &str) -> Result<Option<PackageSubPath>, AllocEr
     Ok(Some(PackageSubPath::from_str(alloc, path)?))
 }
 
-// The reference that a text without a scheme is, wherever its version stands.
+// Parses a reference without its scheme, wherever its version stands.
 fn read(alloc: Global, body: &str) -> Result<PackageReqReference, PackageReqPartsParseError>
     ensures { IsReferenceRead body.now result }
 {
@@ -59,7 +59,7 @@ fn read(alloc: Global, body: &str) -> Result<PackageReqReference, PackageReqPart
     }
 }
 
-// The error with the whole text, in a box.
+// The error with the whole text, boxed.
 fn boxed_invalid(
     alloc: Global,
     text: &str,
@@ -80,7 +80,7 @@ fn boxed_invalid(
     }
 }
 
-// The error with the whole text, or want of memory where there is none for it.
+// The error with the whole text, or out of memory.
 fn invalid(
     alloc: Global,
     text: &str,
@@ -98,7 +98,7 @@ fn invalid(
     }
 }
 
-// What stands before the version in the path, and that version, where any version is required.
+// The text before the version in the path, and that version, if any version matches the package requirement.
 fn version_in_path(reference: &PackageReqReference) -> Option<(&str, &str)>
     ensures { FindsVersion reference.now result }
 {
@@ -114,7 +114,7 @@ fn version_in_path(reference: &PackageReqReference) -> Option<(&str, &str)>
     }
 }
 
-// The requirement with a version behind it, and the path.
+// The package requirement followed by a version, and the path.
 fn suggestion(
     alloc: Global,
     req: &PackageReq,
@@ -127,7 +127,7 @@ fn suggestion(
     StackString::from_string(alloc, text)
 }
 
-// How the reference is written.
+// The reference as written.
 fn current(alloc: Global, reference: &PackageReqReference) -> Result<StackString, AllocError>
     ensures { IfOk result (λ text. text ≡ reference_text reference.now) }
 {
@@ -156,7 +156,7 @@ fn texts(
     })
 }
 
-// The error for a version in the path, or want of memory.
+// The error for a version in the path, or out of memory.
 fn told(
     alloc: Global,
     kind: PackageKind,
@@ -176,7 +176,7 @@ fn told(
 }
 
 impl PackageReqReference {
-    /// The reference to a package of this registry that a text is.
+    /// Parses a reference to a package of this registry.
     pub(crate) fn from_str(
         alloc: Global,
         text: &str,
@@ -206,7 +206,7 @@ impl PackageReqReference {
         Ok(reference)
     }
 
-    /// The same reference again. It is an error only where no memory is left.
+    /// Copies the reference. Fails only out of memory.
     pub fn copy(&self) -> Result<Self, AllocError>
         ensures { IfOk result (λ reference. reference ≡ self.now) }
     {
@@ -217,7 +217,7 @@ impl PackageReqReference {
     }
 }
 
-/// The requirement, and `/` and the path where there is one.
+/// The package requirement, followed by `/` and the path if there is one.
 impl fmt::Display for PackageReqReference {
     ghost output = { λ reference. Some (reference_text reference) };
 

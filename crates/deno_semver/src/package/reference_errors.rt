@@ -1,4 +1,4 @@
-//! Why the text of a reference to a package is refused.
+//! Why the text of a package reference is rejected.
 
 ghost use Rattle.std.specs.Prelude.{◌≡◌, ◌↔◌, IfOk, IsTrue, false};
 ghost use Rattle.deno_semver.specs.ReferenceOutcome.{unboxed};
@@ -9,19 +9,19 @@ use semver_base::string::StackString;
 use std::alloc::AllocError;
 use thiserror::Error;
 
-/// Why a text is no reference to a package, or that memory was wanting.
+/// Why a text isn't a valid package reference, or that memory ran out.
 #[derive(Debug, PartialEq, Eq, Drop, Error)]
 pub enum PackageReqReferenceParseError {
-    /// The text doesn't begin with the scheme of this registry.
+    /// The text doesn't begin with this registry's scheme.
     #[error("Not {} specifier", .0.scheme_with_colon())]
     NotExpectedScheme(PackageKind),
-    /// What follows the scheme is no requirement of a package.
+    /// What follows the scheme isn't a valid package requirement.
     #[error(transparent)]
     Invalid(Box<PackageReqReferenceInvalidParseError>),
-    /// The version seems to stand in the path.
+    /// The path seems to contain the version.
     #[error(transparent)]
     InvalidPathWithVersion(Box<PackageReqReferenceInvalidWithVersionParseError>),
-    /// Memory was wanting.
+    /// Out of memory.
     #[error("Out of memory.")]
     Memory,
 }
@@ -35,8 +35,8 @@ pub struct PackageReqReferenceInvalidParseError {
     pub source: PackageReqPartsParseError,
 }
 
-/// A reference to any version, with a version in its path: the registry, how it is written now, and how it would be with
-/// that version behind the name.
+/// A reference to any version, with a version in its path: the registry, the reference as written, and the suggestion with
+/// that version after the name.
 #[derive(Debug, PartialEq, Eq, Drop, Error)]
 #[error("Invalid package specifier '{}{current}'. Did you mean to write '{}{suggested}'? If not, add a version requirement to the specifier.", .kind.scheme_with_colon(), .kind.scheme_with_colon())]
 pub struct PackageReqReferenceInvalidWithVersionParseError {
@@ -46,14 +46,14 @@ pub struct PackageReqReferenceInvalidWithVersionParseError {
 }
 
 impl PackageReqReferenceInvalidParseError {
-    /// Whether memory was wanting.
+    /// Whether the error is out of memory.
     pub fn is_memory(&self) -> bool
         ensures { IsTrue result ↔ (self.now.source ≡ PackageReqPartsParseError.Memory) }
     {
         self.source.is_memory()
     }
 
-    /// The same error again. It is an error only where no memory is left.
+    /// Copies the error. Fails only out of memory.
     pub fn copy(&self) -> Result<Self, AllocError>
         ensures { IfOk result (λ error. error ≡ self.now) }
     {
@@ -65,14 +65,14 @@ impl PackageReqReferenceInvalidParseError {
 }
 
 impl PackageReqReferenceInvalidWithVersionParseError {
-    /// Whether memory was wanting, which this error never tells.
+    /// Whether the error is out of memory; it never is.
     pub fn is_memory(&self) -> bool
         ensures { result ≡ false }
     {
         false
     }
 
-    /// The same error again. It is an error only where no memory is left.
+    /// Copies the error. Fails only out of memory.
     pub fn copy(&self) -> Result<Self, AllocError>
         ensures { IfOk result (λ error. error ≡ self.now) }
     {
@@ -85,14 +85,14 @@ impl PackageReqReferenceInvalidWithVersionParseError {
 }
 
 impl PackageReqReferenceParseError {
-    /// Whether memory was wanting.
+    /// Whether the error is out of memory.
     pub fn is_memory(&self) -> bool
         ensures { IsTrue result ↔ (self.now ≡ PackageReqReferenceParseError.Memory) }
     {
         matches!(self, PackageReqReferenceParseError::Memory)
     }
 
-    /// The same error again. It is an error only where no memory is left.
+    /// Copies the error. Fails only out of memory.
     pub fn copy(&self) -> Result<Self, AllocError>
         ensures { IfOk result (λ error. unboxed error ≡ unboxed self.now) }
     {

@@ -28,19 +28,19 @@ use std::fmt;
 use std::marker::{Model, PhantomData};
 use url::Url;
 
-/// A registry that references are to, as a type.
+/// A reference's registry, as a type.
 pub trait Registry {
-    /// Which one it is.
+    /// The registry's kind.
     ghost kind: { PackageKind };
 
-    /// Which one it is.
+    /// Returns the registry's kind.
     fn kind() -> PackageKind
         ensures { result ≡ kind };
 }
 
-/// A reference to a package of the registry: a requirement of it, and the path of a module in it, if one is named.
+/// A reference to a package of the registry: a package requirement and, optionally, the path of a module in the package.
 ///
-/// Two are equal where their requirements and their paths are.
+/// Two are equal if their package requirements and their paths are.
 #[derive(Drop)]
 #[derive_where(Debug, PartialEq, Eq, Hash)]
 pub struct RegistryReqReference<R> {
@@ -60,7 +60,7 @@ impl<R> Model for RegistryReqReference<R> {
 }
 
 impl<R: Registry> RegistryReqReference<R> {
-    /// This reference, as one to a package of the registry.
+    /// Wraps a reference as one to a package of the registry.
     pub fn new(inner: PackageReqReference) -> Self
         ensures { result ≡ inner }
     {
@@ -70,16 +70,17 @@ impl<R: Registry> RegistryReqReference<R> {
         }
     }
 
-    /// The reference that a text such as `jsr:@scope/name@1/mod.ts` is (specifiers of JSR and of npm): the registry's scheme,
-    /// and a requirement as [`PackageReq::from_str`] cuts it, with the path of a module after it, where `/` alone is none.
+    /// Parses a reference such as `jsr:@scope/name@1/mod.ts` (specifiers of JSR and of npm): the registry's scheme, a package
+    /// requirement split as by [`PackageReq::from_str`], and optionally the path of a module after it; `/` alone isn't a
+    /// path.
     ///
-    /// The text of a reference that was read is read as it again, unless the text of its version is `*` and its name has an
-    /// `@` past its first character or ends in `/`.
+    /// The text of a parsed reference parses to the same reference, unless the text of its version is `*` and its name has an
+    /// `@` after its first character or ends in `/`.
     ///
-    /// The first of these faults is told: `NotExpectedScheme`, the text doesn't begin with the scheme; `Invalid`, what follows
-    /// is no requirement, with the whole text and the fault, which a path isn't; `InvalidPathWithVersion`, any version is
-    /// meant, as `*` says, and the path holds an `@`: this shows the text without its scheme, and what it would be with the
-    /// part from the last `@` on behind the name. Any other error is want of memory.
+    /// Fails with the first of these: `NotExpectedScheme`, the text doesn't begin with the scheme; `Invalid`, what follows
+    /// isn't a valid package requirement (a path is allowed), with the whole text and the error; `InvalidPathWithVersion`,
+    /// any version is meant, as by `*`, and the path contains an `@`, with the text without its scheme and a suggestion that
+    /// moves the part from the last `@` on after the name. Otherwise fails only out of memory.
     pub fn from_str(alloc: Global, specifier: &str) -> Result<Self, PackageReqReferenceParseError>
         ensures read { IfOk result (λ r. IsReferenceOutcome R.kind specifier.now (Ok r)) }
         ensures reads_back { IfOk result (ReferenceReadsBack R.kind) }
@@ -94,7 +95,7 @@ impl<R: Registry> RegistryReqReference<R> {
         }
     }
 
-    /// The reference that the text of a URL is ([`RegistryReqReference::from_str`]).
+    /// Parses the text of a URL as a reference ([`RegistryReqReference::from_str`]).
     pub fn from_specifier(
         alloc: Global,
         specifier: &Url,
@@ -110,21 +111,21 @@ impl<R: Registry> RegistryReqReference<R> {
         RegistryReqReference::from_str(alloc, specifier.as_str())
     }
 
-    /// The requirement.
+    /// Returns the package requirement.
     pub fn req(&self) -> &PackageReq
         ensures { result.now ≡ self.now.req }
     {
         &self.reference.req
     }
 
-    /// The path of the module, if one is named.
+    /// Returns the module's path, if there is one.
     pub fn sub_path(&self) -> Option<&str>
         ensures { option_copied result ≡ self.now.sub_path }
     {
         sub_path_text(&self.reference.sub_path)
     }
 
-    /// The reference without its registry.
+    /// Returns the reference without its registry.
     pub fn into_inner(self) -> PackageReqReference
         ensures { result ≡ self }
     {
@@ -135,7 +136,7 @@ impl<R: Registry> RegistryReqReference<R> {
         reference
     }
 
-    /// The same reference again. It is an error only where no memory is left.
+    /// Copies the reference. Fails only out of memory.
     pub fn copy(&self) -> Result<Self, AllocError>
         ensures { IfOk result (λ reference. reference ≡ self.now) }
     {
@@ -161,9 +162,9 @@ impl<R: Registry> StringAppendable for RegistryReqReference<R> {
     }
 }
 
-/// A reference to one version of a package of the registry, and to a module in it by its path, if one is named.
+/// A reference to one version of a package of the registry and, optionally, to the path of a module in it.
 ///
-/// Two are ordered by their names and versions, and then by their paths as texts, an absent one first.
+/// Ordered by name and version, and then by path as text, an absent path first.
 #[derive(Drop)]
 #[derive_where(Debug, PartialEq, Eq, Hash)]
 pub struct RegistryNvReference<R> {
@@ -183,7 +184,7 @@ impl<R> Model for RegistryNvReference<R> {
 }
 
 impl<R: Registry> RegistryNvReference<R> {
-    /// This reference, as one to a package of the registry.
+    /// Wraps a reference as one to a package of the registry.
     pub fn new(inner: PackageNvReference) -> Self
         ensures { result ≡ inner }
     {
@@ -193,13 +194,13 @@ impl<R: Registry> RegistryNvReference<R> {
         }
     }
 
-    /// The reference that a text such as `jsr:@scope/name@1.0.0/mod.ts` is (specifiers of JSR and of npm): the registry's
-    /// scheme, one `/` or none, a name and version as [`PackageNv::from_str`] cuts it, and nothing or a `/` and the path of a
-    /// module, which may be empty.
+    /// Parses a reference such as `jsr:@scope/name@1.0.0/mod.ts` (specifiers of JSR and of npm): the registry's scheme, at
+    /// most one `/`, a name and version split as by [`PackageNv::from_str`], and nothing or a `/` and the path of a module,
+    /// which may be empty.
     ///
-    /// The text of a reference that was read is read as it again, where its name doesn't begin with `/`. A version that is
-    /// refused gives the message of its refusal; anything else that is wrong, as another scheme, gives "Unexpected
-    /// character.". Any other error is want of memory.
+    /// The text of a parsed reference parses to the same reference if its name doesn't begin with `/`. An invalid version
+    /// fails with the message of its parse error; anything else that is wrong, such as another scheme, fails with "Unexpected
+    /// character.". Otherwise fails only out of memory.
     pub fn from_str(alloc: Global, nv: &str) -> Result<Self, PackageNvReferenceParseError>
         ensures read { IfOk result (λ r. IsNvReferenceOutcome R.kind nv.now (Ok r)) }
         ensures reads_back { IfOk result (NvReferenceReadsBack R.kind) }
@@ -214,7 +215,7 @@ impl<R: Registry> RegistryNvReference<R> {
         }
     }
 
-    /// The reference that the text of a URL is ([`RegistryNvReference::from_str`]).
+    /// Parses the text of a URL as a reference ([`RegistryNvReference::from_str`]).
     pub fn from_specifier(
         alloc: Global,
         specifier: &Url,
@@ -230,29 +231,30 @@ impl<R: Registry> RegistryNvReference<R> {
         RegistryNvReference::from_str(alloc, specifier.as_str())
     }
 
-    /// The URL that the crate `url` makes of the scheme, `/` and the reference. `SpecifierError::Url`: the URL Standard, as that
-    /// crate states it, refuses the text. The other error is want of memory, as it is for a URL of 4 GB.
+    /// Returns the URL that the crate `url` makes of the scheme, `/` and the reference. Fails with `SpecifierError::Url` if
+    /// the text isn't valid under the URL Standard as that crate states it; otherwise fails only out of memory, which
+    /// includes a URL of 4 GB.
     pub fn as_specifier(&self, alloc: Global) -> Result<Url, SpecifierError>
         ensures { IsSpecifier (specifier_text R.kind self.now) result }
     {
         specifier_of(alloc, R::kind(), &self.reference)
     }
 
-    /// The name and version.
+    /// Returns the name and version.
     pub fn nv(&self) -> &PackageNv
         ensures { result.now ≡ self.now.nv }
     {
         &self.reference.nv
     }
 
-    /// The path of the module, if one is named.
+    /// Returns the module's path, if there is one.
     pub fn sub_path(&self) -> Option<&str>
         ensures { option_copied result ≡ self.now.sub_path }
     {
         sub_path_text(&self.reference.sub_path)
     }
 
-    /// The reference without its registry.
+    /// Returns the reference without its registry.
     pub fn into_inner(self) -> PackageNvReference
         ensures { result ≡ self }
     {
@@ -263,7 +265,7 @@ impl<R: Registry> RegistryNvReference<R> {
         reference
     }
 
-    /// The same reference again. It is an error only where no memory is left.
+    /// Copies the reference. Fails only out of memory.
     pub fn copy(&self) -> Result<Self, AllocError>
         ensures { IfOk result (λ reference. reference ≡ self.now) }
     {

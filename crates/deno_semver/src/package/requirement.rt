@@ -1,4 +1,4 @@
-//! How requirements of packages are read, and their normal texts.
+//! Parsing of package requirements, and their canonical forms.
 
 ghost use Rattle.std.specs.Prelude.{◌≡◌, IfErr, IfOk, Ok, Result, string_bytes};
 ghost use Rattle.semver_req.specs.declared.common.values.Flavour.TheVariants.{Normal, Npm, Specifier};
@@ -13,7 +13,7 @@ use semver_base::string::displayed;
 use semver_req::common::values::Flavour;
 use std::alloc::{AllocError, Global};
 
-/// The name, `@`, and the normal text of the requirement. It is an error only where no memory is left.
+/// The name, `@`, and the version requirement's canonical form. Fails only out of memory.
 pub(crate) fn normal_req_text(alloc: Global, req: &PackageReq) -> Result<String, AllocError>
     ensures { IfOk result (λ text. string_bytes text ≡ normal_req_text req.now) }
 {
@@ -22,19 +22,18 @@ pub(crate) fn normal_req_text(alloc: Global, req: &PackageReq) -> Result<String,
 }
 
 impl PackageReq {
-    /// The requirement that a text such as `@scope/name@^1.2` is, where the strict reader reads the text of the version
-    /// ([`VersionReq::parse_from_specifier`], where each of its refusals is told).
+    /// Parses a package requirement such as `@scope/name@^1.2`, with the strict grammar for the version
+    /// ([`VersionReq::parse_from_specifier`], which lists its errors).
     ///
-    /// A text is cut so (npm's package specifiers): one `/` at the front is left out; what stands before the next `/` is the
-    /// name, or, where it begins with `@`, the scope, with the last part of the name before the `/` after that; in the last
-    /// part the version stands after the last `@`, and without one any version is meant, as `*` says. What follows is a path,
-    /// which a requirement can't have.
+    /// The text is split as npm's package specifiers are: one leading `/` is dropped; what stands before the next `/` is the
+    /// name or, if it begins with `@`, the scope, and then the last part of the name runs to the `/` after that; in the last
+    /// part the version follows the last `@`, and without an `@` any version is meant, as by `*`. What follows is a path,
+    /// which a package requirement can't have.
     ///
-    /// The first of these faults is told, with the whole text: `NoPackageName`, nothing stands before the first `/`;
-    /// `InvalidPackageName`, a scope stands alone; the refusal of the version's reader; and for a path
-    /// `SpecifierVersionReq` with "Unexpected character '/'", which shows the text from that `/` on. Whatever the fault of
-    /// a text that holds a `/` and doesn't begin with `@`, `MissingAtSymbol` is told instead. Any other error is want of
-    /// memory.
+    /// Fails with the first of these, and the whole text: `NoPackageName`, nothing stands before the first `/`;
+    /// `InvalidPackageName`, a scope stands alone; the version's parse error; for a path `SpecifierVersionReq` with
+    /// "Unexpected character '/'", which shows the text from that `/` on. If a text with any of these contains a `/` and
+    /// doesn't begin with `@`, it fails with `MissingAtSymbol` instead. Otherwise fails only out of memory.
     pub fn from_str(alloc: Global, text: &str) -> Result<PackageReq, PackageReqParseError>
         ensures read { IfOk result (λ req. IsPackageOutcome Specifier text.now (Ok req)) }
         ensures refused { IfErr result (IsPackageRefusal Specifier text.now) }
@@ -45,8 +44,8 @@ impl PackageReq {
         package_req(alloc, text, Flavour::Specifier)
     }
 
-    /// The same ([`PackageReq::from_str`]), where npm's reader reads the text of the version
-    /// ([`VersionReq::parse_from_npm`]), and its refusal is told as `NpmVersionReq`.
+    /// Parses like [`PackageReq::from_str`], but with npm's grammar for the version ([`VersionReq::parse_from_npm`]), whose
+    /// error it returns as `NpmVersionReq`.
     pub fn from_str_loose(alloc: Global, text: &str) -> Result<PackageReq, PackageReqParseError>
         ensures read { IfOk result (λ req. IsPackageOutcome Npm text.now (Ok req)) }
         ensures refused { IfErr result (IsPackageRefusal Npm text.now) }
@@ -57,8 +56,8 @@ impl PackageReq {
         package_req(alloc, text, Flavour::Npm)
     }
 
-    /// The same ([`PackageReq::from_str`]), where the normalized reader reads the text of the version
-    /// ([`VersionReq::parse_from_normalized`]), and its refusal is told as `NormalizedVersionReq`.
+    /// Parses like [`PackageReq::from_str`], but with the normalized grammar for the version
+    /// ([`VersionReq::parse_from_normalized`]), whose error it returns as `NormalizedVersionReq`.
     pub fn from_str_normalized(
         alloc: Global,
         text: &str,
@@ -72,8 +71,8 @@ impl PackageReq {
         package_req(alloc, text, Flavour::Normal)
     }
 
-    /// The name, `@`, and the normal text of the requirement ([`VersionReq::to_string_normalized`], where what that text
-    /// keeps is told). It is an error only where no memory is left.
+    /// Returns the name, `@`, and the version requirement's canonical form ([`VersionReq::to_string_normalized`], which says
+    /// what that form preserves). Fails only out of memory.
     pub fn to_string_normalized(&self, alloc: Global) -> Result<PackageName, AllocError>
         ensures { IfOk result (λ text. text ≡ normal_req_text self.now) }
     {

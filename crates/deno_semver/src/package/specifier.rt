@@ -9,19 +9,19 @@ use std::alloc::{AllocError, Global};
 use thiserror::Error;
 use url::{ParseError, Url};
 
-/// Why a reference has no URL, or that memory was wanting.
+/// Why a reference has no URL, or that memory ran out.
 #[derive(Clone, Copy, Debug, PartialEq, Eq, Error)]
 pub enum SpecifierError {
-    /// The URL Standard, as the crate `url` has it, refuses its text.
+    /// The text isn't valid under the URL Standard as the crate `url` states it.
     #[error("Invalid URL")]
     Url,
-    /// Memory was wanting, as it is for a URL of 4 GB, which is past what the crate `url` keeps.
+    /// Out of memory, which includes a URL of 4 GB, past what the crate `url` stores.
     #[error("Out of memory.")]
     Memory,
 }
 
 impl SpecifierError {
-    /// Whether memory was wanting.
+    /// Whether the error is out of memory.
     pub fn is_memory(&self) -> bool
         ensures { IsTrue result ↔ (self.now ≡ SpecifierError.Memory) }
     {
@@ -41,7 +41,7 @@ fn text(
     format!(in alloc; "{scheme}/{reference}")
 }
 
-// What a refusal of `url` is told as.
+// The error for a parse error of `url`.
 fn of_url(error: ParseError) -> SpecifierError
     ensures { result ≡ told_refusal error }
 {
@@ -51,7 +51,7 @@ fn of_url(error: ParseError) -> SpecifierError
     }
 }
 
-/// The URL that the text of a reference is, with the scheme and `/` in front.
+/// The URL of the scheme, `/` and the text of a reference.
 pub(crate) fn specifier_of(
     alloc: Global,
     kind: PackageKind,

@@ -6,7 +6,7 @@ ghost use Rattle.std.specs.Option.{option_copied};
 use super::values::PackageSubPath;
 use std::alloc::AllocError;
 
-/// The text of the path, if one is named.
+/// The path's text, if there is a path.
 pub(crate) fn sub_path_text(path: &Option<PackageSubPath>) -> Option<&str>
     ensures { option_copied result ≡ path.now }
 {
@@ -16,7 +16,7 @@ pub(crate) fn sub_path_text(path: &Option<PackageSubPath>) -> Option<&str>
     }
 }
 
-/// The same path again, if one is named. It is an error only where no memory is left.
+/// Copies the path, if there is one. Fails only out of memory.
 pub(super) fn copied_sub_path(
     path: &Option<PackageSubPath>,
 ) -> Result<Option<PackageSubPath>, AllocError>

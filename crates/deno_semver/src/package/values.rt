@@ -1,4 +1,4 @@
-//! Requirements of packages and names with versions, as values: their fields, texts and copies.
+//! Package requirements and names with versions: fields, texts and copies.
 
 ghost use Rattle.std.specs.Prelude.{◌≡◌, IfOk, Some, refl};
 ghost use Rattle.std.specs.Option.{option_copied};
@@ -16,16 +16,16 @@ use std::alloc::{AllocError, Global};
 use std::cmp::Ordering;
 use std::fmt;
 
-/// The name of a package, with its scope where it has one.
+/// A package's name, with its scope if it has one.
 pub type PackageName = StackString;
 
 /// The path of a module in a package.
 pub type PackageSubPath = SmallStackString;
 
-/// A requirement of a package: its name, and which of its versions are meant.
+/// A package requirement: a package's name, and which of its versions match.
 ///
-/// Two are equal where the names are and the requirements of versions stand for the same. It is displayed as its name,
-/// with `@` and the text of the requirement after it unless that is `*`.
+/// Two are equal if their names are and their version requirements mean the same. It is displayed as its name, followed by
+/// `@` and the version requirement's text unless that is `*`.
 #[derive(Debug, PartialEq, Eq, Hash, Drop)]
 pub struct PackageReq {
     pub name: PackageName,
@@ -33,7 +33,7 @@ pub struct PackageReq {
 }
 
 impl PackageReq {
-    /// The same requirement again. It is an error only where no memory is left.
+    /// Copies the package requirement. Fails only out of memory.
     pub fn copy(&self) -> Result<Self, AllocError>
         ensures { IfOk result (λ req. req ≡ self.now) }
     {
@@ -44,7 +44,7 @@ impl PackageReq {
     }
 }
 
-/// `name@text`, or the name alone where the text of the requirement is `*`.
+/// `name@text`, or the name alone if the version requirement's text is `*`.
 impl fmt::Display for PackageReq {
     ghost output = { λ req. Some (req_text req) };
 
@@ -65,9 +65,9 @@ impl StringAppendable for PackageReq {
     }
 }
 
-/// A package's name and one version of it.
+/// A package's name and one of its versions.
 ///
-/// Two are ordered by their names as texts, and then by their versions.
+/// Ordered by name as text, and then by version.
 #[derive(Debug, PartialEq, Eq, Hash, Drop)]
 pub struct PackageNv {
     pub name: PackageName,
@@ -75,7 +75,7 @@ pub struct PackageNv {
 }
 
 impl PackageNv {
-    /// The same name and version again. It is an error only where no memory is left.
+    /// Copies the name and version. Fails only out of memory.
     pub fn copy(&self) -> Result<Self, AllocError>
         ensures { IfOk result (λ nv. nv ≡ self.now) }
     {
@@ -85,7 +85,7 @@ impl PackageNv {
         })
     }
 
-    /// The scope of a name that begins with `@`: what stands before its first `/`, or the whole name where it has none.
+    /// Returns the scope of a name that begins with `@`: the part before its first `/`, or the whole name if it has none.
     pub fn scope(&self) -> Option<&str>
         ensures { option_copied result ≡ scope_of self.now.name }
     {
