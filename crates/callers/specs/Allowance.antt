@@ -1,4 +1,4 @@
--- Whether a requirement allows a version, and what is answered of its text.
+-- Whether a requirement allows a version, and the result for its text.
 use Rattle.std.specs.Prelude.{◌≡◌, ◌⊎◌, ℕ, List, Bool, true, false, None, Result, IfErr, IfOk, IsErr, MatchResult}
 use Rattle.callers.specs.declared.requirements.Allowance.{Allowance}
 use Rattle.callers.specs.declared.requirements.Allowance.TheVariants as answer
@@ -16,28 +16,28 @@ abbrev pub yes_or_no : Bool → Allowance
 yes_or_no true = answer.Yes
 yes_or_no false = answer.No
 
--- a requirement of ranges allows the versions that it means; a tag is told as one
+-- a requirement of ranges allows the versions it means; a tag is returned as one
 abbrev pub allowance_of : RangeSetOrTag → Version → Allowance
 allowance_of (inner.RangeSet set) v = yes_or_no (inner_means (inner.RangeSet set) v)
 allowance_of (inner.Tag tag) v = answer.Tag
 
--- what is answered of a text with this outcome
+-- the result for a text with this outcome
 abbrev pub IsTold : Outcome → Version → Allowance → Type 0
 IsTold (Ranges tree) v allowance = allowance ≡ yes_or_no (tree_means (tree_ranges tree) v)
 IsTold (Tag text) v allowance = allowance ≡ answer.Tag
 IsTold Refused v allowance = ⊥
 
--- what is answered of a text and a version; source is the failure in the error
+-- the result for a text and a version; `source` is the failure in the error
 pub record IsAllowance {E : Type 0} (source : E → Failure) (f : Flavour) (text : List ℕ) (v : Version)
     (result : Result Allowance E) : Type 0 where
-  -- an answer is that of some outcome of the text
+  -- a result is that of some outcome of the text
   pub told : IfOk result (λ allowance. (o : Outcome) × IsOutcome f text o × IsTold o v allowance)
-  -- for every tree of the text it is yes exactly where the tree means the version, want of memory aside
+  -- for every tree of the text it is yes exactly if the tree means the version, or out of memory
   pub ranges : (tree : List (List Comparator)) → IsOutcome f text (Ranges tree)
       → MatchResult result (λ allowance. allowance ≡ yes_or_no (tree_means (tree_ranges tree) v)) (λ e. source e ≡ None)
-  -- a tag is told as one, want of memory aside
+  -- a tag is returned as one, or out of memory
   pub tag : (name : List ℕ) → IsOutcome f text (Tag name)
       → MatchResult result (λ allowance. allowance ≡ answer.Tag) (λ e. source e ≡ None)
-  -- a text is refused where that is its outcome, and nowhere else, want of memory aside
+  -- a text is rejected exactly if that is its outcome, out of memory aside
   pub refused : IsOutcome f text Refused → IsErr result
   pub refused_only : IfErr result (λ e. (source e ≡ None) ⊎ IsOutcome f text Refused)

@@ -1,4 +1,4 @@
--- What a lockfile keeps of a requirement of a package.
+-- What a lockfile keeps of a package requirement.
 use Rattle.std.specs.Prelude.{◌≡◌, ℕ, List, true, All, Result, Ok, MatchResult, IsUtf8}
 use Rattle.std.specs.List.{list_all}
 use Rattle.semver_req.specs.Rereading.{keeps_meaning}
@@ -12,23 +12,23 @@ use Rattle.deno_semver.specs.declared.json.error.JsonError.{JsonError}
 use Rattle.deno_semver.specs.declared.json.error.JsonError.TheVariants as error
 use Rattle.deno_semver.specs.declared.package.values.PackageReq.{PackageReq}
 
--- the value is so, want of memory aside
+-- the value is so, or out of memory
 abbrev pub Locks : {T : Type 0} → (T → Type 0) → Result T JsonError → Type 0
 Locks Says result = MatchResult result Says (λ e. e ≡ error.Memory)
 
--- this is said of a requirement that npm's reader read of some text
+-- this holds for a requirement that npm's grammar parsed from some text
 abbrev pub OfNpm : PackageReq → Type 0 → Type 0
 OfNpm req Says = (text : List ℕ) → IsUtf8 text → IsPackageOutcome Npm text (Ok req) → Says
 
--- what is read again of a list: of each requirement one with the same name, which keeps what that one means, and is
--- settled; all in ascending order
+-- what a stored list parses to: for each requirement one with the same name, which keeps its meaning and is stable; all in
+-- ascending order
 pub record IsLockedList (reqs again : List PackageReq) : Type 0 where
   pub kept : List PackageReq
   pub are_kept : OneByOne IsKeptReq reqs kept
   pub is_sorted : IsSortedFrom kept again
   pub settled : All IsSettledReq again
 
--- the ranges keep their meaning; a tag does
+-- the ranges keep their meaning; a tag always does
 abbrev pub KeepsMeaning : RangeSetOrTag → Type 0
 KeepsMeaning (inner.RangeSet set) = list_all keeps_meaning set.0 ≡ true
 KeepsMeaning (inner.Tag tag) = Unit {0}

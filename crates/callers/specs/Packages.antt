@@ -1,4 +1,4 @@
--- What is answered of the text of a package and the text of a version.
+-- The result for the text of a package and the text of a version.
 use Rattle.std.specs.Prelude.{◌≡◌, ◌⊎◌, ℕ, List, Some, None, Result, Ok, Err, IfErr, IfOk, IsErr, MatchResult, length}
 use Rattle.std.specs.Str.{trim}
 use Rattle.semver_base.specs.Comparators.{Comparator}
@@ -16,36 +16,36 @@ use Rattle.callers.specs.declared.packages.Unanswered.{Unanswered}
 use Rattle.callers.specs.declared.packages.Unanswered.TheVariants as why
 use Rattle.callers.specs.declared.requirements.Allowance.{Allowance}
 
--- memory was wanting
+-- out of memory
 abbrev pub IsWant : Unanswered → Type 0
 IsWant (why.Package error) = IsWantOfMemory error
 IsWant (why.Version error) = error.source ≡ None
 
--- why there is no answer: the refusal of the package's text, or where that is a package of the version's, or out of memory
+-- why there is no result: the package's parse error, or the version's if the package is valid, or out of memory
 abbrev pub IsWhyUnanswered : Flavour → List ℕ → List ℕ → Unanswered → Type 0
 IsWhyUnanswered f text version (why.Package error) = IsPackageRefusal f text error
 IsWhyUnanswered f text version (why.Version error) =
     IsVersionRefusal (trim version) error.source × (req : PackageReq) × IsPackageOutcome f text (Ok req)
 
--- the text is no package, or the other no version
+-- the package's text or the version's is invalid
 abbrev pub IsNoPackageOrVersion : Flavour → List ℕ → List ℕ → Type 0
 IsNoPackageOrVersion f text version =
     ((fault : Fault) × IsPackageOutcome f text (Err fault))
     ⊎ ((fault : Refusal) × IsVersionOutcome (trim version) (Err fault))
 
 pub record AllowsPackage (f : Flavour) (text version : List ℕ) (result : Result Allowance Unanswered) : Type 0 where
-  -- an answer is that of the requirement and the version that the texts are
+  -- a result is that of the requirement and the version that the texts parse to
   pub told : IfOk result (λ allowance. (req : PackageReq) × (v : Version) × IsPackageOutcome f text (Ok req)
       × IsVersionOutcome (trim version) (Ok v) × (allowance ≡ allowance_of req.version_req.inner v))
-  -- it is that for every requirement and version that they are, want of memory aside
+  -- it is that for every requirement and version that they parse to, or out of memory
   pub answer : (req : PackageReq) (v : Version) → IsPackageOutcome f text (Ok req)
       → IsVersionOutcome (trim version) (Ok v)
       → MatchResult result (λ allowance. allowance ≡ allowance_of req.version_req.inner v) IsWant
-  -- for every tree of the requirement's part it is yes exactly where the tree means the version, want of memory aside
+  -- for every tree of the requirement's part it is yes exactly if the tree means the version, or out of memory
   pub tree : (cut : PackageParts) (part : List ℕ) (tree : List (List Comparator)) (v : Version) → IsPackageText text cut
       → cut.version ≡ Some part → length cut.path ≡ 0 → IsOutcome f part (Ranges tree)
       → IsVersionOutcome (trim version) (Ok v)
       → MatchResult result (λ allowance. allowance ≡ yes_or_no (tree_means (tree_ranges tree) v)) IsWant
-  -- there is no answer where either is refused, and nowhere else, out of memory aside; and why there is none is told
+  -- there is no result exactly if either is invalid, out of memory aside; the error says why
   pub refused : IsNoPackageOrVersion f text version → IsErr result
   pub refusal : IfErr result (IsWhyUnanswered f text version)

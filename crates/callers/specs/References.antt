@@ -1,4 +1,4 @@
--- What is answered of the text of a reference and the text of a version.
+-- The result for the text of a reference and the text of a version.
 use Rattle.std.specs.Prelude.{◌≡◌, ◌⊎◌, ℕ, List, Some, None, Result, Ok, Err, IfErr, IfOk, IsErrAnd, MatchResult, codes, true}
 use Rattle.std.specs.List.{list_all}
 use Rattle.std.specs.Str.{trim}
@@ -22,30 +22,29 @@ use Rattle.callers.specs.declared.packages.UnansweredReference.TheVariants as wh
 use Rattle.callers.specs.declared.requirements.Allowance.{Allowance}
 use Rattle.callers.specs.declared.requirements.Allowance.TheVariants as allowance_is
 
--- memory was wanting
+-- out of memory
 abbrev pub IsReferenceWant : UnansweredReference → Type 0
 IsReferenceWant (why.Reference error) = unboxed error ≡ Memory
 IsReferenceWant (why.Version error) = error.source ≡ None
 
--- why there is no answer: the refusal of the reference's text, or where that is a reference of the version's, or want
--- of memory
+-- why there is no result: the reference's parse error, or the version's if the reference is valid, or out of memory
 abbrev pub IsWhy : PackageKind → List ℕ → List ℕ → UnansweredReference → Type 0
 IsWhy kind text version (why.Reference error) = IsReferenceRefusal kind text error
 IsWhy kind text version (why.Version error) =
     IsVersionRefusal (trim version) error.source × (reference : PackageReqReference)
     × IsReferenceOutcome kind text (Ok reference)
 
--- the fault of the reference's text is told
+-- the error reports the fault of the reference's text
 abbrev pub TellsOfReference : PackageKind → List ℕ → ReferenceFault → UnansweredReference → Type 0
 TellsOfReference kind text fault (why.Reference error) = TellsReference kind text fault error
 TellsOfReference kind text fault (why.Version error) = ⊥
 
--- the fault of the version's text is told
+-- the error reports the fault of the version's text
 abbrev pub TellsOfVersion : List ℕ → Refusal → UnansweredReference → Type 0
 TellsOfVersion version fault (why.Reference error) = ⊥
 TellsOfVersion version fault (why.Version error) = error.source ≡ version_failure fault version
 
--- the part of a reference's text that its requirement is; where that is `*` the path has no `@`
+-- the requirement's part of a reference's text; if that is `*`, the path has no `@`
 pub record IsPartOf (kind : PackageKind) (text part : List ℕ) : Type 0 where
   pub body : List ℕ
   pub cut : PackageParts
@@ -56,27 +55,27 @@ pub record IsPartOf (kind : PackageKind) (text part : List ℕ) : Type 0 where
 
 pub record AllowsReference (kind : PackageKind) (text version : List ℕ) (result : Result Allowance UnansweredReference)
     : Type 0 where
-  -- an answer is that of the reference and the version that the texts are
+  -- a result is that of the reference and the version that the texts parse to
   pub told : IfOk result (λ allowance. (reference : PackageReqReference) × (v : Version)
       × IsReferenceOutcome kind text (Ok reference) × IsVersionOutcome (trim version) (Ok v)
       × (allowance ≡ allowance_of reference.req.version_req.inner v))
-  -- it is that for every reference and version that they are, want of memory aside
+  -- it is that for every reference and version that they parse to, or out of memory
   pub answer : (reference : PackageReqReference) (v : Version) → IsReferenceOutcome kind text (Ok reference)
       → IsVersionOutcome (trim version) (Ok v)
       → MatchResult result (λ allowance. allowance ≡ allowance_of reference.req.version_req.inner v) IsReferenceWant
-  -- for every tree of the requirement's part it is yes exactly where the tree means the version, want of memory aside
+  -- for every tree of the requirement's part it is yes exactly if the tree means the version, or out of memory
   pub tree : (part : List ℕ) (tree : List (List Comparator)) (v : Version) → IsPartOf kind text part
       → IsOutcome Specifier part (Ranges tree) → IsVersionOutcome (trim version) (Ok v)
       → MatchResult result (λ allowance. allowance ≡ yes_or_no (tree_means (tree_ranges tree) v)) IsReferenceWant
-  -- a tag is told as one, want of memory aside
+  -- a tag is returned as one, or out of memory
   pub tag : (part name : List ℕ) (v : Version) → IsPartOf kind text part → IsOutcome Specifier part (Tag name)
       → IsVersionOutcome (trim version) (Ok v)
       → MatchResult result (λ allowance. allowance ≡ allowance_is.Tag) IsReferenceWant
-  -- the fault of a text that is no reference is told, and of a reference's version that is none, want of memory aside
+  -- the error reports the fault of an invalid reference, or of an invalid version with a valid reference, or is out of memory
   pub no_reference : (fault : ReferenceFault) → IsReferenceOutcome kind text (Err fault)
       → IsErrAnd result (λ e. IsReferenceWant e ⊎ TellsOfReference kind text fault e)
   pub no_version : (reference : PackageReqReference) (fault : Refusal) → IsReferenceOutcome kind text (Ok reference)
       → IsVersionOutcome (trim version) (Err fault)
       → IsErrAnd result (λ e. IsReferenceWant e ⊎ TellsOfVersion (trim version) fault e)
-  -- nothing else is told
+  -- the error reports nothing else
   pub refusal : IfErr result (IsWhy kind text version)

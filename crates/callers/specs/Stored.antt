@@ -1,4 +1,4 @@
--- What is read again of a requirement that was stored as its normal text.
+-- What a requirement stored in canonical form parses to.
 use Rattle.std.specs.Prelude.{◌≡◌, ◌⊎◌, ℕ, Bool, List, true, None, Result, IfErr, IfOk, IsErr, MatchResult}
 use Rattle.std.specs.List.{list_all}
 use Rattle.callers.specs.Allowance.{yes_or_no}
@@ -19,53 +19,53 @@ use Rattle.semver_req.specs.declared.common.values.Flavour.{Flavour}
 use Rattle.semver_req.specs.declared.range_set_or_tag.RangeSetOrTag.{RangeSetOrTag}
 use Rattle.semver_req.specs.declared.range_set_or_tag.RangeSetOrTag.TheVariants as inner
 
--- what is known of ranges that some reader answered; of a tag nothing, since its text may be read as a range
+-- what holds for ranges that some parser returned; for a tag nothing, since its text may parse to a range
 abbrev pub OfRanges : (List VersionRange → Type 0) → RangeSetOrTag → Type 0
 OfRanges Says (inner.RangeSet set) = IsReadSet set.0 → Says set.0
 OfRanges Says (inner.Tag tag) = Unit {0}
 
--- what is known of a tag that the reader makes of it again
+-- what holds for a tag that its text parses to
 abbrev pub OfTag : Flavour → (List ℕ → Type 0) → RangeSetOrTag → Type 0
 OfTag f Says (inner.RangeSet set) = Unit {0}
 OfTag f Says (inner.Tag tag) = IsOutcome f tag (Tag tag) → Says tag
 
--- what is known of a text that is a tag
+-- what holds for a text that is a tag
 abbrev pub TagOfText : Flavour → List ℕ → (List ℕ → Type 0) → Type 0
 TagOfText f text Says = (name : List ℕ) → IsOutcome f text (Tag name) → Says name
 
--- the value is so, want of memory aside
+-- the value is so, or out of memory
 abbrev pub Answers : {T E : Type 0} → (E → Failure) → (T → Type 0) → Result T E → Type 0
 Answers source Says result = MatchResult result Says (λ e. source e ≡ None)
 
--- this tag is read, want of memory aside
+-- the result is this tag, or out of memory
 abbrev pub IsTagRead : {E : Type 0} → (E → Failure) → Result Requirement E → List ℕ → Type 0
 IsTagRead source result tag = Answers source (λ req. req.inner ≡ inner.Tag tag) result
 
--- what is read again of the text of ranges
+-- what the text of ranges parses to
 pub record IsReadAgain (ranges : List VersionRange) (read : RangeSetOrTag) : Type 0 where
   pub again : List VersionRange
   pub is_ranges : read ≡ inner.RangeSet (record { 0 = again })
   pub read_set : IsReadSet again
-  -- it means the same where each range keeps its meaning, with npm's rule about pre-releases and without
+  -- it means the same if each range keeps its meaning, with npm's rule about pre-releases and without
   pub means : list_all keeps_meaning ranges ≡ true → (flag : PreRelease) (v : Version)
       → tree_means_with flag (alternatives again) v ≡ tree_means_with flag (alternatives ranges) v
-  -- it is the same where each range is orderly too
+  -- it is the same if each range is orderly too
   pub equal : list_all is_orderly ranges ≡ true → list_all keeps_meaning ranges ≡ true → again ≡ ranges
-  -- it is settled, and what was settled stays as it is
+  -- it is stable, and what was stable stays as it is
   pub settled : IsSettledSet again
   pub stays : IsSettledSet ranges → again ≡ ranges
 
--- such ranges are read again, want of memory aside
+-- the result is such ranges, or out of memory
 abbrev pub IsReread : {E : Type 0} → (E → Failure) → Result Requirement E → List VersionRange → Type 0
 IsReread source result ranges = Answers source (λ req. IsReadAgain ranges req.inner) result
 
--- what is read again of such ranges, and what is read again of that, which is the same, want of memory aside
+-- the result is what such ranges parse to, and what that parses to, which is the same; or out of memory
 abbrev pub IsRereadTwice : {E : Type 0} → (E → Failure) → Result Reread E → List VersionRange → Type 0
 IsRereadTwice source result ranges =
     Answers source (λ r. IsReadAgain ranges r.once.inner × (r.twice.inner ≡ r.once.inner)) result
 
--- what is told of ranges: never that they are a tag; and that a version is allowed exactly where they mean it, if each
--- keeps its meaning
+-- what is returned for ranges: never that they are a tag; and, if each keeps its meaning, that a version is allowed exactly
+-- if they mean it
 abbrev pub IsToldOfRanges : Bool → Bool → Allowance → Type 0
 IsToldOfRanges keep mean allowance = (allowance ≡ answer.Tag → ⊥) × (keep ≡ true → allowance ≡ yes_or_no mean)
 
@@ -73,20 +73,20 @@ abbrev pub AllowsAsBefore : {E : Type 0} → (E → Failure) → Version → Res
 AllowsAsBefore source v result ranges =
     Answers source (IsToldOfRanges (list_all keeps_meaning ranges) (tree_means (alternatives ranges) v)) result
 
--- a tag is told as one, want of memory aside
+-- a tag is returned as one, or out of memory
 abbrev pub IsTagTold : {E : Type 0} → (E → Failure) → Result Allowance E → List ℕ → Type 0
 IsTagTold source result tag = Answers source (λ allowance. allowance ≡ answer.Tag) result
 
--- what is answered of a text whose requirement is stored and read again
+-- the result for a text whose requirement is stored and parsed again
 pub record AllowsAsItsText (f : Flavour) (text : List ℕ) (v : Version)
     (result : Result Allowance Failure) : Type 0 where
-  -- a text that is answered has an outcome, and each outcome of it is told so, want of memory aside
+  -- a text with a result has an outcome, and the result is so for each of its outcomes, or out of memory
   pub told : IfOk result (λ allowance. (o : Outcome) × IsOutcome f text o)
-  -- for every tree of the text what the tree's ranges tell
+  -- for every tree of the text, the result for the tree's ranges
   pub ranges : (tree : List (List Comparator)) → IsOutcome f text (Ranges tree)
       → Answers (λ failure. failure)
       (IsToldOfRanges (list_all keeps_meaning (kept f tree)) (tree_means (tree_ranges tree) v)) result
   pub tag : TagOfText f text (IsTagTold (λ failure. failure) result)
-  -- a text is refused where that is its outcome, and nowhere else, want of memory aside
+  -- a text is rejected exactly if that is its outcome, out of memory aside
   pub refused : IsOutcome f text Refused → IsErr result
   pub refused_only : IfErr result (λ failure. (failure ≡ None) ⊎ IsOutcome f text Refused)

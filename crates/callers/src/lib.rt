@@ -1,6 +1,6 @@
-//! Questions that callers ask of versions and requirements, each with its answer as the contract.
+//! Questions about versions and requirements, each with its result as the contract.
 //!
-//! What is proved here rests on the public contracts of the crates below alone, and on no lemma of theirs.
+//! The proofs use only the public contracts of the crates below, and none of their lemmas.
 #![tactic(auto)]
 
 pub mod import_map;

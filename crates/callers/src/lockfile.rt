@@ -14,8 +14,9 @@ use deno_semver::json::{JsonError, JsonForm, reqs_from_json, reqs_to_json};
 use deno_semver::package::PackageReq;
 use std::alloc::Global;
 
-/// What does the entry that a lockfile stores for the requirement parse to? If npm's parser returned it, to one with the same name, and
-/// with the same tag or with ranges that mean the same if each keeps its meaning; that one is stable. A stable one to an equal one.
+/// What does the entry that a lockfile stores for the requirement parse to? If npm's parser returned it, to one with the same
+/// name, and with the same tag or with ranges that mean the same if each keeps its meaning; that one is stable. A stable one
+/// to an equal one.
 pub fn locked(alloc: Global, req: &PackageReq) -> Result<PackageReq, JsonError>
     ensures npm { OfNpm req.now (Locks (IsKeptReq req.now) result) }
     ensures settled { IsSettledReq req.now → Locks (λ again. AreEqualReqs again req.now) result }
@@ -24,8 +25,8 @@ pub fn locked(alloc: Global, req: &PackageReq) -> Result<PackageReq, JsonError>
     PackageReq::from_json(alloc, &entry)
 }
 
-/// What does the entry of a requirement parse to, and what does that one's entry? If npm's parser returned it, to what [`locked`]
-/// says, and then to an equal one.
+/// What does the entry of a requirement parse to, and what does that one's entry? If npm's parser returned it, to what
+/// [`locked`] says, and then to an equal one.
 pub fn locked_twice(alloc: Global, req: &PackageReq) -> Result<(PackageReq, PackageReq), JsonError>
     ensures once { OfNpm req.now (Locks (λ reqs. IsKeptReq req.now reqs.0) result) }
     ensures twice { OfNpm req.now (Locks (λ reqs. AreEqualReqs reqs.1 reqs.0) result) }
@@ -35,8 +36,8 @@ pub fn locked_twice(alloc: Global, req: &PackageReq) -> Result<(PackageReq, Pack
     Ok((once, twice))
 }
 
-/// Does the requirement allow the version once a lockfile has stored it? Exactly where it did before, if npm's parser returned it and
-/// each of its ranges keeps its meaning. A tag is returned as one.
+/// Does the requirement allow the version once a lockfile has stored it? Exactly if it did before, if npm's parser returned
+/// it and each of its ranges keeps its meaning. A tag is returned as one.
 pub fn allows_when_locked(
     alloc: Global,
     req: &PackageReq,
@@ -49,8 +50,8 @@ pub fn allows_when_locked(
     Ok(allowance_by(&again.version_req, version))
 }
 
-/// What does the entry of a list of requirements parse to? If npm's parser returned them, to what [`locked`] says of each, in ascending
-/// order. An ascending list of stable ones to an equal list.
+/// What does the entry of a list of requirements parse to? If npm's parser returned them, to what [`locked`] says of each, in
+/// ascending order. An ascending list of stable ones to an equal list.
 pub fn locked_list(alloc: Global, reqs: &[PackageReq]) -> Result<Vec<PackageReq>, JsonError>
     ensures npm { All IsNpmReq reqs.now
         → Locks (λ again. IsLockedList reqs.now again.items) result }
@@ -61,8 +62,8 @@ pub fn locked_list(alloc: Global, reqs: &[PackageReq]) -> Result<Vec<PackageReq>
     reqs_from_json(alloc, &entry)
 }
 
-/// What does a lockfile's list parse to, and what does that list's entry? If npm's parser returned the requirements, to an ascending
-/// list, and then to an equal one.
+/// What does a lockfile's list parse to, and what does that list's entry? If npm's parser returned the requirements, to an
+/// ascending list, and then to an equal one.
 pub fn locked_list_twice(
     alloc: Global,
     reqs: &[PackageReq],

@@ -15,7 +15,7 @@ pub fn are_surely_apart(one: &VersionReq, other: &VersionReq) -> bool
     !one.intersects(other)
 }
 
-/// Is the version allowed by both requirements? Where they don't overlap it isn't, and neither is asked.
+/// Is the version allowed by both requirements? If they don't overlap it isn't, and neither is checked.
 pub fn is_allowed_by_both(one: &VersionReq, other: &VersionReq, version: &Version) -> bool
     requires one_is_no_tag { tag_of one.now.inner ≡ None }
     requires other_is_no_tag { tag_of other.now.inner ≡ None }

@@ -15,7 +15,7 @@ use deno_semver::package::{PackageReq, PackageReqParseError, PackageReqReference
 use semver_req::laws::kept_sets_mean_their_trees;
 use std::alloc::Global;
 
-/// Why there is no answer.
+/// Why there is no result.
 #[derive(Debug, Drop)]
 pub enum Unanswered {
     /// The text of the package is invalid, or memory ran out.
@@ -42,8 +42,8 @@ impl From<NpmVersionParseError> for Unanswered {
 
 /// Does the package, such as `@scope/name@^1.2`, allow the version, both parsed by npm's rules?
 ///
-/// For every tree of comparators that the range's part of the text has, exactly where the tree means the version; a tag is returned as
-/// one. Fails exactly where either text is invalid, out of memory aside.
+/// For every tree of comparators that the range's part of the text has, exactly if the tree means the version; a tag is
+/// returned as one. Fails exactly if either text is invalid, or out of memory.
 pub fn package_allows_by_npm(
     alloc: Global,
     text: &str,
@@ -57,7 +57,7 @@ pub fn package_allows_by_npm(
     Ok(allowance_by(&req.version_req, &version))
 }
 
-/// The same ([`package_allows_by_npm`]), where the strict parser parses the range.
+/// The same ([`package_allows_by_npm`]), with the strict parser for the range.
 pub fn package_allows(alloc: Global, text: &str, version: &str) -> Result<Allowance, Unanswered>
     ensures { AllowsPackage Specifier text.now version.now result }
 {
@@ -67,12 +67,12 @@ pub fn package_allows(alloc: Global, text: &str, version: &str) -> Result<Allowa
     Ok(allowance_by(&req.version_req, &version))
 }
 
-/// Why there is no answer for a reference.
+/// Why there is no result for a reference.
 #[derive(Debug, Drop)]
 pub enum UnansweredReference {
     /// The text of the reference is invalid, or memory ran out.
     Reference(PackageReqReferenceParseError),
-    /// It is a reference, and the text of the version is invalid, or memory ran out.
+    /// The reference is valid, and the text of the version is invalid, or memory ran out.
     Version(NpmVersionParseError),
 }
 
@@ -92,10 +92,11 @@ impl From<NpmVersionParseError> for UnansweredReference {
     }
 }
 
-/// Does the reference to a package of npm, such as `npm:@scope/name@^1.2/mod.js`, allow the version?
+/// Does the reference to an npm package, such as `npm:@scope/name@^1.2/mod.js`, allow the version?
 ///
-/// For every tree of comparators that the range's part of the text has, exactly where the tree means the version; a tag is returned as
-/// one. Fails with the first fault of the reference, or of the version if the other is a reference, or out of memory.
+/// For every tree of comparators that the range's part of the text has, exactly if the tree means the version; a tag is
+/// returned as one. Fails with the first fault of the reference, or of the version if the reference is valid, or out of
+/// memory.
 pub fn npm_reference_allows(
     alloc: Global,
     text: &str,
@@ -109,7 +110,7 @@ pub fn npm_reference_allows(
     Ok(allowance_by(&reference.req().version_req, &version))
 }
 
-/// The same ([`npm_reference_allows`]) of a reference to a package of JSR, such as `jsr:@scope/name@^1.2/mod.ts`.
+/// The same ([`npm_reference_allows`]) for a reference to a JSR package, such as `jsr:@scope/name@^1.2/mod.ts`.
 pub fn jsr_reference_allows(
     alloc: Global,
     text: &str,

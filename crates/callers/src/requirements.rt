@@ -15,7 +15,7 @@ use std::alloc::Global;
 pub enum Allowance {
     Yes,
     No,
-    /// The requirement is a tag, which is no question of versions.
+    /// The requirement is a tag, which allows no versions by itself.
     Tag,
 }
 

@@ -1,7 +1,8 @@
-//! Does a requirement that is stored in canonical form mean the same when it is parsed again?
+//! Does a requirement stored in canonical form mean the same when it is parsed again?
 //!
-//! What is said of ranges holds of those that some parser returned. A tag that npm's or the strict parser returned is parsed back; one
-//! of the normalized parser need not be: the text ` 1` parses to the tag `1`, which is stored as a text that parses to a range.
+//! What is said of ranges holds for those that some parser returned. A tag that npm's or the strict parser returned parses
+//! back; one of the normalized parser need not: the text ` 1` parses to the tag `1`, which is stored as a text that parses to
+//! a range.
 
 ghost use Rattle.std.specs.Prelude.{IfErr};
 ghost use Rattle.std.specs.Str.{trim};
@@ -22,8 +23,9 @@ pub struct Reread {
     pub twice: VersionReq,
 }
 
-/// What does npm's parser make of the stored requirement? Ranges, which mean the same if each of the requirement's keeps its meaning,
-/// are the same if each is orderly too, and parse to themselves from then on. Or the tag, if its text parses to that.
+/// What does npm's parser make of the stored requirement? Ranges, which mean the same if each of the requirement's keeps its
+/// meaning, are the same if each is orderly too, and parse to themselves from then on. Or the tag, if its text parses to
+/// that.
 pub fn read_again_by_npm(
     alloc: Global,
     requirement: &VersionReq,
@@ -59,8 +61,8 @@ pub fn read_again_twice(
     Ok(Reread { once, twice })
 }
 
-/// Does the requirement allow the version once it is stored and parsed again by npm's parser? Exactly where it means the version, if
-/// each of its ranges keeps its meaning. A tag that its text parses to is returned as one.
+/// Does the requirement allow the version once it is stored and parsed again by npm's parser? Exactly if it means the
+/// version, if each of its ranges keeps its meaning. A tag that its text parses to is returned as one.
 pub fn allows_when_stored(
     alloc: Global,
     requirement: &VersionReq,
@@ -75,7 +77,7 @@ pub fn allows_when_stored(
 }
 
 /// Does the requirement allow the version once it is stored and parsed again by the normalized parser?
-/// ([`allows_when_stored`] says where.)
+/// ([`allows_when_stored`] says when.)
 pub fn allows_when_stored_as_normalized(
     alloc: Global,
     requirement: &VersionReq,
@@ -89,9 +91,9 @@ pub fn allows_when_stored_as_normalized(
     Ok(allowance_by(&again, version))
 }
 
-/// Does the text of an npm range allow the version, once it is parsed, stored and parsed again by the normalized parser? Exactly where
-/// its comparators mean the version, if each range that is kept of them keeps its meaning. A tag is returned as one; the text is
-/// rejected where npm's grammar rejects it.
+/// Does the text of an npm range allow the version once it is parsed, stored and parsed again by the normalized parser?
+/// Exactly if its comparators mean the version, if each range that is kept of them keeps its meaning. A tag is returned as
+/// one; the text is rejected if npm's grammar rejects it.
 pub fn npm_text_allows_when_stored(
     alloc: Global,
     text: &str,
@@ -104,8 +106,8 @@ pub fn npm_text_allows_when_stored(
     Ok(allows_when_stored_as_normalized(alloc, &requirement, version)?)
 }
 
-/// Does the text of a strict range allow the version, once it is parsed, stored and parsed again by the normalized parser?
-/// ([`npm_text_allows_when_stored`] says where, by the strict grammar.)
+/// Does the text of a strict range allow the version once it is parsed, stored and parsed again by the normalized parser?
+/// ([`npm_text_allows_when_stored`] says when, by the strict grammar.)
 pub fn specifier_allows_when_stored(
     alloc: Global,
     text: &str,

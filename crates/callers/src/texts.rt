@@ -1,4 +1,4 @@
-//! What is written where one text after another is pushed?
+//! What does pushing one text after another write?
 
 ghost use Rattle.std.specs.Prelude.{◌≡◌, ◌++◌, ◌∷◌, IfOk, OnOk, string_bytes};
 ghost use Rattle.semver_base.specs.Characters.{at_sign};

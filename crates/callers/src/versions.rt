@@ -17,14 +17,14 @@ use deno_semver::{
 };
 use std::alloc::{AllocError, Global};
 
-// How the version is displayed.
+// The version as displayed.
 fn displayed(alloc: Global, version: &Version) -> Result<String, AllocError>
     ensures { IfOk result (λ text. string_bytes text ≡ version_text version.now) }
 {
     format!(in alloc; "{version}")
 }
 
-// What the version appends to an empty text.
+// The text that the version appends to an empty one.
 fn appended(alloc: Global, version: &Version) -> Result<StackString, AllocError>
     ensures { IfOk result (λ text. text ≡ version_text version.now) }
 {
@@ -33,7 +33,7 @@ fn appended(alloc: Global, version: &Version) -> Result<StackString, AllocError>
     Ok(text)
 }
 
-// The version that this text of a version is.
+// Parses the text of a version.
 fn read_again(alloc: Global, text: &str) -> Result<Version, ParseFailure>
     ensures { (v : Version) → text.now ≡ version_text v → ReadsBack v → IsSameAgain v result }
 {
@@ -56,8 +56,8 @@ pub fn appended_and_read_again(alloc: Global, version: &Version) -> Result<Versi
     read_again(alloc, text.as_str())
 }
 
-/// What comes of a version that is parsed, displayed, parsed, appended to a text and parsed again? The version that the first text
-/// is, build included. An invalid text is rejected as by [`Version::parse_standard`].
+/// What does parsing, displaying, parsing, appending and parsing a version give? The version that the first text parses to,
+/// build included. An invalid text is rejected as by [`Version::parse_standard`].
 pub fn read_displayed_and_appended(alloc: Global, text: &str) -> Result<Version, ParseFailure>
     ensures same { (v : Version) → IsVersionOutcome (trim text.now) (Ok v) → IsSameAgain v result }
     ensures read { IfOk result (λ again. IsVersionOutcome (trim text.now) (Ok again)) }
@@ -68,7 +68,7 @@ pub fn read_displayed_and_appended(alloc: Global, text: &str) -> Result<Version,
     appended_and_read_again(alloc, &displayed)
 }
 
-/// Does the requirement of this version alone allow the other? Exactly where the two have the same precedence.
+/// Does the requirement of this version alone allow the other? Exactly if the two have the same precedence.
 pub fn is_pinned_to(alloc: Global, version: Version, other: &Version) -> Result<bool, AllocError>
     ensures { IfOk result (λ is_allowed. IsTrue is_allowed ↔ SamePrecedence version other.now) }
 {
@@ -76,8 +76,8 @@ pub fn is_pinned_to(alloc: Global, version: Version, other: &Version) -> Result<
     Ok(requirement.matches(other))
 }
 
-/// What does npm's parser make of the stored requirement of this version alone? The same requirement, if some text parses to the
-/// version.
+/// What does npm's parser make of the stored requirement of this version alone? The same requirement, if some text parses to
+/// the version.
 pub fn pinned_and_read_again(alloc: Global, version: Version) -> Result<VersionReq, ParseFailure>
     ensures { OfReadVersion version (Answers (λ failure. failure)
         (λ again. again.inner ≡ (pinned version).inner) result) }

@@ -1,4 +1,4 @@
--- Where a row of the table is met.
+-- When an answer agrees with a row of the table.
 use Rattle.std.specs.Prelude.{◌≡◌, ◌⊎◌, ℕ, List, [], ◌∷◌, Option, Some, None, String, codes, string_bytes}
 use Rattle.std.specs.declared.alloc.Global.{Global}
 
@@ -13,6 +13,6 @@ abbrev pub first_item : List (Option (List ℕ)) → Option (List ℕ)
 first_item [] = None
 first_item (item ∷ items) = item
 
--- the answer is the row's, or some refusal where the row has `refused` alone
+-- the answer is the row's, or any rejection if the row has `refused` alone
 abbrev pub IsMet : List (Option (List ℕ)) → List (Option (List ℕ)) → Type 0
 IsMet expected answer = (expected ≡ answer) ⊎ ((expected ≡ refused_item ∷ []) × (first_item answer ≡ refused_item))

@@ -19,9 +19,9 @@ pub enum Fault {
     OtherArguments,
     /// No call has the name.
     NoCall,
-    /// The line is no row.
+    /// The line isn't a row.
     NoRow,
-    /// There is no memory for the row or its answer.
+    /// Out of memory for the row or its answer.
     Unreported,
 }
 
@@ -47,7 +47,7 @@ impl From<ParseFailure> for Fault {
     }
 }
 
-/// What a call reports.
+/// The report of a call.
 #[derive(Drop)]
 pub struct Answer {
     alloc: Global,
@@ -62,7 +62,7 @@ impl Answer {
         }
     }
 
-    /// The answer for a fault of a call, or the fault where there is none.
+    /// The answer for a fault of a call, or the fault if it has none.
     pub fn of_fault(alloc: Global, fault: Fault) -> OrFault<Answer> {
         let mut answer = Answer::new(alloc);
         match fault {
@@ -113,13 +113,13 @@ impl Answer {
         }
     }
 
-    /// Reports a text that was made for it.
+    /// Reports a text made for the answer.
     pub fn made(&mut self, text: Result<String, AllocError>) -> Reported {
         let text = text?;
         self.push(Some(text))
     }
 
-    /// Reports how the value is displayed.
+    /// Reports the value as displayed.
     pub fn displayed<T: Display>(&mut self, value: &T) -> Reported {
         self.made(format!(in self.alloc; "{value}"))
     }
@@ -137,20 +137,20 @@ impl Answer {
     }
 }
 
-/// A value or an error of a parser.
+/// A value or a parser's error.
 pub trait Report: Drop {
-    /// Whether it is the error of a parser that ran out of memory.
+    /// Whether this is the error of a parser that ran out of memory.
     fn is_memory(&self) -> bool {
         false
     }
 
-    /// The same again.
+    /// Copies the value or error.
     fn copied(&self) -> Result<Self, AllocError>;
 
     fn report(&self, answer: &mut Answer) -> Reported;
 }
 
-/// The value, where the text of an argument is valid.
+/// The value, if the text of an argument is valid.
 pub fn parsed<T, E: Report>(read: Result<T, E>) -> OrFault<T> {
     match read {
         Ok(value) => Ok(value),

@@ -1,4 +1,4 @@
-//! Arguments of calls, and the values that they stand for.
+//! Arguments of calls, and the values they parse to.
 
 use crate::answer::{Fault, Item, OrFault};
 use crate::parse::Parse;
@@ -32,16 +32,16 @@ pub fn triple(arguments: &[Item]) -> OrFault<(&str, &str, &str)> {
     }
 }
 
-/// The two values that the arguments stand for.
+/// The two values that the arguments parse to.
 pub fn both_of<T: Parse>(alloc: Global, arguments: &[Item]) -> OrFault<Two<T, T>> {
     let (one, other) = pair(arguments)?;
     both(T::parse(alloc, one), T::parse(alloc, other))
 }
 
-/// The rule for pre-releases that a call is given, or none, which is npm's.
+/// The rule for pre-releases that a call is given, or none, which means npm's.
 pub type Rule = Option<PreRelease>;
 
-/// The rule that `restricted` or `admitted` stands for.
+/// The rule that `restricted` or `admitted` means.
 pub fn pre_release(argument: &str) -> Rule {
     match argument {
         "restricted" => Some(PreRelease::Restricted),
@@ -50,7 +50,7 @@ pub fn pre_release(argument: &str) -> Rule {
     }
 }
 
-/// The rule that the only argument stands for, where there is one.
+/// The rule that the only argument means, if there is one.
 pub fn optional_pre_release(arguments: &[Item]) -> OrFault<Rule> {
     match arguments {
         [] => Ok(None),
@@ -59,7 +59,7 @@ pub fn optional_pre_release(arguments: &[Item]) -> OrFault<Rule> {
     }
 }
 
-/// The requirement that a text is by the grammar of this name.
+/// Parses a version requirement by the grammar with this name.
 pub fn requirement(alloc: Global, grammar: &str, text: &str) -> OrFault<VersionReq> {
     Ok(VersionReq::parse(alloc, text, flavour(grammar)?)?)
 }
@@ -74,7 +74,7 @@ pub fn flavour(grammar: &str) -> OrFault<Flavour> {
     }
 }
 
-/// The requirements that the arguments are by the grammar of this name.
+/// Parses the arguments as version requirements by the grammar with this name.
 pub fn requirements(alloc: Global, grammar: &str, texts: &[Item]) -> OrFault<Vec<VersionReq>> {
     let mut all = Vec::new(alloc);
     for text in texts {
@@ -84,7 +84,7 @@ pub fn requirements(alloc: Global, grammar: &str, texts: &[Item]) -> OrFault<Vec
     Ok(all)
 }
 
-/// The versions that the arguments are.
+/// Parses the arguments as versions.
 pub fn versions(alloc: Global, texts: &[Item]) -> OrFault<Vec<Version>> {
     let mut all = Vec::new(alloc);
     for text in texts {
@@ -94,7 +94,7 @@ pub fn versions(alloc: Global, texts: &[Item]) -> OrFault<Vec<Version>> {
     Ok(all)
 }
 
-/// Puts the value behind the others.
+/// Appends the value.
 pub fn push<T: Drop>(all: &mut Vec<T>, value: OrFault<T>) -> OrFault<()> {
     Ok(all.push(value?).map_err(AllocError::from)?)
 }
@@ -105,7 +105,7 @@ pub struct Two<A, B> {
     pub other: B,
 }
 
-/// Both values, or why there is not the one or the other.
+/// Both values, or why one of them is missing.
 pub fn both<A: Drop, B: Drop>(one: OrFault<A>, other: OrFault<B>) -> OrFault<Two<A, B>> {
     let (one, other) = (one?, other?);
     Ok(Two { one, other })

@@ -1,9 +1,9 @@
-//! The calls that a row can ask, by their names.
+//! The calls that a row can make, by name.
 
 use crate::answer::{Answer, Fault, Item, Reported};
 use crate::{examples, json, kinds, packages, parse, ranges, requirements, versions};
 
-/// Reports what the call of this name answers to the arguments.
+/// Makes the call with this name, and reports what it returns for the arguments.
 pub fn ask(call: &str, arguments: &[Item], answer: &mut Answer) -> Reported {
     match call {
         "version" => versions::version(arguments, answer),

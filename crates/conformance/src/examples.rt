@@ -1,4 +1,4 @@
-//! Examples: public calls that few rows would ask, on constants and with the answers that are expected.
+//! Examples: public calls that few rows would make, on constants and with the expected results.
 
 mod grammar;
 mod rejections;
@@ -11,10 +11,10 @@ use semver_base::string::StringType;
 use std::alloc::{AllocError, Global};
 use std::fmt::Display;
 
-/// Whether every answer of an example is the expected one.
+/// Whether every result of an example is the expected one.
 pub type Holds = OrFault<bool>;
 
-/// `example` and the name of one: whether it holds.
+/// `example` and a name: whether that example holds.
 pub fn example(arguments: &[Item], answer: &mut Answer) -> Reported {
     let holds = holds(answer.alloc(), only(arguments)?)?;
     answer.yes_or_no(holds)
@@ -55,7 +55,7 @@ fn displays<T: Display>(alloc: Global, value: &T, text: &str) -> Result<bool, Al
     Ok(displayed.as_str() == text)
 }
 
-// Whether the text that was made is this one.
+// Whether the result is this text.
 fn is_text<T: StringType>(made: Result<T, AllocError>, text: &str) -> Result<bool, AllocError> {
     let made = made?;
     let same = made.as_str() == text;

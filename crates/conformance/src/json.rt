@@ -14,7 +14,7 @@ use deno_semver::{
 use serde_json::{Category, Value};
 use std::alloc::{AllocError, Global};
 
-/// The JSON value that a text is.
+/// Parses JSON.
 pub fn value_of(alloc: Global, text: &str) -> OrFault<Value> {
     match Value::from_str(alloc, text) {
         Ok(value) => Ok(value),
@@ -23,7 +23,7 @@ pub fn value_of(alloc: Global, text: &str) -> OrFault<Value> {
     }
 }
 
-/// The text of the JSON of a value.
+/// The JSON of a value, as text.
 pub fn text_of<T: JsonForm>(alloc: Global, value: &T) -> Result<String, AllocError> {
     let json = value.to_json(alloc)?;
     let text = json.to_string(alloc);
@@ -31,7 +31,7 @@ pub fn text_of<T: JsonForm>(alloc: Global, value: &T) -> Result<String, AllocErr
     text
 }
 
-/// `json`: `read` and the JSON of the value of a type that a JSON text stands for; or `refused` and the line of the error.
+/// `json`: `read` and the JSON of the value of a type that a JSON text parses to; or `refused` and the error's line.
 pub fn json(arguments: &[Item], answer: &mut Answer) -> Reported {
     let (of_type, text) = pair(arguments)?;
     let json = value_of(answer.alloc(), text)?;
@@ -78,7 +78,7 @@ fn form<T: JsonForm>(json: &Value, answer: &mut Answer) -> Reported {
     }
 }
 
-/// `stored`: whether the value of a text equals the one that its JSON stands for.
+/// `stored`: whether the value of a text equals the one that its JSON parses to.
 pub fn stored(arguments: &[Item], answer: &mut Answer) -> Reported {
     let (of_type, grammar, text) = triple(arguments)?;
     let alloc = answer.alloc();

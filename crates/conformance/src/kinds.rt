@@ -64,7 +64,7 @@ fn equal<T: Parse>(text: &str, other: &str, answer: &mut Answer) -> Reported {
     answer.yes_or_no(equal)
 }
 
-// `written`: how the value is displayed, and the other text with it appended, in each type of texts.
+// `written`: the value as displayed, and with the other text appended, in each text type.
 fn written<T: Parse>(text: &str, start: &str, answer: &mut Answer) -> Reported {
     let value = T::parse(answer.alloc(), text)?;
     let reported = write(&value, start, answer);
@@ -86,7 +86,7 @@ fn append<S: StringType, T: Parse>(value: &T, start: &str, answer: &mut Answer) 
     answer.text(text.as_str())
 }
 
-/// `replaced`: a text with each part that is another one replaced.
+/// `replaced`: a text with each occurrence of another one replaced.
 pub fn replaced(arguments: &[Item], answer: &mut Answer) -> Reported {
     let (text, from, to) = triple(arguments)?;
     let text = SmallStackString::parse(answer.alloc(), text)?;

@@ -1,12 +1,12 @@
-//! `conformance` holds the public calls of `deno_semver` to a table.
+//! `conformance` checks the public calls of `deno_semver` against a table.
 //!
-//! It reads the table from standard input. A line that begins with `#` is a heading, and a blank line is nothing; every
+//! It reads the table from standard input. A line that begins with `#` is a heading, and an empty line is skipped; every
 //! other line is a row: a JSON array of two arrays of texts or nulls, a call with its arguments and its answer. The program
-//! prints each row that has another answer, with that answer, each line that it can't read, with the reason, and then for
-//! each call how many rows were asked and how many differ.
+//! prints each row that has another answer, with that answer, each line that it can't parse, with the reason, and then for
+//! each call the number of rows run and of rows that differ.
 //!
-//! The status is 0 where nothing differs, else 1; it is 4 where standard input can't be read, 5 out of memory and 6 where
-//! standard output can't be written.
+//! The status is 0 if nothing differs, else 1; it is 4 if standard input can't be read, 5 out of memory and 6 if standard
+//! output can't be written.
 #![tactic(auto)]
 
 ghost use Rattle.std.specs.Prelude.{◌≡◌, ◌↔◌, false, true};
@@ -33,7 +33,7 @@ use std::io::{BufWriter, ErrorKind, Read, Write};
 use std::process::ExitCode;
 use table::Problem;
 
-// All bytes of the reader.
+// Reads all bytes.
 fn read_all<R: Read + Drop>(alloc: Global, mut reader: R) -> Result<Vec<u8>, Problem> {
     let mut bytes = Vec::new(alloc);
     match reader.read_to_end(&mut bytes) {

@@ -1,4 +1,4 @@
-//! Whether an answer is the one that a row expects.
+//! Whether an answer is the expected one.
 
 ghost use Rattle.std.specs.Prelude.{◌≡◌, ◌↔◌, ◌∷◌, [], IsTrue, map};
 ghost use Rattle.conformance.specs.RowAnswer.{IsMet, first_item, refused_item, item_text};
@@ -25,7 +25,7 @@ fn is_refused(items: &[Item]) -> bool
     }
 }
 
-// Whether the item `refused` is all.
+// Whether `refused` is the only item.
 fn is_refused_alone(items: &[Item]) -> bool
     ensures { IsTrue result ↔ (map item_text items.now ≡ refused_item ∷ []) }
 {
@@ -35,7 +35,7 @@ fn is_refused_alone(items: &[Item]) -> bool
     }
 }
 
-/// Whether an answer is the one that a row expects. A row that expects `refused` alone leaves open which rejection it is.
+/// Whether an answer is the one that a row expects. A row that expects `refused` alone accepts any rejection.
 pub fn is_met(expected: &[Item], answer: &[Item]) -> bool
     ensures { IsTrue result ↔ IsMet (map item_text expected.now) (map item_text answer.now) }
 {

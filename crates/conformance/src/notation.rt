@@ -1,7 +1,7 @@
 //! Bounds, ranges and sets of ranges as texts.
 //!
-//! A bound is `>=1.0.0`, `>1.0.0`, `<=1.0.0` or `<1.0.0`, or `*` where it is absent. A range is its start and its end with a
-//! blank between, without those that are absent, or `*`. A set is its ranges with ` || ` between, or the empty text.
+//! A bound is `>=1.0.0`, `>1.0.0`, `<=1.0.0` or `<1.0.0`, or `*` if it is absent. A range is its start and its end with a
+//! space between, without those that are absent, or `*`. A set is its ranges with ` || ` between, or the empty text.
 
 use crate::answer::{Fault, OrFault};
 use crate::arguments::both;
@@ -11,7 +11,7 @@ use semver_base::string::CowVec;
 use semver_base::version::Version;
 use std::alloc::{AllocError, Global};
 
-/// The text of a bound: its sign is `>` for a start, `<` for an end.
+/// The text of a bound: its operator begins with `>` for a start, `<` for an end.
 pub fn bound(alloc: Global, sign: char, bound: &RangeBound) -> Result<String, AllocError> {
     match bound {
         RangeBound::Unbounded => String::from_str(alloc, "*"),
@@ -42,7 +42,7 @@ pub fn set(alloc: Global, set: &VersionRangeSet) -> Result<String, AllocError> {
     Ok(text)
 }
 
-// Pushes the range, after what separates it from those before it.
+// Appends the range, after the separator if it isn't the first.
 fn push_range(alloc: Global, text: &mut String, each: &VersionRange) -> Result<(), AllocError> {
     if !text.is_empty() {
         text.push_str(" || ")?;
@@ -50,7 +50,7 @@ fn push_range(alloc: Global, text: &mut String, each: &VersionRange) -> Result<(
     text.push_str(range(alloc, each)?.as_str())
 }
 
-/// The bound whose text begins with this sign, or an absent one.
+/// Parses a bound whose text begins with this operator, or an absent one.
 pub fn bound_of(alloc: Global, sign: char, text: &str) -> OrFault<RangeBound> {
     if text == "*" {
         return Ok(RangeBound::Unbounded);
@@ -62,7 +62,7 @@ pub fn bound_of(alloc: Global, sign: char, text: &str) -> OrFault<RangeBound> {
     }
 }
 
-/// The range that a text stands for.
+/// Parses a range.
 pub fn range_of(alloc: Global, text: &str) -> OrFault<VersionRange> {
     let (start, end) = match text.split_once(' ') {
         Some(bounds) => bounds,
@@ -76,7 +76,7 @@ pub fn range_of(alloc: Global, text: &str) -> OrFault<VersionRange> {
     })
 }
 
-/// The set of ranges that a text stands for.
+/// Parses a set of ranges.
 pub fn set_of(alloc: Global, text: &str) -> OrFault<VersionRangeSet> {
     let mut ranges = CowVec::new(alloc);
     if text.is_empty() {

@@ -1,4 +1,4 @@
-//! Calls on packages: requirements of them, names with versions, dependencies, references, and the names of exports.
+//! Calls on packages: package requirements, names with versions, dependencies, references, and names of exports.
 
 use crate::answer::{Answer, Fault, Item, OrFault, Report, Reported, report_either};
 use crate::arguments::{only, pair};
@@ -15,7 +15,7 @@ use deno_semver::package::{
 use std::alloc::{AllocError, Global};
 use url::{ParseError, Url};
 
-/// `package`: what a text of a package is by a grammar.
+/// `package`: what a text parses to as a package, by a grammar.
 pub fn package(arguments: &[Item], answer: &mut Answer) -> Reported {
     let (grammar, text) = pair(arguments)?;
     let alloc = answer.alloc();
@@ -67,7 +67,7 @@ fn kind(error: &PackageReqPartsParseError) -> OrFault<&'static str> {
     }
 }
 
-/// `name-version`: what a name with a version is.
+/// `name-version`: what a text parses to as a name with a version.
 pub fn name_version(arguments: &[Item], answer: &mut Answer) -> Reported {
     let read = PackageNv::from_str(answer.alloc(), only(arguments)?);
     report_either(read, answer)
@@ -109,7 +109,7 @@ impl Report for PackageNvParseError {
     }
 }
 
-/// `dependency`: what a text of a dependency is by a grammar.
+/// `dependency`: what a text parses to as a dependency, by a grammar.
 pub fn dependency(arguments: &[Item], answer: &mut Answer) -> Reported {
     let (grammar, text) = pair(arguments)?;
     let alloc = answer.alloc();
@@ -159,7 +159,7 @@ impl Report for JsrDepPackageReqParseError {
     }
 }
 
-/// `reference`: what a reference to a package of a registry is.
+/// `reference`: what a text parses to as a reference to a package of a registry.
 pub fn reference(arguments: &[Item], answer: &mut Answer) -> Reported {
     let (registry, text) = pair(arguments)?;
     let alloc = answer.alloc();
@@ -218,7 +218,7 @@ impl Report for PackageReqReferenceParseError {
     }
 }
 
-/// `version-reference`: what a reference to a version of a package of a registry is.
+/// `version-reference`: what a text parses to as a reference to a version of a package of a registry.
 pub fn version_reference(arguments: &[Item], answer: &mut Answer) -> Reported {
     let (registry, text) = pair(arguments)?;
     let alloc = answer.alloc();
@@ -266,7 +266,7 @@ pub fn export(arguments: &[Item], answer: &mut Answer) -> Reported {
     report_export(PackageKind::Jsr, path.as_deref(), answer)
 }
 
-/// `of-specifier`: what a URL is as a reference of a kind.
+/// `of-specifier`: what a URL parses to as a reference of a kind.
 pub fn of_specifier(arguments: &[Item], answer: &mut Answer) -> Reported {
     let (kind, text) = pair(arguments)?;
     let url = url_of(answer.alloc(), text)?;

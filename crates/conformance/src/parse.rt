@@ -1,4 +1,4 @@
-//! The values that texts stand for, where one parser is meant.
+//! The values that texts parse to, for calls with one parser.
 
 use crate::answer::{Answer, Fault, Item, OrFault, Reported, parsed};
 use crate::arguments::{pair, requirement};
@@ -17,7 +17,7 @@ use semver_req::range_set_or_tag::RangeSetOrTag;
 use std::alloc::{AllocError, Global};
 use std::fmt::Display;
 
-/// A value that a text stands for, of packages and their requirements by npm's grammar.
+/// A value that a text parses to; packages and their requirements by npm's grammar.
 pub trait Parse: PartialEq + StringAppendable + Display + Drop {
     fn parse(alloc: Global, text: &str) -> OrFault<Self>;
 }
@@ -102,7 +102,7 @@ impl Parse for PackageNvReference {
     }
 }
 
-/// `ample`: whether no parser runs out of memory at a text, alone and with up to so many `1` behind it.
+/// `ample`: whether every parser has enough memory for a text, alone and with up to so many `1` after it.
 pub fn ample(arguments: &[Item], answer: &mut Answer) -> Reported {
     let (text, count) = pair(arguments)?;
     let Ok(count) = count.parse::<usize>() else {
@@ -130,7 +130,7 @@ fn is_answered(alloc: Global, text: &str) -> bool {
         && has_memory(PackageReq::parse(alloc, text))
 }
 
-// Whether a value was parsed or rejected.
+// Whether parsing gave a value or a rejection.
 fn has_memory<T: Drop>(read: OrFault<T>) -> bool {
     let has_memory = !matches!(read, Err(Fault::OutOfMemory));
     drop(read);

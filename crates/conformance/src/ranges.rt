@@ -39,7 +39,7 @@ pub fn is_none(arguments: &[Item], answer: &mut Answer) -> Reported {
     answer.yes_or_no(is_none)
 }
 
-/// A call on ranges or a bound, and a version, and `restricted` or `admitted` or nothing.
+/// A call on ranges or a bound, a version, and `restricted` or `admitted` or nothing.
 pub fn of_version(call: &str, arguments: &[Item], answer: &mut Answer) -> Reported {
     let [Some(text), Some(version), rest @ ..] = arguments else {
         return Err(Fault::OtherArguments);
@@ -59,7 +59,7 @@ pub fn of_version(call: &str, arguments: &[Item], answer: &mut Answer) -> Report
     answer.yes_or_no(holds?)
 }
 
-// `satisfies`: whether the version matches. `intersects-version`: whether it stands between the bounds.
+// `satisfies`: whether the version matches. `intersects-version`: whether it lies between the bounds.
 fn range_holds(alloc: Global, call: &str, text: &str, by: &Version, with: Rule) -> OrFault<bool> {
     let range = range_of(alloc, text)?;
     let holds = match with {
@@ -132,7 +132,7 @@ pub fn intersects_set(arguments: &[Item], answer: &mut Answer) -> Reported {
     answer.yes_or_no(overlap)
 }
 
-/// `set-is-subset` or `set-is-equivalent`: whether each version that one set holds, or only these, another one holds too.
+/// `set-is-subset` or `set-is-equivalent`: whether another set contains each version of one set, or exactly these.
 pub fn contains(call: &str, arguments: &[Item], answer: &mut Answer) -> Reported {
     let [Some(with), sets @ ..] = arguments else {
         return Err(Fault::OtherArguments);
@@ -148,7 +148,7 @@ pub fn contains(call: &str, arguments: &[Item], answer: &mut Answer) -> Reported
     answer.yes_or_no(holds?)
 }
 
-/// `partial`: the bound or the range that a copy of a partial version stands for at a place.
+/// `partial`: the bound or the range that a copy of a partial version means at a place.
 pub fn partial(arguments: &[Item], answer: &mut Answer) -> Reported {
     let (place, text) = pair(arguments)?;
     let alloc = answer.alloc();
@@ -168,7 +168,7 @@ fn copied_partial(alloc: Global, text: &str) -> OrFault<Partial> {
     }
 }
 
-// The range of a partial version after this sign or kind; of a bound, the one that it alone bounds.
+// The range of a partial version after this operator or kind; for a bound, the range with that bound alone.
 fn range_at(alloc: Global, place: &str, partial: &Partial) -> OrFault<VersionRange> {
     let range = match place {
         "lower" => return bounded(partial.as_lower_bound(alloc)?, RangeBound::Unbounded),

@@ -17,7 +17,7 @@ pub fn tag(arguments: &[Item], answer: &mut Answer) -> Reported {
     answer.yes_or_no(is_valid_npm_tag(only(arguments)?))
 }
 
-/// `requirement`, `ranges` or `normal`: of a requirement.
+/// `requirement`, `ranges` or `normal`: a call on one requirement.
 pub fn of_one(call: &str, arguments: &[Item], answer: &mut Answer) -> Reported {
     let (grammar, text) = pair(arguments)?;
     let requirement = requirement(answer.alloc(), grammar, text)?;
@@ -30,7 +30,7 @@ pub fn of_one(call: &str, arguments: &[Item], answer: &mut Answer) -> Reported {
     reported
 }
 
-// `ranges`, or `tag` and the tag; and the text that the requirement keeps.
+// `ranges`, or `tag` and the tag; and the text stored in the requirement.
 fn kept(requirement: &VersionReq, answer: &mut Answer) -> Reported {
     let text = requirement.version_text();
     match requirement.inner() {
@@ -39,7 +39,7 @@ fn kept(requirement: &VersionReq, answer: &mut Answer) -> Reported {
     }
 }
 
-// The ranges of a copy of the requirement, and the text that the copy keeps.
+// The ranges of a copy of the requirement, and the text stored in the copy.
 fn ranges(requirement: &VersionReq, answer: &mut Answer) -> Reported {
     let copy = requirement.copy()?;
     let set = copy.range().ok_or(Fault::OtherArguments)?;
@@ -68,7 +68,7 @@ pub fn of_two(call: &str, arguments: &[Item], answer: &mut Answer) -> Reported {
     answer.yes_or_no(holds)
 }
 
-/// `reread`: whether the other grammar makes an equal requirement of the canonical form, and the canonical form of that.
+/// `reread`: whether the other grammar parses the canonical form to an equal requirement, and the canonical form of that.
 pub fn reread(arguments: &[Item], answer: &mut Answer) -> Reported {
     let (grammar, text, other) = triple(arguments)?;
     let alloc = answer.alloc();
@@ -102,7 +102,7 @@ pub fn follows(arguments: &[Item], answer: &mut Answer) -> Reported {
     answer.yes_or_no(follows)
 }
 
-/// `fits`: whether a version matches, by the rule for pre-releases that is an argument or else by npm's; or `tag` and the tag.
+/// `fits`: whether a version matches, by the rule for pre-releases in the arguments, else by npm's; or `tag` and the tag.
 pub fn fits(arguments: &[Item], answer: &mut Answer) -> Reported {
     let [Some(grammar), Some(text), Some(version), rest @ ..] = arguments else {
         return Err(Fault::OtherArguments);
@@ -126,7 +126,8 @@ fn fit(req: &VersionReq, version: &Version, with: Rule, answer: &mut Answer) -> 
     })
 }
 
-/// `pinned`: the text and the canonical form of the requirement that a version is turned into, and whether another version matches.
+/// `pinned`: the text and the canonical form of the requirement that a version is turned into, and whether another version
+/// matches.
 pub fn pinned(arguments: &[Item], answer: &mut Answer) -> Reported {
     let (version, other) = pair(arguments)?;
     let alloc = answer.alloc();
@@ -146,7 +147,7 @@ fn report_pinned(pinned: &VersionReq, version: &Version, answer: &mut Answer) ->
     answer.yes_or_no(pinned.tag().is_none() && pinned.matches(version))
 }
 
-/// A call on the lowest version that requirements match, or on containment; `tag` where one of them is a tag.
+/// A call on the lowest version that requirements match, or on containment; `tag` if one of them is a tag.
 pub fn lowest(call: &str, arguments: &[Item], answer: &mut Answer) -> Reported {
     let [Some(grammar), Some(with), Some(text), others @ ..] = arguments else {
         return Err(Fault::OtherArguments);
@@ -182,8 +183,9 @@ fn of_all(
     }
 }
 
-// `common-version`: the lowest version that both match. `version-outside`: the lowest version that the first matches and the second
-// doesn't. `is-subset`: whether the second matches each version that the first matches. `is-equivalent`: whether both match the same.
+// `common-version`: the lowest version that both match. `version-outside`: the lowest version that the first matches and the
+// second doesn't. `is-subset`: whether the second matches each version that the first matches. `is-equivalent`: whether both
+// match the same.
 fn of_pair(
     call: &str,
     own: &VersionReq,

@@ -1,4 +1,4 @@
-//! How a table is gone through.
+//! Running the rows of a table.
 
 ghost use Rattle.std.specs.Prelude.{◌≡◌, ◌↔◌, IsTrue, All};
 
@@ -10,7 +10,7 @@ use std::alloc::{AllocError, Global};
 use std::io;
 use std::io::{ErrorKind, Write};
 
-/// Why a table was not gone through to its end.
+/// Why the run stopped before the end of the table.
 #[derive(Clone, Copy, Debug, PartialEq, Eq)]
 pub enum Problem {
     /// Standard input can't be read.
@@ -37,7 +37,7 @@ impl From<io::Error> for Problem {
     }
 }
 
-// How many rows of a call were asked, and how many of them differ.
+// The number of rows run for a call, and of those that differ.
 #[derive(Drop)]
 struct Count {
     call: String,
@@ -45,7 +45,7 @@ struct Count {
     differ: u64,
 }
 
-// The counts of the calls, in the order of their first rows, and how many lines were no row.
+// The counts of the calls, in the order of their first rows, and the number of lines that aren't rows.
 #[derive(Drop)]
 struct Tally {
     counts: Vec<Count>,
@@ -98,12 +98,12 @@ struct Line<'a> {
 }
 
 impl Line<'_> {
-    // Headings and blank lines are no rows.
+    // Whether the line is a row, neither a heading nor empty.
     fn is_row(&self) -> bool {
         !self.text.starts_with(b"#") && !self.text.trim_ascii().is_empty()
     }
 
-    // Prints the line, and below it what is said of it, in two parts.
+    // Prints the line, and below it a message in two parts.
     fn print<W: Write>(&self, said: &str, more: &str, out: &mut W) -> Result<(), Problem> {
         let number = self.number;
         write!(out, "line {number}: ")?;
@@ -113,7 +113,7 @@ impl Line<'_> {
     }
 }
 
-// A row that was asked: the call with its arguments, the answer that the table gives it, and the call's own.
+// A row that was run: the call with its arguments, the answer in the table, and the call's own.
 #[derive(Drop)]
 struct Asked {
     question: Vec<Item>,
@@ -149,8 +149,8 @@ fn answer(alloc: Global, question: &[Item]) -> OrFault<Answer> {
     }
 }
 
-/// Asks each row of the table, and prints on `out` the rows that differ, the lines that can't be read, and the counts of the calls
-/// that were asked. Returns whether none differs.
+/// Runs each row of the table, and prints on `out` the rows that differ, the lines that can't be parsed, and the counts of
+/// the calls made. Returns whether none differs.
 pub fn compare<W: Write>(alloc: Global, table: &[u8], out: &mut W) -> Result<bool, Problem> {
     let (counts, unreadable) = (Vec::new(alloc), 0);
     let mut tally = Tally { counts, unreadable };

@@ -7,7 +7,7 @@ use deno_semver::npm::parse_npm_version;
 use deno_semver::{ParseFailure, Version, VersionPreOrBuild, VersionReq, resolve};
 use std::alloc::Global;
 
-/// `version`: `read` and how the version of a text is displayed.
+/// `version`: `read` and the version that a text parses to, as displayed.
 pub fn version(arguments: &[Item], answer: &mut Answer) -> Reported {
     let version = Version::parse(answer.alloc(), only(arguments)?);
     read(version, answer)
@@ -26,7 +26,7 @@ fn read(version: OrFault<Version>, answer: &mut Answer) -> Reported {
     answer.displayed(&version)
 }
 
-/// `precedence`: how one version compares to another by precedence. `identifiers`: the same of 0.0.0 with two identifiers.
+/// `precedence`: how one version compares to another by precedence. `identifiers`: the same for 0.0.0 with two identifiers.
 pub fn precedence(call: &str, arguments: &[Item], answer: &mut Answer) -> Reported {
     let (one, other) = pair(arguments)?;
     let alloc = answer.alloc();
@@ -40,7 +40,7 @@ pub fn precedence(call: &str, arguments: &[Item], answer: &mut Answer) -> Report
     answer.order(order)
 }
 
-// 0.0.0 with one pre-release identifier, which may be such as no version's text has.
+// 0.0.0 with one pre-release identifier, which need not be valid in a version's text.
 fn with_identifier(alloc: Global, identifier: &str) -> OrFault<Version> {
     let identifier = VersionPreOrBuild::from_str(alloc, identifier)?;
     let mut version = Version::new(alloc);
@@ -48,8 +48,8 @@ fn with_identifier(alloc: Global, identifier: &str) -> OrFault<Version> {
     Ok(version)
 }
 
-/// `max-satisfying` or `min-satisfying`: the place of the highest or lowest version that matches, from 0, or `none`, by the rule for
-/// pre-releases that is an argument or else by npm's; or `tag` and the tag.
+/// `max-satisfying` or `min-satisfying`: the index of the highest or lowest version that matches, from 0, or `none`, by the
+/// rule for pre-releases in the arguments, else by npm's; or `tag` and the tag.
 pub fn satisfying(call: &str, arguments: &[Item], answer: &mut Answer) -> Reported {
     let [Some(grammar), Some(text), others @ ..] = arguments else {
         return Err(Fault::OtherArguments);

@@ -157,13 +157,13 @@ pub fn same_url_errors(one: &SpecifierError, other: &SpecifierError) -> bool
     one == other
 }
 
-/// A text is cut as the text of a package in at most one way.
+/// A text splits as the text of a package in at most one way.
 pub fn package_texts_have_one_cut()
     ensures { PackageTextsHaveOneCut }
 {}
 
-/// A text has at most one outcome as the text of a package, with each of the three readers of versions: never two
-/// requirements, nor a requirement and a fault, nor two faults.
+/// A text has at most one outcome as the text of a package, with each of the three grammars of versions: never two package
+/// requirements, nor one and a fault, nor two faults.
 pub fn package_texts_have_one_outcome()
     ensures { PackageTextsHaveOneOutcome }
 {
@@ -177,14 +177,14 @@ pub fn references_have_one_outcome()
     texts_have_one_outcome();
 }
 
-/// The text of a dependency of a JSR package stands for one dependency or has one first fault, never two and never both.
+/// The text of a JSR package's dependency parses to one dependency or has one first fault, never two and never both.
 pub fn dependencies_have_one_outcome()
     ensures { DependenciesHaveOneOutcome }
 {
     package_texts_have_one_outcome();
 }
 
-/// A text stands for one name with a version or has one refusal, never two and never both.
+/// A text parses to one name with a version or has one parse error, never two and never both.
 pub fn names_with_versions_have_one_outcome()
     ensures { NamesWithVersionsHaveOneOutcome }
 {

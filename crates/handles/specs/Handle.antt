@@ -1,4 +1,4 @@
--- What a handle owns: where it has a value, that value on the heap, with the right to free it.
+-- What a handle owns: if it has a value, that value on the heap, with the right to free it.
 use Rattle.std.specs.Prelude.{◌≡◌, Option, None, Some}
 use Rattle.std.specs.Box.Ownership.{box_owns}
 use Rattle.std.specs.contracts.impls.GlobalAllocator.TheImpl.{ghosts}
@@ -10,7 +10,7 @@ use base.Fml.{Fml, ftrue}
 use mir.Syntax.{Ty}
 use denote.RawPtr.{Ptr}
 
--- the right to free a block of the program's heap, which is the same through each handle to that
+-- the right to free a block of the program's heap, which is the same through each handle to that heap
 abbrev pub heap_token : Ty → Ptr → Fml
 heap_token = ghosts.dealloc_token (record { memory = record { seal = tt } })
 

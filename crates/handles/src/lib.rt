@@ -1,6 +1,6 @@
-//! What callers of the C API keep across calls: a range or a version on the heap, behind a struct of one pointer.
+//! Values that callers of the C API keep across calls: a range or a version on the heap, behind a struct of one pointer.
 //!
-//! C holds such a struct and gives it back; what it owns is a clause of the handle, so each value is freed once.
+//! C holds such a struct and gives it back; the handle's contract says what it owns, so each value is freed once.
 #![tactic(auto)]
 
 mod loose;

@@ -1,4 +1,4 @@
-//! A range that is kept across calls.
+//! A range kept across calls.
 
 ghost use Rattle.std.specs.Prelude.{◌≡◌, Option, None, Some};
 ghost use Rattle.semver_req.specs.Requirement.{Requirement};
@@ -51,14 +51,14 @@ impl RequirementHandle {
         }
     }
 
-    /// The handle of a range.
+    /// Makes the handle of a range.
     pub fn keep(value: Box<VersionReq>) -> RequirementHandle
         ensures { result.value ≡ Some value.value }
     {
         RequirementHandle::of(Loose::of(value))
     }
 
-    /// Takes the range out of the handle, which has none then.
+    /// Takes the range out of the handle, leaving it empty.
     pub fn take(&mut self, alloc: Global) -> Box<VersionReq>
         requires { Holds self.old.value }
         ensures taken { self.old.value ≡ Some result.value }

@@ -1,4 +1,4 @@
-//! A version that is kept across calls.
+//! A version kept across calls.
 
 ghost use Rattle.std.specs.Prelude.{◌≡◌, Option, None, Some};
 ghost use Rattle.semver_base.specs.declared.version.Version.{Version};
@@ -51,14 +51,14 @@ impl VersionHandle {
         }
     }
 
-    /// The handle of a version.
+    /// Makes the handle of a version.
     pub fn keep(value: Box<Version>) -> VersionHandle
         ensures { result.value ≡ Some value.value }
     {
         VersionHandle::of(Loose::of(value))
     }
 
-    /// Takes the version out of the handle, which has none then.
+    /// Takes the version out of the handle, leaving it empty.
     pub fn take(&mut self, alloc: Global) -> Box<Version>
         requires { Holds self.old.value }
         ensures taken { self.old.value ≡ Some result.value }

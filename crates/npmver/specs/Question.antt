@@ -1,4 +1,4 @@
--- What the arguments ask, and what is printed.
+-- What the arguments ask, and what the program prints.
 use Rattle.std.specs.Prelude.{◌≡◌, ◌⊎◌, ℕ, List, [], ◌∷◌, Result, Ok, Err, codes}
 use Rattle.semver_base.specs.declared.range.PreRelease.TheVariants.{Restricted, Admitted}
 use Rattle.semver_req.specs.declared.common.values.Flavour.{Flavour}
@@ -21,12 +21,12 @@ pub data IsReader (name : List ℕ) : Flavour → Type 0 where
 abbrev pub NoReader : List ℕ → Type 0
 NoReader name = (f : Flavour) → IsReader name f → ⊥
 
--- the line of a question's answer, or that an argument is rejected
+-- the line for a question's result, or that an argument is invalid
 pub data Prints {X : Type 0} (line : X → Told) (Asked : Result X Fault → Type 0) : Told → Type 0 where
   prints : {x : X} → Asked (Ok x) → Prints line Asked (line x)
   rejects : {kind : Kind} {place : ℕ} → Asked (Err (Invalid kind place)) → Prints line Asked Refused
 
--- what is asked by the grammar of a name; of no grammar, the usage
+-- what is asked by the grammar of a name; for an unknown name, the usage
 pub data ByReader (name : List ℕ) (Asked : Flavour → Told → Type 0) : Told → Type 0 where
   by : {f : Flavour} {told : Told} → IsReader name f → Asked f told → ByReader name Asked told
   by_none : NoReader name → ByReader name Asked Usage
@@ -61,13 +61,13 @@ pub data IsAsked (words : List (List ℕ)) : Told → Type 0 where
       → IsAsked words told
   asks_nothing : (IsForm words → ⊥) → IsAsked words Usage
 
--- the result prints what is asked, which is nothing else; out of memory aside. The usage is printed whatever memory is left
+-- the result prints what is asked, which is nothing else, or is out of memory; the usage is printed whatever memory is left
 pub record IsAnswer (Asked : Told → Type 0) (result : Result Line Problem) : Type 0 where
   pub tells : (told_by result ≡ OutOfMemory) ⊎ Asked (told_by result)
   pub every : (told : Told) → Asked told → (told_by result ≡ OutOfMemory) ⊎ (told_by result ≡ told)
   pub usage : Asked Usage → told_by result ≡ Usage
 
--- the exit status of these arguments: that of what is printed, or of out of memory, or 6 where an answer can't be written
+-- the exit status for these arguments: that of what is printed, or of out of memory, or 6 if a result can't be written
 pub data IsStatus (words : List (List ℕ)) : ℕ → Type 0 where
   of_told : (told : Told) → IsAsked words told → IsStatus words (status_of told)
   of_wanting : IsStatus words (status_of OutOfMemory)

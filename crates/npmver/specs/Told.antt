@@ -11,7 +11,7 @@ use Rattle.npmver.specs.declared.Line.TheVariants as line
 use Rattle.npmver.specs.declared.Problem.{Problem}
 use Rattle.npmver.specs.declared.Problem.TheVariants as problem
 
--- an answer, that an argument is rejected, the usage line, or that memory ran out
+-- a result, that an argument is invalid, the usage line, or that memory ran out
 pub data Told : Type 0 where
   Yes : Told
   No : Told
@@ -37,7 +37,7 @@ abbrev pub told_problem : Problem → Told
 told_problem problem.Usage = Usage
 told_problem (problem.Unanswered why) = told_fault (fault_of why)
 
--- what is printed where this is the result
+-- what is printed for this result
 abbrev pub told_by : Result Line Problem → Told
 told_by (Ok line) = told_answer line
 told_by (Err problem) = told_problem problem

@@ -1,15 +1,14 @@
-//! `npmver` answers questions about versions and version requirements of npm and JSR packages.
+//! `npmver` compares versions with version requirements of npm and JSR packages.
 //!
-//! `npmver fits READER REQ VERSION` prints `yes` (status 0) where the version matches the requirement, which is read by
-//! READER, `npm`, `normal` or `strict`, `no` (1) where it doesn't, and `tag NAME` (2) where the requirement is a tag.
-//! `npmver fits-pre READER REQ VERSION` does so with every pre-release that stands between the bounds.
-//! `npmver best READER REQ VERSION..` prints the highest of the versions that match (0), as it would be installed, or
-//! `none` (1), or the tag (2); each version is read, also for a tag.
-//! `npmver normal READER REQ` prints the canonical form of the requirement, or the tag (0). `npmver meet A B` prints `yes` (0)
-//! where two requirements overlap, both by npm's grammar, and `no` (1) where they don't.
+//! `npmver fits READER REQ VERSION` prints `yes` (status 0) if the version matches the requirement, which is parsed by the
+//! grammar READER, `npm`, `normal` or `strict`, `no` (1) if it doesn't, and `tag NAME` (2) if the requirement is a tag.
+//! `npmver fits-pre READER REQ VERSION` does so with every pre-release between the bounds. `npmver best READER REQ VERSION..`
+//! prints the highest of the versions that match (0), as it would be installed, or `none` (1), or the tag (2); each version
+//! is parsed, also for a tag. `npmver normal READER REQ` prints the canonical form of the requirement, or the tag (0).
+//! `npmver meet A B` prints `yes` (0) if two requirements overlap, both by npm's grammar, and `no` (1) if they don't.
 //!
 //! An invalid argument prints `refused: MESSAGE` on standard error (3); other arguments print the usage there (4), and out of
-//! memory `out of memory` (5). The status is 6 where standard output can't be written.
+//! memory `out of memory` (5). The status is 6 if standard output can't be written.
 #![tactic(auto)]
 
 ghost use Rattle.std.specs.Prelude.{◌≡◌, ◌⊎◌, ◌∷◌, ◌<◌, ℕ, List, [], length, Err, IfErr, IfOk, MatchOption, map, string_bytes};
@@ -36,7 +35,7 @@ use std::{env, io};
 
 const USAGE: &str = "usage: npmver fits|fits-pre|normal|meet|best ..";
 
-/// The line that answers a question.
+/// The line that the program prints.
 #[derive(Drop)]
 enum Line {
     Yes,
@@ -76,7 +75,7 @@ impl Line {
     }
 }
 
-/// Why there is no answer.
+/// Why nothing is printed on standard output.
 #[derive(Drop)]
 enum Problem {
     /// The program doesn't know the arguments.
@@ -100,8 +99,7 @@ impl From<AllocError> for Problem {
     }
 }
 
-/// Answers the question that the arguments ask, as one line on `out`, or reports on `err` why there is no answer. Returns the
-/// exit status.
+/// Prints the result for the arguments as one line on `out`, or reports on `err` why there is none. Returns the exit status.
 pub fn run<O: Write, E: Write>(alloc: Global, words: &[String], out: &mut O, err: &mut E) -> u8
     ensures { IsStatus (map string_bytes words.now) result }
 {
@@ -111,7 +109,7 @@ pub fn run<O: Write, E: Write>(alloc: Global, words: &[String], out: &mut O, err
     }
 }
 
-// Answers the question that the arguments ask.
+// Returns the result for the arguments.
 fn ask(alloc: Global, words: &[String]) -> Result<Line, Problem>
     ensures { IsAnswer (IsAsked (map string_bytes words.now)) result }
 {
@@ -128,7 +126,7 @@ fn ask(alloc: Global, words: &[String]) -> Result<Line, Problem>
     }
 }
 
-// Answers the question that is asked of a requirement and of one or more versions.
+// Returns the result for a requirement and one or more versions.
 fn of_versions(
     alloc: Global,
     command: &str,
@@ -148,7 +146,7 @@ fn of_versions(
     }
 }
 
-// Answers the question that three arguments ask.
+// Returns the result for three arguments.
 fn three(alloc: Global, command: &str, one: &str, other: &str) -> Result<Line, Problem>
     ensures { IsAnswer (IsAsked (command.now ∷ one.now ∷ other.now ∷ [])) result }
 {
@@ -159,7 +157,7 @@ fn three(alloc: Global, command: &str, one: &str, other: &str) -> Result<Line, P
     }
 }
 
-// The grammar of this name.
+// The grammar with this name.
 fn flavour_of(name: &str) -> Option<Flavour>
     ensures { MatchOption result (NoReader name.now) (IsReader name.now) }
 {
@@ -171,7 +169,7 @@ fn flavour_of(name: &str) -> Option<Flavour>
     }
 }
 
-// Whether the one version matches the requirement; of several versions the usage is reported.
+// Whether the version matches the requirement; with several versions, reports the usage.
 fn fits_one(
     alloc: Global,
     reader: &str,
@@ -190,7 +188,7 @@ fn fits_one(
     }
 }
 
-// Whether the version matches the requirement, by the grammar of this name.
+// Whether the version matches the requirement, by the grammar with this name.
 fn fits(
     alloc: Global,
     reader: &str,
@@ -220,7 +218,7 @@ fn slices(alloc: Global, texts: &[String]) -> Result<Vec<&str>, AllocError>
     Ok(slices)
 }
 
-// The highest of the versions that matches the requirement, by the grammar of this name.
+// The highest of the versions that matches the requirement, by the grammar with this name.
 fn best(
     alloc: Global,
     reader: &str,
@@ -244,7 +242,7 @@ fn best(
     Ok(Line::of_best(alloc, answer)?)
 }
 
-// The canonical form of the requirement, by the grammar of this name.
+// The canonical form of the requirement, by the grammar with this name.
 fn normal(alloc: Global, reader: &str, requirement: &str) -> Result<Line, Problem>
     ensures { IsAnswer (ByReader reader.now (λ f. Prints Text (Canonical f requirement.now))) result }
 {
@@ -261,7 +259,7 @@ fn meet(alloc: Global, one: &str, other: &str) -> Result<Line, Problem>
     Ok(Line::whether(overlaps(alloc, Flavour::Npm, one, other)?))
 }
 
-// Prints the line, and returns its status, or 6 where it can't be written.
+// Prints the line, and returns its status, or 6 if it can't be written.
 fn print<O: Write>(out: &mut O, line: &Line) -> u8
     ensures { (result ≡ 6) ⊎ (result ≡ status_of (told_answer line.now)) }
 {

@@ -1,4 +1,4 @@
-//! The words that the program takes, as the crate `clap` reads them.
+//! The program's arguments, parsed with the crate `clap`.
 
 use clap::{Arg, ArgAction, ArgMatches, Command};
 use deno_semver::PreRelease;
@@ -9,20 +9,20 @@ const VERSION: &str = "0.1.0";
 
 const READERS: [&str; 3] = ["npm", "normal", "strict"];
 
-/// What the options of a command ask for.
+/// The options of a command.
 #[derive(Clone, Copy)]
 pub struct Options {
-    /// The grammar of the reader.
+    /// The grammar of ranges.
     pub flavour: Flavour,
     pub pre_release: PreRelease,
-    /// Whether the answer is JSON.
+    /// Whether to print JSON.
     pub json: bool,
-    /// Whether the greatest version comes first.
+    /// Whether the highest version comes first.
     pub reverse: bool,
 }
 
 impl Options {
-    /// The options of a command; those that it hasn't are as where they aren't given.
+    /// The options of a command; one that it doesn't have is as if it weren't given.
     pub fn of(matches: &ArgMatches<'_>) -> Options {
         let flavour = match matches.get_str("reader") {
             Some("normal") => Flavour::Normal,
@@ -76,7 +76,7 @@ fn requirements<'a>(alloc: Global) -> Arg<'a> {
         .action(ArgAction::Append)
 }
 
-// A command, with the options of all: also those that have no part in what it answers.
+// A command with all options, including those without effect on it.
 fn command<'a>(alloc: Global, name: &'a str, about: &'a str) -> Result<Command<'a>, AllocError> {
     Command::new(alloc, name)
         .about(about)
@@ -86,7 +86,7 @@ fn command<'a>(alloc: Global, name: &'a str, about: &'a str) -> Result<Command<'
         .arg(flag(alloc, "pre", "Match every pre-release between the bounds"))
 }
 
-// A command that matches versions with a requirement.
+// A command that matches versions against a range.
 fn matching<'a>(alloc: Global, name: &'a str, about: &'a str) -> Result<Command<'a>, AllocError> {
     command(alloc, name, about)?
         .arg(word(alloc, "REQ", "The range"))?
@@ -144,7 +144,7 @@ fn reference<'a>(alloc: Global) -> Result<Command<'a>, AllocError> {
     ))
 }
 
-// The program with one command more.
+// Adds a command to the program.
 fn with<'a>(
     program: Result<Command<'a>, AllocError>,
     command: Result<Command<'a>, AllocError>,
@@ -152,7 +152,7 @@ fn with<'a>(
     program?.subcommand(command?)
 }
 
-// With the commands over lists of versions.
+// Adds the commands for lists of versions.
 fn with_lists<'a>(
     alloc: Global,
     program: Result<Command<'a>, AllocError>,
@@ -164,7 +164,7 @@ fn with_lists<'a>(
     with(program, sort(alloc))
 }
 
-// With the commands over texts of packages.
+// Adds the commands for texts of packages.
 fn with_packages<'a>(
     alloc: Global,
     program: Result<Command<'a>, AllocError>,

@@ -1,4 +1,4 @@
-//! The commands that are answered in one line.
+//! The commands that print one line.
 
 use crate::args::Options;
 use crate::console::{Console, Status, Stop, print_line};
@@ -27,7 +27,7 @@ impl<O: Write, E: Write> Console<O, E> {
         Ok(self.refuse(kind, argument, invalid.failure.message()))
     }
 
-    /// Prints the tag that a requirement is.
+    /// Prints the tag that a range is.
     pub fn tag(&mut self, options: Options, tag: &str) -> Result<Status, Stop> {
         if options.json {
             let json = field_json(self.alloc, "tag", Some(tag));
@@ -38,7 +38,7 @@ impl<O: Write, E: Write> Console<O, E> {
         Ok(Status::Tag)
     }
 
-    /// Prints the version that was asked for, or that there is none.
+    /// Prints the version, or that there is none.
     pub fn version(&mut self, options: Options, version: Option<&str>) -> Result<Status, Stop> {
         if options.json {
             let json = field_json(self.alloc, "version", version);
@@ -52,7 +52,7 @@ impl<O: Write, E: Write> Console<O, E> {
         }
     }
 
-    // Prints whether a requirement allows no more than another one, or the lowest version that it alone allows.
+    // Prints whether a range allows no more than another, or the lowest version that it alone allows.
     fn within(&mut self, options: Options, first: Option<&str>) -> Result<Status, Stop> {
         if options.json {
             let json = within_json(self.alloc, first);
@@ -87,7 +87,7 @@ fn print_within<O: Write>(out: &mut O, first: Option<&str>) -> Result<(), Stop> 
     }
 }
 
-// The text of a version, where there is one.
+// The text of a version, if there is one.
 fn shown(alloc: Global, version: &Option<Version>) -> Result<Option<String>, AllocError> {
     match version {
         Some(version) => Ok(Some(text_of_version(alloc, version)?)),
@@ -95,7 +95,7 @@ fn shown(alloc: Global, version: &Option<Version>) -> Result<Option<String>, All
     }
 }
 
-/// `ranges common REQ REQ..`: the lowest version that suits all, or `none`.
+/// `ranges common REQ REQ..`: the lowest version that all match, or `none`.
 pub fn common<O: Write, E: Write>(
     console: &mut Console<O, E>,
     matches: &ArgMatches<'_>,

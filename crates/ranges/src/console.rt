@@ -1,4 +1,4 @@
-//! Where the program writes, and how it ends.
+//! Where the program writes, and its exit status.
 
 use serde_json::Value;
 use std::alloc::{AllocError, AllocFailed, Global};
@@ -6,18 +6,18 @@ use std::fmt::Display;
 use std::io;
 use std::io::{ErrorKind, Write};
 
-/// How the program ends.
+/// The program's exit status.
 #[derive(Clone, Copy, PartialEq, Eq)]
 pub enum Status {
-    /// What was asked, or `yes`.
+    /// The command printed its result, or `yes`.
     Answered,
     /// `no` or `none`, or no version matches.
     Nothing,
-    /// The requirement is a tag.
+    /// The range is a tag.
     Tag,
-    /// A word or a line is refused, or an alternative left out.
+    /// An argument or a line is invalid, or an alternative was left out.
     Refused,
-    /// The words are none that the program knows.
+    /// The program doesn't know the arguments.
     Usage,
     OutOfMemory,
     /// Standard input can't be read, or standard output can't be written.
@@ -46,7 +46,7 @@ pub enum Stop {
     Unread,
     /// Standard output can't be written.
     Unwritten,
-    /// A word is no UTF-8.
+    /// An argument isn't valid UTF-8.
     NoText,
 }
 
@@ -59,7 +59,7 @@ impl Stop {
         }
     }
 
-    /// What is told of it; nothing where output can't be written, as when a pipe closes.
+    /// The message to print; none if output can't be written, as when a pipe closes.
     pub fn message(self) -> Option<&'static str> {
         match self {
             Stop::OutOfMemory => Some("out of memory"),
@@ -69,7 +69,7 @@ impl Stop {
         }
     }
 
-    /// Why the words can't be taken.
+    /// Why the arguments can't be read.
     pub fn of_words(error: io::Error) -> Stop {
         match error.kind() {
             ErrorKind::OutOfMemory => Stop::OutOfMemory,
@@ -77,7 +77,7 @@ impl Stop {
         }
     }
 
-    /// Why standard input isn't read on.
+    /// Why reading standard input stopped.
     pub fn of_reading(error: io::Error) -> Stop {
         match error.kind() {
             ErrorKind::OutOfMemory => Stop::OutOfMemory,
@@ -117,7 +117,7 @@ pub fn print_line<O: Write, T: Display + Drop>(out: &mut O, line: T) -> Result<(
     Ok(writeln!(out, "{line}")?)
 }
 
-/// Where answers and refusals are written.
+/// Where results and errors are written.
 #[derive(Drop)]
 pub struct Console<O, E> {
     pub alloc: Global,
@@ -132,13 +132,13 @@ impl<O: Write, E: Write> Console<O, E> {
         print_line(&mut self.out, text.as_str())
     }
 
-    /// Tells that a word is refused: what kind of word it is, the word, and what is wrong.
+    /// Reports an invalid argument: its kind, its text, and what is wrong.
     pub fn refuse(&mut self, kind: &str, word: &str, message: &str) -> Status {
         let _ = writeln!(self.err, "ranges: {kind} \"{word}\": {message}");
         Status::Refused
     }
 
-    /// Tells that a line of standard input is refused.
+    /// Reports an invalid line of standard input.
     pub fn refuse_line(&mut self, number: u64, line: &str, message: &str) {
         let _ = writeln!(
             self.err,

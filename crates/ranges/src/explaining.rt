@@ -85,7 +85,7 @@ impl fmt::Display for Numbers<'_> {
     }
 }
 
-// Which pre-releases match, in words.
+// Which pre-releases match, in plain words.
 #[derive(Clone, Copy)]
 struct PreReleases<'a> {
     matches: &'a Matches,
@@ -108,7 +108,7 @@ impl fmt::Display for PreReleases<'_> {
     }
 }
 
-// A piece in words.
+// A piece, in plain words.
 #[derive(Clone, Copy)]
 struct Line<'a> {
     piece: &'a Piece,
@@ -126,7 +126,7 @@ impl fmt::Display for Line<'_> {
     }
 }
 
-// What a range matches, in words.
+// What a range matches, in plain words.
 fn what_matches<W: fmt::Write>(
     f: &mut fmt::Formatter<W>,
     matches: &Matches,
@@ -162,7 +162,7 @@ fn shown_json<T: fmt::Display>(alloc: Global, value: &T) -> Result<Value, AllocE
     Ok(Value::String(format!(in alloc; "{value}")?))
 }
 
-// Of which three numbers pre-releases match, or `all`.
+// The three numbers of which pre-releases match, or `all`.
 fn pre_releases_json(
     alloc: Global,
     matches: &Matches,
@@ -196,7 +196,7 @@ fn lowest_json(alloc: Global, lowest: &Option<Version>) -> Result<Value, AllocEr
     }
 }
 
-// With the range that a piece means.
+// Adds the range that a piece means.
 fn with_range(alloc: Global, json: Object, matches: &Matches, pre_release: PreRelease) -> Object {
     json.put("start", bound_json(alloc, &matches.range.start))
         .put("end", bound_json(alloc, &matches.range.end))
@@ -243,7 +243,7 @@ fn pieces_json(
         .into_json()
 }
 
-// Tells that a requirement is a tag.
+// Prints that a range is a tag.
 fn tell_tag<O: Write, E: Write>(
     console: &mut Console<O, E>,
     options: Options,
@@ -259,7 +259,7 @@ fn tell_tag<O: Write, E: Write>(
     console.tag(options, tag)
 }
 
-// Prints each piece on a line, and the normal text; or the JSON of them.
+// Prints each piece on a line, and the canonical form; or both as JSON.
 fn tell_pieces<O: Write, E: Write>(
     console: &mut Console<O, E>,
     options: Options,
@@ -276,7 +276,7 @@ fn tell_pieces<O: Write, E: Write>(
     Ok(status_of(pieces))
 }
 
-// Whether a piece was left out.
+// The status, which says whether a piece was left out.
 fn status_of(pieces: &[Piece]) -> Status {
     let is_left_out = |piece: &Piece| matches!(piece.meaning, Meaning::LeftOut(_));
     if pieces.iter().any(is_left_out) {
@@ -311,8 +311,8 @@ fn tell_explanation<O: Write, E: Write>(
     }
 }
 
-/// `ranges explain REQ`: the tag that a requirement is; or each alternative on a line, and the normal text. The status is that of a
-/// refusal where an alternative is left out.
+/// `ranges explain REQ`: the tag; or each alternative on a line, and the canonical form. The status is that of invalid
+/// arguments if an alternative is left out.
 pub fn tell<O: Write, E: Write>(
     console: &mut Console<O, E>,
     matches: &ArgMatches<'_>,

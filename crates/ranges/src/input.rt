@@ -1,20 +1,20 @@
-//! The versions of a command: its words, or the lines of standard input.
+//! The versions of a command: its arguments, or the lines of standard input.
 
 use crate::console::{Console, Stop};
 use deno_semver::ParseFailure;
 use std::io::{BufRead, BufReader, Write};
 
-/// Where a text stands that may be a version.
+/// The place of a text that may be a version.
 #[derive(Clone, Copy)]
 pub enum Place {
-    /// It is a word of the command.
+    /// An argument of the command.
     Word,
-    /// It is the line of standard input with this number, counted from 1.
+    /// The line of standard input with this number, counted from 1.
     Line(u64),
 }
 
 impl Place {
-    /// Tells that the text is refused, or that memory is wanting.
+    /// Reports that the text is invalid, or that memory ran out.
     fn refuse<O: Write, E: Write>(
         self,
         console: &mut Console<O, E>,
@@ -34,9 +34,9 @@ impl Place {
     }
 }
 
-/// What is done with each version.
+/// What to do with each version.
 pub trait Take {
-    /// Takes a text; a failure says why it is no version.
+    /// Takes a text; a failure says why it isn't a valid version.
     fn take<O: Write, E: Write>(
         &mut self,
         console: &mut Console<O, E>,
@@ -44,7 +44,7 @@ pub trait Take {
     ) -> Result<Result<(), ParseFailure>, Stop>;
 }
 
-// Takes a text, and tells whether it is a version; a refusal is told.
+// Takes a text, and returns whether it is a version; reports an invalid one.
 fn take_one<O: Write, E: Write, T: Take>(
     console: &mut Console<O, E>,
     taker: &mut T,
@@ -60,7 +60,7 @@ fn take_one<O: Write, E: Write, T: Take>(
     }
 }
 
-// Takes a line of standard input, and tells whether it is a version.
+// Takes a line of standard input, and returns whether it is a version.
 fn take_line<O: Write, E: Write, T: Take>(
     console: &mut Console<O, E>,
     taker: &mut T,
@@ -75,7 +75,7 @@ fn take_line<O: Write, E: Write, T: Take>(
     take_one(console, taker, text, Place::Line(number))
 }
 
-// Takes the lines of standard input, which are read through a buffer, and tells whether each is a version.
+// Takes the lines of standard input through a buffer, and returns whether each is a version.
 fn take_lines<R: Input, O: Write, E: Write, T: Take>(
     rt: &R,
     console: &mut Console<O, E>,
@@ -86,7 +86,7 @@ fn take_lines<R: Input, O: Write, E: Write, T: Take>(
     take_each_line(console, taker, &mut input, &mut line)
 }
 
-// Takes each line that is read; one stands in `line` at a time.
+// Takes each line of the input, one at a time in `line`, and returns whether each is a version.
 fn take_each_line<I: BufRead, O: Write, E: Write, T: Take>(
     console: &mut Console<O, E>,
     taker: &mut T,
@@ -103,7 +103,7 @@ fn take_each_line<I: BufRead, O: Write, E: Write, T: Take>(
     Ok(all)
 }
 
-// Reads the next line in place of the one before, and tells whether there is one.
+// Reads the next line in place of the previous one, and returns whether there is one.
 fn read_line<I: BufRead>(input: &mut I, line: &mut Vec<u8>) -> Result<bool, Stop> {
     line.clear();
     match input.read_until(b'\n', line) {
@@ -112,7 +112,7 @@ fn read_line<I: BufRead>(input: &mut I, line: &mut Vec<u8>) -> Result<bool, Stop
     }
 }
 
-/// Takes each of the words, or each line of standard input where there are none, and tells whether each is a version.
+/// Takes each of the arguments, or each line of standard input if there are none, and returns whether each is a version.
 pub fn take_all<R: Input, O: Write, E: Write, T: Take>(
     rt: &R,
     console: &mut Console<O, E>,

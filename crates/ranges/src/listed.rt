@@ -12,7 +12,7 @@ use serde_json::Value;
 use std::alloc::{AllocError, Global};
 use std::io::Write;
 
-// How many of the texts that match were printed, and how.
+// The number of matching texts printed, and how they are printed.
 #[derive(Drop)]
 struct Printed {
     json: bool,
@@ -27,7 +27,7 @@ impl Printed {
         }
     }
 
-    // Prints one text more, as a line or as an item of an array.
+    // Prints one more text, as a line or as an item of an array.
     fn add<O: Write, E: Write>(
         &mut self,
         console: &mut Console<O, E>,
@@ -53,7 +53,7 @@ impl Printed {
     }
 }
 
-// Prints an item of an array behind this mark.
+// Prints an item of an array after this separator.
 fn print_item<O: Write, E: Write>(
     console: &mut Console<O, E>,
     mark: char,
@@ -91,7 +91,7 @@ impl Take for Filtering<'_> {
     }
 }
 
-// Keeps each version, with the text that it was read from.
+// Keeps each version with the text it was parsed from.
 #[derive(Drop)]
 struct Kept {
     texts: Vec<String>,
@@ -131,7 +131,7 @@ impl Take for Kept {
     }
 }
 
-// How a command over a list ends, where it would end so if each text were a version.
+// The status of a command over a list, given the status if each text is a version.
 fn ended(all_versions: bool, status: Status) -> Status {
     if all_versions {
         status
@@ -211,7 +211,7 @@ fn best_by<R: Input, O: Write, E: Write>(
     Ok(ended(all, told?))
 }
 
-/// `ranges sort [VERSION..]`: the versions in the order of precedence; those that are equal keep theirs.
+/// `ranges sort [VERSION..]`: the versions in the order of precedence; equal ones keep theirs.
 pub fn sort<R: Input, O: Write, E: Write>(
     rt: &R,
     console: &mut Console<O, E>,

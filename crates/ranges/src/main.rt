@@ -1,10 +1,10 @@
-//! `ranges` tells what requirements of versions mean, and which versions suit them, at a terminal and in scripts.
+//! `ranges` explains version ranges and finds the versions that match them, at a terminal and in scripts.
 //!
 //! Its commands are `explain`, `filter`, `best`, `sort`, `common`, `within`, `package` and `reference`; `ranges --help` and
-//! `ranges COMMAND --help` tell the words of each, and `docs/RANGES.md` what each prints.
+//! `ranges COMMAND --help` list the arguments of each, and `docs/RANGES.md` what each prints.
 //!
-//! The status is 0 for `yes` and for what was asked, 1 for `no` and `none` and where no version matches, 2 for a tag, 3 where
-//! a word or a line is refused, 4 for words that the program doesn't know, 5 for want of memory, and 6 where standard input
+//! The status is 0 for `yes` and for a printed result, 1 for `no` and `none` and if no version matches, 2 for a tag, 3 if an
+//! argument or a line is invalid, 4 for arguments that the program doesn't know, 5 out of memory, and 6 if standard input
 //! can't be read or standard output can't be written.
 #![tactic(auto)]
 
@@ -27,7 +27,7 @@ use std::process::ExitCode;
 use std::rt::Runtime;
 use std::{env, io};
 
-// Answers the command that was given.
+// Runs the given command.
 fn answer<R: Input, O: Write, E: Write>(
     rt: &R,
     console: &mut Console<O, E>,
@@ -50,7 +50,7 @@ fn answer<R: Input, O: Write, E: Write>(
     }
 }
 
-// Prints help or the version, or what is wrong with the words.
+// Prints the help or the version, or what is wrong with the arguments.
 fn print_mistake<R: Print + Eprint>(rt: &R, mistake: &Error) -> Status {
     let status = match mistake.kind() {
         Mistake::DisplayHelp | Mistake::DisplayVersion => Status::Answered,
@@ -72,7 +72,7 @@ fn words<R: Env + AllocGlobal>(rt: &R) -> io::Result<Vec<String>> {
     Ok(words)
 }
 
-// Answers the command that was given, and writes out what is still in the buffer.
+// Runs the given command, and flushes its output.
 fn flushed_answer<R: Input, O: Write, E: Write>(
     rt: &R,
     console: &mut Console<O, E>,
@@ -83,7 +83,7 @@ fn flushed_answer<R: Input, O: Write, E: Write>(
     Ok(status)
 }
 
-// Answers the command that was given at a console with a buffer.
+// Runs the given command with a buffered console.
 fn write_answer<R: Runtime + AllocGlobal, E: Write + Drop>(
     rt: &R,
     err: E,
@@ -94,7 +94,7 @@ fn write_answer<R: Runtime + AllocGlobal, E: Write + Drop>(
     flushed_answer(rt, &mut Console { alloc, out, err }, matches)
 }
 
-// Answers the words.
+// Parses the arguments and runs their command.
 fn run<R: Runtime + AllocGlobal, E: Write + Drop>(
     rt: &R,
     err: E,
@@ -114,7 +114,7 @@ fn run<R: Runtime + AllocGlobal, E: Write + Drop>(
     }
 }
 
-// Tells why the program stops early.
+// Reports why the program stops early.
 fn stopped<E: Write>(err: &mut E, stop: Stop) -> Status {
     if let Some(message) = stop.message() {
         let _ = writeln!(err, "ranges: {message}");

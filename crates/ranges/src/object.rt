@@ -1,10 +1,10 @@
-//! JSON objects, made field by field.
+//! JSON objects, built field by field.
 
 use serde_json::{Map, Value};
 use std::alloc::{AllocError, Global};
 
-/// A JSON object that is being made. Its fields stand in ascending order of their names; where memory is wanting for one, it
-/// ends as that error.
+/// A JSON object under construction. Its fields are in ascending order of their names; if memory runs out for one, the result
+/// is that error.
 #[derive(Drop)]
 pub struct Object {
     alloc: Global,
@@ -13,7 +13,7 @@ pub struct Object {
 }
 
 impl Object {
-    /// No fields yet.
+    /// Starts without fields.
     pub fn new(alloc: Global) -> Object {
         Object {
             alloc,
@@ -22,20 +22,20 @@ impl Object {
         }
     }
 
-    /// With a field more.
+    /// Adds a field.
     pub fn put(mut self, name: &str, value: Result<Value, AllocError>) -> Object {
         let outcome = insert(self.alloc, &mut self.fields, name, value);
         self.outcome = self.outcome.and(outcome);
         self
     }
 
-    /// With a text more, or null.
+    /// Adds a text, or null.
     pub fn put_text(self, name: &str, text: Option<&str>) -> Object {
         let value = text_or_null(self.alloc, text);
         self.put(name, value)
     }
 
-    /// The object.
+    /// Returns the object.
     pub fn into_json(self) -> Result<Value, AllocError> {
         self.outcome?;
         Ok(Value::Object(self.fields))

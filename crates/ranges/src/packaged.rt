@@ -9,7 +9,7 @@ use deno_semver::jsr::normalized_export_name;
 use deno_semver::package::{PackageKind, PackageReq};
 use std::io::Write;
 
-// Prints a part, where there is one, on a line.
+// Prints a part on a line, if there is one.
 fn print_part<O: Write>(out: &mut O, part: &str, text: Option<&str>) -> Result<(), Stop> {
     match text {
         Some(text) => print_line(out, format_args!("{part}: {text}")),
@@ -72,7 +72,7 @@ fn answer_reference<O: Write, E: Write>(
     Ok(Status::Answered)
 }
 
-/// `ranges package TEXT`: the parts of a requirement of a package.
+/// `ranges package TEXT`: the parts of a package requirement.
 pub fn tell_package<O: Write, E: Write>(
     console: &mut Console<O, E>,
     matches: &ArgMatches<'_>,

@@ -1,4 +1,4 @@
-//! Parts of requirements behind the first character of a text, and what follows them.
+//! Parts of requirements after the first character of a text, and what follows them.
 
 use super::Holds;
 use crate::arguments::both;
@@ -25,7 +25,7 @@ pub fn partial_at(alloc: Global) -> Holds {
     Ok(holds)
 }
 
-// Whether the partial version has this range, or is `none` or `too large`, and this text follows it.
+// Whether the partial version has this range, or is `none` or `too large`, and is followed by this text.
 fn is_partial(alloc: Global, flavour: Flavour, text: &str, range: &str, rest: &str) -> Holds {
     if !text.is_char_boundary(1) {
         return Ok(false);
@@ -50,7 +50,7 @@ pub fn qualifier_at(alloc: Global) -> Holds {
     Ok(holds)
 }
 
-// Whether the pre-release and the build are those of the version, and this text follows them.
+// Whether the pre-release and the build are those of the version, and are followed by this text.
 fn is_qualifier(alloc: Global, flavour: Flavour, text: &str, version: &str, rest: &str) -> Holds {
     if !text.is_char_boundary(1) {
         return Ok(false);
@@ -74,7 +74,7 @@ pub fn comparator_at(alloc: Global) -> Holds {
     Ok(holds)
 }
 
-// Whether the sign and the partial version have this range, or are `none` or `too large`.
+// Whether the operator and the partial version have this range, or are `none` or `too large`.
 fn is_comparator(alloc: Global, flavour: Flavour, text: &str, range: &str) -> Holds {
     if !text.is_char_boundary(1) {
         return Ok(false);
@@ -113,7 +113,7 @@ pub fn operator_at() -> Holds {
     Ok(holds)
 }
 
-// Where a `||` and a `&&` end.
+// The ends of a `||` and a `&&`.
 fn operators_in(text: &str) -> [Option<usize>; 2] {
     if !text.is_char_boundary(1) {
         return [None, None];

@@ -1,4 +1,4 @@
-//! Failures that are made by hand, and the lines that errors print.
+//! Hand-made failures, and the lines that errors print.
 
 use super::{Holds, displays};
 use crate::answer::{Fault, OrFault, Report};
@@ -26,7 +26,7 @@ pub fn failure(alloc: Global) -> Holds {
     Ok(same && copy == failure && copy != other && other != ParseFailure::memory())
 }
 
-// The failure, where there was memory for it.
+// The failure, or out of memory.
 fn made(failure: ParseFailure) -> OrFault<ParseFailure> {
     if failure.is_memory() {
         drop(failure);
@@ -97,7 +97,7 @@ pub fn of_requirements(alloc: Global) -> Holds {
     Ok(holds && displays(alloc, &parts, "Invalid specifier version requirement")?)
 }
 
-// Whether there is an error, and it prints this line.
+// Whether there is an error that prints this line.
 fn is_rejected<T: Drop, E: Report + Display>(
     alloc: Global,
     read: Result<T, E>,

@@ -1,4 +1,4 @@
-//! Texts that are made and grow, and lists that are copied and grow.
+//! Building and growing texts, and copying and growing lists.
 
 use super::{Holds, is_text};
 use semver_base::string::{CowItem, CowVec, SmallStackString, StackString, StringType};
@@ -37,7 +37,7 @@ pub fn pushed(alloc: Global) -> Holds {
     Ok(holds)
 }
 
-// Takes no memory, since the texts stand in the values.
+// Takes no memory, since the texts are stored in the values.
 pub fn in_value(alloc: Global) -> Holds {
     let holds = keeps::<SmallStackString>(alloc, "1234567890", "12345", "123456789012345")?
         && keeps::<SmallStackString>(alloc, "", "ééééééé", "ééééééé")?
@@ -96,7 +96,7 @@ fn many(alloc: Global, count: usize) -> Result<CowVec<SmallStackString>, AllocEr
     Ok(items)
 }
 
-// What is pushed to a copy of a list leaves the list as it was.
+// Pushing to a copy of a list leaves the list unchanged.
 pub fn grown(alloc: Global) -> Holds {
     let items = many(alloc, 1_000)?;
     let mut longer = items.copy()?;

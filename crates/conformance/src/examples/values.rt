@@ -1,4 +1,4 @@
-//! URLs of references, names of exports, values that are made by hand, and the JSON of lists.
+//! URLs of references, names of exports, hand-made values, and the JSON of lists.
 
 use super::{Holds, displays, is_text};
 use crate::answer::{Fault, OrFault};
@@ -22,7 +22,7 @@ pub fn specifier(alloc: Global) -> Holds {
     Ok(holds)
 }
 
-// Whether this is the URL of the reference, or the line of the error.
+// Whether this is the URL of the reference, or the error's line.
 fn is_url<R: Registry>(alloc: Global, text: &str, expected: &str) -> Holds {
     let reference: RegistryNvReference<R> = Parse::parse(alloc, text)?;
     let url = reference.as_specifier(alloc);
@@ -62,7 +62,7 @@ pub fn json_list(alloc: Global) -> Holds {
     Ok(holds)
 }
 
-// Whether this is the JSON of the requirements, and that of what it stands for, which is in order.
+// Whether this is the JSON of the package requirements, and that of the ordered list it parses to.
 fn is_list(alloc: Global, texts: &[&str], json: &str, ordered: &str) -> Holds {
     let mut reqs = Vec::new(alloc);
     for text in texts {

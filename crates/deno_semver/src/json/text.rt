@@ -287,8 +287,7 @@ fn stored(alloc: Global, req: &PackageReq) -> Result<Value, AllocError>
 ///
 /// The JSON of a package requirement that [`PackageReq::from_str_loose`] parsed parses to one with the same name and the same
 /// tag, or ranges that match the same versions, unless a range with an end starts at a pre-release of 0.0.0 and is neither
-/// one version nor `^0.0.0-pre` or `~0.0.0-pre` of it. The JSON of the parsed requirement, and of any parsed from that on,
-/// parses to an equal one.
+/// one version nor `^0.0.0-pre` or `~0.0.0-pre` of it. From then on, storing and parsing gives an equal requirement.
 impl JsonForm for PackageReq {
     ghost json = { λ req. string (normal_req_text req) };
 
