@@ -1,4 +1,4 @@
--- What is asked of texts, and what is answered.
+-- Questions about texts, and their results.
 use Rattle.std.specs.Prelude.{◌≡◌, ◌⊎◌, ◌+◌, ℕ, List, [], ◌∷◌, Some, None, Result, Ok, Err}
 use Rattle.semver_req.specs.Readers.{Failure}
 use Rattle.answers.specs.declared.asking.Kind.{Kind}
@@ -7,7 +7,7 @@ use Rattle.answers.specs.declared.asking.Problem.TheVariants as problem
 
 -- ---- outcomes
 
--- why a question has no answer: the argument of this kind at this place is invalid, or memory ran out
+-- why a question has no result: the argument of this kind at this place is invalid, or memory ran out
 pub data Fault : Type 0 where
   Invalid : Kind → ℕ → Fault
   OutOfMemory : Fault
@@ -16,14 +16,14 @@ abbrev pub fault_of : Problem → Fault
 fault_of (problem.Invalid argument) = Invalid argument.kind argument.place
 fault_of problem.OutOfMemory = OutOfMemory
 
--- the outcome of a result, whose value means this
+-- the outcome of a result whose value means this
 abbrev pub outcome_of : {E X : Type 0} → (E → X) → Result E Problem → Result X Fault
 outcome_of value (Ok e) = Ok (value e)
 outcome_of value (Err p) = Err (fault_of p)
 
 -- ---- questions: each is a relation to its outcomes, the answer or the fault of the first argument that is invalid
 
--- the outcome is that of the question, which has no other; out of memory aside
+-- the outcome is that of the question, which has no other; or out of memory
 pub record IsOutcomeOf {X P : Type 0} (memory : P) (Asked : Result X P → Type 0) (outcome : Result X P) : Type 0 where
   pub is : (outcome ≡ Err memory) ⊎ Asked outcome
   pub only : (other : Result X P) → Asked other → (outcome ≡ Err memory) ⊎ (outcome ≡ other)
@@ -31,17 +31,17 @@ pub record IsOutcomeOf {X P : Type 0} (memory : P) (Asked : Result X P → Type 
 abbrev pub IsAnswer : {E X : Type 0} → (Result X Fault → Type 0) → (E → X) → Result E Problem → Type 0
 IsAnswer Asked value result = IsOutcomeOf OutOfMemory Asked (outcome_of value result)
 
--- the answer is this value
+-- the result is this value
 abbrev pub Is : {X P : Type 0} → X → Result X P → Type 0
 Is x outcome = outcome ≡ Ok x
 
--- given the value of an argument, what is asked of it; where the argument is invalid, that is the outcome
+-- with the value of an argument, what is asked of it; if the argument is invalid, that is the outcome
 pub data Given {X Y P : Type 0} (Argument : Result X P → Type 0) (Asked : X → Result Y P → Type 0) :
     Result Y P → Type 0 where
   valid : {x : X} {outcome : Result Y P} → Argument (Ok x) → Asked x outcome → Given Argument Asked outcome
   invalid : {fault : P} → Argument (Err fault) → Given Argument Asked (Err fault)
 
--- the values of texts, which stand at the places from this one on
+-- the values of texts, whose places count from this one on
 abbrev pub Each : {X P : Type 0} → (ℕ → List ℕ → Result X P → Type 0) → ℕ → List (List ℕ) → Result (List X) P → Type 0
 Each Argument place [] = Is []
 Each Argument place (text ∷ texts) =
@@ -49,18 +49,18 @@ Each Argument place (text ∷ texts) =
 
 -- ---- failures
 
--- the failure that a problem reports is this one; none where memory ran out
+-- the failure that a problem reports; none if memory ran out
 abbrev pub failure_of : Problem → Failure
 failure_of (problem.Invalid argument) = argument.failure
 failure_of problem.OutOfMemory = None
 
--- a failure is out of memory, or that the argument is invalid
+-- a failure means out of memory, or that the argument is invalid
 abbrev pub problem_of : Kind → ℕ → Failure → Problem
 problem_of kind place None = problem.OutOfMemory
 problem_of kind place (Some texts) =
     problem.Invalid (record { kind = kind; place = place; failure = Some texts })
 
--- the argument of this kind at this place is invalid, and its failure is so; out of memory aside
+-- the argument of this kind at this place is invalid with such a failure, or memory ran out
 abbrev pub IsFailureAt : Kind → ℕ → (Failure → Type 0) → Problem → Type 0
 IsFailureAt kind place Reported (problem.Invalid argument) =
     (argument.kind ≡ kind) × (argument.place ≡ place) × Reported argument.failure

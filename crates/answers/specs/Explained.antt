@@ -1,4 +1,4 @@
--- What a grammar makes of the text of a range, alternative by alternative.
+-- What a grammar makes of a range's text, alternative by alternative.
 use Rattle.std.specs.Prelude.{◌≡◌, ℕ, List, [], ◌∷◌, Bool, false, string_bytes}
 use Rattle.semver_base.specs.LeastVersion.{IsLowest, TellsSome}
 use Rattle.semver_base.specs.Meaning.{is_pre_match, range_means_with}
@@ -21,7 +21,7 @@ use Rattle.answers.specs.declared.explained.Meaning.{Meaning}
 use Rattle.answers.specs.declared.explained.Meaning.TheVariants as meaning
 use Rattle.answers.specs.declared.explained.Piece.{Piece}
 
--- what the range matches: the lowest version, and whether pre-releases of the numbers of its start and of its end do
+-- what the range matches: the lowest version, and whether pre-releases of its start's and its end's numbers match
 pub record AreMatches (flag : PreRelease) (matches : Matches) : Type 0 where
   pub lowest : IsLowest (range_means_with flag matches.range) matches.least
   pub of_start : TellsSome (is_pre_match matches.range matches.range.start) matches.pre_of_start
@@ -32,18 +32,18 @@ abbrev pub IsMeaningOfRange : PreRelease → VersionRange → Meaning → Type 0
 IsMeaningOfRange flag range (meaning.Range matches) = (matches.range ≡ range) × AreMatches flag matches
 IsMeaningOfRange flag range (meaning.LeftOut refusal) = ⊥
 
--- what is read of a piece, which is followed by `||` or not
+-- what a piece parses to, which is followed by `||` or not
 abbrev pub IsMeaningOf : Flavour → PreRelease → Bool → List ℕ → Meaning → Type 0
 IsMeaningOf f flag followed text (meaning.Range matches) =
     IsPieceRead f followed text (read.Range matches.range) × AreMatches flag matches
 IsMeaningOf f flag followed text (meaning.LeftOut refusal) = IsPieceRead f followed text (read.Invalid refusal)
 
--- the piece as it is written, with what is read of it
+-- the piece as written, with what it parses to
 abbrev pub IsExplainedPiece : Flavour → PreRelease → Bool → List ℕ → Piece → Type 0
 IsExplainedPiece f flag followed text piece = (string_bytes piece.text ≡ text)
     × IsMeaningOf f flag followed text piece.meaning
 
--- so are all of them, of which the first is followed by `||` or not
+-- so are all of them; the first is followed by `||` or not
 abbrev pub AreAllExplained : Flavour → PreRelease → Bool → List (List ℕ) → List Piece → Type 0
 AreAllExplained f flag followed [] [] = Unit {0}
 AreAllExplained f flag followed (text ∷ texts) (piece ∷ pieces) = IsExplainedPiece f flag followed text piece
@@ -59,7 +59,7 @@ pub record AreExplainedFrom
   pub more : AreMorePieces rest others
   pub explained : AreAllExplained f flag followed (first ∷ others) pieces
 
--- how a text is cut at its `||`, with each piece explained
+-- how a text is split at its `||`, with each piece explained
 pub record AreExplained (f : Flavour) (flag : PreRelease) (text : List ℕ) (pieces : List Piece) : Type 0 where
   pub followed : Bool
   pub texts : List (List ℕ)
@@ -88,7 +88,7 @@ abbrev AreItsPieces : Flavour → PreRelease → List ℕ → RangeSetOrTag → 
 AreItsPieces f flag text (inner.RangeSet set) pieces = AreAlternatives f flag text set.0 pieces
 AreItsPieces f flag text (inner.Tag tag) pieces = ⊥
 
--- the tag that is read of the text; or its alternatives, and the canonical form of what is read
+-- the tag that the text parses to; or its alternatives, and their canonical form
 abbrev pub IsExplained : Flavour → PreRelease → List ℕ → Explanation → Type 0
 IsExplained f flag text (explanation.Tag tag) = IsReading f text (inner.Tag tag)
 IsExplained f flag text (explanation.Ranges pieces normal) = (answer : RangeSetOrTag) × IsReading f text answer

@@ -1,4 +1,4 @@
--- The package that a text is, its parts, and what is wrong with the text.
+-- The package that a text parses to, its parts, and what is wrong with an invalid text.
 use Rattle.std.specs.Prelude.{◌≡◌, ◌⊎◌, ◌==◌, ◌+◌, ℕ, List, [], ◌∷◌, Option, None, Some, Result, Ok, Err, codes, drop, length, if◌then◌else◌}
 use Rattle.std.specs.List.{take_while}
 use Rattle.serde_json.specs.Data.{Data, member, no_members, null, object, string}
@@ -18,12 +18,12 @@ use Rattle.answers.specs.declared.asking.Kind.TheVariants as kind
 
 -- ---- a name and its scope
 
--- of a name that begins with `@`, what stands between that and the first `/`
+-- for a name that begins with `@`, the part between that and the first `/`
 abbrev pub scope_part : List ℕ → Option (List ℕ)
 scope_part [] = None
 scope_part (first ∷ more) = if first == at_sign then Some (take_while (is_not slash) more) else None
 
--- what follows the scope and its `/`; without a scope the whole name
+-- what follows the scope and its `/`; without a scope, the whole name
 abbrev pub last_part : List ℕ → List ℕ
 last_part [] = []
 last_part (first ∷ more) =
@@ -35,7 +35,7 @@ abbrev pub text_or_null : Option (List ℕ) → Data
 text_or_null None = null
 text_or_null (Some text) = string text
 
--- the name without its scope, the canonical form of the range and the text it was read from, and the scope
+-- the name without its scope, the range's canonical form and the text it was parsed from, and the scope
 abbrev pub package_json : PackageReq → Data
 package_json req =
     object (member (codes "name") (string (last_part req.name))
@@ -45,7 +45,7 @@ package_json req =
 
 -- ---- the question
 
--- the package that a text is, whose range a grammar reads
+-- the package that a text parses to, with a grammar for its range
 pub data IsPackage (f : Flavour) (text : List ℕ) : Result PackageReq Fault → Type 0 where
   is_package : {req : PackageReq} → IsPackageOutcome f text (Ok req) → IsPackage f text (Ok req)
   is_no_package : {fault : PackageFault} → IsPackageOutcome f text (Err fault) → IsPackage f text (Err (Invalid kind.Package 0))
@@ -56,7 +56,7 @@ PackageParts f text = Given (IsPackage f text) (λ req. Is (compact_text (packag
 
 -- ---- failures
 
--- what is wrong: with the range what its grammar says, and else one of three messages; none for out of memory
+-- what is wrong: with the range what its grammar reports, else one of three messages; none for out of memory
 abbrev pub parts_failure : PackageReqPartsParseError → Failure
 parts_failure (parts.SpecifierVersionReq error) = error.source
 parts_failure (parts.NpmVersionReq error) = error.source
@@ -67,7 +67,7 @@ parts_failure parts.MissingAtSymbol =
     Some (codes "Packages in the format <scope>/<name> must start with an '@' symbol.", None)
 parts_failure parts.Memory = None
 
--- the failure is that of the text's first fault; out of memory aside
+-- the failure is that of the text's first fault, or out of memory
 abbrev pub IsPackageFailure : Flavour → List ℕ → Failure → Type 0
 IsPackageFailure f text failure = (failure ≡ None)
     ⊎ ((error : PackageReqParseError) × IsPackageRefusal f text error × (failure ≡ parts_failure error.source))

@@ -1,4 +1,4 @@
--- What people ask of versions and ranges.
+-- Questions about versions and ranges.
 use Rattle.std.specs.Prelude.{◌≡◌, ℕ, List, [], ◌∷◌, Bool, false, Option, None, Some, Result, Ok}
 use Rattle.std.specs.List.{list_any}
 use Rattle.std.specs.declared.cmp.Ordering.{Ordering}
@@ -29,7 +29,7 @@ abbrev pub first_tag : List Requirement → Option (List ℕ)
 first_tag [] = None
 first_tag (req ∷ reqs) = first_of (tag_of req.inner) (first_tag reqs)
 
--- a tag is the answer; where there is none, what is asked
+-- a tag is the result; without a tag, what is asked
 abbrev pub UnlessTag : {X : Type 0} → Option (List ℕ) → (Result (Answer X) Fault → Type 0) → Result (Answer X) Fault → Type 0
 UnlessTag (Some tag) Asked outcome = outcome ≡ Ok (Tag tag)
 UnlessTag None Asked outcome = Asked outcome
@@ -46,7 +46,7 @@ Matches flag f range version =
 
 -- ---- the highest of several versions that matches
 
--- the highest version of a test with its place, of equal ones the first; or that none passes
+-- the highest version that passes a test with its place, of equal ones the first; or that none passes
 abbrev pub IsBest : (Version → Bool) → List Version → Option Best → Type 0
 IsBest test versions (Some best) = IsBestAt greater test versions best.place best.version
 IsBest test versions None = list_any test versions ≡ false
@@ -67,11 +67,11 @@ Overlaps f one other =
 
 -- ---- the lowest version
 
--- the lowest version of a test, or that there is none
+-- the lowest version that passes a test, or that there is none
 abbrev pub LowestOf : (Version → Bool) → Result (Answer (Option Version)) Fault → Type 0
 LowestOf test outcome = (lowest : Option Version) × IsLowest test lowest × (outcome ≡ Ok (Value lowest))
 
--- the lowest version that all ranges match; no ranges have none
+-- the lowest version that all ranges match; none for no ranges
 abbrev pub CommonOf : PreRelease → List Requirement → Result (Answer (Option Version)) Fault → Type 0
 CommonOf flag [] = Is (Value None)
 CommonOf flag (own ∷ others) = UnlessTag (first_tag (own ∷ others)) (LowestOf (all_inners_mean_with flag own.inner others))
@@ -79,7 +79,7 @@ CommonOf flag (own ∷ others) = UnlessTag (first_tag (own ∷ others)) (LowestO
 abbrev pub Common : PreRelease → Flavour → List (List ℕ) → Result (Answer (Option Version)) Fault → Type 0
 Common flag f texts = Given (Each (IsRange f) 0 texts) (CommonOf flag)
 
--- the lowest version that the first range matches, and the other doesn't: none where the other contains it
+-- the lowest version that the first range matches and the other doesn't; none if the other contains it
 abbrev pub OutsideOf : PreRelease → Requirement → Requirement → Result (Answer (Option Version)) Fault → Type 0
 OutsideOf flag one other = UnlessTag (first_tag (one ∷ other ∷ [])) (LowestOf (inner_means_alone_with flag one.inner other.inner))
 
@@ -88,11 +88,11 @@ Outside flag f one other = Given (IsRange f 0 one) (λ req. Given (IsRange f 1 o
 
 -- ---- texts
 
--- the canonical form of a range, or the tag that it is
+-- the canonical form of a range, or the tag
 abbrev pub Canonical : Flavour → List ℕ → Result (List ℕ) Fault → Type 0
 Canonical f range = Given (IsRange f 0 range) (λ req. Is (inner_text req.inner))
 
--- how a version is displayed
+-- the version as displayed
 abbrev pub Displayed : List ℕ → Result (List ℕ) Fault → Type 0
 Displayed version = Given (IsVersion 0 version) (λ v. Is (version_text v))
 

@@ -15,12 +15,12 @@ use Rattle.answers.specs.declared.asking.Kind.TheVariants as kind
 use Rattle.answers.specs.declared.asking.Problem.{Problem}
 use Rattle.answers.specs.declared.asking.Problem.TheVariants as problem
 
--- the range that the text at this place is by a grammar; it means what the comparators of the text mean
+-- the range that the text at this place parses to by a grammar; it means what the comparators of the text mean
 pub data IsRange (f : Flavour) (place : ℕ) (text : List ℕ) : Result Requirement Fault → Type 0 where
   range : {req : Requirement} → IsReadFrom f text req → MeansTrees f text req.inner → IsRange f place text (Ok req)
   no_range : IsOutcome f text Refused → IsRange f place text (Err (Invalid kind.Range place))
 
--- the version that the text at this place is
+-- the version that the text at this place parses to
 pub data IsVersion (place : ℕ) (text : List ℕ) : Result Version Fault → Type 0 where
   version : {v : Version} → IsVersionOutcome (trim text) (Ok v) → IsVersion place text (Ok v)
   no_version : {fault : Refusal} → IsVersionOutcome (trim text) (Err fault)
@@ -30,7 +30,7 @@ pub data IsVersion (place : ℕ) (text : List ℕ) : Result Version Fault → Ty
 abbrev pub texts_of : List (Bor (List ℕ)) → List (List ℕ)
 texts_of texts = map (λ text. text.now) texts
 
--- the text of this kind at its place among these is invalid, and its failure is so; out of memory aside
+-- the text of this kind at its place among these is invalid with such a failure, or memory ran out
 abbrev pub IsFailureAmong : Kind → (List ℕ → Failure → Type 0) → List (List ℕ) → Problem → Type 0
 IsFailureAmong kind Reported texts (problem.Invalid argument) =
     (argument.kind ≡ kind) × ((text : List ℕ) × (slice_get texts argument.place ≡ Some text) × Reported text argument.failure)

@@ -1,4 +1,4 @@
--- The reference to a package that a text is, its parts, and what is wrong with the text.
+-- The package reference that a text parses to, its parts, and what is wrong with an invalid text.
 use Rattle.std.specs.Prelude.{◌≡◌, ◌⊎◌, ◌++◌, ℕ, List, Option, None, Some, Result, Ok, Err, codes}
 use Rattle.serde_json.specs.Data.{Data, member, no_members, object, string}
 use Rattle.serde_json.specs.Written.{compact_text}
@@ -23,7 +23,7 @@ abbrev pub kind_text : PackageKind → List ℕ
 kind_text Jsr = codes "jsr"
 kind_text Npm = codes "npm"
 
--- of JSR the export that the path means
+-- for JSR, the export that the path means
 abbrev pub export_of : PackageKind → Option (List ℕ) → Option (List ℕ)
 export_of Jsr path = Some (export_name path)
 export_of Npm path = None
@@ -37,12 +37,12 @@ reference_json read =
 
 -- ---- the question
 
--- JSR where its scheme is in front, and else npm
+-- JSR if the text begins with its scheme, else npm
 abbrev pub IsRegistryOf : List ℕ → PackageKind → Type 0
 IsRegistryOf text Jsr = (body : List ℕ) × (text ≡ scheme_of Jsr ++ body)
 IsRegistryOf text Npm = LacksScheme Jsr text
 
--- the reference that a text is to a package of that registry
+-- the reference to a package of that registry that a text parses to
 pub data IsReference (text : List ℕ) : Result Reference Fault → Type 0 where
   refers : {read : Reference} → IsRegistryOf text read.kind → IsReferenceOutcome read.kind text (Ok read.reference)
       → IsReference text (Ok read)
@@ -55,7 +55,7 @@ ReferenceParts text = Given (IsReference text) (λ read. Is (compact_text (refer
 
 -- ---- failures
 
--- what is wrong: with the package what its text says, and else one of two messages; none for out of memory
+-- what is wrong: with the package what its parser reports, else one of two messages; none for out of memory
 abbrev pub reference_failure : ReferenceError → Failure
 reference_failure (reference.NotExpectedScheme registry) = Some (codes "Neither jsr: nor npm: stands in front.", None)
 reference_failure (reference.Invalid error) = parts_failure error.source
@@ -63,7 +63,7 @@ reference_failure (reference.InvalidPathWithVersion error) =
     Some (codes "The version stands in the path; write " ++ (scheme_of error.kind ++ error.suggested), None)
 reference_failure reference.Memory = None
 
--- the failure is that of the text's first fault; out of memory aside
+-- the failure is that of the text's first fault, or out of memory
 abbrev pub IsReferenceFailure : List ℕ → Failure → Type 0
 IsReferenceFailure text failure = (failure ≡ None)
     ⊎ ((registry : PackageKind) × (error : PackageReqReferenceParseError) × IsRegistryOf text registry

@@ -11,7 +11,7 @@ use Rattle.answers.specs.declared.sorting.Order.{Order}
 use Rattle.answers.specs.declared.sorting.Order.TheVariants.{Ascending, Descending}
 use Rattle.answers.specs.declared.sorting.Placed.{Placed}
 
--- two versions by precedence, or the other way round
+-- two versions compared by precedence, or the other way round
 abbrev pub order_cmp : Order → Version → Version → Ordering
 order_cmp Ascending one other = precedence_cmp one other
 order_cmp Descending one other = precedence_cmp other one
@@ -19,12 +19,12 @@ order_cmp Descending one other = precedence_cmp other one
 abbrev pub place_of : Placed → ℕ
 place_of placed = placed.place
 
--- the versions with their places, which are counted from this one on
+-- the versions with their places, counted from this one on
 abbrev pub placed_from : ℕ → List Version → List Placed
 placed_from place [] = []
 placed_from place (v ∷ vs) = record { version = v; place = place } ∷ placed_from (place + 1) vs
 
--- in this order, and those that are equal by their places
+-- compared in this order, equal ones by their places
 abbrev pub placed_cmp : Order → Placed → Placed → Ordering
 placed_cmp order = then_cmp (on (λ (placed : Placed). placed.version) (order_cmp order)) (on place_of nat_cmp)
 
@@ -38,6 +38,6 @@ pub record AreSortedPlaces (order : Order) (versions : List Version) (places : L
 abbrev pub SortedPlaces : Order → List Version → Result (List ℕ) Fault → Type 0
 SortedPlaces order versions outcome = (places : List ℕ) × AreSortedPlaces order versions places × (outcome ≡ Ok places)
 
--- in which order do the versions stand
+-- the places of the versions in that order
 abbrev pub Sorts : Order → List (List ℕ) → Result (List ℕ) Fault → Type 0
 Sorts order texts = Given (Each IsVersion 0 texts) (SortedPlaces order)

@@ -1,4 +1,4 @@
-//! What a question is answered, and why it may have no answer.
+//! The results of questions, and why a question may have none.
 
 ghost use Rattle.std.specs.Prelude.{◌≡◌, None};
 ghost use Rattle.semver_base.specs.Failure.{message_of};
@@ -8,11 +8,11 @@ ghost use Rattle.answers.specs.declared.asking.Problem.TheVariants as problem;
 use deno_semver::{PackageTag, ParseFailure};
 use std::alloc::AllocError;
 
-/// The answer to a question about ranges.
+/// The result of a question about ranges.
 #[derive(Debug, Drop)]
 pub enum Answer<T> {
     Value(T),
-    /// A range is this tag, which names a version in a registry: nothing can be answered.
+    /// A range is this tag, which names a version in a registry, so there is no other result.
     Tag(PackageTag),
 }
 
@@ -35,7 +35,7 @@ pub struct InvalidArgument {
     pub failure: ParseFailure,
 }
 
-/// Why a question has no answer.
+/// Why a question has no result.
 #[derive(Debug, Drop)]
 pub enum Problem {
     /// The first argument that is invalid.

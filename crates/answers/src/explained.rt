@@ -1,4 +1,4 @@
-//! What a grammar makes of the text of a range, alternative by alternative.
+//! What a grammar makes of a range's text, alternative by alternative.
 
 ghost use Rattle.std.specs.Prelude.{◌≡◌, ◌⊎◌, Err, IfErr, IfOk};
 ghost use Rattle.semver_base.specs.NormalText.{AreWritableRanges, IsWritableRange};
@@ -30,7 +30,7 @@ pub enum Explanation {
 /// An alternative of a text.
 #[derive(Debug, Drop)]
 pub struct Piece {
-    /// As it is written.
+    /// The alternative as written.
     pub text: String,
     pub meaning: Meaning,
 }
@@ -40,7 +40,7 @@ pub struct Piece {
 pub enum Meaning {
     /// The range that it means.
     Range(Matches),
-    /// It is invalid, so it is left out.
+    /// The alternative is invalid, so it is left out.
     LeftOut(Refusal),
 }
 
@@ -79,7 +79,7 @@ impl Meaning {
 }
 
 impl Piece {
-    // What a grammar with alternatives makes of one, which is followed by `||` or not.
+    // What a grammar with alternatives makes of one of them, which is followed by `||` or not.
     fn read(
         alloc: Global,
         flavour: Flavour,
@@ -99,7 +99,7 @@ impl Piece {
         Ok(Piece { text, meaning })
     }
 
-    // The text as the one piece that means this range.
+    // The text as a single piece that means this range.
     fn whole(
         alloc: Global,
         pre_release: PreRelease,
@@ -115,7 +115,7 @@ impl Piece {
     }
 }
 
-// The pieces of a text whose first one is cut off, each as a grammar that is cut at each `||` reads it.
+// The pieces of a text whose first one is split off, each parsed by a grammar that splits at each `||`.
 fn pieces_from(
     alloc: Global,
     flavour: Flavour,
@@ -138,7 +138,7 @@ fn pieces_from(
     Ok(pieces)
 }
 
-// The pieces of a text, each as a grammar that is cut at each `||` reads it.
+// The pieces of a text, each parsed by a grammar that splits at each `||`.
 fn pieces_of(
     alloc: Global,
     flavour: Flavour,
@@ -150,7 +150,7 @@ fn pieces_of(
     pieces_from(alloc, flavour, pre_release, first_piece(text))
 }
 
-// The text as the piece that means each of these ranges, of which the strict grammar gives a text one.
+// The text as a piece for each of these ranges; the strict grammar gives a text one.
 fn whole_of(
     alloc: Global,
     pre_release: PreRelease,
@@ -187,8 +187,8 @@ fn alternatives(
     }
 }
 
-/// What the grammar makes of the text of a range: the tag that it is; or its alternatives, each with the range that it means and
-/// the lowest version of that, or why it is left out, and the canonical form of all.
+/// Returns what the grammar makes of a range's text: the tag; or the alternatives, each with the range that it means and the
+/// lowest version of that, or why it is left out, and the canonical form of all.
 pub fn explain(
     alloc: Global,
     flavour: Flavour,

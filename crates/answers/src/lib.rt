@@ -1,4 +1,4 @@
-//! Questions that people ask of versions and ranges, each answered once, from texts. The programs and the C API stand on these.
+//! Questions about versions and ranges, each answered in one place, from texts. The programs and the C API use these.
 #![tactic(auto)]
 
 pub mod asking;

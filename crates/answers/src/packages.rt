@@ -18,7 +18,7 @@ use semver_req::common::values::Flavour;
 use serde_json::{Value, json};
 use std::alloc::{AllocError, Global};
 
-/// The scope of a name, without its `@`, and what follows it. A name may have no scope.
+/// Returns the scope of a name without its `@`, if it has one, and what follows the scope.
 pub fn scope_and_name(name: &str) -> (Option<&str>, &str)
     ensures scope { option_copied result.0 ≡ scope_part name.now }
     ensures last { result.1.now ≡ last_part name.now }
@@ -49,8 +49,8 @@ pub(crate) fn text_or_null(alloc: Global, text: Option<&str>) -> Result<Value, A
     }
 }
 
-/// The parts of a package as JSON: its name without the scope, the canonical form of its range and the text that this was read
-/// from, and its scope or null.
+/// Returns the parts of a package as JSON: its name without the scope, its range's canonical form and the text the range was
+/// parsed from, and its scope or null.
 pub fn package_json(alloc: Global, req: &PackageReq) -> Result<Value, AllocError>
     ensures { IfOk result (λ json. view json ≡ package_json req.now) }
 {
@@ -71,7 +71,7 @@ fn parts_text(alloc: Global, req: &PackageReq) -> Result<String, AllocError>
     json.to_string(alloc)
 }
 
-// The package that the text is, by the crate's calls.
+// Parses a package.
 fn parse(alloc: Global, flavour: Flavour, text: &str) -> Result<PackageReq, PackageReqParseError>
     ensures read { IfOk result (λ req. IsPackageOutcome flavour text.now (Ok req)) }
     ensures refused { IfErr result (IsPackageRefusal flavour text.now) }
@@ -104,7 +104,7 @@ pub(crate) fn parts_failure(alloc: Global, error: PackageReqPartsParseError) -> 
     ParseFailure::with_texts(alloc, message, None)
 }
 
-/// The package that the text is; the grammar is that of its range.
+/// Parses a package, with this grammar for its range.
 pub fn read_package(alloc: Global, flavour: Flavour, text: &str) -> Result<PackageReq, Problem>
     ensures answer { IsAnswer (IsPackage flavour text.now) (λ req. req) result }
     ensures failure { IfErr result
@@ -119,7 +119,7 @@ pub fn read_package(alloc: Global, flavour: Flavour, text: &str) -> Result<Packa
     }
 }
 
-/// The parts of the package that the text is, as the text of a JSON object.
+/// Parses a package, and returns its parts as the text of a JSON object.
 pub fn package_parts(alloc: Global, flavour: Flavour, text: &str) -> Result<String, Problem>
     ensures answer { IsAnswer (PackageParts flavour text.now) (λ text. string_bytes text) result }
     ensures failure { IfErr result

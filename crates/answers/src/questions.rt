@@ -1,7 +1,7 @@
-//! What people ask of versions and ranges: each question is answered from texts.
+//! Questions about versions and ranges, each answered from texts.
 //!
-//! The arguments are read from the left, and the first that is invalid is the problem. A range that is a tag is the answer once
-//! all arguments are read. Any other problem is out of memory.
+//! The arguments are parsed from left to right, and the first invalid one is the problem. If a range is a tag, the result is
+//! the tag once all arguments are parsed. Any other problem is out of memory.
 
 ghost use Rattle.std.specs.Prelude.{◌≡◌, ◌⊎◌, IfErr, IfOk, string_bytes};
 ghost use Rattle.std.specs.Option.{option_copied};
@@ -98,7 +98,7 @@ fn best_of(
     }
 }
 
-/// Which of the versions is the highest that matches the range? Of those that differ in the build alone it is the first.
+/// Which of the versions is the highest that matches the range? Of those that differ only in the build, the first.
 pub fn best_match(
     alloc: Global,
     flavour: Flavour,
@@ -119,7 +119,7 @@ pub fn best_match(
     best_of(alloc, pre_release, &range, versions)
 }
 
-/// Do the two ranges overlap, by the rule of bounds? Two tags do where they are the same, and a tag and versions never.
+/// Do the two ranges overlap, by their bounds? Two tags overlap if they are the same, a tag and versions never.
 pub fn overlaps(
     alloc: Global,
     flavour: Flavour,
@@ -156,7 +156,7 @@ fn common_of(
     Ok(Answer::Value(lowest))
 }
 
-/// What is the lowest version that all ranges match? There is none of no ranges.
+/// What is the lowest version that all ranges match? For no ranges there is none.
 pub fn common_version(
     alloc: Global,
     flavour: Flavour,
@@ -172,7 +172,7 @@ pub fn common_version(
     common_of(alloc, pre_release, ranges.as_slice())
 }
 
-// The lowest version that the one range matches, and the other doesn't.
+// The lowest version that one range matches and the other doesn't.
 fn outside_of(
     alloc: Global,
     pre_release: PreRelease,
@@ -190,8 +190,8 @@ fn outside_of(
     Ok(Answer::Value(lowest))
 }
 
-/// What is the lowest version that the first range matches, and the other doesn't? There is none exactly where the other one
-/// contains the first.
+/// What is the lowest version that the first range matches and the other doesn't? There is none exactly if the other contains
+/// the first.
 pub fn version_outside(
     alloc: Global,
     flavour: Flavour,
@@ -238,7 +238,7 @@ pub fn displayed(alloc: Global, version_text: &str) -> Result<String, Problem>
     Ok(text_of_version(alloc, &version)?)
 }
 
-/// Which of the two versions is before the other? The build has no part in it.
+/// Which of the two versions comes before the other? The build doesn't matter.
 pub fn order(alloc: Global, one_text: &str, other_text: &str) -> Result<Ordering, Problem>
     ensures answer { IsAnswer (Orders one_text.now other_text.now) (λ order. order) result }
     ensures failure { IfErr result

@@ -1,4 +1,4 @@
-//! How the arguments of a question are read.
+//! Parsing the arguments of a question.
 
 ghost use Rattle.std.specs.Prelude.{IfErr, IfOk};
 ghost use Rattle.std.specs.Str.{trim};
@@ -14,7 +14,7 @@ use deno_semver::{Version, VersionReq};
 use semver_req::common::values::Flavour;
 use std::alloc::Global;
 
-/// The range that the text at this place is, by the grammar.
+/// Parses the range at this place by the grammar.
 pub fn range(
     alloc: Global,
     flavour: Flavour,
@@ -32,7 +32,7 @@ pub fn range(
     }
 }
 
-/// The ranges that the texts are, by the grammar.
+/// Parses the ranges by the grammar.
 pub fn ranges(alloc: Global, flavour: Flavour, texts: &[&str]) -> Result<Vec<VersionReq>, Problem>
     ensures answer { IsAnswer (Each (IsRange flavour) 0 (texts_of texts.now))
         (λ all. all.items) result }
@@ -50,7 +50,7 @@ pub fn ranges(alloc: Global, flavour: Flavour, texts: &[&str]) -> Result<Vec<Ver
     Ok(all)
 }
 
-/// The version that the text at this place is.
+/// Parses the version at this place.
 pub fn version(alloc: Global, place: usize, text: &str) -> Result<Version, Problem>
     ensures answer { IsAnswer (IsVersion place text.now) (λ version. version) result }
     ensures failure { IfErr result
@@ -62,7 +62,7 @@ pub fn version(alloc: Global, place: usize, text: &str) -> Result<Version, Probl
     }
 }
 
-/// The versions that the texts are.
+/// Parses the versions.
 pub fn versions(alloc: Global, texts: &[&str]) -> Result<Vec<Version>, Problem>
     ensures answer { IsAnswer (Each IsVersion 0 (texts_of texts.now)) (λ all. all.items) result }
     ensures failure { IfErr result

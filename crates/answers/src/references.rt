@@ -28,7 +28,7 @@ pub struct Reference {
 }
 
 impl Reference {
-    /// The path, where there is one.
+    /// Returns the path, if there is one.
     pub fn path(&self) -> Option<&str>
         ensures { option_copied result ≡ self.now.reference.sub_path }
     {
@@ -38,7 +38,7 @@ impl Reference {
         }
     }
 
-    /// The name of the registry.
+    /// Returns the registry's name.
     pub fn registry(&self) -> &'static str
         ensures { result.now ≡ kind_text self.now.kind }
     {
@@ -49,7 +49,7 @@ impl Reference {
     }
 }
 
-// Of JSR the export that the path means.
+// For JSR, the export that the path means.
 fn export_json(alloc: Global, kind: PackageKind, path: Option<&str>) -> Result<Value, AllocError>
     ensures { IfOk result
         (λ json. view json ≡ text_or_null (export_of kind (option_copied path.entry))) }
@@ -63,7 +63,8 @@ fn export_json(alloc: Global, kind: PackageKind, path: Option<&str>) -> Result<V
     }
 }
 
-/// The parts of a reference as JSON: its registry, its package, its path or null, and of JSR the export that the path means.
+/// Returns the parts of a reference as JSON: its registry, its package, its path or null, and for JSR the export that the
+/// path means.
 pub fn reference_json(alloc: Global, read: &Reference) -> Result<Value, AllocError>
     ensures { IfOk result (λ json. view json ≡ reference_json read.now) }
 {
@@ -83,7 +84,7 @@ fn parts_text(alloc: Global, read: &Reference) -> Result<String, AllocError>
     json.to_string(alloc)
 }
 
-// The registry whose parser reads the text: JSR's where its scheme is in front, and else npm's.
+// The registry whose parser parses the text: JSR if the text begins with its scheme, else npm.
 fn registry_of(text: &str) -> PackageKind
     ensures { IsRegistryOf text.now result }
 {
@@ -93,7 +94,7 @@ fn registry_of(text: &str) -> PackageKind
     }
 }
 
-// The reference that the text is to a package of the registry, by the crate's calls.
+// Parses a reference to a package of the registry.
 fn parse(
     alloc: Global,
     kind: PackageKind,
@@ -140,8 +141,8 @@ fn reference_failure(alloc: Global, error: &PackageReqReferenceParseError) -> Pa
     }
 }
 
-/// The reference that the text is: to a package of JSR where `jsr:` is in front, and else of npm. The grammar of its range is the
-/// strict one.
+/// Parses a reference, to a JSR package if the text begins with `jsr:`, else to an npm package, with the strict grammar for
+/// its range.
 pub fn read_reference(alloc: Global, text: &str) -> Result<Reference, Problem>
     ensures answer { IsAnswer (IsReference text.now) (λ read. read) result }
     ensures failure { IfErr result
@@ -157,7 +158,7 @@ pub fn read_reference(alloc: Global, text: &str) -> Result<Reference, Problem>
     }
 }
 
-/// The parts of the reference that the text is, as the text of a JSON object.
+/// Parses a reference, and returns its parts as the text of a JSON object.
 pub fn reference_parts(alloc: Global, text: &str) -> Result<String, Problem>
     ensures answer { IsAnswer (ReferenceParts text.now) (λ text. string_bytes text) result }
     ensures failure { IfErr result

@@ -15,7 +15,7 @@ use deno_semver::Version;
 use std::alloc::{AllocError, Global};
 use std::cmp::Ordering;
 
-/// In which order versions are sorted.
+/// The order in which versions are sorted.
 #[derive(Clone, Copy, Debug, PartialEq, Eq)]
 pub enum Order {
     Ascending,
@@ -30,7 +30,7 @@ struct Placed {
 }
 
 impl Order {
-    // How two versions compare in this order.
+    // Compares two versions in this order.
     fn compare(self, one: &Version, other: &Version) -> Ordering
         ensures { result ≡ order_cmp self one.now other.now }
     {
@@ -40,7 +40,7 @@ impl Order {
         }
     }
 
-    // How two placed versions compare: those that are equal by their places.
+    // Compares two placed versions in this order, equal ones by their places.
     fn compare_placed(self, one: &Placed, other: &Placed) -> Ordering
         ensures { result ≡ placed_cmp self one.now other.now }
     {
@@ -80,8 +80,8 @@ fn places_of(alloc: Global, all: &[Placed]) -> Result<Vec<usize>, AllocError>
     Ok(places)
 }
 
-/// The places of the versions in this order by precedence, counted from 0; those that differ in the build alone keep theirs. It is
-/// an error only where no memory is left.
+/// Returns the places of the versions in this order by precedence, counted from 0; versions that differ only in the build
+/// keep their order. Fails only out of memory.
 pub fn sorted_places(
     alloc: Global,
     versions: Vec<Version>,
@@ -94,7 +94,7 @@ pub fn sorted_places(
     places_of(alloc, all.as_slice())
 }
 
-/// In which order do the versions stand? The place of the first comes first.
+/// In which order do the versions stand? Returns the first one's place first.
 pub fn sort(alloc: Global, texts: &[&str], order: Order) -> Result<Vec<usize>, Problem>
     ensures answer { IsAnswer (Sorts order (texts_of texts.now)) (λ places. places.items) result }
     ensures failure { IfErr result

@@ -15,7 +15,7 @@ use std::alloc::Global;
 pub enum Allowance {
     Yes,
     No,
-    /// The requirement is a tag, which allows no versions by itself.
+    /// The requirement is a tag, not a range of versions.
     Tag,
 }
 

@@ -1,6 +1,6 @@
 //! Values that callers of the C API keep across calls: a range or a version on the heap, behind a struct of one pointer.
 //!
-//! C holds such a struct and gives it back; the handle's contract says what it owns, so each value is freed once.
+//! C holds such a struct and gives it back; a clause of the handle says what it owns, so each value is freed once.
 #![tactic(auto)]
 
 mod loose;

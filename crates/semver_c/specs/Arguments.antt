@@ -1,4 +1,4 @@
--- The arguments of a call, where a parser is a number and a text is bytes, and the outcomes of calls.
+-- The arguments of a call, in which a parser is a number and a text is bytes, and the outcomes of calls.
 use Rattle.std.specs.Prelude.{◌≡◌, ◌==◌, ◌<◌, ℕ, List, Result, Ok, Err, codes, if◌then◌else◌}
 use Rattle.std.specs.Str.{IsUtf8}
 use Rattle.semver_base.specs.Failure.{message_of}
@@ -41,11 +41,11 @@ abbrev pub outcome_of : {E X : Type 0} → (E → X) → Result E Problem → Re
 outcome_of value (Ok e) = Ok (value e)
 outcome_of value (Err p) = Err (problem_code p)
 
--- the result is the outcome of the question, which has no other; out of memory aside
+-- the result is the outcome of the question, which has no other, or out of memory
 abbrev pub IsAnswer : {E X : Type 0} → (Result X ℕ → Type 0) → (E → X) → Result E Problem → Type 0
 IsAnswer Asked value result = IsOutcomeOf 5 Asked (outcome_of value result)
 
--- a question of texts, its fault as a code
+-- a question about texts, with its fault as a code
 abbrev pub coded_outcome : {X : Type 0} → Result X Fault → Result X ℕ
 coded_outcome (Ok x) = Ok x
 coded_outcome (Err fault) = Err (fault_code fault)
@@ -61,7 +61,7 @@ parser_number Npm = 0
 parser_number Normal = 1
 parser_number Specifier = 2
 
--- the parser of a number
+-- the parser with this number
 pub data IsParser (number : ℕ) : Result Flavour ℕ → Type 0 where
   parser : {f : Flavour} → number ≡ parser_number f → IsParser number (Ok f)
   no_parser : 2 < number → IsParser number (Err 4)

@@ -1,4 +1,4 @@
--- What is asked of values that are kept across calls.
+-- Questions about values kept across calls.
 use Rattle.std.specs.Prelude.{◌≡◌, ◌⊎◌, ◌↔◌, IsTrue, ℕ, Bool, Option, Some, None, Result, Ok, Err, IfSome}
 use Rattle.std.specs.declared.cmp.Ordering.{Ordering}
 use Rattle.semver_base.specs.declared.version.Version.{Version}
@@ -7,12 +7,12 @@ use Rattle.answers.specs.Questions.{match_of}
 use Rattle.semver_c.specs.Arguments.{pre_release_of}
 use Rattle.semver_c.specs.Codes.{bool_code, match_code, order_code}
 
--- a value is the outcome, and where there is none the code of the problem
+-- a value is the outcome; without one, the code of the problem
 abbrev pub kept_outcome : {X : Type 0} → Option X → ℕ → Result X ℕ
 kept_outcome (Some x) code = Ok x
 kept_outcome None code = Err code
 
--- what is kept is the outcome of the question, with the code 1, and the question has no other; out of memory aside
+-- what is kept is the question's outcome, with the code 1, and the question has no other; or out of memory
 pub record IsKept {X : Type 0} (Asked : Result X ℕ → Type 0) (kept : Option X) (code : ℕ) : Type 0 where
   pub is : (kept_outcome kept code ≡ Err 5) ⊎ Asked (kept_outcome kept code)
   pub only : (outcome : Result X ℕ) → Asked outcome → (kept_outcome kept code ≡ Err 5) ⊎ (kept_outcome kept code ≡ outcome)
@@ -32,7 +32,7 @@ abbrev pub IsKeptOrder : (Version → Version → Ordering) → Option Version �
 IsKeptOrder cmp (Some v) (Some w) code = code ≡ order_code (cmp v w)
 IsKeptOrder cmp one other code = Unit {0}
 
--- 1 is returned exactly where both mean the same, and else 0
+-- 1 is returned exactly if both mean the same, else 0
 abbrev pub IsKeptEqual : Option Requirement → Option Requirement → ℕ → Type 0
 IsKeptEqual (Some req) (Some other) code =
     (equal : Bool) × (IsTrue equal ↔ (req.inner ≡ other.inner)) × (code ≡ bool_code equal)

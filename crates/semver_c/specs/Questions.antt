@@ -1,4 +1,5 @@
--- What each call asks of its arguments: the parser is looked up first, then the texts are checked, then the question of texts is asked.
+-- The question of each call: the parser is looked up first, then the texts are checked, then the question about texts is
+-- asked.
 use Rattle.std.specs.Prelude.{ℕ, List, [], ◌∷◌, Bool, Option, Result, Ok, Err}
 use Rattle.std.specs.Str.Lines.{lines}
 use Rattle.std.specs.declared.cmp.Ordering.{Ordering}
@@ -40,7 +41,7 @@ OfTexts one other Asked = Given (IsText one) (λ text. Given (IsText other) (λ 
 
 -- ---- several versions, a line each
 
--- the code of a line: of the match of its version, or 7 where that is invalid
+-- the code of a line: that of its version's match, or 7 if the version is invalid
 pub data LineCode (flag : PreRelease) (req : Requirement) (place : ℕ) (line : List ℕ) : Result ℕ Fault → Type 0 where
   line_matches : {v : Version} → IsVersion place line (Ok v) → LineCode flag req place line (Ok (match_code (match_of flag req.inner v)))
   line_invalid : {fault : Fault} → IsVersion place line (Err fault) → LineCode flag req place line (Ok 7)

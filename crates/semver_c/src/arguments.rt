@@ -15,7 +15,7 @@ use std::str;
 /// Why a call has no answer.
 #[derive(Drop)]
 pub enum Problem {
-    /// The question of its texts has none.
+    /// The question about its texts has no result.
     Unanswered(Unanswered),
     /// No parser has this number.
     NoParser,

@@ -1,9 +1,9 @@
 //! The C API: questions as calls over bytes, each a pointer and a length, and values that are kept across calls.
 //!
-//! Each call returns a code. 0, 1 and 2 are its answers; 3 means an invalid range, package or reference, 4 a number that no parser
-//! has, 5 out of memory, 7 an invalid version, and 8 bytes that aren't UTF-8. As exit statuses of the programs 3, 4 and 5 mean the
-//! same, and 6 is theirs alone. The parsers are npm's, 0, the normalized one, 1, and the strict one, 2. A text is written to the
-//! front of the caller's buffer if it fits, and its length is always stored.
+//! Each call returns a code. 0, 1 and 2 are results; 3 means an invalid range, package or reference, 4 a number that no
+//! parser has, 5 out of memory, 7 an invalid version, and 8 bytes that aren't UTF-8. As exit statuses of the programs 3, 4
+//! and 5 mean the same, and 6 is theirs alone. The parsers are npm's, 0, the normalized one, 1, and the strict one, 2. A text
+//! is written to the start of the caller's buffer if it fits, and its length is always stored.
 #![tactic(auto)]
 
 ghost use Rattle.std.specs.Prelude.{◌≡◌, IfSome, IsUtf8, List, None, ℕ};
@@ -59,7 +59,7 @@ pub extern "C" fn semver_fits(
     )
 }
 
-/// The order of two versions, whose builds don't matter: 0 the first is before the other, 1 neither is, 2 it is after.
+/// The order of two versions, builds aside: 0 the first is before the other, 1 neither is, 2 it is after.
 #[unsafe(no_mangle)]
 pub extern "C" fn semver_compare(alloc: Global, one: &[u8], other: &[u8]) -> u32
     ensures { IsCode (OrdersOf one.now other.now) order_code result }
@@ -75,8 +75,8 @@ pub extern "C" fn semver_overlap(alloc: Global, reader: u32, one: &[u8], other: 
     code_of_bool(overlap(alloc, reader, one, other))
 }
 
-/// Whether the other range matches each version that the first one matches: 0 no, with the lowest that it doesn't, 1 yes, 2 one of
-/// them is a tag.
+/// Whether the other range matches each version that the first one matches: 0 no, with the lowest that it doesn't, 1 yes, 2
+/// one of them is a tag.
 #[unsafe(no_mangle)]
 pub extern "C" fn semver_within(
     alloc: Global,
@@ -138,7 +138,7 @@ pub extern "C" fn semver_normal(
     report_text(canonical_form(alloc, reader, requirement), out, needed)
 }
 
-/// How the version is displayed: 1.
+/// The version as displayed: 1.
 #[unsafe(no_mangle)]
 pub extern "C" fn semver_version(
     alloc: Global,
@@ -164,8 +164,9 @@ pub extern "C" fn semver_may_be_tag(text: &[u8]) -> u32
     }
 }
 
-/// Whether each version of a list, one per line, matches the range: 1, and answer n is the code of line n: 0 no, 1 yes, 2 the range
-/// is a tag, 7 the version is invalid. `needed` is the number of lines; if there are more than answers, these stay as they were.
+/// Whether each version of a list, one per line, matches the range: 1, and answer n is the code of line n: 0 no, 1 yes, 2 the
+/// range is a tag, 7 the version is invalid. `needed` is the number of lines; if there are more than answers, these stay as
+/// they were.
 #[unsafe(no_mangle)]
 pub extern "C" fn semver_filter(
     alloc: Global,
@@ -187,8 +188,8 @@ pub extern "C" fn semver_filter(
     )
 }
 
-/// Which of several versions, one per line, is the highest that matches the range, the first of equal ones: 0 none, 1 the one at
-/// `place`, counted from 0, 2 the range is a tag. At any code but 1 `place` stays as it was.
+/// Which of several versions, one per line, is the highest that matches the range, the first of equal ones: 0 none, 1 the one
+/// at `place`, counted from 0, 2 the range is a tag. For any code but 1 `place` is unchanged.
 #[unsafe(no_mangle)]
 pub extern "C" fn semver_best(
     alloc: Global,
@@ -208,9 +209,9 @@ pub extern "C" fn semver_best(
     )
 }
 
-/// The places of several versions, one per line, in the order of precedence: 1. The place of the lowest comes first, places are
-/// counted from 0, and versions that differ in the build alone keep their order. `needed` is the number of lines; if there are more
-/// than places, these stay as they were.
+/// The places of several versions, one per line, in the order of precedence: 1. The place of the lowest comes first, places
+/// are counted from 0, and versions that differ only in the build keep their order. `needed` is the number of lines; if there
+/// are more than places, these stay as they were.
 #[unsafe(no_mangle)]
 pub extern "C" fn semver_sort(
     alloc: Global,
@@ -240,8 +241,8 @@ pub extern "C" fn semver_package(
     report_text(package_of(alloc, reader, text), out, needed)
 }
 
-/// The parts of a reference to a package of JSR or npm, as JSON: 1. The strict parser parses its range; code 3 means that the text
-/// is invalid.
+/// The parts of a reference to a JSR or npm package, as JSON: 1. The strict parser parses its range; code 3 means that the
+/// text is invalid.
 #[unsafe(no_mangle)]
 pub extern "C" fn semver_reference(
     alloc: Global,
@@ -255,7 +256,7 @@ pub extern "C" fn semver_reference(
     report_text(reference_of(alloc, text), out, needed)
 }
 
-/// Parses a range into a handle that has none: 1.
+/// Parses a range into an empty handle: 1.
 #[unsafe(no_mangle)]
 pub extern "C" fn semver_req_read(
     alloc: Global,
@@ -279,7 +280,7 @@ pub extern "C" fn semver_req_read(
     }
 }
 
-/// Parses a version into a handle that has none: 1.
+/// Parses a version into an empty handle: 1.
 #[unsafe(no_mangle)]
 pub extern "C" fn semver_version_read(
     alloc: Global,
@@ -302,7 +303,7 @@ pub extern "C" fn semver_version_read(
     }
 }
 
-/// Frees the range of the handle, which has none then.
+/// Frees the range of the handle, leaving it empty.
 #[unsafe(no_mangle)]
 pub extern "C" fn semver_req_free(alloc: Global, handle: &mut RequirementHandle)
     requires { Holds handle.old.value }
@@ -311,7 +312,7 @@ pub extern "C" fn semver_req_free(alloc: Global, handle: &mut RequirementHandle)
     let _requirement = handle.take(alloc);
 }
 
-/// Frees the version of the handle, which has none then.
+/// Frees the version of the handle, leaving it empty.
 #[unsafe(no_mangle)]
 pub extern "C" fn semver_version_free(alloc: Global, handle: &mut VersionHandle)
     requires { Holds handle.old.value }
@@ -320,7 +321,7 @@ pub extern "C" fn semver_version_free(alloc: Global, handle: &mut VersionHandle)
     let _version = handle.take(alloc);
 }
 
-/// Whether the version matches the range of the handle, as `semver_fits`.
+/// Whether the version matches the range of the handle, like `semver_fits`.
 #[unsafe(no_mangle)]
 pub extern "C" fn semver_req_fits(
     alloc: Global,
@@ -339,7 +340,7 @@ pub extern "C" fn semver_req_fits(
     code
 }
 
-/// Whether the version of the one handle matches the range of the other: 0 no, 1 yes, 2 the range is a tag.
+/// Whether the version of one handle matches the range of the other: 0 no, 1 yes, 2 the range is a tag.
 #[unsafe(no_mangle)]
 pub extern "C" fn semver_req_matches(
     alloc: Global,
@@ -380,7 +381,7 @@ pub extern "C" fn semver_req_overlap(
     u32::from(overlap)
 }
 
-/// The order of the versions of two handles, as `semver_compare`.
+/// The order of the versions of two handles, like `semver_compare`.
 #[unsafe(no_mangle)]
 pub extern "C" fn semver_version_compare(
     alloc: Global,
@@ -419,7 +420,7 @@ pub extern "C" fn semver_req_normal(
     code
 }
 
-/// How the version of the handle is displayed: 1.
+/// The version of the handle as displayed: 1.
 #[unsafe(no_mangle)]
 pub extern "C" fn semver_version_text(
     alloc: Global,
@@ -458,7 +459,7 @@ pub extern "C" fn semver_req_text(
     1
 }
 
-/// The order of the versions of two handles, where versions that differ in the build alone are ordered by it.
+/// The order of the versions of two handles; versions that differ only in the build are ordered by it.
 #[unsafe(no_mangle)]
 pub extern "C" fn semver_version_order(
     alloc: Global,

@@ -1,4 +1,4 @@
-//! The question of each call: its parser is looked up, its texts are checked, and the question of texts is asked.
+//! The question of each call: its parser is looked up, its texts are checked, and the question about texts is asked.
 
 ghost use Rattle.std.specs.Prelude.{◌≡◌, IfOk, string_bytes};
 ghost use Rattle.semver_base.specs.VersionText.{version_text};
@@ -51,7 +51,7 @@ pub fn fits(
     Ok(matches(alloc, flavour, pre_release(pre_releases), range, version)?)
 }
 
-// The code of a line: that of the match of its version, or 7 where it is invalid.
+// The code of a line: that of its version's match, or 7 if the version is invalid.
 fn line_code(
     alloc: Global,
     requirement: &VersionReq,
@@ -108,7 +108,7 @@ pub fn filter(
     Ok(line_codes(alloc, &range, lines.as_slice(), pre_release(pre_releases))?)
 }
 
-/// Which of the versions, a line each, is the highest that matches the range?
+/// Which of the versions, one per line, is the highest that matches the range?
 pub fn best_line(
     alloc: Global,
     reader: u32,
@@ -132,7 +132,7 @@ pub fn best_line(
     )?)
 }
 
-/// In which order do the versions stand, a line each?
+/// In which order do the versions stand, one per line?
 pub fn sorted_lines(alloc: Global, versions: &[u8]) -> Result<Vec<usize>, Problem>
     ensures { IsAnswer (SortsOf versions.now) (λ places. places.items) result }
 {
@@ -141,7 +141,7 @@ pub fn sorted_lines(alloc: Global, versions: &[u8]) -> Result<Vec<usize>, Proble
     Ok(sort(alloc, lines.as_slice(), Order::Ascending)?)
 }
 
-/// Which of the two versions is before the other?
+/// Which of the two versions comes before the other?
 pub fn order_of(alloc: Global, one: &[u8], other: &[u8]) -> Result<Ordering, Problem>
     ensures { IsAnswer (OrdersOf one.now other.now) (λ order. order) result }
 {
@@ -244,7 +244,7 @@ fn boxed<T: Drop>(alloc: Global, value: T) -> Result<Box<T>, AllocError>
     Ok(Box::new(alloc, value)?)
 }
 
-/// The range that the bytes are, on the heap.
+/// Parses a range onto the heap.
 pub fn boxed_range(alloc: Global, reader: u32, bytes: &[u8]) -> Result<Box<VersionReq>, Problem>
     ensures { IsAnswer (RangeBy reader bytes.now) (λ kept. kept.value) result }
 {
@@ -254,7 +254,7 @@ pub fn boxed_range(alloc: Global, reader: u32, bytes: &[u8]) -> Result<Box<Versi
     Ok(boxed(alloc, range)?)
 }
 
-/// The version that the bytes are, on the heap.
+/// Parses a version onto the heap.
 pub fn boxed_version(alloc: Global, bytes: &[u8]) -> Result<Box<Version>, Problem>
     ensures { IsAnswer (VersionOf bytes.now) (λ kept. kept.value) result }
 {
@@ -263,7 +263,7 @@ pub fn boxed_version(alloc: Global, bytes: &[u8]) -> Result<Box<Version>, Proble
     Ok(boxed(alloc, version)?)
 }
 
-/// The code of the match of the version that the bytes are.
+/// The code of the match of the version in the bytes.
 pub fn matches_kept(
     alloc: Global,
     requirement: &VersionReq,
@@ -285,7 +285,7 @@ pub fn kept_canonical(alloc: Global, requirement: &VersionReq) -> Result<String,
     Ok(requirement.to_string_normalized(alloc)?)
 }
 
-/// How the version is displayed.
+/// The version as displayed.
 pub fn kept_displayed(alloc: Global, version: &Version) -> Result<String, Problem>
     ensures { IsAnswer (Is (version_text version.now)) (λ text. string_bytes text) result }
 {

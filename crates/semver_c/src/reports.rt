@@ -1,4 +1,4 @@
-//! How answers are returned to C: a code, and a text in the caller's buffer.
+//! How results are returned to C: a code, and a text in the caller's buffer.
 
 ghost use Rattle.std.specs.Prelude.{◌≡◌, ◌⊎◌, List, ℕ, string_bytes};
 ghost use Rattle.semver_base.specs.VersionText.{version_text};
@@ -12,7 +12,7 @@ use deno_semver::Version;
 use std::alloc::Global;
 use std::cmp::Ordering;
 
-// Writes the bytes at the front of the buffer, where they fit, and how many they are.
+// Writes the bytes to the start of the buffer, if they fit, and stores their number.
 fn put_bytes(bytes: &[u8], out: &mut [u8], needed: &mut usize)
     ensures { IsPlaced bytes.now out.old out.new needed.new }
 {
@@ -23,7 +23,7 @@ fn put_bytes(bytes: &[u8], out: &mut [u8], needed: &mut usize)
     }
 }
 
-// Writes the places at the front of the list, where they fit, and how many they are.
+// Writes the places to the start of the list, if they fit, and stores their number.
 fn put_places(places: &[usize], out: &mut [usize], needed: &mut usize)
     ensures { IsPlaced places.now out.old out.new needed.new }
 {
@@ -34,7 +34,7 @@ fn put_places(places: &[usize], out: &mut [usize], needed: &mut usize)
     }
 }
 
-/// Writes the text at the front of the buffer, where it fits, and how long it is.
+/// Writes the text to the start of the buffer, if it fits, and stores its length.
 pub fn put(text: &str, out: &mut [u8], needed: &mut usize)
     ensures { IsPlaced text.now out.old out.new needed.new }
 {
@@ -52,7 +52,7 @@ pub fn order_code(order: Ordering) -> u32
     }
 }
 
-/// The code of an answer or a problem.
+/// The code of a result or a problem.
 pub fn code_of_order(answer: Result<Ordering, Problem>) -> u32
     ensures { result ≡ code_of order_code (outcome_of (λ order. order) answer) }
 {
@@ -62,7 +62,7 @@ pub fn code_of_order(answer: Result<Ordering, Problem>) -> u32
     }
 }
 
-/// The code of an answer or a problem.
+/// The code of a result or a problem.
 pub fn code_of_bool(answer: Result<bool, Problem>) -> u32
     ensures { result ≡ code_of bool_code (outcome_of (λ answer. answer) answer) }
 {
@@ -123,7 +123,7 @@ pub fn report_text(answer: Result<String, Problem>, out: &mut [u8], needed: &mut
     }
 }
 
-// Reports the text of the version, with this code.
+// Reports the text of the version with this code.
 fn report_version(
     alloc: Global,
     version: &Version,
@@ -143,7 +143,7 @@ fn report_version(
     }
 }
 
-// Reports the lowest version with the one code, and that there is none with the other.
+// Reports the lowest version with one code, or that there is none with the other.
 fn report_found(
     alloc: Global,
     answer: &Answer<Option<Version>>,
@@ -167,7 +167,7 @@ fn report_found(
     code
 }
 
-/// Reports the lowest version with the one code, and that there is none with the other.
+/// Reports the lowest version with one code, or that there is none with the other.
 pub fn report_lowest(
     alloc: Global,
     answer: Result<Answer<Option<Version>>, Problem>,
@@ -185,7 +185,7 @@ pub fn report_lowest(
     }
 }
 
-/// Reports a list of codes; of a problem the code alone.
+/// Reports a list of codes; for a problem, its code alone.
 pub fn report_codes(answer: Result<Vec<u8>, Problem>, out: &mut [u8], needed: &mut usize) -> u32
     ensures reported { IsReported one_code (λ codes. codes)
         (outcome_of (λ codes. codes.items) answer) out.old out.new needed.new result }
@@ -203,7 +203,7 @@ pub fn report_codes(answer: Result<Vec<u8>, Problem>, out: &mut [u8], needed: &m
     }
 }
 
-/// Reports a list of places; of a problem the code alone.
+/// Reports a list of places; for a problem, its code alone.
 pub fn report_places(
     answer: Result<Vec<usize>, Problem>,
     out: &mut [usize],
