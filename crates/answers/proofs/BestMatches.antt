@@ -1,4 +1,4 @@
--- Answers that are the highest of several versions.
+-- Results that are the highest of several versions.
 use Rattle.std.proofs.Common.{◌≡◌, ◌<◌, ◌++◌, ◌∷◌, ◌∙◌, ℕ, arith, List, [], length, get_or, Option, Some, None, Result, Ok, Bool, refl, sym, ap, subst, inr}
 use Rattle.std.proofs.Math.Seq.{get_or-append_seam}
 use Rattle.semver_base.specs.declared.range.PreRelease.{PreRelease}
@@ -17,11 +17,11 @@ abbrev as_best : Option Best → Result (Answer (Option Best)) Fault
 as_best best = Ok (Value best)
 
 module _ (test : Version → Bool) (versions : List Version) where
-  -- the version at the place of a match
+  -- the version at the index of a match
   version_at : (place : ℕ) (v d : Version) → IsBestAt greater test versions place v → get_or versions place d ≡ v
   version_at place v d h = rw (h.stands, sym h.at_place) (get_or-append_seam h.before v h.after d)
 
-  -- the place of a match is one of the list
+  -- the index of a match is within the list
   pub place_within : (place : ℕ) → IsBestMatch greater test versions (Some place) → place < length versions
   place_within place h = rw (h.1.stands, sym h.1.at_place) (within h.1.before)
     where
@@ -29,7 +29,7 @@ module _ (test : Version → Bool) (versions : List Version) where
       within [] = omega arith
       within (x ∷ xs) = let more = within xs in omega (arith, more)
 
-  -- the version that is taken from the place
+  -- the version taken from the index
   pub taken_best : (place : ℕ) (v : Version) → v ≡ get_or versions place v → IsBestMatch greater test versions (Some place) → IsBest test versions (Some (record { place = place; version = v }))
   taken_best place v at h = subst (λ (w : Version). IsBestAt greater test versions place w) (sym (version_at place h.0 v h.1) ∙ sym at) h.1
 
@@ -50,7 +50,7 @@ module _ (test : Version → Bool) (versions : List Version) where
   only_none only None h = refl
   only_none only (Some other) h = absurd (cc (only (Some other.place) (other.version, h)))
 
--- the best that is found is the answer of a range that is no tag
+-- the best match found is the result for a range that isn't a tag
 pub best_answer : (flag : PreRelease) (read : RangeSetOrTag) (versions : List Version) → tag_of read ≡ None → (best : Option Best) → IsBest (inner_means_with flag read) versions best
     → ((other : Option Best) → IsBest (inner_means_with flag read) versions other → best ≡ other) → IsAnswer (BestOf flag read versions) (λ (a : Answer (Option Best)). a) (Ok (Value best))
 best_answer flag (inner.RangeSet set) versions none best h only = record {

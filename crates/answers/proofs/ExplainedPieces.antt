@@ -1,4 +1,4 @@
--- Pieces that are explained one after another.
+-- Pieces explained one after another.
 use Rattle.std.proofs.Common.{◌+◌, ◌<◌, ◌++◌, ℕ, List, [], ◌∷◌, Bool, false, length, take, get_or, sym, subst, append-nil}
 use Rattle.std.proofs.lemmas.List.{take_more}
 use Rattle.answers.specs.Explained.{AreAllExplained, AreWholeTexts, IsExplainedPiece, IsWholeText}
@@ -7,7 +7,7 @@ use Rattle.semver_base.specs.declared.range.PreRelease.{PreRelease}
 use Rattle.semver_base.specs.declared.range.VersionRange.{VersionRange}
 use Rattle.semver_req.specs.declared.common.values.Flavour.{Flavour}
 
--- one piece more, after the first
+-- one more piece, after the first
 one_more : (f : Flavour) (flag : PreRelease) (texts : List (List ℕ)) (pieces : List Piece) (text : List ℕ) (piece : Piece) → AreAllExplained f flag false texts pieces → IsExplainedPiece f flag false text piece
     → AreAllExplained f flag false (texts ++ text ∷ []) (pieces ++ piece ∷ [])
 one_more f flag [] [] text piece h k = (k, tt)
@@ -25,7 +25,7 @@ pub explained_first : (f : Flavour) (flag : PreRelease) (followed : Bool) (first
     → AreAllExplained f flag followed (first ∷ texts ++ []) pieces
 explained_first f flag followed first texts pieces h = subst (λ ts. AreAllExplained f flag followed (first ∷ ts) pieces) (sym (append-nil texts)) h
 
--- one range more
+-- one more range
 one_range_more : (flag : PreRelease) (text : List ℕ) (ranges : List VersionRange) (pieces : List Piece) (range : VersionRange) (piece : Piece) → AreWholeTexts flag text ranges pieces → IsWholeText flag text range piece
     → AreWholeTexts flag text (ranges ++ range ∷ []) (pieces ++ piece ∷ [])
 one_range_more flag text [] [] range piece h k = (k, tt)

@@ -1,4 +1,4 @@
--- Answers to questions, from the values of their arguments.
+-- Results of questions, from the values of their arguments.
 use Rattle.std.proofs.Common.{◌≡◌, ◌++◌, ◌+◌, ◌∙◌, arith, ℕ, List, [], ◌∷◌, length, Ok, Err, Result, refl, sym, ap, subst, inl, inr}
 use Rattle.std.specs.Prelude.{◌⊎◌}
 use Rattle.answers.specs.Asking.{Each, Given, IsOutcomeOf, Is, invalid, valid}
@@ -27,7 +27,7 @@ fault_as_fault c d e = ap as_fault e
 -- ---- given an argument
 
 module _ {X Y P : Type 0} (memory : P) (Argument : Result X P → Type 0) (Asked : X → Result Y P → Type 0) where
-  -- the argument has a value, and the question of that is answered
+  -- the argument has a value, and there is a result for that
   pub by_value : (x : X) → IsOutcomeOf memory Argument (Ok x) → (outcome : Result Y P) → IsOutcomeOf memory (Asked x) outcome → IsOutcomeOf memory (Given Argument Asked) outcome
   by_value x argument outcome h = record { is = is argument.is h.is; only = λ o a. only o a }
     where
@@ -72,7 +72,7 @@ module _ {X Y P : Type 0} (memory : P) (Argument : Result X P → Type 0) (Asked
 pub answered : {X P : Type 0} (memory : P) (x y : X) → x ≡ y → IsOutcomeOf memory (Is y) (Ok x)
 answered memory x y e = record { is = inr (ap as_value e); only = λ o a. inr (ap as_value e ∙ sym a) }
 
--- out of memory is no wrong answer
+-- out of memory is never a wrong result
 pub out_of_memory : {X P : Type 0} (memory : P) (Asked : Result X P → Type 0) → IsOutcomeOf memory Asked (Err memory)
 out_of_memory memory Asked = record { is = inl refl; only = λ o a. inl refl }
 
@@ -86,7 +86,7 @@ module _ {X P : Type 0} (memory : P) (Argument : ℕ → List ℕ → Result X P
   AreValues place (text ∷ texts) [] = ⊥
   AreValues place (text ∷ texts) (x ∷ xs) = IsOutcomeOf memory (Argument place text) (Ok x) × AreValues (place + 1) texts xs
 
-  -- one text more
+  -- one more text
   pub one_more : (place : ℕ) (texts : List (List ℕ)) (xs : List X) (text : List ℕ) (x : X) (at : ℕ) → at ≡ place + length xs → AreValues place texts xs
       → IsOutcomeOf memory (Argument at text) (Ok x) → AreValues place (texts ++ text ∷ []) (xs ++ x ∷ [])
   one_more place [] [] text x at e h k = (subst (λ (n : ℕ). IsOutcomeOf memory (Argument n text) (Ok x)) (e ∙ omega arith) k, tt)

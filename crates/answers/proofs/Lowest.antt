@@ -1,4 +1,4 @@
--- Answers that are a lowest version.
+-- Results that are a lowest version.
 use Rattle.std.proofs.Common.{◌≡◌, ℕ, List, [], ◌∷◌, Option, None, Result, Ok, Bool, true, refl, sym, ap, subst, inr, ◌∙◌}
 use Rattle.std.proofs.lemmas.List.Sorted.{IsPermutation-refl}
 use Rattle.std.specs.Prelude.{IfSome, map}
@@ -26,7 +26,7 @@ lowest_answer test found h n r only = record {
   only = λ o a. inr (ap as_lowest (sym (only a.0 a.1.least a.1.no_build a.1.reads_back)) ∙ sym a.2);
 }
 
--- of ranges none of which is a tag
+-- the result for ranges none of which is a tag
 pub common_answer : (flag : PreRelease) (own : Requirement) (others : List Requirement) → first_tag (own ∷ others) ≡ None → (found : Option Version)
     → IsLeast (all_inners_mean_with flag own.inner others) found → IfSome found HasNoBuild → IfSome found ReadsBack → IsOnlyLeast (all_inners_mean_with flag own.inner others) found
     → IsAnswer (CommonOf flag (own ∷ others)) (λ (a : Answer (Option Version)). a) (Ok (Value found))
@@ -54,7 +54,7 @@ only_of_all flag own others found h =
 
 -- ---- tags
 
--- where no range is a tag, none of the later ones is
+-- if no range is a tag, none of the later ones is
 no_tag_more : (own : Requirement) (others : List Requirement) → first_tag (own ∷ others) ≡ None → (first_tag others ≡ None) × ((have_no_tag others ≡ true) → have_no_tag (own ∷ others) ≡ true)
 no_tag_more own others h = go own.inner refl
   where

@@ -1,4 +1,4 @@
--- What the parsers of packages answer is what their texts mean.
+-- The result of a package parser is what the text means.
 use Rattle.std.proofs.Common.{◌≡◌, ℕ, List, Ok, Err, Result, Some, None, refl, ap, inl, inr}
 use Rattle.std.specs.Prelude.{◌⊎◌}
 use Rattle.semver_req.specs.Readers.{Failure}
@@ -12,7 +12,7 @@ use Rattle.answers.specs.Packages.{IsPackage, is_no_package, is_package, parts_f
 use Rattle.answers.specs.declared.asking.Kind.TheVariants as kind
 use Rattle.answers.proofs.Givens.{as_fault, as_value}
 
--- memory that is short has no other failure
+-- an error for out of memory has no other failure
 pub short_of_memory : (e : PackageReqParseError) (failure : Failure) → (failure ≡ None) ⊎ (failure ≡ parts_failure e.source) → e.source ≡ parts.Memory → failure ≡ None
 short_of_memory e failure (inl none) m = none
 short_of_memory e failure (inr is) m = rw m at is

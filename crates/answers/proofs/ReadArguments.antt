@@ -1,4 +1,4 @@
--- What the parsers answer is what the arguments mean.
+-- The result of a parser is what the argument means.
 use Rattle.std.proofs.Common.{◌≡◌, ℕ, List, Ok, Err, Result, Some, None, refl, ap, inl, inr, ◌∙◌, sym}
 use Rattle.std.specs.Prelude.{◌⊎◌}
 use Rattle.std.specs.Str.{trim}

@@ -1,4 +1,4 @@
--- What the parsers of references answer is what their texts mean.
+-- The result of a reference parser is what the text means.
 use Rattle.std.proofs.Common.{◌≡◌, ℕ, List, Ok, Err, Result, Some, None, refl, ap, subst, inl, inr, ◌∙◌}
 use Rattle.std.specs.Prelude.{◌⊎◌}
 use Rattle.semver_req.specs.Readers.{Failure}
@@ -20,7 +20,7 @@ one_registry text Npm Jsr h g = absurd (h g.0 g.1)
 one_registry text Npm Npm h g = refl
 
 module _ (kind : PackageKind) (text : List ℕ) (registry : IsRegistryOf text kind) where
-  -- an outcome by the other reader is one by this reader
+  -- an outcome by the other parser is one by this parser
   by_this : (j : PackageKind) (o : Result PackageReqReference ReferenceFault) → IsRegistryOf text j → IsReferenceOutcome j text o → IsReferenceOutcome kind text o
   by_this j o r k = subst (λ (i : PackageKind). IsReferenceOutcome i text o) (one_registry text j kind r registry) k
 
@@ -57,7 +57,7 @@ module _ (kind : PackageKind) (text : List ℕ) (registry : IsRegistryOf text ki
       only o (refers_not r k) None n = inl refl
       only o (refers_not r k) (Some texts) n = inr refl
 
--- memory that is short has no other failure
+-- an error for out of memory has no other failure
 pub short_of_memory : (e : PackageReqReferenceParseError) (failure : Failure) → (failure ≡ None) ⊎ (failure ≡ reference_failure (unboxed e)) → unboxed e ≡ Memory → failure ≡ None
 short_of_memory e failure (inl none) m = none
 short_of_memory e failure (inr is) m = rw m at is

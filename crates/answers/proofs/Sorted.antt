@@ -1,4 +1,4 @@
--- Versions with their places: only one order of them is ascending.
+-- Versions with their places: only one arrangement is ascending.
 use Rattle.std.proofs.Common.{◌≡◌, ◌+◌, ℕ, suc, List, [], ◌∷◌, ◌++◌, length, map, Ordering, Less, Equal, Greater, IsPermutation, IsSorted, Ok, refl, sym, ap, arith, inr, ◌∙◌}
 use Rattle.std.proofs.lemmas.Cmp.{nat_cmp_total, tied_itself}
 use Rattle.std.proofs.lemmas.List.MinMax.{ranks_by}
@@ -24,7 +24,7 @@ one_placed n (w ∷ vs) v =
     ap (λ (rest : List Placed). record { version = w; place = n } ∷ rest)
     (one_placed (n + 1) vs v ∙ ap (λ (k : ℕ). placed_from (n + 1) vs ++ record { version = v; place = k } ∷ []) same)
 
--- a list and one more
+-- a list and one more version
 pub next_placed : (vs : List Version) (v : Version) (place : ℕ) → place ≡ length vs → placed_from 0 vs ++ record { version = v; place = place } ∷ [] ≡ placed_from 0 (vs ++ v ∷ [])
 next_placed vs v place e =
     let same : place ≡ 0 + length vs = omega (arith, e) in
@@ -46,7 +46,7 @@ module _ (order : Order) where
   pub placed_ranks : IsStrictWeakOrder (λ (a b : Placed). is_lt (placed_cmp order a b))
   placed_ranks = ranks_by placed_total (λ (placed : Placed). placed)
 
-  -- what ties has one place
+  -- versions that tie have the same place
   second : (r s : Ordering) → ordering_then r s ≡ Equal → s ≡ Equal
   second Less s e = absurd (cc e)
   second Equal s e = e
@@ -65,7 +65,7 @@ module _ (order : Order) where
   ties_self [] = tt
   ties_self (x ∷ xs) = (tied_itself placed_total x, ties_self xs)
 
-  -- two ascending orders of the same list have the same places
+  -- two ascending arrangements of the same list have the same places
   one_order : (base xs ys : List Placed) → IsPermutation base xs → IsSorted (placed_cmp order) xs → IsPermutation base ys → IsSorted (placed_cmp order) ys → map place_of ys ≡ map place_of xs
   one_order base xs ys p h q k =
       ties_places ys xs (sorted_ties (placed_cmp order) placed_total xs xs ys h (ties_self xs) (IsPermutation-trans xs base ys (IsPermutation-sym base xs p) q) k)

@@ -1,4 +1,4 @@
--- Arguments that are read one after another from a list of texts.
+-- Parsing arguments one by one from a list of texts.
 use Rattle.std.proofs.Common.{◌≡◌, ◌+◌, ◌<◌, ◌≤◌, ◌++◌, ◌∷◌, ◌∙◌, ℕ, zero, suc, arith, List, [], length, map, take, get_or, slice_get, Ok, Err, Result, Some, refl, sym, ap, subst}
 use Rattle.std.proofs.lemmas.List.{map-append, take_all, take_more}
 use Rattle.semver_req.specs.Readers.{AreReadOrTags, Failure, IsReadOrTag}
@@ -10,7 +10,7 @@ use Rattle.answers.specs.declared.asking.Problem.{Problem}
 use Rattle.answers.specs.declared.asking.Problem.TheVariants as problem
 use Rattle.answers.proofs.Givens.{AreValues, all_values, next_invalid, one_more}
 
--- what parsers keep, and one more
+-- the parsed requirements, and one more
 pub read_more : (reqs : List Requirement) (req : Requirement) → AreReadOrTags reqs → IsReadOrTag req.inner → AreReadOrTags (reqs ++ req ∷ [])
 read_more [] req h k = (k, tt)
 read_more (r ∷ rs) req h k = (h.0, read_more rs req h.1 k)
@@ -41,7 +41,7 @@ module _ {S : Type 0} (bytes : S → List ℕ) where
     same_length place (t ∷ ts) [] h = absurd h
     same_length place (t ∷ ts) (y ∷ ys) h = ap (λ n. suc n) (same_length (place + 1) ts ys h.1)
 
-    -- as many values as texts that were taken
+    -- there are as many values as texts taken
     pub count_taken : (xs : List S) (i : ℕ) (ys : List X) → i < length xs → AreValues memory Argument 0 (map bytes (take i xs)) ys → length ys ≡ i
     count_taken xs i ys within h = same_length 0 (map bytes (take i xs)) ys h ∙ length_taken xs i within
 
@@ -64,7 +64,7 @@ module _ {S : Type 0} (bytes : S → List ℕ) where
     values_of_all xs i ys past h =
         subst (λ texts. IsOutcomeOf memory (Each Argument 0 (map bytes texts)) (Ok ys)) (take_all i xs past) (all_values memory Argument 0 (map bytes (take i xs)) ys h)
 
-  -- the text at the place is the one that is invalid
+  -- the text at the place is the invalid one
   pub failed_among : (kind : Kind) (Reported : List ℕ → Failure → Type 0) (xs : List S) (i : ℕ) (d : S) (at : ℕ) (p : Problem) → i < length xs → at ≡ i
       → IsFailureAt kind at (Reported (bytes (get_or xs i d))) p → IsFailureAmong kind Reported (map bytes xs) p
   failed_among kind Reported xs i d at (problem.Invalid argument) within e h =

@@ -1,4 +1,4 @@
--- What is read again of a requirement that a lockfile kept, from the contracts of its JSON.
+-- What the entry of a locked requirement parses to, from the contracts of its JSON.
 use Rattle.std.proofs.Common.{◌≡◌, List, [], ◌∷◌, All, Result, Ok, Err, refl, sym, ap, subst, ◌∙◌}
 use Rattle.std.proofs.lemmas.List.Elements.{All-cons, All-nil}
 use Rattle.std.proofs.lemmas.List.Sorted.{All-permutation}
@@ -16,22 +16,22 @@ use Rattle.semver_base.specs.declared.version.Version.{Version}
 use Rattle.semver_req.specs.declared.range_set_or_tag.RangeSetOrTag.{RangeSetOrTag}
 use Rattle.semver_req.specs.declared.range_set_or_tag.RangeSetOrTag.TheVariants as inner
 
--- what is true of the value that is answered
+-- what holds for the returned value
 pub answered : {T : Type 0} (Says : T → Type 0) (x : T) (r : Result T JsonError) → IsJsonAnswer x r → Says x → Locks Says r
 answered Says x (Ok y) is h = subst Says (sym is) h
 answered Says x (Err e) is h = is
 
--- what follows of the value that is answered
+-- what follows for the returned value
 pub locks_more : {T : Type 0} (P Q : T → Type 0) → ((x : T) → P x → Q x) → (r : Result T JsonError) → Locks P r → Locks Q r
 locks_more P Q more (Ok x) h = more x h
 locks_more P Q more (Err e) h = h
 
--- the exit of a `?` for want of memory
+-- the exit of a `?` when out of memory
 pub exit_locks : {T : Type 0} (Says : T → Type 0) (r : Result T JsonError) (e : JsonError) → IsErrAnd r (λ f. f ≡ e) → e ≡ error.Memory → Locks Says r
 exit_locks Says (Ok x) e is m = absurd is
 exit_locks Says (Err f) e is m = is ∙ m
 
--- what is read for a requirement that keeps its meaning allows the same versions
+-- what is parsed in place of a requirement that keeps its meaning allows the same versions
 pub allowed_as_kept : (stored again : RangeSetOrTag) (v : Version) → IsReadFor stored again → KeepsMeaning stored → allowance_of again v ≡ allowance_of stored v
 allowed_as_kept (inner.RangeSet set) (inner.RangeSet other) v read keeps = ap yes_or_no (read.means keeps Restricted v)
 allowed_as_kept (inner.RangeSet set) (inner.Tag other) v read keeps = absurd read

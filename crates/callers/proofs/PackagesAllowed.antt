@@ -1,4 +1,4 @@
--- What is answered of the text of a package and the text of a version, from what their readers answer.
+-- The result for the text of a package and the text of a version, from their parsers' results.
 use Rattle.std.proofs.Common.{◌≡◌, ℕ, List, Some, Result, Ok, Err, inl, inr, length, refl, sym, subst, ap, ap₂, ◌∙◌}
 use Rattle.std.specs.Str.{trim}
 use Rattle.callers.specs.Allowance.{allowance_of, yes_or_no}
@@ -20,7 +20,7 @@ use Rattle.deno_semver.specs.declared.package.errors.PackageReqParseError.{Packa
 use Rattle.deno_semver.specs.declared.package.values.PackageReq.{PackageReq}
 
 module _ (f : Flavour) (text : List ℕ) where
-  -- the requirement of ranges that a text with this tree has
+  -- the requirement of ranges of a text with this tree
   abbrev req_of : PackageParts → List ℕ → List (List Comparator) → PackageReq
   req_of cut part tree = record { name = scoped_name cut.scope cut.name; version_req = record { raw_text = worked_on f part; inner = inner.RangeSet (record { 0 = kept f tree }) } }
 
@@ -31,7 +31,7 @@ module _ (f : Flavour) (text : List ℕ) where
       is_package (record { cut = cut; is_cut = h; name = refl; version_req = subst (λ v. IsVersionReq f v (req_of cut part tree).version_req) (sym is) read; no_path = none })
 
   module _ (version : List ℕ) where
-    -- the text is no package
+    -- the text isn't a valid package
     pub package_refused : (e : PackageReqParseError) → IsPackageRefusal f text e → ((o : Result PackageReq Fault) → IsPackageOutcome f text o → IsPackageAnswer f text o (Err e))
         → AllowsPackage f text version (Err (why.Package e))
     package_refused e refusal answers = record {
@@ -42,7 +42,7 @@ module _ (f : Flavour) (text : List ℕ) where
       refusal = refusal;
     }
 
-    -- it is one, and the other text is no version
+    -- the package is valid, and the version isn't
     pub version_refused : (req : PackageReq) → IsPackageOutcome f text (Ok req) → (e : NpmVersionParseError) → IsVersionRefusal (trim version) e.source
         → ((o : Result Version Refusal) → IsVersionOutcome (trim version) o → IsVersionAnswer (λ (error : NpmVersionParseError). error.source) (trim version) o (Err e))
         → AllowsPackage f text version (Err (why.Version e))
@@ -54,7 +54,7 @@ module _ (f : Flavour) (text : List ℕ) where
       refusal = (refusal, req, is);
     }
 
-    -- both were read
+    -- both are valid
     pub both_read : (req : PackageReq) (v : Version) → IsPackageOutcome f text (Ok req) → ((o : Result PackageReq Fault) → IsPackageOutcome f text o → IsPackageAnswer f text o (Ok req))
         → IsVersionOutcome (trim version) (Ok v) → ((fault : Refusal) → IsVersionOutcome (trim version) (Err fault) → ⊥) → ((w : Version) → IsVersionOutcome (trim version) (Ok w) → v ≡ w)
         → KeptSetsMeanTheirTrees → AllowsPackage f text version (Ok (allowance_of req.version_req.inner v))

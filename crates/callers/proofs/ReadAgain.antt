@@ -1,4 +1,4 @@
--- What is read again of a stored requirement, from the contracts of its text and of its reader.
+-- What a stored requirement parses to, from the contracts of its text and of its parser.
 use Rattle.std.proofs.Common.{◌≡◌, ℕ, List, Bool, true, false, None, Result, Ok, Err, sym, ap, subst, ◌∙◌}
 use Rattle.std.specs.List.{list_all}
 use Rattle.callers.specs.Allowance.{allowance_of, yes_or_no}
@@ -22,14 +22,14 @@ use Rattle.semver_req.specs.declared.common.values.Flavour.TheVariants.{Normal}
 use Rattle.semver_req.specs.declared.range_set_or_tag.RangeSetOrTag.{RangeSetOrTag}
 use Rattle.semver_req.specs.declared.range_set_or_tag.RangeSetOrTag.TheVariants as inner
 
--- ranges as what a requirement stands for
+-- ranges as what a requirement means
 abbrev as_inner : List VersionRange → RangeSetOrTag
 as_inner ranges = inner.RangeSet (record { 0 = ranges })
 
 one_tree : (t u : List (List Comparator)) → Ranges t ≡ Ranges u → t ≡ u
 one_tree t u e = cc e
 
--- a settled set is what is kept of the only tree of its text
+-- a stable set is what is kept of the only tree of its text
 stays_as : (f : Flavour) (ranges : List VersionRange) (tree : List (List Comparator)) → ((o : Outcome) → IsOutcome f (set_text ranges) o → o ≡ Ranges tree)
     → IsReadAsItself f ranges → kept f tree ≡ ranges
 stays_as f ranges tree only s = ap (kept f) (sym (one_tree s.tree tree (only (Ranges s.tree) s.is_tree))) ∙ s.is_kept
@@ -50,7 +50,7 @@ module _ {E : Type 0} (source : E → Failure) (f : Flavour) (cut : IsCutting f)
         stays = λ s. stays_as f ranges (shortest_tree ranges) (subst (λ t. (o : Outcome) → IsOutcome f t o → o ≡ Ranges (shortest_tree ranges)) is (forms f cut).1) (s f cut);
       }
 
-  -- what the reader makes of the text of a requirement
+  -- what the parser makes of a requirement's text
   pub of_text : (stored : RangeSetOrTag) (text : List ℕ) → text ≡ inner_text stored → OfReadRanges IsReadAsForms stored text → OfReadRanges KeepsTheSame stored text
       → OfReadRanges KeepsEqual stored text → OfReadRanges KeepsSettled stored text → (r : Result Requirement E) → IsReaderAnswer source f text r
       → OfRanges (IsReread source r) stored
@@ -58,14 +58,14 @@ module _ {E : Type 0} (source : E → Failure) (f : Flavour) (cut : IsCutting f)
   of_text (inner.RangeSet set) text is forms same equal settled (Err e) h = λ k. h.answer (Ranges (shortest_tree set.0)) (forms k f cut).0
   of_text (inner.Tag tag) text is forms same equal settled r h = tt
 
-  -- a tag is read as the tag that the reader makes of it
+  -- a tag parses to the tag that the parser makes of it
   pub of_tag : (stored : RangeSetOrTag) (text : List ℕ) → text ≡ inner_text stored → (r : Result Requirement E) → IsReaderAnswer source f text r → OfTag f (IsTagRead source r) stored
   of_tag (inner.RangeSet set) text is r h = tt
   of_tag (inner.Tag tag) text is r h = λ t. h.answer (Tag tag) (subst (λ u. IsOutcome f u (Tag tag)) (sym is) t)
 
 -- ---- read twice
 
--- what is read of ranges that were read again
+-- what ranges that were parsed again parse to
 again_of : (Says : List VersionRange → Type 0) {ranges : List VersionRange} {once : RangeSetOrTag} → (h : IsReadAgain ranges once) → OfRanges Says once → Says h.again
 again_of Says h k = subst (OfRanges Says) h.is_ranges k h.read_set
 
@@ -74,13 +74,13 @@ twice_is {twice = twice} h k =
     let next : IsReadAgain h.again twice = again_of (λ again. IsReadAgain again twice) h k in
     next.is_ranges ∙ (ap as_inner (next.stays h.settled) ∙ sym h.is_ranges)
 
--- what is read a second time is what was read the first time
+-- the second parse gives the same as the first
 pub both_times : (stored once twice : RangeSetOrTag) → OfRanges (λ ranges. IsReadAgain ranges once) stored → OfRanges (λ again. IsReadAgain again twice) once
     → OfRanges (λ ranges. IsReadAgain ranges once × (twice ≡ once)) stored
 both_times (inner.RangeSet set) once twice h k = λ s. (h s, twice_is (h s) k)
 both_times (inner.Tag tag) once twice h k = tt
 
--- a failure of the second reading is one of the first reading's ranges
+-- a failure of the second parse is one for the first parse's ranges
 pub is_wanting : (stored once : RangeSetOrTag) (P : Type 0) → OfRanges (λ ranges. IsReadAgain ranges once) stored → OfRanges (λ again. P) once → OfRanges (λ ranges. P) stored
 is_wanting (inner.RangeSet set) once P h k = λ s. again_of (λ again. P) (h s) k
 is_wanting (inner.Tag tag) once P h k = tt
@@ -96,13 +96,13 @@ told_again : (ranges : List VersionRange) (read : RangeSetOrTag) (v : Version) �
 told_again ranges read v h = subst (λ r. IsToldOfRanges (list_all keeps_meaning ranges) (tree_means (alternatives ranges) v) (allowance_of r v)) (sym h.is_ranges)
     (no_tag _, λ keep. ap yes_or_no (h.means keep Restricted v))
 
--- what is told of a requirement that was read again
+-- the result for a requirement that was parsed again
 pub told_of_ranges : (stored read : RangeSetOrTag) (v : Version) → OfRanges (λ ranges. IsReadAgain ranges read) stored
     → OfRanges (λ ranges. IsToldOfRanges (list_all keeps_meaning ranges) (tree_means (alternatives ranges) v) (allowance_of read v)) stored
 told_of_ranges (inner.RangeSet set) read v h = λ s. told_again set.0 read v (h s)
 told_of_ranges (inner.Tag tag) read v h = tt
 
--- what was read of a text is read again, so a failure of that is out of memory
+-- what was parsed from a text parses again, so a failure of that is out of memory
 pub only_memory : {E : Type 0} (source : E → Failure) (e : E) (v : Version) (f : Flavour) (text : List ℕ) (read : RangeSetOrTag) → StartsFit f text → IsReadOrTag read
     → TagReadsBack f text read → OfRanges (AllowsAsBefore source v (Err e)) read → OfTag Normal (IsTagTold source (Err e)) read → source e ≡ None
 only_memory source e v f text (inner.RangeSet set) starts kept back ranges tag = ranges kept
@@ -110,7 +110,7 @@ only_memory source e v f text (inner.Tag name) starts kept back ranges tag = tag
 
 -- ---- of one version
 
--- the requirement of a version, where it is a read set that is settled, is what is read again of it
+-- the requirement of a version, if it is a parsed set that is stable, parses to itself
 pub pinned_again : (v : Version) (req : Requirement) (again : RangeSetOrTag) → req ≡ pinned v → IsReadOrTag req.inner → IsSettledSet (ranges_of req.inner).0
     → OfRanges (λ ranges. IsReadAgain ranges again) req.inner → again ≡ (pinned v).inner
 pinned_again v req again is = subst Says (sym is) (λ read settled h. let a = h read in a.is_ranges ∙ ap as_inner (a.stays settled))

@@ -1,4 +1,4 @@
--- What is answered of the text of a reference and the text of a version, from what their readers answer.
+-- The result for the text of a reference and the text of a version, from their parsers' results.
 use Rattle.std.proofs.Common.{◌≡◌, ℕ, Bool, true, false, List, [], ◌∷◌, ◌++◌, Some, None, Result, Ok, Err, inl, ◌&&◌, refl, sym, subst, ap, ap₂, ◌∙◌}
 use Rattle.std.specs.List.{list_all}
 use Rattle.std.specs.Prelude.{◌||◌, bytes_eq, codes, if◌then◌else◌}
@@ -47,7 +47,7 @@ no_version path before version h is =
     no_such 64 before version (subst (λ p. list_all (is_not 64) p ≡ true) same h) refl
 
 module _ (kind : PackageKind) (text : List ℕ) where
-  -- the reference that a text with this part is
+  -- the reference of a text with this part
   abbrev reference_of : PackageParts → List ℕ → RangeSetOrTag → PackageReqReference
   reference_of cut part answer = record {
     req = record { name = scoped_name cut.scope cut.name; version_req = record { raw_text = part; inner = answer } };
@@ -67,7 +67,7 @@ module _ (kind : PackageKind) (text : List ℕ) where
   ranges_of tree = inner.RangeSet (record { 0 = kept Specifier tree })
 
   module _ (version : List ℕ) where
-    -- the text is no reference
+    -- the text isn't a valid reference
     pub reference_refused : (e : PackageReqReferenceParseError) → IsReferenceRefusal kind text e
         → ((o : Result PackageReqReference ReferenceFault) → IsReferenceOutcome kind text o → IsReferenceAnswer kind text o (Err e))
         → AllowsReference kind text version (Err (why.Reference e))
@@ -81,7 +81,7 @@ module _ (kind : PackageKind) (text : List ℕ) where
       refusal = refusal;
     }
 
-    -- it is one, and the other no version
+    -- the reference is valid, and the version isn't
     pub version_refused : (reference : PackageReqReference) → IsReferenceOutcome kind text (Ok reference)
         → ((o : Result PackageReqReference ReferenceFault) → IsReferenceOutcome kind text o → IsReferenceAnswer kind text o (Ok reference))
         → (e : NpmVersionParseError) → IsVersionRefusal (trim version) e.source
@@ -97,7 +97,7 @@ module _ (kind : PackageKind) (text : List ℕ) where
       refusal = (refusal, reference, is);
     }
 
-    -- both were read
+    -- both are valid
     pub both_read : (reference : PackageReqReference) (v : Version) → IsReferenceOutcome kind text (Ok reference)
         → ((o : Result PackageReqReference ReferenceFault) → IsReferenceOutcome kind text o → IsReferenceAnswer kind text o (Ok reference))
         → IsVersionOutcome (trim version) (Ok v) → ((fault : Refusal) → IsVersionOutcome (trim version) (Err fault) → ⊥) → ((w : Version) → IsVersionOutcome (trim version) (Ok w) → v ≡ w)

@@ -1,4 +1,4 @@
--- What is answered of the text of a requirement, from what its parser answers.
+-- The result for the text of a requirement, from its parser's result.
 use Rattle.std.proofs.Common.{ℕ, List, Ok, refl, ap}
 use Rattle.callers.specs.Allowance.{IsAllowance, IsTold, allowance_of, yes_or_no}
 use Rattle.semver_base.specs.Meaning.{tree_means}
@@ -11,7 +11,7 @@ use Rattle.semver_req.specs.declared.common.values.Flavour.{Flavour}
 use Rattle.semver_req.specs.declared.range_set_or_tag.RangeSetOrTag.{RangeSetOrTag}
 use Rattle.semver_req.specs.declared.range_set_or_tag.RangeSetOrTag.TheVariants as inner
 
--- what is told of a tree, or a tag, is told of the requirement that is read of it
+-- the result for a tree, or a tag, is that for the requirement parsed from it
 told_of : (f : Flavour) (text : List ℕ) (o : Outcome) (req : RangeSetOrTag) (v : Version) → IsOutcome f text o → IsRead f o req → MeansTrees f text req → IsTold o v (allowance_of req v)
 told_of f text (Ranges tree) (inner.RangeSet set) v is read means = ap yes_or_no (means tree is Restricted v)
 told_of f text (Ranges tree) (inner.Tag tag) v is read means = cc read
@@ -19,7 +19,7 @@ told_of f text (Tag name) (inner.RangeSet set) v is read means = cc read
 told_of f text (Tag name) (inner.Tag tag) v is read means = refl
 told_of f text Refused req v is read means = read
 
--- the requirement was read, beside a version
+-- the requirement alone is parsed, with a given version
 pub alone_read : {E : Type 0} (source : E → Failure) (f : Flavour) (text : List ℕ) (req : Requirement) (v : Version) → IsReaderAnswer source f text (Ok req)
     → IsAllowance source f text v (Ok (allowance_of req.inner v))
 alone_read source f text req v h = record {

@@ -1,4 +1,4 @@
--- What `==` of items says of their texts.
+-- What `==` of items says about their texts.
 use Rattle.std.proofs.Common.{◌≡◌, List, [], ◌∷◌, map, Option, Some, None, String, string_bytes, refl, ap, ap₂}
 use Rattle.std.specs.Cmp.Lexicographic.{pointwise}
 use Rattle.std.specs.Bool.{Decides}

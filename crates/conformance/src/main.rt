@@ -1,9 +1,9 @@
 //! `conformance` checks the public calls of `deno_semver` against a table.
 //!
-//! It reads the table from standard input. A line that begins with `#` is a heading, and an empty line is skipped; every
-//! other line is a row: a JSON array of two arrays of texts or nulls, a call with its arguments and its answer. The program
-//! prints each row that has another answer, with that answer, each line that it can't parse, with the reason, and then for
-//! each call the number of rows run and of rows that differ.
+//! It reads the table from standard input. A line that begins with `#` is a heading, and a line of whitespace is skipped;
+//! every other line is a row: a JSON array of two arrays of texts or nulls, a call with its arguments and its answer. The
+//! program prints each row that has another answer, with that answer, each line that it can't parse, with the reason, and
+//! then for each call the number of rows run and of rows that differ.
 //!
 //! The status is 0 if nothing differs, else 1; it is 4 if standard input can't be read, 5 out of memory and 6 if standard
 //! output can't be written.

@@ -98,7 +98,7 @@ struct Line<'a> {
 }
 
 impl Line<'_> {
-    // Whether the line is a row, neither a heading nor empty.
+    // Whether the line is a row, neither a heading nor only whitespace.
     fn is_row(&self) -> bool {
         !self.text.starts_with(b"#") && !self.text.trim_ascii().is_empty()
     }

@@ -1,4 +1,4 @@
--- The best version that matches, while more of them are seen.
+-- The best match, as more versions are seen.
 use Rattle.std.proofs.Common.{◌≡◌, ◌&&◌, ◌||◌, ◌++◌, [], ◌∷◌, ℕ, List, Bool, true, false, not, length, Option, Some, None, refl, sym, ap, ◌∙◌}
 use Rattle.std.proofs.lemmas.List.Folds.{list_any-append}
 use Rattle.std.proofs.lemmas.List.MinMax.{IsStrictWeakOrder-flip, ranks_by}
@@ -29,12 +29,12 @@ or_none : (a b : Bool) → a ≡ false → b ≡ false → (a || b) ≡ false
 or_none true b h k = h
 or_none false b h k = k
 
--- what no element passes, none passes that asks for more
+-- if no element passes a test, none passes a stricter one
 none_from : {X : Type 0} (p q : X → Bool) → ((x : X) → p x ≡ false → q x ≡ false) → (xs : List X) → list_any p xs ≡ false → list_any q xs ≡ false
 none_from p q fails [] h = refl
 none_from p q fails (x ∷ xs) h = or_none _ _ (fails x (or_false_first _ _ h)) (none_from p q fails xs (or_false_second (p x) _ h))
 
--- either end is one of an order
+-- nearness to either end is a strict weak order
 lower_ranks : IsStrictWeakOrder lower
 lower_ranks = ranks_by precedence_total (λ (v : Version). v)
 
@@ -43,7 +43,7 @@ ranks end.Greatest = IsStrictWeakOrder-flip lower lower_ranks
 ranks end.Least = lower_ranks
 
 module _ (e : End) (means : Version → Bool) where
-  -- what is known of the versions that were seen
+  -- what is known of the versions seen so far
   abbrev pub IsKnown : List Version → Option (ℕ × Bor Version) → Type 0
   IsKnown versions None = list_any means versions ≡ false
   IsKnown versions (Some known) = IsBestAt (nearer e) means versions known.0 known.1.now
@@ -62,7 +62,7 @@ module _ (e : End) (means : Version → Bool) where
       go true h = (ranks e).one_way v v h
       go false h = h
 
-  -- a version that is nearer than one that isn't farther than a third is nearer than that
+  -- a version nearer than a known one is nearer than any third that the known one isn't farther than
   nearer_than_third : (v known other : Version) → nearer e v known ≡ true → nearer e other known ≡ false → nearer e v other ≡ true
   nearer_than_third v known other h k = go (nearer e v other) refl
     where
@@ -78,7 +78,7 @@ module _ (e : End) (means : Version → Bool) where
   no_match true c h k = h
   no_match false c h k = cc k
 
-  -- what is nearer than every match seen so far has none that is as good
+  -- no match seen so far is as good as a version that is nearer than all of them
   pub none_as_good : (versions : List Version) (known : Option (ℕ × Bor Version)) (v : Version) → IsKnown versions known → exceeds e v known ≡ true
       → list_any (is_as_good v) versions ≡ false
   none_as_good versions None v h k = none_from means (is_as_good v) (λ other none. and_none (means other) _ (λ is. absurd (cc (none, is)))) versions h
@@ -103,7 +103,7 @@ module _ (e : End) (means : Version → Bool) where
     first = h.first;
   }
 
-  -- a better one is the best so far
+  -- a better version becomes the best so far
   pub taken : (versions : List Version) (known : Option (ℕ × Bor Version)) (place : ℕ) (v : Version) → length versions ≡ place → IsKnown versions known
       → (means v && exceeds e v known) ≡ true → IsBestAt (nearer e) means (versions ++ v ∷ []) place v
   taken versions known place v at h k =
@@ -128,7 +128,7 @@ module _ (e : End) (means : Version → Bool) where
 
   -- ---- one answer
 
-  -- no version of the list that matches is better than the best
+  -- no matching version of the list is better than the best
   none_better : (before after : List Version) (x : Version) (versions : List Version) → versions ≡ before ++ x ∷ after → means x ≡ true
       → (y : Version) → list_any (is_better_match y) versions ≡ false → nearer e x y ≡ false
   none_better before after x versions is m y h =
@@ -141,7 +141,7 @@ module _ (e : End) (means : Version → Bool) where
   tail_same : (x y : Version) (xs ys : List Version) → x ∷ xs ≡ y ∷ ys → xs ≡ ys
   tail_same x y xs ys e = cc e
 
-  -- of two that match and of which neither is better, neither stands first among those as good as the other
+  -- of two matches neither of which is better, neither comes first among those as good as the other
   never_first : (x y : Version) → means x ≡ true → nearer e y x ≡ false → is_as_good y x ≡ false → ⊥
   never_first x y m h k =
       let as_good : is_as_good y x ≡ true = rw (m, h) refl in
@@ -160,13 +160,13 @@ module _ (e : End) (means : Version → Bool) where
       (or_false_second (is_as_good x a) _ hx) (or_false_second (is_as_good y b) _ hy) in
       rw rest refl
 
-  -- where one matches, not none does
+  -- if one version matches, the result isn't none
   some_match : (versions : List Version) (place : ℕ) (x : Version) → IsBestAt (nearer e) means versions place x → list_any means versions ≡ false → ⊥
   some_match versions place x h none =
       let found : list_any means versions ≡ true = ap (list_any means) h.stands ∙ list_any-append means h.before (x ∷ h.after) ∙ or_second (list_any means h.before) _ (or_first _ _ h.matches) in
       absurd (cc (found, none))
 
-  -- no list has two answers
+  -- no list has two results
   pub one_match : (versions : List Version) (some other : Option ℕ) → IsBestMatch (nearer e) means versions some → IsBestMatch (nearer e) means versions other → other ≡ some
   one_match versions None None h k = refl
   one_match versions None (Some q) h k = absurd (some_match versions q k.0 k.1 h)

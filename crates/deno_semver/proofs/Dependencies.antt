@@ -1,4 +1,4 @@
--- A text stands for one dependency or has one fault, and which fault an error tells.
+-- A text parses to one dependency or has one fault, and which fault an error reports.
 use Rattle.std.proofs.Common.{◌≡◌, ◌==◌, ◌++◌, ℕ, List, true, false, Result, Ok, Err, get_or, refl, sym, ap, ap₂, subst, ◌∙◌, inl, inr}
 use Rattle.std.specs.Prelude.{◌⊎◌}
 use Rattle.semver_req.specs.declared.common.values.Flavour.{Flavour}
@@ -59,7 +59,7 @@ same_dependency : {k l : PackageKind} {x y : PackageReq} → k ≡ l → x ≡ y
 same_dependency a b = rw (a, b) refl
 
 module _ (packages : PackageTextsHaveOneOutcome) {f : Flavour} {text : List ℕ} where
-  -- two requirements after the schemes of one text are one
+  -- two package requirements after the schemes of one text are the same
   after_one : (k l : PackageKind) (a b : List ℕ) (o p : Result PackageReq Fault) → text ≡ scheme_of k ++ a → text ≡ scheme_of l ++ b
       → IsPackageOutcome f a o → IsPackageOutcome f b p → o ≡ p
   after_one k l a b o p e e' h h' = packages f a o p h (subst (λ body. IsPackageOutcome f body p) (sym (one_body k l a b (sym e ∙ e'))) h')
@@ -79,7 +79,7 @@ module _ (packages : PackageTextsHaveOneOutcome) {f : Flavour} {text : List ℕ}
       let same : x ≡ y = cc (after_one k l a b (Err x) (Err y) e e' h h') in
       ap₂ (λ (body : List ℕ) (fault : Fault). Err (BadRequirement body fault)) (one_body k l a b (sym e ∙ e')) same
 
--- what the reader of requirements answers to each outcome
+-- the package parser's result for each outcome
 abbrev pub PackageAnswers : Flavour → List ℕ → Result PackageReq PackageReqParseError → Type 0
 PackageAnswers f body result = (o : Result PackageReq Fault) → IsPackageOutcome f body o → IsPackageAnswer f body o result
 

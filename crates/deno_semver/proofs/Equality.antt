@@ -1,4 +1,4 @@
--- That the derived `==` of references and dependencies tells when they are equal. Each `.._told` is of one `==`.
+-- The derived `==` of references and dependencies says whether they are equal. Each `.._told` is about one `==`.
 use Rattle.std.proofs.Common.{◌≡◌, ◌&&◌, ℕ, List, Option, None, Some, refl, ap}
 use Rattle.std.specs.Bool.{Decides}
 use Rattle.std.specs.Option.{option_eq}

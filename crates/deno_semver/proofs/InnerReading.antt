@@ -1,4 +1,4 @@
--- A text has one reading as ranges or as a tag, and none where it is refused.
+-- A text parses in one way to ranges or a tag, and in none if it is invalid.
 use Rattle.std.proofs.Common.{◌≡◌, ◌∙◌, ℕ, List, Bool, None, sym, inl, inr}
 use Rattle.std.specs.Prelude.{◌⊎◌, ◌↔◌, IsTrue}
 use Rattle.semver_req.specs.Outcome.{IsOutcome, Outcome, Ranges, Tag, Refused, TextsHaveOneOutcome}
@@ -20,7 +20,7 @@ module _ (texts : TextsHaveOneOutcome) (f : Flavour) (text : List ℕ) where
   no_reading : (x : RangeSetOrTag) → IsOutcome f text Refused → IsReading f text x → ⊥
   no_reading x refused h = rw (texts f text h.outcome Refused h.is_outcome refused) at h.is_read
 
-  -- a failure of a text that has a reading is want of memory, and is told as that
+  -- a failure for a text that parses is out of memory, and is reported as such
   pub told_as_memory : (failure : Failure) (is_memory : Bool) (e : JsonError) → (failure ≡ None) ⊎ IsOutcome f text Refused → IsTrue is_memory ↔ (failure ≡ None)
       → IsTrue is_memory ↔ (e ≡ error.Memory) → (x : RangeSetOrTag) → IsReading f text x → e ≡ error.Memory
   told_as_memory failure is_memory e (inl none) asked told x h = told.0 (asked.1 none)

@@ -1,4 +1,4 @@
--- That no JSON stands for two values, from what texts stand for.
+-- No JSON parses to two values, from what texts parse to.
 use Rattle.std.proofs.Common.{◌≡◌, ◌==◌, ℕ, Bool, List, [], ◌∷◌, get_or, Some, Result, Ok, codes, refl, sym, ap, ap₂, subst, ◌∙◌}
 use Rattle.serde_json.specs.Data.{Data, array, string, Items, item, no_items}
 use Rattle.semver_base.specs.declared.range.RangeBound.{RangeBound}
@@ -20,7 +20,7 @@ use Rattle.deno_semver.specs.declared.package.kind.PackageKind.{PackageKind}
 
 -- ---- strings, members and items
 
--- a text is read as one value
+-- a text parses to one value
 abbrev pub ReadsOne : {T : Type 0} → (List ℕ → T → Type 0) → Type 0
 ReadsOne {T} Reads = (text : List ℕ) (x y : T) → Reads text x → Reads text y → x ≡ y
 

@@ -1,4 +1,4 @@
--- What is answered to a JSON value, from what is answered to its members and items.
+-- The result for JSON, from the results for its members and items.
 use Rattle.std.proofs.Common.{◌≡◌, ◌<◌, ◌+◌, ℕ, List, [], ◌∷◌, ◌++◌, length, map, take, drop, get_or, Option, Some, None, option_map, Result, Ok, Err, Ordering, Less, Equal, Greater, string_bytes, nat_cmp, is_eq, codes, false, refl, sym, ap, subst, ◌∙◌, inl, inr, arith}
 use Rattle.std.proofs.lemmas.Cmp.{nat_list_cmp_total, tied_itself}
 use Rattle.std.proofs.lemmas.List.{drop_more, map-append, take-append-drop, take_more}
@@ -21,12 +21,12 @@ use Rattle.deno_semver.specs.JsonAnswers.{IsJsonAnswer, IsJsonRefusal}
 use Rattle.deno_semver.specs.declared.json.error.JsonError.{JsonError}
 use Rattle.deno_semver.specs.declared.json.error.JsonError.TheVariants as error
 
--- an error that is want of memory where the JSON stands for some value refuses it rightly
+-- an error that is out of memory if the JSON parses to some value is a correct rejection
 pub refused_by : {T : Type 0} (StandsFor : Data → T → Type 0) (json : Data) (e : JsonError) → ((x : T) → StandsFor json x → e ≡ error.Memory) → IsJsonRefusal StandsFor json e
 refused_by StandsFor json error.Memory h = inl refl
 refused_by StandsFor json error.Json h = inr (λ x s. cc (h x s))
 
--- so does the exit of a `?`
+-- so is the exit of a `?`
 pub exit_refused : {T U : Type 0} (StandsFor : Data → T → Type 0) (json : Data) (r : Result U JsonError) (e : JsonError) → IsErrAnd r (λ f. f ≡ e)
     → ((x : T) → StandsFor json x → e ≡ error.Memory) → IfErr r (IsJsonRefusal StandsFor json)
 exit_refused StandsFor json (Ok x) e is h = absurd is
@@ -39,11 +39,11 @@ exit_answer x (Err f) e is m = is ∙ m
 -- ---- items
 
 module _ {T : Type 0} (StandsFor : Data → T → Type 0) where
-  -- the values that these items stand for
+  -- the values that these items parse to
   abbrev Are : List Data → List T → Type 0
   Are ds xs = AreItemsOf StandsFor (items_of ds) xs
 
-  -- one item more
+  -- one more item
   pub one_more : (ds : List Data) (xs : List T) (d : Data) (x : T) → AreItemsOf StandsFor (items_of ds) xs → StandsFor d x
       → AreItemsOf StandsFor (items_of (ds ++ d ∷ [])) (xs ++ x ∷ [])
   one_more [] [] d x h k = (k, tt)
@@ -55,7 +55,7 @@ module _ {T : Type 0} (StandsFor : Data → T → Type 0) where
   abbrev pub AreOnly : List Data → List T → Type 0
   AreOnly ds xs = (ys : List T) → AreItemsOf StandsFor (items_of ds) ys → ys ≡ xs
 
-  -- the value of the item after the first ones, which stand for these values
+  -- the value of the item after the first ones, which parse to these values
   pub last_of : (ds : List Data) (d : Data) (more : List Data) (ys : List T) → AreItemsOf StandsFor (items_of (ds ++ d ∷ more)) ys → (y : T) × StandsFor d y
   last_of [] d more [] h = absurd h
   last_of [] d more (y ∷ ys) h = (y, h.0)
@@ -87,14 +87,14 @@ module _ {T : Type 0} (StandsFor : Data → T → Type 0) where
     whole_items vs i v h is =
         ap (map view) (sym (take-append-drop i vs) ∙ ap (λ ws. take i vs ++ ws) (drop_more vs i v h ∙ ap (λ w. w ∷ drop (i + 1) vs) (sym is))) ∙ map-append view (take i vs) (v ∷ drop (i + 1) vs)
 
-    -- the next item is read, and its value goes to the end
+    -- the next item is parsed, and its value is appended
     pub next_read : (vs : List V) (i : ℕ) (v : V) (xs new : List T) (x : T) → i < length vs → v ≡ get_or vs i v → AreItemsOf StandsFor (items_of (map view (take i vs))) xs × AreOnly (map view (take i vs)) xs
         → StandsFor (view v) x → ((y : T) → StandsFor (view v) y → x ≡ y) → new ≡ xs ++ x ∷ []
         → AreItemsOf StandsFor (items_of (map view (take (i + 1) vs))) new × AreOnly (map view (take (i + 1) vs)) new
     next_read vs i v xs new x h is before read only e =
         rw (next_items vs i v h is, e) (one_more (map view (take i vs)) xs (view v) x before.0 read, only_more (map view (take i vs)) xs (view v) x before.1 only)
 
-    -- the item that is next stands for a value where they all do
+    -- the next item parses to a value if they all do
     pub item_of : (vs : List V) (i : ℕ) (v : V) → i < length vs → v ≡ get_or vs i v → (ys : List T) → AreItemsOf StandsFor (items_of (map view vs)) ys → (y : T) × StandsFor (view v) y
     item_of vs i v h is ys read = last_of (map view (take i vs)) (view v) (map view (drop (i + 1) vs)) ys (rw (whole_items vs i v h is) at read)
 
@@ -108,7 +108,7 @@ object_of (string s) ms h = cc h
 object_of (array ds) ms h = cc h
 object_of (object ns) ms h = let same : ms ≡ ns = cc h in rw same refl
 
--- an object with more or less members than one has no member alone
+-- an object with more or fewer members than one has no only member
 pub no_single : (d : Data) (es : List Entry) → Some (members_view es) ≡ as_object d → (length es ≡ 1 → ⊥) → (key : List ℕ) (only : Data) → d ≡ object (member key only no_members) → ⊥
 no_single d [] h other key only is = cc (object_of d _ h, is)
 no_single d (e ∷ []) h other key only is = other refl
@@ -119,7 +119,7 @@ found_at Less key k e v is h = cc h
 found_at Equal key k e v is h = ((bytes_eq-Decides key k).0 (sym (is_eq-slice_cmp key k) ∙ ap is_eq is), cc h)
 found_at Greater key k e v is h = cc h
 
--- the member of an object of one, or that it has another key
+-- the member of an object with one member, or that it has another key
 pub single : {V : Type 0} (seen : V → Data) (d : Data) (es : List Entry) → Some (members_view es) ≡ as_object d → length es ≡ 1 → (key : List ℕ) (r : Option V) → option_map seen r ≡ get key d
     → MatchOption r ((only : Data) → d ≡ object (member key only no_members) → ⊥) (λ v. d ≡ object (member key (seen v) no_members))
 single seen d [] h one key r is = cc one
@@ -133,7 +133,7 @@ single seen d (e ∷ []) h one key (Some v) is =
     let found = found_at _ key (string_bytes e.0) (view e.1) (seen v) refl (is ∙ ap (get key) whole) in
     whole ∙ rw (found.0, found.1) refl
 
--- an object with this one member stands for a bound, and that member for the bound at a version
+-- an object with this only member parses to a bound, and that member to the bound's version
 pub only_bound : (d only : Data) → d ≡ object (member (codes "Version") only no_members) → (x : RangeBound) → IsJsonOfRangeBound d x → (b : VersionBound) × IsJsonOfBound only b
 only_bound d only is bound.Unbounded h = cc (is, h)
 only_bound d only is (bound.Version b) h =

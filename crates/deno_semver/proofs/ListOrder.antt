@@ -1,4 +1,4 @@
--- Two ascending lists of which one is the other in another order have, at each place, items that tie.
+-- Two ascending lists, one a permutation of the other, have items that tie at each place.
 use Rattle.std.proofs.Common.{◌≡◌, ◌<◌, ◌+◌, ℕ, suc, List, [], ◌∷◌, length, get_or, false, cond, Ordering, Less, Equal, Greater, IsPermutation, IsSorted, All, refl, sym, ap, subst, ◌∙◌, arith}
 use Rattle.std.specs.Cmp.{IsTotalOrder}
 use Rattle.std.specs.List.{sum_by}
@@ -16,7 +16,7 @@ module _ {K : Type 0} (R : K → K → Ordering) (o : IsTotalOrder R) where
   Tie (x ∷ xs) [] = ⊥
   Tie (x ∷ xs) (y ∷ ys) = (R x y ≡ Equal) × Tie xs ys
 
-  -- how many items are below this one
+  -- the number of items below this one
   abbrev one_below : K → K → ℕ
   one_below v x = cond (is_lt (R x v)) 1 0
 
@@ -34,7 +34,7 @@ module _ {K : Type 0} (R : K → K → Ordering) (o : IsTotalOrder R) where
   below_none v [] h = refl
   below_none v (x ∷ xs) h = rw (All-head (λ y. is_lt (R y v) ≡ false) x xs h, below_none v xs (All-tail (λ y. is_lt (R y v) ≡ false) x xs h)) refl
 
-  -- of an ascending list none is below the first, and the rest is ascending
+  -- in an ascending list none is below the first, and the rest is ascending
   none_below : (x : K) (xs : List K) → IsSorted R (x ∷ xs) → All (λ y. is_lt (R y x) ≡ false) xs
   none_below x xs h k d lt = sorted_far (λ a b. is_lt (R a b)) (ranks_by o (λ a. a)) (x ∷ xs) h 0 (suc k) d (omega arith) (omega arith)
 
@@ -46,7 +46,7 @@ module _ {K : Type 0} (R : K → K → Ordering) (o : IsTotalOrder R) where
   tie_below : (v x y : K) → R x y ≡ Equal → one_below v x ≡ one_below v y
   tie_below v x y e = ap (λ r. cond (is_lt r) 1 0) (o.congr x y v e)
 
-  -- a list that ties at each place has as many below each item
+  -- a list that ties at each place has as many items below each item
   pub ties_below : (v : K) (xs ys : List K) → Tie xs ys → below v xs ≡ below v ys
   ties_below v [] [] h = refl
   ties_below v [] (y ∷ ys) h = absurd h
@@ -59,7 +59,7 @@ module _ {K : Type 0} (R : K → K → Ordering) (o : IsTotalOrder R) where
   ties_length (x ∷ xs) [] h = absurd h
   ties_length (x ∷ xs) (y ∷ ys) h = omega (arith, ties_length xs ys h.1)
 
-  -- the first of an ascending list has none below it in that list
+  -- the first item of an ascending list has none below it in the list
   first_least : (x : K) (xs : List K) → IsSorted R (x ∷ xs) → below x (x ∷ xs) ≡ 0
   first_least x xs h = rw (tied_itself o x, below_none x xs (none_below x xs h)) refl
 
@@ -81,7 +81,7 @@ module _ {K : Type 0} (R : K → K → Ordering) (o : IsTotalOrder R) where
       let first = same_first x y xs ys h k same (R x y) refl in
       (first, ascending_tie xs ys (rest_sorted x xs h) (rest_sorted y ys k) (omega (arith, long)) (λ v. omega (arith, same v, tie_below v x y first)))
 
-  -- an ascending list, and what is sorted from one that ties with it at each place
+  -- an ascending list ties at each place with what is sorted from a list that does
   pub sorted_ties : (xs ys zs : List K) → IsSorted R xs → Tie ys xs → IsPermutation ys zs → IsSorted R zs → Tie zs xs
   sorted_ties xs ys zs h tie moved k =
       ascending_tie zs xs k h (length_permutation ys zs moved ∙ ties_length ys xs tie) (λ v. below_moved v ys zs moved ∙ ties_below v ys xs tie)

@@ -1,4 +1,4 @@
--- What a text is cut into as a name and version, and that it is one cut.
+-- How a text splits into a name and version, in one way.
 use Rattle.std.proofs.Common.{◌≡◌, ◌≤◌, ◌<◌, ◌==◌, ℕ, true, false, List, [], ◌∷◌, ◌++◌, length, take, drop, get_or, Option, None, Result, Ok, Err, refl, sym, ap, ap₂, subst, ◌∙◌, arith, inl, inr, add-one, length-append}
 use Rattle.std.specs.Borrow.{Bor}
 use Rattle.std.specs.Prelude.{◌⊎◌}
@@ -52,7 +52,7 @@ name_cut (x ∷ xs) name rest n e f g =
 
 -- ---- one cut
 
--- two names, each with a version and what follows it, of one text
+-- two names, each with a version and what follows it, in one text
 parts_one : (n m : List ℕ) {v r w s : List ℕ} → IsNvName n → IsNvName m → n ++ (64 ∷ (v ++ r)) ≡ m ++ (64 ∷ (w ++ s))
     → list_all is_version_byte v ≡ true → Stops is_version_byte r → list_all is_version_byte w ≡ true → Stops is_version_byte s
     → (n ≡ m) × (v ≡ w) × (r ≡ s)
@@ -110,7 +110,7 @@ nv_same e f = rw (e, f) refl
 pub reads : {text name version rest n : List ℕ} {v : Version} → IsNvText text name version rest → n ≡ name → IsVersionOutcome (trim version) (Ok v) → IsNvFront text (Ok (nv_of n v, rest))
 reads h is v = rw is (is_front h v)
 
--- what the reader of versions answers to each outcome of the version
+-- the version parser's result for each outcome of the version
 abbrev pub Answers : {E : Type 0} → (E → Option (List ℕ × Option (List ℕ))) → List ℕ → Result Version E → Type 0
 Answers source version result = (o : Result Version Refusal) → IsVersionOutcome (trim version) o → IsVersionAnswer source (trim version) o result
 
@@ -150,7 +150,7 @@ module _ {E : Type 0} (source : E → Option (List ℕ × Option (List ℕ))) {t
 
 -- ---- the whole text
 
--- what the reader of the front answers to each outcome
+-- the result of parsing the start of a text for each outcome
 abbrev pub FrontAnswers : List ℕ → List ℕ → Result (PackageNv × Bor (List ℕ)) PackageNvParseError → Type 0
 FrontAnswers text whole result = (o : Result (PackageNv × List ℕ) Refusal) → IsNvFront text o → IsFrontAnswer whole o result
 
@@ -185,7 +185,7 @@ whole_read {text} {rest} {nv} h none = is_nv (subst (λ (r : List ℕ). IsNvFron
 
 -- ---- one outcome
 
--- a name and version at the front, with what follows
+-- a name and version at the start, with what follows
 abbrev pub front_of : PackageNv → List ℕ → Result (PackageNv × List ℕ) Refusal
 front_of nv rest = Ok (nv, rest)
 
@@ -212,7 +212,7 @@ pub same_fault : (a b : Refusal) (o p : Result (PackageNv × List ℕ) Refusal) 
 same_fault a b o p e f g = cc (e, f, g)
 
 module _ (versions : VersionTextsHaveOneOutcome) where
-  -- two versions of one text are the same
+  -- two versions parsed from one text are the same
   version_same : {v w : List ℕ} (o p : Result Version Refusal) → v ≡ w → IsVersionOutcome (trim v) o → IsVersionOutcome (trim w) p → o ≡ p
   version_same {v = v} o p e h k = versions (trim v) o p h (moved e k)
 

@@ -1,4 +1,4 @@
--- A text stands for one reference to a version or has one fault, and a reference that was read is read back.
+-- A text parses to one reference to a version or has one fault, and the text of a parsed reference parses to it.
 use Rattle.std.proofs.Common.{◌≡◌, ◌==◌, ◌++◌, ◌∷◌, [], ℕ, true, List, Option, None, Some, Result, Ok, Err, refl, sym, ap, subst, ◌∙◌, inl, inr, arith, append_assoc}
 use Rattle.std.specs.Prelude.{◌⊎◌}
 use Rattle.std.specs.Borrow.{Bor}
@@ -103,12 +103,12 @@ module _ {kind : PackageKind} {text : List ℕ} (body : List ℕ) (is : text ≡
 
 -- ---- one outcome
 
--- a path, or nothing, isn't what is neither
+-- a path, or nothing, isn't something that is neither
 path_or_not : (x y : PackageNv) (path : Option (List ℕ)) (rest : List ℕ) → front_of x (path_text path) ≡ front_of y rest → IsNoPath rest → ⊥
 path_or_not x y path rest e none = no_path path rest none (sym (same_rest x y (path_text path) rest e))
 
 module _ (versions : VersionTextsHaveOneOutcome) (kind : PackageKind) {text : List ℕ} where
-  -- two names with versions after the scheme of one text are one
+  -- two names with versions after the scheme of one text are the same
   after_one : (a b : List ℕ) (o p : Result (PackageNv × List ℕ) Refusal) → text ≡ scheme_of kind ++ a → text ≡ scheme_of kind ++ b
       → IsNvFront (without_slash a) o → IsNvFront (without_slash b) p → o ≡ p
   after_one a b o p e e' h k = front_one versions o p h (at kind a b e e' k)

@@ -1,4 +1,4 @@
--- The text of a name and version that was read is cut into that name and that version.
+-- The text of a parsed name and version splits into that name and that version.
 use Rattle.std.proofs.Common.{◌≡◌, ◌<◌, ℕ, true, List, [], ◌∷◌, ◌++◌, length, Ok, refl, ap, arith, append-nil, length-append, subst}
 use Rattle.std.specs.Fmt.{decimal}
 use Rattle.std.specs.List.{list_all}
@@ -11,7 +11,7 @@ use Rattle.semver_base.specs.declared.version.Version.{Version}
 use Rattle.deno_semver.specs.NameAndVersion.{IsNvFront, IsNvName, IsNvText, NvReadsBack, is_front, is_nv, is_version_byte}
 use Rattle.deno_semver.specs.declared.package.values.PackageNv.{PackageNv}
 
--- each byte of the version's text may stand in the version of a name with a version
+-- each byte of the version's text is allowed in the version of a name with a version
 abbrev pub IsPlainVersion : Version → Type 0
 IsPlainVersion v = list_all is_version_byte (version_text v) ≡ true
 
@@ -24,14 +24,14 @@ all_pass (b ∷ text) h =
     let both = and_parts (is_version_text_byte b) (list_all is_version_text_byte text) h in
     and_from (is_version_byte b) (list_all is_version_byte text) (byte_passes b both.0) (all_pass text both.1)
 
--- that of a version that some text stands for is so
+-- the version that a text parses to is so
 pub version_passes : VersionTextsArePlain → (text : List ℕ) (v : Version) → IsVersionOutcome text (Ok v) → IsPlainVersion v
 version_passes plain text v h = all_pass (version_text v) (plain text v h)
 
 version_some : (v : Version) → 0 < length (version_text v)
 version_some v = omega (arith, length-append (decimal v.major) (46 ∷ (decimal v.minor ++ (46 ∷ (decimal v.patch ++ (prefixed 45 v.pre ++ prefixed 43 v.build))))))
 
--- what is written of a name and a version that was read, with what doesn't go on with the version behind it
+-- how a parsed name and version is written, followed by what doesn't continue the version
 pub writes_text : {name rest : List ℕ} (v : Version) → IsNvName name → IsPlainVersion v → Stops is_version_byte rest → IsNvText (name ++ (64 ∷ (version_text v ++ rest))) name (version_text v) rest
 writes_text v name_is plain ends = record {
   text_is = refl;
@@ -41,7 +41,7 @@ writes_text v name_is plain ends = record {
   version_ends = ends;
 }
 
--- the name of a front
+-- the name at the start
 pub front_name : {text rest : List ℕ} {nv : PackageNv} → IsNvFront text (Ok (nv, rest)) → IsNvName nv.name
 front_name (is_front h v) = h.name_is
 

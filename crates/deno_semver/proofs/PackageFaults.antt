@@ -1,4 +1,4 @@
--- Which fault of a text an error tells, and that a text has one outcome.
+-- Which fault of a text an error reports, and that a text has one outcome.
 use Rattle.std.proofs.Common.{◌≡◌, ◌<◌, ℕ, Bool, true, false, List, [], ◌∷◌, length, Option, Some, None, Result, Ok, Err, refl, sym, ap, subst, ◌∙◌, arith, inl, inr}
 use Rattle.std.specs.Prelude.{◌⊎◌, if◌then◌else◌, codes}
 use Rattle.semver_req.specs.Outcome.{IsOutcome, Outcome, Ranges, Refused, Tag, TextsHaveOneOutcome}
@@ -62,7 +62,7 @@ req_of text answer = record { raw_text = text; inner = answer }
 pub same_req : {s t : List ℕ} {i j : RangeSetOrTag} → s ≡ t → i ≡ j → req_of s i ≡ req_of t j
 same_req a b = rw (a, b) refl
 
--- what is read of one outcome
+-- what one outcome parses to
 same_read : (f : Flavour) (o : Outcome) (x y : RangeSetOrTag) → IsRead f o x → IsRead f o y → x ≡ y
 same_read f (Ranges tree) x y a b = a ∙ sym b
 same_read f (Tag tag) x y a b = a ∙ sym b
@@ -82,11 +82,11 @@ pub same_pair : {n m : List ℕ} {x y : Requirement} → n ≡ m → x ≡ y →
 same_pair a b = rw (a, b) refl
 
 module _ (texts : TextsHaveOneOutcome) where
-  -- what is read of a text is what its outcome stands for
+  -- what a text parses to is what its outcome means
   pub read_of : (f : Flavour) (text : List ℕ) (o : Outcome) (req : Requirement) → IsReadFrom f text req → IsOutcome f text o → IsRead f o req.inner
   read_of f text o req h is = subst (λ x. IsRead f x req.inner) (texts f text h.reading.outcome o h.reading.is_outcome is) h.reading.is_read
 
-  -- what one reader answers to one text
+  -- the result of one parser for one text
   pub version_one : (f : Flavour) (v : Option (List ℕ)) (x y : Requirement) → IsVersionReq f v x → IsVersionReq f v y → x ≡ y
   version_one f None x y h k = h ∙ sym k
   version_one f (Some text) x y h k =

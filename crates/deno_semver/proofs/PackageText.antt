@@ -1,4 +1,4 @@
--- What the text of a package is cut into, and that it is one cut.
+-- How the text of a package splits, in one way.
 use Rattle.std.proofs.Common.{◌≡◌, ◌<◌, ◌==◌, ◌≢◌, ℕ, true, List, [], ◌∷◌, ◌++◌, length, take, drop, get_or, Option, Some, None, refl, sym, ap, ◌∙◌, arith, length-append}
 use Rattle.std.specs.List.{list_all}
 use Rattle.std.specs.Str.{NoCharPasses}
@@ -49,7 +49,7 @@ pub holds_at : (a v : List ℕ) → list_all (is_not 64) (a ++ (64 ∷ v)) ≡ t
 holds_at [] v h = cc h
 holds_at (x ∷ a) v h = holds_at a v (and_parts (is_not 64 x) (list_all (is_not 64) (a ++ (64 ∷ v))) h).1
 
--- what stands before the last `@`, and after it, are one pair
+-- the texts before and after the last `@` are unique
 pub last_one : (a v b w : List ℕ) → a ++ (64 ∷ v) ≡ b ++ (64 ∷ w) → list_all (is_not 64) v ≡ true → list_all (is_not 64) w ≡ true → (a ≡ b) × (v ≡ w)
 last_one [] v [] w e p q = (refl, cc e)
 last_one [] v (y ∷ b) w e p q =

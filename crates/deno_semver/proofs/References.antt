@@ -1,4 +1,4 @@
--- A text stands for one reference or has one fault, and which fault an error tells.
+-- A text parses to one reference or has one fault, and which fault an error reports.
 use Rattle.std.proofs.Common.{◌≡◌, ℕ, List, [], ◌∷◌, ◌++◌, Option, Some, Result, Ok, Err, refl, sym, ap, subst, ◌∙◌, inl, inr}
 use Rattle.semver_req.specs.Outcome.{TextsHaveOneOutcome}
 use Rattle.semver_req.specs.declared.common.values.Flavour.TheVariants.{Specifier}

@@ -1,4 +1,4 @@
--- The text of a reference that was read is read back, and `*` is any version in the strict grammar.
+-- The text of a parsed reference parses to it, and `*` is any version in the strict grammar.
 use Rattle.std.proofs.Common.{◌≡◌, ◌<◌, ◌==◌, ◌++◌, ◌∷◌, [], ℕ, Bool, true, false, List, Option, None, Some, Ok, length, refl, sym, ap, subst, ◌∙◌, arith, append-nil, append_assoc, nat_eq}
 use Rattle.std.specs.Prelude.{◌||◌, bytes_eq, codes}
 use Rattle.std.specs.Cmp.Lexicographic.{pointwise}
@@ -23,7 +23,7 @@ use Rattle.deno_semver.proofs.PackageFaults.{version_one}
 
 -- ---- `*` in the strict grammar
 
--- where the text is `*`, or there is none, any version is required
+-- if the text is `*`, or there is none, any version matches
 pub any_version : TextsHaveOneOutcome → StarIsAnyVersion → (v : Option (List ℕ)) (req : Requirement) → IsVersionReq Specifier v req → req.raw_text ≡ codes "*" → req ≡ wildcard
 any_version texts star None req is any = is
 any_version texts star (Some v) req is any =
@@ -32,7 +32,7 @@ any_version texts star (Some v) req is any =
 
 -- ---- what is written is cut so
 
--- the path that is written of a sub path
+-- how a sub path is written
 abbrev written_path : Option (List ℕ) → List ℕ
 written_path None = []
 written_path (Some path) = path
@@ -108,7 +108,7 @@ all_front p xs ys h = (and_parts (list_all p xs) (list_all p ys) (sym (list_all-
 all_back : (p : ℕ → Bool) (xs ys : List ℕ) → list_all p (xs ++ ys) ≡ true → list_all p ys ≡ true
 all_back p xs ys h = (and_parts (list_all p xs) (list_all p ys) (sym (list_all-append p xs ys) ∙ h)).1
 
--- a last part that is a name alone, or has a version behind it
+-- a last part that is a name alone, or is followed by a version
 not_empty : (last name : List ℕ) (version : Option (List ℕ)) → IsNamePart last name version → starts_with_at last ≡ false → 0 < length last → (0 < length name) × (starts_with_at name ≡ false)
 not_empty last name None h at some = (rw (ap length (sym h.0)) some, rw (sym h.0) at)
 not_empty last [] (Some v) h at some = let told : starts_with_at (64 ∷ v) ≡ false = rw h.0 at at in cc told
@@ -118,7 +118,7 @@ no_slashes : (last name : List ℕ) (version : Option (List ℕ)) → IsNamePart
 no_slashes last name None h free = rw (sym h.0) free
 no_slashes last name (Some v) h free = all_front (is_not 47) name (64 ∷ v) (rw h.0 at free)
 
--- the name of a reference to any version is read as a name without a version
+-- the name of a reference to any version parses to a name without a version
 record IsAlone (scope : Option (List ℕ)) (name : List ℕ) : Type 0 where
   some : 0 < length name
   front : IsFront scope name

@@ -1,4 +1,4 @@
--- Where a text is cut at a byte: the cut is one, and stands between characters.
+-- Splitting a text at a byte: the split is unique, and at a character boundary.
 use Rattle.std.proofs.Common.{◌≡◌, ◌≤◌, ◌<◌, ℕ, Bool, true, false, List, [], ◌∷◌, ◌++◌, length, get_or, refl, arith, inl, inr}
 use Rattle.std.specs.List.{list_all, take_while}
 use Rattle.std.specs.Str.{IsCharBoundary}
@@ -6,7 +6,7 @@ use Rattle.std.proofs.lemmas.Bool.{and_parts, cases_Bool}
 use Rattle.std.proofs.lemmas.List.Sums.{take_while-cons}
 use Rattle.semver_base.specs.Grammar.{Stops}
 
--- the bytes at the front that pass, and what follows them, are one pair
+-- the leading bytes that pass, and what follows them, are unique
 pub run_one : (p : ℕ → Bool) (a b c d : List ℕ) → a ++ b ≡ c ++ d → list_all p a ≡ true → Stops p b → list_all p c ≡ true → Stops p d → (a ≡ c) × (b ≡ d)
 run_one p [] b [] d e pa sb pc sd = (refl, e)
 run_one p [] [] (y ∷ c) d e pa sb pc sd = cc e
@@ -36,6 +36,6 @@ run_stop p (x ∷ xs) = elim (cases_Bool (p x)) [
   | inr fails ↦ rw (take_while-cons p x xs, fails) (omega arith, λ h. fails)
 ]
 
--- a text may be cut where a byte of ASCII stands
+-- a text may be split before an ASCII byte
 pub cut_before : (xs : List ℕ) (n : ℕ) → n ≤ length xs → (n < length xs → get_or xs n 0 < 128) → IsCharBoundary xs n
 cut_before xs n bound low = (bound, λ h k. absurd (omega (arith, k, low h)))

@@ -1,4 +1,4 @@
--- What is read again of a dependency that npm's reader read, and that was stored as its normal text.
+-- What the stored canonical form of a dependency parsed by npm's grammar parses to.
 use Rattle.std.proofs.Common.{◌≡◌, ℕ, List, ◌++◌, Ok, refl, sym, subst, arith}
 use Rattle.std.specs.Prelude.{IsUtf8, codes}
 use Rattle.serde_json.specs.Data.{string}
@@ -21,7 +21,7 @@ of_kind kind req = record { kind = kind; req = req }
 text_same : (a b : List ℕ) → string a ≡ string b → a ≡ b
 text_same a b e = cc e
 
--- behind the scheme a text that stands for a requirement stands for a dependency
+-- after the scheme, a text that parses to a package requirement parses to a dependency
 string_of : (kind : PackageKind) (text : List ℕ) (again : PackageReq) → IsStringOf IsTextOfReq (string text) again → IsStringOf IsTextOfDependency (string (scheme_of kind ++ text)) (of_kind kind again)
 string_of kind text again h = record {
   text = scheme_of kind ++ text;
@@ -50,6 +50,6 @@ scheme_utf8 : (kind : PackageKind) (body : List ℕ) → IsUtf8 (scheme_of kind 
 scheme_utf8 registry.Jsr body u = after_ascii (codes "jsr") body 58 (omega arith) u
 scheme_utf8 registry.Npm body u = after_ascii (codes "npm") body 58 (omega arith) u
 
--- what is stored of a dependency that npm's reader read of a text
+-- what is stored of a dependency that npm's grammar parsed from a text
 pub stored_dependency : StoredRequirementsAreReadAgain → (d : JsrDepPackageReq) (text : List ℕ) → IsUtf8 text → IsDependencyOutcome Npm text (Ok d) → IsStoredDependency d (string (normal_dependency_text d))
 stored_dependency again d text u (is_dependency kind body {req = req} is outcome) = stored kind req (again req body (scheme_utf8 kind body (subst IsUtf8 is u)) outcome)

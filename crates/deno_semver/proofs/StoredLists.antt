@@ -1,4 +1,4 @@
--- What is read again of a list of requirements that was stored.
+-- What a stored list of package requirements parses to.
 use Rattle.std.proofs.Common.{◌≡◌, List, [], ◌∷◌, All, IsSorted, Result, Ok, Err, map, refl, ◌∙◌}
 use Rattle.std.proofs.lemmas.List.Elements.{All-head, All-tail}
 use Rattle.std.specs.Prelude.{MatchResult}
@@ -17,7 +17,7 @@ use Rattle.deno_semver.specs.declared.json.error.JsonError.TheVariants as error
 use Rattle.deno_semver.specs.declared.package.values.PackageReq.{PackageReq}
 use Rattle.deno_semver.proofs.ListOrder.{Tie, sorted_ties}
 
--- the exit of a `?` for want of memory
+-- the exit of a `?` when out of memory
 pub exit_memory : {T : Type 0} (Says : T → Type 0) (r : Result T JsonError) (e : JsonError) → IsErrAnd r (λ f. f ≡ e) → e ≡ error.Memory → MatchResult r Says (λ f. f ≡ error.Memory)
 exit_memory Says (Ok x) e is m = absurd is
 exit_memory Says (Err f) e is m = is ∙ m
@@ -27,7 +27,7 @@ json_of req = string (normal_req_text req)
 
 -- ---- what is read again
 
--- items that stand, one by one, for requirements that are so related to these
+-- items that parse, one by one, to package requirements so related to these
 record AreReadAs (R : PackageReq → PackageReq → Type 0) (reqs : List PackageReq) : Type 0 where
   again : List PackageReq
   read : AreItemsOf (IsStringOf IsTextOfReq) (items_of (map (λ req. string (normal_req_text req)) reqs)) again
@@ -81,6 +81,6 @@ of_tie [] (y ∷ ys) h = absurd h
 of_tie (x ∷ xs) [] h = absurd h
 of_tie (x ∷ xs) (y ∷ ys) h = (req_same x y h.0, of_tie xs ys h.1)
 
--- what is sorted from a list that is equal to an ascending one is equal to that
+-- what is sorted from a list equal to an ascending one is equal to the ascending one
 pub sorted_equal : (reqs stored sorted : List PackageReq) → IsSorted req_cmp reqs → AreEqualLists stored reqs → IsSortedFrom stored sorted → AreEqualLists sorted reqs
 sorted_equal reqs stored sorted h equal k = of_tie sorted reqs (sorted_ties req_cmp req_total reqs stored sorted h (tie_of stored reqs equal) k.same k.ascending)

@@ -1,4 +1,4 @@
--- The name of a package that was read, with `@` and the text of a version behind it, is cut into that name and that text.
+-- The name of a parsed package, followed by `@` and the text of a version, splits into that name and that text.
 use Rattle.std.proofs.Common.{◌≡◌, ◌<◌, ◌==◌, ℕ, true, false, Bool, List, [], ◌∷◌, ◌++◌, length, Option, Some, None, refl, sym, ap, subst, ◌∙◌, arith, append-nil, append_assoc, length-append}
 use Rattle.std.specs.List.{list_all}
 use Rattle.std.proofs.lemmas.Bool.{and_from, and_parts}
@@ -7,7 +7,7 @@ use Rattle.semver_base.proofs.Bytes.{list_all-append}
 use Rattle.deno_semver.specs.Cuts.{is_not}
 use Rattle.deno_semver.specs.PackageText.{IsAfterScope, IsNamePart, IsPackageText, IsScope, PackageParts, scoped_name, starts_with_at, without_slash}
 
--- the name of some text of a package
+-- the name of some package's text
 pub record IsReadName (name : List ℕ) : Type 0 where
   pub text : List ℕ
   pub cut : PackageParts
@@ -17,7 +17,7 @@ pub record IsReadName (name : List ℕ) : Type 0 where
 abbrev pub parts_with : Option (List ℕ) → List ℕ → List ℕ → PackageParts
 parts_with scope name version = record { scope = scope; name = name; version = Some version; path = [] }
 
--- what is known of the last part of a name
+-- what holds for the last part of a name
 front_passes : (p : ℕ → Bool) (xs ys : List ℕ) → list_all p (xs ++ ys) ≡ true → list_all p xs ≡ true
 front_passes p [] ys h = refl
 front_passes p (x ∷ xs) ys h = let both = and_parts (p x) (list_all p (xs ++ ys)) h in and_from (p x) (list_all p xs) both.0 (front_passes p xs ys both.1)
@@ -26,7 +26,7 @@ name_passes : (last name : List ℕ) (version : Option (List ℕ)) → IsNamePar
 name_passes last name None h k = rw h.0 at k
 name_passes last name (Some v) h k = front_passes (is_not 47) name (64 ∷ v) (rw h.0 at k)
 
--- a name without a scope isn't empty, and doesn't begin with `@`
+-- a name without a scope is non-empty, and doesn't begin with `@`
 pub record IsPlainName (name : List ℕ) : Type 0 where
   pub first : ℕ
   pub more : List ℕ
@@ -62,7 +62,7 @@ module _ (version : List ℕ) (no_at : list_all (is_not 64) version ≡ true) (n
   last_passes : (name : List ℕ) → list_all (is_not 47) name ≡ true → list_all (is_not 47) (name ++ (64 ∷ version)) ≡ true
   last_passes name h = list_all-append (is_not 47) name (64 ∷ version) h no_slash
 
-  -- text that goes on after its scope with the last part of a name and the version
+  -- text that continues after its scope with the last part of a name and the version
   cut_of : (text : List ℕ) (scope : Option (List ℕ)) (name : List ℕ) → IsAfterScope scope (without_slash text) (name ++ (64 ∷ version)) → list_all (is_not 47) name ≡ true → IsPackageText text (parts_with scope name version)
   cut_of text scope name after passes = record {
     rest = name ++ (64 ∷ version);

@@ -1,4 +1,4 @@
--- What is read again of a requirement of a package that npm's reader read, and that was stored as its normal text.
+-- What the stored canonical form of a package requirement parsed by npm's grammar parses to.
 use Rattle.std.proofs.Common.{◌≡◌, ◌<◌, ◌==◌, ℕ, true, false, Bool, List, [], ◌∷◌, ◌++◌, length, drop, get_or, Option, Some, None, refl, sym, ap, subst, ◌∙◌, arith, append-nil, append_assoc, length-append}
 use Rattle.std.specs.Prelude.{◌-◌, ◌+◌, IsUtf8, codes, if◌then◌else◌}
 use Rattle.std.specs.List.{list_all}
@@ -32,7 +32,7 @@ use Rattle.deno_semver.proofs.StoredNames.{IsReadName, cut_again}
 
 -- ---- the text of the version is UTF-8
 
--- the text of the version stands behind a byte of ASCII, and before another or at the end
+-- the text of the version follows an ASCII byte, and stands before another or at the end
 pub after_ascii : (before rest : List ℕ) (a : ℕ) → a < 128 → IsUtf8 (before ++ (a ∷ rest)) → IsUtf8 rest
 after_ascii before rest a low u =
     let text = before ++ (a ∷ rest) in
@@ -78,12 +78,12 @@ version_utf8 text cut version h is u =
 
 -- ---- what can be stored
 
--- a tag that is read back, and holds neither `@` nor `/`
+-- a tag that parses back, and contains neither `@` nor `/`
 record IsStoredTag (t : List ℕ) : Type 0 where
   back : IsOutcome Normal t (Tag t)
   plain : HoldsNoSeparator t
 
--- ranges that some reader answered, or such a tag
+-- ranges that some parser returned, or such a tag
 abbrev CanBeStored : RangeSetOrTag → Type 0
 CanBeStored (inner.RangeSet set) = IsReadSet set.0
 CanBeStored (inner.Tag t) = IsStoredTag t
@@ -137,7 +137,7 @@ module _ (rereads : NormalTextsKeepTheirMeaning) (settles : OneRereadingSettles)
       record { means = λ k. r.kept_means k Normal normal (shortest_tree set.0) tree; equal = λ o k. r.equal o k Normal normal (shortest_tree set.0) tree }
   kept_again (inner.Tag t) h = refl
 
-  -- what is read again is read again as it is
+  -- what is parsed from the canonical form parses to itself
   settled_again : (answer : RangeSetOrTag) → CanBeStored answer → again_of (again_of answer) ≡ again_of answer
   settled_again (inner.RangeSet set) h =
       let tree = ((rereads set.0 h).forms Normal normal).0 in
@@ -205,6 +205,6 @@ module _ (rereads : NormalTextsKeepTheirMeaning) (settles : OneRereadingSettles)
   stored_read req text u h =
       stored req (record { text = text; cut = h.cut; is_cut = h.is_cut; is_name = h.name }) (can_be_stored text h.cut req.version_req h.is_cut u h.cut.version refl h.version_req)
 
-  -- what is stored of a requirement that npm's reader read of a text
+  -- what is stored of a package requirement that npm's grammar parsed from a text
   pub stored_npm : StoredRequirementsAreReadAgain
   stored_npm req text u (is_package h) = stored_read req text u h

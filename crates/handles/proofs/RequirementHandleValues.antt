@@ -1,4 +1,4 @@
--- The machine values of the handle of a requirement. Assumes `Logic`.
+-- The machine values of a requirement's handle. Assumes `Logic`.
 use Rattle.std.proofs.Common.{◌≡◌, ℕ, List, [], ◌∷◌, ◌++◌, refl, subst}
 use seplogic.Ra.Ura.{Ura}
 use mir.Raw.{raw as bare}

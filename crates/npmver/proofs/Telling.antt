@@ -1,4 +1,4 @@
--- What is printed of a question, from what it is answered.
+-- What is printed for a question, from its result.
 use Rattle.std.proofs.Common.{◌≡◌, ◌==◌, ◌<◌, ℕ, false, true, Bool, suc, length, drop, get_or, map, arith, List, [], ◌∷◌, Option, Result, Ok, Err, Some, None, refl, sym, ap, subst, ◌∙◌, inl, inr}
 use Rattle.std.specs.Prelude.{◌⊎◌, codes, slice_index}
 use Rattle.std.proofs.lemmas.Bool.{eq-eqb}
@@ -72,7 +72,7 @@ module _ {X : Type 0} (shown : X → Told) (Asked : Result X Fault → Type 0) (
 
 -- ---- readers by name
 
--- two texts that differ at a byte are no one text
+-- two texts that differ at a byte aren't equal
 apart : (name : List ℕ) (k : ℕ) (a b : List ℕ) → name ≡ a → name ≡ b → (slice_index a k == slice_index b k) ≡ false → ⊥
 apart name k a b e f d = cc (sym d ∙ eq-eqb (slice_index a k) (slice_index b k) (ap (λ (x : List ℕ). slice_index x k) (sym e ∙ f)))
 
@@ -116,7 +116,7 @@ module _ (name : List ℕ) (Asked : Flavour → Told → Type 0) where
 
 -- ---- words
 
--- what holds of an answer holds of it for what asks the same
+-- what holds for a result holds for it under an equivalent question
 same_answer : (Asked Others : Told → Type 0) → ((told : Told) → Asked told → Others told) → ((told : Told) → Others told → Asked told)
     → (result : Result Line Problem) → IsAnswer Asked result → IsAnswer Others result
 same_answer Asked Others to from result h = record {
@@ -144,11 +144,11 @@ of_four command one two three = command ∷ one ∷ two ∷ three ∷ []
 abbrev of_versions : List ℕ → List ℕ → List ℕ → List (List ℕ) → List (List ℕ)
 of_versions command reader requirement versions = command ∷ reader ∷ requirement ∷ versions
 
--- what stands behind three words
+-- what follows three arguments
 same_rest : (words others : List (List ℕ)) → words ≡ others → drop 3 words ≡ drop 3 others
 same_rest words others e = ap (λ (x : List (List ℕ)). drop 3 x) e
 
--- the only one of texts
+-- the only text of a list
 pub alone : {S : Type 0} (bytes : S → List ℕ) (all : List S) (one : S) (text : List ℕ) → one ≡ get_or all 0 one → map bytes all ≡ text ∷ [] → bytes one ≡ text
 alone bytes [] one text is e = absurd (cc e)
 alone bytes (x ∷ xs) one text is e = ap bytes is ∙ ap (λ (l : List (List ℕ)). get_or l 0 text) e
@@ -255,7 +255,7 @@ three_meet command one other is result h = same_answer _ (IsAsked (of_three comm
         subst (λ (x : List ℕ). Prints told_whether (Overlaps Npm x other) told) (sym (same_word (of_three command one other) _ 1 e)) (subst (λ (x : List ℕ). Prints told_whether (Overlaps Npm a x) told) (sym (same_word (of_three command one other) _ 2 e)) m)
     from told (asks_nothing n) = absurd (n (form_meet same))
 
--- words of no form are told the usage
+-- arguments of no form print the usage
 pub no_form : (words : List (List ℕ)) → (IsForm words → ⊥) → IsAnswer (IsAsked words) (Err problem.Usage)
 no_form words n = record { tells = inr (asks_nothing n); every = every; usage = λ a. refl }
   where
@@ -286,7 +286,7 @@ several_others command reader requirement versions more nor (form_normal e) = no
 several_others command reader requirement versions more nor (form_meet e) = none_left command reader requirement versions (omega (arith, more)) e
 
 module _ (command reader requirement : List ℕ) (versions : List (List ℕ)) (some : 0 < length versions) (result : Result Line Problem) where
-  -- the usage is told to several versions where one is asked
+  -- several versions print the usage if one is asked for
   told_several : (command ≡ codes "best" → ⊥) → 1 < length versions → result ≡ Err problem.Usage → IsAnswer (IsAsked (of_versions command reader requirement versions)) result
   told_several nor more is = subst (IsAnswer (IsAsked (of_versions command reader requirement versions))) (sym is) (no_form _ (several_others command reader requirement versions more nor))
 
@@ -325,7 +325,7 @@ few_left words few {rest = rest} e =
     let n : length words ≡ suc (suc (suc (length rest))) = same_length words _ e in
     absurd (omega (arith, few, n))
 
--- words of which there are fewer than three
+-- fewer than three arguments
 pub too_few : (words : List (List ℕ)) → length words < 3 → IsForm words → ⊥
 too_few words few (form_fits e) = few_left words few e
 too_few words few (form_fits_pre e) = few_left words few e

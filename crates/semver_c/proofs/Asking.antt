@@ -1,4 +1,4 @@
--- Answers to calls, from those to questions of texts.
+-- The results of calls, from those of questions about texts.
 use Rattle.std.proofs.Common.{◌≡◌, ◌∙◌, arith, ℕ, List, Ok, Err, Result, refl, sym, ap, subst, inl, inr}
 use Rattle.std.specs.Prelude.{◌⊎◌, ◌<◌}
 use Rattle.std.specs.Result.{IsErrAnd}
@@ -63,7 +63,7 @@ module _ (bytes : List ℕ) where
       only o (text k) = absurd (never k)
       only o (no_text other) = refl
 
--- what is read of the bytes
+-- the text of the bytes
 abbrev pub IsRead : List ℕ → List ℕ → Type 0
 IsRead bytes t = (t ≡ bytes) × IsUtf8 bytes
 
@@ -113,11 +113,11 @@ module _ {E Y : Type 0} (value : E → Y) where
     pub by_answer : (o : Result Y Fault) → IsOutcomeOf OutOfMemory Asked o → (r : Result E Problem) → outcome_of value r ≡ coded_outcome o → IsAnswer (Coded Asked) value r
     by_answer o h r e = subst (IsOutcomeOf 5 (Coded Asked)) (sym e) (coded_outcome_of Asked o h)
 
-    -- the question has no answer
+    -- the question has no result
     pub by_problem : (why : Unanswered) → IsOutcomeOf OutOfMemory Asked (Err (fault_of why)) → (r : Result E Problem) (p : Problem) → IsErrAnd r (λ e. e ≡ p) → p ≡ problem.Unanswered why
         → IsAnswer (Coded Asked) value r
     by_problem why h r p is e = by_answer (Err (fault_of why)) h r (exit value r p is ∙ ap (λ (q : Problem). Err (problem_code q)) e)
 
-    -- memory ran out on the way to the answer
+    -- memory ran out before the result
     pub by_memory : (r : Result E Problem) (p : Problem) → IsErrAnd r (λ e. e ≡ p) → p ≡ problem.Unanswered unanswered.OutOfMemory → IsAnswer (Coded Asked) value r
     by_memory r p is e = by_problem unanswered.OutOfMemory (out_of_memory OutOfMemory Asked) r p is e

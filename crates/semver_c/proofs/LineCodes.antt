@@ -1,4 +1,4 @@
--- The code of a line, from what is read of it.
+-- The code of a line, from the version parsed from it.
 use Rattle.std.proofs.Common.{◌≡◌, ℕ, List, Ok, Err, Result, refl, sym, ap, subst, inl, inr}
 use Rattle.std.specs.Prelude.{◌⊎◌}
 use Rattle.semver_base.specs.declared.range.PreRelease.{PreRelease}

@@ -1,4 +1,4 @@
--- What is returned to C, from the answers to questions.
+-- What is returned to C, from the results of questions.
 use Rattle.std.proofs.Common.{◌≡◌, ℕ, List, Option, Result, Err, ap, subst, ◌∙◌, inl, inr}
 use Rattle.std.specs.Prelude.{◌⊎◌}
 use Rattle.answers.specs.declared.asking.Answer.{Answer}
@@ -39,7 +39,7 @@ module _ {E X : Type 0} (Asked : Result X ℕ → Type 0) (value : E → X) (num
       only o (inl none) reported = inl (none_reported none reported)
       only o (inr is) reported = subst Reported is reported
 
--- the same of a place
+-- the same for a place
 pub placed_reply : (Asked : Result (Answer (Option Best)) ℕ → Type 0) (answer : Result (Answer (Option Best)) Problem) → IsAnswer Asked (λ (b : Answer (Option Best)). b) answer → (old new code : ℕ)
     → ReportsPlace (outcome_of (λ (b : Answer (Option Best)). b) answer) old new code → IsPlaceReply Asked old new code
 placed_reply Asked answer h old new code reported = record { is = is h.is; only = λ o a. only o (h.only o a) }
