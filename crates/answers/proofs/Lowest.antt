@@ -34,7 +34,7 @@ common_answer flag own others none found h n r only =
     subst (λ (tag : Option (List ℕ)). IsAnswer (UnlessTag tag (LowestOf (all_inners_mean_with flag own.inner others))) (λ (a : Answer (Option Version)). a) (Ok (Value found))) (sym none)
     (lowest_answer (all_inners_mean_with flag own.inner others) found h n r only)
 
--- ---- what is said of any order is said of the given one
+-- ---- what holds for any order holds for the given one
 
 same_order : (read : RangeSetOrTag) → IsReordered read read
 same_order (inner.RangeSet set) = IsPermutation-refl set.0

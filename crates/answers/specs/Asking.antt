@@ -21,7 +21,7 @@ abbrev pub outcome_of : {E X : Type 0} → (E → X) → Result E Problem → Re
 outcome_of value (Ok e) = Ok (value e)
 outcome_of value (Err p) = Err (fault_of p)
 
--- ---- questions: each is a relation to its outcomes, the answer or the fault of the first argument that is invalid
+-- ---- questions: each is a relation to its outcomes, the result or the fault of the first invalid argument
 
 -- the outcome is that of the question, which has no other; or out of memory
 pub record IsOutcomeOf {X P : Type 0} (memory : P) (Asked : Result X P → Type 0) (outcome : Result X P) : Type 0 where

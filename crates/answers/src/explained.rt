@@ -150,7 +150,7 @@ fn pieces_of(
     pieces_from(alloc, flavour, pre_release, first_piece(text))
 }
 
-// The text as a piece for each of these ranges; the strict grammar gives a text one.
+// The text as a piece for each of these ranges; the strict grammar parses a text to one.
 fn whole_of(
     alloc: Global,
     pre_release: PreRelease,

@@ -63,7 +63,7 @@ module _ {E : Type 0} (source : E → Failure) (f : Flavour) (cut : IsCutting f)
   of_tag (inner.RangeSet set) text is r h = tt
   of_tag (inner.Tag tag) text is r h = λ t. h.answer (Tag tag) (subst (λ u. IsOutcome f u (Tag tag)) (sym is) t)
 
--- ---- read twice
+-- ---- parsed twice
 
 -- what ranges that were parsed again parse to
 again_of : (Says : List VersionRange → Type 0) {ranges : List VersionRange} {once : RangeSetOrTag} → (h : IsReadAgain ranges once) → OfRanges Says once → Says h.again

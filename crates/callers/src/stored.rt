@@ -1,6 +1,6 @@
 //! Does a requirement stored in canonical form mean the same when it is parsed again?
 //!
-//! What is said of ranges holds for those that some parser returned. A tag that npm's or the strict parser returned parses
+//! The results for ranges hold for those that some parser returned. A tag that npm's or the strict parser returned parses
 //! back; one of the normalized parser need not: the text ` 1` parses to the tag `1`, which is stored as a text that parses to
 //! a range.
 

@@ -126,7 +126,7 @@ module _ (e : End) (means : Version → Bool) where
           nearer_by true h = refl
           nearer_by false h = cc h
 
-  -- ---- one answer
+  -- ---- one result
 
   -- no matching version of the list is better than the best
   none_better : (before after : List Version) (x : Version) (versions : List Version) → versions ≡ before ++ x ∷ after → means x ≡ true

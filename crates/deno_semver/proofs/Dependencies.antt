@@ -37,7 +37,7 @@ pub neither : {text : List ℕ} → LacksScheme Jsr text → LacksScheme Npm tex
 neither j n Jsr = j
 neither j n Npm = n
 
--- ---- refusals and answers
+-- ---- errors and results
 
 pub scheme_refused : {f : Flavour} {text : List ℕ} (e : JsrDepPackageReqParseError) → ((kind : PackageKind) → LacksScheme kind text) → IsToldScheme text e → IsDependencyRefusal f text e
 scheme_refused (error.NotExpectedScheme scheme) none told = inr (OtherScheme, other_scheme none, told)

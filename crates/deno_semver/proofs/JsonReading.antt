@@ -140,7 +140,7 @@ only_bound d only is (bound.Version b) h =
     let same : h.0 ≡ only = cc (is, h.1) in
     (b, subst (λ e. IsJsonOfBound e b) same h.2)
 
--- ---- a push that no memory was wanting for
+-- ---- a push that doesn't run out of memory
 
 pub pushed : {T E P : Type 0} (r : Result T E) → false ≡ is_err r → OnOk r P → P
 pushed (Ok x) e h = h

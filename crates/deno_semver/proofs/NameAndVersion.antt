@@ -50,7 +50,7 @@ name_cut (x ∷ xs) name rest n e f g =
     let run = cuts_run (is_not 64) xs (take m xs) (drop m xs) m refl refl refl in
     rw (f, g, e, add-one m) (record { text_is = ap (λ t. x ∷ t) run.text_is; name_is = λ h. run.pass; ends = run.stops })
 
--- ---- one cut
+-- ---- one split
 
 -- two names, each with a version and what follows it, in one text
 parts_one : (n m : List ℕ) {v r w s : List ℕ} → IsNvName n → IsNvName m → n ++ (64 ∷ (v ++ r)) ≡ m ++ (64 ∷ (w ++ s))
@@ -89,7 +89,7 @@ no_at {name = name} {rest} c none n w s k = go name n (c.name_is (some_text k)) 
         let tail : a ++ rest ≡ b ++ (64 ∷ (w ++ s)) = cc e in
         none (w ++ s) (run_one (is_not 64) a rest b (64 ∷ (w ++ s)) tail h c.ends j refl).1
 
--- ---- the front
+-- ---- the start of a text
 
 pub tells_uncut : {text whole : List ℕ} {e : PackageNvParseError} → IsNoNvText text → IsNvMemory e ⊎ TellsNvFault UnexpectedCharacter whole e → IsFrontRefusal text whole e
 tells_uncut none (inl memory) = inl memory

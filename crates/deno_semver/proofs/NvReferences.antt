@@ -41,7 +41,7 @@ no_path None (b ∷ rest) h e = cc e
 no_path (Some p) [] h e = h
 no_path (Some p) (b ∷ rest) h e = let first : b ≡ 47 = cc e in h first
 
--- ---- what is read and refused
+-- ---- values and errors
 
 module _ {kind : PackageKind} {text : List ℕ} (body : List ℕ) (is : text ≡ scheme_of kind ++ body) where
   pub reads : {nv : PackageNv} {rest : List ℕ} (r : PackageNvReference) → IsNvFront (without_slash body) (Ok (nv, rest)) → (r.nv ≡ nv) × (rest ≡ path_text r.sub_path) → IsNvReferenceOutcome kind text (Ok r)
@@ -61,7 +61,7 @@ pub refused_scheme : {kind : PackageKind} {text : List ℕ} {e : PackageNvParseE
 refused_scheme none (inl memory) same = inl (rw same memory)
 refused_scheme none (inr told) same = inr (UnexpectedCharacter, other_scheme none, rw same told)
 
--- ---- answers
+-- ---- results
 
 pub scheme_answer : {kind : PackageKind} {text : List ℕ} {e : PackageNvParseError} {x : PackageNvReferenceParseError} → LacksScheme kind text → IsNvMemory e ⊎ TellsNvFault UnexpectedCharacter text e → nv_error x ≡ e
     → (o : Result PackageNvReference Refusal) → IsNvReferenceOutcome kind text o → IsNvReferenceAnswer text o (Err x)
@@ -133,7 +133,7 @@ module _ (versions : VersionTextsHaveOneOutcome) (kind : PackageKind) {text : Li
   nv_reference_one _ _ (is_followed a {rest = rest} {nv = x} e h none) (bad_front b {fault = y} e' k) = absurd (no_front x rest y (after_one a b _ _ e e' h k))
   nv_reference_one _ _ (is_followed a e h none) (is_followed b e' k other) = refl
 
--- ---- it reads back
+-- ---- it parses back
 
 is_slash : (b : ℕ) → (b == 47) ≡ true → b ≡ 47
 is_slash b h = grind (arith, nat_tests)

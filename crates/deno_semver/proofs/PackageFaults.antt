@@ -17,7 +17,7 @@ use Rattle.deno_semver.specs.declared.package.errors.PackageReqPartsParseError.T
 use Rattle.deno_semver.specs.declared.package.values.PackageReq.{PackageReq}
 use Rattle.deno_semver.proofs.PackageText.{no_alone, no_part, package_one, part_or_alone}
 
--- ---- the fault that an error tells
+-- ---- the fault that an error reports
 
 module _ (f : Flavour) (text : List ℕ) {e : PackageReqPartsParseError} where
   pub uncut_error : IsUncut text e → IsFrontError f text e
@@ -138,7 +138,7 @@ module _ (texts : TextsHaveOneOutcome) {f : Flavour} {text : List ℕ} where
   outcome_one _ _ (is_fault {fault} k) (is_package h) = absurd (no_fault fault h k)
   outcome_one _ _ (is_fault {fault = a} h) (is_fault {fault = b} k) = ap (λ x. Err (if lacks_at text then NoAt else x)) (fault_one a b h k)
 
-  -- ---- answers
+  -- ---- results
 
   pub read_answer : (req : PackageReq) → IsReadReq f text req → (o : Result PackageReq Fault) → IsPackageOutcome f text o → IsPackageAnswer f text o (Ok req)
   read_answer req h _ (is_package {req = other} k) = read_one req other h k

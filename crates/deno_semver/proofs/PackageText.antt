@@ -71,7 +71,7 @@ named_one last n m None (Some w) h k = absurd (holds_at m w (rw (sym h.0 ∙ k.0
 named_one last n m (Some v) None h k = absurd (holds_at n v (rw (sym k.0 ∙ h.0) at k.1))
 named_one last n m (Some v) (Some w) h k = let same = last_one n v m w (sym h.0 ∙ k.0) h.1 k.1 in (same.0, ap Some same.1)
 
--- ---- one cut
+-- ---- one split
 
 stops_tail : (tail path : List ℕ) → IsPathPart tail path → LacksPart tail
 stops_tail [] path h = tt
@@ -107,7 +107,7 @@ package_one {text} x y h k =
     let paths = path_one h.tail x.path y.path h.path (rw lasts.1 k.path) in
     parts_same rests.0 named.0 named.1 paths
 
--- ---- a text that lacks a part has no cut
+-- ---- a text that lacks a part has no split
 
 starts_no : (xs ys : List ℕ) → 0 < length xs → list_all (is_not 47) xs ≡ true → LacksPart (xs ++ ys) → ⊥
 starts_no [] ys some h stops = absurd (omega (arith, some))

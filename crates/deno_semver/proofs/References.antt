@@ -16,7 +16,7 @@ use Rattle.deno_semver.specs.declared.package.values.PackageReq.{PackageReq}
 use Rattle.deno_semver.proofs.PackageFaults.{fault_one, read_or_refused, same_pair, version_at, version_one}
 use Rattle.deno_semver.proofs.PackageText.{last_one, no_alone, no_part, package_one}
 
--- ---- one reading
+-- ---- one parse
 
 pub cancel : (front a b : List ℕ) → front ++ a ≡ front ++ b → a ≡ b
 cancel [] a b e = e
@@ -92,7 +92,7 @@ module _ (texts : TextsHaveOneOutcome) {kind : PackageKind} {text : List ℕ} wh
       let parts = version_of_one y (subst (λ (r : PackageReqReference). HasVersionInPath r b v) same has) has' in
       ap (λ (x : ReferenceFault). Err x) (same_moved same parts.0 parts.1)
 
-  -- ---- answers
+  -- ---- results
 
   pub read_answer : (r : PackageReqReference) → IsReferenceOutcome kind text (Ok r) → (o : Result PackageReqReference ReferenceFault) → IsReferenceOutcome kind text o → IsReferenceAnswer kind text o (Ok r)
   read_answer r h o k = subst (λ (x : Result PackageReqReference ReferenceFault). IsReferenceAnswer kind text x (Ok r)) (outcome_one (Ok r) o h k) refl

@@ -30,7 +30,7 @@ any_version texts star (Some v) req is any =
     let text : v ≡ codes "*" = sym is.raw_text ∙ any in
     version_one texts Specifier (Some (codes "*")) req wildcard (subst (λ (t : List ℕ). IsVersionReq Specifier (Some t) req) text is) (star Specifier)
 
--- ---- what is written is cut so
+-- ---- how a written text splits
 
 -- how a sub path is written
 abbrev written_path : Option (List ℕ) → List ℕ
@@ -85,7 +85,7 @@ cut_again scope last name version sub_path text front some free named is = recor
   path = path_part sub_path;
 }
 
--- ---- what was read
+-- ---- parsed references
 
 first_at : (last x : List ℕ) → 0 < length last → starts_with_at (last ++ x) ≡ starts_with_at last
 first_at [] x some = absurd (omega (arith, some))
@@ -138,7 +138,7 @@ alone (Some (a ∷ scope)) last (b ∷ name) version front some named plain =
     let back = all_back (is_not 64) scope (47 ∷ b ∷ name) plain.no_at in
     record { some = omega arith; front = front; no_at = (and_parts (is_not 64 47) (list_all (is_not 64) (b ∷ name)) back).1 }
 
--- ---- it reads back
+-- ---- it parses back
 
 module _ (texts : TextsHaveOneOutcome) (any : StarIsAnyVersion) (kind : PackageKind) {body : List ℕ} (r : PackageReqReference) (h : IsReadReference body r) (none : HasNoVersionInPath r) where
   abbrev tail : List ℕ

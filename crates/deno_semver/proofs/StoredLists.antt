@@ -25,7 +25,7 @@ exit_memory Says (Err f) e is m = is ∙ m
 json_of : PackageReq → Data
 json_of req = string (normal_req_text req)
 
--- ---- what is read again
+-- ---- what a stored list parses to
 
 -- items that parse, one by one, to package requirements so related to these
 record AreReadAs (R : PackageReq → PackageReq → Type 0) (reqs : List PackageReq) : Type 0 where

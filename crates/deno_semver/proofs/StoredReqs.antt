@@ -120,7 +120,7 @@ module _ (rereads : NormalTextsKeepTheirMeaning) (settles : OneRereadingSettles)
   no_slash (inner.RangeSet set) h = (plain_sets set.0 h).no_slash
   no_slash (inner.Tag t) h = h.plain.no_slash
 
-  -- ---- what the normal text is read as
+  -- ---- what the canonical form parses to
 
   reading : (answer : RangeSetOrTag) → CanBeStored answer → IsReading Normal (inner_text answer) (again_of answer)
   reading (inner.RangeSet set) h = record { outcome = Ranges (shortest_tree set.0); is_outcome = ((rereads set.0 h).forms Normal normal).0; is_read = refl }
@@ -172,7 +172,7 @@ module _ (rereads : NormalTextsKeepTheirMeaning) (settles : OneRereadingSettles)
     is_kept = record { name = refl; kept = kept_again req.version_req.inner h; settled = settled_req req.name req.version_req.inner n h };
   }
 
-  -- ---- what npm's reader reads can be stored
+  -- ---- what npm's grammar parsed can be stored
 
   -- any version
   any_read : IsReadSet (everything ∷ [])

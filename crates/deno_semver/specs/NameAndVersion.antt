@@ -64,7 +64,7 @@ pub data IsNvOutcome (text : List ℕ) : Result PackageNv Refusal → Type 0 whe
   is_followed : {nv : PackageNv} {rest : List ℕ} → IsNvFront text (Ok (nv, rest)) → 0 < length rest
       → IsNvOutcome text (Err UnexpectedCharacter)
 
--- ---- answers
+-- ---- results
 
 -- out of memory has no texts
 pub record IsNvMemory (e : PackageNvParseError) : Type 0 where

@@ -36,7 +36,7 @@ pub data IsNvReferenceOutcome (kind : PackageKind) (text : List ℕ) : Result Pa
       → IsNvFront (without_slash body) (Ok (nv, rest)) → IsNoPath rest
       → IsNvReferenceOutcome kind text (Err UnexpectedCharacter)
 
--- ---- answers
+-- ---- results
 
 -- the same texts as a name and version's error
 abbrev pub nv_error : PackageNvReferenceParseError → PackageNvParseError

@@ -56,7 +56,7 @@ pub data IsPackageOutcome (f : Flavour) (text : List ℕ) : Result PackageReq Fa
   is_fault : {fault : Fault} → IsFirstFault f text fault
       → IsPackageOutcome f text (Err (if lacks_at text then NoAt else fault))
 
--- ---- answers
+-- ---- results
 
 -- why the grammar of a flavour rejects the version's text
 abbrev pub IsRefusalOf : Flavour → List ℕ → Failure → Type 0

@@ -62,7 +62,7 @@ pub data IsReferenceOutcome (kind : PackageKind)
       → IsReferenceOutcome kind text
       (Err (VersionInPath (reference_text reference) (text_with_version reference.req version before)))
 
--- ---- answers
+-- ---- results
 
 -- an error without its boxes
 pub data ReferenceError : Type 0 where
@@ -100,7 +100,7 @@ IsReferenceAnswer kind text (Ok reference) result =
 IsReferenceAnswer kind text (Err fault) result =
     IsErrAnd result (λ e. (unboxed e ≡ Memory) ⊎ TellsReference kind text fault e)
 
--- ---- rereading
+-- ---- parsing the text back
 
 -- no `@` after the first byte, which may begin a scope, and no trailing `/`
 pub record IsPlainName (name : List ℕ) : Type 0 where

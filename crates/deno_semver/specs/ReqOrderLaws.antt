@@ -161,7 +161,7 @@ req_same x y e = (
 pub same_req : (x y : PackageReq) → AreEqualReqs x y → req_cmp x y ≡ Equal
 same_req x y h = rw (h.0, h.1) (tied_itself req_total y)
 
--- ---- it ties exactly where `==` holds
+-- ---- it ties exactly if `==` holds
 
 inner_ties : (x y : RangeSetOrTag) → inner_eq x y ≡ is_eq (inner_cmp x y)
 inner_ties x y = both_ways (inner_eq x y) (is_eq (inner_cmp x y))

@@ -40,7 +40,7 @@ pub record StandsForEqual (json : Data) (req : PackageReq) : Type 0 where
   pub stands_for : IsStringOf IsTextOfReq json again
   pub equal : AreEqualReqs again req
 
--- its JSON does so
+-- its JSON parses to an equal package requirement
 abbrev pub IsSettledReq : PackageReq → Type 0
 IsSettledReq req = StandsForEqual (string (normal_req_text req)) req
 
@@ -56,7 +56,7 @@ pub record IsStoredReq (req : PackageReq) (json : Data) : Type 0 where
   pub stands_for : IsStringOf IsTextOfReq json again
   pub is_kept : IsKeptReq req again
 
--- the JSON of each package requirement that npm's grammar parsed from some text does so
+-- for each package requirement that npm's grammar parsed from some text, its JSON parses to such a package requirement
 abbrev pub StoredRequirementsAreReadAgain : Type 0
 StoredRequirementsAreReadAgain = (req : PackageReq) (text : List ℕ) → IsUtf8 text → IsPackageOutcome Npm text (Ok req)
     → IsStoredReq req (string (normal_req_text req))

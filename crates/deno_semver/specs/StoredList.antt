@@ -33,7 +33,7 @@ pub record IsReadList (json : Data) (sorted : List PackageReq) : Type 0 where
   pub stands_for : IsJsonOfReqs json stored
   pub is_sorted : IsSortedFrom stored sorted
 
--- ---- what is read again
+-- ---- what a stored list parses to
 
 -- the lists have the same length, and the items at the same place are so related
 abbrev pub OneByOne : (PackageReq → PackageReq → Type 0) → List PackageReq → List PackageReq → Type 0

@@ -18,7 +18,7 @@ use Rattle.npmver.specs.declared.Line.TheVariants as line
 use Rattle.npmver.specs.declared.Problem.{Problem}
 use Rattle.npmver.specs.declared.Problem.TheVariants as problem
 
--- ---- no answer is the usage
+-- ---- no result is the usage
 
 pub whether_proper : (b : Bool) → told_whether b ≡ Usage → ⊥
 whether_proper true e = cc e
@@ -70,7 +70,7 @@ module _ {X : Type 0} (shown : X → Told) (Asked : Result X Fault → Type 0) (
   pub ran_out : (result : Result Line Problem) → told_by result ≡ OutOfMemory → IsAnswer (Prints shown Asked) result
   ran_out result e = record { tells = inl e; every = λ told a. inl e; usage = λ a. absurd (no_usage Usage refl a) }
 
--- ---- readers by name
+-- ---- grammars by name
 
 -- two texts that differ at a byte aren't equal
 apart : (name : List ℕ) (k : ℕ) (a b : List ℕ) → name ≡ a → name ≡ b → (slice_index a k == slice_index b k) ≡ false → ⊥
@@ -114,7 +114,7 @@ module _ (name : List ℕ) (Asked : Flavour → Told → Type 0) where
       every told (by {f = f} r a) = absurd (n f r)
       every told (by_none m) = inr refl
 
--- ---- words
+-- ---- arguments
 
 -- what holds for a result holds for it under an equivalent question
 same_answer : (Asked Others : Told → Type 0) → ((told : Told) → Asked told → Others told) → ((told : Told) → Others told → Asked told)

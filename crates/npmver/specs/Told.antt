@@ -42,7 +42,7 @@ abbrev pub told_by : Result Line Problem → Told
 told_by (Ok line) = told_answer line
 told_by (Err problem) = told_problem problem
 
--- ---- the lines of answers
+-- ---- the lines of results
 
 abbrev pub told_whether : Bool → Told
 told_whether true = Yes

@@ -67,7 +67,7 @@ module _ (bytes : List ℕ) where
 abbrev pub IsRead : List ℕ → List ℕ → Type 0
 IsRead bytes t = (t ≡ bytes) × IsUtf8 bytes
 
--- ---- questions of texts
+-- ---- questions about texts
 
 coded_outcome_of : {X : Type 0} (Asked : Result X Fault → Type 0) (o : Result X Fault) → IsOutcomeOf OutOfMemory Asked o → IsOutcomeOf 5 (Coded Asked) (coded_outcome o)
 coded_outcome_of {X = X} Asked o h = record { is = is h.is; only = λ p a. only p a }
@@ -89,7 +89,7 @@ exit value (Ok x) p is = absurd is
 exit value (Err e) p is = ap (λ (q : Problem). Err (problem_code q)) is
 
 module _ {E Y : Type 0} (value : E → Y) where
-  -- ---- behind a parser
+  -- ---- after a parser
 
   module _ (number : ℕ) (Asked : Flavour → Result Y ℕ → Type 0) where
     pub by_parser : (f : Flavour) → number ≡ parser_number f → (r : Result E Problem) → IsAnswer (Asked f) value r → IsAnswer (Given (IsParser number) Asked) value r
@@ -98,7 +98,7 @@ module _ {E Y : Type 0} (value : E → Y) where
     pub by_no_parser : (r : Result E Problem) (p : Problem) → IsErrAnd r (λ e. e ≡ p) → (p ≡ problem.NoParser) × (2 < number) → IsAnswer (Given (IsParser number) Asked) value r
     by_no_parser r p is h = subst (IsOutcomeOf 5 (Given (IsParser number) Asked)) (sym (exit value r p is ∙ ap (λ (q : Problem). Err (problem_code q)) h.0)) (by_fault 5 (IsParser number) Asked 4 (parser_missing number h.1))
 
-  -- ---- behind a text
+  -- ---- after a text
 
   module _ (bytes : List ℕ) (Asked : List ℕ → Result Y ℕ → Type 0) where
     pub by_text : (t : List ℕ) → IsRead bytes t → (r : Result E Problem) → IsAnswer (Asked t) value r → IsAnswer (Given (IsText bytes) Asked) value r
@@ -107,7 +107,7 @@ module _ {E Y : Type 0} (value : E → Y) where
     pub by_no_text : (r : Result E Problem) (p : Problem) → IsErrAnd r (λ e. e ≡ p) → (p ≡ problem.NotUtf8) × (IsUtf8 bytes → ⊥) → IsAnswer (Given (IsText bytes) Asked) value r
     by_no_text r p is h = subst (IsOutcomeOf 5 (Given (IsText bytes) Asked)) (sym (exit value r p is ∙ ap (λ (q : Problem). Err (problem_code q)) h.0)) (by_fault 5 (IsText bytes) Asked 8 (text_missing bytes h.1))
 
-  -- ---- the question of texts
+  -- ---- the question about texts
 
   module _ (Asked : Result Y Fault → Type 0) where
     pub by_answer : (o : Result Y Fault) → IsOutcomeOf OutOfMemory Asked o → (r : Result E Problem) → outcome_of value r ≡ coded_outcome o → IsAnswer (Coded Asked) value r

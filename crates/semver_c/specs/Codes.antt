@@ -47,7 +47,7 @@ pub record IsCode {X : Type 0} (Asked : Result X ℕ → Type 0) (number : X →
 
 -- ---- texts
 
--- a text at the front of the buffer, the rest of which stays; one that doesn't fit leaves the buffer as it was
+-- a text at the start of the buffer, the rest of which is unchanged; one that doesn't fit leaves the buffer unchanged
 abbrev pub placed : List ℕ → List ℕ → List ℕ
 placed text old = if nat_le (length text) (length old) then text ++ drop (length text) old else old
 

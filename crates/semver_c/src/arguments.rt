@@ -1,4 +1,4 @@
-//! The arguments of a call: parsers by their numbers, texts by their bytes, and why a call has no answer.
+//! The arguments of a call: parsers by their numbers, texts by their bytes, and why a call has no result.
 
 ghost use Rattle.std.specs.Prelude.{◌≡◌, ◌<◌, Err, IfOk, IsUtf8, map, MatchResult};
 ghost use Rattle.std.specs.Str.Lines.{lines};
@@ -12,7 +12,7 @@ use semver_req::common::values::Flavour;
 use std::alloc::{AllocError, Global};
 use std::str;
 
-/// Why a call has no answer.
+/// Why a call has no result.
 #[derive(Drop)]
 pub enum Problem {
     /// The question about its texts has no result.

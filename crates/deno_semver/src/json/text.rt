@@ -341,7 +341,7 @@ impl JsonForm for NpmPackageNvReference {
 /// [`JsrDepPackageReq::from_str_normalized`].
 ///
 /// The JSON of a dependency that [`JsrDepPackageReq::from_str_loose`] parsed parses to a dependency of the same registry, and
-/// what is said of [`PackageReq`]'s JSON holds for its package requirement.
+/// what [`PackageReq`]'s JSON preserves holds for its package requirement.
 impl JsonForm for JsrDepPackageReq {
     ghost json = { λ dependency. string (normal_dependency_text dependency) };
 
