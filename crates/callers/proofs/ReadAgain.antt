@@ -110,7 +110,7 @@ only_memory source e v f text (inner.Tag name) starts kept back ranges tag = tag
 
 -- ---- of one version
 
--- the requirement of a version, if it is a parsed set that is stable, parses to itself
+-- the requirement of a version, if it is a parsed set that is stable, is what its text parses to
 pub pinned_again : (v : Version) (req : Requirement) (again : RangeSetOrTag) → req ≡ pinned v → IsReadOrTag req.inner → IsSettledSet (ranges_of req.inner).0
     → OfRanges (λ ranges. IsReadAgain ranges again) req.inner → again ≡ (pinned v).inner
 pinned_again v req again is = subst Says (sym is) (λ read settled h. let a = h read in a.is_ranges ∙ ap as_inner (a.stays settled))

@@ -1,12 +1,12 @@
 //! `npmver` compares versions with version requirements of npm and JSR packages.
 //!
-//! `npmver fits READER REQ VERSION` prints `yes` (status 0) if the version matches the requirement, which is parsed by the grammar
-//! READER, `npm`, `normal` or `strict`, `no` (1) if it doesn't, and `tag NAME` (2) if the requirement is a tag.
+//! `npmver fits READER REQ VERSION` prints `yes` (status 0) if the version matches the requirement, which is parsed by the
+//! grammar READER, `npm`, `normal` or `strict`, `no` (1) if it doesn't, and `tag NAME` (2) if the requirement is a tag.
 //! `npmver fits-pre READER REQ VERSION` does the same with every pre-release between the bounds.
 //! `npmver best READER REQ VERSION..` prints the highest of the versions that match (0), as it would be installed, or
 //! `none` (1), or the tag (2); each version is parsed, also for a tag.
-//! `npmver normal READER REQ` prints the canonical form of the requirement, or the tag (0). `npmver meet A B` prints `yes` (0)
-//! if two requirements overlap, both by npm's grammar, and `no` (1) if they don't.
+//! `npmver normal READER REQ` prints the canonical form of the requirement, or the tag (0). `npmver meet A B` prints `yes`
+//! (0) if two requirements overlap, both by npm's grammar, and `no` (1) if they don't.
 //!
 //! An invalid argument prints `refused: MESSAGE` on standard error (3); other arguments print the usage there (4), and out of
 //! memory `out of memory` (5). The status is 6 if standard output can't be written.

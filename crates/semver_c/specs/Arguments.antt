@@ -12,8 +12,8 @@ use Rattle.answers.specs.declared.asking.Kind.TheVariants as kind
 use Rattle.semver_c.specs.declared.arguments.Problem.{Problem}
 use Rattle.semver_c.specs.declared.arguments.Problem.TheVariants as problem
 
--- ---- codes: 3 an invalid range, package or reference, 4 a number that no parser has, 5 out of memory, 7 an invalid version, 8 bytes
--- that aren't UTF-8
+-- ---- codes: 3 an invalid range, package or reference, 4 a number that no parser has, 5 out of memory, 7 an invalid
+-- version, 8 bytes that aren't UTF-8
 
 abbrev pub kind_code : Kind → ℕ
 kind_code kind.Range = 3

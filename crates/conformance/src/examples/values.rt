@@ -62,7 +62,7 @@ pub fn json_list(alloc: Global) -> Holds {
     Ok(holds)
 }
 
-// Whether this is the JSON of the package requirements, and that of the ordered list it parses to.
+// Whether `json` is the JSON of the package requirements, and `ordered` that of the sorted list it parses to.
 fn is_list(alloc: Global, texts: &[&str], json: &str, ordered: &str) -> Holds {
     let mut reqs = Vec::new(alloc);
     for text in texts {

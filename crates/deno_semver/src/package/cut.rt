@@ -19,7 +19,7 @@ pub(crate) struct Cut<'a> {
     // The last part of the name.
     pub(crate) name: &'a str,
     pub(crate) version: Option<&'a str>,
-    // What follows the parts: nothing, or a `/` and the path.
+    // What follows the name and version: nothing, or a `/` and the path.
     pub(crate) tail: &'a str,
     pub(crate) path: &'a str,
 }

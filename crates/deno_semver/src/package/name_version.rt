@@ -213,7 +213,7 @@ pub(crate) fn nv_at_front<'a>(
 
 impl PackageNv {
     /// Parses a name and version such as `@scope/name@1.0.0`: a non-empty name without an `@` after its first character; `@`;
-    /// and a non-empty version without `_` and `/`, parsed by npm's grammar ([`Version::parse_from_npm`]).
+    /// and a non-empty version that contains neither `_` nor `/`, parsed by npm's grammar ([`Version::parse_from_npm`]).
     ///
     /// The text of a parsed name and version parses to the same one, build included. An invalid version fails with the
     /// message of its parse error; anything else that is wrong, such as text after the version, fails with "Unexpected

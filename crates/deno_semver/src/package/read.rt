@@ -149,8 +149,8 @@ fn req_of(
     }
 }
 
-/// Parses the package requirement at the start of a text, and returns the path after it, with its `/` and without; or what is
-/// wrong first, which a path isn't.
+/// Parses the package requirement at the start of a text. Returns it with the path after it, with its `/` and without, or the
+/// first fault; a path isn't one.
 pub(crate) fn read_with_path(
     alloc: Global,
     text: &str,
@@ -169,7 +169,7 @@ pub(crate) fn read_with_path(
     }
 }
 
-// Parses a package requirement, or returns what is wrong first.
+// Parses a package requirement, or returns the first fault.
 fn read(
     alloc: Global,
     text: &str,
