@@ -24,7 +24,7 @@ abbrev pub OfRanges : (List VersionRange → Type 0) → RangeSetOrTag → Type 
 OfRanges Says (inner.RangeSet set) = IsReadSet set.0 → Says set.0
 OfRanges Says (inner.Tag tag) = Unit {0}
 
--- what holds for a tag that its text parses to
+-- what holds for a tag whose text parses to it
 abbrev pub OfTag : Flavour → (List ℕ → Type 0) → RangeSetOrTag → Type 0
 OfTag f Says (inner.RangeSet set) = Unit {0}
 OfTag f Says (inner.Tag tag) = IsOutcome f tag (Tag tag) → Says tag
@@ -80,7 +80,7 @@ IsTagTold source result tag = Answers source (λ allowance. allowance ≡ answer
 -- the result for a text whose requirement is stored and parsed again
 pub record AllowsAsItsText (f : Flavour) (text : List ℕ) (v : Version)
     (result : Result Allowance Failure) : Type 0 where
-  -- a text with a result has an outcome, and the result is so for each of its outcomes, or out of memory
+  -- a text with a result has an outcome; the clauses below hold for each of its outcomes
   pub told : IfOk result (λ allowance. (o : Outcome) × IsOutcome f text o)
   -- for every tree of the text, the result for the tree's ranges
   pub ranges : (tree : List (List Comparator)) → IsOutcome f text (Ranges tree)

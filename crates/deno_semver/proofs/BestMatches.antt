@@ -62,7 +62,7 @@ module _ (e : End) (means : Version → Bool) where
       go true h = (ranks e).one_way v v h
       go false h = h
 
-  -- a version nearer than a known one is nearer than any third that the known one isn't farther than
+  -- a version nearer than a known one is nearer than any other that isn't nearer than the known one
   nearer_than_third : (v known other : Version) → nearer e v known ≡ true → nearer e other known ≡ false → nearer e v other ≡ true
   nearer_than_third v known other h k = go (nearer e v other) refl
     where

@@ -18,7 +18,7 @@ use Rattle.deno_semver.specs.declared.package.nv_reference.PackageNvReferencePar
 abbrev pub nv_reference_text : PackageNvReference → List ℕ
 nv_reference_text reference = nv_text reference.nv ++ path_text reference.sub_path
 
--- what begins neither with a path nor with the end
+-- a non-empty text that doesn't begin with `/`
 abbrev pub IsNoPath : List ℕ → Type 0
 IsNoPath [] = ⊥
 IsNoPath (first ∷ rest) = first ≢ slash

@@ -25,7 +25,7 @@ pub record IsReadReference (body : List ℕ) (reference : PackageReqReference) :
   pub version_req : IsVersionReq Specifier cut.version reference.req.version_req
   pub sub_path : reference.sub_path ≡ sub_path_of cut.path
 
--- any version is meant, as by `*`, and a version follows the last `@` of the path
+-- the version requirement's text is `*`, and a version follows the last `@` of the path
 pub record HasVersionInPath (reference : PackageReqReference) (before version : List ℕ) : Type 0 where
   pub any : reference.req.version_req.raw_text ≡ codes "*"
   pub path : reference.sub_path ≡ Some (before ++ (at_sign ∷ version))

@@ -8,7 +8,7 @@ use Rattle.deno_semver.specs.declared.package.kind.PackageKind.{PackageKind}
 use Rattle.deno_semver.specs.declared.package.reference.PackageReqReference.{PackageReqReference}
 use Rattle.deno_semver.specs.declared.package.values.PackageReq.{PackageReq}
 
--- the text isn't what follows the scheme in any text
+-- the text doesn't begin with the scheme
 abbrev pub LacksScheme : PackageKind → List ℕ → Type 0
 LacksScheme kind text = (body : List ℕ) → text ≡ scheme_of kind ++ body → ⊥
 

@@ -98,7 +98,7 @@ fn invalid(
     }
 }
 
-// The text before the version in the path, and that version, if any version matches the package requirement.
+// The text before the version in the path, and that version, if the version requirement's text is `*`.
 fn version_in_path(reference: &PackageReqReference) -> Option<(&str, &str)>
     ensures { FindsVersion reference.now result }
 {
