@@ -26,7 +26,7 @@ pub data IsVersion (place : ℕ) (text : List ℕ) : Result Version Fault → Ty
   no_version : {fault : Refusal} → IsVersionOutcome (trim text) (Err fault)
       → IsVersion place text (Err (Invalid kind.Version place))
 
--- the texts behind references
+-- the texts that the references point to
 abbrev pub texts_of : List (Bor (List ℕ)) → List (List ℕ)
 texts_of texts = map (λ text. text.now) texts
 

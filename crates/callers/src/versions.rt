@@ -40,7 +40,7 @@ fn read_again(alloc: Global, text: &str) -> Result<Version, ParseFailure>
     Ok(Version::parse_standard(alloc, text)?)
 }
 
-/// What does a displayed version parse to? The same version, if its text reads back, as that of every parsed version does.
+/// What does a displayed version parse to? The same version, if its text parses back, as that of every parsed version does.
 pub fn displayed_and_read_again(alloc: Global, version: &Version) -> Result<Version, ParseFailure>
     ensures { ReadsBack version.now → IsSameAgain version.now result }
 {
@@ -48,7 +48,7 @@ pub fn displayed_and_read_again(alloc: Global, version: &Version) -> Result<Vers
     read_again(alloc, text.as_str())
 }
 
-/// What does a version that was appended to a text parse to? The same version, if its text reads back.
+/// What does a version that was appended to a text parse to? The same version, if its text parses back.
 pub fn appended_and_read_again(alloc: Global, version: &Version) -> Result<Version, ParseFailure>
     ensures { ReadsBack version.now → IsSameAgain version.now result }
 {

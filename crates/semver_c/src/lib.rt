@@ -165,8 +165,8 @@ pub extern "C" fn semver_may_be_tag(text: &[u8]) -> u32
 }
 
 /// Whether each version of a list, one per line, matches the range: 1, and answer n is the code of line n: 0 no, 1 yes, 2 the
-/// range is a tag, 7 the version is invalid. `needed` is the number of lines; if there are more than answers, these stay as
-/// they were.
+/// range is a tag, 7 the version is invalid. `needed` is the number of lines; if there are more than `answers` holds,
+/// `answers` is unchanged.
 #[unsafe(no_mangle)]
 pub extern "C" fn semver_filter(
     alloc: Global,
