@@ -6,8 +6,8 @@ ghost use Rattle.semver_req.specs.Requirement.{MatchNoVersion, inner_means, inne
 
 use deno_semver::{Version, VersionReq};
 
-/// Are the requirements so far apart that no version at all is allowed by both? They are exactly where their bounds don't
-/// overlap. A yes is sure; a no says nothing of versions.
+/// Are the requirements so far apart that they have no version in common? Yes exactly if their bounds don't overlap; a no says
+/// nothing about versions.
 pub fn are_surely_apart(one: &VersionReq, other: &VersionReq) -> bool
     ensures bounds { result ≡ not (inner_overlap one.now.inner other.now.inner) }
     ensures no_common { OnTrue result (MatchNoVersion one.now.inner other.now.inner) }

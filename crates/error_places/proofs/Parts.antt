@@ -229,7 +229,7 @@ text_some f (x ∷ text) never = omega arith
 pub one_place : {V : Type 0} {R : List ℕ → V → Type 0} (text : List ℕ) (m n : ℕ) → IsErrorPlace R text m → IsErrorPlace R text n → m ≡ n
 one_place text m n a b = omega (arith, a.longest n b.boundary b.viable, b.longest m a.boundary a.viable)
 
--- it is the end exactly where the whole text is viable, and what is no text of the grammar and no prefix of one has it before
+-- it is the end exactly where the whole text is viable, and a text that isn't of the grammar, nor a prefix of one, has it before
 pub place_at_end : {V : Type 0} {R : List ℕ → V → Type 0} (text : List ℕ) (n : ℕ) → IsErrorPlace R text n → IsViablePrefix R text ↔ (n ≡ length text)
 place_at_end {R = R} text n a = (forward, backward)
   where

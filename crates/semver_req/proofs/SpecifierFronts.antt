@@ -22,7 +22,7 @@ use Rattle.semver_base.proofs.Qualifiers.{strict_no_digit}
 use Rattle.semver_req.proofs.Components.{component_goes, component_number, component_wildcard, wildcard_no_digit}
 use Rattle.semver_req.proofs.Partials.{component_dot_apart}
 
--- ---- prefixes that are only known to have the greatest length
+-- ---- prefixes that are only known to be the longest
 
 record Longest {V : Type 0} (R : List ℕ → V → Type 0) (text : List ℕ) (v : V) (rest : List ℕ) : Type 0 where
   front : List ℕ
