@@ -1,7 +1,7 @@
 #!/usr/bin/env python3
 """Prints a table of questions for C and Rust, which have no JSON: flatten.py TABLE
 
-US ends a field that another follows, GS a question, and RS its answer. A lone surrogate stands for a byte that isn't UTF-8."""
+US ends a field that another follows, GS a question, and RS its answer. A lone surrogate is a byte that isn't UTF-8."""
 import json
 import sys
 

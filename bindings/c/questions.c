@@ -10,7 +10,7 @@
 #define OUT out, sizeof out, &needed
 #define PROBLEMS                                                                              \
     [SEMVER_NO_REQUIREMENT] = "invalid requirement", [SEMVER_NO_VERSION] = "invalid version", \
-    [SEMVER_NO_UTF8] = "invalid UTF-8", [SEMVER_NO_MEMORY] = "out of memory", [SEMVER_NO_READER] = "unknown reader"
+    [SEMVER_NO_UTF8] = "invalid UTF-8", [SEMVER_NO_MEMORY] = "out of memory", [SEMVER_NO_GRAMMAR] = "unknown grammar"
 
 enum { US = 0x1f, GS = 0x1d, RS = 0x1e, FIELDS = 5, LINES = 16 };
 
@@ -29,7 +29,7 @@ static names ORDER = {[SEMVER_BEFORE] = "before", [SEMVER_SAME] = "same", [SEMVE
 long heap_alive(void), heap_limit(long allocations); /* of heap.c */
 
 static text row, expected;
-static uint32_t reader, pre_releases;
+static uint32_t grammar, pre_releases;
 static int memory_is_short, failed;
 static uint8_t out[4096];
 static size_t needed;
@@ -71,7 +71,7 @@ static void check_text(uint32_t code) {
 
 /* Reads a requirement. Where it can't be read, that is the answer, and the handle has no value. */
 static int read_req(text t, semver_req *handle) {
-    uint32_t code = semver_req_read(reader, BYTES(t), handle, OUT);
+    uint32_t code = semver_req_read(grammar, BYTES(t), handle, OUT);
     if (code != SEMVER_YES) check_text(code);
     return code == SEMVER_YES;
 }
@@ -85,7 +85,7 @@ static int read_version(text t, semver_ver *handle) {
 static void fits(const text *t) {
     semver_req r = {0};
     semver_ver v = {0};
-    check_text(semver_fits(reader, BYTES(t[0]), BYTES(t[1]), pre_releases, OUT));
+    check_text(semver_fits(grammar, BYTES(t[0]), BYTES(t[1]), pre_releases, OUT));
     if (!read_req(t[0], &r)) return;
     check(semver_req_fits(&r, BYTES(t[1]), pre_releases), FIT, NULL, 0);
     if (read_version(t[1], &v)) {
@@ -103,7 +103,7 @@ static size_t item(size_t len, const char *name) {
 static void filter(const text *t) {
     uint8_t answers[LINES];
     size_t len = 0;
-    uint32_t code = semver_filter(reader, BYTES(t[0]), BYTES(t[1]), pre_releases, answers, LINES, &needed);
+    uint32_t code = semver_filter(grammar, BYTES(t[0]), BYTES(t[1]), pre_releases, answers, LINES, &needed);
     for (size_t n = 0; n < needed; n++) len = item(len, FIT[answers[n]]);
     check(code, FIT, code == SEMVER_YES ? out : NULL, len);
 }
@@ -121,12 +121,12 @@ static void sort(const text *t) {
 
 static void best(const text *t) {
     size_t place = 0;
-    uint32_t code = semver_best(reader, BYTES(t[0]), BYTES(t[1]), pre_releases, &place);
+    uint32_t code = semver_best(grammar, BYTES(t[0]), BYTES(t[1]), pre_releases, &place);
     check(code, FIT, code == SEMVER_YES ? out : NULL, sprintf((char *)out, "%zu", place));
 }
 
 static void overlap(const text *t) {
-    check(semver_overlap(reader, BYTES(t[0]), BYTES(t[1])), FIT, NULL, 0);
+    check(semver_overlap(grammar, BYTES(t[0]), BYTES(t[1])), FIT, NULL, 0);
 }
 
 static void compare(const text *t) {
@@ -140,10 +140,10 @@ static void may_be_tag(const text *t) {
 static void package(const text *t) {
     text rest = expected;
     if (is(cut(&rest, US), "yes")) expected.len = before(rest, US).len + 4; /* the parts behind the JSON are for Rust */
-    check_text(semver_package(reader, BYTES(t[0]), OUT));
+    check_text(semver_package(grammar, BYTES(t[0]), OUT));
 }
 
-/* A question's name; how many of a reader and pre-releases stand before its texts; and the calls that answer it: of texts, of two
+/* A question's name; how many of a grammar and pre-releases stand before its texts; and the calls that answer it: of texts, of two
  * values that are kept, of one. */
 static const struct call {
     const char *name;
@@ -201,8 +201,8 @@ static void ask_kept_versions(const struct call *c, const text *t) {
 static void ask(const struct call *c, const text *t) {
     if (c->ask) c->ask(t);
     if (c->text) check_text(c->text(BYTES(t[0]), OUT));
-    if (c->req) check_text(c->req(reader, BYTES(t[0]), OUT));
-    if (c->two) check_text(c->two(reader, BYTES(t[0]), BYTES(t[1]), OUT));
+    if (c->req) check_text(c->req(grammar, BYTES(t[0]), OUT));
+    if (c->two) check_text(c->two(grammar, BYTES(t[0]), BYTES(t[1]), OUT));
     if (c->kept_req || c->kept_reqs) ask_kept_reqs(c, t);
     if (c->kept_version || c->kept_versions) ask_kept_versions(c, t);
 }
@@ -226,7 +226,7 @@ static void ask_row(void) {
     rest = cut(&expected, GS);
     for (int n = 0; n <= FIELDS; n++) fields[n] = cut(&rest, US);
     while (c < end && !is(fields[0], c->name)) c++;
-    reader = is(fields[1], "npm")          ? SEMVER_NPM
+    grammar = is(fields[1], "npm")          ? SEMVER_NPM
              : is(fields[1], "normalized") ? SEMVER_NORMALIZED
              : is(fields[1], "strict")     ? SEMVER_STRICT
                                            : 3;

@@ -44,28 +44,28 @@ enum {
     SEMVER_TAG = 2, /* a range is a tag, the name that a registry gives a version */
     SEMVER_BEFORE = 0, SEMVER_SAME = 1, SEMVER_AFTER = 2, /* of two versions */
     SEMVER_NO_REQUIREMENT = 3, /* a range, package or reference is invalid */
-    SEMVER_NO_READER = 4,      /* no grammar has this number */
+    SEMVER_NO_GRAMMAR = 4,      /* no grammar has this number */
     SEMVER_NO_MEMORY = 5,      /* out of memory */
     SEMVER_NO_VERSION = 7,     /* a version is invalid */
     SEMVER_NO_UTF8 = 8         /* bytes aren't valid UTF-8 */
 };
 
 /* Whether the version matches the range: NO, YES or TAG. */
-uint32_t semver_fits(uint32_t reader, const uint8_t *requirement, size_t requirement_len,
+uint32_t semver_fits(uint32_t grammar, const uint8_t *requirement, size_t requirement_len,
                      const uint8_t *version, size_t version_len, uint32_t pre_releases,
                      uint8_t *out, size_t out_len, size_t *needed);
 
 /* Whether each version of a list, one per line, matches the range: YES. `answers[n]` is the code of line n, NO, YES, TAG or
  * NO_VERSION, and `*needed` how many lines there are. Where there are more than `answers_len`, `answers` stays as it was. A line
  * ends at "\n" or "\r\n", and there is none after the last; an empty text has none. */
-uint32_t semver_filter(uint32_t reader, const uint8_t *requirement, size_t requirement_len,
+uint32_t semver_filter(uint32_t grammar, const uint8_t *requirement, size_t requirement_len,
                        const uint8_t *versions, size_t versions_len, uint32_t pre_releases,
                        uint8_t *answers, size_t answers_len, size_t *needed);
 
 /* Which of several versions, one per line, is the highest that matches the range, the first of equal ones: YES, and `*place` is its
  * line, counted from 0; NO, where none matches; or TAG. At any code but YES `*place` stays as it was. Each version is read, and the
  * code is NO_VERSION where one is invalid. */
-uint32_t semver_best(uint32_t reader, const uint8_t *requirement, size_t requirement_len,
+uint32_t semver_best(uint32_t grammar, const uint8_t *requirement, size_t requirement_len,
                      const uint8_t *versions, size_t versions_len, uint32_t pre_releases, size_t *place);
 
 /* The places of several versions, a line each, in the order of precedence: YES. `places[0]` is the line of the lowest, counted from 0,
@@ -77,23 +77,23 @@ uint32_t semver_sort(const uint8_t *versions, size_t versions_len, size_t *place
 uint32_t semver_compare(const uint8_t *one, size_t one_len, const uint8_t *other, size_t other_len);
 
 /* Whether two ranges overlap by their bounds: NO or YES. Two tags do if they are the same, a tag and versions never. */
-uint32_t semver_overlap(uint32_t reader, const uint8_t *one, size_t one_len, const uint8_t *other, size_t other_len);
+uint32_t semver_overlap(uint32_t grammar, const uint8_t *one, size_t one_len, const uint8_t *other, size_t other_len);
 
 /* Whether the other range matches each version that the first one matches: YES; NO, with the text of the lowest version that
  * it doesn't; or TAG. */
-uint32_t semver_within(uint32_t reader, const uint8_t *one, size_t one_len, const uint8_t *other, size_t other_len,
+uint32_t semver_within(uint32_t grammar, const uint8_t *one, size_t one_len, const uint8_t *other, size_t other_len,
                        uint8_t *out, size_t out_len, size_t *needed);
 
 /* The lowest version that both ranges match: YES, with its text; NO, if there is none; or TAG. */
-uint32_t semver_common(uint32_t reader, const uint8_t *one, size_t one_len, const uint8_t *other, size_t other_len,
+uint32_t semver_common(uint32_t grammar, const uint8_t *one, size_t one_len, const uint8_t *other, size_t other_len,
                        uint8_t *out, size_t out_len, size_t *needed);
 
 /* The lowest version that the range matches: YES, with its text; NO, if there is none; or TAG. */
-uint32_t semver_least(uint32_t reader, const uint8_t *requirement, size_t requirement_len,
+uint32_t semver_least(uint32_t grammar, const uint8_t *requirement, size_t requirement_len,
                       uint8_t *out, size_t out_len, size_t *needed);
 
 /* The canonical form of the range: YES. */
-uint32_t semver_normal(uint32_t reader, const uint8_t *requirement, size_t requirement_len,
+uint32_t semver_normal(uint32_t grammar, const uint8_t *requirement, size_t requirement_len,
                        uint8_t *out, size_t out_len, size_t *needed);
 
 /* How the version is displayed: YES. */
@@ -106,7 +106,7 @@ uint32_t semver_may_be_tag(const uint8_t *text, size_t text_len);
  * "name", without its scope, "normal", the canonical form of the range, "requirement", the text it was parsed from, and
  * "scope", without its @ or null, without whitespace between these. The grammar is that of the range.
  * Where the text is invalid the code is NO_REQUIREMENT. */
-uint32_t semver_package(uint32_t reader, const uint8_t *text, size_t text_len, uint8_t *out, size_t out_len, size_t *needed);
+uint32_t semver_package(uint32_t grammar, const uint8_t *text, size_t text_len, uint8_t *out, size_t out_len, size_t *needed);
 
 /* The parts of the text of a reference to a package, such as jsr:@scope/name@1/mod.ts, as JSON: YES. The text is an object with the members
  * "export", the export of a package of JSR and else null, "kind", "jsr" or "npm", "package", as of semver_package, and "path", null
@@ -124,7 +124,7 @@ typedef struct {
 } semver_ver;
 
 /* Parses a range into a handle that has none: YES. At any other code it still has none. */
-uint32_t semver_req_read(uint32_t reader, const uint8_t *text, size_t text_len, semver_req *handle,
+uint32_t semver_req_read(uint32_t grammar, const uint8_t *text, size_t text_len, semver_req *handle,
                          uint8_t *out, size_t out_len, size_t *needed);
 
 /* Parses a version into a handle that has none: YES. At any other code it still has none. */

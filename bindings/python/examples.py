@@ -1,4 +1,4 @@
-"""Examples of the module, and what the table of questions can't ask: types of arguments, copies, and running out of memory.
+"""Examples of the module, and what the table of questions can't ask: argument types, copies, running out of memory.
 python3 examples.py LIBRARY"""
 
 import copy
@@ -30,23 +30,23 @@ class Examples(unittest.TestCase):
         self.assertEqual(semver.Requirement(s, " 1.x").normal(), "1")
 
     def test_invalid(self):
-        with self.assertRaises(semver.Refused) as caught:
+        with self.assertRaises(semver.InvalidArgument) as caught:
             s.fits("", "1.0.0", semver.STRICT)
         for error in (caught.exception, pickle.loads(pickle.dumps(caught.exception))):
-            self.assertEqual((error.word, str(error)), ("requirement", "Empty version constraint."))
+            self.assertEqual((error.argument, str(error)), ("requirement", "Empty version constraint."))
         for call, message in (
-            (lambda: s.overlap("1", "", semver.STRICT), "invalid requirement"),
+            (lambda: s.overlap("1", "", semver.STRICT), "invalid range"),
             (lambda: s.sort("x"), "invalid version"),
             (lambda: s.compare(b"\xff", "1.0.0"), "a text isn't valid UTF-8"),
-            (lambda: s.normal("1", 3), "reader must be NPM, NORMALIZED or STRICT"),
+            (lambda: s.normal("1", 3), "grammar must be NPM, NORMALIZED or STRICT"),
         ):
-            self.assertRaisesRegex(semver.Refused, f"^{message}$", call)
-        self.assertRaises(semver.IsTag, s.least, "latest")
+            self.assertRaisesRegex(semver.InvalidArgument, f"^{message}$", call)
+        self.assertRaises(semver.TagError, s.lowest, "latest")
         self.assertRaises(UnicodeEncodeError, s.version, "1.0.0-\ud800")
 
 
 class Arguments(unittest.TestCase):
-    GOOD = {"reader": semver.NPM, "pre_releases": False}
+    GOOD = {"grammar": semver.NPM, "pre_releases": False}
 
     def rejects(self, call, name, wrong):
         """Whether the call raises a TypeError that begins with the parameter's name."""
@@ -59,7 +59,7 @@ class Arguments(unittest.TestCase):
         self.assertEqual(len(calls), 16)
         for call in [*calls, s.requirement("1").fits]:
             for name in inspect.signature(call).parameters:
-                wrong = {"reader": (True, "npm", None, 1.0), "pre_releases": (1, 0, None, "no")}.get(name, (3, None, ["1"], 1.0))
+                wrong = {"grammar": (True, "npm", None, 1.0), "pre_releases": (1, 0, None, "no")}.get(name, (3, None, ["1"], 1.0))
                 for value in wrong:
                     with self.subTest(call=call.__name__, parameter=name, value=value):
                         self.rejects(call, name, value)
@@ -69,11 +69,11 @@ class Arguments(unittest.TestCase):
             self.assertEqual(str(s.version(text)), "1.0.0")
             self.assertTrue(s.requirement(text).fits(text))
 
-    def test_readers(self):
-        for reader in (3, -1, 2**32, 2**64):
-            with self.assertRaises(semver.Refused) as caught:
-                s.requirement("1", reader)
-            self.assertEqual(caught.exception.word, "reader")
+    def test_grammars(self):
+        for grammar in (3, -1, 2**32, 2**64):
+            with self.assertRaises(semver.InvalidArgument) as caught:
+                s.requirement("1", grammar)
+            self.assertEqual(caught.exception.argument, "grammar")
 
     def test_values(self):
         requirement, version = s.requirement("1"), s.version("1.0.0")
@@ -114,8 +114,8 @@ class Lifetimes(unittest.TestCase):
 
     def test_values_that_cannot_be_read(self):
         for arguments in ((3,), ("x",), (b"\xff",), ()):
-            self.assertRaises((TypeError, semver.Refused), s.version, *arguments)
-            self.assertRaises((TypeError, semver.Refused), s.requirement, *arguments, 3)
+            self.assertRaises((TypeError, semver.InvalidArgument), s.version, *arguments)
+            self.assertRaises((TypeError, semver.InvalidArgument), s.requirement, *arguments, 3)
 
     def test_out_of_memory(self):
         version = s.version("1.3.0")

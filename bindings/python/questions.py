@@ -11,12 +11,12 @@ from functools import partial
 
 import semver
 
-READERS = {"npm": semver.NPM, "normalized": semver.NORMALIZED, "strict": semver.STRICT, "unknown": 3}
+GRAMMARS = {"npm": semver.NPM, "normalized": semver.NORMALIZED, "strict": semver.STRICT, "unknown": 3}
 FLAGS = {"restricted": False, "admitted": True}
-DEFAULTS = {"reader": semver.NPM, "pre_releases": False}
+DEFAULTS = {"grammar": semver.NPM, "pre_releases": False}
 CODES = {semver.NO: "no", semver.YES: "yes", semver.TAG: "tag", semver.NO_VERSION: "invalid version"}
-PROBLEMS = {"requirement": "invalid requirement", "version": "invalid version", "text": "invalid UTF-8", "reader": "unknown reader"}
-QUIET = {"filter", "best", "sort", "compare", "overlap", "may_be_tag", "kept.fits of a text"}  # without the library's message
+PROBLEMS = {"requirement": "invalid requirement", "version": "invalid version", "text": "invalid UTF-8", "grammar": "unknown grammar"}
+QUIET = {"filter", "best", "sort", "compare", "overlap", "may_be_tag", "value.fits of a text"}  # without the library's message
 ONLY_ELSEWHERE = {"order", "equal", "text"}
 
 s = semver.Library(sys.argv[1])
@@ -52,7 +52,7 @@ CALLS = {
     "overlap": (s.overlap, 1, fit),
     "within": (s.outside, 1, lowest("no", "yes")),
     "common": (s.common, 1, lowest("yes", "no")),
-    "least": (s.least, 1, lowest("yes", "no")),
+    "least": (s.lowest, 1, lowest("yes", "no")),
     "normal": (s.normal, 1, written),
     "version": (s.displayed, 0, written),
     "may_be_tag": (s.may_be_tag, 0, fit),
@@ -67,13 +67,13 @@ def argument(field):
     return field if encoded.decode("utf-8", "replace") == field else encoded
 
 
-def kept_ways(name, texts, options, again):
-    """The ways to ask values that are kept, or what is made of them again."""
+def value_ways(name, texts, options, again):
+    """The ways to ask parsed values, or what is made of them again."""
     flag = {key: value for key, value in options.items() if key == "pre_releases"}
-    reader = {key: value for key, value in options.items() if key == "reader"}
+    grammar = {key: value for key, value in options.items() if key == "grammar"}
 
     def requirement(n):
-        return again(s.requirement(texts[n], **reader))
+        return again(s.requirement(texts[n], **grammar))
 
     def version(n):
         return again(s.version(texts[n]))
@@ -82,38 +82,38 @@ def kept_ways(name, texts, options, again):
         return getattr(value, method)(value)
 
     if name == "fits":
-        yield "kept.fits", lambda: requirement(0).fits(version(1), **flag)
-        yield "kept.fits of a text", lambda: requirement(0).fits(texts[1], **flag)
+        yield "value.fits", lambda: requirement(0).fits(version(1), **flag)
+        yield "value.fits of a text", lambda: requirement(0).fits(texts[1], **flag)
     elif name == "overlap":
-        yield "kept.overlaps", lambda: requirement(0).overlaps(requirement(1))
+        yield "value.overlaps", lambda: requirement(0).overlaps(requirement(1))
     elif name == "compare":
-        yield "kept.compare", lambda: version(0).compare(version(1))
+        yield "value.compare", lambda: version(0).compare(version(1))
     elif name == "normal":
-        yield "kept.normal", lambda: requirement(0).normal()
+        yield "value.normal", lambda: requirement(0).normal()
     elif name == "version":
-        yield "kept.str", lambda: str(version(0))
+        yield "value.str", lambda: str(version(0))
     if name == "overlap" and texts[0] == texts[1]:
-        yield "kept.overlaps with itself", lambda: itself(requirement(0), "overlaps")
+        yield "value.overlaps with itself", lambda: itself(requirement(0), "overlaps")
     if name == "compare" and texts[0] == texts[1]:
-        yield "kept.compare with itself", lambda: itself(version(0), "compare")
+        yield "value.compare with itself", lambda: itself(version(0), "compare")
 
 
 def ways(name, texts, options):
-    """The ways to ask: options in their places, only those that aren't defaults, and of values that are kept and their copies."""
+    """The ways to ask: options in their places, only those that aren't defaults, and of parsed values and their copies."""
     call = CALLS[name][0]
     others = {key: value for key, value in options.items() if value != DEFAULTS[key]}
     yield name, partial(call, *texts, *options.values())
     yield name, partial(call, *texts, **others)
-    yield from kept_ways(name, texts, others, lambda it: it)
-    yield from kept_ways(name, texts, others, copy.copy)
+    yield from value_ways(name, texts, others, lambda it: it)
+    yield from value_ways(name, texts, others, copy.copy)
 
 
 def answer(ask, form):
     try:
         return form(ask())
-    except semver.Refused as error:
-        return [PROBLEMS[error.word], str(error)]
-    except semver.IsTag:
+    except semver.InvalidArgument as error:
+        return [PROBLEMS[error.argument], str(error)]
+    except semver.TagError:
         return ["tag"]
     except Exception as error:  # an answer that differs, whatever it is
         return [repr(error)]
@@ -123,13 +123,13 @@ def differing(question, wanted):
     """How many ways to ask have another answer."""
     name, *fields = question
     _, count, form = CALLS[name]
-    options = {key: named[field] for key, named, field in zip(DEFAULTS, (READERS, FLAGS), fields[:count])}
+    options = {key: named[field] for key, named, field in zip(DEFAULTS, (GRAMMARS, FLAGS), fields[:count])}
     texts = [argument(field) for field in fields[count:]]
     wanted = wanted[:2] if name == "package" else wanted  # the parts behind the JSON are for Rust
     differ = 0
     for way, ask in ways(name, texts, options):
         got = answer(ask, form)
-        quiet = got[0] in PROBLEMS.values() and (way in QUIET or got[0] == "unknown reader")
+        quiet = got[0] in PROBLEMS.values() and (way in QUIET or got[0] == "unknown grammar")
         if (got[:1] != wanted[:1]) if quiet else (got != wanted):
             print(f"{question}: {way}: {got}")
             differ += 1

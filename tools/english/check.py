@@ -25,7 +25,13 @@ WORDS = (
 )
 NOT_SAID = re.compile("|".join(rf"\b({words})\b" for words, _ in WORDS))
 PAGES = ("README.md", "docs/*.md", "bindings/**/*.md", "tools/**/*.md", "crates/*/CALLING.md")
-SOURCES = (("crates/*/src/**/*.rt", "//"), ("crates/*/specs/**/*.antt", "--"), ("crates/*/proofs/**/*.antt", "--"))
+SOURCES = (
+    ("crates/*/src/**/*.rt", "//"),
+    ("crates/*/specs/**/*.antt", "--"),
+    ("crates/*/proofs/**/*.antt", "--"),
+    ("bindings/rust/*/*.rs", "//"),
+    ("bindings/**/*.py", "#"),
+)
 
 
 def prose(text):
@@ -50,6 +56,13 @@ def of_source(text, mark):
             yield number, line.strip().lstrip(mark + "!")
 
 
+def of_docstrings(text):
+    """The lines of a Python source's docstrings."""
+    for found in re.finditer(r'"""(.*?)"""', text, re.DOTALL):
+        first = text.count("\n", 0, found.start()) + 1
+        yield from enumerate(found.group(1).splitlines(), first)
+
+
 def of_header(text):
     """The comments of a header."""
     for number, line in enumerate(text.splitlines(), 1):
@@ -66,6 +79,8 @@ def files():
     for pattern, mark in SOURCES:
         for path in TOP.glob(pattern):
             yield path, of_source(path.read_text(), mark)
+    for path in TOP.glob("bindings/**/*.py"):
+        yield path, of_docstrings(path.read_text())
     yield TOP / "bindings/c/semver.h", of_header((TOP / "bindings/c/semver.h").read_text())
 
 

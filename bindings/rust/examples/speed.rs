@@ -1,4 +1,4 @@
-//! The time of a match by handles, over 10,000 versions: the least of 25 passes. A number asks for so many passes, and no time.
+//! The time of a match by handles, over 10,000 versions: the lowest of 25 passes. A number asks for so many passes, and no time.
 
 use deno_semver_proved::{Version, VersionReq};
 use std::time::Instant;
@@ -19,7 +19,7 @@ fn matching(req: &VersionReq, versions: &[Version]) -> usize {
 }
 
 fn main() {
-    let passes = std::env::args().nth(1).map(|word| word.parse::<usize>().unwrap());
+    let passes = std::env::args().nth(1).map(|text| text.parse::<usize>().unwrap());
     let versions = versions();
     for text in ["^1.2", ">=1.2 <2 || 3.x || ~5.6.7"] {
         let req = VersionReq::parse_from_npm(text).unwrap();
@@ -32,7 +32,7 @@ fn main() {
             let count = matching(&req, &versions);
             (start.elapsed().as_nanos(), count)
         };
-        let (least, count) = (0..25).map(pass).min().unwrap();
-        println!("{text}: {} match, {:.0} ns a match", count, least as f64 / VERSIONS as f64);
+        let (lowest, count) = (0..25).map(pass).min().unwrap();
+        println!("{text}: {} match, {:.0} ns a match", count, lowest as f64 / VERSIONS as f64);
     }
 }

@@ -1,9 +1,9 @@
-//! deno_semver, proved, from Rust: `Version` and `VersionReq` over the static library, at the names of the crate `deno_semver`.
+//! The proved `deno_semver` from Rust: `Version`, `VersionReq` and `PackageReq` under the names of the crate `deno_semver`.
 //!
-//! Want of memory ends the program, as it does in Rust. A value may be sent to another thread, and is used by one at a time.
+//! Running out of memory ends the program, as elsewhere in Rust. Values are `Send` and not `Sync`.
 
-mod border;
-pub mod least;
+mod calls;
+pub mod lowest;
 pub mod lists;
 pub mod npm;
 pub mod package;

@@ -1,22 +1,21 @@
-//! Questions about several versions at once, a line each.
+//! Questions about lists of versions, one per line.
 
-pub use crate::border::{Best, Fit, PreRelease};
+pub use crate::calls::{Best, Fit, PreRelease};
 
-use crate::border::{best, filter, sort, Reader};
+use crate::calls::{best, filter, sort, Grammar};
 use crate::npm::NpmVersionReqParseError;
 
-/// What each line of the versions is by the requirement, as npm reads it.
+/// Whether each version matches the range, parsed by npm's grammar.
 pub fn filter_by_npm(requirement: &str, versions: &str, pre_release: PreRelease) -> Result<Vec<Fit>, NpmVersionReqParseError> {
-    filter(Reader::Npm, requirement, versions, pre_release).map_err(NpmVersionReqParseError::new)
+    filter(Grammar::Npm, requirement, versions, pre_release).map_err(NpmVersionReqParseError::new)
 }
 
-/// Which of the versions, a line each, is the greatest that matches, as npm reads the requirement.
+/// Which version is the highest that matches the range, parsed by npm's grammar; the first of equal ones.
 pub fn best_by_npm(requirement: &str, versions: &str, pre_release: PreRelease) -> Result<Best, NpmVersionReqParseError> {
-    best(Reader::Npm, requirement, versions, pre_release).map_err(NpmVersionReqParseError::new)
+    best(Grammar::Npm, requirement, versions, pre_release).map_err(NpmVersionReqParseError::new)
 }
 
-/// The places of the versions, a line each, in the order of precedence, where those that differ in the build alone keep their order;
-/// none where a version is refused.
+/// The lines of the versions by precedence; versions that differ in the build alone keep their order. None if a version is invalid.
 pub fn sort_versions(versions: &str) -> Option<Vec<usize>> {
     sort(versions)
 }

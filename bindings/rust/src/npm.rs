@@ -1,6 +1,6 @@
-//! npm's readers.
+//! npm's grammars.
 
-use crate::border::may_be_tag;
+use crate::calls::may_be_tag;
 use crate::version::Version;
 use crate::version_req::VersionReq;
 use std::error::Error;
@@ -14,12 +14,12 @@ pub fn parse_npm_version_req(text: &str) -> Result<VersionReq, NpmVersionReqPars
     VersionReq::parse_from_npm(text)
 }
 
-/// Whether the text may be the tag of a version, by npm's rules.
+/// Whether the text can be a tag, by npm's rules.
 pub fn is_valid_npm_tag(value: &str) -> bool {
     may_be_tag(value)
 }
 
-/// Why npm's reader refuses the text of a version.
+/// Why a text isn't a version for npm.
 #[derive(Clone, Debug, PartialEq, Eq)]
 pub struct NpmVersionParseError {
     message: String,
@@ -43,7 +43,7 @@ impl fmt::Display for NpmVersionParseError {
 
 impl Error for NpmVersionParseError {}
 
-/// Why npm's reader refuses the text of a requirement.
+/// Why a text isn't a range for npm.
 #[derive(Clone, Debug, PartialEq, Eq)]
 pub struct NpmVersionReqParseError {
     message: String,

@@ -1,11 +1,11 @@
-//! Requirements of packages, and the parts of references.
+//! Packages with a range, and the parts of references.
 
-use crate::border::{package, reference, Reader};
+use crate::calls::{package, reference, Grammar};
 use crate::version_req::VersionReq;
 use std::error::Error;
 use std::fmt;
 
-/// A requirement of a package: its name, with its scope where it has one, and which of its versions are meant.
+/// A package and a range of its versions. The name includes the scope.
 #[derive(Clone, Debug, PartialEq, Eq, Hash)]
 pub struct PackageReq {
     pub name: String,
@@ -14,35 +14,35 @@ pub struct PackageReq {
 
 impl PackageReq {
     pub fn from_str(text: &str) -> Result<PackageReq, PackageReqParseError> {
-        PackageReq::read(Reader::Strict, text)
+        PackageReq::read(Grammar::Strict, text)
     }
 
     pub fn from_str_normalized(text: &str) -> Result<PackageReq, PackageReqParseError> {
-        PackageReq::read(Reader::Normalized, text)
+        PackageReq::read(Grammar::Normalized, text)
     }
 
     pub fn from_str_loose(text: &str) -> Result<PackageReq, PackageReqParseError> {
-        PackageReq::read(Reader::Npm, text)
+        PackageReq::read(Grammar::Npm, text)
     }
 
-    fn read(reader: Reader, text: &str) -> Result<PackageReq, PackageReqParseError> {
-        let json = package(reader, text).map_err(|message| PackageReqParseError::new(text, message))?;
+    fn read(grammar: Grammar, text: &str) -> Result<PackageReq, PackageReqParseError> {
+        let json = package(grammar, text).map_err(|message| PackageReqParseError::new(text, message))?;
         let [name, _, requirement, scope] = parts(&json);
         let name = name.expect("a package has a name");
         let requirement = requirement.expect("a package has a requirement");
         Ok(PackageReq {
             name: scope.map_or(name.clone(), |scope| format!("@{scope}/{name}")),
-            version_req: VersionReq::read(reader, &requirement).expect("a package's requirement is read again"),
+            version_req: VersionReq::read(grammar, &requirement).expect("the range of a package parses again"),
         })
     }
 
-    /// The name, `@`, and the normal text of the requirement.
+    /// `name@range`, with the canonical form of the range.
     pub fn to_string_normalized(&self) -> String {
         format!("{}@{}", self.name, self.version_req.to_string_normalized())
     }
 }
 
-// `name@text`, or the name alone where the requirement's text is `*`.
+// `name@range`, or the name alone if the range is `*`.
 impl fmt::Display for PackageReq {
     fn fmt(&self, f: &mut fmt::Formatter<'_>) -> fmt::Result {
         match self.version_req.version_text() {
@@ -85,7 +85,7 @@ fn unquoted(quoted: &str) -> (String, &str) {
     unreachable!("a string has an end")
 }
 
-// The character that an escape stands for; those of the library stand for single ones.
+// The character of an escape; the library escapes control characters and no surrogates.
 fn escaped(characters: &mut std::str::CharIndices<'_>) -> char {
     match characters.next().map(|(_, c)| c) {
         Some('b') => '\u{8}',
@@ -101,25 +101,25 @@ fn escaped(characters: &mut std::str::CharIndices<'_>) -> char {
     }
 }
 
-/// The parts of a reference to a package of JSR or npm, as JSON; or the message of its refusal.
+/// The parts of a reference to a JSR or npm package, as JSON, or the error message.
 pub fn reference_json(text: &str) -> Result<String, String> {
     reference(text)
 }
 
-/// What is wrong in the text of a package, which the library tells by its message.
+/// What is wrong with the text of a package.
 #[derive(Clone, Debug, PartialEq, Eq)]
 pub enum PackageReqPartsParseError {
-    /// Nothing stands before the first `/`, or before the end.
+    /// The name is empty.
     NoPackageName,
-    /// A scope stands alone.
+    /// There is a scope and no name.
     InvalidPackageName,
-    /// The text holds a `/` and doesn't begin with `@`.
+    /// There is a `/`, and the text doesn't begin with `@`.
     MissingAtSymbol,
-    /// The requirement of versions is refused, or a path stands behind it.
+    /// The range is invalid, or a path follows it.
     VersionReq,
 }
 
-/// Why a text is no requirement of a package.
+/// Why a text isn't a package with a range.
 #[derive(Clone, Debug, PartialEq, Eq)]
 pub struct PackageReqParseError {
     pub text: String,

@@ -1,15 +1,15 @@
 //! Versions.
 
-use crate::border::KeptVersion;
+use crate::calls::VersionHandle;
 use crate::npm::NpmVersionParseError;
 use std::cmp::Ordering;
 use std::error::Error;
 use std::fmt;
 use std::hash::{Hash, Hasher};
 
-/// A version. Two are equal where their texts are, builds included; the order is that of precedence, and then of the builds.
+/// A version. `Eq` and `Ord` include the build: the order is by precedence, then by build.
 pub struct Version {
-    kept: KeptVersion,
+    handle: VersionHandle,
     text: String,
 }
 
@@ -23,24 +23,24 @@ impl Version {
     }
 
     fn read(text: &str) -> Result<Version, String> {
-        let kept = KeptVersion::read(text)?;
-        Ok(Version { text: kept.text(), kept })
+        let handle = VersionHandle::read(text)?;
+        Ok(Version { text: handle.text(), handle })
     }
 
-    /// The order of precedence, in which the build has no part.
+    /// The order by precedence, which ignores the build.
     pub fn cmp_precedence(&self, other: &Version) -> Ordering {
-        self.kept.precedence(&other.kept)
+        self.handle.precedence(&other.handle)
     }
 
-    pub(crate) fn kept(&self) -> &KeptVersion {
-        &self.kept
+    pub(crate) fn handle(&self) -> &VersionHandle {
+        &self.handle
     }
 }
 
-// The text of a version that was read is read as that version.
+// The text of a version parses to that version.
 impl Clone for Version {
     fn clone(&self) -> Version {
-        Version::read(&self.text).expect("a version's text is read again")
+        Version::read(&self.text).expect("the text of a version parses again")
     }
 }
 
@@ -66,7 +66,7 @@ impl PartialOrd for Version {
 
 impl Ord for Version {
     fn cmp(&self, other: &Version) -> Ordering {
-        self.kept.order(&other.kept)
+        self.handle.order(&other.handle)
     }
 }
 
@@ -82,7 +82,7 @@ impl fmt::Debug for Version {
     }
 }
 
-/// Why a text is no version.
+/// Why a text isn't a version.
 #[derive(Clone, Debug, PartialEq, Eq)]
 pub struct VersionParseError {
     message: String,

@@ -1,16 +1,16 @@
-//! Requirements of versions.
+//! Version requirements: ranges and tags.
 
-use crate::border::{overlap, Fit, PreRelease, Reader, Requirement};
+use crate::calls::{overlap, Fit, Grammar, PreRelease, Requirement};
 use crate::npm::NpmVersionReqParseError;
 use crate::version::Version;
 use std::error::Error;
 use std::fmt;
 use std::hash::{Hash, Hasher};
 
-/// A requirement of versions. Two are equal where they stand for the same, whatever texts they were read from.
+/// A version requirement: ranges, or a tag. Two are equal if they mean the same, whatever their texts.
 pub struct VersionReq {
-    kept: Requirement,
-    reader: Reader,
+    handle: Requirement,
+    grammar: Grammar,
     source: String,
     text: String,
     tag: Option<String>,
@@ -18,42 +18,45 @@ pub struct VersionReq {
 
 impl VersionReq {
     pub fn parse_from_normalized(text: &str) -> Result<VersionReq, VersionReqNormalizedParseError> {
-        VersionReq::read(Reader::Normalized, text).map_err(|message| VersionReqNormalizedParseError { message })
+        VersionReq::read(Grammar::Normalized, text).map_err(|message| VersionReqNormalizedParseError { message })
     }
 
     pub fn parse_from_specifier(text: &str) -> Result<VersionReq, VersionReqSpecifierParseError> {
-        VersionReq::read(Reader::Strict, text).map_err(|message| VersionReqSpecifierParseError { message })
+        VersionReq::read(Grammar::Strict, text).map_err(|message| VersionReqSpecifierParseError { message })
     }
 
     pub fn parse_from_npm(text: &str) -> Result<VersionReq, NpmVersionReqParseError> {
-        VersionReq::read(Reader::Npm, text).map_err(NpmVersionReqParseError::new)
+        VersionReq::read(Grammar::Npm, text).map_err(NpmVersionReqParseError::new)
     }
 
-    pub(crate) fn read(reader: Reader, source: &str) -> Result<VersionReq, String> {
-        let kept = Requirement::read(reader, source)?;
-        let tag = kept.is_tag().then(|| kept.normal_text());
-        Ok(VersionReq { text: kept.text(), tag, kept, reader, source: source.to_string() })
+    pub(crate) fn read(grammar: Grammar, source: &str) -> Result<VersionReq, String> {
+        let handle = Requirement::read(grammar, source)?;
+        let tag = handle.is_tag().then(|| handle.normal_text());
+        Ok(VersionReq { text: handle.text(), tag, handle, grammar, source: source.to_string() })
     }
 
-    /// Whether the version matches some range of the requirement, by npm's rule about pre-releases. It panics where the requirement
-    /// is a tag.
+    /// Whether the version matches, by npm's rule for pre-releases.
+    ///
+    /// # Panics
+    ///
+    /// If this is a tag.
     pub fn matches(&self, version: &Version) -> bool {
         self.matches_with(version, PreRelease::Restricted)
     }
 
     pub fn matches_with(&self, version: &Version, pre_release: PreRelease) -> bool {
-        match self.kept.matches(version.kept(), pre_release) {
+        match self.handle.matches(version.handle(), pre_release) {
             Fit::Yes => true,
             Fit::No => false,
-            Fit::Tag | Fit::Refused => panic!("the requirement is the tag {}", self.text),
+            Fit::Tag | Fit::Invalid => panic!("the requirement is the tag {}", self.text),
         }
     }
 
     pub fn intersects(&self, other: &VersionReq) -> bool {
         if std::ptr::eq(self, other) {
-            return overlap(self.reader, &self.source, &self.source).expect("a text is read again");
+            return overlap(self.grammar, &self.source, &self.source).expect("the text parses again");
         }
-        self.kept.overlaps(&other.kept)
+        self.handle.overlaps(&other.handle)
     }
 
     pub fn tag(&self) -> Option<&str> {
@@ -64,27 +67,27 @@ impl VersionReq {
         &self.text
     }
 
-    /// The text that is meant to be stored.
+    /// The canonical form.
     pub fn to_string_normalized(&self) -> String {
-        self.kept.normal_text()
+        self.handle.normal_text()
     }
 }
 
 impl Clone for VersionReq {
     fn clone(&self) -> VersionReq {
-        VersionReq::read(self.reader, &self.source).expect("a text is read again")
+        VersionReq::read(self.grammar, &self.source).expect("the text parses again")
     }
 }
 
 impl PartialEq for VersionReq {
     fn eq(&self, other: &VersionReq) -> bool {
-        self.kept.equals(&other.kept)
+        self.handle.equals(&other.handle)
     }
 }
 
 impl Eq for VersionReq {}
 
-// Equal requirements have one normal text.
+// Equal requirements have one canonical form.
 impl Hash for VersionReq {
     fn hash<H: Hasher>(&self, state: &mut H) {
         self.to_string_normalized().hash(state);
@@ -103,8 +106,8 @@ impl fmt::Debug for VersionReq {
     }
 }
 
-macro_rules! refusal {
-    ($(#[$doc:meta])* $name:ident, $words:literal) => {
+macro_rules! parse_error {
+    ($(#[$doc:meta])* $name:ident, $what:literal) => {
         $(#[$doc])*
         #[derive(Clone, Debug, PartialEq, Eq)]
         pub struct $name {
@@ -119,7 +122,7 @@ macro_rules! refusal {
 
         impl fmt::Display for $name {
             fn fmt(&self, f: &mut fmt::Formatter<'_>) -> fmt::Result {
-                write!(f, "{}: {}", $words, self.message)
+                write!(f, "{}: {}", $what, self.message)
             }
         }
 
@@ -127,13 +130,13 @@ macro_rules! refusal {
     };
 }
 
-refusal!(
-    /// Why a text is no requirement of the normalized grammar.
+parse_error!(
+    /// Why a text isn't a range of the normalized grammar.
     VersionReqNormalizedParseError,
     "Invalid normalized version requirement"
 );
-refusal!(
-    /// Why a text is no requirement of the strict grammar.
+parse_error!(
+    /// Why a text isn't a range of the strict grammar.
     VersionReqSpecifierParseError,
     "Invalid specifier version requirement"
 );

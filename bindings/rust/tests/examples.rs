@@ -38,7 +38,7 @@ fn npm() {
 #[test]
 fn lists() {
     let fits = filter_by_npm("^1.2", "1.2.0\n2.0.0\r\nfoo\n1.9.9\n", PreRelease::Restricted);
-    assert_eq!(fits, Ok(vec![Fit::Yes, Fit::No, Fit::Refused, Fit::Yes]));
+    assert_eq!(fits, Ok(vec![Fit::Yes, Fit::No, Fit::Invalid, Fit::Yes]));
 }
 
 #[test]

@@ -1,7 +1,7 @@
 //! Asks each question of the flat table QUESTIONS (flatten.py) by every call of the crate that it concerns. It fails where an answer
 //! differs or a block of the library is still alive at the end.
 
-use deno_semver_proved::least::{common_by_npm, least_by_npm, outside_by_npm, Least};
+use deno_semver_proved::lowest::{common_by_npm, lowest_by_npm, outside_by_npm, Lowest};
 use deno_semver_proved::lists::{best_by_npm, filter_by_npm, sort_versions, Best, Fit, PreRelease};
 use deno_semver_proved::npm::{is_valid_npm_tag, NpmVersionReqParseError};
 use deno_semver_proved::package::{reference_json, PackageReq};
@@ -85,7 +85,7 @@ fn filter(requirement: &str, versions: &str, pre_release: PreRelease) -> Answers
         Fit::No => "no",
         Fit::Yes => "yes",
         Fit::Tag => "tag",
-        Fit::Refused => "invalid version",
+        Fit::Invalid => "invalid version",
     });
     answer(&["yes"].into_iter().chain(names).collect::<Vec<_>>())
 }
@@ -95,7 +95,7 @@ fn best(requirement: &str, versions: &str, pre_release: PreRelease) -> Answers {
         Best::Nothing => answer(&["no"]),
         Best::At(place) => answer(&["yes", &place.to_string()]),
         Best::Tag => answer(&["tag"]),
-        Best::Refused => answer(&["invalid version"]),
+        Best::Invalid => answer(&["invalid version"]),
     }
 }
 
@@ -121,11 +121,11 @@ fn equal(one: &VersionReq, other: &VersionReq) -> String {
     yes_or_no(one == other)
 }
 
-fn lowest(found: &str, nothing: &str, least: Result<Least, NpmVersionReqParseError>) -> Answers {
-    match least.map_err(invalid_npm)? {
-        Least::Nothing => answer(&[nothing]),
-        Least::Version(text) => answer(&[found, &text]),
-        Least::Tag => answer(&["tag"]),
+fn lowest(found: &str, nothing: &str, lowest: Result<Lowest, NpmVersionReqParseError>) -> Answers {
+    match lowest.map_err(invalid_npm)? {
+        Lowest::Nothing => answer(&[nothing]),
+        Lowest::Version(text) => answer(&[found, &text]),
+        Lowest::Tag => answer(&["tag"]),
     }
 }
 
@@ -165,7 +165,7 @@ fn ask(question: &[&str]) -> Option<Answers> {
         ["equal", grammar, one, other] => reqs(grammar, one, other, equal),
         ["within", "npm", one, other] => lowest("no", "yes", outside_by_npm(one, other)),
         ["common", "npm", one, other] => lowest("yes", "no", common_by_npm(one, other)),
-        ["least", "npm", requirement] => lowest("yes", "no", least_by_npm(requirement)),
+        ["least", "npm", requirement] => lowest("yes", "no", lowest_by_npm(requirement)),
         ["normal", grammar, text] => requirements(grammar, text).and_then(|all| written(all, VersionReq::to_string_normalized)),
         ["text", grammar, text] => requirements(grammar, text).and_then(|all| written(all, VersionReq::to_string)),
         ["version", text] => versions(text).and_then(|all| written(all, Version::to_string)),

@@ -1,5 +1,5 @@
-//! The calls of the library, each safe: the pointers and lengths are those of slices that are borrowed for the call, of which an
-//! empty one's is no null, and those of handles that the call alone has.
+//! The C calls, each wrapped in a safe function: pointers and lengths are those of slices borrowed for the call, which are never
+//! null, and a handle is passed to one call at a time.
 
 use std::alloc::{handle_alloc_error, Layout};
 use std::cell::UnsafeCell;
@@ -14,7 +14,7 @@ struct Raw {
 
 extern "C" {
     fn semver_filter(
-        reader: u32,
+        grammar: u32,
         requirement: *const u8,
         requirement_len: usize,
         versions: *const u8,
@@ -25,7 +25,7 @@ extern "C" {
         needed: *mut usize,
     ) -> u32;
     fn semver_best(
-        reader: u32,
+        grammar: u32,
         requirement: *const u8,
         requirement_len: usize,
         versions: *const u8,
@@ -34,13 +34,13 @@ extern "C" {
         place: *mut usize,
     ) -> u32;
     fn semver_sort(versions: *const u8, versions_len: usize, places: *mut usize, places_len: usize, needed: *mut usize) -> u32;
-    fn semver_package(reader: u32, text: *const u8, text_len: usize, out: *mut u8, out_len: usize, needed: *mut usize) -> u32;
+    fn semver_package(grammar: u32, text: *const u8, text_len: usize, out: *mut u8, out_len: usize, needed: *mut usize) -> u32;
     fn semver_reference(text: *const u8, text_len: usize, out: *mut u8, out_len: usize, needed: *mut usize) -> u32;
     fn semver_may_be_tag(text: *const u8, text_len: usize) -> u32;
-    fn semver_overlap(reader: u32, one: *const u8, one_len: usize, other: *const u8, other_len: usize) -> u32;
-    fn semver_least(reader: u32, text: *const u8, text_len: usize, out: *mut u8, out_len: usize, needed: *mut usize) -> u32;
+    fn semver_overlap(grammar: u32, one: *const u8, one_len: usize, other: *const u8, other_len: usize) -> u32;
+    fn semver_least(grammar: u32, text: *const u8, text_len: usize, out: *mut u8, out_len: usize, needed: *mut usize) -> u32;
     fn semver_common(
-        reader: u32,
+        grammar: u32,
         one: *const u8,
         one_len: usize,
         other: *const u8,
@@ -50,7 +50,7 @@ extern "C" {
         needed: *mut usize,
     ) -> u32;
     fn semver_within(
-        reader: u32,
+        grammar: u32,
         one: *const u8,
         one_len: usize,
         other: *const u8,
@@ -60,7 +60,7 @@ extern "C" {
         needed: *mut usize,
     ) -> u32;
     fn semver_req_read(
-        reader: u32,
+        grammar: u32,
         text: *const u8,
         text_len: usize,
         handle: *mut Raw,
@@ -95,16 +95,16 @@ const NO_REQUIREMENT: u32 = 3;
 const NO_MEMORY: u32 = 5;
 const NO_VERSION: u32 = 7;
 
-/// A reader of requirements.
+/// A grammar of ranges.
 #[derive(Clone, Copy, Debug, PartialEq, Eq)]
 #[repr(u32)]
-pub(crate) enum Reader {
+pub(crate) enum Grammar {
     Npm = 0,
     Normalized = 1,
     Strict = 2,
 }
 
-/// Whether pre-releases are restricted by npm's rule, or every one between the bounds is admitted.
+/// Whether pre-releases match by npm's rule, or whenever they are within the bounds.
 #[derive(Clone, Copy, Debug, PartialEq, Eq)]
 #[repr(u32)]
 pub enum PreRelease {
@@ -112,14 +112,14 @@ pub enum PreRelease {
     Admitted = 1,
 }
 
-/// What a requirement says of a version.
+/// Whether a version matches a range.
 #[derive(Clone, Copy, Debug, PartialEq, Eq)]
 pub enum Fit {
     No,
     Yes,
     Tag,
-    /// The version is refused.
-    Refused,
+    /// The version is invalid.
+    Invalid,
 }
 
 fn fit(code: u32) -> Fit {
@@ -127,12 +127,12 @@ fn fit(code: u32) -> Fit {
         0 => Fit::No,
         YES => Fit::Yes,
         TAG => Fit::Tag,
-        NO_VERSION => Fit::Refused,
+        NO_VERSION => Fit::Invalid,
         _ => failed(code),
     }
 }
 
-// A `&str` is UTF-8 and a `Reader` is a reader, so that no other code comes.
+// Text is UTF-8 and every `Grammar` exists, so no other code is possible.
 fn failed(code: u32) -> ! {
     match code {
         NO_MEMORY => handle_alloc_error(Layout::new::<usize>()),
@@ -157,13 +157,13 @@ fn text_of(mut call: impl FnMut(*mut u8, usize, *mut usize) -> u32) -> (u32, Str
     }
 }
 
-/// What each line of the versions is by the requirement, or the message of its refusal.
-pub(crate) fn filter(reader: Reader, requirement: &str, versions: &str, pre_release: PreRelease) -> Result<Vec<Fit>, String> {
+/// The answer for each line, or the error message of the range.
+pub(crate) fn filter(grammar: Grammar, requirement: &str, versions: &str, pre_release: PreRelease) -> Result<Vec<Fit>, String> {
     let mut answers = vec![0u8; versions.lines().count()];
     let mut needed = 0;
     let code = unsafe {
         semver_filter(
-            reader as u32,
+            grammar as u32,
             requirement.as_ptr(),
             requirement.len(),
             versions.as_ptr(),
@@ -176,28 +176,28 @@ pub(crate) fn filter(reader: Reader, requirement: &str, versions: &str, pre_rele
     };
     match code {
         YES => Ok(answers[..needed].iter().map(|code| fit(u32::from(*code))).collect()),
-        NO_REQUIREMENT => Err(Requirement::read(reader, requirement).err().unwrap_or_default()),
+        NO_REQUIREMENT => Err(Requirement::read(grammar, requirement).err().unwrap_or_default()),
         _ => failed(code),
     }
 }
 
-/// Which of several versions is the best match.
+/// The best match of a list of versions.
 #[derive(Clone, Copy, Debug, PartialEq, Eq)]
 pub enum Best {
     /// None matches.
     Nothing,
-    /// The one of this line, from 0.
+    /// The version on this line, counted from 0.
     At(usize),
     Tag,
-    /// A version is refused.
-    Refused,
+    /// A version is invalid.
+    Invalid,
 }
 
-pub(crate) fn best(reader: Reader, requirement: &str, versions: &str, pre_release: PreRelease) -> Result<Best, String> {
+pub(crate) fn best(grammar: Grammar, requirement: &str, versions: &str, pre_release: PreRelease) -> Result<Best, String> {
     let mut place = 0;
     let code = unsafe {
         semver_best(
-            reader as u32,
+            grammar as u32,
             requirement.as_ptr(),
             requirement.len(),
             versions.as_ptr(),
@@ -206,21 +206,21 @@ pub(crate) fn best(reader: Reader, requirement: &str, versions: &str, pre_releas
             &mut place,
         )
     };
-    match fit_or_refusal(code) {
+    match fit_or_invalid(code) {
         Some(Fit::No) => Ok(Best::Nothing),
         Some(Fit::Yes) => Ok(Best::At(place)),
         Some(Fit::Tag) => Ok(Best::Tag),
-        Some(Fit::Refused) => Ok(Best::Refused),
-        None => Err(Requirement::read(reader, requirement).err().unwrap_or_default()),
+        Some(Fit::Invalid) => Ok(Best::Invalid),
+        None => Err(Requirement::read(grammar, requirement).err().unwrap_or_default()),
     }
 }
 
-// None where the requirement is refused.
-fn fit_or_refusal(code: u32) -> Option<Fit> {
+// None if the range is invalid.
+fn fit_or_invalid(code: u32) -> Option<Fit> {
     (code != NO_REQUIREMENT).then(|| fit(code))
 }
 
-/// The places of the lines of the versions in the order of precedence; none where a version is refused.
+/// The lines of the versions by precedence; none if a version is invalid.
 pub(crate) fn sort(versions: &str) -> Option<Vec<usize>> {
     let mut places = vec![0; versions.lines().count()];
     let mut needed = 0;
@@ -235,7 +235,7 @@ pub(crate) fn sort(versions: &str) -> Option<Vec<usize>> {
     }
 }
 
-// The parts, or the message of the refusal.
+// The parts, or the error message.
 fn parts_of((code, text): (u32, String)) -> Result<String, String> {
     match code {
         YES => Ok(text),
@@ -244,9 +244,9 @@ fn parts_of((code, text): (u32, String)) -> Result<String, String> {
     }
 }
 
-/// The parts of a requirement of a package, as JSON.
-pub(crate) fn package(reader: Reader, text: &str) -> Result<String, String> {
-    parts_of(text_of(|out, len, needed| unsafe { semver_package(reader as u32, text.as_ptr(), text.len(), out, len, needed) }))
+/// The parts of a package with a range, as JSON.
+pub(crate) fn package(grammar: Grammar, text: &str) -> Result<String, String> {
+    parts_of(text_of(|out, len, needed| unsafe { semver_package(grammar as u32, text.as_ptr(), text.len(), out, len, needed) }))
 }
 
 /// The parts of a reference to a package, as JSON.
@@ -258,9 +258,9 @@ pub(crate) fn may_be_tag(text: &str) -> bool {
     unsafe { semver_may_be_tag(text.as_ptr(), text.len()) == YES }
 }
 
-/// Whether two requirements overlap, or that one is refused.
-pub(crate) fn overlap(reader: Reader, one: &str, other: &str) -> Option<bool> {
-    match unsafe { semver_overlap(reader as u32, one.as_ptr(), one.len(), other.as_ptr(), other.len()) } {
+/// Whether two ranges overlap; none if one is invalid.
+pub(crate) fn overlap(grammar: Grammar, one: &str, other: &str) -> Option<bool> {
+    match unsafe { semver_overlap(grammar as u32, one.as_ptr(), one.len(), other.as_ptr(), other.len()) } {
         0 => Some(false),
         YES => Some(true),
         NO_REQUIREMENT => None,
@@ -268,57 +268,57 @@ pub(crate) fn overlap(reader: Reader, one: &str, other: &str) -> Option<bool> {
     }
 }
 
-/// The least version that something is said of.
+/// The lowest version with some property.
 #[derive(Clone, Debug, PartialEq, Eq)]
-pub enum Least {
-    /// It is said of no version.
+pub enum Lowest {
+    /// No version has it.
     Nothing,
     Version(String),
-    /// A requirement is a tag.
+    /// A range is a tag.
     Tag,
 }
 
-// With this code there is a version.
-fn least_of((code, text): (u32, String), found: u32) -> Result<Least, String> {
+// `found` is the code that comes with a version.
+fn lowest_of((code, text): (u32, String), found: u32) -> Result<Lowest, String> {
     match code {
-        TAG => Ok(Least::Tag),
+        TAG => Ok(Lowest::Tag),
         NO_REQUIREMENT => Err(text),
-        0 | YES if code == found => Ok(Least::Version(text)),
-        0 | YES => Ok(Least::Nothing),
+        0 | YES if code == found => Ok(Lowest::Version(text)),
+        0 | YES => Ok(Lowest::Nothing),
         _ => failed(code),
     }
 }
 
-pub(crate) fn least(reader: Reader, text: &str) -> Result<Least, String> {
-    let told = text_of(|out, len, needed| unsafe { semver_least(reader as u32, text.as_ptr(), text.len(), out, len, needed) });
-    least_of(told, YES)
+pub(crate) fn lowest(grammar: Grammar, text: &str) -> Result<Lowest, String> {
+    let reply = text_of(|out, len, needed| unsafe { semver_least(grammar as u32, text.as_ptr(), text.len(), out, len, needed) });
+    lowest_of(reply, YES)
 }
 
-pub(crate) fn common(reader: Reader, one: &str, other: &str) -> Result<Least, String> {
-    let told = text_of(|out, len, needed| unsafe {
-        semver_common(reader as u32, one.as_ptr(), one.len(), other.as_ptr(), other.len(), out, len, needed)
+pub(crate) fn common(grammar: Grammar, one: &str, other: &str) -> Result<Lowest, String> {
+    let reply = text_of(|out, len, needed| unsafe {
+        semver_common(grammar as u32, one.as_ptr(), one.len(), other.as_ptr(), other.len(), out, len, needed)
     });
-    least_of(told, YES)
+    lowest_of(reply, YES)
 }
 
-pub(crate) fn outside(reader: Reader, one: &str, other: &str) -> Result<Least, String> {
-    let told = text_of(|out, len, needed| unsafe {
-        semver_within(reader as u32, one.as_ptr(), one.len(), other.as_ptr(), other.len(), out, len, needed)
+pub(crate) fn outside(grammar: Grammar, one: &str, other: &str) -> Result<Lowest, String> {
+    let reply = text_of(|out, len, needed| unsafe {
+        semver_within(grammar as u32, one.as_ptr(), one.len(), other.as_ptr(), other.len(), out, len, needed)
     });
-    least_of(told, 0)
+    lowest_of(reply, 0)
 }
 
-/// A requirement that the library keeps. Each call borrows its handle for itself: none calls back, and the type isn't `Sync`.
+/// A parsed range or tag. The type isn't `Sync` and no call calls back, so one call at a time has the handle.
 pub(crate) struct Requirement(UnsafeCell<Raw>);
 
 // The value is plain memory of `malloc`, which any thread may use and free.
 unsafe impl Send for Requirement {}
 
 impl Requirement {
-    pub(crate) fn read(reader: Reader, text: &str) -> Result<Requirement, String> {
+    pub(crate) fn read(grammar: Grammar, text: &str) -> Result<Requirement, String> {
         let mut raw = Raw { at: ptr::null_mut() };
         let (code, message) = text_of(|out, len, needed| unsafe {
-            semver_req_read(reader as u32, text.as_ptr(), text.len(), &mut raw, out, len, needed)
+            semver_req_read(grammar as u32, text.as_ptr(), text.len(), &mut raw, out, len, needed)
         });
         match code {
             YES => Ok(Requirement(UnsafeCell::new(raw))),
@@ -327,7 +327,7 @@ impl Requirement {
         }
     }
 
-    pub(crate) fn matches(&self, version: &KeptVersion, pre_release: PreRelease) -> Fit {
+    pub(crate) fn matches(&self, version: &VersionHandle, pre_release: PreRelease) -> Fit {
         fit(unsafe { semver_req_matches(self.0.get(), version.0.get(), pre_release as u32) })
     }
 
@@ -336,7 +336,7 @@ impl Requirement {
         fit(unsafe { semver_req_fits(self.0.get(), version.as_ptr(), version.len(), 0) }) == Fit::Tag
     }
 
-    /// Whether both overlap; they are two values.
+    /// Whether both overlap. They must be two values.
     pub(crate) fn overlaps(&self, other: &Requirement) -> bool {
         assert!(!ptr::eq(self, other));
         unsafe { semver_req_overlap(self.0.get(), other.0.get()) == YES }
@@ -369,19 +369,19 @@ fn ordering(code: u32) -> Ordering {
     }
 }
 
-/// A version that the library keeps.
-pub(crate) struct KeptVersion(UnsafeCell<Raw>);
+/// A parsed version.
+pub(crate) struct VersionHandle(UnsafeCell<Raw>);
 
-unsafe impl Send for KeptVersion {}
+unsafe impl Send for VersionHandle {}
 
-impl KeptVersion {
-    pub(crate) fn read(text: &str) -> Result<KeptVersion, String> {
+impl VersionHandle {
+    pub(crate) fn read(text: &str) -> Result<VersionHandle, String> {
         let mut raw = Raw { at: ptr::null_mut() };
         let (code, message) = text_of(|out, len, needed| unsafe {
             semver_version_read(text.as_ptr(), text.len(), &mut raw, out, len, needed)
         });
         match code {
-            YES => Ok(KeptVersion(UnsafeCell::new(raw))),
+            YES => Ok(VersionHandle(UnsafeCell::new(raw))),
             NO_VERSION => Err(message),
             _ => failed(code),
         }
@@ -391,14 +391,14 @@ impl KeptVersion {
         text_of(|out, len, needed| unsafe { semver_version_text(self.0.get(), out, len, needed) }).1
     }
 
-    pub(crate) fn order(&self, other: &KeptVersion) -> Ordering {
+    pub(crate) fn order(&self, other: &VersionHandle) -> Ordering {
         if ptr::eq(self, other) {
             return Ordering::Equal;
         }
         ordering(unsafe { semver_version_order(self.0.get(), other.0.get()) })
     }
 
-    pub(crate) fn precedence(&self, other: &KeptVersion) -> Ordering {
+    pub(crate) fn precedence(&self, other: &VersionHandle) -> Ordering {
         if ptr::eq(self, other) {
             return Ordering::Equal;
         }
@@ -406,7 +406,7 @@ impl KeptVersion {
     }
 }
 
-impl Drop for KeptVersion {
+impl Drop for VersionHandle {
     fn drop(&mut self) {
         unsafe { semver_version_free(self.0.get()) }
     }
