@@ -20,6 +20,8 @@
 #ifndef SEMVER_H
 #define SEMVER_H
 
+#define SEMVER_VERSION "0.1.0"
+
 #include <stddef.h>
 #include <stdint.h>
 

@@ -1,4 +1,4 @@
-"""Versions and version ranges as Deno and npm read them, over ctypes. `Library(path)` loads libsemver.so.
+"""Versions and version ranges as Deno and npm read them, over ctypes. `Library(path)` loads libdeno_semver.so.0.
 
 A text is a `str`, or UTF-8 as `bytes`, a `bytearray` or a `memoryview`. An argument of another type raises `TypeError`, an invalid one
 `InvalidArgument`, and running out of memory `MemoryError`.

@@ -1,0 +1,14 @@
+/* Whether ^1.2 matches 1.3.0, by the installed library; prints it as the README of bindings/c does. */
+#include <semver.h>
+#include <stdio.h>
+#include <string.h>
+
+#define TEXT(s) (const uint8_t *)(s), strlen(s)
+
+int main(void) {
+    uint8_t out[64];
+    size_t needed;
+    uint32_t code = semver_fits(SEMVER_NPM, TEXT("^1.2"), TEXT("1.3.0"), SEMVER_RESTRICTED, out, sizeof out, &needed);
+    puts(code == SEMVER_YES ? "yes" : "no");
+    return code != SEMVER_YES;
+}

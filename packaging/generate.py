@@ -1,0 +1,172 @@
+#!/usr/bin/env python3
+"""Writes the manual page of `ranges` and its completions for bash, zsh and fish, from `ranges --help` and the table of exit
+statuses in docs/RANGES.md. Run at the top of the project after `make`.
+
+    packaging/generate.py [--check]
+
+With --check nothing is written, and the status is 1 if a file differs from what would be."""
+import pathlib
+import re
+import subprocess
+import sys
+from dataclasses import dataclass, field
+from typing import List, Optional
+
+HERE = pathlib.Path(__file__).resolve().parent
+TOP = HERE.parent
+EXAMPLES = ("ranges explain '>=1.2 <2 || 3.x'", "ranges within '>=1.3' '^1.2'", "git tag | ranges best '^1.2'")
+PROGRAM = TOP / "crates/ranges/out/ranges"
+
+
+@dataclass
+class Option:
+    name: str
+    help: str
+    value: Optional[str] = None
+    choices: List[str] = field(default_factory=list)
+
+
+@dataclass
+class Command:
+    name: str
+    help: str
+    usage: str
+    arguments: list
+    options: List[Option]
+
+
+def help_of(*arguments):
+    return subprocess.run([PROGRAM, *arguments, "--help"], capture_output=True, text=True, check=True).stdout
+
+
+def rows(text, heading):
+    """The rows below a heading of a help text, each split into the term and its description."""
+    found = re.search(rf"^{heading}:\n((?:  .*\n?)+)", text, re.M)
+    return [re.split(r"  +", row.strip(), maxsplit=1) for row in found.group(1).splitlines()] if found else []
+
+
+def option(term, description):
+    choices = re.search(r" ?\[possible values: ([^]]*)\]", description)
+    value = re.search(r"<(\w+)>", term)
+    return Option(
+        name=re.search(r"--([a-z-]+)", term).group(1),
+        help=description.replace(choices.group(), "") if choices else description,
+        value=value and value.group(1),
+        choices=choices.group(1).split(", ") if choices else [],
+    )
+
+
+def command(name, description):
+    text = help_of(name)
+    usage = re.search(r"^Usage: ranges (.*)", text, re.M).group(1)
+    return Command(name, description, usage, rows(text, "Arguments"), [option(*row) for row in rows(text, "Options")])
+
+
+def statuses():
+    """The exit statuses, each with its meaning."""
+    table = (TOP / "docs/RANGES.md").read_text().split("| Status | Means |\n|---|---|\n")[1].split("\n\n")[0]
+    return [[cell.strip() for cell in row.strip("|").split("|")] for row in table.splitlines()]
+
+
+def roff(text):
+    return text.replace("\\", "\\e").replace("-", "\\-").replace("'", "\\(aq").replace("`", "")
+
+
+def bold(text):
+    return f"\\fB{roff(text)}\\fR"
+
+
+def manual(description, commands):
+    lines = [".TH RANGES 1", ".SH NAME", f"ranges \\- {roff(description)}", ".SH SYNOPSIS", ".B ranges", "\\fICOMMAND\\fR [\\fIARGUMENT\\fR]..."]
+    lines.append(".SH COMMANDS")
+    for each in commands:
+        lines += [f".SS {bold('ranges ' + each.usage.replace('[OPTIONS] ', ''))}", roff(each.help) + "."]
+        for term, text in each.arguments:
+            name = re.search("[A-Z]+", term).group()
+            lines += [".TP", f"\\fI{name}\\fR", roff(text) + "."]
+    lines.append(".SH OPTIONS")
+    for name in sorted({each.name for one in commands for each in one.options}):
+        having = [(one.name, each) for one in commands for each in one.options if each.name == name]
+        found = having[0][1]
+        choices = f" ({', '.join(found.choices)})" if found.choices else ""
+        only = "" if len(having) == len(commands) else f" Only for {', '.join(one for one, _ in having)}."
+        lines += [".TP", bold(f"--{name}") + (f" \\fI{found.value}\\fR" if found.value else ""), roff(f"{found.help}{choices}.{only}")]
+    lines.append(".SH EXIT STATUS")
+    for status, meaning in statuses():
+        lines += [".TP", bold(status), roff(meaning) + "."]
+    lines += [".SH EXAMPLES", ".nf", *map(roff, EXAMPLES), ".fi", ".SH SEE ALSO", ".BR npmver (1)"]
+    return "\n".join(lines) + "\n"
+
+
+def bash(commands):
+    cases = [f'        {each.name}) options="{" ".join("--" + one.name for one in each.options)}" ;;' for each in commands]
+    choices = {one.name: one.choices for each in commands for one in each.options if one.choices}
+    values = [f'        --{name}) COMPREPLY=($(compgen -W "{" ".join(words)}" -- "$word")); return ;;' for name, words in choices.items()]
+    names = " ".join(each.name for each in commands)
+    return "\n".join([
+        "_ranges() {",
+        '    local word=${COMP_WORDS[COMP_CWORD]} options=""',
+        "    COMPREPLY=()",
+        "    case ${COMP_WORDS[COMP_CWORD - 1]} in", *values, "    esac",
+        '    if [ "$COMP_CWORD" = 1 ]; then',
+        f'        COMPREPLY=($(compgen -W "{names} help --help --version" -- "$word"))',
+        "        return",
+        "    fi",
+        "    case ${COMP_WORDS[1]} in", *cases, "    esac",
+        '    case $word in -*) COMPREPLY=($(compgen -W "$options" -- "$word")) ;; esac',
+        "}",
+        "complete -F _ranges ranges",
+        "",
+    ])
+
+
+def zsh(commands):
+    def quoted(text):
+        return re.sub(r"([\[\]:])", r"\\\1", text.replace("'", "'\\''"))
+
+    lines = ["#compdef ranges", "local -a commands", "commands=("]
+    lines += [f"    '{each.name}:{quoted(each.help)}'" for each in commands] + [")"]
+    lines += ["if (( CURRENT == 2 )); then", "    _describe command commands", "    return", "fi", "case $words[2] in"]
+    for each in commands:
+        lines.append(f"    {each.name}) _arguments \\")
+        for one in each.options:
+            value = f":{one.value}:({' '.join(one.choices)})" if one.value else ""
+            lines.append(f"        '--{one.name}[{quoted(one.help)}]{value}' \\")
+        lines.append("        '*:argument:' ;;")
+    return "\n".join([*lines, "esac", ""])
+
+
+def fish(commands):
+    def quoted(text):
+        return "'" + text.replace("\\", "\\\\").replace("'", "\\'") + "'"
+
+    lines = ["complete -c ranges -f"]
+    for each in commands:
+        lines.append(f"complete -c ranges -n __fish_use_subcommand -a {each.name} -d {quoted(each.help)}")
+        for one in each.options:
+            value = f" -x -a {quoted(' '.join(one.choices))}" if one.value else ""
+            lines.append(f"complete -c ranges -n '__fish_seen_subcommand_from {each.name}' -l {one.name}{value} -d {quoted(one.help)}")
+    return "\n".join([*lines, ""])
+
+
+def main():
+    text = help_of()
+    commands = [command(*row) for row in rows(text, "Commands") if row[0] != "help"]
+    made = {
+        "man/ranges.1": manual(text.splitlines()[0], commands),
+        "completions/ranges.bash": bash(commands),
+        "completions/_ranges": zsh(commands),
+        "completions/ranges.fish": fish(commands),
+    }
+    if sys.argv[1:] == ["--check"]:
+        stale = [name for name, made_of in made.items() if (HERE / name).read_text() != made_of]
+        for name in stale:
+            print(f"packaging/{name} is stale: run packaging/generate.py")
+        return 1 if stale else 0
+    for name, made_of in made.items():
+        (HERE / name).parent.mkdir(exist_ok=True)
+        (HERE / name).write_text(made_of)
+    return 0
+
+
+sys.exit(main())
