@@ -18,6 +18,7 @@ pub fn ask(call: &str, arguments: &[Item], answer: &mut Answer) -> Reported {
         "fits" => requirements::fits(arguments, answer),
         "reread" => requirements::reread(arguments, answer),
         "error-place" => requirements::place_of_error(arguments, answer),
+        "invalid-pieces" => requirements::pieces_of_error(arguments, answer),
         "may-follow" => requirements::follows(arguments, answer),
         "min-version"
         | "common-version"

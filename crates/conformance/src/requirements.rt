@@ -9,6 +9,7 @@ use crate::notation;
 use crate::parse::Parse;
 use deno_semver::npm::is_valid_npm_tag;
 use deno_semver::{IntoVersionReq, PreRelease, RangeSetOrTag, Version, VersionReq};
+use error_places::pieces::{InvalidPiece, invalid_pieces};
 use error_places::{error_place, may_follow};
 use std::alloc::{AllocError, Global};
 
@@ -93,6 +94,24 @@ pub fn place_of_error(arguments: &[Item], answer: &mut Answer) -> Reported {
     let (grammar, text) = pair(arguments)?;
     let place = error_place(answer.alloc(), text, flavour(grammar)?)?;
     answer.displayed(&place)
+}
+
+/// `invalid-pieces`: of each invalid alternative, its start, its end and the place of its error.
+pub fn pieces_of_error(arguments: &[Item], answer: &mut Answer) -> Reported {
+    let (grammar, text) = pair(arguments)?;
+    let pieces = invalid_pieces(answer.alloc(), text, flavour(grammar)?)?;
+    let reported = report_pieces(pieces.as_slice(), answer);
+    drop(pieces);
+    reported
+}
+
+fn report_pieces(pieces: &[InvalidPiece], answer: &mut Answer) -> Reported {
+    for piece in pieces {
+        answer.displayed(&piece.start)?;
+        answer.displayed(&piece.end)?;
+        answer.displayed(&piece.place)?;
+    }
+    Ok(())
 }
 
 /// `may-follow`: whether some text of the grammar begins with the one text and then the other.

@@ -7,3 +7,4 @@ pub mod Versions
 pub mod Alike
 pub mod AlikeWords
 pub mod AlikeParts
+pub mod InvalidPieces

@@ -9,6 +9,8 @@ ghost use Rattle.semver_req.specs.Outcome.{IsSpecifierRange};
 ghost use Rattle.error_places.specs.Viable.{HasPiece, IsErrorPlace, IsPart, IsPieceOrCut, IsViablePrefix};
 ghost use Rattle.semver_req.specs.Pieces.{IsCutting};
 
+pub mod pieces;
+
 use semver_base::failure::{ParseFailure, Refusal};
 use semver_req::common::comparator::non_primitive_front;
 use semver_req::common::values::Flavour;

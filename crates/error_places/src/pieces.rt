@@ -1,0 +1,143 @@
+//! The invalid alternatives of a text.
+
+ghost use Rattle.std.specs.Prelude.{◌≡◌, ◌++◌, ◌+◌, ◌<◌, ◌^◌, ◌∷◌, [], IfErr, IfOk, List, MatchOption, None, OnErr, OnOk, length};
+ghost use Rattle.error_places.specs.InvalidPieces.{AreErrorsOf, AreInvalidPieces, IsErrorAt, IsErrorOf, IsStrictError};
+ghost use Rattle.error_places.specs.declared.pieces.InvalidPiece.{InvalidPiece};
+ghost use Rattle.semver_req.specs.Pieces.{HasNoBar, IsCutAt, IsCutting};
+
+use crate::{error_place, is_range};
+use semver_base::failure::ParseFailure;
+use semver_base::lexical::after_blanks;
+use semver_req::common::values::Flavour;
+use semver_req::range_set_or_tag::RangeOrInvalid;
+use std::alloc::{AllocError, Global};
+
+/// An invalid alternative, by indexes into its text.
+#[derive(Clone, Copy, Debug, PartialEq, Eq)]
+pub struct InvalidPiece {
+    /// Where the alternative starts.
+    pub start: usize,
+    /// Where it ends.
+    pub end: usize,
+    /// Where it leaves the grammar: its end if it only stops too early, or if a number or a bound in it is too large.
+    pub place: usize,
+}
+
+// The place of the error of an alternative that starts here.
+fn error_of(
+    alloc: Global,
+    start: usize,
+    piece: &str,
+    flavour: Flavour,
+) -> Result<InvalidPiece, ParseFailure>
+    requires { start + length piece.now < 2 ^ 64 }
+    ensures value { IfOk result (IsErrorOf flavour start piece.now) }
+    ensures memory { IfErr result (λ failure. failure ≡ None) }
+{
+    let place = error_place(alloc, piece, flavour)?;
+    Ok(InvalidPiece {
+        start,
+        end: start + piece.len(),
+        place: start + place,
+    })
+}
+
+fn push(errors: &mut Vec<InvalidPiece>, error: InvalidPiece) -> Result<(), ParseFailure>
+    ensures value { OnOk result (errors.new.items ≡ errors.old.items ++ error ∷ []) }
+    ensures memory { IfErr result (λ failure. failure ≡ None) }
+{
+    match errors.push(error) {
+        Ok(()) => Ok(()),
+        Err(failed) => Err(AllocError::from(failed).into()),
+    }
+}
+
+// Adds the error of an alternative that starts here, if it is invalid.
+fn add_error(
+    alloc: Global,
+    errors: &mut Vec<InvalidPiece>,
+    start: usize,
+    piece: &str,
+    is_followed: bool,
+    flavour: Flavour,
+) -> Result<(), ParseFailure>
+    requires { start + length piece.now < 2 ^ 64 }
+    ensures value { OnOk result ((found : List InvalidPiece) × (errors.new.items ≡ errors.old.items ++ found)
+        × IsErrorAt flavour is_followed start piece.now found) }
+    ensures memory { IfErr result (λ failure. failure ≡ None) }
+{
+    match RangeOrInvalid::parse(alloc, piece, is_followed, flavour)? {
+        RangeOrInvalid::Range(range) => {
+            drop(range);
+            Ok(())
+        }
+        RangeOrInvalid::Invalid(_) => push(errors, error_of(alloc, start, piece, flavour)?),
+    }
+}
+
+// Splits the text at the leftmost `||`.
+fn cut(text: &str) -> Option<(&str, &str)>
+    ensures { MatchOption result (HasNoBar text.now) (λ p. IsCutAt text.now p.0.now p.1.now) }
+{
+    text.split_once("||")
+}
+
+// The errors of the alternatives of a text that is split at each `||`.
+fn errors_of(alloc: Global, text: &str, flavour: Flavour) -> Result<Vec<InvalidPiece>, ParseFailure>
+    requires { IsCutting flavour }
+    ensures value { IfOk result (λ errors. AreErrorsOf flavour text.now errors.items) }
+    ensures memory { IfErr result (λ failure. failure ≡ None) }
+{
+    let mut errors = Vec::new(alloc);
+    let Some((first, mut rest)) = cut(text) else {
+        add_error(alloc, &mut errors, 0, text, false, flavour)?;
+        return Ok(errors);
+    };
+    add_error(alloc, &mut errors, 0, first, true, flavour)?;
+    loop {
+        let from = after_blanks(rest);
+        if from.is_empty() {
+            return Ok(errors);
+        }
+        let start = text.len() - from.len();
+        let Some((piece, more)) = cut(from) else {
+            add_error(alloc, &mut errors, start, from, false, flavour)?;
+            return Ok(errors);
+        };
+        add_error(alloc, &mut errors, start, piece, false, flavour)?;
+        rest = more;
+    }
+}
+
+// The error of a text that isn't a range of the strict grammar.
+fn strict_errors(alloc: Global, text: &str) -> Result<Vec<InvalidPiece>, ParseFailure>
+    ensures value { IfOk result (λ errors. IsStrictError text.now errors.items) }
+    ensures memory { IfErr result (λ failure. failure ≡ None) }
+{
+    let mut errors = Vec::new(alloc);
+    if is_range(alloc, text)? {
+        return Ok(errors);
+    }
+    let error = error_of(alloc, 0, text, Flavour::Specifier)?;
+    push(&mut errors, error)?;
+    Ok(errors)
+}
+
+/// The alternatives of a text that are invalid, in their order: none if the text is valid. In the strict grammar, which has no
+/// alternatives, the whole text is meant. npm's parser trims a text before it splits it; so should the caller.
+///
+/// Takes time that grows as n log n. Fails only out of memory.
+pub fn invalid_pieces(
+    alloc: Global,
+    text: &str,
+    flavour: Flavour,
+) -> Result<Vec<InvalidPiece>, ParseFailure>
+    ensures value { IfOk result (λ errors. AreInvalidPieces flavour text.now errors.items) }
+    ensures memory { IfErr result (λ failure. failure ≡ None) }
+{
+    match flavour {
+        Flavour::Npm => errors_of(alloc, text, Flavour::Npm),
+        Flavour::Normal => errors_of(alloc, text, Flavour::Normal),
+        Flavour::Specifier => strict_errors(alloc, text),
+    }
+}
