@@ -44,9 +44,6 @@ each_same : (reads : List RangeSetOrTag) → AreEachReordered reads reads
 each_same [] = tt
 each_same (read ∷ reads) = (same_order read, each_same reads)
 
-pub only_of_both : (test : RangeSetOrTag → RangeSetOrTag → Version → Bool) (one other : RangeSetOrTag) (found : Option Version) → BothInAnyOrder test one other found → IsOnlyLeast (test one other) found
-only_of_both test one other found h = h one other (same_order one) (same_order other)
-
 pub only_of_all : (flag : PreRelease) (own : RangeSetOrTag) (others : List Requirement) (found : Option Version) → AllInAnyOrder flag own others found → IsOnlyLeast (all_inners_mean_with flag own others) found
 only_of_all flag own others found h =
     let reads = own ∷ map (λ (req : Requirement). req.inner) others in

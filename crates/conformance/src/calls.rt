@@ -1,7 +1,7 @@
 //! The calls that a row can make, by name.
 
 use crate::answer::{Answer, Fault, Item, Reported};
-use crate::{examples, json, kinds, packages, parse, ranges, requirements, versions};
+use crate::{examples, json, kinds, packages, ranges, requirements, versions};
 
 /// Makes the call with this name, and reports what it returns for the arguments.
 pub fn ask(call: &str, arguments: &[Item], answer: &mut Answer) -> Reported {
@@ -19,6 +19,7 @@ pub fn ask(call: &str, arguments: &[Item], answer: &mut Answer) -> Reported {
         "reread" => requirements::reread(arguments, answer),
         "error-place" => requirements::place_of_error(arguments, answer),
         "invalid-pieces" => requirements::pieces_of_error(arguments, answer),
+        "expected" => requirements::expected(arguments, answer),
         "may-follow" => requirements::follows(arguments, answer),
         "min-version"
         | "common-version"
@@ -27,7 +28,7 @@ pub fn ask(call: &str, arguments: &[Item], answer: &mut Answer) -> Reported {
         | "is-subset"
         | "is-equivalent" => requirements::lowest(call, arguments, answer),
         "pinned" => requirements::pinned(arguments, answer),
-        "ample" => parse::ample(arguments, answer),
+        "ample" => requirements::ample(arguments, answer),
         "package" => packages::package(arguments, answer),
         "name-version" => packages::name_version(arguments, answer),
         "dependency" => packages::dependency(arguments, answer),

@@ -87,3 +87,15 @@ pub fn set_of(alloc: Global, text: &str) -> OrFault<VersionRangeSet> {
     }
     Ok(VersionRangeSet(ranges))
 }
+
+impl Parse for VersionRange {
+    fn parse(alloc: Global, text: &str) -> OrFault<VersionRange> {
+        range_of(alloc, text)
+    }
+}
+
+impl Parse for VersionRangeSet {
+    fn parse(alloc: Global, text: &str) -> OrFault<VersionRangeSet> {
+        set_of(alloc, text)
+    }
+}

@@ -1,8 +1,6 @@
 //! The values that texts parse to, for calls with one parser.
 
-use crate::answer::{Answer, Fault, Item, OrFault, Reported, parsed};
-use crate::arguments::{pair, requirement};
-use crate::notation;
+use crate::answer::{OrFault, parsed};
 use deno_semver::jsr::JsrDepPackageReq;
 use deno_semver::npm::NpmRegistry;
 use deno_semver::package::{
@@ -10,11 +8,10 @@ use deno_semver::package::{
     RegistryReqReference,
 };
 use semver_base::failure::ParseFailure;
-use semver_base::range::{VersionRange, VersionRangeSet};
 use semver_base::string::{SmallStackString, StackString, StringAppendable};
 use semver_base::version::Version;
 use semver_req::range_set_or_tag::RangeSetOrTag;
-use std::alloc::{AllocError, Global};
+use std::alloc::Global;
 use std::fmt::Display;
 
 /// A value that a text parses to; packages and their requirements by npm's grammar.
@@ -37,18 +34,6 @@ impl Parse for StackString {
 impl Parse for Version {
     fn parse(alloc: Global, text: &str) -> OrFault<Version> {
         Ok(Version::parse_standard(alloc, text).map_err(ParseFailure::from)?)
-    }
-}
-
-impl Parse for VersionRange {
-    fn parse(alloc: Global, text: &str) -> OrFault<VersionRange> {
-        notation::range_of(alloc, text)
-    }
-}
-
-impl Parse for VersionRangeSet {
-    fn parse(alloc: Global, text: &str) -> OrFault<VersionRangeSet> {
-        notation::set_of(alloc, text)
     }
 }
 
@@ -100,39 +85,4 @@ impl Parse for PackageNvReference {
         let reference: RegistryNvReference<NpmRegistry> = Parse::parse(alloc, text)?;
         Ok(reference.into_inner())
     }
-}
-
-/// `ample`: whether every parser has enough memory for a text, alone and with up to so many `1` after it.
-pub fn ample(arguments: &[Item], answer: &mut Answer) -> Reported {
-    let (text, count) = pair(arguments)?;
-    let Ok(count) = count.parse::<usize>() else {
-        return Err(Fault::OtherArguments);
-    };
-    let answered = is_ample(answer.alloc(), text, count)?;
-    answer.yes_or_no(answered)
-}
-
-fn is_ample(alloc: Global, text: &str, count: usize) -> Result<bool, AllocError> {
-    let mut longer = String::from_str(alloc, text)?;
-    let mut answered = is_answered(alloc, longer.as_str());
-    for _ in 0..count {
-        longer.push('1')?;
-        answered = answered && is_answered(alloc, longer.as_str());
-    }
-    Ok(answered)
-}
-
-fn is_answered(alloc: Global, text: &str) -> bool {
-    has_memory(requirement(alloc, "npm", text))
-        && has_memory(requirement(alloc, "normal", text))
-        && has_memory(requirement(alloc, "strict", text))
-        && has_memory(Version::parse(alloc, text))
-        && has_memory(PackageReq::parse(alloc, text))
-}
-
-// Whether parsing gave a value or a rejection.
-fn has_memory<T: Drop>(read: OrFault<T>) -> bool {
-    let has_memory = !matches!(read, Err(Fault::OutOfMemory));
-    drop(read);
-    has_memory
 }

@@ -8,7 +8,9 @@ use crate::arguments::{
 use crate::notation;
 use crate::parse::Parse;
 use deno_semver::npm::is_valid_npm_tag;
+use deno_semver::package::PackageReq;
 use deno_semver::{IntoVersionReq, PreRelease, RangeSetOrTag, Version, VersionReq};
+use error_places::expected::{KINDS, is_expected, may_end};
 use error_places::pieces::{InvalidPiece, invalid_pieces};
 use error_places::{error_place, may_follow};
 use std::alloc::{AllocError, Global};
@@ -119,6 +121,21 @@ pub fn follows(arguments: &[Item], answer: &mut Answer) -> Reported {
     let (grammar, prefix, next) = triple(arguments)?;
     let follows = may_follow(answer.alloc(), prefix, next, flavour(grammar)?)?;
     answer.yes_or_no(follows)
+}
+
+/// `expected`: a text of each kind that may follow a prefix, and `end` if a text may end behind it.
+pub fn expected(arguments: &[Item], answer: &mut Answer) -> Reported {
+    let (grammar, prefix) = pair(arguments)?;
+    let (alloc, flavour) = (answer.alloc(), flavour(grammar)?);
+    for kind in &KINDS {
+        if is_expected(alloc, prefix, *kind, flavour)? {
+            answer.text(kind.text())?;
+        }
+    }
+    if may_end(alloc, prefix, flavour)? {
+        answer.text("end")?;
+    }
+    Ok(())
 }
 
 /// `fits`: whether a version matches, by the rule for pre-releases in the arguments, else by npm's; or `tag` and the tag.
@@ -234,4 +251,39 @@ fn version_or_none(lowest: Result<Option<Version>, AllocError>, answer: &mut Ans
             reported
         }
     }
+}
+
+/// `ample`: whether every parser has enough memory for a text, alone and with up to so many `1` after it.
+pub fn ample(arguments: &[Item], answer: &mut Answer) -> Reported {
+    let (text, count) = pair(arguments)?;
+    let Ok(count) = count.parse::<usize>() else {
+        return Err(Fault::OtherArguments);
+    };
+    let answered = is_ample(answer.alloc(), text, count)?;
+    answer.yes_or_no(answered)
+}
+
+fn is_ample(alloc: Global, text: &str, count: usize) -> Result<bool, AllocError> {
+    let mut longer = String::from_str(alloc, text)?;
+    let mut answered = is_answered(alloc, longer.as_str());
+    for _ in 0..count {
+        longer.push('1')?;
+        answered = answered && is_answered(alloc, longer.as_str());
+    }
+    Ok(answered)
+}
+
+fn is_answered(alloc: Global, text: &str) -> bool {
+    has_memory(requirement(alloc, "npm", text))
+        && has_memory(requirement(alloc, "normal", text))
+        && has_memory(requirement(alloc, "strict", text))
+        && has_memory(Version::parse(alloc, text))
+        && has_memory(PackageReq::parse(alloc, text))
+}
+
+// Whether parsing gave a value or a rejection.
+fn has_memory<T: Drop>(read: OrFault<T>) -> bool {
+    let has_memory = !matches!(read, Err(Fault::OutOfMemory));
+    drop(read);
+    has_memory
 }

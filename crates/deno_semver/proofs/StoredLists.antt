@@ -22,9 +22,6 @@ pub exit_memory : {T : Type 0} (Says : T → Type 0) (r : Result T JsonError) (e
 exit_memory Says (Ok x) e is m = absurd is
 exit_memory Says (Err f) e is m = is ∙ m
 
-json_of : PackageReq → Data
-json_of req = string (normal_req_text req)
-
 -- ---- what a stored list parses to
 
 -- items that parse, one by one, to package requirements so related to these

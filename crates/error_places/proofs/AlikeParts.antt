@@ -1,6 +1,6 @@
 -- Bytes of one kind may follow the same prefixes, in the grammar of each flavour.
-use Rattle.std.proofs.Common.{◌≡◌, ◌<◌, ℕ, Bool, true, false, List, [], ◌∷◌, ◌++◌, refl, sym, subst, arith, inl, inr, append_assoc}
-use Rattle.std.specs.Prelude.{◌==◌, ◌||◌, ◌&&◌, nat_le, IsUtf8, codes}
+use Rattle.std.proofs.Common.{◌≡◌, ◌<◌, ℕ, true, false, List, [], ◌∷◌, ◌++◌, refl, sym, subst, arith, inl, inr, append_assoc}
+use Rattle.std.specs.Prelude.{IsUtf8, codes}
 use Rattle.std.specs.Char.{is_ascii_digit}
 use Rattle.std.specs.List.{list_all}
 use Rattle.std.proofs.lemmas.Bool.{cases_Bool}
@@ -17,6 +17,7 @@ use Rattle.semver_req.specs.Partials.{IsPartial, is_wildcard}
 use Rattle.semver_req.specs.Pieces.{IsCutting, IsFilled, IsHyphened, IsMark, IsNpmSeparator, IsPiece, IsUpper, npm, normal}
 use Rattle.semver_req.specs.declared.common.values.Flavour.{Flavour}
 use Rattle.semver_req.specs.declared.common.values.Flavour.TheVariants.{Npm, Normal, Specifier}
+use Rattle.error_places.specs.Kinds.{is_other_letter}
 use Rattle.error_places.specs.Viable.{HasPiece, IsAnyPiece, IsPart, IsPieceOrCut, alone, cut, IsViablePrefix}
 use Rattle.error_places.proofs.Alike.{Goes, IsAlike, IsExchanged, is_sign_byte, is_special, blanks_special, blanks_exchanged, byte_exchanged, either_exchanged, followed_exchanged, kind_exchanged, mapped_exchanged, none_here, optional_exchanged, other, prefixed_exchanged, some_blanks_exchanged, text_exchanged}
 use Rattle.error_places.proofs.AlikeWords.{listed_exchanged, normal_filled_exchanged, of_primitive_exchanged, one_text, plain_exchanged, plain_partial_exchanged, specifier_exchanged}
@@ -160,11 +161,7 @@ digits_alike f d e h k = record {
     digit_no_hyphen : (b : ℕ) → is_ascii_digit b ≡ true → b ≡ 45 → ⊥
     digit_no_hyphen b h k = grind (arith, nat_tests)
 
--- letters but `v`, `x` and `X`
-abbrev pub is_plain_letter : ℕ → Bool
-is_plain_letter b = (nat_le 65 b && nat_le b 87) || (nat_le 89 b && nat_le b 90) || (nat_le 97 b && nat_le b 117) || (b == 119) || (nat_le 121 b && nat_le b 122)
-
-pub letters_alike : (f : Flavour) (d e : ℕ) → is_plain_letter d ≡ true → is_plain_letter e ≡ true → IsAlike f d e
+pub letters_alike : (f : Flavour) (d e : ℕ) → is_other_letter d ≡ true → is_other_letter e ≡ true → IsAlike f d e
 letters_alike f d e h k = record {
   digit = λ i. absurd (letter_no_digit d h i);
   digit_back = λ i. absurd (letter_no_digit e k i);
@@ -174,30 +171,30 @@ letters_alike f d e h k = record {
   no_hyphen = λ m. letter_no_hyphen e k m;
 }
   where
-    letter_no_digit : (b : ℕ) → is_plain_letter b ≡ true → is_ascii_digit b ≡ true → ⊥
+    letter_no_digit : (b : ℕ) → is_other_letter b ≡ true → is_ascii_digit b ≡ true → ⊥
     letter_no_digit b h k = grind (arith, nat_tests)
 
-    letter_identifier : (b : ℕ) → is_plain_letter b ≡ true → is_identifier_byte b ≡ true
+    letter_identifier : (b : ℕ) → is_other_letter b ≡ true → is_identifier_byte b ≡ true
     letter_identifier b h = grind (arith, nat_tests)
 
-    letter_no_wildcard : (f : Flavour) (b : ℕ) → is_plain_letter b ≡ true → is_wildcard f b ≡ true → ⊥
+    letter_no_wildcard : (f : Flavour) (b : ℕ) → is_other_letter b ≡ true → is_wildcard f b ≡ true → ⊥
     letter_no_wildcard Npm b h k = grind (arith, nat_tests)
     letter_no_wildcard Normal b h k = grind (arith, nat_tests)
     letter_no_wildcard Specifier b h k = grind (arith, nat_tests)
 
-    letter_no_blank : (b : ℕ) → is_plain_letter b ≡ true → is_blank_byte b ≡ true → ⊥
+    letter_no_blank : (b : ℕ) → is_other_letter b ≡ true → is_blank_byte b ≡ true → ⊥
     letter_no_blank b h k = grind (arith, nat_tests)
 
-    letter_no_sign : (b : ℕ) → is_plain_letter b ≡ true → is_sign_byte b ≡ true → ⊥
+    letter_no_sign : (b : ℕ) → is_other_letter b ≡ true → is_sign_byte b ≡ true → ⊥
     letter_no_sign b h k = grind (arith, nat_tests)
 
-    letter_plain : (b : ℕ) → is_plain_letter b ≡ true → is_special b ≡ true → ⊥
+    letter_plain : (b : ℕ) → is_other_letter b ≡ true → is_special b ≡ true → ⊥
     letter_plain b h k = elim (cases_Bool (is_blank_byte b)) [
       | inl white ↦ letter_no_blank b h white
       | inr none ↦ letter_no_sign b h (rw none at k)
     ]
 
-    letter_no_hyphen : (b : ℕ) → is_plain_letter b ≡ true → b ≡ 45 → ⊥
+    letter_no_hyphen : (b : ℕ) → is_other_letter b ≡ true → b ≡ 45 → ⊥
     letter_no_hyphen b h k = grind (arith, nat_tests)
 
 -- `x` and `X`
@@ -208,3 +205,11 @@ x_alike f = record { digit = λ h. cc h; digit_back = λ h. cc h; identifier = �
     capital Npm h = refl
     capital Normal h = cc h
     capital Specifier h = refl
+
+pub capital_alike : (f : Flavour) → IsAlike f 88 120
+capital_alike f = record { digit = λ h. cc h; digit_back = λ h. cc h; identifier = λ _. refl; wildcard = small f; plain = λ h. cc h; no_hyphen = λ h. cc h }
+  where
+    small : (f : Flavour) → is_wildcard f 88 ≡ true → is_wildcard f 120 ≡ true
+    small Npm h = refl
+    small Normal h = cc h
+    small Specifier h = refl

@@ -3,8 +3,8 @@ pub mod Words
 pub mod Partials
 pub mod Npm
 pub mod Parts
-pub mod Versions
 pub mod Alike
 pub mod AlikeWords
 pub mod AlikeParts
 pub mod InvalidPieces
+pub mod KindTexts

@@ -31,9 +31,6 @@ equals_ended {E} nil = record { ends = λ x p u v s h. ends_here (x ∷ p) tt ni
     go text (x ∷ p) u no_more e = cc e
     go text (x ∷ p) u (one_more {rest} h) e = let byte : x ≡ 61 = cc e in let tail : rest ≡ p ++ u = cc e in rw byte (one_more (go rest p u h tail))
 
-one_led : (f : List ℕ → Unit {0} → Type 0) → f [] tt → (t : List ℕ) → IsPartial Npm t one → After f (IsPartial Npm) t one
-one_led f h t k = record { value = (tt, one); stands = record { first = []; second = t; text_is = refl; in_first = h; in_second = k; seam = tt }; is = refl }
-
 nil_digit : (e : List ℕ) → e ≡ [] → IsShort (e ++ one_digit)
 nil_digit e h = rw h digit
 
@@ -60,10 +57,6 @@ led_is_ended : IsEnded IsLed IsShort
 led_is_ended = led_ended blanks_letter_one (equals_ended refl) (led_ended letter_one (blanks_ended refl) (led_ended blanks_one (optional_ended (byte_ended 118 refl)) (led_ended (one_partial Npm) (blanks_ended refl) (partial_ended Npm))))
 
 -- ---- comparators
-
--- a text, and a prefix of it
-text_front : (t p m : List ℕ) → IsText t (p ++ m) tt → t ≡ p ++ m
-text_front t p m h = sym h
 
 tilde_ended : IsEnded (After (Either (IsText (codes "~>")) (IsText (codes "~"))) IsLed) IsShort
 tilde_ended = led_ended one_is_led marks led_is_ended

@@ -34,9 +34,6 @@ component_ended f = record { ends = λ x p u v s h. go x p u v s h }
 one_component : (f : Flavour) → IsComponent f one_digit (Val 1)
 one_component f = one_number (strictness_of f)
 
-component_text : (f : Flavour) → HasText (IsComponent f) IsShort
-component_text f = record { text = one_digit; value = Val 1; is_ending = digit; stands = one_component f }
-
 short_stays : (e : List ℕ) → IsShort e → IsShort (e ++ [])
 short_stays e h = rw append-nil h
 

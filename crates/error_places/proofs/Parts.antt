@@ -7,7 +7,7 @@ use Rattle.std.proofs.Math.Utf8.{low_scalar}
 use Rattle.std.proofs.lemmas.Bool.{both_ways, cases_lt}
 use Rattle.std.proofs.lemmas.Bool.Decides.{nat_tests}
 use Rattle.std.proofs.lemmas.List.{drop-take, length-take-le, nil_from_length, take-append-drop, take-append-le, take_all}
-use Rattle.std.proofs.lemmas.Str.{IsCharBoundary-end, IsCharBoundary-start, IsUtf8-append, IsUtf8-between, IsUtf8-encode, IsUtf8-nil, encode_ascii}
+use Rattle.std.proofs.lemmas.Str.{IsCharBoundary-start, IsUtf8-append, IsUtf8-between, IsUtf8-encode, IsUtf8-nil, encode_ascii}
 use Rattle.semver_base.specs.Comparators.{Comparator, Plain}
 use Rattle.semver_base.specs.Grammar.{this, that, HasNone, Listed}
 use Rattle.semver_base.specs.declared.failure.Refusal.{Refusal}
@@ -228,17 +228,3 @@ text_some f (x ∷ text) never = omega arith
 -- a text has one place
 pub one_place : {V : Type 0} {R : List ℕ → V → Type 0} (text : List ℕ) (m n : ℕ) → IsErrorPlace R text m → IsErrorPlace R text n → m ≡ n
 one_place text m n a b = omega (arith, a.longest n b.boundary b.viable, b.longest m a.boundary a.viable)
-
--- it is the end exactly where the whole text is viable, and a text that isn't of the grammar, nor a prefix of one, has it before
-pub place_at_end : {V : Type 0} {R : List ℕ → V → Type 0} (text : List ℕ) (n : ℕ) → IsErrorPlace R text n → IsViablePrefix R text ↔ (n ≡ length text)
-place_at_end {R = R} text n a = (forward, backward)
-  where
-    forward : IsViablePrefix R text → n ≡ length text
-    forward v = let far = a.longest (length text) (IsCharBoundary-end text) (subst (IsViablePrefix R) (sym (take_all (length text) text (omega arith))) v) in omega (arith, far, a.boundary.0)
-
-    backward : n ≡ length text → IsViablePrefix R text
-    backward e = subst (IsViablePrefix R) (take_all n text (omega (arith, e))) a.viable
-
--- no prefix behind the place is viable
-pub none_behind : {V : Type 0} {R : List ℕ → V → Type 0} (text : List ℕ) (place n : ℕ) → IsErrorPlace R text place → IsCharBoundary text n → place < n → IsViablePrefix R (take n text) → ⊥
-none_behind text place n a b less v = omega (arith, a.longest n b v)

@@ -9,6 +9,7 @@ ghost use Rattle.semver_req.specs.Outcome.{IsSpecifierRange};
 ghost use Rattle.error_places.specs.Viable.{HasPiece, IsErrorPlace, IsPart, IsPieceOrCut, IsViablePrefix};
 ghost use Rattle.semver_req.specs.Pieces.{IsCutting};
 
+pub mod expected;
 pub mod pieces;
 
 use semver_base::failure::{ParseFailure, Refusal};
@@ -71,7 +72,8 @@ fn is_piece_before(
 // Whether some alternative of the grammar, alone or with the `||` that follows it, begins with the prefix.
 fn is_viable_piece(alloc: Global, prefix: &str, flavour: Flavour) -> Result<bool, ParseFailure>
     requires { IsCutting flavour }
-    ensures value { IfOk result (λ yes. IsTrue yes ↔ IsViablePrefix (IsPieceOrCut flavour) prefix.now) }
+    ensures value { IfOk result
+        (λ yes. IsTrue yes ↔ IsViablePrefix (IsPieceOrCut flavour) prefix.now) }
     ensures memory { IfErr result (λ failure. failure ≡ None) }
 {
     if is_piece(alloc, prefix, true, flavour)? {

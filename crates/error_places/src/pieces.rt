@@ -62,7 +62,8 @@ fn add_error(
     flavour: Flavour,
 ) -> Result<(), ParseFailure>
     requires { start + length piece.now < 2 ^ 64 }
-    ensures value { OnOk result ((found : List InvalidPiece) × (errors.new.items ≡ errors.old.items ++ found)
+    ensures value { OnOk result ((found : List InvalidPiece)
+        × (errors.new.items ≡ errors.old.items ++ found)
         × IsErrorAt flavour is_followed start piece.now found) }
     ensures memory { IfErr result (λ failure. failure ≡ None) }
 {

@@ -245,7 +245,8 @@ fn best(
 
 // The canonical form of the requirement, by the grammar with this name.
 fn normal(alloc: Global, reader: &str, requirement: &str) -> Result<Line, Problem>
-    ensures { IsAnswer (ByReader reader.now (λ f. Prints Text (Canonical f requirement.now))) result }
+    ensures { IsAnswer
+        (ByReader reader.now (λ f. Prints Text (Canonical f requirement.now))) result }
 {
     let Some(flavour) = flavour_of(reader) else {
         return Err(Problem::Usage);

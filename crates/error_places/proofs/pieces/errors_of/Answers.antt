@@ -1,5 +1,5 @@
-use Rattle.std.proofs.Common.{◌≡◌, ◌++◌, ◌∷◌, [], ◌+◌, ◌<◌, ◌≤◌, length, rules, refl, sym, ap, ◌∙◌, arith, append_assoc, length-append}
-use Rattle.error_places.proofs.InvalidPieces.{behind, first_piece, further, last_one, next_one, none_more, only_piece}
+use Rattle.std.proofs.Common.{◌++◌, ◌∷◌, [], length, rules, refl, sym, ap, ◌∙◌, arith, append_assoc, length-append}
+use Rattle.error_places.proofs.InvalidPieces.{first_piece, further, last_one, next_one, none_more, only_piece}
 use Rattle.error_places.proofs.pieces.errors_of.Goals as goal
 
 pub returns-in_default-clause-value : goal.returns-in_default-clause-value

@@ -1,0 +1,52 @@
+-- What may stand at a place of a text, by kinds whose texts may all follow the same prefixes.
+use Rattle.std.specs.Prelude.{◌≡◌, ◌==◌, ◌||◌, ◌&&◌, ℕ, Bool, true, IsTrue, List, [], ◌∷◌, ◌++◌, codes, false, nat_le}
+use Rattle.std.specs.Char.{is_ascii_digit}
+use Rattle.semver_base.specs.Comparators.{Comparator}
+use Rattle.semver_req.specs.Outcome.{IsSpecifierRange}
+use Rattle.semver_req.specs.declared.common.values.Flavour.{Flavour}
+use Rattle.semver_req.specs.declared.common.values.Flavour.TheVariants.{Npm, Normal, Specifier}
+use Rattle.error_places.specs.Viable.{HasPiece, IsPart, IsViablePrefix}
+use Rattle.error_places.specs.declared.expected.Kind.{Kind}
+use Rattle.error_places.specs.declared.expected.Kind.TheVariants.{Digit, X, V, Letter, Star, Dot, Hyphen, Plus, Tilde, Caret, Less, Greater, Equals, Space, Comma, And, Bar}
+
+-- letters but `v`, `x` and `X`
+abbrev pub is_other_letter : ℕ → Bool
+is_other_letter b = (nat_le 65 b && nat_le b 87) || (nat_le 89 b && nat_le b 90) || (nat_le 97 b && nat_le b 117) || (b == 119) || (nat_le 121 b && nat_le b 122)
+
+-- one text of each kind
+abbrev pub kind_text : Kind → List ℕ
+kind_text Digit = codes "1"
+kind_text X = codes "x"
+kind_text V = codes "v"
+kind_text Letter = codes "a"
+kind_text Star = codes "*"
+kind_text Dot = codes "."
+kind_text Hyphen = codes "-"
+kind_text Plus = codes "+"
+kind_text Tilde = codes "~"
+kind_text Caret = codes "^"
+kind_text Less = codes "<"
+kind_text Greater = codes ">"
+kind_text Equals = codes "="
+kind_text Space = codes " "
+kind_text Comma = codes ","
+kind_text And = codes "&"
+kind_text Bar = codes "|"
+
+-- the texts of each kind: any digit, either `x`, any other letter but `v`; else the one text
+pub data IsOfKind : Kind → List ℕ → Type 0 where
+  digit : (d : ℕ) → is_ascii_digit d ≡ true → IsOfKind Digit (d ∷ [])
+  letter : (b : ℕ) → is_other_letter b ≡ true → IsOfKind Letter (b ∷ [])
+  capital_x : IsOfKind X (codes "X")
+  itself : (kind : Kind) → IsOfKind kind (kind_text kind)
+
+-- true if each text of the kind may follow the prefix; false if none may
+pub record IsExpected (f : Flavour) (prefix : List ℕ) (kind : Kind) (says : Bool) : Type 0 where
+  pub each : IsTrue says → (next : List ℕ) → IsOfKind kind next → IsViablePrefix (IsPart f) (prefix ++ next)
+  pub none : (next : List ℕ) → IsOfKind kind next → IsViablePrefix (IsPart f) (prefix ++ next) → IsTrue says
+
+-- the prefix is itself an alternative, or a range of the strict grammar
+abbrev pub IsWhole : Flavour → List ℕ → Type 0
+IsWhole Npm text = HasPiece Npm false text
+IsWhole Normal text = HasPiece Normal false text
+IsWhole Specifier text = (c : Comparator) × IsSpecifierRange text c
