@@ -2,8 +2,10 @@
 
 use crate::args::Options;
 use crate::console::{Console, Status, Stop, print_line};
+use crate::hints::question;
 use crate::object::Object;
-use answers::asking::{Answer, Kind, Problem};
+use crate::pointing::{Pointer, errors_of};
+use answers::asking::{Answer, InvalidArgument, Kind, Problem};
 use answers::questions::{common_version, text_of_version, version_outside};
 use clap::ArgMatches;
 use deno_semver::Version;
@@ -12,19 +14,32 @@ use std::alloc::{AllocError, Global};
 use std::io::Write;
 
 impl<O: Write, E: Write> Console<O, E> {
-    /// Reports which of the arguments is invalid, or that memory ran out.
-    pub fn reject(&mut self, arguments: &[&str], problem: &Problem) -> Result<Status, Stop> {
+    /// Reports which of the arguments is invalid, and where, or that memory ran out.
+    pub fn reject(
+        &mut self,
+        options: Options,
+        arguments: &[&str],
+        problem: &Problem,
+    ) -> Result<Status, Stop> {
         let Problem::Invalid(invalid) = problem else {
             return Err(Stop::OutOfMemory);
         };
-        let kind = match invalid.kind {
-            Kind::Range => "range",
-            Kind::Version => "version",
-            Kind::Package => "package",
-            Kind::Reference => "reference",
-        };
         let argument = arguments.get(invalid.place).copied().unwrap_or("");
-        Ok(self.refuse(kind, argument, invalid.failure.message()))
+        let errors = match invalid.kind {
+            Kind::Range => errors_of(self.alloc, argument, options.flavour)?,
+            _ => Vec::new(self.alloc),
+        };
+        if options.json {
+            let json = error_json(self.alloc, argument, invalid, errors.as_slice());
+            self.json(json)?;
+            return Ok(Status::Refused);
+        }
+        let status = self.refuse(kind_name(invalid.kind), argument, invalid.failure.message());
+        for error in errors.iter() {
+            // What can't be written to standard error is left out.
+            let _ = error.print(&mut self.err, argument);
+        }
+        Ok(status)
     }
 
     /// Prints the tag that a range is.
@@ -35,7 +50,15 @@ impl<O: Write, E: Write> Console<O, E> {
         } else {
             print_line(&mut self.out, format_args!("tag {tag}"))?;
         }
+        self.question(tag);
         Ok(Status::Tag)
+    }
+
+    /// Asks on standard error what is meant, if the tag looks like a typing mistake.
+    pub fn question(&mut self, tag: &str) {
+        if let Some(question) = question(tag) {
+            let _ = writeln!(self.err, "ranges: tag \"{tag}\": {question}");
+        }
     }
 
     /// Prints the version, or that there is none.
@@ -65,6 +88,34 @@ impl<O: Write, E: Write> Console<O, E> {
             None => Ok(Status::Answered),
         }
     }
+}
+
+fn kind_name(kind: Kind) -> &'static str {
+    match kind {
+        Kind::Range => "range",
+        Kind::Version => "version",
+        Kind::Package => "package",
+        Kind::Reference => "reference",
+    }
+}
+
+// The JSON of an invalid argument, with the place of its first error.
+fn error_json(
+    alloc: Global,
+    argument: &str,
+    invalid: &InvalidArgument,
+    errors: &[Pointer],
+) -> Result<Value, AllocError> {
+    let mut error = Object::new(alloc)
+        .put_text("kind", Some(kind_name(invalid.kind)))
+        .put_text("argument", Some(argument))
+        .put_text("message", Some(invalid.failure.message()));
+    if let [first, ..] = errors {
+        error = first.add_to(alloc, error);
+    }
+    Object::new(alloc)
+        .put("error", error.into_json())
+        .into_json()
 }
 
 // The JSON of one field.
@@ -104,7 +155,7 @@ pub fn common<O: Write, E: Write>(
     let words = matches.get_strs("REQ").unwrap_or(&[]);
     match common_version(console.alloc, options.flavour, options.pre_release, words) {
         Ok(answer) => print_common(console, options, &answer),
-        Err(problem) => console.reject(words, &problem),
+        Err(problem) => console.reject(options, words, &problem),
     }
 }
 
@@ -138,7 +189,7 @@ pub fn within<O: Write, E: Write>(
         old,
     ) {
         Ok(answer) => print_outside(console, options, &answer),
-        Err(problem) => console.reject(&[new, old], &problem),
+        Err(problem) => console.reject(options, &[new, old], &problem),
     }
 }
 

@@ -3,13 +3,23 @@
 use crate::args::Options;
 use crate::console::{Console, Status, Stop, print_line};
 use crate::object::Object;
+use crate::pointing::{Pointer, errors_of};
 use answers::explained::{Explanation, Matches, Meaning, Piece, explain};
 use clap::ArgMatches;
 use deno_semver::{PreRelease, RangeBound, Version, VersionBound, VersionBoundKind, VersionRange};
 use serde_json::Value;
 use std::alloc::{AllocError, Global};
-use std::fmt;
 use std::io::Write;
+use std::{fmt, slice};
+
+// What is printed of a range: its text, its alternatives, the errors of the invalid ones, and its canonical form.
+#[derive(Clone, Copy)]
+struct Explained<'a> {
+    text: &'a str,
+    pieces: &'a [Piece],
+    errors: &'a [Pointer],
+    normal: &'a str,
+}
 
 // The bounds of a range as comparators, such as `>=1.2.0 <2.0.0`.
 #[derive(Clone, Copy)]
@@ -207,39 +217,65 @@ fn with_range(alloc: Global, json: Object, matches: &Matches, pre_release: PreRe
         .put("lowest", lowest_json(alloc, &matches.least))
 }
 
-fn piece_json(alloc: Global, piece: &Piece, pre_release: PreRelease) -> Result<Value, AllocError> {
+// An alternative that is left out comes with its error.
+fn piece_json(
+    alloc: Global,
+    piece: &Piece,
+    error: Option<&Pointer>,
+    pre_release: PreRelease,
+) -> Result<Value, AllocError> {
     let json = Object::new(alloc).put_text("text", Some(piece.text.as_str().trim()));
-    let json = match &piece.meaning {
-        Meaning::Range(matches) => with_range(alloc, json, matches, pre_release),
-        Meaning::LeftOut(refusal) => json.put_text("error", Some(refusal.message())),
-    };
-    json.into_json()
+    match (&piece.meaning, error) {
+        (Meaning::Range(matches), _) => with_range(alloc, json, matches, pre_release).into_json(),
+        (Meaning::LeftOut(refusal), error) => {
+            let json = json.put_text("error", Some(refusal.message()));
+            match error {
+                Some(error) => error.add_to(alloc, json).into_json(),
+                None => json.into_json(),
+            }
+        }
+    }
+}
+
+// Whether an alternative is left out.
+fn is_left_out(piece: &Piece) -> bool {
+    matches!(piece.meaning, Meaning::LeftOut(_))
+}
+
+// The next of the errors, if the alternative is left out.
+fn error_of<'a>(errors: &mut slice::Iter<'a, Pointer>, piece: &Piece) -> Option<&'a Pointer> {
+    if is_left_out(piece) {
+        errors.next()
+    } else {
+        None
+    }
 }
 
 fn alternatives_json(
     alloc: Global,
-    pieces: &[Piece],
+    explained: Explained<'_>,
     pre_release: PreRelease,
 ) -> Result<Value, AllocError> {
+    let mut errors = explained.errors.iter();
     let mut items = Vec::new(alloc);
-    for piece in pieces {
-        items.push(piece_json(alloc, piece, pre_release)?)?;
+    for piece in explained.pieces {
+        let error = error_of(&mut errors, piece);
+        items.push(piece_json(alloc, piece, error, pre_release)?)?;
     }
     Ok(Value::Array(items))
 }
 
 fn pieces_json(
     alloc: Global,
-    pieces: &[Piece],
+    explained: Explained<'_>,
     pre_release: PreRelease,
-    normal: &str,
 ) -> Result<Value, AllocError> {
     Object::new(alloc)
         .put(
             "alternatives",
-            alternatives_json(alloc, pieces, pre_release),
+            alternatives_json(alloc, explained, pre_release),
         )
-        .put_text("normal", Some(normal))
+        .put_text("normal", Some(explained.normal))
         .into_json()
 }
 
@@ -254,59 +290,68 @@ fn tell_tag<O: Write, E: Write>(
             &mut console.out,
             format_args!("\"{tag}\": a tag, a name that a registry gives a version"),
         )?;
+        console.question(tag);
         return Ok(Status::Tag);
     }
     console.tag(options, tag)
 }
 
-// Prints each piece on a line, and the canonical form; or both as JSON.
+// Prints each alternative on a line, an invalid one with its error, and the canonical form; or all as JSON.
 fn tell_pieces<O: Write, E: Write>(
     console: &mut Console<O, E>,
     options: Options,
-    pieces: &[Piece],
-    normal: &str,
+    explained: Explained<'_>,
 ) -> Result<Status, Stop> {
     let pre_release = options.pre_release;
     if options.json {
-        let json = pieces_json(console.alloc, pieces, pre_release, normal);
+        let json = pieces_json(console.alloc, explained, pre_release);
         console.json(json)?;
     } else {
-        print_pieces(&mut console.out, pieces, pre_release, normal)?;
+        print_pieces(&mut console.out, explained, pre_release)?;
     }
-    Ok(status_of(pieces))
-}
-
-// The status, which says whether a piece was left out.
-fn status_of(pieces: &[Piece]) -> Status {
-    let is_left_out = |piece: &Piece| matches!(piece.meaning, Meaning::LeftOut(_));
-    if pieces.iter().any(is_left_out) {
-        Status::Refused
+    if explained.pieces.iter().any(is_left_out) {
+        Ok(Status::Refused)
     } else {
-        Status::Answered
+        Ok(Status::Answered)
     }
 }
 
 fn print_pieces<O: Write>(
     out: &mut O,
-    pieces: &[Piece],
+    explained: Explained<'_>,
     pre_release: PreRelease,
-    normal: &str,
 ) -> Result<(), Stop> {
-    for piece in pieces {
+    let mut errors = explained.errors.iter();
+    for piece in explained.pieces {
         print_line(out, Line { piece, pre_release })?;
+        if let Some(error) = error_of(&mut errors, piece) {
+            error.print(out, explained.text)?;
+        }
     }
-    print_line(out, format_args!("canonical form: {normal}"))
+    print_line(out, format_args!("canonical form: {}", explained.normal))
 }
 
 fn tell_explanation<O: Write, E: Write>(
     console: &mut Console<O, E>,
     options: Options,
+    text: &str,
     explanation: &Explanation,
 ) -> Result<Status, Stop> {
     match explanation {
         Explanation::Tag(tag) => tell_tag(console, options, tag.as_str()),
         Explanation::Ranges { pieces, normal } => {
-            tell_pieces(console, options, pieces.as_slice(), normal.as_str())
+            let errors = if pieces.iter().any(is_left_out) {
+                errors_of(console.alloc, text, options.flavour)?
+            } else {
+                Vec::new(console.alloc)
+            };
+            let explained = Explained {
+                text,
+                pieces: pieces.as_slice(),
+                errors: errors.as_slice(),
+                normal: normal.as_str(),
+            };
+            tell_pieces(console, options, explained)
         }
     }
 }
@@ -320,7 +365,7 @@ pub fn tell<O: Write, E: Write>(
 ) -> Result<Status, Stop> {
     let word = matches.get_str("REQ").unwrap_or("");
     match explain(console.alloc, options.flavour, options.pre_release, word) {
-        Ok(explanation) => tell_explanation(console, options, &explanation),
-        Err(problem) => console.reject(&[word], &problem),
+        Ok(explanation) => tell_explanation(console, options, word, &explanation),
+        Err(problem) => console.reject(options, &[word], &problem),
     }
 }

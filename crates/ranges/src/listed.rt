@@ -150,7 +150,7 @@ pub fn filter<R: Input, O: Write, E: Write>(
     let word = matches.get_str("REQ").unwrap_or("");
     match range(console.alloc, options.flavour, 0, word) {
         Ok(requirement) => filter_by(rt, console, matches, options, &requirement),
-        Err(problem) => console.reject(&[word], &problem),
+        Err(problem) => console.reject(options, &[word], &problem),
     }
 }
 
@@ -189,7 +189,7 @@ pub fn best<R: Input, O: Write, E: Write>(
     let word = matches.get_str("REQ").unwrap_or("");
     match range(console.alloc, options.flavour, 0, word) {
         Ok(requirement) => best_by(rt, console, matches, options, &requirement),
-        Err(problem) => console.reject(&[word], &problem),
+        Err(problem) => console.reject(options, &[word], &problem),
     }
 }
 

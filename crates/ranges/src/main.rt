@@ -12,10 +12,12 @@ mod args;
 mod comparing;
 mod console;
 mod explaining;
+mod hints;
 mod input;
 mod listed;
 mod object;
 mod packaged;
+mod pointing;
 
 use args::{Options, program};
 use clap::error::ErrorKind as Mistake;

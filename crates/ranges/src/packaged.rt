@@ -81,7 +81,7 @@ pub fn tell_package<O: Write, E: Write>(
     let word = matches.get_str("TEXT").unwrap_or("");
     match read_package(console.alloc, options.flavour, word) {
         Ok(req) => answer_package(console, options, &req),
-        Err(problem) => console.reject(&[word], &problem),
+        Err(problem) => console.reject(options, &[word], &problem),
     }
 }
 
@@ -94,6 +94,6 @@ pub fn tell_reference<O: Write, E: Write>(
     let word = matches.get_str("TEXT").unwrap_or("");
     match read_reference(console.alloc, word) {
         Ok(read) => answer_reference(console, options, &read),
-        Err(problem) => console.reject(&[word], &problem),
+        Err(problem) => console.reject(options, &[word], &problem),
     }
 }

@@ -1,0 +1,160 @@
+//! What to write in place of usual mistakes. These are guesses, and tested alone.
+
+// What package.json has in place of a range.
+const PROTOCOLS: [&str; 11] = [
+    "workspace:",
+    "catalog:",
+    "file:",
+    "link:",
+    "portal:",
+    "patch:",
+    "npm:",
+    "git+",
+    "git:",
+    "github:",
+    "http",
+];
+
+// Whether a text begins with one of package.json's protocols.
+fn is_protocol(text: &str) -> bool {
+    PROTOCOLS.iter().any(|protocol| text.starts_with(*protocol))
+}
+
+// Whether a version or a name ends with this text.
+fn ends_word(text: &str) -> bool {
+    text.ends_with(|c: char| c.is_ascii_alphanumeric() || c == '*')
+}
+
+// Whether the text ends with a version's three numbers.
+fn ends_triple(text: &str) -> bool {
+    let version = text.rsplit(|c: char| !c.is_ascii_alphanumeric() && c != '.');
+    let mut numbers = 0;
+    for version in version.take(1) {
+        numbers = version.split('.').count();
+    }
+    numbers == 3
+}
+
+// Texts that show what is meant, and the hint for each.
+const PHRASES: [(&str, &str); 7] = [
+    (
+        "!=",
+        "no operator means `not`: write two ranges, such as `<1.2 || >1.2`",
+    ),
+    ("between", "write `1 - 2` for the versions between 1 and 2"),
+    (" or ", "write `||` for `or`"),
+    (" and ", "write a space for `and`"),
+    (" to ", "write ` - ` for `to`"),
+    ("@", "leave the package's name out: the range follows `@`"),
+    ("(", "ranges have no parentheses"),
+];
+
+// How a text that isn't a range begins, and the hint for it.
+const FRONTS: [(&str, &str); 4] = [
+    ("\"", "leave the quotes out"),
+    ("'", "leave the quotes out"),
+    ("[", "ranges have no brackets: write `>=` and `<`"),
+    ("V", "write `v`, or leave it out"),
+];
+
+// A hint for the text of an alternative.
+fn hint_of(piece: &str) -> Option<&'static str> {
+    if is_protocol(piece) {
+        return Some("this is a protocol of package.json, not a range");
+    }
+    for (front, hint) in &FRONTS {
+        if piece.starts_with(*front) {
+            return Some(*hint);
+        }
+    }
+    for (phrase, hint) in &PHRASES {
+        if piece.contains(*phrase) {
+            return Some(*hint);
+        }
+    }
+    None
+}
+
+fn is_operator(c: char) -> bool {
+    matches!(c, '<' | '>' | '=' | '^' | '~')
+}
+
+// A hint for a character that can't stand behind this text.
+fn hint_at(before: &str, next: char) -> Option<&'static str> {
+    match next {
+        '.' if before.ends_with(' ') => Some("leave out the space before `.`"),
+        '.' if ends_triple(before) => Some("a version has three numbers"),
+        '>' if before.ends_with('=') => Some("write `>=`"),
+        '<' if before.ends_with('=') => Some("write `<=`"),
+        c if is_operator(c) && before.ends_with(is_operator) => Some("write one operator"),
+        c if is_operator(c) && ends_word(before) => Some("put a space between two comparators"),
+        ',' | '&' if before.ends_with(',') => Some("write one separator"),
+        '_' => Some("a pre-release has letters, digits, `-` and `.`"),
+        c if !c.is_ascii() => Some("this character isn't ASCII"),
+        _ => None,
+    }
+}
+
+/// A hint for an invalid alternative that leaves its grammar at a place.
+pub fn hint(piece: &str, place: usize) -> Option<&'static str> {
+    let next = piece.get(place..)?.chars().next();
+    hint_of(piece.trim()).or(hint_at(piece.get(..place)?, next?))
+}
+
+const LATEST: &str = "latest";
+
+// Whether the text is `latest` with one letter too many, missing, or wrong, or with two neighbours swapped.
+fn is_nearly_latest(tag: &str) -> bool {
+    let ahead = |(a, b): &(u8, u8)| a == b;
+    let front = tag.bytes().zip(LATEST.bytes()).take_while(ahead).count();
+    let tail = (tag.bytes().rev())
+        .zip(LATEST.bytes().rev())
+        .take_while(ahead)
+        .count();
+    let shorter = tag.len().min(LATEST.len());
+    let tail = tail.min(shorter.saturating_sub(front));
+    let own = tag.as_bytes().get(front..tag.len().saturating_sub(tail));
+    let other = LATEST
+        .as_bytes()
+        .get(front..LATEST.len().saturating_sub(tail));
+    match (own, other) {
+        (Some([_]), Some([_] | [])) | (Some([]), Some([_])) => true,
+        (Some([a, b]), Some([c, d])) => a == d && b == c,
+        (_, _) => false,
+    }
+}
+
+// What may be wrong with a tag that looks like a version.
+fn version_question(tag: &str) -> Option<&'static str> {
+    let first = tag.chars().next()?;
+    let is_digit = |c: char| c.is_ascii_digit();
+    let looks_like_digit = |c: char| matches!(c, 'l' | 'I' | 'O' | 'o');
+    if first == 'V' && tag.contains(is_digit) {
+        return Some("write `v`, or leave it out");
+    }
+    if !tag.contains('.') || !tag.contains(is_digit) {
+        return None;
+    }
+    let is_version = |c: char| c == '.' || is_digit(c) || looks_like_digit(c);
+    if tag.contains(looks_like_digit) && tag.chars().all(is_version) {
+        return Some("is a letter written for a digit?");
+    }
+    if first != '.' && !is_digit(first) {
+        return None;
+    }
+    if tag.ends_with('-') {
+        Some("is a version meant? A pre-release follows `-`")
+    } else if tag.split('.').count() > 3 {
+        Some("is a version meant? It has three numbers")
+    } else {
+        Some("is a version meant?")
+    }
+}
+
+/// What may be meant by a tag that looks like a typing mistake.
+pub fn question(tag: &str) -> Option<&'static str> {
+    if is_nearly_latest(tag) {
+        return Some("is `latest` meant?");
+    }
+    version_question(tag)
+}

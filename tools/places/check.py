@@ -1,0 +1,187 @@
+#!/usr/bin/env python3
+"""Compares the places of errors in random texts with an automaton of each grammar, written here from the grammars alone. Run at
+the top of the project, after rt ci (or after rt run in crates/conformance and crates/ranges).
+
+    tools/places/check.py [COUNT] [SEED]    COUNT: so many texts, 100,000 if it isn't given
+
+A grammar is a regular expression. Its derivative by a character is what may follow that character; a prefix is viable until no
+derivative is left. Each text is asked of the program conformance by each grammar, and some are asked of ranges, which says the
+place in its JSON. The last line counts; the status is 1 where something differs."""
+import functools, json, pathlib, random, subprocess, sys
+
+TOP = pathlib.Path(__file__).resolve().parents[2]
+CONFORMANCE, RANGES = (TOP / f"crates/{name}/out/{name}" for name in ("conformance", "ranges"))
+# So many of the texts are asked of ranges too, a program that runs once for each.
+SHOWN = 2_000
+
+# ---- regular expressions: None has no text, () the empty one only, a frozenset one character of it
+EMPTY = ()
+
+
+def chars(text):
+    return frozenset(text)
+
+
+def seq(*parts):
+    if None in parts:
+        return None
+    flat = []
+    for part in parts:
+        flat += part[1:] if isinstance(part, tuple) and part[:1] == ("seq",) else [part] if part != EMPTY else []
+    return EMPTY if not flat else flat[0] if len(flat) == 1 else ("seq", *flat)
+
+
+def alt(*parts):
+    flat = set()
+    for part in parts:
+        if part is not None:
+            flat |= part[1] if isinstance(part, tuple) and part[:1] == ("alt",) else {part}
+    return None if not flat else flat.pop() if len(flat) == 1 else ("alt", frozenset(flat))
+
+
+def star(part):
+    return ("star", part)
+
+
+def optional(part):
+    return alt(part, EMPTY)
+
+
+def some(part):
+    return seq(part, star(part))
+
+
+def text(letters):
+    return seq(*map(chars, letters))
+
+
+def listed(item, separator):
+    """Items with separators between them, and at most one at the end."""
+    return seq(item, star(seq(separator, item)), optional(separator))
+
+
+@functools.cache
+def has_empty(part):
+    if part is None or isinstance(part, frozenset):
+        return False
+    if part == EMPTY or part[0] == "star":
+        return True
+    return all(map(has_empty, part[1:])) if part[0] == "seq" else any(map(has_empty, part[1]))
+
+
+@functools.cache
+def after(part, c):
+    """What may follow the character in a text of this expression."""
+    if part is None or part == EMPTY:
+        return None
+    if isinstance(part, frozenset):
+        return EMPTY if c in part else None
+    if part[0] == "star":
+        return seq(after(part[1], c), part)
+    if part[0] == "alt":
+        return alt(*(after(one, c) for one in part[1]))
+    rest = seq(*part[2:])
+    first = seq(after(part[1], c), rest)
+    return alt(first, after(rest, c)) if has_empty(part[1]) else first
+
+
+def place(grammar, given):
+    """The index, in bytes, at which the text leaves the grammar."""
+    for index, c in enumerate(given):
+        grammar = after(grammar, c)
+        if grammar is None:
+            return len(given[:index].encode())
+    return len(given.encode())
+
+
+# ---- the grammars of ranges
+DIGITS = "0123456789"
+LETTERS = "abcdefghijklmnopqrstuvwxyzABCDEFGHIJKLMNOPQRSTUVWXYZ"
+SPACE = chars(" \t\n\u00a0\u3000")
+SPACES, SOME_SPACES = star(SPACE), some(SPACE)
+IDENTIFIER = some(chars(DIGITS + LETTERS + "-"))
+IDENTIFIERS = listed(IDENTIFIER, chars("."))
+OPERATOR = alt(*map(text, (">=", "<=", ">", "<", "=")))
+BARS = text("||")
+
+
+def qualifier(first):
+    """A pre-release that may begin without `-`, by one of these characters; and a build."""
+    unled = seq(chars(first), star(chars(DIGITS + LETTERS + "-")), star(seq(chars("."), IDENTIFIER)), optional(chars(".")))
+    led = seq(chars("-"), IDENTIFIERS)
+    return seq(optional(alt(led, unled) if first else led), optional(seq(chars("+"), IDENTIFIERS)))
+
+
+def partial(wildcards, number, is_loose):
+    """One to three components. A number goes on as long as there are digits, so a pre-release begins with none behind it."""
+    component = alt(chars(wildcards), number)
+    behind_number = qualifier(LETTERS if is_loose else "")
+    behind_wildcard = qualifier(LETTERS + DIGITS if is_loose else "")
+    third = seq(chars("."), alt(seq(chars(wildcards), behind_wildcard), seq(number, behind_number)))
+    return seq(component, optional(seq(chars("."), component, optional(third))))
+
+
+LOOSE = some(chars(DIGITS))
+STRICT = alt(chars("0"), seq(chars(DIGITS[1:]), star(chars(DIGITS))))
+NPM = seq(optional(chars("v")), partial("*xX", LOOSE, True))
+LED = seq(star(chars("=")), SPACES, optional(chars("v")), SPACES, NPM)
+IGNORED = optional(seq(OPERATOR, SOME_SPACES))
+TILDE = alt(text("~>"), text("~"))
+NPM_COMPARATOR = alt(seq(IGNORED, alt(TILDE, chars("^")), LED), seq(OPERATOR, SPACES, NPM), NPM)
+NPM_SEPARATOR = alt(seq(SPACES, alt(text("&&"), text(",")), SPACES), SOME_SPACES)
+HYPHEN = seq(NPM, SOME_SPACES, chars("-"), SOME_SPACES, NPM, SPACES)
+NORMAL = partial("*", LOOSE, True)
+NORMAL_COMPARATOR = alt(seq(chars("~^"), NORMAL), seq(OPERATOR, SPACES, NORMAL), NORMAL)
+
+
+def piece(filled):
+    """An alternative, alone or with the `||` that follows it."""
+    return alt(optional(filled), seq(alt(optional(filled), SOME_SPACES), BARS))
+
+
+GRAMMARS = {
+    "npm": piece(alt(HYPHEN, listed(NPM_COMPARATOR, NPM_SEPARATOR))),
+    "normal": piece(listed(NORMAL_COMPARATOR, SOME_SPACES)),
+    "strict": seq(optional(chars("~^")), partial("*xX", STRICT, False)),
+}
+
+# ---- the texts
+PIECES = (*"01239xX*va-.+~^><= &,|", "é", "\u3000", "||", " - ", ">=", "1.2.3", "0.0", "-rc.1", "~>", "&&", "== v")
+
+
+def random_text(source):
+    return "".join(source.choices(PIECES, k=source.randint(0, 12)))
+
+
+def rows(texts):
+    for given in texts:
+        for name, grammar in GRAMMARS.items():
+            yield json.dumps([["error-place", name, given], [str(place(grammar, given))]])
+
+
+def asked_of_ranges(texts):
+    """What differs in the place that ranges says of a text that the normalized grammar rejects, unless it is that of a tag."""
+    for given in texts:
+        if "||" in given or place(GRAMMARS["normal"], given) == 0:
+            continue
+        words = [RANGES, "explain", "--reader", "normal", "--json", "--", given]
+        error = json.loads(subprocess.run(words, capture_output=True, timeout=60).stdout).get("error")
+        if error and error["start"] != place(GRAMMARS["normal"], given):
+            yield f"{given!r}: wanted {place(GRAMMARS['normal'], given)}, found {error}"
+
+
+def main():
+    count = int(sys.argv[1]) if len(sys.argv) > 1 else 100_000
+    seed = int(sys.argv[2]) if len(sys.argv) > 2 else 1
+    source = random.Random(seed)
+    texts = [random_text(source) for _ in range(count)]
+    ran = subprocess.run([CONFORMANCE], input="\n".join(rows(texts)).encode(), capture_output=True)
+    differing = list(asked_of_ranges(texts[:SHOWN]))
+    print(*differing[:10], sep="\n", end="")
+    print(ran.stdout.decode(), end="")
+    print(f"{3 * count} places, {min(count, SHOWN)} texts shown, {len(differing)} of these differ")
+    return 1 if differing or ran.returncode else 0
+
+
+if __name__ == "__main__":
+    sys.exit(main())
