@@ -9,13 +9,14 @@ VERSION := 0.1.0
 SONAME := libdeno_semver.so.0
 KIT_C = $(shell dirname "$$(rt doc)")/c
 SOURCES := $(shell find crates crates.txt -path '*/out' -prune -o -type f \( -name '*.rt' -o -name '*.antt' -o -name crates.txt \) -print)
-ARCHIVE := crates/semver_c/out/libsemver_c.a
 PROGRAMS := crates/ranges/out/ranges crates/npmver/out/npmver
+ARCHIVE := crates/semver_c/out/libsemver_c.a
+STRIPPED := out/ranges out/npmver
 LIBRARIES := out/$(SONAME) out/libdeno_semver.a out/deno_semver.pc
 
 .PHONY: all try test install uninstall help clean tools
 
-all: tools $(PROGRAMS) $(LIBRARIES)
+all: tools $(STRIPPED) $(LIBRARIES)
 
 help:
 	@echo 'make            prove and build the programs and libraries'
@@ -26,7 +27,7 @@ help:
 	@echo 'make clean      remove what make put into out/'
 
 tools:
-	@packaging/tools.sh rt $(CC) $(AR) python3
+	@packaging/tools.sh rt $(CC) $(AR) strip python3
 
 try:
 	@packaging/tools.sh rt
@@ -47,28 +48,35 @@ crates/npmver/out/npmver: $(SOURCES)
 	@cd crates/npmver && rt run -- meet 1 1 >/dev/null
 	@touch $@
 
+out/ranges: crates/ranges/out/ranges
+out/npmver: crates/npmver/out/npmver
+$(STRIPPED): | out
+	@strip -o $@ $<
+
 $(ARCHIVE): $(SOURCES)
 	@echo 'Proving and building the C library: a few minutes the first time.'
 	@bindings/library.py
 	@touch $@
 
 out:
-	@mkdir -p out
+	@mkdir -p $@
 
 # Only the calls of semver.h are visible.
 out/$(SONAME): $(ARCHIVE) packaging/libdeno_semver.map | out
 	$(CC) -shared -s -o $@ -Wl,-soname,$(SONAME) -Wl,--version-script=packaging/libdeno_semver.map \
 	    -Wl,--gc-sections,-z,defs,-z,relro,-z,now -Wl,--whole-archive $(ARCHIVE) -Wl,--no-whole-archive '$(KIT_C)/liblibc_c.a'
 
-# One archive, with the kit's calls of malloc and free.
+# One archive, with what calls malloc and free.
 out/libdeno_semver.a: $(ARCHIVE) | out
 	@rm -f $@
-	@printf 'create %s\naddlib %s\naddlib %s\nsave\nend\n' $@ $(ARCHIVE) '$(KIT_C)/liblibc_c.a' | $(AR) -M
+	@printf 'create %s\naddlib %s\naddlib %s\nsave\nend\n' $@ $(ARCHIVE) '$(KIT_C)/liblibc_c.a' | $(AR) -MD
 
 out/deno_semver.pc: packaging/deno_semver.pc.in Makefile | out
 	@sed 's|@VERSION@|$(VERSION)|' $< >$@
 
-install: all
+install:
+	@PREFIX='$(PREFIX)' DESTDIR='$(DESTDIR)' packaging/install.sh --check
+	@$(MAKE) --no-print-directory all
 	@PREFIX='$(PREFIX)' DESTDIR='$(DESTDIR)' packaging/install.sh
 
 uninstall:
