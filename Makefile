@@ -8,20 +8,31 @@ AR = ar
 VERSION := 0.1.0
 SONAME := libdeno_semver.so.0
 KIT_C = $(shell dirname "$$(rt doc)")/c
+# Where the libraries are linked, of which archive and over which heap; packaging/dist.sh gives other values for another processor.
+OUT = out
+CALLS := crates/semver_c/out/libsemver_c.a
+ARCHIVE = $(CALLS)
+HEAP = $(KIT_C)/liblibc_c.a
 SOURCES := $(shell find crates crates.txt -path '*/out' -prune -o -type f \( -name '*.rt' -o -name '*.antt' -o -name crates.txt \) -print)
+# What `make dist` makes, and where; with GATE= it doesn't run the proofs, and says so in RELEASE.
+ARCHES = x86_64 aarch64
+GATE = yes
+DIST = out/dist
 PROGRAMS := crates/ranges/out/ranges crates/npmver/out/npmver
-ARCHIVE := crates/semver_c/out/libsemver_c.a
 STRIPPED := out/ranges out/npmver
-LIBRARIES := out/$(SONAME) out/libdeno_semver.a out/deno_semver.pc
+LIBRARIES = $(OUT)/$(SONAME) $(OUT)/libdeno_semver.a $(OUT)/deno_semver.pc
 
-.PHONY: all try test install uninstall help clean tools
+.PHONY: all libraries arm64 try test dist install uninstall help clean tools
 
-all: tools $(STRIPPED) $(LIBRARIES)
+all: tools $(STRIPPED) libraries
+
+libraries: $(LIBRARIES)
 
 help:
 	@echo 'make            prove and build the programs and libraries'
 	@echo 'make try        one answer within a minute, without the proof'
 	@echo 'make test       the whole gate: every proof and every test'
+	@echo 'make dist       a release in out/dist: tarballs for x86-64 and arm64, a Debian package, checksums'
 	@echo 'make install    install below PREFIX (/usr/local), within DESTDIR if it is set'
 	@echo 'make uninstall  remove what make install put there'
 	@echo 'make clean      remove what make put into out/'
@@ -53,26 +64,43 @@ out/npmver: crates/npmver/out/npmver
 $(STRIPPED): | out
 	@strip -o $@ $<
 
-$(ARCHIVE): $(SOURCES)
+$(CALLS): $(SOURCES)
 	@echo 'Proving and building the C library: a few minutes the first time.'
 	@bindings/library.py
 	@touch $@
 
-out:
+$(sort out $(OUT)):
 	@mkdir -p $@
 
 # Only the calls of semver.h are visible.
-out/$(SONAME): $(ARCHIVE) packaging/libdeno_semver.map | out
+$(OUT)/$(SONAME): $(ARCHIVE) packaging/libdeno_semver.map | $(OUT)
 	$(CC) -shared -s -o $@ -Wl,-soname,$(SONAME) -Wl,--version-script=packaging/libdeno_semver.map \
-	    -Wl,--gc-sections,-z,defs,-z,relro,-z,now -Wl,--whole-archive $(ARCHIVE) -Wl,--no-whole-archive '$(KIT_C)/liblibc_c.a'
+	    -Wl,--gc-sections,-z,defs,-z,relro,-z,now -Wl,--whole-archive $(ARCHIVE) -Wl,--no-whole-archive '$(HEAP)'
 
 # One archive, with what calls malloc and free.
-out/libdeno_semver.a: $(ARCHIVE) | out
+$(OUT)/libdeno_semver.a: $(ARCHIVE) | $(OUT)
 	@rm -f $@
-	@printf 'create %s\naddlib %s\naddlib %s\nsave\nend\n' $@ $(ARCHIVE) '$(KIT_C)/liblibc_c.a' | $(AR) -MD
+	@printf 'create %s\naddlib %s\naddlib %s\nsave\nend\n' $@ $(ARCHIVE) '$(HEAP)' | $(AR) -MD
 
-out/deno_semver.pc: packaging/deno_semver.pc.in Makefile | out
+$(OUT)/deno_semver.pc: packaging/deno_semver.pc.in Makefile | $(OUT)
 	@sed 's|@VERSION@|$(VERSION)|' $< >$@
+
+# The last line of the proofs and mutations.
+out/gate: $(shell git ls-files crates crates.txt HANDLES 2>/dev/null) | out
+	@echo 'Proving every crate and trying every mutation: forty minutes if nothing is kept.'
+	@rt ci >out/gate.log 2>&1 || { tail -5 out/gate.log >&2; exit 1; }
+	@tail -1 out/gate.log >$@
+
+# The kit builds for arm64 too, and proves the programs and the C library once more.
+out/aarch64/ranges.o out/aarch64/npmver.o out/aarch64/libsemver_c.a: $(SOURCES) | $(PROGRAMS) $(CALLS)
+	@echo 'Proving and building $(@F) for arm64: two minutes, and ten for ranges.'
+	@packaging/arm64.py $@
+	@touch $@
+
+arm64: out/aarch64/ranges.o out/aarch64/npmver.o out/aarch64/libsemver_c.a
+
+dist:
+	@VERSION='$(VERSION)' ARCHES='$(ARCHES)' GATE='$(GATE)' DIST='$(DIST)' CC='$(CC)' AR='$(AR)' packaging/dist.sh
 
 install:
 	@PREFIX='$(PREFIX)' DESTDIR='$(DESTDIR)' packaging/install.sh --check
