@@ -111,7 +111,10 @@ try_debian() {
 
 packaging/generate.py --check
 install_and_remove
-has dpkg-deb || { echo 'packaging: no dpkg-deb (Debian package dpkg), so no release is tried'; exit; }
+if ! why=$(packaging/tools.sh --static "${CC:-cc}" git dpkg-deb 2>&1); then
+    echo "packaging: no release is tried, since $why"
+    exit
+fi
 arches=x86_64
 if has aarch64-linux-gnu-gcc && make -q arm64; then arches='x86_64 aarch64'; fi
 release_twice "$arches"
