@@ -93,7 +93,7 @@ out/gate: $(shell git ls-files crates crates.txt HANDLES 2>/dev/null) | out
 
 # The kit builds for arm64 too, and proves the programs and the C library once more.
 out/aarch64/ranges.o out/aarch64/npmver.o out/aarch64/libsemver_c.a: $(SOURCES) | $(PROGRAMS) $(CALLS)
-	@echo 'Proving and building $(@F) for arm64: two minutes, and ten for ranges.'
+	@echo 'Proving and building $(@F) for arm64: two minutes, and seven for ranges.'
 	@packaging/arm64.py $@
 	@touch $@
 

@@ -45,7 +45,7 @@ try_c() { # FOLDER COMPILER COMMAND..
     export PKG_CONFIG_LIBDIR="$folder/lib/pkgconfig"
     "$compiler" -o "$root/shared" packaging/example.c $(pkg-config --cflags --libs deno_semver)
     "$compiler" -o "$root/static" packaging/example.c $(pkg-config --cflags deno_semver) "$folder/lib/libdeno_semver.a"
-    expect yes "$@" env LD_LIBRARY_PATH="$folder/lib" "$root/shared"
+    expect yes env LD_LIBRARY_PATH="$folder/lib" "$@" "$root/shared"
     expect yes "$@" "$root/static"
     rm "$root/shared" "$root/static"
 }
