@@ -14,15 +14,16 @@ CALLS := crates/semver_c/out/libsemver_c.a
 ARCHIVE = $(CALLS)
 HEAP = $(KIT_C)/liblibc_c.a
 SOURCES := $(shell find crates crates.txt -path '*/out' -prune -o -type f \( -name '*.rt' -o -name '*.antt' -o -name crates.txt \) -print)
-# What `make dist` makes, and where; with GATE= it doesn't run the proofs, and says so in RELEASE.
+# What `make dist` makes, and where. With GATE= it doesn't run rt ci, and with STATIC= it takes the programs of `make install`.
 ARCHES = x86_64 aarch64
 GATE = yes
+STATIC = yes
 DIST = out/dist
 PROGRAMS := crates/ranges/out/ranges crates/npmver/out/npmver
 STRIPPED := out/ranges out/npmver
 LIBRARIES = $(OUT)/$(SONAME) $(OUT)/libdeno_semver.a $(OUT)/deno_semver.pc
 
-.PHONY: all libraries arm64 try test dist install uninstall help clean tools
+.PHONY: all libraries x86_64 aarch64 try test dist install uninstall help clean tools
 
 all: tools $(STRIPPED) libraries
 
@@ -91,16 +92,16 @@ out/gate: $(shell git ls-files crates crates.txt HANDLES 2>/dev/null) | out
 	@rt ci >out/gate.log 2>&1 || { tail -5 out/gate.log >&2; exit 1; }
 	@tail -1 out/gate.log >$@
 
-# The kit builds for arm64 too, and proves the programs and the C library once more.
+# What the release of a processor is linked from. For arm64 the kit proves all of it once more.
+out/x86_64/ranges.o out/x86_64/npmver.o out/x86_64/libsemver_c.a \
 out/aarch64/ranges.o out/aarch64/npmver.o out/aarch64/libsemver_c.a: $(SOURCES) | $(PROGRAMS) $(CALLS)
-	@echo 'Proving and building $(@F) for arm64: two minutes, and seven for ranges.'
-	@packaging/arm64.py $@
+	@packaging/object.py $@
 	@touch $@
 
-arm64: out/aarch64/ranges.o out/aarch64/npmver.o out/aarch64/libsemver_c.a
+x86_64 aarch64: %: out/%/ranges.o out/%/npmver.o out/%/libsemver_c.a
 
 dist:
-	@VERSION='$(VERSION)' ARCHES='$(ARCHES)' GATE='$(GATE)' DIST='$(DIST)' CC='$(CC)' AR='$(AR)' packaging/dist.sh
+	@VERSION='$(VERSION)' ARCHES='$(ARCHES)' GATE='$(GATE)' STATIC='$(STATIC)' DIST='$(DIST)' CC='$(CC)' AR='$(AR)' packaging/dist.sh
 
 install:
 	@PREFIX='$(PREFIX)' DESTDIR='$(DESTDIR)' packaging/install.sh --check

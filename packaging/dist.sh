@@ -1,7 +1,7 @@
 #!/bin/sh
 # Writes a release into the folder DIST: for each processor of ARCHES a tarball with static programs and the C library, a Debian package,
 # SHA256SUMS, and RELEASE, which says what it was made of. The same commit and tools give the same bytes. Run by `make dist`, at the top;
-# with GATE empty the proofs and mutations aren't run before it, and RELEASE says so.
+# with GATE empty the proofs and mutations aren't run before it, and with STATIC empty the programs aren't static; RELEASE says so.
 set -e
 umask 022
 export LC_ALL=C
@@ -18,7 +18,9 @@ check() {
     for arch in $ARCHES; do
         case $arch in
             x86_64) ;;
-            aarch64) tools='aarch64-linux-gnu-gcc aarch64-linux-gnu-ar' ;;
+            aarch64)
+                [ -n "$STATIC" ] || fail 'the programs for aarch64 are static'
+                tools='aarch64-linux-gnu-gcc aarch64-linux-gnu-ar' ;;
             *) fail "ARCHES may have x86_64 and aarch64, and not $arch" ;;
         esac
     done
@@ -32,21 +34,19 @@ check() {
 make_all() {
     if [ -n "$GATE" ]; then ${MAKE:-make} --no-print-directory out/gate; fi
     ${MAKE:-make} --no-print-directory all
-    case $ARCHES in *aarch64*) ${MAKE:-make} --no-print-directory arm64 ;; esac
+    for arch in $ARCHES; do
+        if [ -n "$STATIC" ]; then ${MAKE:-make} --no-print-directory "$arch"; fi
+    done
 }
 
-# For a processor: its compiler and archiver, both programs, the library of the calls, and the C code below them.
+# The compiler and the archiver of a processor, and the C code below the programs and the calls: the kit's on x86-64, ours on arm64.
 parts() { # ARCH
     case $1 in
         x86_64)
-            cc=${CC:-cc} ar=${AR:-ar} calls=crates/semver_c/out/libsemver_c.a
-            ranges=crates/ranges/out/ranges.o npmver=crates/npmver/out/npmver.o
             kit=$(dirname "$(rt doc)")/c
-            system=$kit/libos_c.a heap=$kit/liblibc_c.a ;;
+            cc=${CC:-cc} ar=${AR:-ar} system=$kit/libos_c.a heap=$kit/liblibc_c.a ;;
         aarch64)
-            cc=aarch64-linux-gnu-gcc ar=aarch64-linux-gnu-ar calls=out/$1/libsemver_c.a
-            ranges=out/$1/ranges.o npmver=out/$1/npmver.o
-            system=out/$1/system.a heap=out/$1/heap.a
+            cc=aarch64-linux-gnu-gcc ar=aarch64-linux-gnu-ar system=out/$1/system.a heap=out/$1/heap.a
             for part in system heap; do
                 $cc -O2 -fPIC -Wall -Wextra -Werror -c -o "out/$1/$part.o" "packaging/arm64/$part.c"
                 rm -f "out/$1/$part.a"
@@ -58,9 +58,14 @@ parts() { # ARCH
 # Links the static programs and the libraries in out/ARCH.
 link() { # ARCH
     parts "$1"
-    mkdir -p "out/$1"
-    $cc -static -s -o "out/$1/ranges" "$ranges" "$system" "$heap"
-    $cc -static -s -o "out/$1/npmver" "$npmver" "$system" "$heap"
+    calls=crates/semver_c/out/libsemver_c.a
+    if [ -n "$STATIC" ]; then
+        calls=out/$1/libsemver_c.a
+        for program in ranges npmver; do $cc -static -s -o "out/$1/$program" "out/$1/$program.o" "$system" "$heap"; done
+    else
+        mkdir -p "out/$1"
+        cp out/ranges out/npmver "out/$1"
+    fi
     rm -f "out/$1"/libdeno_semver.*
     ${MAKE:-make} -s OUT="out/$1" CC="$cc" AR="$ar" ARCHIVE="$calls" HEAP="$heap" libraries >/dev/null
 }
@@ -109,7 +114,11 @@ release() {
     case $ARCHES in *aarch64*)
         echo 'For arm64 the programs and the C library were proved once more; what is below them there is trusted: packaging/arm64, in C.'
     esac
-    echo 'The static programs have parts of the GNU C library in them, whose licence is the LGPL.'
+    if [ -n "$STATIC" ]; then
+        echo 'The static programs have parts of the GNU C library in them, whose licence is the LGPL.'
+    else
+        echo 'THE PROGRAMS ARE NOT STATIC.'
+    fi
 }
 
 check

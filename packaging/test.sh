@@ -1,8 +1,9 @@
 #!/bin/sh
 # Installs into a folder of its own and tries what is there, removes it, and then makes a release twice, whose bytes must be the same, and
 # tries what is in it, with a clean environment: the programs, the manual pages, and a C program over the shared and the static library
-# by pkg-config. For arm64 it does so by qemu-aarch64, if `make arm64` was run; the gate doesn't, since that takes ten minutes. It stops
-# at the first failure. Run at the top of the project, after a build.
+# by pkg-config. What would have to be proved first isn't in it: static programs, if neither `make x86_64` nor a first `rt ci` left their
+# object files, and arm64, if `make aarch64` didn't; qemu-aarch64 runs that. It stops at the first failure. Run at the top of the project,
+# after a build.
 set -e
 root=$(mktemp -d)
 trap 'rm -rf "$root"' EXIT
@@ -78,9 +79,9 @@ install_and_remove() {
     echo 'packaging: installed, tried and removed'
 }
 
-release_twice() { # ARCHES
+release_twice() {
     for time in first second; do
-        make -s dist GATE= ARCHES="$1" DIST="$root/$time" >/dev/null
+        make -s dist GATE= STATIC="$static" ARCHES="$arches" DIST="$root/$time" >/dev/null
     done
     cmp "$root/first/SHA256SUMS" "$root/second/SHA256SUMS" || fail 'two releases of one commit differ'
     (cd "$root/first" && sha256sum --quiet -c SHA256SUMS)
@@ -92,7 +93,9 @@ try_tarball() { # ARCH COMPILER COMMAND..
     shift 2
     tar -C "$root" -xzf "$root/first/deno_semver-0.1.0-$arch-linux.tar.gz"
     unpacked=$root/deno_semver-0.1.0-$arch-linux
-    if readelf -l "$unpacked/bin/ranges" "$unpacked/bin/npmver" | grep INTERP; then fail 'a program of the release needs a loader'; fi
+    if [ -n "$static" ] && readelf -l "$unpacked/bin/ranges" "$unpacked/bin/npmver" | grep INTERP; then
+        fail 'a program of the release needs a loader'
+    fi
     try_programs "$unpacked" "$@"
     try_c "$unpacked" "$compiler" "$@"
     tools/programs/check.py "$unpacked/bin" "$@"
@@ -109,22 +112,41 @@ try_debian() {
     [ ! -e "$system/usr" ] || fail 'dpkg -r leaves files'
 }
 
+# C's questions and examples over arm64's heap, which counts blocks and runs out of memory as bindings/test.sh has it.
+try_questions() { # COMMAND..
+    aarch64-linux-gnu-gcc -O2 -c -o "$root/counting.o" bindings/heap.c
+    aarch64-linux-gnu-objcopy --redefine-sym malloc=heap_malloc --redefine-sym realloc=heap_realloc --redefine-sym free=heap_free \
+        out/aarch64/heap.o "$root/heap.o"
+    python3 bindings/flatten.py bindings/questions.jsonl >"$root/questions.flat"
+    for name in questions examples; do
+        aarch64-linux-gnu-gcc -O2 -Ibindings/c -o "$root/$name" "bindings/c/$name.c" out/aarch64/libsemver_c.a "$root"/*.o
+        "$@" "$root/$name" "$root/questions.flat" >"$root/$name.log" || fail "$name: $(cat "$root/$name.log")"
+    done
+}
+
 packaging/generate.py --check
 install_and_remove
 if ! why=$(packaging/tools.sh --static "${CC:-cc}" git dpkg-deb 2>&1); then
     echo "packaging: no release is tried, since $why"
     exit
 fi
-arches=x86_64
-if has aarch64-linux-gnu-gcc && make -q arm64; then arches='x86_64 aarch64'; fi
-release_twice "$arches"
+arches=x86_64 static=yes
+if [ ! -f out/x86_64/ranges.o ] && [ -f crates/ranges/out/ranges.o ]; then make -s x86_64; fi
+if ! make -q x86_64; then
+    static=
+    echo 'packaging: make x86_64 was not run, so no static program is tried, and nothing for arm64'
+elif ! make -q aarch64 || ! has aarch64-linux-gnu-gcc; then
+    echo 'packaging: make aarch64 was not run, so nothing for arm64 is tried'
+elif ! has qemu-aarch64; then
+    echo 'packaging: no qemu-aarch64 (Debian package qemu-user), so nothing for arm64 is tried'
+else
+    arches='x86_64 aarch64'
+fi
+release_twice
 try_tarball x86_64 "${CC:-cc}"
 if [ "$(id -u)" = 0 ]; then try_debian; else echo 'packaging: not root, so the Debian package is not installed'; fi
-if [ "$arches" = x86_64 ]; then
-    echo 'packaging: make arm64 was not run, so arm64 is not tried'
-elif ! has qemu-aarch64; then
-    echo 'packaging: no qemu-aarch64 (Debian package qemu-user), so arm64 is not tried'
-else
+if [ "$arches" != x86_64 ]; then
     try_tarball aarch64 aarch64-linux-gnu-gcc qemu-aarch64 -L /usr/aarch64-linux-gnu
+    try_questions qemu-aarch64 -L /usr/aarch64-linux-gnu
 fi
 echo "packaging: a release for $arches was made twice, with the same bytes, and tried"
