@@ -32,10 +32,10 @@ check() {
 }
 
 make_all() {
-    if [ -n "$GATE" ]; then ${MAKE:-make} --no-print-directory out/gate; fi
-    ${MAKE:-make} --no-print-directory all
+    if [ -n "$GATE" ]; then ${MAKE:-make} -s out/gate; fi
+    ${MAKE:-make} -s all
     for arch in $ARCHES; do
-        if [ -n "$STATIC" ]; then ${MAKE:-make} --no-print-directory "$arch"; fi
+        if [ -n "$STATIC" ]; then ${MAKE:-make} -s "$arch"; fi
     done
 }
 
