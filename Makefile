@@ -8,25 +8,38 @@ AR = ar
 VERSION := 0.1.0
 SONAME := libdeno_semver.so.0
 KIT_C = $(shell dirname "$$(rt doc)")/c
+# Where the libraries are linked, of which archive and over which heap; packaging/dist.sh gives other values for another processor.
+OUT = out
+CALLS := crates/semver_c/out/libsemver_c.a
+ARCHIVE = $(CALLS)
+HEAP = $(KIT_C)/liblibc_c.a
 SOURCES := $(shell find crates crates.txt -path '*/out' -prune -o -type f \( -name '*.rt' -o -name '*.antt' -o -name crates.txt \) -print)
-ARCHIVE := crates/semver_c/out/libsemver_c.a
+# What `make dist` makes, and where. With GATE= it doesn't run rt ci, and with STATIC= it takes the programs of `make install`.
+ARCHES = x86_64 aarch64
+GATE = yes
+STATIC = yes
+DIST = out/dist
 PROGRAMS := crates/ranges/out/ranges crates/npmver/out/npmver
-LIBRARIES := out/$(SONAME) out/libdeno_semver.a out/deno_semver.pc
+STRIPPED := out/ranges out/npmver
+LIBRARIES = $(OUT)/$(SONAME) $(OUT)/libdeno_semver.a $(OUT)/deno_semver.pc
 
-.PHONY: all try test install uninstall help clean tools
+.PHONY: all libraries x86_64 aarch64 try test dist install uninstall help clean tools
 
-all: tools $(PROGRAMS) $(LIBRARIES)
+all: tools $(STRIPPED) libraries
+
+libraries: $(LIBRARIES)
 
 help:
 	@echo 'make            prove and build the programs and libraries'
 	@echo 'make try        one answer within a minute, without the proof'
 	@echo 'make test       the whole gate: every proof and every test'
+	@echo 'make dist       a release in out/dist: tarballs for x86-64 and arm64, a Debian package, checksums'
 	@echo 'make install    install below PREFIX (/usr/local), within DESTDIR if it is set'
 	@echo 'make uninstall  remove what make install put there'
 	@echo 'make clean      remove what make put into out/'
 
 tools:
-	@packaging/tools.sh rt $(CC) $(AR) python3
+	@packaging/tools.sh rt $(CC) $(AR) strip python3
 
 try:
 	@packaging/tools.sh rt
@@ -47,28 +60,52 @@ crates/npmver/out/npmver: $(SOURCES)
 	@cd crates/npmver && rt run -- meet 1 1 >/dev/null
 	@touch $@
 
-$(ARCHIVE): $(SOURCES)
+out/ranges: crates/ranges/out/ranges
+out/npmver: crates/npmver/out/npmver
+$(STRIPPED): | out
+	@strip -o $@ $<
+
+$(CALLS): $(SOURCES)
 	@echo 'Proving and building the C library: a few minutes the first time.'
 	@bindings/library.py
 	@touch $@
 
-out:
-	@mkdir -p out
+$(sort out $(OUT)):
+	@mkdir -p $@
 
 # Only the calls of semver.h are visible.
-out/$(SONAME): $(ARCHIVE) packaging/libdeno_semver.map | out
+$(OUT)/$(SONAME): $(ARCHIVE) packaging/libdeno_semver.map | $(OUT)
 	$(CC) -shared -s -o $@ -Wl,-soname,$(SONAME) -Wl,--version-script=packaging/libdeno_semver.map \
-	    -Wl,--gc-sections,-z,defs,-z,relro,-z,now -Wl,--whole-archive $(ARCHIVE) -Wl,--no-whole-archive '$(KIT_C)/liblibc_c.a'
+	    -Wl,--gc-sections,-z,defs,-z,relro,-z,now -Wl,--whole-archive $(ARCHIVE) -Wl,--no-whole-archive '$(HEAP)'
 
-# One archive, with the kit's calls of malloc and free.
-out/libdeno_semver.a: $(ARCHIVE) | out
+# One archive, with what calls malloc and free.
+$(OUT)/libdeno_semver.a: $(ARCHIVE) | $(OUT)
 	@rm -f $@
-	@printf 'create %s\naddlib %s\naddlib %s\nsave\nend\n' $@ $(ARCHIVE) '$(KIT_C)/liblibc_c.a' | $(AR) -M
+	@printf 'create %s\naddlib %s\naddlib %s\nsave\nend\n' $@ $(ARCHIVE) '$(HEAP)' | $(AR) -MD
 
-out/deno_semver.pc: packaging/deno_semver.pc.in Makefile | out
+$(OUT)/deno_semver.pc: packaging/deno_semver.pc.in Makefile | $(OUT)
 	@sed 's|@VERSION@|$(VERSION)|' $< >$@
 
-install: all
+# The last line of the proofs and mutations.
+out/gate: $(shell git ls-files crates crates.txt HANDLES 2>/dev/null) | out
+	@echo 'Proving every crate and trying every mutation: forty minutes if nothing is kept.'
+	@rt ci >out/gate.log 2>&1 || { tail -5 out/gate.log >&2; exit 1; }
+	@tail -1 out/gate.log >$@
+
+# What the release of a processor is linked from. For arm64 the kit proves all of it once more.
+out/x86_64/ranges.o out/x86_64/npmver.o out/x86_64/libsemver_c.a \
+out/aarch64/ranges.o out/aarch64/npmver.o out/aarch64/libsemver_c.a: $(SOURCES) | $(PROGRAMS) $(CALLS)
+	@packaging/object.py $@
+	@touch $@
+
+x86_64 aarch64: %: out/%/ranges.o out/%/npmver.o out/%/libsemver_c.a
+
+dist:
+	@VERSION='$(VERSION)' ARCHES='$(ARCHES)' GATE='$(GATE)' STATIC='$(STATIC)' DIST='$(DIST)' CC='$(CC)' AR='$(AR)' packaging/dist.sh
+
+install:
+	@PREFIX='$(PREFIX)' DESTDIR='$(DESTDIR)' packaging/install.sh --check
+	@$(MAKE) --no-print-directory all
 	@PREFIX='$(PREFIX)' DESTDIR='$(DESTDIR)' packaging/install.sh
 
 uninstall:

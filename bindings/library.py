@@ -32,22 +32,24 @@ def is_newer(made, crates):
     return made.exists() and all(made.stat().st_mtime >= changed(pathlib.Path(it.folder)) for it in crates)
 
 
-def build_over(crate, rtlib, folder):
+def build_over(crate, made, *flags, **how):
+    """Proves and builds the program or static library of a crate into `made`, over the libraries below as they stand."""
+    folder, rtlib = kit()
     words = crate.words(["--jobs", str(os.cpu_count())], keeps=False)
-    words += ["--toolchain", f"{folder}/toolchain", "--backend", "llvm", "-o", str(LIBRARY)]
-    LIBRARY.parent.mkdir(exist_ok=True)
-    return subprocess.run([rtlib.RATTLE, "build", *words], cwd=CRATE).returncode
+    words += [*flags, "--toolchain", f"{folder}/toolchain", "--backend", "llvm", "-o", str(made)]
+    made.parent.mkdir(parents=True, exist_ok=True)
+    return subprocess.run([rtlib.RATTLE, "build", *words], cwd=crate.folder, **how).returncode
 
 
 def main():
-    folder, rtlib = kit()
-    crate = rtlib.Crate(str(CRATE), str(TOP), {}, name="semver_c")
+    crate = kit()[1].Crate(str(CRATE), str(TOP), {}, name="semver_c")
     below = crate.below()
     if is_newer(LIBRARY, [*below, crate]):
         return 0
     if all(is_newer(pathlib.Path(it.rlib), it.below() + [it]) for it in below):
-        return build_over(crate, rtlib, folder)
+        return build_over(crate, LIBRARY)
     return subprocess.run(["rt", "lib"], cwd=CRATE).returncode
 
 
-sys.exit(main())
+if __name__ == "__main__":
+    sys.exit(main())

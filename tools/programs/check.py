@@ -3,8 +3,9 @@
 last to rows with texts of a million letters. Run at the top of the project, after rt ci (or after rt run in the three crates),
 which builds them.
 
-    tools/programs/check.py
+    tools/programs/check.py [FOLDER [COMMAND..]]
 
+With a folder only the rows of ranges and npmver are run, of the programs in that folder, each by the command, such as qemu-aarch64.
 A row of PROGRAM.jsonl is a JSON object: the words after the program's name, standard input where there is one, standard output,
 standard error and the status; absent texts are empty. A byte of words or input that isn't valid UTF-8 is written as Python's
 surrogateescape has it, `\\udcff` for 255. Each row is run once more where nothing can be written. An example is what stands after
@@ -14,7 +15,10 @@ import json, os, pathlib, re, subprocess, sys
 
 TOP = pathlib.Path(__file__).resolve().parents[2]
 HERE = pathlib.Path(__file__).resolve().parent
+FOLDER, COMMAND = sys.argv[1:2], sys.argv[2:]
 PROGRAMS = {name: TOP / f"crates/{name}/out/{name}" for name in ("ranges", "npmver", "conformance")}
+if FOLDER:
+    PROGRAMS = {name: pathlib.Path(FOLDER[0]) / name for name in ("ranges", "npmver")}
 RANGES = PROGRAMS["ranges"]
 PAGES = ("README.md", "docs/RANGES.md")
 # How much more memory, in kilobytes, many lines may take than few.
@@ -45,7 +49,7 @@ def as_bytes(given):
 
 
 def run(program, words, given="", seconds=60):
-    ran = subprocess.run([str(program), *words], input=as_bytes(given), capture_output=True, timeout=seconds)
+    ran = subprocess.run([*COMMAND, str(program), *words], input=as_bytes(given), capture_output=True, timeout=seconds)
     return ran.stdout.decode(), ran.stderr.decode(), ran.returncode
 
 
@@ -184,6 +188,8 @@ def main():
         if not program.is_file():
             sys.exit(f"{program} isn't built: run rt ci first")
     checks = (rows, unwritable, unreadable, long_texts, many_ranges, pages, memory, scarce, closed)
+    if FOLDER:
+        checks = (rows,)
     outcomes = [outcome for check in checks for outcome in check()]
     wrong = [outcome for outcome in outcomes if outcome]
     print(*wrong, sep="\n", end="\n" if wrong else "")

@@ -1,0 +1,145 @@
+#!/bin/sh
+# Writes a release into the folder DIST: for each processor of ARCHES a tarball with static programs and the C library, a Debian package,
+# SHA256SUMS, and RELEASE, which says what it was made of. The same commit and tools give the same bytes. Run by `make dist`, at the top;
+# with GATE empty the proofs and mutations aren't run before it, and with STATIC empty the programs aren't static; RELEASE says so.
+set -e
+umask 022
+export LC_ALL=C
+: "${VERSION:?}" "${ARCHES:?}" "${DIST:?}"
+
+fail() {
+    echo "$1" >&2
+    exit 1
+}
+
+# What can stop a release does so before anything long begins.
+check() {
+    tools=
+    for arch in $ARCHES; do
+        case $arch in
+            x86_64) ;;
+            aarch64)
+                [ -n "$STATIC" ] || fail 'the programs for aarch64 are static'
+                tools='aarch64-linux-gnu-gcc aarch64-linux-gnu-ar' ;;
+            *) fail "ARCHES may have x86_64 and aarch64, and not $arch" ;;
+        esac
+    done
+    packaging/tools.sh --static rt "${CC:-cc}" "${AR:-ar}" strip python3 git tar gzip dpkg-deb sha256sum $tools
+    git rev-parse -q --verify HEAD >/dev/null 2>&1 || fail 'A release is made of a commit: run make dist in a clone of the repository'
+    [ ! -e "$DIST" ] || [ -f "$DIST/SHA256SUMS" ] || fail "$DIST is there, and isn't a release: remove it first"
+    above=$(dirname "$DIST")
+    mkdir -p "$above" 2>/dev/null && [ -w "$above" ] || fail "$above can't be written"
+}
+
+make_all() {
+    if [ -n "$GATE" ]; then ${MAKE:-make} -s out/gate; fi
+    ${MAKE:-make} -s all
+    for arch in $ARCHES; do
+        if [ -n "$STATIC" ]; then ${MAKE:-make} -s "$arch"; fi
+    done
+}
+
+# The compiler and the archiver of a processor, and the C code below the programs and the calls: the kit's on x86-64, ours on arm64.
+parts() { # ARCH
+    case $1 in
+        x86_64)
+            kit=$(dirname "$(rt doc)")/c
+            cc=${CC:-cc} ar=${AR:-ar} system=$kit/libos_c.a heap=$kit/liblibc_c.a ;;
+        aarch64)
+            cc=aarch64-linux-gnu-gcc ar=aarch64-linux-gnu-ar system=out/$1/system.a heap=out/$1/heap.a
+            for part in system heap; do
+                $cc -O2 -fPIC -Wall -Wextra -Werror -c -o "out/$1/$part.o" "packaging/arm64/$part.c"
+                rm -f "out/$1/$part.a"
+                $ar rcD "out/$1/$part.a" "out/$1/$part.o"
+            done ;;
+    esac
+}
+
+# Links the static programs and the libraries in out/ARCH.
+link() { # ARCH
+    parts "$1"
+    calls=crates/semver_c/out/libsemver_c.a
+    if [ -n "$STATIC" ]; then
+        calls=out/$1/libsemver_c.a
+        for program in ranges npmver; do $cc -static -s -o "out/$1/$program" "out/$1/$program.o" "$system" "$heap"; done
+    else
+        mkdir -p "out/$1"
+        cp out/ranges out/npmver "out/$1"
+    fi
+    rm -f "out/$1"/libdeno_semver.*
+    ${MAKE:-make} -s OUT="out/$1" CC="$cc" AR="$ar" ARCHIVE="$calls" HEAP="$heap" libraries >/dev/null
+}
+
+same_times() { # FOLDER
+    find "$1" -exec touch -h -d "@$SOURCE_DATE_EPOCH" {} +
+}
+
+# The pkg-config file names its own place, so that a tarball works in any folder.
+tarball() { # ARCH
+    name=deno_semver-$VERSION-$1-linux
+    FROM=out/$1 PREFIX=/ DESTDIR=$work/$name packaging/install.sh >/dev/null
+    sed -i 's|^prefix=.*|prefix=${pcfiledir}/../..|' "$work/$name/lib/pkgconfig/deno_semver.pc"
+    rm -r "$work/$name/share/doc"
+    cp LICENSE README.md "$work/$name"
+    same_times "$work/$name"
+    tar -C "$work" --sort=name --owner=0 --group=0 --numeric-owner --format=gnu -cf "$work/$name.tar" "$name"
+    gzip -9n <"$work/$name.tar" >"$made/$name.tar.gz"
+}
+
+# Debian has manual pages compressed, and completions of zsh in a folder of its own.
+debian() {
+    root=$work/debian share=$work/debian/usr/share
+    FROM=out/x86_64 PREFIX=/usr DESTDIR=$root packaging/install.sh >/dev/null
+    gzip -9n "$share"/man/man1/*.1
+    mv "$share/zsh/site-functions" "$share/zsh/vendor-completions"
+    mkdir "$root/DEBIAN"
+    size=$(find "$root/usr" -type f -printf '%s\n' | awk '{ kilobytes += int(($1 + 1023) / 1024) } END { print kilobytes }')
+    sed -e "s|@VERSION@|$VERSION|" -e "s|@SIZE@|$size|" packaging/debian/control.in >"$root/DEBIAN/control"
+    cp packaging/debian/triggers "$root/DEBIAN"
+    same_times "$root"
+    dpkg-deb --root-owner-group -Zgzip --build "$root" "$made/deno-semver_${VERSION}_amd64.deb" >/dev/null
+}
+
+release() {
+    echo "deno_semver $VERSION for Linux on $(echo "$ARCHES" | sed 's/ / and /')"
+    echo
+    echo "It was made of the commit $(git rev-parse HEAD) of $(git log -1 --format=%cs)."
+    [ -z "$changed" ] || echo 'IT IS NOT THAT COMMIT: there were changes that are not committed.'
+    echo "It was proved and built by $(rt version)."
+    if [ -n "$GATE" ]; then
+        echo "The proofs and mutations (rt ci) ended with: $(cat out/gate)."
+    else
+        echo 'THE PROOFS AND MUTATIONS (rt ci) WERE NOT RUN BEFORE IT.'
+    fi
+    case $ARCHES in *aarch64*)
+        echo 'For arm64 the programs and the C library were proved once more; what is below them there is trusted: packaging/arm64, in C.'
+    esac
+    if [ -n "$STATIC" ]; then
+        echo 'The static programs have parts of the GNU C library in them, whose licence is the LGPL.'
+    else
+        echo 'THE PROGRAMS ARE NOT STATIC.'
+    fi
+}
+
+check
+make_all
+SOURCE_DATE_EPOCH=$(git log -1 --format=%ct)
+export SOURCE_DATE_EPOCH
+changed=$(git status --porcelain)
+work=$(mktemp -d)
+trap 'rm -rf "$work"' EXIT
+made=$work/made
+mkdir "$made"
+for arch in $ARCHES; do
+    link "$arch"
+    tarball "$arch"
+done
+case $ARCHES in *x86_64*) debian ;; esac
+# The wheel for Python, the package for npm and the crate for Rust will come here, each written into $made.
+release >"$made/RELEASE"
+(cd "$made" && sha256sum -- * >"$work/SHA256SUMS")
+rm -rf "$DIST"
+mv "$work/SHA256SUMS" "$made"
+cp -r "$made" "$DIST"
+[ -z "$changed" ] || echo 'There are changes that are not committed, and RELEASE says so.'
+echo "Made a release in $DIST: $(ls "$DIST" | tr '\n' ' ')"
