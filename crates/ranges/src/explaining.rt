@@ -7,6 +7,7 @@ use crate::pointing::{Pointer, errors_of};
 use answers::explained::{Explanation, Matches, Meaning, Piece, explain};
 use clap::ArgMatches;
 use deno_semver::{PreRelease, RangeBound, Version, VersionBound, VersionBoundKind, VersionRange};
+use semver_base::failure::Refusal;
 use serde_json::Value;
 use std::alloc::{AllocError, Global};
 use std::io::Write;
@@ -217,7 +218,19 @@ fn with_range(alloc: Global, json: Object, matches: &Matches, pre_release: PreRe
         .put("lowest", lowest_json(alloc, &matches.least))
 }
 
-// An alternative that is left out comes with its error.
+// Why an alternative is left out, and where.
+fn error_json(
+    alloc: Global,
+    refusal: Refusal,
+    error: Option<&Pointer>,
+) -> Result<Value, AllocError> {
+    let json = Object::new(alloc).put_text("message", Some(refusal.message()));
+    match error {
+        Some(error) => error.add_to(alloc, json).into_json(),
+        None => json.into_json(),
+    }
+}
+
 fn piece_json(
     alloc: Global,
     piece: &Piece,
@@ -225,16 +238,11 @@ fn piece_json(
     pre_release: PreRelease,
 ) -> Result<Value, AllocError> {
     let json = Object::new(alloc).put_text("text", Some(piece.text.as_str().trim()));
-    match (&piece.meaning, error) {
-        (Meaning::Range(matches), _) => with_range(alloc, json, matches, pre_release).into_json(),
-        (Meaning::LeftOut(refusal), error) => {
-            let json = json.put_text("error", Some(refusal.message()));
-            match error {
-                Some(error) => error.add_to(alloc, json).into_json(),
-                None => json.into_json(),
-            }
-        }
-    }
+    let json = match &piece.meaning {
+        Meaning::Range(matches) => with_range(alloc, json, matches, pre_release),
+        Meaning::LeftOut(refusal) => json.put("error", error_json(alloc, *refusal, error)),
+    };
+    json.into_json()
 }
 
 // Whether an alternative is left out.
