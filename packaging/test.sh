@@ -131,7 +131,8 @@ if ! why=$(packaging/tools.sh --static "${CC:-cc}" git dpkg-deb 2>&1); then
     exit
 fi
 arches=x86_64 static=yes
-if [ ! -f out/x86_64/ranges.o ] && [ -f crates/ranges/out/ranges.o ]; then make -s x86_64; fi
+# A gate that proved both programs left their object files, which are copied; nothing is proved again here.
+if [ -f crates/ranges/out/ranges.o ] && [ -f crates/npmver/out/npmver.o ]; then make -s x86_64; fi
 if ! make -q x86_64; then
     static=
     echo 'packaging: make x86_64 was not run, so no static program is tried, and nothing for arm64'

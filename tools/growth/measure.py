@@ -78,6 +78,15 @@ LINEAR = (
     ("a pre-release of identifiers, comparators after it", BOTH, identifiers, COUNTS),
     ("a pre-release with zeros in front, comparators after it", BOTH, zeros, (100_000, 200_000, 400_000)),
 )
+# Texts that leave their grammar, whose place is found in time that grows as n log n.
+INVALID = (
+    ("comparators and then `foo`", lambda size: ">=1.0.0 " * (size // 8) + "foo"),
+    ("digits and then `!`", filled("1", "", "!")),
+    ("identifiers and then `!`", filled("a.", "1.2.3-", "!")),
+    ("wide whitespace and then `!`", filled("\u3000", "1", "!")),
+    ("`!` and then comparators", lambda size: "!" + ">=1.0.0 " * (size // 8)),
+)
+MEGABYTE = (1 << 18, 1 << 19, 1 << 20)
 # Calls on one or two requirements, each of many ranges.
 LOWEST_VERSIONS = ("min-version", "common-version", "version-outside", "is-equivalent")
 SHAPES = (("disjoint", disjoint), ("nested", nested))
@@ -130,6 +139,7 @@ def main(word=""):
         for name, readers, make, sizes in LINEAR
         for reader in readers
     ]
+    rows += [(f"place of an error, {name}, {grammar}", [["error-place", grammar, make(size)] for size in MEGABYTE]) for name, make in INVALID for grammar in BOTH]
     for words, more in (["normal", "normal"], []), (["normal", "npm"], []), (["written", "inner"], [""]):
         rows.append((" ".join(["pieces `1`,", *words]), [[*words, joined("1", " || ")(size), *more] for size in COUNTS]))
     grown = []
