@@ -6,7 +6,7 @@ use Rattle.std.specs.Result.{IsErrAnd}
 use Rattle.callers.specs.Allowance.{allowance_of, yes_or_no}
 use Rattle.callers.specs.Lockfile.{IsLockedList, KeepsMeaning, Locks}
 use Rattle.deno_semver.specs.JsonAnswers.{IsJsonAnswer}
-use Rattle.deno_semver.specs.Stored.{IsKeptReq, IsReadFor, IsSettledReq}
+use Rattle.deno_semver.specs.Stored.{IsSameWhenStored, IsReadFor, IsStableReq}
 use Rattle.deno_semver.specs.StoredList.{IsSortedFrom, OneByOne}
 use Rattle.deno_semver.specs.declared.json.error.JsonError.{JsonError}
 use Rattle.deno_semver.specs.declared.json.error.JsonError.TheVariants as error
@@ -32,18 +32,18 @@ exit_locks Says (Ok x) e is m = absurd is
 exit_locks Says (Err f) e is m = is ∙ m
 
 -- what is parsed in place of a requirement that keeps its meaning allows the same versions
-pub allowed_as_kept : (stored again : RangeSetOrTag) (v : Version) → IsReadFor stored again → KeepsMeaning stored → allowance_of again v ≡ allowance_of stored v
-allowed_as_kept (inner.RangeSet set) (inner.RangeSet other) v read keeps = ap yes_or_no (read.means keeps Restricted v)
-allowed_as_kept (inner.RangeSet set) (inner.Tag other) v read keeps = absurd read
-allowed_as_kept (inner.Tag tag) (inner.RangeSet other) v read keeps = absurd read
-allowed_as_kept (inner.Tag tag) (inner.Tag other) v read keeps = refl
+pub allowed_as_stored : (stored again : RangeSetOrTag) (v : Version) → IsReadFor stored again → KeepsMeaning stored → allowance_of again v ≡ allowance_of stored v
+allowed_as_stored (inner.RangeSet set) (inner.RangeSet other) v read keeps = ap yes_or_no (read.means keeps Restricted v)
+allowed_as_stored (inner.RangeSet set) (inner.Tag other) v read keeps = absurd read
+allowed_as_stored (inner.Tag tag) (inner.RangeSet other) v read keeps = absurd read
+allowed_as_stored (inner.Tag tag) (inner.Tag other) v read keeps = refl
 
-all_settled : (reqs kept : List PackageReq) → OneByOne IsKeptReq reqs kept → All IsSettledReq kept
-all_settled [] [] h = All-nil IsSettledReq
-all_settled [] (k ∷ ks) h = absurd h
-all_settled (req ∷ reqs) [] h = absurd h
-all_settled (req ∷ reqs) (k ∷ ks) h = All-cons IsSettledReq k ks h.0.settled (all_settled reqs ks h.1)
+all_stable : (reqs stored : List PackageReq) → OneByOne IsSameWhenStored reqs stored → All IsStableReq stored
+all_stable [] [] h = All-nil IsStableReq
+all_stable [] (k ∷ ks) h = absurd h
+all_stable (req ∷ reqs) [] h = absurd h
+all_stable (req ∷ reqs) (k ∷ ks) h = All-cons IsStableReq k ks h.0.stable (all_stable reqs ks h.1)
 
 -- what is kept of each requirement, sorted
-pub locked_of : (reqs kept again : List PackageReq) → OneByOne IsKeptReq reqs kept → IsSortedFrom kept again → IsLockedList reqs again
-locked_of reqs kept again h s = record { kept = kept; are_kept = h; is_sorted = s; settled = All-permutation IsSettledReq kept again s.same (all_settled reqs kept h) }
+pub locked_of : (reqs stored again : List PackageReq) → OneByOne IsSameWhenStored reqs stored → IsSortedFrom stored again → IsLockedList reqs again
+locked_of reqs stored again h s = record { stored = stored; are_stored = h; is_sorted = s; stable = All-permutation IsStableReq stored again s.same (all_stable reqs stored h) }

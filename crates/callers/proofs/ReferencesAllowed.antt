@@ -7,21 +7,21 @@ use Rattle.callers.specs.Allowance.{allowance_of, yes_or_no}
 use Rattle.callers.specs.References.{AllowsReference, IsPartOf}
 use Rattle.callers.specs.declared.packages.UnansweredReference.TheVariants as why
 use Rattle.semver_base.specs.Comparators.{Comparator}
-use Rattle.semver_base.specs.VersionGrammar.{IsVersionAnswer, IsVersionOutcome, IsVersionRefusal}
-use Rattle.semver_base.specs.declared.failure.Refusal.{Refusal}
+use Rattle.semver_base.specs.VersionGrammar.{IsVersionAnswer, IsVersionOutcome, IsVersionRejection}
+use Rattle.semver_base.specs.declared.failure.Rejection.{Rejection}
 use Rattle.semver_base.specs.declared.npm.NpmVersionParseError.{NpmVersionParseError}
 use Rattle.semver_base.specs.declared.range.PreRelease.TheVariants.{Restricted}
 use Rattle.semver_base.specs.declared.version.Version.{Version}
-use Rattle.semver_req.specs.KeptSet.{KeptSetsMeanTheirTrees, kept}
+use Rattle.semver_req.specs.RetainedSet.{RetainedSetsMeanTheirTrees, retained}
 use Rattle.semver_req.specs.Outcome.{IsOutcome, Outcome, Ranges, Tag}
-use Rattle.semver_req.specs.Readers.{IsRead}
+use Rattle.semver_req.specs.Parsers.{IsRead}
 use Rattle.semver_req.specs.declared.common.values.Flavour.TheVariants.{Specifier}
 use Rattle.semver_req.specs.declared.range_set_or_tag.RangeSetOrTag.{RangeSetOrTag}
 use Rattle.semver_req.specs.declared.range_set_or_tag.RangeSetOrTag.TheVariants as inner
 use Rattle.deno_semver.specs.Cuts.{is_not}
 use Rattle.deno_semver.specs.PackageOutcome.{IsVersionReq}
 use Rattle.deno_semver.specs.PackageText.{PackageParts, scoped_name}
-use Rattle.deno_semver.specs.ReferenceOutcome.{IsReferenceAnswer, IsReferenceOutcome, IsReferenceRefusal, ReferenceFault, is_reference}
+use Rattle.deno_semver.specs.ReferenceOutcome.{IsReferenceAnswer, IsReferenceOutcome, IsReferenceRejection, ReferenceFault, is_reference}
 use Rattle.deno_semver.specs.ReferenceText.{sub_path_of}
 use Rattle.deno_semver.specs.declared.package.kind.PackageKind.{PackageKind}
 use Rattle.deno_semver.specs.declared.package.reference.PackageReqReference.{PackageReqReference}
@@ -64,53 +64,53 @@ module _ (kind : PackageKind) (text : List ℕ) where
       (λ before version k. no_version p.cut.path before version (p.no_version_in_path k.any) k.path)
 
   abbrev ranges_of : List (List Comparator) → RangeSetOrTag
-  ranges_of tree = inner.RangeSet (record { 0 = kept Specifier tree })
+  ranges_of tree = inner.RangeSet (record { 0 = retained Specifier tree })
 
   module _ (version : List ℕ) where
     -- the text isn't a valid reference
-    pub reference_refused : (e : PackageReqReferenceParseError) → IsReferenceRefusal kind text e
+    pub reference_rejected : (e : PackageReqReferenceParseError) → IsReferenceRejection kind text e
         → ((o : Result PackageReqReference ReferenceFault) → IsReferenceOutcome kind text o → IsReferenceAnswer kind text o (Err e))
         → AllowsReference kind text version (Err (why.Reference e))
-    reference_refused e refusal answers = record {
-      told = tt;
+    reference_rejected e rejection answers = record {
+      reported = tt;
       answer = λ reference v h k. answers (Ok reference) h;
       tree = λ part tree v p t k. answers (Ok (reference_of p.cut part (ranges_of tree))) (has_reference part (Ranges tree) (ranges_of tree) p t refl);
       tag = λ part name v p t k. answers (Ok (reference_of p.cut part (inner.Tag name))) (has_reference part (Tag name) (inner.Tag name) p t refl);
       no_reference = λ fault h. answers (Err fault) h;
       no_version = λ reference fault h k. inl (answers (Ok reference) h);
-      refusal = refusal;
+      rejection = rejection;
     }
 
     -- the reference is valid, and the version isn't
-    pub version_refused : (reference : PackageReqReference) → IsReferenceOutcome kind text (Ok reference)
+    pub version_rejected : (reference : PackageReqReference) → IsReferenceOutcome kind text (Ok reference)
         → ((o : Result PackageReqReference ReferenceFault) → IsReferenceOutcome kind text o → IsReferenceAnswer kind text o (Ok reference))
-        → (e : NpmVersionParseError) → IsVersionRefusal (trim version) e.source
-        → ((o : Result Version Refusal) → IsVersionOutcome (trim version) o → IsVersionAnswer (λ (error : NpmVersionParseError). error.source) (trim version) o (Err e))
+        → (e : NpmVersionParseError) → IsVersionRejection (trim version) e.source
+        → ((o : Result Version Rejection) → IsVersionOutcome (trim version) o → IsVersionAnswer (λ (error : NpmVersionParseError). error.source) (trim version) o (Err e))
         → AllowsReference kind text version (Err (why.Version e))
-    version_refused reference is answers e refusal versions = record {
-      told = tt;
+    version_rejected reference is answers e rejection versions = record {
+      reported = tt;
       answer = λ _ v h k. versions (Ok v) k;
       tree = λ part tree v p t k. versions (Ok v) k;
       tag = λ part name v p t k. versions (Ok v) k;
       no_reference = λ fault h. absurd (answers (Err fault) h);
       no_version = λ _ fault h k. versions (Err fault) k;
-      refusal = (refusal, reference, is);
+      rejection = (rejection, reference, is);
     }
 
     -- both are valid
     pub both_read : (reference : PackageReqReference) (v : Version) → IsReferenceOutcome kind text (Ok reference)
         → ((o : Result PackageReqReference ReferenceFault) → IsReferenceOutcome kind text o → IsReferenceAnswer kind text o (Ok reference))
-        → IsVersionOutcome (trim version) (Ok v) → ((fault : Refusal) → IsVersionOutcome (trim version) (Err fault) → ⊥) → ((w : Version) → IsVersionOutcome (trim version) (Ok w) → v ≡ w)
-        → KeptSetsMeanTheirTrees → AllowsReference kind text version (Ok (allowance_of reference.req.version_req.inner v))
+        → IsVersionOutcome (trim version) (Ok v) → ((fault : Rejection) → IsVersionOutcome (trim version) (Err fault) → ⊥) → ((w : Version) → IsVersionOutcome (trim version) (Ok w) → v ≡ w)
+        → RetainedSetsMeanTheirTrees → AllowsReference kind text version (Ok (allowance_of reference.req.version_req.inner v))
     both_read reference v h answers k no_fault only means = record {
-      told = (reference, v, h, k, refl);
+      reported = (reference, v, h, k, refl);
       answer = same;
       tree = λ part tree w p t k.
           same (reference_of p.cut part (ranges_of tree)) w (has_reference part (Ranges tree) (ranges_of tree) p t refl) k ∙ ap yes_or_no (means Specifier tree Restricted w);
       tag = λ part name w p t k. same (reference_of p.cut part (inner.Tag name)) w (has_reference part (Tag name) (inner.Tag name) p t refl) k;
       no_reference = λ fault h. absurd (answers (Err fault) h);
       no_version = λ _ fault h k. absurd (no_fault fault k);
-      refusal = tt;
+      rejection = tt;
     }
       where
         same : (other : PackageReqReference) (w : Version) → IsReferenceOutcome kind text (Ok other) → IsVersionOutcome (trim version) (Ok w)

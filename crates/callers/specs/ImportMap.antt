@@ -9,13 +9,13 @@ use Rattle.deno_semver.specs.declared.package.reference.PackageReqReference.{Pac
 use Rattle.semver_base.specs.declared.version.Version.{Version}
 
 -- the package's name, the export that the path means, and whether the requirement allows the version
-pub record IsImport (reference : PackageReqReference) (version : Version) (told : Import) : Type 0 where
-  pub name : told.name ≡ reference.req.name
-  pub export : told.export ≡ export_name reference.sub_path
-  pub allowance : told.allowance ≡ allowance_of reference.req.version_req.inner version
+pub record IsImport (reference : PackageReqReference) (version : Version) (reported : Import) : Type 0 where
+  pub name : reported.name ≡ reference.req.name
+  pub export : reported.export ≡ export_name reference.sub_path
+  pub allowance : reported.allowance ≡ allowance_of reference.req.version_req.inner version
 
 -- the same for the reference that the text parses to
-pub record IsImportOf (kind : PackageKind) (text : List ℕ) (version : Version) (told : Import) : Type 0 where
+pub record IsImportOf (kind : PackageKind) (text : List ℕ) (version : Version) (reported : Import) : Type 0 where
   pub reference : PackageReqReference
   pub is_reference : IsReferenceOutcome kind text (Ok reference)
-  pub is_import : IsImport reference version told
+  pub is_import : IsImport reference version reported

@@ -6,7 +6,7 @@ use Rattle.semver_req.specs.declared.common.values.Flavour.TheVariants.{Npm}
 use Rattle.semver_req.specs.declared.range_set_or_tag.RangeSetOrTag.{RangeSetOrTag}
 use Rattle.semver_req.specs.declared.range_set_or_tag.RangeSetOrTag.TheVariants as inner
 use Rattle.deno_semver.specs.PackageOutcome.{IsPackageOutcome}
-use Rattle.deno_semver.specs.Stored.{IsKeptReq, IsSettledReq}
+use Rattle.deno_semver.specs.Stored.{IsSameWhenStored, IsStableReq}
 use Rattle.deno_semver.specs.StoredList.{IsSortedFrom, OneByOne}
 use Rattle.deno_semver.specs.declared.json.error.JsonError.{JsonError}
 use Rattle.deno_semver.specs.declared.json.error.JsonError.TheVariants as error
@@ -23,10 +23,10 @@ OfNpm req Says = (text : List ℕ) → IsUtf8 text → IsPackageOutcome Npm text
 -- what a stored list parses to: for each requirement one with the same name, which keeps its meaning and is stable; all in
 -- ascending order
 pub record IsLockedList (reqs again : List PackageReq) : Type 0 where
-  pub kept : List PackageReq
-  pub are_kept : OneByOne IsKeptReq reqs kept
-  pub is_sorted : IsSortedFrom kept again
-  pub settled : All IsSettledReq again
+  pub stored : List PackageReq
+  pub are_stored : OneByOne IsSameWhenStored reqs stored
+  pub is_sorted : IsSortedFrom stored again
+  pub stable : All IsStableReq again
 
 -- the ranges keep their meaning; a tag always does
 abbrev pub KeepsMeaning : RangeSetOrTag → Type 0

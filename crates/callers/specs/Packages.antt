@@ -3,12 +3,12 @@ use Rattle.std.specs.Prelude.{◌≡◌, ◌⊎◌, ℕ, List, Some, None, Resul
 use Rattle.std.specs.Str.{trim}
 use Rattle.semver_base.specs.Comparators.{Comparator}
 use Rattle.semver_base.specs.Meaning.{tree_means}
-use Rattle.semver_base.specs.VersionGrammar.{IsVersionOutcome, IsVersionRefusal}
-use Rattle.semver_base.specs.declared.failure.Refusal.{Refusal}
+use Rattle.semver_base.specs.VersionGrammar.{IsVersionOutcome, IsVersionRejection}
+use Rattle.semver_base.specs.declared.failure.Rejection.{Rejection}
 use Rattle.semver_base.specs.declared.version.Version.{Version}
 use Rattle.semver_req.specs.Outcome.{IsOutcome, Ranges, tree_ranges}
 use Rattle.semver_req.specs.declared.common.values.Flavour.{Flavour}
-use Rattle.deno_semver.specs.PackageOutcome.{Fault, IsPackageOutcome, IsPackageRefusal, IsWantOfMemory}
+use Rattle.deno_semver.specs.PackageOutcome.{Fault, IsPackageOutcome, IsPackageRejection, IsOutOfMemory}
 use Rattle.deno_semver.specs.PackageText.{IsPackageText, PackageParts}
 use Rattle.deno_semver.specs.declared.package.values.PackageReq.{PackageReq}
 use Rattle.callers.specs.Allowance.{allowance_of, yes_or_no}
@@ -17,35 +17,35 @@ use Rattle.callers.specs.declared.packages.Unanswered.TheVariants as why
 use Rattle.callers.specs.declared.requirements.Allowance.{Allowance}
 
 -- out of memory
-abbrev pub IsWant : Unanswered → Type 0
-IsWant (why.Package error) = IsWantOfMemory error
-IsWant (why.Version error) = error.source ≡ None
+abbrev pub IsMemoryFault : Unanswered → Type 0
+IsMemoryFault (why.Package error) = IsOutOfMemory error
+IsMemoryFault (why.Version error) = error.source ≡ None
 
 -- why there is no result: the package's parse error, or the version's if the package is valid, or out of memory
 abbrev pub IsWhyUnanswered : Flavour → List ℕ → List ℕ → Unanswered → Type 0
-IsWhyUnanswered f text version (why.Package error) = IsPackageRefusal f text error
+IsWhyUnanswered f text version (why.Package error) = IsPackageRejection f text error
 IsWhyUnanswered f text version (why.Version error) =
-    IsVersionRefusal (trim version) error.source × (req : PackageReq) × IsPackageOutcome f text (Ok req)
+    IsVersionRejection (trim version) error.source × (req : PackageReq) × IsPackageOutcome f text (Ok req)
 
 -- the package's text or the version's is invalid
 abbrev pub IsNoPackageOrVersion : Flavour → List ℕ → List ℕ → Type 0
 IsNoPackageOrVersion f text version =
     ((fault : Fault) × IsPackageOutcome f text (Err fault))
-    ⊎ ((fault : Refusal) × IsVersionOutcome (trim version) (Err fault))
+    ⊎ ((fault : Rejection) × IsVersionOutcome (trim version) (Err fault))
 
 pub record AllowsPackage (f : Flavour) (text version : List ℕ) (result : Result Allowance Unanswered) : Type 0 where
   -- a result is that of the requirement and the version that the texts parse to
-  pub told : IfOk result (λ allowance. (req : PackageReq) × (v : Version) × IsPackageOutcome f text (Ok req)
+  pub reported : IfOk result (λ allowance. (req : PackageReq) × (v : Version) × IsPackageOutcome f text (Ok req)
       × IsVersionOutcome (trim version) (Ok v) × (allowance ≡ allowance_of req.version_req.inner v))
   -- it is that for every requirement and version that they parse to, or out of memory
   pub answer : (req : PackageReq) (v : Version) → IsPackageOutcome f text (Ok req)
       → IsVersionOutcome (trim version) (Ok v)
-      → MatchResult result (λ allowance. allowance ≡ allowance_of req.version_req.inner v) IsWant
+      → MatchResult result (λ allowance. allowance ≡ allowance_of req.version_req.inner v) IsMemoryFault
   -- for every tree of the requirement's part it is yes exactly if the tree means the version, or out of memory
   pub tree : (cut : PackageParts) (part : List ℕ) (tree : List (List Comparator)) (v : Version) → IsPackageText text cut
       → cut.version ≡ Some part → length cut.path ≡ 0 → IsOutcome f part (Ranges tree)
       → IsVersionOutcome (trim version) (Ok v)
-      → MatchResult result (λ allowance. allowance ≡ yes_or_no (tree_means (tree_ranges tree) v)) IsWant
+      → MatchResult result (λ allowance. allowance ≡ yes_or_no (tree_means (tree_ranges tree) v)) IsMemoryFault
   -- there is no result exactly if either is invalid, out of memory aside; the error says why
-  pub refused : IsNoPackageOrVersion f text version → IsErr result
-  pub refusal : IfErr result (IsWhyUnanswered f text version)
+  pub rejected : IsNoPackageOrVersion f text version → IsErr result
+  pub rejection : IfErr result (IsWhyUnanswered f text version)

@@ -10,11 +10,11 @@ use Rattle.semver_base.specs.Meaning.{alternatives, tree_means, tree_means_with}
 use Rattle.semver_base.specs.declared.range.PreRelease.{PreRelease}
 use Rattle.semver_base.specs.declared.range.VersionRange.{VersionRange}
 use Rattle.semver_base.specs.declared.version.Version.{Version}
-use Rattle.semver_req.specs.KeptSet.{IsReadSet, kept}
-use Rattle.semver_req.specs.Outcome.{IsOutcome, Outcome, Ranges, Refused, Tag, tree_ranges}
-use Rattle.semver_req.specs.Readers.{Failure}
+use Rattle.semver_req.specs.RetainedSet.{IsReadSet, retained}
+use Rattle.semver_req.specs.Outcome.{IsOutcome, Outcome, Ranges, Rejected, Tag, tree_ranges}
+use Rattle.semver_req.specs.Parsers.{Failure}
 use Rattle.semver_req.specs.Requirement.{Requirement}
-use Rattle.semver_req.specs.Rereading.{IsSettledSet, is_orderly, keeps_meaning}
+use Rattle.semver_req.specs.Rereading.{IsStableSet, is_orderly, keeps_meaning}
 use Rattle.semver_req.specs.declared.common.values.Flavour.{Flavour}
 use Rattle.semver_req.specs.declared.range_set_or_tag.RangeSetOrTag.{RangeSetOrTag}
 use Rattle.semver_req.specs.declared.range_set_or_tag.RangeSetOrTag.TheVariants as inner
@@ -52,8 +52,8 @@ pub record IsReadAgain (ranges : List VersionRange) (read : RangeSetOrTag) : Typ
   -- it is the same if each range is orderly too
   pub equal : list_all is_orderly ranges ≡ true → list_all keeps_meaning ranges ≡ true → again ≡ ranges
   -- it is stable, and what was stable stays as it is
-  pub settled : IsSettledSet again
-  pub stays : IsSettledSet ranges → again ≡ ranges
+  pub stable : IsStableSet again
+  pub stays : IsStableSet ranges → again ≡ ranges
 
 -- the result is such ranges, or out of memory
 abbrev pub IsReread : {E : Type 0} → (E → Failure) → Result Requirement E → List VersionRange → Type 0
@@ -66,27 +66,27 @@ IsRereadTwice source result ranges =
 
 -- what is returned for ranges: never that they are a tag; and, if each keeps its meaning, that a version is allowed exactly
 -- if they mean it
-abbrev pub IsToldOfRanges : Bool → Bool → Allowance → Type 0
-IsToldOfRanges keep mean allowance = (allowance ≡ answer.Tag → ⊥) × (keep ≡ true → allowance ≡ yes_or_no mean)
+abbrev pub IsReportedOfRanges : Bool → Bool → Allowance → Type 0
+IsReportedOfRanges keep mean allowance = (allowance ≡ answer.Tag → ⊥) × (keep ≡ true → allowance ≡ yes_or_no mean)
 
 abbrev pub AllowsAsBefore : {E : Type 0} → (E → Failure) → Version → Result Allowance E → List VersionRange → Type 0
 AllowsAsBefore source v result ranges =
-    Answers source (IsToldOfRanges (list_all keeps_meaning ranges) (tree_means (alternatives ranges) v)) result
+    Answers source (IsReportedOfRanges (list_all keeps_meaning ranges) (tree_means (alternatives ranges) v)) result
 
 -- a tag is returned as one, or out of memory
-abbrev pub IsTagTold : {E : Type 0} → (E → Failure) → Result Allowance E → List ℕ → Type 0
-IsTagTold source result tag = Answers source (λ allowance. allowance ≡ answer.Tag) result
+abbrev pub IsTagReported : {E : Type 0} → (E → Failure) → Result Allowance E → List ℕ → Type 0
+IsTagReported source result tag = Answers source (λ allowance. allowance ≡ answer.Tag) result
 
 -- the result for a text whose requirement is stored and parsed again
 pub record AllowsAsItsText (f : Flavour) (text : List ℕ) (v : Version)
     (result : Result Allowance Failure) : Type 0 where
   -- a text with a result has an outcome; the clauses below hold for each of its outcomes
-  pub told : IfOk result (λ allowance. (o : Outcome) × IsOutcome f text o)
+  pub reported : IfOk result (λ allowance. (o : Outcome) × IsOutcome f text o)
   -- for every tree of the text, the result for the tree's ranges
   pub ranges : (tree : List (List Comparator)) → IsOutcome f text (Ranges tree)
       → Answers (λ failure. failure)
-      (IsToldOfRanges (list_all keeps_meaning (kept f tree)) (tree_means (tree_ranges tree) v)) result
-  pub tag : TagOfText f text (IsTagTold (λ failure. failure) result)
+      (IsReportedOfRanges (list_all keeps_meaning (retained f tree)) (tree_means (tree_ranges tree) v)) result
+  pub tag : TagOfText f text (IsTagReported (λ failure. failure) result)
   -- a text is rejected exactly if that is its outcome, out of memory aside
-  pub refused : IsOutcome f text Refused → IsErr result
-  pub refused_only : IfErr result (λ failure. (failure ≡ None) ⊎ IsOutcome f text Refused)
+  pub rejected : IsOutcome f text Rejected → IsErr result
+  pub rejected_only : IfErr result (λ failure. (failure ≡ None) ⊎ IsOutcome f text Rejected)

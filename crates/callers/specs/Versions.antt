@@ -1,7 +1,7 @@
 -- What a written version parses to.
 use Rattle.std.specs.Prelude.{◌≡◌, None, Result, MatchResult}
 use Rattle.semver_base.specs.declared.version.Version.{Version}
-use Rattle.semver_req.specs.Readers.{Failure}
+use Rattle.semver_req.specs.Parsers.{Failure}
 
 -- the version itself, or out of memory
 abbrev pub IsSameAgain : Version → Result Version Failure → Type 0

@@ -2,7 +2,7 @@
 
 ghost use Rattle.std.specs.Prelude.{◌≡◌, IfErr, IfOk, MatchResult, Ok};
 ghost use Rattle.std.specs.Cow.{cow_str_bytes};
-ghost use Rattle.deno_semver.specs.ReferenceOutcome.{IsReferenceOutcome, IsReferenceRefusal, Memory, unboxed};
+ghost use Rattle.deno_semver.specs.ReferenceOutcome.{IsReferenceOutcome, IsReferenceRejection, Memory, unboxed};
 ghost use Rattle.deno_semver.specs.declared.package.kind.PackageKind.TheVariants.{Jsr, Npm};
 ghost use Rattle.deno_semver.specs.declared.package.reference.PackageReqReference.{PackageReqReference};
 ghost use Rattle.callers.specs.Allowance.{allowance_of};
@@ -75,11 +75,11 @@ pub fn imported_from_jsr(
     specifier: &str,
     version: &Version,
 ) -> Result<Import, PackageReqReferenceParseError>
-    ensures told { IfOk result (IsImportOf Jsr specifier.now version.now) }
+    ensures reported { IfOk result (IsImportOf Jsr specifier.now version.now) }
     ensures answer { (reference : PackageReqReference)
         → IsReferenceOutcome Jsr specifier.now (Ok reference)
         → MatchResult result (IsImport reference version.now) (λ e. unboxed e ≡ Memory) }
-    ensures refusal { IfErr result (IsReferenceRefusal Jsr specifier.now) }
+    ensures rejection { IfErr result (IsReferenceRejection Jsr specifier.now) }
 {
     let reference = match JsrPackageReqReference::from_str(alloc, specifier) {
         Ok(reference) => reference,
@@ -97,11 +97,11 @@ pub fn imported_from_npm(
     specifier: &str,
     version: &Version,
 ) -> Result<Import, PackageReqReferenceParseError>
-    ensures told { IfOk result (IsImportOf Npm specifier.now version.now) }
+    ensures reported { IfOk result (IsImportOf Npm specifier.now version.now) }
     ensures answer { (reference : PackageReqReference)
         → IsReferenceOutcome Npm specifier.now (Ok reference)
         → MatchResult result (IsImport reference version.now) (λ e. unboxed e ≡ Memory) }
-    ensures refusal { IfErr result (IsReferenceRefusal Npm specifier.now) }
+    ensures rejection { IfErr result (IsReferenceRejection Npm specifier.now) }
 {
     let reference = match NpmPackageReqReference::from_str(alloc, specifier) {
         Ok(reference) => reference,

@@ -3,7 +3,7 @@
 ghost use Rattle.std.specs.Prelude.{◌≡◌, All, IsSorted};
 ghost use Rattle.deno_semver.specs.Equal.{AreEqualReqs};
 ghost use Rattle.deno_semver.specs.ReqOrder.{req_cmp};
-ghost use Rattle.deno_semver.specs.Stored.{IsKeptReq, IsSettledReq};
+ghost use Rattle.deno_semver.specs.Stored.{IsSameWhenStored, IsStableReq};
 ghost use Rattle.deno_semver.specs.StoredList.{AreEqualLists, IsNpmReq};
 ghost use Rattle.callers.specs.Allowance.{allowance_of};
 ghost use Rattle.callers.specs.Lockfile.{IsLockedList, KeepsMeaning, Locks, OfNpm};
@@ -18,8 +18,8 @@ use std::alloc::Global;
 /// name, and with the same tag or with ranges that mean the same if each keeps its meaning; that one is stable. A stable one
 /// to an equal one.
 pub fn locked(alloc: Global, req: &PackageReq) -> Result<PackageReq, JsonError>
-    ensures npm { OfNpm req.now (Locks (IsKeptReq req.now) result) }
-    ensures settled { IsSettledReq req.now → Locks (λ again. AreEqualReqs again req.now) result }
+    ensures npm { OfNpm req.now (Locks (IsSameWhenStored req.now) result) }
+    ensures stable { IsStableReq req.now → Locks (λ again. AreEqualReqs again req.now) result }
 {
     let entry = req.to_json(alloc)?;
     PackageReq::from_json(alloc, &entry)
@@ -28,7 +28,7 @@ pub fn locked(alloc: Global, req: &PackageReq) -> Result<PackageReq, JsonError>
 /// What does the entry of a requirement parse to, and what does that one's entry? If npm's parser returned it, to what
 /// [`locked`] says, and then to an equal one.
 pub fn locked_twice(alloc: Global, req: &PackageReq) -> Result<(PackageReq, PackageReq), JsonError>
-    ensures once { OfNpm req.now (Locks (λ reqs. IsKeptReq req.now reqs.0) result) }
+    ensures once { OfNpm req.now (Locks (λ reqs. IsSameWhenStored req.now reqs.0) result) }
     ensures twice { OfNpm req.now (Locks (λ reqs. AreEqualReqs reqs.1 reqs.0) result) }
 {
     let once = locked(alloc, req)?;
@@ -55,7 +55,7 @@ pub fn allows_when_locked(
 pub fn locked_list(alloc: Global, reqs: &[PackageReq]) -> Result<Vec<PackageReq>, JsonError>
     ensures npm { All IsNpmReq reqs.now
         → Locks (λ again. IsLockedList reqs.now again.items) result }
-    ensures settled { All IsSettledReq reqs.now → IsSorted req_cmp reqs.now
+    ensures stable { All IsStableReq reqs.now → IsSorted req_cmp reqs.now
         → Locks (λ again. AreEqualLists again.items reqs.now) result }
 {
     let entry = reqs_to_json(alloc, reqs)?;

@@ -12,7 +12,7 @@ use crate::requirements::{Allowance, allowance_by};
 use deno_semver::jsr::JsrPackageReqReference;
 use deno_semver::npm::{NpmPackageReqReference, NpmVersionParseError, parse_npm_version};
 use deno_semver::package::{PackageReq, PackageReqParseError, PackageReqReferenceParseError};
-use semver_req::laws::kept_sets_mean_their_trees;
+use semver_req::laws::retained_sets_mean_their_trees;
 use std::alloc::Global;
 
 /// Why there is no result.
@@ -51,7 +51,7 @@ pub fn package_allows_by_npm(
 ) -> Result<Allowance, Unanswered>
     ensures { AllowsPackage Npm text.now version.now result }
 {
-    kept_sets_mean_their_trees();
+    retained_sets_mean_their_trees();
     let req = PackageReq::from_str_loose(alloc, text)?;
     let version = parse_npm_version(alloc, version)?;
     Ok(allowance_by(&req.version_req, &version))
@@ -61,7 +61,7 @@ pub fn package_allows_by_npm(
 pub fn package_allows(alloc: Global, text: &str, version: &str) -> Result<Allowance, Unanswered>
     ensures { AllowsPackage Specifier text.now version.now result }
 {
-    kept_sets_mean_their_trees();
+    retained_sets_mean_their_trees();
     let req = PackageReq::from_str(alloc, text)?;
     let version = parse_npm_version(alloc, version)?;
     Ok(allowance_by(&req.version_req, &version))
@@ -104,7 +104,7 @@ pub fn npm_reference_allows(
 ) -> Result<Allowance, UnansweredReference>
     ensures { AllowsReference kind.Npm text.now version.now result }
 {
-    kept_sets_mean_their_trees();
+    retained_sets_mean_their_trees();
     let reference = NpmPackageReqReference::from_str(alloc, text)?;
     let version = parse_npm_version(alloc, version)?;
     Ok(allowance_by(&reference.req().version_req, &version))
@@ -118,7 +118,7 @@ pub fn jsr_reference_allows(
 ) -> Result<Allowance, UnansweredReference>
     ensures { AllowsReference kind.Jsr text.now version.now result }
 {
-    kept_sets_mean_their_trees();
+    retained_sets_mean_their_trees();
     let reference = JsrPackageReqReference::from_str(alloc, text)?;
     let version = parse_npm_version(alloc, version)?;
     Ok(allowance_by(&reference.req().version_req, &version))

@@ -2,7 +2,7 @@
 
 ghost use Rattle.std.specs.Prelude.{◌≡◌, IfErr};
 ghost use Rattle.std.specs.Str.{trim};
-ghost use Rattle.semver_req.specs.PieceReading.{IsCutRefusal};
+ghost use Rattle.semver_req.specs.PieceReading.{IsCutRejection};
 ghost use Rattle.semver_req.specs.declared.common.values.Flavour.TheVariants.{Npm};
 ghost use Rattle.callers.specs.Allowance.{IsAllowance, allowance_of, yes_or_no};
 
@@ -49,7 +49,7 @@ pub fn allowed_by_npm(
     version: &Version,
 ) -> Result<Allowance, NpmVersionReqParseError>
     ensures answers { IsAllowance (λ e. e.source) Npm text.now version.now result }
-    ensures refusal { IfErr result (λ e. IsCutRefusal Npm (trim text.now) e.source) }
+    ensures rejection { IfErr result (λ e. IsCutRejection Npm (trim text.now) e.source) }
 {
     let requirement = VersionReq::parse_from_npm(alloc, text)?;
     Ok(allowance_by(&requirement, version))

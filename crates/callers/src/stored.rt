@@ -6,10 +6,10 @@
 
 ghost use Rattle.std.specs.Prelude.{IfErr};
 ghost use Rattle.std.specs.Str.{trim};
-ghost use Rattle.semver_req.specs.PieceReading.{IsCutRefusal};
-ghost use Rattle.semver_req.specs.SpecifierRefusals.{IsSpecifierRefusal};
+ghost use Rattle.semver_req.specs.PieceReading.{IsCutRejection};
+ghost use Rattle.semver_req.specs.SpecifierRejections.{IsSpecifierRejection};
 ghost use Rattle.semver_req.specs.declared.common.values.Flavour.TheVariants.{Normal, Npm, Specifier};
-ghost use Rattle.callers.specs.Stored.{AllowsAsBefore, AllowsAsItsText, IsReread, IsRereadTwice, IsTagRead, IsTagTold, OfRanges, OfTag, TagOfText};
+ghost use Rattle.callers.specs.Stored.{AllowsAsBefore, AllowsAsItsText, IsReread, IsRereadTwice, IsTagRead, IsTagReported, OfRanges, OfTag, TagOfText};
 
 use crate::requirements::{Allowance, allowance_by};
 use deno_semver::npm::NpmVersionReqParseError;
@@ -70,7 +70,7 @@ pub fn allows_when_stored(
 ) -> Result<Allowance, NpmVersionReqParseError>
     ensures ranges { OfRanges
         (AllowsAsBefore (λ e. e.source) version.now result) requirement.now.inner }
-    ensures tag { OfTag Npm (IsTagTold (λ e. e.source) result) requirement.now.inner }
+    ensures tag { OfTag Npm (IsTagReported (λ e. e.source) result) requirement.now.inner }
 {
     let again = read_again_by_npm(alloc, requirement)?;
     Ok(allowance_by(&again, version))
@@ -85,7 +85,7 @@ pub fn allows_when_stored_as_normalized(
 ) -> Result<Allowance, VersionReqNormalizedParseError>
     ensures ranges { OfRanges
         (AllowsAsBefore (λ e. e.source) version.now result) requirement.now.inner }
-    ensures tag { OfTag Normal (IsTagTold (λ e. e.source) result) requirement.now.inner }
+    ensures tag { OfTag Normal (IsTagReported (λ e. e.source) result) requirement.now.inner }
 {
     let again = read_again_by_normalized(alloc, requirement)?;
     Ok(allowance_by(&again, version))
@@ -99,8 +99,8 @@ pub fn npm_text_allows_when_stored(
     text: &str,
     version: &Version,
 ) -> Result<Allowance, ParseFailure>
-    ensures told { AllowsAsItsText Npm text.now version.now result }
-    ensures refusal { IfErr result (IsCutRefusal Npm (trim text.now)) }
+    ensures reported { AllowsAsItsText Npm text.now version.now result }
+    ensures rejection { IfErr result (IsCutRejection Npm (trim text.now)) }
 {
     let requirement = VersionReq::parse_from_npm(alloc, text)?;
     Ok(allows_when_stored_as_normalized(alloc, &requirement, version)?)
@@ -113,8 +113,8 @@ pub fn specifier_allows_when_stored(
     text: &str,
     version: &Version,
 ) -> Result<Allowance, ParseFailure>
-    ensures told { AllowsAsItsText Specifier text.now version.now result }
-    ensures refusal { IfErr result (IsSpecifierRefusal text.now) }
+    ensures reported { AllowsAsItsText Specifier text.now version.now result }
+    ensures rejection { IfErr result (IsSpecifierRejection text.now) }
 {
     let requirement = VersionReq::parse_from_specifier(alloc, text)?;
     Ok(allows_when_stored_as_normalized(alloc, &requirement, version)?)

@@ -3,7 +3,7 @@
 ghost use Rattle.std.specs.Prelude.{◌≡◌, ◌↔◌, IfErr, IfOk, IsTrue, Ok, string_bytes};
 ghost use Rattle.std.specs.Str.{trim};
 ghost use Rattle.semver_base.specs.PrecedenceLaws.{SamePrecedence};
-ghost use Rattle.semver_base.specs.VersionGrammar.{IsVersionOutcome, IsVersionRefusal};
+ghost use Rattle.semver_base.specs.VersionGrammar.{IsVersionOutcome, IsVersionRejection};
 ghost use Rattle.semver_base.specs.VersionText.{ReadsBack, version_text};
 ghost use Rattle.semver_base.specs.declared.version.Version.{Version};
 ghost use Rattle.semver_req.specs.Requirement.{pinned};
@@ -61,7 +61,7 @@ pub fn appended_and_read_again(alloc: Global, version: &Version) -> Result<Versi
 pub fn read_displayed_and_appended(alloc: Global, text: &str) -> Result<Version, ParseFailure>
     ensures same { (v : Version) → IsVersionOutcome (trim text.now) (Ok v) → IsSameAgain v result }
     ensures read { IfOk result (λ again. IsVersionOutcome (trim text.now) (Ok again)) }
-    ensures refused { IfErr result (IsVersionRefusal (trim text.now)) }
+    ensures rejected { IfErr result (IsVersionRejection (trim text.now)) }
 {
     let version = Version::parse_standard(alloc, text)?;
     let displayed = displayed_and_read_again(alloc, &version)?;

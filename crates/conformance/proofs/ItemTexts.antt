@@ -5,17 +5,17 @@ use Rattle.std.specs.Bool.{Decides}
 use Rattle.std.specs.Option.{option_eq}
 use Rattle.std.specs.String.{string_eq}
 use Rattle.std.specs.declared.alloc.Global.{Global}
-use Rattle.semver_base.proofs.Equality.{both_told, text_told, told_as}
+use Rattle.semver_base.proofs.Equality.{both_reported, text_reported, reported_as}
 use Rattle.conformance.specs.RowAnswer.{item_text}
 
 item_equal : (x y : Option (String Global)) → Decides (option_eq string_eq x y) (item_text x ≡ item_text y)
 item_equal None None = (λ _. refl, λ _. refl)
 item_equal None (Some y) = (λ e. cc e, λ e. cc e)
 item_equal (Some x) None = (λ e. cc e, λ e. cc e)
-item_equal (Some x) (Some y) = told_as _ (λ e. ap Some e) (λ e. cc e) (text_told (string_bytes x) (string_bytes y))
+item_equal (Some x) (Some y) = reported_as _ (λ e. ap Some e) (λ e. cc e) (text_reported (string_bytes x) (string_bytes y))
 
 pub items_equal : (xs ys : List (Option (String Global))) → Decides (pointwise (option_eq string_eq) xs ys) (map item_text xs ≡ map item_text ys)
 items_equal [] [] = (λ _. refl, λ _. refl)
 items_equal [] (y ∷ ys) = (λ e. cc e, λ e. cc e)
 items_equal (x ∷ xs) [] = (λ e. cc e, λ e. cc e)
-items_equal (x ∷ xs) (y ∷ ys) = told_as _ (λ h. ap₂ (λ a b. a ∷ b) h.0 h.1) (λ e. (cc e, cc e)) (both_told _ _ (item_equal x y) (items_equal xs ys))
+items_equal (x ∷ xs) (y ∷ ys) = reported_as _ (λ h. ap₂ (λ a b. a ∷ b) h.0 h.1) (λ e. (cc e, cc e)) (both_reported _ _ (item_equal x y) (items_equal xs ys))

@@ -67,7 +67,7 @@ impl Answer {
         let mut answer = Answer::new(alloc);
         match fault {
             Fault::Rejected(failure) => {
-                answer.texts(&["refused", failure.message()])?;
+                answer.texts(&["rejected", failure.message()])?;
                 answer.optional(failure.code_snippet())?;
             }
             Fault::OutOfMemory => answer.text("out of memory")?,

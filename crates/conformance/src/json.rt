@@ -31,7 +31,7 @@ pub fn text_of<T: JsonForm>(alloc: Global, value: &T) -> Result<String, AllocErr
     text
 }
 
-/// `json`: `read` and the JSON of the value of a type that a JSON text parses to; or `refused` and the error's line.
+/// `json`: `read` and the JSON of the value of a type that a JSON text parses to; or `rejected` and the error's line.
 pub fn json(arguments: &[Item], answer: &mut Answer) -> Reported {
     let (of_type, text) = pair(arguments)?;
     let json = value_of(answer.alloc(), text)?;
@@ -72,7 +72,7 @@ fn form<T: JsonForm>(json: &Value, answer: &mut Answer) -> Reported {
         }
         Err(JsonError::Memory) => Err(Fault::OutOfMemory),
         Err(error) => {
-            answer.text("refused")?;
+            answer.text("rejected")?;
             answer.displayed(&error)
         }
     }

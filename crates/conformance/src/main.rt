@@ -34,9 +34,9 @@ use std::process::ExitCode;
 use table::Problem;
 
 // Reads all bytes.
-fn read_all<R: Read + Drop>(alloc: Global, mut reader: R) -> Result<Vec<u8>, Problem> {
+fn read_all<R: Read + Drop>(alloc: Global, mut parser: R) -> Result<Vec<u8>, Problem> {
     let mut bytes = Vec::new(alloc);
-    match reader.read_to_end(&mut bytes) {
+    match parser.read_to_end(&mut bytes) {
         Ok(_) => Ok(bytes),
         Err(e) if e.kind() == ErrorKind::OutOfMemory => Err(Problem::OutOfMemory),
         Err(_) => Err(Problem::Unread),

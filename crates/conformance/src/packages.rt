@@ -50,7 +50,7 @@ impl Report for PackageReqParseError {
     }
 
     fn report(&self, answer: &mut Answer) -> Reported {
-        answer.texts(&["refused", kind(&self.source)?])
+        answer.texts(&["rejected", kind(&self.source)?])
     }
 }
 
@@ -105,7 +105,7 @@ impl Report for PackageNvParseError {
     }
 
     fn report(&self, answer: &mut Answer) -> Reported {
-        answer.texts(&["refused", self.message.as_str()])
+        answer.texts(&["rejected", self.message.as_str()])
     }
 }
 
@@ -151,7 +151,7 @@ impl Report for JsrDepPackageReqParseError {
     fn report(&self, answer: &mut Answer) -> Reported {
         match self {
             JsrDepPackageReqParseError::NotExpectedScheme(scheme) => {
-                answer.texts(&["refused", "NotExpectedScheme", scheme.as_str()])
+                answer.texts(&["rejected", "NotExpectedScheme", scheme.as_str()])
             }
             JsrDepPackageReqParseError::PackageReqParse(error) => error.report(answer),
             JsrDepPackageReqParseError::Memory => Err(Fault::OutOfMemory),
@@ -205,7 +205,7 @@ impl Report for PackageReqReferenceParseError {
     }
 
     fn report(&self, answer: &mut Answer) -> Reported {
-        answer.text("refused")?;
+        answer.text("rejected")?;
         match self {
             PackageReqReferenceParseError::NotExpectedScheme(_) => answer.text("NotExpectedScheme"),
             PackageReqReferenceParseError::Invalid(error) => answer.text(kind(&error.source)?),
@@ -254,7 +254,7 @@ impl Report for PackageNvReferenceParseError {
     }
 
     fn report(&self, answer: &mut Answer) -> Reported {
-        answer.texts(&["refused", self.message.as_str()])
+        answer.texts(&["rejected", self.message.as_str()])
     }
 }
 

@@ -39,8 +39,8 @@ lower_ranks : IsStrictWeakOrder lower
 lower_ranks = ranks_by precedence_total (λ (v : Version). v)
 
 ranks : (e : End) → IsStrictWeakOrder (nearer e)
-ranks end.Greatest = IsStrictWeakOrder-flip lower lower_ranks
-ranks end.Least = lower_ranks
+ranks end.Highest = IsStrictWeakOrder-flip lower lower_ranks
+ranks end.Lowest = lower_ranks
 
 module _ (e : End) (means : Version → Bool) where
   -- what is known of the versions seen so far

@@ -2,10 +2,10 @@
 use Rattle.std.proofs.Common.{◌≡◌, ◌==◌, ◌++◌, ℕ, List, true, false, Result, Ok, Err, get_or, refl, sym, ap, ap₂, subst, ◌∙◌, inl, inr}
 use Rattle.std.specs.Prelude.{◌⊎◌}
 use Rattle.semver_req.specs.declared.common.values.Flavour.{Flavour}
-use Rattle.deno_semver.specs.DependencyOutcome.{BadRequirement, DependencyFault, IsDependencyAnswer, IsDependencyOutcome, IsDependencyRefusal, IsOfPackageError, IsToldScheme, OtherScheme, TellsDependency, bad_requirement, is_dependency, other_scheme}
+use Rattle.deno_semver.specs.DependencyOutcome.{BadRequirement, DependencyFault, IsDependencyAnswer, IsDependencyOutcome, IsDependencyRejection, IsOfPackageError, IsReportedScheme, OtherScheme, ReportsDependency, bad_requirement, is_dependency, other_scheme}
 use Rattle.deno_semver.specs.Kind.{scheme_of}
 use Rattle.deno_semver.specs.OneOutcome.{PackageTextsHaveOneOutcome}
-use Rattle.deno_semver.specs.PackageOutcome.{Fault, IsPackageAnswer, IsPackageOutcome, IsPackageRefusal, IsWantOfMemory, TellsFault}
+use Rattle.deno_semver.specs.PackageOutcome.{Fault, IsPackageAnswer, IsPackageOutcome, IsPackageRejection, IsOutOfMemory, ReportsFault}
 use Rattle.deno_semver.specs.ReferenceText.{LacksScheme}
 use Rattle.deno_semver.specs.declared.jsr.dependency.JsrDepPackageReq.{JsrDepPackageReq}
 use Rattle.deno_semver.specs.declared.jsr.dependency.JsrDepPackageReqParseError.{JsrDepPackageReqParseError}
@@ -21,8 +21,8 @@ use Rattle.deno_semver.proofs.References.{cancel}
 two_schemes : (a b : List ℕ) → scheme_of Jsr ++ a ≡ scheme_of Npm ++ b → ⊥
 two_schemes a b e =
     let first : (get_or (scheme_of Jsr ++ a) 0 0 == 106) ≡ (get_or (scheme_of Npm ++ b) 0 0 == 106) = ap (λ (t : List ℕ). get_or t 0 0 == 106) e in
-    let told : true ≡ false = first in
-    cc told
+    let reported : true ≡ false = first in
+    cc reported
 
 one_kind : (k l : PackageKind) (a b : List ℕ) → scheme_of k ++ a ≡ scheme_of l ++ b → k ≡ l
 one_kind Jsr Jsr a b e = refl
@@ -39,18 +39,18 @@ neither j n Npm = n
 
 -- ---- errors and results
 
-pub scheme_refused : {f : Flavour} {text : List ℕ} (e : JsrDepPackageReqParseError) → ((kind : PackageKind) → LacksScheme kind text) → IsToldScheme text e → IsDependencyRefusal f text e
-scheme_refused (error.NotExpectedScheme scheme) none told = inr (OtherScheme, other_scheme none, told)
-scheme_refused (error.PackageReqParse inner) none told = absurd told
-scheme_refused error.Memory none told = inl refl
+pub scheme_rejected : {f : Flavour} {text : List ℕ} (e : JsrDepPackageReqParseError) → ((kind : PackageKind) → LacksScheme kind text) → IsReportedScheme text e → IsDependencyRejection f text e
+scheme_rejected (error.NotExpectedScheme scheme) none reported = inr (OtherScheme, other_scheme none, reported)
+scheme_rejected (error.PackageReqParse inner) none reported = absurd reported
+scheme_rejected error.Memory none reported = inl refl
 
-pub scheme_answer : {f : Flavour} {text : List ℕ} (e : JsrDepPackageReqParseError) → ((kind : PackageKind) → LacksScheme kind text) → IsToldScheme text e
+pub scheme_answer : {f : Flavour} {text : List ℕ} (e : JsrDepPackageReqParseError) → ((kind : PackageKind) → LacksScheme kind text) → IsReportedScheme text e
     → (o : Result JsrDepPackageReq DependencyFault) → IsDependencyOutcome f text o → IsDependencyAnswer f text o (Err e)
-scheme_answer (error.NotExpectedScheme scheme) none told _ (other_scheme k) = inr told
-scheme_answer (error.PackageReqParse inner) none told _ (other_scheme k) = absurd told
-scheme_answer error.Memory none told _ (other_scheme k) = inl refl
-scheme_answer e none told _ (is_dependency kind body is h) = absurd (none kind body is)
-scheme_answer e none told _ (bad_requirement kind body is h) = absurd (none kind body is)
+scheme_answer (error.NotExpectedScheme scheme) none reported _ (other_scheme k) = inr reported
+scheme_answer (error.PackageReqParse inner) none reported _ (other_scheme k) = absurd reported
+scheme_answer error.Memory none reported _ (other_scheme k) = inl refl
+scheme_answer e none reported _ (is_dependency kind body is h) = absurd (none kind body is)
+scheme_answer e none reported _ (bad_requirement kind body is h) = absurd (none kind body is)
 
 abbrev dependency_of : PackageKind → PackageReq → JsrDepPackageReq
 dependency_of kind req = record { kind = kind; req = req }
@@ -83,24 +83,24 @@ module _ (packages : PackageTextsHaveOneOutcome) {f : Flavour} {text : List ℕ}
 abbrev pub PackageAnswers : Flavour → List ℕ → Result PackageReq PackageReqParseError → Type 0
 PackageAnswers f body result = (o : Result PackageReq Fault) → IsPackageOutcome f body o → IsPackageAnswer f body o result
 
-memory_of : {inner : PackageReqParseError} {e : JsrDepPackageReqParseError} → IsWantOfMemory inner → IsOfPackageError inner e → e ≡ error.Memory
+memory_of : {inner : PackageReqParseError} {e : JsrDepPackageReqParseError} → IsOutOfMemory inner → IsOfPackageError inner e → e ≡ error.Memory
 memory_of memory (inl h) = h.1
 memory_of memory (inr h) = absurd (h.0 memory.source)
 
-tells_of : {f : Flavour} (text : List ℕ) {body : List ℕ} {fault : Fault} {inner : PackageReqParseError} {e : JsrDepPackageReqParseError} → IsWantOfMemory inner ⊎ TellsFault f fault body inner → IsOfPackageError inner e
-    → (e ≡ error.Memory) ⊎ TellsDependency f text (BadRequirement body fault) e
-tells_of text (inl memory) of = inl (memory_of memory of)
-tells_of text (inr told) (inl h) = inl h.1
-tells_of {f} text {body} {fault} (inr told) (inr h) = inr (subst (λ (x : JsrDepPackageReqParseError). TellsDependency f text (BadRequirement body fault) x) (sym h.1) told)
+reports_of : {f : Flavour} (text : List ℕ) {body : List ℕ} {fault : Fault} {inner : PackageReqParseError} {e : JsrDepPackageReqParseError} → IsOutOfMemory inner ⊎ ReportsFault f fault body inner → IsOfPackageError inner e
+    → (e ≡ error.Memory) ⊎ ReportsDependency f text (BadRequirement body fault) e
+reports_of text (inl memory) of = inl (memory_of memory of)
+reports_of text (inr reported) (inl h) = inl h.1
+reports_of {f} text {body} {fault} (inr reported) (inr h) = inr (subst (λ (x : JsrDepPackageReqParseError). ReportsDependency f text (BadRequirement body fault) x) (sym h.1) reported)
 
-pub package_refused : {f : Flavour} {text : List ℕ} (kind : PackageKind) (body : List ℕ) {inner : PackageReqParseError} {e : JsrDepPackageReqParseError} → text ≡ scheme_of kind ++ body → IsPackageRefusal f body inner
-    → IsOfPackageError inner e → IsDependencyRefusal f text e
-package_refused kind body is (inl memory) of = inl (memory_of memory of)
-package_refused {f} {text} kind body {inner} {e} is (inr h) of = go (tells_of {f = f} text {body = body} {fault = h.0} {inner = inner} {e = e} (inr h.2) of)
+pub package_rejected : {f : Flavour} {text : List ℕ} (kind : PackageKind) (body : List ℕ) {inner : PackageReqParseError} {e : JsrDepPackageReqParseError} → text ≡ scheme_of kind ++ body → IsPackageRejection f body inner
+    → IsOfPackageError inner e → IsDependencyRejection f text e
+package_rejected kind body is (inl memory) of = inl (memory_of memory of)
+package_rejected {f} {text} kind body {inner} {e} is (inr h) of = go (reports_of {f = f} text {body = body} {fault = h.0} {inner = inner} {e = e} (inr h.2) of)
   where
-    go : (e ≡ error.Memory) ⊎ TellsDependency f text (BadRequirement body h.0) e → IsDependencyRefusal f text e
+    go : (e ≡ error.Memory) ⊎ ReportsDependency f text (BadRequirement body h.0) e → IsDependencyRejection f text e
     go (inl memory) = inl memory
-    go (inr told) = inr (BadRequirement body h.0, bad_requirement kind body is h.1, told)
+    go (inr reported) = inr (BadRequirement body h.0, bad_requirement kind body is h.1, reported)
 
 module _ {f : Flavour} {text : List ℕ} (kind : PackageKind) (body : List ℕ) (is : text ≡ scheme_of kind ++ body) where
   at : (k : PackageKind) (other : List ℕ) {o : Result PackageReq Fault} → text ≡ scheme_of k ++ other → IsPackageOutcome f other o → IsPackageOutcome f body o
@@ -112,8 +112,8 @@ module _ {f : Flavour} {text : List ℕ} (kind : PackageKind) (body : List ℕ) 
   package_answer answer of _ (is_dependency k other x h) = memory_of (answer _ (at k other x h)) of
   package_answer {inner} {e} answer of _ (bad_requirement k other {fault} x h) =
       let same = one_body k kind other body (sym x ∙ is) in
-      let told = tells_of {f = f} text {body = body} {fault = fault} {inner = inner} {e = e} (answer _ (at k other x h)) of in
-      subst (λ (t : List ℕ). (e ≡ error.Memory) ⊎ TellsDependency f text (BadRequirement t fault) e) (sym same) told
+      let reported = reports_of {f = f} text {body = body} {fault = fault} {inner = inner} {e = e} (answer _ (at k other x h)) of in
+      subst (λ (t : List ℕ). (e ≡ error.Memory) ⊎ ReportsDependency f text (BadRequirement t fault) e) (sym same) reported
 
   pub read_answer : (req : PackageReq) → PackageAnswers f body (Ok req) → (o : Result JsrDepPackageReq DependencyFault) → IsDependencyOutcome f text o → IsDependencyAnswer f text o (Ok (dependency_of kind req))
   read_answer req answer _ (other_scheme none) = absurd (none kind body is)

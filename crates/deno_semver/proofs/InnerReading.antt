@@ -1,8 +1,8 @@
 -- A text parses in one way to ranges or a tag, and in none if it is invalid.
 use Rattle.std.proofs.Common.{◌≡◌, ◌∙◌, ℕ, List, Bool, None, sym, inl, inr}
 use Rattle.std.specs.Prelude.{◌⊎◌, ◌↔◌, IsTrue}
-use Rattle.semver_req.specs.Outcome.{IsOutcome, Outcome, Ranges, Tag, Refused, TextsHaveOneOutcome}
-use Rattle.semver_req.specs.Readers.{Failure, IsRead, IsReading}
+use Rattle.semver_req.specs.Outcome.{IsOutcome, Outcome, Ranges, Tag, Rejected, TextsHaveOneOutcome}
+use Rattle.semver_req.specs.Parsers.{Failure, IsRead, IsReading}
 use Rattle.semver_req.specs.declared.common.values.Flavour.{Flavour}
 use Rattle.semver_req.specs.declared.range_set_or_tag.RangeSetOrTag.{RangeSetOrTag}
 use Rattle.deno_semver.specs.declared.json.error.JsonError.{JsonError}
@@ -15,13 +15,13 @@ module _ (texts : TextsHaveOneOutcome) (f : Flavour) (text : List ℕ) where
       go : (o : Outcome) → IsRead f o x → IsRead f o y → x ≡ y
       go (Ranges tree) a b = a ∙ sym b
       go (Tag t) a b = a ∙ sym b
-      go Refused a b = absurd a
+      go Rejected a b = absurd a
 
-  no_reading : (x : RangeSetOrTag) → IsOutcome f text Refused → IsReading f text x → ⊥
-  no_reading x refused h = rw (texts f text h.outcome Refused h.is_outcome refused) at h.is_read
+  no_reading : (x : RangeSetOrTag) → IsOutcome f text Rejected → IsReading f text x → ⊥
+  no_reading x rejected h = rw (texts f text h.outcome Rejected h.is_outcome rejected) at h.is_read
 
   -- a failure for a text that parses is out of memory, and is reported as such
-  pub told_as_memory : (failure : Failure) (is_memory : Bool) (e : JsonError) → (failure ≡ None) ⊎ IsOutcome f text Refused → IsTrue is_memory ↔ (failure ≡ None)
+  pub reported_as_memory : (failure : Failure) (is_memory : Bool) (e : JsonError) → (failure ≡ None) ⊎ IsOutcome f text Rejected → IsTrue is_memory ↔ (failure ≡ None)
       → IsTrue is_memory ↔ (e ≡ error.Memory) → (x : RangeSetOrTag) → IsReading f text x → e ≡ error.Memory
-  told_as_memory failure is_memory e (inl none) asked told x h = told.0 (asked.1 none)
-  told_as_memory failure is_memory e (inr refused) asked told x h = absurd (no_reading x refused h)
+  reported_as_memory failure is_memory e (inl none) asked reported x h = reported.0 (asked.1 none)
+  reported_as_memory failure is_memory e (inr rejected) asked reported x h = absurd (no_reading x rejected h)

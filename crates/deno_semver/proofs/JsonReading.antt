@@ -17,20 +17,20 @@ use Rattle.semver_base.specs.declared.range.RangeBound.{RangeBound}
 use Rattle.semver_base.specs.declared.range.RangeBound.TheVariants as bound
 use Rattle.semver_base.specs.declared.range.VersionBound.{VersionBound}
 use Rattle.deno_semver.specs.Json.{AreItemsOf, IsJsonOfBound, IsJsonOfRangeBound}
-use Rattle.deno_semver.specs.JsonAnswers.{IsJsonAnswer, IsJsonRefusal}
+use Rattle.deno_semver.specs.JsonAnswers.{IsJsonAnswer, IsJsonRejection}
 use Rattle.deno_semver.specs.declared.json.error.JsonError.{JsonError}
 use Rattle.deno_semver.specs.declared.json.error.JsonError.TheVariants as error
 
 -- an error that is out of memory if the JSON parses to some value is a correct rejection
-pub refused_by : {T : Type 0} (StandsFor : Data → T → Type 0) (json : Data) (e : JsonError) → ((x : T) → StandsFor json x → e ≡ error.Memory) → IsJsonRefusal StandsFor json e
-refused_by StandsFor json error.Memory h = inl refl
-refused_by StandsFor json error.Json h = inr (λ x s. cc (h x s))
+pub rejected_by : {T : Type 0} (ParsesTo : Data → T → Type 0) (json : Data) (e : JsonError) → ((x : T) → ParsesTo json x → e ≡ error.Memory) → IsJsonRejection ParsesTo json e
+rejected_by ParsesTo json error.Memory h = inl refl
+rejected_by ParsesTo json error.Json h = inr (λ x s. cc (h x s))
 
 -- so is the exit of a `?`
-pub exit_refused : {T U : Type 0} (StandsFor : Data → T → Type 0) (json : Data) (r : Result U JsonError) (e : JsonError) → IsErrAnd r (λ f. f ≡ e)
-    → ((x : T) → StandsFor json x → e ≡ error.Memory) → IfErr r (IsJsonRefusal StandsFor json)
-exit_refused StandsFor json (Ok x) e is h = absurd is
-exit_refused StandsFor json (Err f) e is h = rw is (refused_by StandsFor json e h)
+pub exit_rejected : {T U : Type 0} (ParsesTo : Data → T → Type 0) (json : Data) (r : Result U JsonError) (e : JsonError) → IsErrAnd r (λ f. f ≡ e)
+    → ((x : T) → ParsesTo json x → e ≡ error.Memory) → IfErr r (IsJsonRejection ParsesTo json)
+exit_rejected ParsesTo json (Ok x) e is h = absurd is
+exit_rejected ParsesTo json (Err f) e is h = rw is (rejected_by ParsesTo json e h)
 
 pub exit_answer : {T : Type 0} (x : T) (r : Result T JsonError) (e : JsonError) → IsErrAnd r (λ f. f ≡ e) → e ≡ error.Memory → IsJsonAnswer x r
 exit_answer x (Ok y) e is m = absurd is
@@ -38,14 +38,14 @@ exit_answer x (Err f) e is m = is ∙ m
 
 -- ---- items
 
-module _ {T : Type 0} (StandsFor : Data → T → Type 0) where
+module _ {T : Type 0} (ParsesTo : Data → T → Type 0) where
   -- the values that these items parse to
   abbrev Are : List Data → List T → Type 0
-  Are ds xs = AreItemsOf StandsFor (items_of ds) xs
+  Are ds xs = AreItemsOf ParsesTo (items_of ds) xs
 
   -- one more item
-  pub one_more : (ds : List Data) (xs : List T) (d : Data) (x : T) → AreItemsOf StandsFor (items_of ds) xs → StandsFor d x
-      → AreItemsOf StandsFor (items_of (ds ++ d ∷ [])) (xs ++ x ∷ [])
+  pub one_more : (ds : List Data) (xs : List T) (d : Data) (x : T) → AreItemsOf ParsesTo (items_of ds) xs → ParsesTo d x
+      → AreItemsOf ParsesTo (items_of (ds ++ d ∷ [])) (xs ++ x ∷ [])
   one_more [] [] d x h k = (k, tt)
   one_more [] (y ∷ ys) d x h k = absurd h
   one_more (e ∷ es) [] d x h k = absurd h
@@ -53,24 +53,24 @@ module _ {T : Type 0} (StandsFor : Data → T → Type 0) where
 
   -- no other values than these
   abbrev pub AreOnly : List Data → List T → Type 0
-  AreOnly ds xs = (ys : List T) → AreItemsOf StandsFor (items_of ds) ys → ys ≡ xs
+  AreOnly ds xs = (ys : List T) → AreItemsOf ParsesTo (items_of ds) ys → ys ≡ xs
 
   -- the value of the item after the first ones, which parse to these values
-  pub last_of : (ds : List Data) (d : Data) (more : List Data) (ys : List T) → AreItemsOf StandsFor (items_of (ds ++ d ∷ more)) ys → (y : T) × StandsFor d y
+  pub last_of : (ds : List Data) (d : Data) (more : List Data) (ys : List T) → AreItemsOf ParsesTo (items_of (ds ++ d ∷ more)) ys → (y : T) × ParsesTo d y
   last_of [] d more [] h = absurd h
   last_of [] d more (y ∷ ys) h = (y, h.0)
   last_of (e ∷ es) d more [] h = absurd h
   last_of (e ∷ es) d more (y ∷ ys) h = last_of es d more ys h.1
 
-  cut_last : (ds : List Data) (d : Data) (ys : List T) → AreItemsOf StandsFor (items_of (ds ++ d ∷ [])) ys
-      → (first : List T) × (last : T) × (ys ≡ first ++ last ∷ []) × AreItemsOf StandsFor (items_of ds) first × StandsFor d last
+  cut_last : (ds : List Data) (d : Data) (ys : List T) → AreItemsOf ParsesTo (items_of (ds ++ d ∷ [])) ys
+      → (first : List T) × (last : T) × (ys ≡ first ++ last ∷ []) × AreItemsOf ParsesTo (items_of ds) first × ParsesTo d last
   cut_last [] d [] h = absurd h
   cut_last [] d (y ∷ []) h = ([], y, refl, tt, h.0)
   cut_last [] d (y ∷ z ∷ ys) h = absurd h.1
   cut_last (e ∷ es) d [] h = absurd h
   cut_last (e ∷ es) d (y ∷ ys) h = let rest = cut_last es d ys h.1 in (y ∷ rest.0, rest.1, ap (λ zs. y ∷ zs) rest.2, (h.0, rest.3), rest.4)
 
-  pub only_more : (ds : List Data) (xs : List T) (d : Data) (x : T) → AreOnly ds xs → ((y : T) → StandsFor d y → x ≡ y) → AreOnly (ds ++ d ∷ []) (xs ++ x ∷ [])
+  pub only_more : (ds : List Data) (xs : List T) (d : Data) (x : T) → AreOnly ds xs → ((y : T) → ParsesTo d y → x ≡ y) → AreOnly (ds ++ d ∷ []) (xs ++ x ∷ [])
   only_more ds xs d x only is ys h =
       let cut = cut_last ds d ys h in
       cut.2 ∙ rw (only cut.0 cut.3, sym (is cut.1 cut.4)) refl
@@ -88,14 +88,14 @@ module _ {T : Type 0} (StandsFor : Data → T → Type 0) where
         ap (map view) (sym (take-append-drop i vs) ∙ ap (λ ws. take i vs ++ ws) (drop_more vs i v h ∙ ap (λ w. w ∷ drop (i + 1) vs) (sym is))) ∙ map-append view (take i vs) (v ∷ drop (i + 1) vs)
 
     -- the next item is parsed, and its value is appended
-    pub next_read : (vs : List V) (i : ℕ) (v : V) (xs new : List T) (x : T) → i < length vs → v ≡ get_or vs i v → AreItemsOf StandsFor (items_of (map view (take i vs))) xs × AreOnly (map view (take i vs)) xs
-        → StandsFor (view v) x → ((y : T) → StandsFor (view v) y → x ≡ y) → new ≡ xs ++ x ∷ []
-        → AreItemsOf StandsFor (items_of (map view (take (i + 1) vs))) new × AreOnly (map view (take (i + 1) vs)) new
+    pub next_read : (vs : List V) (i : ℕ) (v : V) (xs new : List T) (x : T) → i < length vs → v ≡ get_or vs i v → AreItemsOf ParsesTo (items_of (map view (take i vs))) xs × AreOnly (map view (take i vs)) xs
+        → ParsesTo (view v) x → ((y : T) → ParsesTo (view v) y → x ≡ y) → new ≡ xs ++ x ∷ []
+        → AreItemsOf ParsesTo (items_of (map view (take (i + 1) vs))) new × AreOnly (map view (take (i + 1) vs)) new
     next_read vs i v xs new x h is before read only e =
         rw (next_items vs i v h is, e) (one_more (map view (take i vs)) xs (view v) x before.0 read, only_more (map view (take i vs)) xs (view v) x before.1 only)
 
     -- the next item parses to a value if they all do
-    pub item_of : (vs : List V) (i : ℕ) (v : V) → i < length vs → v ≡ get_or vs i v → (ys : List T) → AreItemsOf StandsFor (items_of (map view vs)) ys → (y : T) × StandsFor (view v) y
+    pub item_of : (vs : List V) (i : ℕ) (v : V) → i < length vs → v ≡ get_or vs i v → (ys : List T) → AreItemsOf ParsesTo (items_of (map view vs)) ys → (y : T) × ParsesTo (view v) y
     item_of vs i v h is ys read = last_of (map view (take i vs)) (view v) (map view (drop (i + 1) vs)) ys (rw (whole_items vs i v h is) at read)
 
 -- ---- the only member

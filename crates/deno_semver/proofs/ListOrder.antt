@@ -60,18 +60,18 @@ module _ {K : Type 0} (R : K → K → Ordering) (o : IsTotalOrder R) where
   ties_length (x ∷ xs) (y ∷ ys) h = omega (arith, ties_length xs ys h.1)
 
   -- the first item of an ascending list has none below it in the list
-  first_least : (x : K) (xs : List K) → IsSorted R (x ∷ xs) → below x (x ∷ xs) ≡ 0
-  first_least x xs h = rw (tied_itself o x, below_none x xs (none_below x xs h)) refl
+  first_lowest : (x : K) (xs : List K) → IsSorted R (x ∷ xs) → below x (x ∷ xs) ≡ 0
+  first_lowest x xs h = rw (tied_itself o x, below_none x xs (none_below x xs h)) refl
 
   first_below : (v x : K) (xs : List K) → R x v ≡ Less → 0 < below v (x ∷ xs)
   first_below v x xs e = let one : one_below v x ≡ 1 = ap (λ r. cond (is_lt r) 1 0) e in omega (arith, one)
 
   same_first : (x y : K) (xs ys : List K) → IsSorted R (x ∷ xs) → IsSorted R (y ∷ ys) → ((v : K) → below v (x ∷ xs) ≡ below v (y ∷ ys)) → (r : Ordering) → R x y ≡ r → R x y ≡ Equal
-  same_first x y xs ys h k same Less e = absurd (omega (arith, first_below y x xs e, same y, first_least y ys k))
+  same_first x y xs ys h k same Less e = absurd (omega (arith, first_below y x xs e, same y, first_lowest y ys k))
   same_first x y xs ys h k same Equal e = e
   same_first x y xs ys h k same Greater e =
       let back : R y x ≡ Less = o.antisymm y x ∙ ap ordering_reverse e in
-      absurd (omega (arith, first_below x y ys back, same x, first_least x xs h))
+      absurd (omega (arith, first_below x y ys back, same x, first_lowest x xs h))
 
   pub ascending_tie : (xs ys : List K) → IsSorted R xs → IsSorted R ys → length xs ≡ length ys → ((v : K) → below v xs ≡ below v ys) → Tie xs ys
   ascending_tie [] [] h k long same = tt

@@ -8,15 +8,15 @@ use Rattle.std.proofs.lemmas.Bool.Decides.{nat_tests}
 use Rattle.std.proofs.lemmas.List.{nil_from_length}
 use Rattle.semver_base.specs.Failure.{message_of}
 use Rattle.semver_base.specs.Grammar.{CutsRun, Stops}
-use Rattle.semver_base.specs.VersionGrammar.{IsVersionAnswer, IsVersionOutcome, IsVersionRefusal, version_failure}
+use Rattle.semver_base.specs.VersionGrammar.{IsVersionAnswer, IsVersionOutcome, IsVersionRejection, version_failure}
 use Rattle.semver_base.specs.VersionText.{VersionTextsHaveOneOutcome}
-use Rattle.semver_base.specs.declared.failure.Refusal.{Refusal}
-use Rattle.semver_base.specs.declared.failure.Refusal.TheVariants.{UnexpectedCharacter}
+use Rattle.semver_base.specs.declared.failure.Rejection.{Rejection}
+use Rattle.semver_base.specs.declared.failure.Rejection.TheVariants.{UnexpectedCharacter}
 use Rattle.semver_base.specs.declared.version.Version.{Version}
 use Rattle.semver_base.proofs.Numbers.{cuts_run}
 use Rattle.deno_semver.specs.Cuts.{is_not}
-use Rattle.deno_semver.specs.NameAndVersion.{IsNoNvText, IsNvAnswer, IsNvFront, IsNvMemory, IsNvName, IsNvOutcome, IsNvRefusal, IsNvText, TellsNvFault, is_bad, is_bad_version, is_followed, is_front, is_nv, is_uncut, is_version_byte}
-use Rattle.deno_semver.specs.NameAndVersionSteps.{IsFrontAnswer, IsFrontRefusal, IsNameCut, TellsFailure, name_len}
+use Rattle.deno_semver.specs.NameAndVersion.{IsNoNvText, IsNvAnswer, IsNvFront, IsNvMemory, IsNvName, IsNvOutcome, IsNvRejection, IsNvText, ReportsNvFault, is_bad, is_bad_version, is_followed, is_front, is_nv, is_uncut, is_version_byte}
+use Rattle.deno_semver.specs.NameAndVersionSteps.{IsFrontAnswer, IsFrontRejection, IsNameCut, ReportsFailure, name_len}
 use Rattle.deno_semver.specs.declared.package.values.PackageNv.{PackageNv}
 use Rattle.deno_semver.specs.declared.package.name_version.PackageNvParseError.{PackageNvParseError}
 use Rattle.deno_semver.proofs.Runs.{cut_before, run_one, run_stop}
@@ -91,15 +91,15 @@ no_at {name = name} {rest} c none n w s k = go name n (c.name_is (some_text k)) 
 
 -- ---- the start of a text
 
-pub tells_uncut : {text whole : List ℕ} {e : PackageNvParseError} → IsNoNvText text → IsNvMemory e ⊎ TellsNvFault UnexpectedCharacter whole e → IsFrontRefusal text whole e
-tells_uncut none (inl memory) = inl memory
-tells_uncut none (inr told) = inr (UnexpectedCharacter, is_uncut none, told)
+pub reports_uncut : {text whole : List ℕ} {e : PackageNvParseError} → IsNoNvText text → IsNvMemory e ⊎ ReportsNvFault UnexpectedCharacter whole e → IsFrontRejection text whole e
+reports_uncut none (inl memory) = inl memory
+reports_uncut none (inr reported) = inr (UnexpectedCharacter, is_uncut none, reported)
 
-pub tells_version : {text whole name version rest : List ℕ} {failure : Option (List ℕ × Option (List ℕ))} {e : PackageNvParseError} → IsNvText text name version rest
-    → IsVersionRefusal (trim version) failure → IsNvMemory e ⊎ TellsFailure failure whole e → IsFrontRefusal text whole e
-tells_version h refused (inl memory) = inl memory
-tells_version h (inl none) (inr told) = absurd (told.no_memory none)
-tells_version h (inr refused) (inr told) = inr (refused.0, is_bad_version h refused.1, record { message = told.message ∙ ap message_of refused.2; text_is = told.text_is })
+pub reports_version : {text whole name version rest : List ℕ} {failure : Option (List ℕ × Option (List ℕ))} {e : PackageNvParseError} → IsNvText text name version rest
+    → IsVersionRejection (trim version) failure → IsNvMemory e ⊎ ReportsFailure failure whole e → IsFrontRejection text whole e
+reports_version h rejected (inl memory) = inl memory
+reports_version h (inl none) (inr reported) = absurd (reported.no_memory none)
+reports_version h (inr rejected) (inr reported) = inr (rejected.0, is_bad_version h rejected.1, record { message = reported.message ∙ ap message_of rejected.2; text_is = reported.text_is })
 
 abbrev nv_of : List ℕ → Version → PackageNv
 nv_of name version = record { name = name; version = version }
@@ -112,35 +112,35 @@ reads h is v = rw is (is_front h v)
 
 -- the version parser's result for each outcome of the version
 abbrev pub Answers : {E : Type 0} → (E → Option (List ℕ × Option (List ℕ))) → List ℕ → Result Version E → Type 0
-Answers source version result = (o : Result Version Refusal) → IsVersionOutcome (trim version) o → IsVersionAnswer source (trim version) o result
+Answers source version result = (o : Result Version Rejection) → IsVersionOutcome (trim version) o → IsVersionAnswer source (trim version) o result
 
-moved : {v w : List ℕ} {o : Result Version Refusal} → v ≡ w → IsVersionOutcome (trim w) o → IsVersionOutcome (trim v) o
+moved : {v w : List ℕ} {o : Result Version Rejection} → v ≡ w → IsVersionOutcome (trim w) o → IsVersionOutcome (trim v) o
 moved {o = o} e h = subst (λ (t : List ℕ). IsVersionOutcome (trim t) o) (sym e) h
 
-pub uncut_answer : {text whole : List ℕ} {e : PackageNvParseError} → IsNoNvText text → IsNvMemory e ⊎ TellsNvFault UnexpectedCharacter whole e
-    → (o : Result (PackageNv × List ℕ) Refusal) → IsNvFront text o → IsFrontAnswer whole o (Err e)
-uncut_answer none told _ (is_front h v) = absurd (none _ _ _ h)
-uncut_answer none told _ (is_uncut k) = told
-uncut_answer none told _ (is_bad_version h v) = absurd (none _ _ _ h)
+pub uncut_answer : {text whole : List ℕ} {e : PackageNvParseError} → IsNoNvText text → IsNvMemory e ⊎ ReportsNvFault UnexpectedCharacter whole e
+    → (o : Result (PackageNv × List ℕ) Rejection) → IsNvFront text o → IsFrontAnswer whole o (Err e)
+uncut_answer none reported _ (is_front h v) = absurd (none _ _ _ h)
+uncut_answer none reported _ (is_uncut k) = reported
+uncut_answer none reported _ (is_bad_version h v) = absurd (none _ _ _ h)
 
 module _ {E : Type 0} (source : E → Option (List ℕ × Option (List ℕ))) {text name version rest : List ℕ} (h : IsNvText text name version rest) where
-  pub refused_answer : {whole : List ℕ} (x : E) → Answers source version (Err x) → {e : PackageNvParseError} → IsNvMemory e ⊎ TellsFailure (source x) whole e
-      → (o : Result (PackageNv × List ℕ) Refusal) → IsNvFront text o → IsFrontAnswer whole o (Err e)
-  refused_answer {whole} x answer {e} told _ (is_front k v) = forgot told (answer (Ok _) (moved (nv_one h k).1 v))
+  pub rejected_answer : {whole : List ℕ} (x : E) → Answers source version (Err x) → {e : PackageNvParseError} → IsNvMemory e ⊎ ReportsFailure (source x) whole e
+      → (o : Result (PackageNv × List ℕ) Rejection) → IsNvFront text o → IsFrontAnswer whole o (Err e)
+  rejected_answer {whole} x answer {e} reported _ (is_front k v) = forgot reported (answer (Ok _) (moved (nv_one h k).1 v))
     where
-      forgot : IsNvMemory e ⊎ TellsFailure (source x) whole e → source x ≡ None → IsNvMemory e
+      forgot : IsNvMemory e ⊎ ReportsFailure (source x) whole e → source x ≡ None → IsNvMemory e
       forgot (inl memory) none = memory
       forgot (inr t) none = absurd (t.no_memory none)
-  refused_answer x answer told _ (is_uncut none) = absurd (none _ _ _ h)
-  refused_answer {whole} x answer {e} told _ (is_bad_version {fault} k v) = shows told (answer (Err _) (moved (nv_one h k).1 v))
+  rejected_answer x answer reported _ (is_uncut none) = absurd (none _ _ _ h)
+  rejected_answer {whole} x answer {e} reported _ (is_bad_version {fault} k v) = shows reported (answer (Err _) (moved (nv_one h k).1 v))
     where
-      shows : IsNvMemory e ⊎ TellsFailure (source x) whole e → (source x ≡ None) ⊎ (source x ≡ version_failure fault (trim version)) → IsNvMemory e ⊎ TellsNvFault fault whole e
+      shows : IsNvMemory e ⊎ ReportsFailure (source x) whole e → (source x ≡ None) ⊎ (source x ≡ version_failure fault (trim version)) → IsNvMemory e ⊎ ReportsNvFault fault whole e
       shows (inl memory) is = inl memory
       shows (inr t) (inl none) = absurd (t.no_memory none)
       shows (inr t) (inr is) = inr (record { message = t.message ∙ ap message_of is; text_is = t.text_is })
 
   pub read_answer : (whole : List ℕ) (x : Version) → Answers source version (Ok x) → {n : List ℕ} → n ≡ name → (r : Bor (List ℕ)) → r.now ≡ rest
-      → (o : Result (PackageNv × List ℕ) Refusal) → IsNvFront text o → IsFrontAnswer whole o (Ok (nv_of n x, r))
+      → (o : Result (PackageNv × List ℕ) Rejection) → IsNvFront text o → IsFrontAnswer whole o (Ok (nv_of n x, r))
   read_answer whole x answer is_name r is_rest _ (is_front {name = m} {v = w} k v) =
       let same = is_name ∙ (nv_one h k).0 in
       let is : x ≡ w = answer (Ok w) (moved (nv_one h k).1 v) in
@@ -152,30 +152,30 @@ module _ {E : Type 0} (source : E → Option (List ℕ × Option (List ℕ))) {t
 
 -- the result of parsing the start of a text for each outcome
 abbrev pub FrontAnswers : List ℕ → List ℕ → Result (PackageNv × Bor (List ℕ)) PackageNvParseError → Type 0
-FrontAnswers text whole result = (o : Result (PackageNv × List ℕ) Refusal) → IsNvFront text o → IsFrontAnswer whole o result
+FrontAnswers text whole result = (o : Result (PackageNv × List ℕ) Rejection) → IsNvFront text o → IsFrontAnswer whole o result
 
-pub bad_refusal : {text : List ℕ} {e : PackageNvParseError} → IsFrontRefusal text text e → IsNvRefusal text e
-bad_refusal (inl memory) = inl memory
-bad_refusal (inr h) = inr (h.0, is_bad h.1, h.2)
+pub bad_rejection : {text : List ℕ} {e : PackageNvParseError} → IsFrontRejection text text e → IsNvRejection text e
+bad_rejection (inl memory) = inl memory
+bad_rejection (inr h) = inr (h.0, is_bad h.1, h.2)
 
-pub followed_refusal : {text rest : List ℕ} {nv : PackageNv} {e : PackageNvParseError} → IsNvFront text (Ok (nv, rest)) → 0 < length rest → IsNvMemory e ⊎ TellsNvFault UnexpectedCharacter text e
-    → IsNvRefusal text e
-followed_refusal h some (inl memory) = inl memory
-followed_refusal h some (inr told) = inr (UnexpectedCharacter, is_followed h some, told)
+pub followed_rejection : {text rest : List ℕ} {nv : PackageNv} {e : PackageNvParseError} → IsNvFront text (Ok (nv, rest)) → 0 < length rest → IsNvMemory e ⊎ ReportsNvFault UnexpectedCharacter text e
+    → IsNvRejection text e
+followed_rejection h some (inl memory) = inl memory
+followed_rejection h some (inr reported) = inr (UnexpectedCharacter, is_followed h some, reported)
 
-pub bad_answer : {text : List ℕ} {e : PackageNvParseError} → FrontAnswers text text (Err e) → (o : Result PackageNv Refusal) → IsNvOutcome text o → IsNvAnswer text o (Err e)
+pub bad_answer : {text : List ℕ} {e : PackageNvParseError} → FrontAnswers text text (Err e) → (o : Result PackageNv Rejection) → IsNvOutcome text o → IsNvAnswer text o (Err e)
 bad_answer answer _ (is_nv k) = answer _ k
 bad_answer answer _ (is_bad k) = answer _ k
 bad_answer answer _ (is_followed k some) = inl (answer _ k)
 
 module _ {text : List ℕ} {nv : PackageNv} {rest : Bor (List ℕ)} (answer : FrontAnswers text text (Ok (nv, rest))) where
-  pub followed_answer : {e : PackageNvParseError} → 0 < length rest.now → IsNvMemory e ⊎ TellsNvFault UnexpectedCharacter text e
-      → (o : Result PackageNv Refusal) → IsNvOutcome text o → IsNvAnswer text o (Err e)
-  followed_answer some told _ (is_nv k) = absurd (omega (arith, some, ap length (answer _ k).1))
-  followed_answer some told _ (is_bad k) = absurd (answer _ k)
-  followed_answer some told _ (is_followed k more) = told
+  pub followed_answer : {e : PackageNvParseError} → 0 < length rest.now → IsNvMemory e ⊎ ReportsNvFault UnexpectedCharacter text e
+      → (o : Result PackageNv Rejection) → IsNvOutcome text o → IsNvAnswer text o (Err e)
+  followed_answer some reported _ (is_nv k) = absurd (omega (arith, some, ap length (answer _ k).1))
+  followed_answer some reported _ (is_bad k) = absurd (answer _ k)
+  followed_answer some reported _ (is_followed k more) = reported
 
-  pub whole_answer : length rest.now ≡ 0 → (o : Result PackageNv Refusal) → IsNvOutcome text o → IsNvAnswer text o (Ok nv)
+  pub whole_answer : length rest.now ≡ 0 → (o : Result PackageNv Rejection) → IsNvOutcome text o → IsNvAnswer text o (Ok nv)
   whole_answer none _ (is_nv k) = (answer _ k).0
   whole_answer none _ (is_bad k) = absurd (answer _ k)
   whole_answer none _ (is_followed k more) = absurd (omega (arith, none, more, ap length (answer _ k).1))
@@ -186,10 +186,10 @@ whole_read {text} {rest} {nv} h none = is_nv (subst (λ (r : List ℕ). IsNvFron
 -- ---- one outcome
 
 -- a name and version at the start, with what follows
-abbrev pub front_of : PackageNv → List ℕ → Result (PackageNv × List ℕ) Refusal
+abbrev pub front_of : PackageNv → List ℕ → Result (PackageNv × List ℕ) Rejection
 front_of nv rest = Ok (nv, rest)
 
-abbrev front_pair : PackageNv × List ℕ → Result (PackageNv × List ℕ) Refusal
+abbrev front_pair : PackageNv × List ℕ → Result (PackageNv × List ℕ) Rejection
 front_pair p = Ok p
 
 same_pair : (a b : PackageNv × List ℕ) → front_pair a ≡ front_pair b → a ≡ b
@@ -205,18 +205,18 @@ same_rest x y r s e = ap (λ (p : PackageNv × List ℕ). p.1) (same_pair (x, r)
 ends_or_goes : (x y : PackageNv) (rest : List ℕ) → front_of x [] ≡ front_of y rest → 0 < length rest → ⊥
 ends_or_goes x y rest e some = omega (arith, some, ap length (same_rest x y [] rest e))
 
-pub no_front : (x : PackageNv) (rest : List ℕ) (fault : Refusal) → front_of x rest ≡ Err fault → ⊥
+pub no_front : (x : PackageNv) (rest : List ℕ) (fault : Rejection) → front_of x rest ≡ Err fault → ⊥
 no_front x rest fault e = cc e
 
-pub same_fault : (a b : Refusal) (o p : Result (PackageNv × List ℕ) Refusal) → o ≡ Err a → p ≡ Err b → o ≡ p → a ≡ b
+pub same_fault : (a b : Rejection) (o p : Result (PackageNv × List ℕ) Rejection) → o ≡ Err a → p ≡ Err b → o ≡ p → a ≡ b
 same_fault a b o p e f g = cc (e, f, g)
 
 module _ (versions : VersionTextsHaveOneOutcome) where
   -- two versions parsed from one text are the same
-  version_same : {v w : List ℕ} (o p : Result Version Refusal) → v ≡ w → IsVersionOutcome (trim v) o → IsVersionOutcome (trim w) p → o ≡ p
+  version_same : {v w : List ℕ} (o p : Result Version Rejection) → v ≡ w → IsVersionOutcome (trim v) o → IsVersionOutcome (trim w) p → o ≡ p
   version_same {v = v} o p e h k = versions (trim v) o p h (moved e k)
 
-  pub front_one : {text : List ℕ} (o p : Result (PackageNv × List ℕ) Refusal) → IsNvFront text o → IsNvFront text p → o ≡ p
+  pub front_one : {text : List ℕ} (o p : Result (PackageNv × List ℕ) Rejection) → IsNvFront text o → IsNvFront text p → o ≡ p
   front_one _ _ (is_front {v = v} h a) (is_front {v = w} k b) =
       let same = nv_one h k in
       let same_versions : v ≡ w = cc (version_same (Ok v) (Ok w) same.1 a b) in
@@ -232,7 +232,7 @@ module _ (versions : VersionTextsHaveOneOutcome) where
       let same : x ≡ y = cc (version_same (Err x) (Err y) (nv_one h k).1 a b) in
       ap Err same
 
-  pub nv_outcome_one : {text : List ℕ} (o p : Result PackageNv Refusal) → IsNvOutcome text o → IsNvOutcome text p → o ≡ p
+  pub nv_outcome_one : {text : List ℕ} (o p : Result PackageNv Rejection) → IsNvOutcome text o → IsNvOutcome text p → o ≡ p
   nv_outcome_one _ _ (is_nv {nv = x} h) (is_nv {nv = y} k) = ap Ok (same_nv x y [] [] (front_one _ _ h k))
   nv_outcome_one _ _ (is_nv {nv = x} h) (is_bad {fault = y} k) = absurd (no_front x [] y (front_one _ _ h k))
   nv_outcome_one _ _ (is_nv {nv = x} h) (is_followed {nv = y} {rest = rest} k some) = absurd (ends_or_goes x y rest (front_one _ _ h k) some)

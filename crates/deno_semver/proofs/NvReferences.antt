@@ -6,12 +6,12 @@ use Rattle.std.proofs.lemmas.Bool.{cases_Bool}
 use Rattle.std.proofs.lemmas.Bool.Decides.{nat_tests}
 use Rattle.semver_base.specs.Grammar.{Stops}
 use Rattle.semver_base.specs.VersionText.{ReadsBack, VersionTextsHaveOneOutcome, version_text}
-use Rattle.semver_base.specs.declared.failure.Refusal.{Refusal}
-use Rattle.semver_base.specs.declared.failure.Refusal.TheVariants.{UnexpectedCharacter}
+use Rattle.semver_base.specs.declared.failure.Rejection.{Rejection}
+use Rattle.semver_base.specs.declared.failure.Rejection.TheVariants.{UnexpectedCharacter}
 use Rattle.deno_semver.specs.Kind.{scheme_of}
-use Rattle.deno_semver.specs.NameAndVersion.{IsNvFront, IsNvMemory, IsNvName, TellsNvFault, is_front, is_version_byte, nv_text}
-use Rattle.deno_semver.specs.NameAndVersionSteps.{IsFrontRefusal}
-use Rattle.deno_semver.specs.NvReference.{IsNoPath, IsNvReferenceAnswer, IsNvReferenceOutcome, IsNvReferenceRefusal, NvReferenceReadsBack, bad_front, is_followed, is_reference, nv_error, other_scheme}
+use Rattle.deno_semver.specs.NameAndVersion.{IsNvFront, IsNvMemory, IsNvName, ReportsNvFault, is_front, is_version_byte, nv_text}
+use Rattle.deno_semver.specs.NameAndVersionSteps.{IsFrontRejection}
+use Rattle.deno_semver.specs.NvReference.{IsNoPath, IsNvReferenceAnswer, IsNvReferenceOutcome, IsNvReferenceRejection, NvReferenceReadsBack, bad_front, is_followed, is_reference, nv_error, other_scheme}
 use Rattle.deno_semver.specs.PackageText.{without_slash}
 use Rattle.deno_semver.specs.ReferenceText.{LacksScheme, path_text}
 use Rattle.deno_semver.specs.declared.package.kind.PackageKind.{PackageKind}
@@ -20,7 +20,7 @@ use Rattle.deno_semver.specs.declared.package.name_version.PackageNvParseError.{
 use Rattle.deno_semver.specs.declared.package.nv_reference.PackageNvReference.{PackageNvReference}
 use Rattle.deno_semver.specs.declared.package.nv_reference.PackageNvReferenceParseError.{PackageNvReferenceParseError}
 use Rattle.deno_semver.proofs.NameAndVersion.{FrontAnswers, front_of, front_one, no_front, same_fault, same_nv, same_rest}
-use Rattle.deno_semver.proofs.NvText.{IsPlainVersion, front_name, writes_text}
+use Rattle.deno_semver.proofs.NvText.{IsBareVersion, front_name, writes_text}
 use Rattle.deno_semver.proofs.References.{bodies}
 
 abbrev reference_of : PackageNv → Option (List ℕ) → PackageNvReference
@@ -47,52 +47,52 @@ module _ {kind : PackageKind} {text : List ℕ} (body : List ℕ) (is : text ≡
   pub reads : {nv : PackageNv} {rest : List ℕ} (r : PackageNvReference) → IsNvFront (without_slash body) (Ok (nv, rest)) → (r.nv ≡ nv) × (rest ≡ path_text r.sub_path) → IsNvReferenceOutcome kind text (Ok r)
   reads {nv} {rest} r h e = is_reference body is (subst (λ (x : PackageNv). IsNvFront (without_slash body) (Ok (x, path_text r.sub_path))) (sym e.0) (subst (λ (t : List ℕ). IsNvFront (without_slash body) (Ok (nv, t))) e.1 h))
 
-  pub refused_front : {e : PackageNvParseError} {x : PackageNvReferenceParseError} → IsFrontRefusal (without_slash body) text e → nv_error x ≡ e → IsNvReferenceRefusal kind text x
-  refused_front (inl memory) same = inl (rw same memory)
-  refused_front (inr h) same = inr (h.0, bad_front body is h.1, rw same h.2)
+  pub rejected_front : {e : PackageNvParseError} {x : PackageNvReferenceParseError} → IsFrontRejection (without_slash body) text e → nv_error x ≡ e → IsNvReferenceRejection kind text x
+  rejected_front (inl memory) same = inl (rw same memory)
+  rejected_front (inr h) same = inr (h.0, bad_front body is h.1, rw same h.2)
 
-  pub refused_rest : {nv : PackageNv} {rest : List ℕ} {e : PackageNvParseError} {x : PackageNvReferenceParseError} → IsNvFront (without_slash body) (Ok (nv, rest))
-      → IsNvMemory e ⊎ (IsNoPath rest × TellsNvFault UnexpectedCharacter text e) → nv_error x ≡ e → IsNvReferenceRefusal kind text x
-  refused_rest h (inl memory) same = inl (rw same memory)
-  refused_rest h (inr told) same = inr (UnexpectedCharacter, is_followed body is h told.0, rw same told.1)
+  pub rejected_rest : {nv : PackageNv} {rest : List ℕ} {e : PackageNvParseError} {x : PackageNvReferenceParseError} → IsNvFront (without_slash body) (Ok (nv, rest))
+      → IsNvMemory e ⊎ (IsNoPath rest × ReportsNvFault UnexpectedCharacter text e) → nv_error x ≡ e → IsNvReferenceRejection kind text x
+  rejected_rest h (inl memory) same = inl (rw same memory)
+  rejected_rest h (inr reported) same = inr (UnexpectedCharacter, is_followed body is h reported.0, rw same reported.1)
 
-pub refused_scheme : {kind : PackageKind} {text : List ℕ} {e : PackageNvParseError} {x : PackageNvReferenceParseError} → LacksScheme kind text → IsNvMemory e ⊎ TellsNvFault UnexpectedCharacter text e → nv_error x ≡ e
-    → IsNvReferenceRefusal kind text x
-refused_scheme none (inl memory) same = inl (rw same memory)
-refused_scheme none (inr told) same = inr (UnexpectedCharacter, other_scheme none, rw same told)
+pub rejected_scheme : {kind : PackageKind} {text : List ℕ} {e : PackageNvParseError} {x : PackageNvReferenceParseError} → LacksScheme kind text → IsNvMemory e ⊎ ReportsNvFault UnexpectedCharacter text e → nv_error x ≡ e
+    → IsNvReferenceRejection kind text x
+rejected_scheme none (inl memory) same = inl (rw same memory)
+rejected_scheme none (inr reported) same = inr (UnexpectedCharacter, other_scheme none, rw same reported)
 
 -- ---- results
 
-pub scheme_answer : {kind : PackageKind} {text : List ℕ} {e : PackageNvParseError} {x : PackageNvReferenceParseError} → LacksScheme kind text → IsNvMemory e ⊎ TellsNvFault UnexpectedCharacter text e → nv_error x ≡ e
-    → (o : Result PackageNvReference Refusal) → IsNvReferenceOutcome kind text o → IsNvReferenceAnswer text o (Err x)
-scheme_answer none told same _ (other_scheme k) = rw same told
-scheme_answer none told same _ (is_reference body is h) = absurd (none body is)
-scheme_answer none told same _ (bad_front body is h) = absurd (none body is)
-scheme_answer none told same _ (is_followed body is h k) = absurd (none body is)
+pub scheme_answer : {kind : PackageKind} {text : List ℕ} {e : PackageNvParseError} {x : PackageNvReferenceParseError} → LacksScheme kind text → IsNvMemory e ⊎ ReportsNvFault UnexpectedCharacter text e → nv_error x ≡ e
+    → (o : Result PackageNvReference Rejection) → IsNvReferenceOutcome kind text o → IsNvReferenceAnswer text o (Err x)
+scheme_answer none reported same _ (other_scheme k) = rw same reported
+scheme_answer none reported same _ (is_reference body is h) = absurd (none body is)
+scheme_answer none reported same _ (bad_front body is h) = absurd (none body is)
+scheme_answer none reported same _ (is_followed body is h k) = absurd (none body is)
 
-at : (kind : PackageKind) {text : List ℕ} (body other : List ℕ) {o : Result (PackageNv × List ℕ) Refusal} → text ≡ scheme_of kind ++ body → text ≡ scheme_of kind ++ other
+at : (kind : PackageKind) {text : List ℕ} (body other : List ℕ) {o : Result (PackageNv × List ℕ) Rejection} → text ≡ scheme_of kind ++ body → text ≡ scheme_of kind ++ other
     → IsNvFront (without_slash other) o → IsNvFront (without_slash body) o
 at kind body other {o = o} is e h = subst (λ (t : List ℕ). IsNvFront (without_slash t) o) (bodies kind e is) h
 
 module _ {kind : PackageKind} {text : List ℕ} (body : List ℕ) (is : text ≡ scheme_of kind ++ body) where
   pub front_answer : {e : PackageNvParseError} {x : PackageNvReferenceParseError} → FrontAnswers (without_slash body) text (Err e) → nv_error x ≡ e
-      → (o : Result PackageNvReference Refusal) → IsNvReferenceOutcome kind text o → IsNvReferenceAnswer text o (Err x)
+      → (o : Result PackageNvReference Rejection) → IsNvReferenceOutcome kind text o → IsNvReferenceAnswer text o (Err x)
   front_answer answer same _ (other_scheme none) = absurd (none body is)
   front_answer answer same _ (is_reference other e h) = rw same (answer _ (at kind body other is e h))
   front_answer answer same _ (bad_front other e h) = rw same (answer _ (at kind body other is e h))
   front_answer answer same _ (is_followed other e h k) = rw same (inl (answer _ (at kind body other is e h)))
 
   module _ {nv : PackageNv} {rest : Bor (List ℕ)} (answer : FrontAnswers (without_slash body) text (Ok (nv, rest))) where
-    pub rest_answer : {e : PackageNvParseError} {x : PackageNvReferenceParseError} → IsNvMemory e ⊎ (IsNoPath rest.now × TellsNvFault UnexpectedCharacter text e) → nv_error x ≡ e
-        → (o : Result PackageNvReference Refusal) → IsNvReferenceOutcome kind text o → IsNvReferenceAnswer text o (Err x)
-    rest_answer told same _ (other_scheme none) = absurd (none body is)
+    pub rest_answer : {e : PackageNvParseError} {x : PackageNvReferenceParseError} → IsNvMemory e ⊎ (IsNoPath rest.now × ReportsNvFault UnexpectedCharacter text e) → nv_error x ≡ e
+        → (o : Result PackageNvReference Rejection) → IsNvReferenceOutcome kind text o → IsNvReferenceAnswer text o (Err x)
+    rest_answer reported same _ (other_scheme none) = absurd (none body is)
     rest_answer (inl memory) same _ (is_reference other e h) = rw same memory
-    rest_answer (inr told) same _ (is_reference other {path} e h) = absurd (no_path path rest.now told.0 (answer _ (at kind body other is e h)).1)
-    rest_answer told same _ (bad_front other e h) = absurd (answer _ (at kind body other is e h))
+    rest_answer (inr reported) same _ (is_reference other {path} e h) = absurd (no_path path rest.now reported.0 (answer _ (at kind body other is e h)).1)
+    rest_answer reported same _ (bad_front other e h) = absurd (answer _ (at kind body other is e h))
     rest_answer (inl memory) same _ (is_followed other e h k) = rw same (inl memory)
-    rest_answer (inr told) same _ (is_followed other e h k) = rw same (inr told.1)
+    rest_answer (inr reported) same _ (is_followed other e h k) = rw same (inr reported.1)
 
-    pub read_answer : (r : PackageNvReference) → (r.nv ≡ nv) × (rest.now ≡ path_text r.sub_path) → (o : Result PackageNvReference Refusal) → IsNvReferenceOutcome kind text o → IsNvReferenceAnswer text o (Ok r)
+    pub read_answer : (r : PackageNvReference) → (r.nv ≡ nv) × (rest.now ≡ path_text r.sub_path) → (o : Result PackageNvReference Rejection) → IsNvReferenceOutcome kind text o → IsNvReferenceAnswer text o (Ok r)
     read_answer r same _ (other_scheme none) = absurd (none body is)
     read_answer r same _ (is_reference other {nv = w} {path} e h) =
         let both = answer _ (at kind body other is e h) in
@@ -109,11 +109,11 @@ path_or_not x y path rest e none = no_path path rest none (sym (same_rest x y (p
 
 module _ (versions : VersionTextsHaveOneOutcome) (kind : PackageKind) {text : List ℕ} where
   -- two names with versions after the scheme of one text are the same
-  after_one : (a b : List ℕ) (o p : Result (PackageNv × List ℕ) Refusal) → text ≡ scheme_of kind ++ a → text ≡ scheme_of kind ++ b
+  after_one : (a b : List ℕ) (o p : Result (PackageNv × List ℕ) Rejection) → text ≡ scheme_of kind ++ a → text ≡ scheme_of kind ++ b
       → IsNvFront (without_slash a) o → IsNvFront (without_slash b) p → o ≡ p
   after_one a b o p e e' h k = front_one versions o p h (at kind a b e e' k)
 
-  pub nv_reference_one : (o p : Result PackageNvReference Refusal) → IsNvReferenceOutcome kind text o → IsNvReferenceOutcome kind text p → o ≡ p
+  pub nv_reference_one : (o p : Result PackageNvReference Rejection) → IsNvReferenceOutcome kind text o → IsNvReferenceOutcome kind text p → o ≡ p
   nv_reference_one _ _ (other_scheme none) (other_scheme _) = refl
   nv_reference_one _ _ (other_scheme none) (is_reference body e h) = absurd (none body e)
   nv_reference_one _ _ (other_scheme none) (bad_front body e h) = absurd (none body e)
@@ -149,13 +149,13 @@ ends : (path : Option (List ℕ)) → Stops is_version_byte (path_text path)
 ends None = tt
 ends (Some path) = refl
 
-written : (kind : PackageKind) (nv : PackageNv) (path : Option (List ℕ)) → IsNvName nv.name → IsPlainVersion nv.version → ReadsBack nv.version → NvReferenceReadsBack kind (reference_of nv path)
+written : (kind : PackageKind) (nv : PackageNv) (path : Option (List ℕ)) → IsNvName nv.name → IsBareVersion nv.version → ReadsBack nv.version → NvReferenceReadsBack kind (reference_of nv path)
 written kind nv path name_is plain back free =
     let text = append_assoc nv.name (64 ∷ version_text nv.version) (path_text path) in
     let same = ap without_slash text ∙ keeps_slash nv.name (64 ∷ (version_text nv.version ++ path_text path)) name_is free in
     let front : IsNvFront (nv.name ++ (64 ∷ (version_text nv.version ++ path_text path))) (Ok (nv, path_text path)) = is_front (writes_text nv.version name_is plain (ends path)) back in
     is_reference (nv_text nv ++ path_text path) refl (subst (λ (t : List ℕ). IsNvFront t (Ok (nv, path_text path))) (sym same) front)
 
-pub reads_back : {text rest : List ℕ} {nv : PackageNv} (kind : PackageKind) (r : PackageNvReference) → IsNvFront text (Ok (nv, rest)) → IsPlainVersion nv.version → ReadsBack nv.version → r.nv ≡ nv → NvReferenceReadsBack kind r
+pub reads_back : {text rest : List ℕ} {nv : PackageNv} (kind : PackageKind) (r : PackageNvReference) → IsNvFront text (Ok (nv, rest)) → IsBareVersion nv.version → ReadsBack nv.version → r.nv ≡ nv → NvReferenceReadsBack kind r
 reads_back {nv = nv} kind r h plain back same =
     subst (λ (x : PackageNv). NvReferenceReadsBack kind (reference_of x r.sub_path)) (sym same) (written kind nv r.sub_path (front_name h) plain back)

@@ -5,15 +5,15 @@ use Rattle.semver_req.specs.declared.common.values.Flavour.TheVariants.{Specifie
 use Rattle.deno_semver.specs.Kind.{scheme_of}
 use Rattle.deno_semver.specs.PackageOutcome.{Fault, IsFirstFault, bad_name, bad_version, has_path, no_name}
 use Rattle.deno_semver.specs.PackageText.{PackageParts, scoped_name}
-use Rattle.deno_semver.specs.ReferenceOutcome.{BadText, HasVersionInPath, IsOfReference, IsReadReference, IsReferenceAnswer, IsReferenceOutcome, IsReferenceRefusal, ReferenceFault, VersionInPath, bad_text, is_reference, other_scheme, version_in_path}
-use Rattle.deno_semver.specs.ReferenceReading.{IsFrontError, IsToldInvalid, IsToldVersion}
+use Rattle.deno_semver.specs.ReferenceOutcome.{BadText, HasVersionInPath, IsOfReference, IsReadReference, IsReferenceAnswer, IsReferenceOutcome, IsReferenceRejection, ReferenceFault, VersionInPath, bad_text, is_reference, other_scheme, version_in_path}
+use Rattle.deno_semver.specs.ReferenceReading.{IsFrontError, IsReportedInvalid, IsReportedVersion}
 use Rattle.deno_semver.specs.ReferenceText.{reference_text, sub_path_of, text_with_version}
 use Rattle.deno_semver.specs.declared.package.errors.PackageReqPartsParseError.{PackageReqPartsParseError}
 use Rattle.deno_semver.specs.declared.package.kind.PackageKind.{PackageKind}
 use Rattle.deno_semver.specs.declared.package.reference.PackageReqReference.{PackageReqReference}
 use Rattle.deno_semver.specs.declared.package.reference_errors.PackageReqReferenceParseError.{PackageReqReferenceParseError}
 use Rattle.deno_semver.specs.declared.package.values.PackageReq.{PackageReq}
-use Rattle.deno_semver.proofs.PackageFaults.{fault_one, read_or_refused, same_pair, version_at, version_one}
+use Rattle.deno_semver.proofs.PackageFaults.{fault_one, read_or_rejected, same_pair, version_at, version_one}
 use Rattle.deno_semver.proofs.PackageText.{last_one, no_alone, no_part, package_one}
 
 -- ---- one parse
@@ -40,8 +40,8 @@ module _ (texts : TextsHaveOneOutcome) {body : List ℕ} where
   no_fault : {r : PackageReqReference} (fault : Fault) → IsReadReference body r → IsFirstFault Specifier body fault → IsOfReference fault → ⊥
   no_fault _ h (no_name s) of = no_part h.cut h.is_cut s
   no_fault _ h (bad_name s) of = no_alone h.cut h.is_cut s
-  no_fault {r} _ h (bad_version {cut} {version = v} k is refused) of =
-      read_or_refused texts Specifier cut.version v r.req.version_req is (version_at Specifier r.req.version_req (package_one h.cut cut h.is_cut k) h.version_req) refused
+  no_fault {r} _ h (bad_version {cut} {version = v} k is rejected) of =
+      read_or_rejected texts Specifier cut.version v r.req.version_req is (version_at Specifier r.req.version_req (package_one h.cut cut h.is_cut k) h.version_req) rejected
   no_fault _ h (has_path req k vr p) of = absurd of
 
 version_of_one : (r : PackageReqReference) {b v c w : List ℕ} → HasVersionInPath r b v → HasVersionInPath r c w → (b ≡ c) × (v ≡ w)
@@ -97,19 +97,19 @@ module _ (texts : TextsHaveOneOutcome) {kind : PackageKind} {text : List ℕ} wh
   pub read_answer : (r : PackageReqReference) → IsReferenceOutcome kind text (Ok r) → (o : Result PackageReqReference ReferenceFault) → IsReferenceOutcome kind text o → IsReferenceAnswer kind text o (Ok r)
   read_answer r h o k = subst (λ (x : Result PackageReqReference ReferenceFault). IsReferenceAnswer kind text x (Ok r)) (outcome_one (Ok r) o h k) refl
 
-  pub refused_answer : {e : PackageReqReferenceParseError} → IsReferenceRefusal kind text e → (o : Result PackageReqReference ReferenceFault) → IsReferenceOutcome kind text o → IsReferenceAnswer kind text o (Err e)
-  refused_answer (inl memory) (Ok r) k = memory
-  refused_answer (inl memory) (Err fault) k = inl memory
-  refused_answer {e} (inr h) o k = subst (λ (x : Result PackageReqReference ReferenceFault). IsReferenceAnswer kind text x (Err e)) (outcome_one (Err h.0) o h.1 k) (inr h.2)
+  pub rejected_answer : {e : PackageReqReferenceParseError} → IsReferenceRejection kind text e → (o : Result PackageReqReference ReferenceFault) → IsReferenceOutcome kind text o → IsReferenceAnswer kind text o (Err e)
+  rejected_answer (inl memory) (Ok r) k = memory
+  rejected_answer (inl memory) (Err fault) k = inl memory
+  rejected_answer {e} (inr h) o k = subst (λ (x : Result PackageReqReference ReferenceFault). IsReferenceAnswer kind text x (Err e)) (outcome_one (Err h.0) o h.1 k) (inr h.2)
 
 module _ {kind : PackageKind} {text : List ℕ} where
-  pub refused_text : {body : List ℕ} {source : PackageReqPartsParseError} {e : PackageReqReferenceParseError} → text ≡ scheme_of kind ++ body → IsFrontError Specifier body source → IsToldInvalid text source e
-      → IsReferenceRefusal kind text e
-  refused_text is fault (inl memory) = inl memory
-  refused_text is (inl memory) (inr h) = absurd (h.0 memory)
-  refused_text {source = source} is (inr fault) (inr h) = inr (BadText fault.0, bad_text is fault.1 fault.2, (source, fault.3, h.1))
+  pub rejected_text : {body : List ℕ} {source : PackageReqPartsParseError} {e : PackageReqReferenceParseError} → text ≡ scheme_of kind ++ body → IsFrontError Specifier body source → IsReportedInvalid text source e
+      → IsReferenceRejection kind text e
+  rejected_text is fault (inl memory) = inl memory
+  rejected_text is (inl memory) (inr h) = absurd (h.0 memory)
+  rejected_text {source = source} is (inr fault) (inr h) = inr (BadText fault.0, bad_text is fault.1 fault.2, (source, fault.3, h.1))
 
-  pub refused_version : {body before version : List ℕ} {r : PackageReqReference} {e : PackageReqReferenceParseError} → text ≡ scheme_of kind ++ body → IsReadReference body r → HasVersionInPath r before version
-      → IsToldVersion kind r before version e → IsReferenceRefusal kind text e
-  refused_version is h has (inl memory) = inl memory
-  refused_version {before = b} {version = v} {r = r} is h has (inr told) = inr (moved r b v, version_in_path is h has, told)
+  pub rejected_version : {body before version : List ℕ} {r : PackageReqReference} {e : PackageReqReferenceParseError} → text ≡ scheme_of kind ++ body → IsReadReference body r → HasVersionInPath r before version
+      → IsReportedVersion kind r before version e → IsReferenceRejection kind text e
+  rejected_version is h has (inl memory) = inl memory
+  rejected_version {before = b} {version = v} {r = r} is h has (inr reported) = inr (moved r b v, version_in_path is h has, reported)

@@ -15,7 +15,7 @@ use Rattle.deno_semver.specs.Cuts.{is_not}
 use Rattle.deno_semver.specs.Kind.{scheme_of}
 use Rattle.deno_semver.specs.PackageOutcome.{IsVersionReq}
 use Rattle.deno_semver.specs.PackageText.{IsAfterScope, IsNamePart, IsPackageText, IsPathPart, IsScope, PackageParts, scoped_name, starts_with_at, without_slash}
-use Rattle.deno_semver.specs.ReferenceOutcome.{HasNoVersionInPath, IsPlainName, IsReadReference, IsReferenceOutcome, ReferenceReadsBack, is_reference}
+use Rattle.deno_semver.specs.ReferenceOutcome.{HasNoVersionInPath, IsBareName, IsReadReference, IsReferenceOutcome, ReferenceReadsBack, is_reference}
 use Rattle.deno_semver.specs.ReferenceText.{path_text, reference_text, sub_path_of}
 use Rattle.deno_semver.specs.declared.package.kind.PackageKind.{PackageKind}
 use Rattle.deno_semver.specs.declared.package.reference.PackageReqReference.{PackageReqReference}
@@ -111,8 +111,8 @@ all_back p xs ys h = (and_parts (list_all p xs) (list_all p ys) (sym (list_all-a
 -- a last part that is a name alone, or is followed by a version
 not_empty : (last name : List ℕ) (version : Option (List ℕ)) → IsNamePart last name version → starts_with_at last ≡ false → 0 < length last → (0 < length name) × (starts_with_at name ≡ false)
 not_empty last name None h at some = (rw (ap length (sym h.0)) some, rw (sym h.0) at)
-not_empty last [] (Some v) h at some = let told : starts_with_at (64 ∷ v) ≡ false = rw h.0 at at in cc told
-not_empty last (b ∷ name) (Some v) h at some = let told : starts_with_at ((b ∷ name) ++ (64 ∷ v)) ≡ false = rw h.0 at at in (omega arith, told)
+not_empty last [] (Some v) h at some = let reported : starts_with_at (64 ∷ v) ≡ false = rw h.0 at at in cc reported
+not_empty last (b ∷ name) (Some v) h at some = let reported : starts_with_at ((b ∷ name) ++ (64 ∷ v)) ≡ false = rw h.0 at at in (omega arith, reported)
 
 no_slashes : (last name : List ℕ) (version : Option (List ℕ)) → IsNamePart last name version → list_all (is_not 47) last ≡ true → list_all (is_not 47) name ≡ true
 no_slashes last name None h free = rw (sym h.0) free
@@ -127,7 +127,7 @@ record IsAlone (scope : Option (List ℕ)) (name : List ℕ) : Type 0 where
 not_at : (b : ℕ) → (b == 64) ≡ false → is_not 64 b ≡ true
 not_at b h = grind (arith, nat_tests)
 
-alone : (scope : Option (List ℕ)) (last name : List ℕ) (version : Option (List ℕ)) → IsFront scope last → 0 < length last → IsNamePart last name version → IsPlainName (scoped_name scope name) → IsAlone scope name
+alone : (scope : Option (List ℕ)) (last name : List ℕ) (version : Option (List ℕ)) → IsFront scope last → 0 < length last → IsNamePart last name version → IsBareName (scoped_name scope name) → IsAlone scope name
 alone None last [] version front some named plain = let h = not_empty last [] version named front some in absurd (omega (arith, h.0))
 alone None last (b ∷ name) version front some named plain =
     let h = not_empty last (b ∷ name) version named front some in
@@ -144,10 +144,10 @@ module _ (texts : TextsHaveOneOutcome) (any : StarIsAnyVersion) (kind : PackageK
   abbrev tail : List ℕ
   tail = path_text r.sub_path
 
-  any_back : (pointwise nat_eq r.req.version_req.raw_text (codes "*")) ≡ true → IsPlainName r.req.name → IsReferenceOutcome kind (scheme_of kind ++ reference_text r) (Ok r)
+  any_back : (pointwise nat_eq r.req.version_req.raw_text (codes "*")) ≡ true → IsBareName r.req.name → IsReferenceOutcome kind (scheme_of kind ++ reference_text r) (Ok r)
   any_back star plain =
       let is_star = (bytes_eq-Decides r.req.version_req.raw_text (codes "*")).0 star in
-      let whole = alone h.cut.scope h.is_cut.last h.cut.name h.cut.version (front_of h.cut h.is_cut) h.is_cut.last_some h.is_cut.named (subst (λ (n : List ℕ). IsPlainName n) h.name plain) in
+      let whole = alone h.cut.scope h.is_cut.last h.cut.name h.cut.version (front_of h.cut h.is_cut) h.is_cut.last_some h.is_cut.named (subst (λ (n : List ℕ). IsBareName n) h.name plain) in
       let written : reference_text r ≡ scoped_name h.cut.scope h.cut.name ++ tail = rw star (ap (λ t. t ++ tail) (append-nil r.req.name ∙ h.name)) in
       is_reference refl (record {
         cut = record { scope = h.cut.scope; name = h.cut.name; version = None; path = written_path r.sub_path };
@@ -159,7 +159,7 @@ module _ (texts : TextsHaveOneOutcome) (any : StarIsAnyVersion) (kind : PackageK
 
   last_is : (v : Option (List ℕ)) → h.cut.version ≡ v → IsVersionReq Specifier v r.req.version_req → IsNamePart h.is_cut.last h.cut.name v → (pointwise nat_eq r.req.version_req.raw_text (codes "*")) ≡ false
       → scoped_name h.cut.scope h.cut.name ++ (64 ∷ r.req.version_req.raw_text) ≡ scoped_name h.cut.scope h.is_cut.last
-  last_is None is req named other = let told : pointwise nat_eq (codes "*") (codes "*") ≡ false = rw (ap (λ (x : Requirement). x.raw_text) req) at other in cc told
+  last_is None is req named other = let reported : pointwise nat_eq (codes "*") (codes "*") ≡ false = rw (ap (λ (x : Requirement). x.raw_text) req) at other in cc reported
   last_is (Some v) is req named other =
       rw (req.raw_text, named.0) (scoped_with h.cut.scope h.cut.name (64 ∷ v))
 

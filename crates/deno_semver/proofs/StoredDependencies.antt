@@ -8,7 +8,7 @@ use Rattle.deno_semver.specs.DependencyOutcome.{IsDependencyOutcome, is_dependen
 use Rattle.deno_semver.specs.Json.{IsStringOf, IsTextOfDependency, IsTextOfReq}
 use Rattle.deno_semver.specs.Kind.{scheme_of}
 use Rattle.deno_semver.specs.RequirementText.{normal_req_text}
-use Rattle.deno_semver.specs.Stored.{IsSettledDependency, IsSettledReq, IsStoredDependency, IsStoredReq, StoredRequirementsAreReadAgain}
+use Rattle.deno_semver.specs.Stored.{IsStableDependency, IsStableReq, IsStoredDependency, IsStoredReq, StoredRequirementsAreReadAgain}
 use Rattle.deno_semver.specs.declared.jsr.dependency.JsrDepPackageReq.{JsrDepPackageReq}
 use Rattle.deno_semver.specs.declared.package.kind.PackageKind.{PackageKind}
 use Rattle.deno_semver.specs.declared.package.kind.PackageKind.TheVariants as registry
@@ -29,21 +29,21 @@ string_of kind text again h = record {
   reads = is_dependency kind text refl (subst (λ t. IsTextOfReq t again) (sym (text_same text h.text h.is_string)) h.reads);
 }
 
-settled : (kind : PackageKind) (req : PackageReq) → IsSettledReq req → IsSettledDependency (of_kind kind req)
-settled kind req h = record {
+stable : (kind : PackageKind) (req : PackageReq) → IsStableReq req → IsStableDependency (of_kind kind req)
+stable kind req h = record {
   again = of_kind kind h.again;
-  stands_for = string_of kind (normal_req_text req) h.again h.stands_for;
+  parses_to = string_of kind (normal_req_text req) h.again h.parses_to;
   equal = (refl, h.equal);
 }
 
 stored : (kind : PackageKind) (req : PackageReq) → IsStoredReq req (string (normal_req_text req)) → IsStoredDependency (of_kind kind req) (string (normal_dependency_text (of_kind kind req)))
 stored kind req h = record {
   again = of_kind kind h.again;
-  stands_for = string_of kind (normal_req_text req) h.again h.stands_for;
+  parses_to = string_of kind (normal_req_text req) h.again h.parses_to;
   kind = refl;
-  name = h.is_kept.name;
-  kept = h.is_kept.kept;
-  settled = settled kind h.again h.is_kept.settled;
+  name = h.is_retained.name;
+  stored = h.is_retained.stored;
+  stable = stable kind h.again h.is_retained.stable;
 }
 
 scheme_utf8 : (kind : PackageKind) (body : List ℕ) → IsUtf8 (scheme_of kind ++ body) → IsUtf8 body

@@ -10,8 +10,8 @@ use Rattle.deno_semver.specs.Json.{AreItemsOf, IsStringOf, IsTextOfReq}
 use Rattle.deno_semver.specs.ReqOrder.{req_cmp}
 use Rattle.deno_semver.specs.ReqOrderLaws.{req_same, req_total, same_req}
 use Rattle.deno_semver.specs.RequirementText.{normal_req_text}
-use Rattle.deno_semver.specs.Stored.{IsKeptReq, IsSettledReq, StoredRequirementsAreReadAgain}
-use Rattle.deno_semver.specs.StoredList.{AreEqualLists, IsNpmReq, IsSortedFrom, IsStoredList, OneByOne, StandsForEqualList, reqs_json}
+use Rattle.deno_semver.specs.Stored.{IsSameWhenStored, IsStableReq, StoredRequirementsAreReadAgain}
+use Rattle.deno_semver.specs.StoredList.{AreEqualLists, IsNpmReq, IsSortedFrom, IsStoredList, OneByOne, ParsesToEqualList, reqs_json}
 use Rattle.deno_semver.specs.declared.json.error.JsonError.{JsonError}
 use Rattle.deno_semver.specs.declared.json.error.JsonError.TheVariants as error
 use Rattle.deno_semver.specs.declared.package.values.PackageReq.{PackageReq}
@@ -42,16 +42,16 @@ each_read R Is one (req ∷ reqs) h =
     let others = each_read R Is one reqs (All-tail Is req reqs h) in
     record { again = first.again ∷ others.again; read = (first.read, others.read); related = (first.related, others.related) }
 
-npm_read : StoredRequirementsAreReadAgain → (req : PackageReq) → IsNpmReq req → IsReadAs IsKeptReq req
-npm_read stored req h = let s = stored req h.text h.is_text h.is_read in record { again = s.again; read = s.stands_for; related = s.is_kept }
+npm_read : StoredRequirementsAreReadAgain → (req : PackageReq) → IsNpmReq req → IsReadAs IsSameWhenStored req
+npm_read stored req h = let s = stored req h.text h.is_text h.is_read in record { again = s.again; read = s.parses_to; related = s.is_retained }
 
 pub npm_reqs : StoredRequirementsAreReadAgain → (reqs : List PackageReq) → All IsNpmReq reqs → IsStoredList reqs (reqs_json reqs)
 npm_reqs stored reqs h =
-    let r = each_read IsKeptReq IsNpmReq (npm_read stored) reqs h in
-    record { again = r.again; stands_for = record { items = items_of (map (λ req. string (normal_req_text req)) reqs); is_array = refl; are_read = r.read }; are_kept = r.related }
+    let r = each_read IsSameWhenStored IsNpmReq (npm_read stored) reqs h in
+    record { again = r.again; parses_to = record { items = items_of (map (λ req. string (normal_req_text req)) reqs); is_array = refl; are_read = r.read }; are_stored = r.related }
 
-settled_read : (req : PackageReq) → IsSettledReq req → IsReadAs (λ x y. AreEqualReqs y x) req
-settled_read req h = record { again = h.again; read = h.stands_for; related = h.equal }
+stable_read : (req : PackageReq) → IsStableReq req → IsReadAs (λ x y. AreEqualReqs y x) req
+stable_read req h = record { again = h.again; read = h.parses_to; related = h.equal }
 
 turned : (xs ys : List PackageReq) → OneByOne (λ x y. AreEqualReqs y x) xs ys → AreEqualLists ys xs
 turned [] [] h = tt
@@ -59,10 +59,10 @@ turned [] (y ∷ ys) h = absurd h
 turned (x ∷ xs) [] h = absurd h
 turned (x ∷ xs) (y ∷ ys) h = (h.0, turned xs ys h.1)
 
-pub settled_list : (reqs : List PackageReq) → All IsSettledReq reqs → StandsForEqualList (reqs_json reqs) reqs
-settled_list reqs h =
-    let r = each_read (λ x y. AreEqualReqs y x) IsSettledReq settled_read reqs h in
-    record { again = r.again; stands_for = record { items = items_of (map (λ req. string (normal_req_text req)) reqs); is_array = refl; are_read = r.read }; are_equal = turned reqs r.again r.related }
+pub stable_list : (reqs : List PackageReq) → All IsStableReq reqs → ParsesToEqualList (reqs_json reqs) reqs
+stable_list reqs h =
+    let r = each_read (λ x y. AreEqualReqs y x) IsStableReq stable_read reqs h in
+    record { again = r.again; parses_to = record { items = items_of (map (λ req. string (normal_req_text req)) reqs); is_array = refl; are_read = r.read }; are_equal = turned reqs r.again r.related }
 
 -- ---- the order
 

@@ -27,7 +27,7 @@ name_passes last name None h k = rw h.0 at k
 name_passes last name (Some v) h k = front_passes (is_not 47) name (64 ∷ v) (rw h.0 at k)
 
 -- a name without a scope is non-empty, and doesn't begin with `@`
-pub record IsPlainName (name : List ℕ) : Type 0 where
+pub record IsBareName (name : List ℕ) : Type 0 where
   pub first : ℕ
   pub more : List ℕ
   pub name_is : name ≡ first ∷ more
@@ -37,7 +37,7 @@ pub record IsPlainName (name : List ℕ) : Type 0 where
 not_slash : (x : ℕ) → is_not 47 x ≡ true → (x == 47) ≡ false
 not_slash x h = grind (arith, nat_tests)
 
-plain : (body last tail name : List ℕ) (version : Option (List ℕ)) → starts_with_at body ≡ false → body ≡ last ++ tail → 0 < length last → list_all (is_not 47) last ≡ true → IsNamePart last name version → IsPlainName name
+plain : (body last tail name : List ℕ) (version : Option (List ℕ)) → starts_with_at body ≡ false → body ≡ last ++ tail → 0 < length last → list_all (is_not 47) last ≡ true → IsNamePart last name version → IsBareName name
 plain body last tail [] None other is some pass h = absurd (omega (arith, some, ap length h.0))
 plain body last tail [] (Some v) other is some pass h =
     let whole : body ≡ 64 ∷ (v ++ tail) = is ∙ ap (λ t. t ++ tail) h.0 in
@@ -52,8 +52,8 @@ plain body last tail (x ∷ more) (Some v) other is some pass h =
     let passes : list_all (is_not 47) (x ∷ (more ++ (64 ∷ v))) ≡ true = rw h.0 at pass in
     record { first = x; more = more; name_is = refl; no_at = sym (ap starts_with_at whole) ∙ other; no_slash = not_slash x (and_parts (is_not 47 x) _ passes).0 }
 
-kept_slash : (x : ℕ) (rest : List ℕ) → (x == 47) ≡ false → without_slash (x ∷ rest) ≡ x ∷ rest
-kept_slash x rest h = rw h refl
+stored_slash : (x : ℕ) (rest : List ℕ) → (x == 47) ≡ false → without_slash (x ∷ rest) ≡ x ∷ rest
+stored_slash x rest h = rw h refl
 
 some_last : (name version : List ℕ) → 0 < length (name ++ (64 ∷ version))
 some_last name version = omega (arith, length-append name (64 ∷ version))
@@ -76,10 +76,10 @@ module _ (version : List ℕ) (no_at : list_all (is_not 64) version ≡ true) (n
     path = refl;
   }
 
-  plain_cut : (name : List ℕ) → IsPlainName name → list_all (is_not 47) name ≡ true → IsPackageText (name ++ (64 ∷ version)) (parts_with None name version)
-  plain_cut name h passes =
+  bare_cut : (name : List ℕ) → IsBareName name → list_all (is_not 47) name ≡ true → IsPackageText (name ++ (64 ∷ version)) (parts_with None name version)
+  bare_cut name h passes =
       let whole : name ++ (64 ∷ version) ≡ h.first ∷ (h.more ++ (64 ∷ version)) = ap (λ t. t ++ (64 ∷ version)) h.name_is in
-      let same : without_slash (name ++ (64 ∷ version)) ≡ name ++ (64 ∷ version) = ap without_slash whole ∙ (kept_slash h.first _ h.no_slash ∙ sym whole) in
+      let same : without_slash (name ++ (64 ∷ version)) ≡ name ++ (64 ∷ version) = ap without_slash whole ∙ (stored_slash h.first _ h.no_slash ∙ sym whole) in
       let no : starts_with_at (without_slash (name ++ (64 ∷ version))) ≡ false = ap starts_with_at (same ∙ whole) ∙ h.no_at in
       cut_of (name ++ (64 ∷ version)) None name (no, same) passes
 
@@ -87,7 +87,7 @@ module _ (version : List ℕ) (no_at : list_all (is_not 64) version ≡ true) (n
   scoped_cut [] name h passes = cc h.at
   scoped_cut (x ∷ more) name h passes =
       let whole : ((x ∷ more) ++ (47 ∷ name)) ++ (64 ∷ version) ≡ (x ∷ more) ++ (47 ∷ (name ++ (64 ∷ version))) = append_assoc (x ∷ more) (47 ∷ name) (64 ∷ version) in
-      let same = kept_slash x ((more ++ (47 ∷ name)) ++ (64 ∷ version)) (at_no_slash x h.at) in
+      let same = stored_slash x ((more ++ (47 ∷ name)) ++ (64 ∷ version)) (at_no_slash x h.at) in
       cut_of (((x ∷ more) ++ (47 ∷ name)) ++ (64 ∷ version)) (Some (x ∷ more)) name (h, same ∙ whole) passes
     where
       at_no_slash : (y : ℕ) → (y == 64) ≡ true → (y == 47) ≡ false
@@ -111,7 +111,7 @@ module _ (version : List ℕ) (no_at : list_all (is_not 64) version ≡ true) (n
       go None after is = record {
         cut = parts_with None h.cut.name version;
         is_cut = subst (λ t. IsPackageText (t ++ (64 ∷ version)) (parts_with None h.cut.name version)) (sym is)
-            (plain_cut h.cut.name (plain (without_slash h.text) h.is_cut.last h.is_cut.tail h.cut.name h.cut.version after.0 (after.1 ∙ h.is_cut.rest_is) h.is_cut.last_some h.is_cut.last_is h.is_cut.named) passes);
+            (bare_cut h.cut.name (plain (without_slash h.text) h.is_cut.last h.is_cut.tail h.cut.name h.cut.version after.0 (after.1 ∙ h.is_cut.rest_is) h.is_cut.last_some h.is_cut.last_is h.is_cut.named) passes);
         is_name = is;
         version_is = refl;
         no_path = refl;

@@ -12,12 +12,12 @@ use Rattle.semver_base.specs.Meaning.{everything}
 use Rattle.semver_base.specs.NormalText.{set_text}
 use Rattle.semver_base.specs.Shortest.{shortest_tree}
 use Rattle.semver_base.specs.declared.range.VersionRange.{VersionRange}
-use Rattle.semver_req.specs.KeptSet.{IsReadSet, kept}
-use Rattle.semver_req.specs.Outcome.{IsOutcome, Outcome, Ranges, Refused, Tag}
+use Rattle.semver_req.specs.RetainedSet.{IsReadSet, retained}
+use Rattle.semver_req.specs.Outcome.{IsOutcome, Outcome, Ranges, Rejected, Tag}
 use Rattle.semver_req.specs.Pieces.{normal}
-use Rattle.semver_req.specs.Readers.{IsRead, IsReadFrom, IsReading, IsReadOrTag, ReadRequirementsAreAnswers}
+use Rattle.semver_req.specs.Parsers.{IsRead, IsReadFrom, IsReading, IsReadOrTag, ReadRequirementsAreAnswers}
 use Rattle.semver_req.specs.Requirement.{Requirement, inner_text, ranges_of, wildcard}
-use Rattle.semver_req.specs.Rereading.{HoldsNoSeparator, NormalTextsHoldNoSeparator, NormalTextsKeepTheirMeaning, OneRereadingSettles, StarIsAnyVersion, TagsHoldNoSeparator, TagsReadBack}
+use Rattle.semver_req.specs.Rereading.{HoldsNoSeparator, NormalTextsHoldNoSeparator, NormalTextsKeepTheirMeaning, OneRereadingStabilizes, StarIsAnyVersion, TagsHoldNoSeparator, TagsReadBack}
 use Rattle.semver_req.specs.declared.common.values.Flavour.TheVariants.{Npm, Normal}
 use Rattle.semver_req.specs.declared.range_set_or_tag.RangeSetOrTag.{RangeSetOrTag}
 use Rattle.semver_req.specs.declared.range_set_or_tag.RangeSetOrTag.TheVariants as inner
@@ -26,7 +26,7 @@ use Rattle.deno_semver.specs.Json.{IsTextOfReq}
 use Rattle.deno_semver.specs.PackageOutcome.{IsReadReq, IsVersionReq, is_package}
 use Rattle.deno_semver.specs.PackageText.{IsAfterScope, IsNamePart, IsPackageText, IsPathPart, PackageParts, without_slash}
 use Rattle.deno_semver.specs.RequirementText.{normal_req_text}
-use Rattle.deno_semver.specs.Stored.{IsReadFor, IsSettledReq, IsStoredReq, StoredRequirementsAreReadAgain}
+use Rattle.deno_semver.specs.Stored.{IsReadFor, IsStableReq, IsStoredReq, StoredRequirementsAreReadAgain}
 use Rattle.deno_semver.specs.declared.package.values.PackageReq.{PackageReq}
 use Rattle.deno_semver.proofs.StoredNames.{IsReadName, cut_again}
 
@@ -92,7 +92,7 @@ abbrev as_inner : List VersionRange → RangeSetOrTag
 as_inner ranges = inner.RangeSet (record { 0 = ranges })
 
 abbrev again_of : RangeSetOrTag → RangeSetOrTag
-again_of (inner.RangeSet set) = as_inner (kept Normal (shortest_tree set.0))
+again_of (inner.RangeSet set) = as_inner (retained Normal (shortest_tree set.0))
 again_of (inner.Tag t) = inner.Tag t
 
 abbrev req_of : List ℕ → RangeSetOrTag → Requirement
@@ -110,14 +110,14 @@ one_tree t u e = cc e
 one_set : (a b : List VersionRange) → as_inner a ≡ as_inner b → a ≡ b
 one_set a b e = ap (λ answer. (ranges_of answer).0) e
 
-module _ (rereads : NormalTextsKeepTheirMeaning) (settles : OneRereadingSettles) (tags : TagsReadBack) (answers : ReadRequirementsAreAnswers) (plain_sets : NormalTextsHoldNoSeparator) (plain_tags : TagsHoldNoSeparator)
+module _ (rereads : NormalTextsKeepTheirMeaning) (stabilizes : OneRereadingStabilizes) (tags : TagsReadBack) (answers : ReadRequirementsAreAnswers) (bare_sets : NormalTextsHoldNoSeparator) (bare_tags : TagsHoldNoSeparator)
     (star : StarIsAnyVersion) where
   no_at : (answer : RangeSetOrTag) → CanBeStored answer → list_all (is_not 64) (inner_text answer) ≡ true
-  no_at (inner.RangeSet set) h = (plain_sets set.0 h).no_at
+  no_at (inner.RangeSet set) h = (bare_sets set.0 h).no_at
   no_at (inner.Tag t) h = h.plain.no_at
 
   no_slash : (answer : RangeSetOrTag) → CanBeStored answer → list_all (is_not 47) (inner_text answer) ≡ true
-  no_slash (inner.RangeSet set) h = (plain_sets set.0 h).no_slash
+  no_slash (inner.RangeSet set) h = (bare_sets set.0 h).no_slash
   no_slash (inner.Tag t) h = h.plain.no_slash
 
   -- ---- what the canonical form parses to
@@ -127,26 +127,26 @@ module _ (rereads : NormalTextsKeepTheirMeaning) (settles : OneRereadingSettles)
   reading (inner.Tag t) h = record { outcome = Tag t; is_outcome = h.back; is_read = refl }
 
   can_again : (answer : RangeSetOrTag) → CanBeStored answer → CanBeStored (again_of answer)
-  can_again (inner.RangeSet set) h = record { flavour = Normal; text = set_text set.0; tree = shortest_tree set.0; is_outcome = ((rereads set.0 h).forms Normal normal).0; is_kept = refl }
+  can_again (inner.RangeSet set) h = record { flavour = Normal; text = set_text set.0; tree = shortest_tree set.0; is_outcome = ((rereads set.0 h).forms Normal normal).0; is_retained = refl }
   can_again (inner.Tag t) h = h
 
-  kept_again : (answer : RangeSetOrTag) → CanBeStored answer → IsReadFor answer (again_of answer)
-  kept_again (inner.RangeSet set) h =
+  stored_again : (answer : RangeSetOrTag) → CanBeStored answer → IsReadFor answer (again_of answer)
+  stored_again (inner.RangeSet set) h =
       let r = rereads set.0 h in
       let tree = (r.forms Normal normal).0 in
-      record { means = λ k. r.kept_means k Normal normal (shortest_tree set.0) tree; equal = λ o k. r.equal o k Normal normal (shortest_tree set.0) tree }
-  kept_again (inner.Tag t) h = refl
+      record { means = λ k. r.retained_means k Normal normal (shortest_tree set.0) tree; equal = λ o k. r.equal o k Normal normal (shortest_tree set.0) tree }
+  stored_again (inner.Tag t) h = refl
 
   -- what is parsed from the canonical form parses to itself
-  settled_again : (answer : RangeSetOrTag) → CanBeStored answer → again_of (again_of answer) ≡ again_of answer
-  settled_again (inner.RangeSet set) h =
+  stable_again : (answer : RangeSetOrTag) → CanBeStored answer → again_of (again_of answer) ≡ again_of answer
+  stable_again (inner.RangeSet set) h =
       let tree = ((rereads set.0 h).forms Normal normal).0 in
-      let once = kept Normal (shortest_tree set.0) in
+      let once = retained Normal (shortest_tree set.0) in
       let next = can_again (inner.RangeSet set) h in
-      let s = settles set.0 h Normal normal (shortest_tree set.0) tree Normal normal in
+      let s = stabilizes set.0 h Normal normal (shortest_tree set.0) tree Normal normal in
       let same : s.tree ≡ shortest_tree once = one_tree s.tree (shortest_tree once) (((rereads once next).forms Normal normal).1 (Ranges s.tree) s.is_tree) in
-      ap as_inner (sym (ap (kept Normal) same) ∙ s.is_kept)
-  settled_again (inner.Tag t) h = refl
+      ap as_inner (sym (ap (retained Normal) same) ∙ s.is_retained)
+  stable_again (inner.Tag t) h = refl
 
   -- ---- the requirement of a package
 
@@ -158,18 +158,18 @@ module _ (rereads : NormalTextsKeepTheirMeaning) (settles : OneRereadingSettles)
       (record { reading = reading answer h; raw_text = refl }) in
       is_package (record { cut = c.cut; is_cut = c.is_cut; name = c.is_name; version_req = version; no_path = c.no_path })
 
-  settled_req : (name : List ℕ) (answer : RangeSetOrTag) → IsReadName name → CanBeStored answer → IsSettledReq (package_of name answer)
-  settled_req name answer n h = record {
+  stable_req : (name : List ℕ) (answer : RangeSetOrTag) → IsReadName name → CanBeStored answer → IsStableReq (package_of name answer)
+  stable_req name answer n h = record {
     again = package_of name (again_of answer);
-    stands_for = record { text = stored_text name (again_of answer); is_string = refl; reads = reads_again name (again_of answer) n (can_again answer h) };
-    equal = (refl, settled_again answer h);
+    parses_to = record { text = stored_text name (again_of answer); is_string = refl; reads = reads_again name (again_of answer) n (can_again answer h) };
+    equal = (refl, stable_again answer h);
   }
 
   stored : (req : PackageReq) → IsReadName req.name → CanBeStored req.version_req.inner → IsStoredReq req (string (normal_req_text req))
   stored req n h = record {
     again = package_of req.name req.version_req.inner;
-    stands_for = record { text = normal_req_text req; is_string = refl; reads = reads_again req.name req.version_req.inner n h };
-    is_kept = record { name = refl; kept = kept_again req.version_req.inner h; settled = settled_req req.name req.version_req.inner n h };
+    parses_to = record { text = normal_req_text req; is_string = refl; reads = reads_again req.name req.version_req.inner n h };
+    is_retained = record { name = refl; stored = stored_again req.version_req.inner h; stable = stable_req req.name req.version_req.inner n h };
   }
 
   -- ---- what npm's grammar parsed can be stored
@@ -179,16 +179,16 @@ module _ (rereads : NormalTextsKeepTheirMeaning) (settles : OneRereadingSettles)
   any_read = let read = (star Normal).reading in go read.outcome read.is_outcome read.is_read
     where
       go : (o : Outcome) → IsOutcome Normal (codes "*") o → IsRead Normal o wildcard.inner → IsReadSet (everything ∷ [])
-      go (Ranges tree) h is = record { flavour = Normal; text = codes "*"; tree = tree; is_outcome = h; is_kept = one_set (everything ∷ []) (kept Normal tree) is }
+      go (Ranges tree) h is = record { flavour = Normal; text = codes "*"; tree = tree; is_outcome = h; is_retained = one_set (everything ∷ []) (retained Normal tree) is }
       go (Tag t) h is = cc is
-      go Refused h is = absurd is
+      go Rejected h is = absurd is
 
   tag_read : (version t : List ℕ) (o : Outcome) → IsUtf8 version → IsOutcome Npm version o → IsRead Npm o (inner.Tag t) → IsStoredTag t
   tag_read version t (Ranges tree) u h k = cc k
   tag_read version t (Tag s) u h k =
       let same : t ≡ s = cc k in
-      subst IsStoredTag (sym same) (record { back = tags Npm version s u tt h; plain = plain_tags Npm version s u tt h })
-  tag_read version t Refused u h k = absurd k
+      subst IsStoredTag (sym same) (record { back = tags Npm version s u tt h; plain = bare_tags Npm version s u tt h })
+  tag_read version t Rejected u h k = absurd k
 
   some_read : (version : List ℕ) (req : Requirement) → IsUtf8 version → IsReadFrom Npm version req → CanBeStored req.inner
   some_read version req u h = go req.inner h.reading (answers Npm version req u h).read_set

@@ -6,7 +6,7 @@ use Rattle.semver_base.specs.Characters.{colon}
 use Rattle.semver_req.specs.declared.common.values.Flavour.{Flavour}
 use Rattle.deno_semver.specs.Cuts.{is_not}
 use Rattle.deno_semver.specs.Kind.{scheme_of}
-use Rattle.deno_semver.specs.PackageOutcome.{Fault, IsPackageOutcome, TellsFault}
+use Rattle.deno_semver.specs.PackageOutcome.{Fault, IsPackageOutcome, ReportsFault}
 use Rattle.deno_semver.specs.ReferenceText.{LacksScheme}
 use Rattle.deno_semver.specs.declared.jsr.dependency.JsrDepPackageReq.{JsrDepPackageReq}
 use Rattle.deno_semver.specs.declared.jsr.dependency.JsrDepPackageReqParseError.{JsrDepPackageReqParseError}
@@ -33,20 +33,20 @@ pub data IsDependencyOutcome (f : Flavour) (text : List ℕ) : Result JsrDepPack
       → IsDependencyOutcome f text (Err (BadRequirement body fault))
 
 -- the text before the first `:`, or the whole text
-abbrev pub told_scheme : List ℕ → List ℕ
-told_scheme text = take_while (is_not colon) text
+abbrev pub reported_scheme : List ℕ → List ℕ
+reported_scheme text = take_while (is_not colon) text
 
 -- the error reports the fault
-abbrev pub TellsDependency : Flavour → List ℕ → DependencyFault → JsrDepPackageReqParseError → Type 0
-TellsDependency f text OtherScheme (error.NotExpectedScheme scheme) = string_bytes scheme ≡ told_scheme text
-TellsDependency f text (BadRequirement body fault) (error.PackageReqParse inner) = TellsFault f fault body inner
-TellsDependency f text fault e = ⊥
+abbrev pub ReportsDependency : Flavour → List ℕ → DependencyFault → JsrDepPackageReqParseError → Type 0
+ReportsDependency f text OtherScheme (error.NotExpectedScheme scheme) = string_bytes scheme ≡ reported_scheme text
+ReportsDependency f text (BadRequirement body fault) (error.PackageReqParse inner) = ReportsFault f fault body inner
+ReportsDependency f text fault e = ⊥
 
 -- the error is out of memory, or reports the fault that is the text's outcome
-abbrev pub IsDependencyRefusal : Flavour → List ℕ → JsrDepPackageReqParseError → Type 0
-IsDependencyRefusal f text e =
+abbrev pub IsDependencyRejection : Flavour → List ℕ → JsrDepPackageReqParseError → Type 0
+IsDependencyRejection f text e =
     (e ≡ error.Memory)
-    ⊎ ((fault : DependencyFault) × IsDependencyOutcome f text (Err fault) × TellsDependency f text fault e)
+    ⊎ ((fault : DependencyFault) × IsDependencyOutcome f text (Err fault) × ReportsDependency f text fault e)
 
 -- the result for a text with this outcome, or out of memory
 abbrev pub IsDependencyAnswer : Flavour → List ℕ → Result JsrDepPackageReq DependencyFault
@@ -54,7 +54,7 @@ abbrev pub IsDependencyAnswer : Flavour → List ℕ → Result JsrDepPackageReq
 IsDependencyAnswer f text (Ok dependency) result =
     MatchResult result (λ answer. answer ≡ dependency) (λ e. e ≡ error.Memory)
 IsDependencyAnswer f text (Err fault) result =
-    IsErrAnd result (λ e. (e ≡ error.Memory) ⊎ TellsDependency f text fault e)
+    IsErrAnd result (λ e. (e ≡ error.Memory) ⊎ ReportsDependency f text fault e)
 
 -- ---- steps
 
@@ -77,7 +77,7 @@ IsAfterEither text r =
     MatchOption r ((kind : PackageKind) → LacksScheme kind text) (λ p. text ≡ scheme_of p.0 ++ p.1.now)
 
 -- the error shows the scheme, or is out of memory
-abbrev pub IsToldScheme : List ℕ → JsrDepPackageReqParseError → Type 0
-IsToldScheme text (error.NotExpectedScheme scheme) = string_bytes scheme ≡ told_scheme text
-IsToldScheme text (error.PackageReqParse inner) = ⊥
-IsToldScheme text error.Memory = Unit {0}
+abbrev pub IsReportedScheme : List ℕ → JsrDepPackageReqParseError → Type 0
+IsReportedScheme text (error.NotExpectedScheme scheme) = string_bytes scheme ≡ reported_scheme text
+IsReportedScheme text (error.PackageReqParse inner) = ⊥
+IsReportedScheme text error.Memory = Unit {0}

@@ -5,8 +5,8 @@ use Rattle.deno_semver.specs.declared.json.error.JsonError.{JsonError}
 use Rattle.deno_semver.specs.declared.json.error.JsonError.TheVariants as error
 
 -- out of memory, or the JSON doesn't parse to a value
-abbrev pub IsJsonRefusal : {T : Type 0} → (Data → T → Type 0) → Data → JsonError → Type 0
-IsJsonRefusal {T} StandsFor json e = (e ≡ error.Memory) ⊎ ((value : T) → StandsFor json value → ⊥)
+abbrev pub IsJsonRejection : {T : Type 0} → (Data → T → Type 0) → Data → JsonError → Type 0
+IsJsonRejection {T} ParsesTo json e = (e ≡ error.Memory) ⊎ ((value : T) → ParsesTo json value → ⊥)
 
 -- the value, or out of memory
 abbrev pub IsJsonAnswer : {T : Type 0} → T → Result T JsonError → Type 0

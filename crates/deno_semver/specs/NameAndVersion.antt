@@ -3,12 +3,12 @@ use Rattle.std.specs.Prelude.{◌≡◌, ◌<◌, ◌++◌, ◌∷◌, ◌&&◌,
 use Rattle.std.specs.List.{list_all, take_while}
 use Rattle.std.specs.Str.{trim}
 use Rattle.semver_base.specs.Characters.{at_sign, slash, underscore}
-use Rattle.semver_base.specs.Failure.{refusal_message}
+use Rattle.semver_base.specs.Failure.{rejection_message}
 use Rattle.semver_base.specs.Grammar.{Stops}
 use Rattle.semver_base.specs.VersionGrammar.{IsVersionOutcome}
 use Rattle.semver_base.specs.VersionText.{version_text}
-use Rattle.semver_base.specs.declared.failure.Refusal.{Refusal}
-use Rattle.semver_base.specs.declared.failure.Refusal.TheVariants.{UnexpectedCharacter}
+use Rattle.semver_base.specs.declared.failure.Rejection.{Rejection}
+use Rattle.semver_base.specs.declared.failure.Rejection.TheVariants.{UnexpectedCharacter}
 use Rattle.semver_base.specs.declared.version.Version.{Version}
 use Rattle.deno_semver.specs.Cuts.{is_not}
 use Rattle.deno_semver.specs.declared.package.values.PackageNv.{PackageNv}
@@ -49,18 +49,18 @@ abbrev pub IsNoNvText : List ℕ → Type 0
 IsNoNvText text = (name version rest : List ℕ) → IsNvText text name version rest → ⊥
 
 -- the result for the start of a text: a name and version with what follows it, or the error for the first fault
-pub data IsNvFront (text : List ℕ) : Result (PackageNv × List ℕ) Refusal → Type 0 where
+pub data IsNvFront (text : List ℕ) : Result (PackageNv × List ℕ) Rejection → Type 0 where
   is_front : {name version rest : List ℕ} {v : Version} → IsNvText text name version rest
       → IsVersionOutcome (trim version) (Ok v)
       → IsNvFront text (Ok (record { name = name; version = v }, rest))
   is_uncut : IsNoNvText text → IsNvFront text (Err UnexpectedCharacter)
-  is_bad_version : {name version rest : List ℕ} {fault : Refusal} → IsNvText text name version rest
+  is_bad_version : {name version rest : List ℕ} {fault : Rejection} → IsNvText text name version rest
       → IsVersionOutcome (trim version) (Err fault) → IsNvFront text (Err fault)
 
 -- what a text parses to: a name and version with nothing after it, or the error for its first fault
-pub data IsNvOutcome (text : List ℕ) : Result PackageNv Refusal → Type 0 where
+pub data IsNvOutcome (text : List ℕ) : Result PackageNv Rejection → Type 0 where
   is_nv : {nv : PackageNv} → IsNvFront text (Ok (nv, [])) → IsNvOutcome text (Ok nv)
-  is_bad : {fault : Refusal} → IsNvFront text (Err fault) → IsNvOutcome text (Err fault)
+  is_bad : {fault : Rejection} → IsNvFront text (Err fault) → IsNvOutcome text (Err fault)
   is_followed : {nv : PackageNv} {rest : List ℕ} → IsNvFront text (Ok (nv, rest)) → 0 < length rest
       → IsNvOutcome text (Err UnexpectedCharacter)
 
@@ -72,18 +72,18 @@ pub record IsNvMemory (e : PackageNvParseError) : Type 0 where
   pub text : e.text ≡ []
 
 -- the message for the fault, and the whole text
-pub record TellsNvFault (fault : Refusal) (text : List ℕ) (e : PackageNvParseError) : Type 0 where
-  pub message : e.message ≡ refusal_message fault
+pub record ReportsNvFault (fault : Rejection) (text : List ℕ) (e : PackageNvParseError) : Type 0 where
+  pub message : e.message ≡ rejection_message fault
   pub text_is : e.text ≡ text
 
 -- the error is out of memory, or reports the parse error that is the text's outcome
-abbrev pub IsNvRefusal : List ℕ → PackageNvParseError → Type 0
-IsNvRefusal text e = IsNvMemory e ⊎ ((fault : Refusal) × IsNvOutcome text (Err fault) × TellsNvFault fault text e)
+abbrev pub IsNvRejection : List ℕ → PackageNvParseError → Type 0
+IsNvRejection text e = IsNvMemory e ⊎ ((fault : Rejection) × IsNvOutcome text (Err fault) × ReportsNvFault fault text e)
 
 -- the result for a text with this outcome, or out of memory
-abbrev pub IsNvAnswer : List ℕ → Result PackageNv Refusal → Result PackageNv PackageNvParseError → Type 0
+abbrev pub IsNvAnswer : List ℕ → Result PackageNv Rejection → Result PackageNv PackageNvParseError → Type 0
 IsNvAnswer text (Ok nv) result = MatchResult result (λ answer. answer ≡ nv) IsNvMemory
-IsNvAnswer text (Err fault) result = IsErrAnd result (λ e. IsNvMemory e ⊎ TellsNvFault fault text e)
+IsNvAnswer text (Err fault) result = IsErrAnd result (λ e. IsNvMemory e ⊎ ReportsNvFault fault text e)
 
 -- the text of a name and version parses to it
 abbrev pub NvReadsBack : PackageNv → Type 0

@@ -2,10 +2,10 @@
 -- the crate `deno_semver`.
 use Rattle.std.specs.Prelude.{◌≡◌, ◌≢◌, ◌++◌, ◌∷◌, ◌⊎◌, [], ℕ, List, Option, Result, Ok, Err, MatchResult, IsErrAnd}
 use Rattle.semver_base.specs.Characters.{slash}
-use Rattle.semver_base.specs.declared.failure.Refusal.{Refusal}
-use Rattle.semver_base.specs.declared.failure.Refusal.TheVariants.{UnexpectedCharacter}
+use Rattle.semver_base.specs.declared.failure.Rejection.{Rejection}
+use Rattle.semver_base.specs.declared.failure.Rejection.TheVariants.{UnexpectedCharacter}
 use Rattle.deno_semver.specs.Kind.{scheme_of}
-use Rattle.deno_semver.specs.NameAndVersion.{IsNvFront, IsNvMemory, TellsNvFault, nv_text}
+use Rattle.deno_semver.specs.NameAndVersion.{IsNvFront, IsNvMemory, ReportsNvFault, nv_text}
 use Rattle.deno_semver.specs.PackageText.{without_slash}
 use Rattle.deno_semver.specs.ReferenceText.{LacksScheme, path_text}
 use Rattle.deno_semver.specs.declared.package.kind.PackageKind.{PackageKind}
@@ -25,12 +25,12 @@ IsNoPath (first ∷ rest) = first ≢ slash
 
 -- what a text parses to: a name and version after the scheme and at most one `/`, with a path, which may be empty, or nothing
 -- after it; or the error for its first fault
-pub data IsNvReferenceOutcome (kind : PackageKind) (text : List ℕ) : Result PackageNvReference Refusal → Type 0 where
+pub data IsNvReferenceOutcome (kind : PackageKind) (text : List ℕ) : Result PackageNvReference Rejection → Type 0 where
   other_scheme : LacksScheme kind text → IsNvReferenceOutcome kind text (Err UnexpectedCharacter)
   is_reference : (body : List ℕ) {nv : PackageNv} {path : Option (List ℕ)} → text ≡ scheme_of kind ++ body
       → IsNvFront (without_slash body) (Ok (nv, path_text path))
       → IsNvReferenceOutcome kind text (Ok (record { nv = nv; sub_path = path }))
-  bad_front : (body : List ℕ) {fault : Refusal} → text ≡ scheme_of kind ++ body
+  bad_front : (body : List ℕ) {fault : Rejection} → text ≡ scheme_of kind ++ body
       → IsNvFront (without_slash body) (Err fault) → IsNvReferenceOutcome kind text (Err fault)
   is_followed : (body : List ℕ) {rest : List ℕ} {nv : PackageNv} → text ≡ scheme_of kind ++ body
       → IsNvFront (without_slash body) (Ok (nv, rest)) → IsNoPath rest
@@ -43,18 +43,18 @@ abbrev pub nv_error : PackageNvReferenceParseError → PackageNvParseError
 nv_error e = record { message = e.message; text = e.text }
 
 -- the error is out of memory, or reports the parse error that is the text's outcome
-abbrev pub IsNvReferenceRefusal : PackageKind → List ℕ → PackageNvReferenceParseError → Type 0
-IsNvReferenceRefusal kind text e =
+abbrev pub IsNvReferenceRejection : PackageKind → List ℕ → PackageNvReferenceParseError → Type 0
+IsNvReferenceRejection kind text e =
     IsNvMemory (nv_error e)
-    ⊎ ((fault : Refusal) × IsNvReferenceOutcome kind text (Err fault) × TellsNvFault fault text (nv_error e))
+    ⊎ ((fault : Rejection) × IsNvReferenceOutcome kind text (Err fault) × ReportsNvFault fault text (nv_error e))
 
 -- the result for a text with this outcome, or out of memory
-abbrev pub IsNvReferenceAnswer : List ℕ → Result PackageNvReference Refusal
+abbrev pub IsNvReferenceAnswer : List ℕ → Result PackageNvReference Rejection
     → Result PackageNvReference PackageNvReferenceParseError → Type 0
 IsNvReferenceAnswer text (Ok reference) result =
     MatchResult result (λ answer. answer ≡ reference) (λ e. IsNvMemory (nv_error e))
 IsNvReferenceAnswer text (Err fault) result =
-    IsErrAnd result (λ e. IsNvMemory (nv_error e) ⊎ TellsNvFault fault text (nv_error e))
+    IsErrAnd result (λ e. IsNvMemory (nv_error e) ⊎ ReportsNvFault fault text (nv_error e))
 
 -- after the scheme, the text of a reference parses to it, if its name doesn't begin with `/`
 abbrev pub NvReferenceReadsBack : PackageKind → PackageNvReference → Type 0

@@ -2,7 +2,7 @@
 -- splits; no JSON parses to two values of a type.
 use Rattle.std.specs.Prelude.{◌≡◌, ℕ, List, Result}
 use Rattle.serde_json.specs.Data.{Data}
-use Rattle.semver_base.specs.declared.failure.Refusal.{Refusal}
+use Rattle.semver_base.specs.declared.failure.Rejection.{Rejection}
 use Rattle.semver_req.specs.declared.common.values.Flavour.{Flavour}
 use Rattle.deno_semver.specs.DependencyOutcome.{DependencyFault, IsDependencyOutcome}
 use Rattle.deno_semver.specs.NameAndVersion.{IsNvOutcome}
@@ -41,12 +41,12 @@ DependenciesHaveOneOutcome = (f : Flavour) (text : List ℕ) (o p : Result JsrDe
 -- of names with versions, and of references to versions
 abbrev pub NamesWithVersionsHaveOneOutcome : Type 0
 NamesWithVersionsHaveOneOutcome =
-    (text : List ℕ) (o p : Result PackageNv Refusal) → IsNvOutcome text o → IsNvOutcome text p → o ≡ p
+    (text : List ℕ) (o p : Result PackageNv Rejection) → IsNvOutcome text o → IsNvOutcome text p → o ≡ p
 
 abbrev pub VersionReferencesHaveOneOutcome : Type 0
-VersionReferencesHaveOneOutcome = (kind : PackageKind) (text : List ℕ) (o p : Result PackageNvReference Refusal)
+VersionReferencesHaveOneOutcome = (kind : PackageKind) (text : List ℕ) (o p : Result PackageNvReference Rejection)
     → IsNvReferenceOutcome kind text o → IsNvReferenceOutcome kind text p → o ≡ p
 
 -- no JSON parses to two values
-abbrev pub StandsForOne : {T : Type 0} → (Data → T → Type 0) → Type 0
-StandsForOne {T} StandsFor = (json : Data) (x y : T) → StandsFor json x → StandsFor json y → x ≡ y
+abbrev pub ParsesToOne : {T : Type 0} → (Data → T → Type 0) → Type 0
+ParsesToOne {T} ParsesTo = (json : Data) (x y : T) → ParsesTo json x → ParsesTo json y → x ≡ y

@@ -3,11 +3,11 @@
 use Rattle.std.specs.Prelude.{◌≡◌, ◌<◌, ◌∷◌, ◌⊎◌, [], ℕ, List, length, Option, Some, None, Result, Ok, Err, MatchResult, IsErrAnd, codes, if◌then◌else◌}
 use Rattle.std.specs.Str.{trim}
 use Rattle.semver_base.specs.Characters.{slash}
-use Rattle.semver_req.specs.Outcome.{IsOutcome, Refused}
-use Rattle.semver_req.specs.PieceReading.{IsCutRefusal}
-use Rattle.semver_req.specs.Readers.{Failure, IsReadFrom}
+use Rattle.semver_req.specs.Outcome.{IsOutcome, Rejected}
+use Rattle.semver_req.specs.PieceReading.{IsCutRejection}
+use Rattle.semver_req.specs.Parsers.{Failure, IsReadFrom}
 use Rattle.semver_req.specs.Requirement.{Requirement, wildcard}
-use Rattle.semver_req.specs.SpecifierRefusals.{IsSpecifierRefusal}
+use Rattle.semver_req.specs.SpecifierRejections.{IsSpecifierRejection}
 use Rattle.semver_req.specs.declared.common.values.Flavour.{Flavour}
 use Rattle.semver_req.specs.declared.common.values.Flavour.TheVariants.{Npm, Normal, Specifier}
 use Rattle.deno_semver.specs.PackageText.{IsPackageText, IsScopeAlone, LacksPart, PackageParts, lacks_at, scoped_name, without_slash}
@@ -36,7 +36,7 @@ pub data IsFirstFault (f : Flavour) (text : List ℕ) : Fault → Type 0 where
   no_name : LacksPart (without_slash text) → IsFirstFault f text NoName
   bad_name : IsScopeAlone (without_slash text) → IsFirstFault f text BadName
   bad_version : {cut : PackageParts} {version : List ℕ} → IsPackageText text cut → cut.version ≡ Some version
-      → IsOutcome f version Refused
+      → IsOutcome f version Rejected
       → IsFirstFault f text (BadVersion version)
   has_path : {cut : PackageParts} (req : Requirement) → IsPackageText text cut → IsVersionReq f cut.version req
       → 0 < length cut.path
@@ -59,47 +59,47 @@ pub data IsPackageOutcome (f : Flavour) (text : List ℕ) : Result PackageReq Fa
 -- ---- results
 
 -- why the grammar of a flavour rejects the version's text
-abbrev pub IsRefusalOf : Flavour → List ℕ → Failure → Type 0
-IsRefusalOf Specifier text = IsSpecifierRefusal text
-IsRefusalOf Npm text = IsCutRefusal Npm (trim text)
-IsRefusalOf Normal text = IsCutRefusal Normal text
+abbrev pub IsRejectionOf : Flavour → List ℕ → Failure → Type 0
+IsRejectionOf Specifier text = IsSpecifierRejection text
+IsRejectionOf Npm text = IsCutRejection Npm (trim text)
+IsRejectionOf Normal text = IsCutRejection Normal text
 
 -- the error of that grammar
-abbrev pub refused_by : Flavour → Failure → PackageReqPartsParseError
-refused_by Specifier failure = parts.SpecifierVersionReq (record { source = failure })
-refused_by Npm failure = parts.NpmVersionReq (record { source = failure })
-refused_by Normal failure = parts.NormalizedVersionReq (record { source = failure })
+abbrev pub rejected_by : Flavour → Failure → PackageReqPartsParseError
+rejected_by Specifier failure = parts.SpecifierVersionReq (record { source = failure })
+rejected_by Npm failure = parts.NpmVersionReq (record { source = failure })
+rejected_by Normal failure = parts.NormalizedVersionReq (record { source = failure })
 
 -- what the error shows of a path: the text from its `/` on
 abbrev pub path_failure : List ℕ → Failure
 path_failure path = Some (codes "Unexpected character '/'", Some (slash ∷ path))
 
 -- the error reports the fault
-abbrev pub Tells : Flavour → Fault → PackageReqPartsParseError → Type 0
-Tells f NoName e = e ≡ parts.NoPackageName
-Tells f BadName e = e ≡ parts.InvalidPackageName
-Tells f (BadVersion version) e =
-    (failure : Failure) × (failure ≡ None → ⊥) × IsRefusalOf f version failure × (e ≡ refused_by f failure)
-Tells f (HasPath path) e = e ≡ parts.SpecifierVersionReq (record { source = path_failure path })
-Tells f NoAt e = e ≡ parts.MissingAtSymbol
+abbrev pub Reports : Flavour → Fault → PackageReqPartsParseError → Type 0
+Reports f NoName e = e ≡ parts.NoPackageName
+Reports f BadName e = e ≡ parts.InvalidPackageName
+Reports f (BadVersion version) e =
+    (failure : Failure) × (failure ≡ None → ⊥) × IsRejectionOf f version failure × (e ≡ rejected_by f failure)
+Reports f (HasPath path) e = e ≡ parts.SpecifierVersionReq (record { source = path_failure path })
+Reports f NoAt e = e ≡ parts.MissingAtSymbol
 
 -- out of memory has no text
-pub record IsWantOfMemory (e : PackageReqParseError) : Type 0 where
+pub record IsOutOfMemory (e : PackageReqParseError) : Type 0 where
   pub source : e.source ≡ parts.Memory
   pub text : e.text ≡ []
 
 -- the error reports the fault and the whole text
-pub record TellsFault (f : Flavour) (fault : Fault) (text : List ℕ) (e : PackageReqParseError) : Type 0 where
-  pub source : Tells f fault e.source
+pub record ReportsFault (f : Flavour) (fault : Fault) (text : List ℕ) (e : PackageReqParseError) : Type 0 where
+  pub source : Reports f fault e.source
   pub text_is : e.text ≡ text
 
 -- the error is out of memory, or reports the fault that is the text's outcome
-abbrev pub IsPackageRefusal : Flavour → List ℕ → PackageReqParseError → Type 0
-IsPackageRefusal f text e =
-    IsWantOfMemory e ⊎ ((fault : Fault) × IsPackageOutcome f text (Err fault) × TellsFault f fault text e)
+abbrev pub IsPackageRejection : Flavour → List ℕ → PackageReqParseError → Type 0
+IsPackageRejection f text e =
+    IsOutOfMemory e ⊎ ((fault : Fault) × IsPackageOutcome f text (Err fault) × ReportsFault f fault text e)
 
 -- the result for a text with this outcome, or out of memory
 abbrev pub IsPackageAnswer : Flavour → List ℕ → Result PackageReq Fault → Result PackageReq PackageReqParseError
     → Type 0
-IsPackageAnswer f text (Ok req) result = MatchResult result (λ answer. answer ≡ req) IsWantOfMemory
-IsPackageAnswer f text (Err fault) result = IsErrAnd result (λ e. IsWantOfMemory e ⊎ TellsFault f fault text e)
+IsPackageAnswer f text (Ok req) result = MatchResult result (λ answer. answer ≡ req) IsOutOfMemory
+IsPackageAnswer f text (Err fault) result = IsErrAnd result (λ e. IsOutOfMemory e ⊎ ReportsFault f fault text e)

@@ -1,8 +1,8 @@
 -- The results of the steps of parsing packages.
 use Rattle.std.specs.Prelude.{◌≡◌, ◌⊎◌, ℕ, List, Option, Some, None, Result, MatchResult, codes, if◌then◌else◌}
-use Rattle.semver_req.specs.Outcome.{IsOutcome, Refused}
+use Rattle.semver_req.specs.Outcome.{IsOutcome, Rejected}
 use Rattle.semver_req.specs.declared.common.values.Flavour.{Flavour}
-use Rattle.deno_semver.specs.PackageOutcome.{BadVersion, Fault, IsFirstFault, IsReadReq, Tells}
+use Rattle.deno_semver.specs.PackageOutcome.{BadVersion, Fault, IsFirstFault, IsReadReq, Reports}
 use Rattle.deno_semver.specs.PackageText.{lacks_at}
 use Rattle.deno_semver.specs.declared.package.errors.PackageReqParseError.{PackageReqParseError}
 use Rattle.deno_semver.specs.declared.package.errors.PackageReqPartsParseError.{PackageReqPartsParseError}
@@ -11,16 +11,16 @@ use Rattle.deno_semver.specs.declared.package.values.PackageReq.{PackageReq}
 
 -- the version's text is invalid, and the error says why
 pub record IsBadVersion (f : Flavour) (version : List ℕ) (e : PackageReqPartsParseError) : Type 0 where
-  pub refused : IsOutcome f version Refused
-  pub tells : Tells f (BadVersion version) e
+  pub rejected : IsOutcome f version Rejected
+  pub reports : Reports f (BadVersion version) e
 
-abbrev pub IsVersionRefusal : Flavour → List ℕ → PackageReqPartsParseError → Type 0
-IsVersionRefusal f version e = (e ≡ parts.Memory) ⊎ IsBadVersion f version e
+abbrev pub IsVersionRejection : Flavour → List ℕ → PackageReqPartsParseError → Type 0
+IsVersionRejection f version e = (e ≡ parts.Memory) ⊎ IsBadVersion f version e
 
 -- the same; without a version's text, only out of memory
-abbrev pub IsPartsRefusal : Flavour → Option (List ℕ) → PackageReqPartsParseError → Type 0
-IsPartsRefusal f None e = e ≡ parts.Memory
-IsPartsRefusal f (Some version) e = IsVersionRefusal f version e
+abbrev pub IsPartsRejection : Flavour → Option (List ℕ) → PackageReqPartsParseError → Type 0
+IsPartsRejection f None e = e ≡ parts.Memory
+IsPartsRejection f (Some version) e = IsVersionRejection f version e
 
 -- the error shows the path with its leading `/`, or is out of memory
 abbrev pub IsPathError : List ℕ → PackageReqPartsParseError → Type 0
@@ -30,17 +30,17 @@ IsPathError tail e =
 
 -- the error reports the first fault of the text, or is out of memory
 abbrev pub IsFaultError : Flavour → List ℕ → PackageReqPartsParseError → Type 0
-IsFaultError f text e = (e ≡ parts.Memory) ⊎ ((fault : Fault) × IsFirstFault f text fault × Tells f fault e)
+IsFaultError f text e = (e ≡ parts.Memory) ⊎ ((fault : Fault) × IsFirstFault f text fault × Reports f fault e)
 
 abbrev pub IsReadPackage : Flavour → List ℕ → Result PackageReq PackageReqPartsParseError → Type 0
 IsReadPackage f text result = MatchResult result (IsReadReq f text) (IsFaultError f text)
 
 -- the source that is reported: a missing `@` goes before any other
-abbrev pub told_source : List ℕ → PackageReqPartsParseError → PackageReqPartsParseError
-told_source text source = if lacks_at text then parts.MissingAtSymbol else source
+abbrev pub reported_source : List ℕ → PackageReqPartsParseError → PackageReqPartsParseError
+reported_source text source = if lacks_at text then parts.MissingAtSymbol else source
 
 -- the error shows the whole text and the reported source
-pub record TellsSource (text : List ℕ) (source : PackageReqPartsParseError) (e : PackageReqParseError) : Type 0 where
+pub record ReportsSource (text : List ℕ) (source : PackageReqPartsParseError) (e : PackageReqParseError) : Type 0 where
   pub no_memory : source ≡ parts.Memory → ⊥
-  pub source_is : e.source ≡ told_source text source
+  pub source_is : e.source ≡ reported_source text source
   pub text_is : e.text ≡ text

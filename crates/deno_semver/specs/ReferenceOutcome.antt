@@ -6,7 +6,7 @@ use Rattle.semver_base.specs.Characters.{at_sign, slash}
 use Rattle.semver_req.specs.declared.common.values.Flavour.TheVariants.{Specifier}
 use Rattle.deno_semver.specs.Cuts.{is_not}
 use Rattle.deno_semver.specs.Kind.{scheme_of}
-use Rattle.deno_semver.specs.PackageOutcome.{Fault, HasPath, IsFirstFault, IsVersionReq, Tells}
+use Rattle.deno_semver.specs.PackageOutcome.{Fault, HasPath, IsFirstFault, IsVersionReq, Reports}
 use Rattle.deno_semver.specs.PackageText.{IsPackageText, PackageParts, scoped_name}
 use Rattle.deno_semver.specs.ReferenceText.{LacksScheme, reference_text, sub_path_of, text_with_version}
 use Rattle.deno_semver.specs.declared.package.errors.PackageReqPartsParseError.{PackageReqPartsParseError}
@@ -78,19 +78,19 @@ unboxed (boxed.InvalidPathWithVersion error) = InvalidPathWithVersion error.valu
 unboxed boxed.Memory = Memory
 
 -- the error reports the fault
-abbrev pub TellsReference : PackageKind → List ℕ → ReferenceFault → PackageReqReferenceParseError → Type 0
-TellsReference kind text OtherScheme e = unboxed e ≡ NotExpectedScheme kind
-TellsReference kind text (BadText fault) e =
-    (source : PackageReqPartsParseError) × Tells Specifier fault source
+abbrev pub ReportsReference : PackageKind → List ℕ → ReferenceFault → PackageReqReferenceParseError → Type 0
+ReportsReference kind text OtherScheme e = unboxed e ≡ NotExpectedScheme kind
+ReportsReference kind text (BadText fault) e =
+    (source : PackageReqPartsParseError) × Reports Specifier fault source
     × (unboxed e ≡ Invalid (record { specifier = text; source = source }))
-TellsReference kind text (VersionInPath current suggested) e =
+ReportsReference kind text (VersionInPath current suggested) e =
     unboxed e ≡ InvalidPathWithVersion (record { kind = kind; current = current; suggested = suggested })
 
 -- the error is out of memory, or reports the fault that is the text's outcome
-abbrev pub IsReferenceRefusal : PackageKind → List ℕ → PackageReqReferenceParseError → Type 0
-IsReferenceRefusal kind text e =
+abbrev pub IsReferenceRejection : PackageKind → List ℕ → PackageReqReferenceParseError → Type 0
+IsReferenceRejection kind text e =
     (unboxed e ≡ Memory)
-    ⊎ ((fault : ReferenceFault) × IsReferenceOutcome kind text (Err fault) × TellsReference kind text fault e)
+    ⊎ ((fault : ReferenceFault) × IsReferenceOutcome kind text (Err fault) × ReportsReference kind text fault e)
 
 -- the result for a text with this outcome, or out of memory
 abbrev pub IsReferenceAnswer : PackageKind → List ℕ → Result PackageReqReference ReferenceFault
@@ -98,16 +98,16 @@ abbrev pub IsReferenceAnswer : PackageKind → List ℕ → Result PackageReqRef
 IsReferenceAnswer kind text (Ok reference) result =
     MatchResult result (λ answer. answer ≡ reference) (λ e. unboxed e ≡ Memory)
 IsReferenceAnswer kind text (Err fault) result =
-    IsErrAnd result (λ e. (unboxed e ≡ Memory) ⊎ TellsReference kind text fault e)
+    IsErrAnd result (λ e. (unboxed e ≡ Memory) ⊎ ReportsReference kind text fault e)
 
 -- ---- parsing the text back
 
 -- no `@` after the first byte, which may begin a scope, and no trailing `/`
-pub record IsPlainName (name : List ℕ) : Type 0 where
+pub record IsBareName (name : List ℕ) : Type 0 where
   pub no_at : list_all (is_not at_sign) (drop 1 name) ≡ true
   pub no_slash : (front : List ℕ) → name ≡ front ++ (slash ∷ []) → ⊥
 
 -- after the scheme, the text of a reference parses to it, if the text of its version isn't `*` or its name is plain
 abbrev pub ReferenceReadsBack : PackageKind → PackageReqReference → Type 0
-ReferenceReadsBack kind reference = (reference.req.version_req.raw_text ≡ codes "*" → IsPlainName reference.req.name)
+ReferenceReadsBack kind reference = (reference.req.version_req.raw_text ≡ codes "*" → IsBareName reference.req.name)
     → IsReferenceOutcome kind (scheme_of kind ++ reference_text reference) (Ok reference)

@@ -4,7 +4,7 @@ use Rattle.std.specs.Borrow.{Bor}
 use Rattle.semver_req.specs.declared.common.values.Flavour.{Flavour}
 use Rattle.semver_req.specs.declared.common.values.Flavour.TheVariants.{Specifier}
 use Rattle.deno_semver.specs.Kind.{scheme_of}
-use Rattle.deno_semver.specs.PackageOutcome.{Fault, IsFirstFault, IsVersionReq, Tells}
+use Rattle.deno_semver.specs.PackageOutcome.{Fault, IsFirstFault, IsVersionReq, Reports}
 use Rattle.deno_semver.specs.PackageText.{IsPackageText, IsPathPart, PackageParts, scoped_name}
 use Rattle.deno_semver.specs.ReferenceOutcome.{HasNoVersionInPath, HasVersionInPath, Invalid, InvalidPathWithVersion, IsOfReference, IsReadReference, Memory, unboxed}
 use Rattle.deno_semver.specs.ReferenceText.{LacksScheme, reference_text, text_with_version}
@@ -31,7 +31,7 @@ pub record IsReadWithPath (f : Flavour) (text : List ℕ) (req : PackageReq) (ta
 -- the error reports the first fault of a text that may have a path, or is out of memory
 abbrev pub IsFrontError : Flavour → List ℕ → PackageReqPartsParseError → Type 0
 IsFrontError f text e =
-    (e ≡ parts.Memory) ⊎ ((fault : Fault) × IsFirstFault f text fault × IsOfReference fault × Tells f fault e)
+    (e ≡ parts.Memory) ⊎ ((fault : Fault) × IsFirstFault f text fault × IsOfReference fault × Reports f fault e)
 
 abbrev pub IsReferenceRead : List ℕ → Result PackageReqReference PackageReqPartsParseError → Type 0
 IsReferenceRead body result = MatchResult result (IsReadReference body) (IsFrontError Specifier body)
@@ -42,14 +42,14 @@ FindsVersion reference r =
     MatchOption r (HasNoVersionInPath reference) (λ p. HasVersionInPath reference p.0.now p.1.now)
 
 -- the error shows the whole text and what is wrong in it, or is out of memory
-abbrev pub IsToldInvalid : List ℕ → PackageReqPartsParseError → PackageReqReferenceParseError → Type 0
-IsToldInvalid text source e =
+abbrev pub IsReportedInvalid : List ℕ → PackageReqPartsParseError → PackageReqReferenceParseError → Type 0
+IsReportedInvalid text source e =
     (unboxed e ≡ Memory)
     ⊎ ((source ≡ parts.Memory → ⊥) × (unboxed e ≡ Invalid (record { specifier = text; source = source })))
 
 -- the error shows the reference as written and as suggested, or is out of memory
-abbrev pub IsToldVersion : PackageKind → PackageReqReference → List ℕ → List ℕ → PackageReqReferenceParseError → Type 0
-IsToldVersion kind reference before version e = (unboxed e ≡ Memory)
+abbrev pub IsReportedVersion : PackageKind → PackageReqReference → List ℕ → List ℕ → PackageReqReferenceParseError → Type 0
+IsReportedVersion kind reference before version e = (unboxed e ≡ Memory)
     ⊎ (unboxed e ≡ InvalidPathWithVersion
     (record {
       kind = kind;

@@ -19,7 +19,7 @@ use Rattle.semver_base.specs.declared.version.Version.{Version}
 use Rattle.semver_req.specs.Requirement.{tag_of}
 use Rattle.semver_req.specs.declared.range_set_or_tag.RangeSetOrTag.{RangeSetOrTag}
 use Rattle.semver_req.specs.declared.range_set_or_tag.RangeSetOrTag.TheVariants as inner
-use Rattle.semver_req.proofs.Equality.{inner_eq, inner_told}
+use Rattle.semver_req.proofs.Equality.{inner_eq, inner_reported}
 use Rattle.deno_semver.specs.Equal.{AreEqualReqs}
 use Rattle.deno_semver.specs.ReqOrder.{bound_kinds_cmp, bound_place, bound_versions_cmp, build_of, builds_cmp, end_cmp, inner_cmp, kind_place, range_cmp, ranges_of, req_cmp, start_cmp, text_cmp, version_bound_of}
 use Rattle.deno_semver.specs.Ties.{then_ties}
@@ -165,8 +165,8 @@ same_req x y h = rw (h.0, h.1) (tied_itself req_total y)
 
 inner_ties : (x y : RangeSetOrTag) → inner_eq x y ≡ is_eq (inner_cmp x y)
 inner_ties x y = both_ways (inner_eq x y) (is_eq (inner_cmp x y))
-    (λ e. rw ((inner_told x y).0 e) ((Equal-is (inner_cmp y y)).1 (tied_itself inner_total y)))
-    (λ e. (inner_told x y).1 (inner_same x y ((Equal-is (inner_cmp x y)).0 e)))
+    (λ e. rw ((inner_reported x y).0 e) ((Equal-is (inner_cmp y y)).1 (tied_itself inner_total y)))
+    (λ e. (inner_reported x y).1 (inner_same x y ((Equal-is (inner_cmp x y)).0 e)))
 
 -- the derived `==`
 abbrev pub req_eq : PackageReq → PackageReq → Bool

@@ -8,8 +8,8 @@ use Rattle.deno_semver.specs.declared.resolve.End.TheVariants as end
 
 -- which of two versions is nearer to this end
 abbrev pub nearer : End → Version → Version → Bool
-nearer end.Greatest one other = greater one other
-nearer end.Least one other = lower one other
+nearer end.Highest one other = greater one other
+nearer end.Lowest one other = lower one other
 
 -- the version is nearer to the end than the best match so far, if any
 abbrev pub exceeds : End → Version → Option (ℕ × Bor Version) → Bool

@@ -18,16 +18,16 @@ abbrev pub specifier_text : PackageKind → PackageNvReference → List ℕ
 specifier_text kind reference = with_scheme kind (slash ∷ nv_reference_text reference)
 
 -- the error for a parse error of `url`
-abbrev pub told_refusal : ParseError → SpecifierError
-told_refusal OutOfMemory = error.Memory
-told_refusal Overflow = error.Memory
-told_refusal cause = error.Url
+abbrev pub reported_rejection : ParseError → SpecifierError
+reported_rejection OutOfMemory = error.Memory
+reported_rejection Overflow = error.Memory
+reported_rejection cause = error.Url
 
 -- the text isn't valid under the URL Standard; or out of memory, which includes a URL of 4 GB, and says no more
-abbrev pub IsUrlRefusal : List ℕ → SpecifierError → Type 0
-IsUrlRefusal text error.Url = (cause : ParseError) × (parse_url None text ≡ Err cause)
-IsUrlRefusal text error.Memory = Unit {0}
+abbrev pub IsUrlRejection : List ℕ → SpecifierError → Type 0
+IsUrlRejection text error.Url = (cause : ParseError) × (parse_url None text ≡ Err cause)
+IsUrlRejection text error.Memory = Unit {0}
 
 -- what `url` parses the text to, or why there is no URL
 abbrev pub IsSpecifier : List ℕ → Result Parts SpecifierError → Type 0
-IsSpecifier text result = MatchResult result (λ url. parse_url None text ≡ Ok url) (IsUrlRefusal text)
+IsSpecifier text result = MatchResult result (λ url. parse_url None text ≡ Ok url) (IsUrlRejection text)

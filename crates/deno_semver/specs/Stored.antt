@@ -35,26 +35,26 @@ IsReadFor (inner.Tag tag) (inner.RangeSet again) = ⊥
 IsReadFor (inner.Tag tag) (inner.Tag again) = again ≡ tag
 
 -- the JSON parses to a package requirement equal to this one
-pub record StandsForEqual (json : Data) (req : PackageReq) : Type 0 where
+pub record ParsesToEqual (json : Data) (req : PackageReq) : Type 0 where
   pub again : PackageReq
-  pub stands_for : IsStringOf IsTextOfReq json again
+  pub parses_to : IsStringOf IsTextOfReq json again
   pub equal : AreEqualReqs again req
 
 -- its JSON parses to an equal package requirement
-abbrev pub IsSettledReq : PackageReq → Type 0
-IsSettledReq req = StandsForEqual (string (normal_req_text req)) req
+abbrev pub IsStableReq : PackageReq → Type 0
+IsStableReq req = ParsesToEqual (string (normal_req_text req)) req
 
 -- a package requirement with the same name, which keeps this one's meaning and is stable
-pub record IsKeptReq (req again : PackageReq) : Type 0 where
+pub record IsSameWhenStored (req again : PackageReq) : Type 0 where
   pub name : again.name ≡ req.name
-  pub kept : IsReadFor req.version_req.inner again.version_req.inner
-  pub settled : IsSettledReq again
+  pub stored : IsReadFor req.version_req.inner again.version_req.inner
+  pub stable : IsStableReq again
 
 -- the JSON parses to such a package requirement
 pub record IsStoredReq (req : PackageReq) (json : Data) : Type 0 where
   pub again : PackageReq
-  pub stands_for : IsStringOf IsTextOfReq json again
-  pub is_kept : IsKeptReq req again
+  pub parses_to : IsStringOf IsTextOfReq json again
+  pub is_retained : IsSameWhenStored req again
 
 -- for each package requirement that npm's grammar parsed from some text, its JSON parses to such a package requirement
 abbrev pub StoredRequirementsAreReadAgain : Type 0
@@ -64,19 +64,19 @@ StoredRequirementsAreReadAgain = (req : PackageReq) (text : List ℕ) → IsUtf8
 -- ---- dependencies
 
 -- the JSON parses to a dependency equal to this one
-pub record StandsForEqualDependency (json : Data) (dependency : JsrDepPackageReq) : Type 0 where
+pub record ParsesToEqualDependency (json : Data) (dependency : JsrDepPackageReq) : Type 0 where
   pub again : JsrDepPackageReq
-  pub stands_for : IsStringOf IsTextOfDependency json again
+  pub parses_to : IsStringOf IsTextOfDependency json again
   pub equal : AreEqualDependencies again dependency
 
-abbrev pub IsSettledDependency : JsrDepPackageReq → Type 0
-IsSettledDependency dependency = StandsForEqualDependency (string (normal_dependency_text dependency)) dependency
+abbrev pub IsStableDependency : JsrDepPackageReq → Type 0
+IsStableDependency dependency = ParsesToEqualDependency (string (normal_dependency_text dependency)) dependency
 
 -- the JSON parses to a dependency of the same registry and name, which keeps this one's meaning and is stable
 pub record IsStoredDependency (dependency : JsrDepPackageReq) (json : Data) : Type 0 where
   pub again : JsrDepPackageReq
-  pub stands_for : IsStringOf IsTextOfDependency json again
+  pub parses_to : IsStringOf IsTextOfDependency json again
   pub kind : again.kind ≡ dependency.kind
   pub name : again.req.name ≡ dependency.req.name
-  pub kept : IsReadFor dependency.req.version_req.inner again.req.version_req.inner
-  pub settled : IsSettledDependency again
+  pub stored : IsReadFor dependency.req.version_req.inner again.req.version_req.inner
+  pub stable : IsStableDependency again

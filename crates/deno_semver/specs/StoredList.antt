@@ -9,7 +9,7 @@ use Rattle.deno_semver.specs.Json.{AreItemsOf, IsStringOf, IsTextOfReq}
 use Rattle.deno_semver.specs.PackageOutcome.{IsPackageOutcome}
 use Rattle.deno_semver.specs.ReqOrder.{req_cmp}
 use Rattle.deno_semver.specs.RequirementText.{normal_req_text}
-use Rattle.deno_semver.specs.Stored.{IsKeptReq}
+use Rattle.deno_semver.specs.Stored.{IsSameWhenStored}
 use Rattle.deno_semver.specs.declared.package.values.PackageReq.{PackageReq}
 
 -- the array of the JSON of the package requirements, in their order
@@ -30,7 +30,7 @@ pub record IsSortedFrom (reqs sorted : List PackageReq) : Type 0 where
 -- the package requirements of an array, sorted
 pub record IsReadList (json : Data) (sorted : List PackageReq) : Type 0 where
   pub stored : List PackageReq
-  pub stands_for : IsJsonOfReqs json stored
+  pub parses_to : IsJsonOfReqs json stored
   pub is_sorted : IsSortedFrom stored sorted
 
 -- ---- what a stored list parses to
@@ -54,11 +54,11 @@ pub record IsNpmReq (req : PackageReq) : Type 0 where
 -- the JSON parses to a list that has, at each place, what is kept of the package requirement there
 pub record IsStoredList (reqs : List PackageReq) (json : Data) : Type 0 where
   pub again : List PackageReq
-  pub stands_for : IsJsonOfReqs json again
-  pub are_kept : OneByOne IsKeptReq reqs again
+  pub parses_to : IsJsonOfReqs json again
+  pub are_stored : OneByOne IsSameWhenStored reqs again
 
 -- the JSON parses to a list equal to this one
-pub record StandsForEqualList (json : Data) (reqs : List PackageReq) : Type 0 where
+pub record ParsesToEqualList (json : Data) (reqs : List PackageReq) : Type 0 where
   pub again : List PackageReq
-  pub stands_for : IsJsonOfReqs json again
+  pub parses_to : IsJsonOfReqs json again
   pub are_equal : AreEqualLists again reqs

@@ -4,7 +4,7 @@
 ghost use Rattle.std.specs.Prelude.{IfErr, IfOk, ◌≡◌};
 ghost use Rattle.serde_json.specs.Data.{Data};
 ghost use Rattle.serde_json.specs.View.{view};
-ghost use Rattle.deno_semver.specs.JsonAnswers.{IsJsonAnswer, IsJsonRefusal};
+ghost use Rattle.deno_semver.specs.JsonAnswers.{IsJsonAnswer, IsJsonRejection};
 
 mod error;
 mod list;
@@ -22,7 +22,7 @@ pub trait JsonForm: Drop {
     ghost json: { Self → Data };
 
     /// The JSON, the value's own or other, parses to the value.
-    ghost stands_for: { Data → Self → Type 0 };
+    ghost parses_to: { Data → Self → Type 0 };
 
     /// Returns the value's JSON. Fails only out of memory.
     fn to_json(&self, alloc: Global) -> Result<Value, AllocError>
@@ -31,7 +31,7 @@ pub trait JsonForm: Drop {
     /// Parses the JSON. Fails with [`JsonError::Json`] exactly if the JSON doesn't parse to a value, and with
     /// [`JsonError::Memory`] only out of memory.
     fn from_json(alloc: Global, value: &Value) -> Result<Self, JsonError>
-        ensures read { IfOk result (stands_for (view value.now)) }
-        ensures refused { IfErr result (IsJsonRefusal stands_for (view value.now)) }
-        ensures answer { (x : Self) → stands_for (view value.now) x → IsJsonAnswer x result };
+        ensures read { IfOk result (parses_to (view value.now)) }
+        ensures rejected { IfErr result (IsJsonRejection parses_to (view value.now)) }
+        ensures answer { (x : Self) → parses_to (view value.now) x → IsJsonAnswer x result };
 }

@@ -8,7 +8,7 @@
 ghost use Rattle.std.specs.Prelude.{◌≡◌, ◌↔◌, IsTrue};
 ghost use Rattle.deno_semver.specs.Equal.{AreEqualDependencies, AreEqualReferences};
 ghost use Rattle.deno_semver.specs.Json.{IsJsonOfRange, IsJsonOfSet, IsJsonOfVersionReq, IsStringOf, IsTextOfDependency, IsTextOfNv, IsTextOfReference, IsTextOfReq, IsTextOfVersion};
-ghost use Rattle.deno_semver.specs.OneOutcome.{DependenciesHaveOneOutcome, NamesWithVersionsHaveOneOutcome, PackageTextsHaveOneCut, PackageTextsHaveOneOutcome, ReferencesHaveOneOutcome, StandsForOne, VersionReferencesHaveOneOutcome};
+ghost use Rattle.deno_semver.specs.OneOutcome.{DependenciesHaveOneOutcome, NamesWithVersionsHaveOneOutcome, PackageTextsHaveOneCut, PackageTextsHaveOneOutcome, ReferencesHaveOneOutcome, ParsesToOne, VersionReferencesHaveOneOutcome};
 ghost use Rattle.deno_semver.specs.ReferenceOutcome.{unboxed};
 ghost use Rattle.deno_semver.specs.Stored.{StoredRequirementsAreReadAgain};
 ghost use Rattle.deno_semver.specs.StoredList.{IsJsonOfReqs};
@@ -24,7 +24,7 @@ use crate::package::{
 };
 use semver_base::laws::version_texts_have_one_outcome;
 use semver_req::laws::{
-    normal_texts_keep_their_meaning, one_rereading_settles, read_requirements_are_answers,
+    normal_texts_keep_their_meaning, one_rereading_stabilizes, read_requirements_are_answers,
     requirements_hold_no_separator, star_is_any_version, tags_read_back, texts_have_one_outcome,
 };
 
@@ -199,10 +199,10 @@ pub fn version_references_have_one_outcome()
 }
 
 /// JSON parses to at most one version, one range, and one set of ranges.
-pub fn json_stands_for_one_range()
-    ensures versions { StandsForOne (IsStringOf IsTextOfVersion) }
-    ensures ranges { StandsForOne IsJsonOfRange }
-    ensures sets { StandsForOne IsJsonOfSet }
+pub fn json_parses_to_one_range()
+    ensures versions { ParsesToOne (IsStringOf IsTextOfVersion) }
+    ensures ranges { ParsesToOne IsJsonOfRange }
+    ensures sets { ParsesToOne IsJsonOfSet }
 {
     version_texts_have_one_outcome();
 }
@@ -210,13 +210,13 @@ pub fn json_stands_for_one_range()
 /// JSON parses to at most one version requirement, one package requirement, one list of these, one name with a version, one
 /// reference to a version of a registry, and one dependency. Which list an array parses to is unspecified where the order
 /// leaves equal ones.
-pub fn json_stands_for_one_value()
-    ensures requirements { StandsForOne IsJsonOfVersionReq }
-    ensures package_requirements { StandsForOne (IsStringOf IsTextOfReq) }
-    ensures lists { StandsForOne IsJsonOfReqs }
-    ensures names_with_versions { StandsForOne (IsStringOf IsTextOfNv) }
-    ensures references { (kind : PackageKind) → StandsForOne (IsStringOf (IsTextOfReference kind)) }
-    ensures dependencies { StandsForOne (IsStringOf IsTextOfDependency) }
+pub fn json_parses_to_one_value()
+    ensures requirements { ParsesToOne IsJsonOfVersionReq }
+    ensures package_requirements { ParsesToOne (IsStringOf IsTextOfReq) }
+    ensures lists { ParsesToOne IsJsonOfReqs }
+    ensures names_with_versions { ParsesToOne (IsStringOf IsTextOfNv) }
+    ensures references { (kind : PackageKind) → ParsesToOne (IsStringOf (IsTextOfReference kind)) }
+    ensures dependencies { ParsesToOne (IsStringOf IsTextOfDependency) }
 {
     texts_have_one_outcome();
     package_texts_have_one_outcome();
@@ -231,7 +231,7 @@ pub fn stored_requirements_are_read_again()
     ensures { StoredRequirementsAreReadAgain }
 {
     normal_texts_keep_their_meaning();
-    one_rereading_settles();
+    one_rereading_stabilizes();
     tags_read_back();
     read_requirements_are_answers();
     requirements_hold_no_separator();

@@ -11,7 +11,7 @@ pub mod npm;
 pub mod package;
 pub mod resolve;
 
-pub use semver_base::failure::{ParseFailure, Refusal};
+pub use semver_base::failure::{ParseFailure, Rejection};
 pub use semver_base::npm::NpmVersionParseError;
 pub use semver_base::partial::{Partial, XRange};
 pub use semver_base::range::{

@@ -12,8 +12,8 @@ use semver_req::req::VersionReq;
 // Which end of the precedence order is wanted.
 #[derive(Clone, Copy)]
 enum End {
-    Greatest,
-    Least,
+    Highest,
+    Lowest,
 }
 
 impl End {
@@ -22,8 +22,8 @@ impl End {
         ensures { result ≡ nearer self one.now other.now }
     {
         match self {
-            End::Greatest => other.cmp_precedence(one).is_lt(),
-            End::Least => one.cmp_precedence(other).is_lt(),
+            End::Highest => other.cmp_precedence(one).is_lt(),
+            End::Lowest => one.cmp_precedence(other).is_lt(),
         }
     }
 }
@@ -76,7 +76,7 @@ fn first_best(
 /// but for builds, the first. Returns none exactly if no version matches.
 pub fn max_satisfying(versions: &[Version], requirement: &VersionReq) -> Option<usize>
     requires { tag_of requirement.now.inner ≡ None }
-    ensures greatest { IsBestMatch greater (λ v. inner_means requirement.now.inner v)
+    ensures highest { IsBestMatch greater (λ v. inner_means requirement.now.inner v)
         versions.now result }
     ensures only { IsOnlyMatch greater (λ v. inner_means requirement.now.inner v)
         versions.now result }
@@ -88,7 +88,7 @@ pub fn max_satisfying(versions: &[Version], requirement: &VersionReq) -> Option<
 /// for builds, the first. Returns none exactly if no version matches.
 pub fn min_satisfying(versions: &[Version], requirement: &VersionReq) -> Option<usize>
     requires { tag_of requirement.now.inner ≡ None }
-    ensures least { IsBestMatch lower (λ v. inner_means requirement.now.inner v)
+    ensures lowest { IsBestMatch lower (λ v. inner_means requirement.now.inner v)
         versions.now result }
     ensures only { IsOnlyMatch lower (λ v. inner_means requirement.now.inner v)
         versions.now result }
@@ -103,12 +103,12 @@ pub fn max_satisfying_with(
     pre_release: PreRelease,
 ) -> Option<usize>
     requires { tag_of requirement.now.inner ≡ None }
-    ensures greatest { IsBestMatch greater
+    ensures highest { IsBestMatch greater
         (λ v. inner_means_with pre_release requirement.now.inner v) versions.now result }
     ensures only { IsOnlyMatch greater
         (λ v. inner_means_with pre_release requirement.now.inner v) versions.now result }
 {
-    first_best(versions, requirement, pre_release, End::Greatest)
+    first_best(versions, requirement, pre_release, End::Highest)
 }
 
 /// Like [`min_satisfying`], with pre-releases restricted by npm's rule or admitted throughout.
@@ -118,10 +118,10 @@ pub fn min_satisfying_with(
     pre_release: PreRelease,
 ) -> Option<usize>
     requires { tag_of requirement.now.inner ≡ None }
-    ensures least { IsBestMatch lower
+    ensures lowest { IsBestMatch lower
         (λ v. inner_means_with pre_release requirement.now.inner v) versions.now result }
     ensures only { IsOnlyMatch lower
         (λ v. inner_means_with pre_release requirement.now.inner v) versions.now result }
 {
-    first_best(versions, requirement, pre_release, End::Least)
+    first_best(versions, requirement, pre_release, End::Lowest)
 }

@@ -7,10 +7,10 @@ use Rattle.std.proofs.lemmas.Bool.{and_from, and_parts, or_left}
 use Rattle.std.proofs.lemmas.Str.{IsUtf8-append, IsUtf8-nil}
 use Rattle.semver_base.specs.Comparators.{primitive_kind_text}
 use Rattle.semver_base.specs.Grammar.{Either, this, that, Followed, IsText, Joined, Mapped, Optional, Prefixed, Run}
-use Rattle.semver_base.specs.Lexical.{IsBlanks, IsByte, IsSomeBlanks, is_identifier_byte}
+use Rattle.semver_base.specs.Lexical.{IsWhitespace, IsByte, IsSomeWhitespace, is_identifier_byte}
 use Rattle.semver_base.specs.declared.primitive.PrimitiveKind.{PrimitiveKind}
 use Rattle.semver_base.specs.declared.primitive.PrimitiveKind.TheVariants.{GreaterThan, LessThan, GreaterThanOrEqual, LessThanOrEqual, Equal}
-use Rattle.semver_base.proofs.Blanks.{blanks_made, is_blank_byte}
+use Rattle.semver_base.proofs.Whitespace.{whitespace_made, is_whitespace_byte}
 use Rattle.semver_base.proofs.Bytes.{list_all-wider}
 use Rattle.semver_base.proofs.Fronts.{fronts, same, shorter, longer}
 use Rattle.semver_req.specs.Partials.{is_wildcard}
@@ -22,7 +22,7 @@ abbrev pub is_sign_byte : ℕ → Bool
 is_sign_byte b = (b == 38) || (b == 43) || (b == 44) || (b == 45) || (b == 46) || (b == 60) || (b == 61) || (b == 62) || (b == 94) || (b == 118) || (b == 124) || (b == 126)
 
 abbrev pub is_special : ℕ → Bool
-is_special b = is_blank_byte b || is_sign_byte b
+is_special b = is_whitespace_byte b || is_sign_byte b
 
 -- d and e are of one kind
 pub record IsAlike (f : Flavour) (d e : ℕ) : Type 0 where
@@ -44,8 +44,8 @@ special_there : (p u : List ℕ) (d : ℕ) → list_all is_special (p ++ (d ∷ 
 special_there [] u d h = (and_parts (is_special d) (list_all is_special u) h).0
 special_there (x ∷ p) u d h = special_there p u d (and_parts (is_special x) (list_all is_special (p ++ (d ∷ u))) h).1
 
-pub blanks_special : (t : List ℕ) → IsBlanks t tt → list_all is_special t ≡ true
-blanks_special t h = list_all-wider is_blank_byte is_special (λ x k. or_left (is_blank_byte x) _ k) t (blanks_made.made t tt h)
+pub whitespace_special : (t : List ℕ) → IsWhitespace t tt → list_all is_special t ≡ true
+whitespace_special t h = list_all-wider is_whitespace_byte is_special (λ x k. or_left (is_whitespace_byte x) _ k) t (whitespace_made.made t tt h)
 
 module _ (f : Flavour) (d e : ℕ) (alike : IsAlike f d e) where
   -- where d may follow a prefix, so may e
@@ -68,11 +68,11 @@ module _ (f : Flavour) (d e : ℕ) (alike : IsAlike f d e) where
   pub run_exchanged : (q : ℕ → Bool) → (q d ≡ true → q e ≡ true) → IsExchanged (Run q)
   run_exchanged q w p u v h = record { more = []; value = p ++ (e ∷ []); is_text = IsUtf8-nil; stands = run_short q w p u v h }
 
-  pub blanks_exchanged : IsExchanged IsBlanks
-  blanks_exchanged p u v h = none_here p u (p ++ (d ∷ u)) (list_all-wider is_blank_byte is_special (λ x k. or_left (is_blank_byte x) _ k) (p ++ (d ∷ u)) (blanks_made.made (p ++ (d ∷ u)) tt h)) refl
+  pub whitespace_exchanged : IsExchanged IsWhitespace
+  whitespace_exchanged p u v h = none_here p u (p ++ (d ∷ u)) (list_all-wider is_whitespace_byte is_special (λ x k. or_left (is_whitespace_byte x) _ k) (p ++ (d ∷ u)) (whitespace_made.made (p ++ (d ∷ u)) tt h)) refl
 
-  pub some_blanks_exchanged : IsExchanged IsSomeBlanks
-  some_blanks_exchanged p u v h = none_here p u (p ++ (d ∷ u)) (list_all-wider is_blank_byte is_special (λ x k. or_left (is_blank_byte x) _ k) (p ++ (d ∷ u)) (blanks_made.made (p ++ (d ∷ u)) tt h.1)) refl
+  pub some_whitespace_exchanged : IsExchanged IsSomeWhitespace
+  some_whitespace_exchanged p u v h = none_here p u (p ++ (d ∷ u)) (list_all-wider is_whitespace_byte is_special (λ x k. or_left (is_whitespace_byte x) _ k) (p ++ (d ∷ u)) (whitespace_made.made (p ++ (d ∷ u)) tt h.1)) refl
 
   pub text_exchanged : (t : List ℕ) → list_all is_special t ≡ true → IsExchanged (IsText t)
   text_exchanged t s p u v h = none_here p u t s h

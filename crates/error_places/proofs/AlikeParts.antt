@@ -4,47 +4,47 @@ use Rattle.std.specs.Prelude.{IsUtf8, codes}
 use Rattle.std.specs.Char.{is_ascii_digit}
 use Rattle.std.specs.List.{list_all}
 use Rattle.std.proofs.lemmas.Bool.{cases_Bool}
-use Rattle.semver_base.proofs.Blanks.{is_blank_byte}
+use Rattle.semver_base.proofs.Whitespace.{is_whitespace_byte}
 use Rattle.std.proofs.lemmas.Bool.Decides.{nat_tests}
 use Rattle.std.proofs.lemmas.Str.{IsUtf8-append, IsUtf8-nil, encode_ascii}
 use Rattle.semver_base.specs.Comparators.{Comparator}
 use Rattle.semver_base.specs.Grammar.{After, Either, this, that, IsText}
-use Rattle.semver_base.specs.Lexical.{IsBlanks, IsSomeBlanks, is_identifier_byte}
+use Rattle.semver_base.specs.Lexical.{IsWhitespace, IsSomeWhitespace, is_identifier_byte}
 use Rattle.semver_base.proofs.Fronts.{fronts, same, shorter, longer}
 use Rattle.semver_req.specs.Comparators.{IsComparator, IsEquals, no_more, one_more, IsIgnored, IsLed, IsNpmCaret, IsNpmTilde}
 use Rattle.semver_req.specs.Outcome.{IsSpecifierRange}
 use Rattle.semver_req.specs.Partials.{IsPartial, is_wildcard}
-use Rattle.semver_req.specs.Pieces.{IsCutting, IsFilled, IsHyphened, IsMark, IsNpmSeparator, IsPiece, IsUpper, npm, normal}
+use Rattle.semver_req.specs.Pieces.{IsCutting, IsFilled, IsHyphened, IsListOperator, IsNpmSeparator, IsPiece, IsUpper, npm, normal}
 use Rattle.semver_req.specs.declared.common.values.Flavour.{Flavour}
 use Rattle.semver_req.specs.declared.common.values.Flavour.TheVariants.{Npm, Normal, Specifier}
 use Rattle.error_places.specs.Kinds.{is_other_letter}
 use Rattle.error_places.specs.Viable.{HasPiece, IsAnyPiece, IsPart, IsPieceOrCut, alone, cut, IsViablePrefix}
-use Rattle.error_places.proofs.Alike.{Goes, IsAlike, IsExchanged, is_sign_byte, is_special, blanks_special, blanks_exchanged, byte_exchanged, either_exchanged, followed_exchanged, kind_exchanged, mapped_exchanged, none_here, optional_exchanged, other, prefixed_exchanged, some_blanks_exchanged, text_exchanged}
-use Rattle.error_places.proofs.AlikeWords.{listed_exchanged, normal_filled_exchanged, of_primitive_exchanged, one_text, plain_exchanged, plain_partial_exchanged, specifier_exchanged}
-use Rattle.error_places.proofs.Words.{one_blank, one_digit}
-use Rattle.error_places.proofs.Partials.{blanks_none, one, one_partial}
-use Rattle.error_places.proofs.Npm.{blank_one, blanks_letter_one, blanks_one, letter_one, one_is_led, one_upper}
-use Rattle.error_places.proofs.Parts.{blank_one_text, filled_piece, one_byte_text, with_viable}
+use Rattle.error_places.proofs.Alike.{Goes, IsAlike, IsExchanged, is_sign_byte, is_special, whitespace_special, whitespace_exchanged, byte_exchanged, either_exchanged, followed_exchanged, kind_exchanged, mapped_exchanged, none_here, optional_exchanged, other, prefixed_exchanged, some_whitespace_exchanged, text_exchanged}
+use Rattle.error_places.proofs.AlikeWords.{listed_exchanged, normal_filled_exchanged, of_primitive_exchanged, one_text, bare_exchanged, bare_partial_exchanged, specifier_exchanged}
+use Rattle.error_places.proofs.Words.{one_whitespace, one_digit}
+use Rattle.error_places.proofs.Partials.{whitespace_none, one, one_partial}
+use Rattle.error_places.proofs.Npm.{one_whitespace_text, whitespace_letter_one, whitespace_one, letter_one, one_is_led, one_upper}
+use Rattle.error_places.proofs.Parts.{whitespace_one_text, filled_piece, one_byte_text, with_viable}
 
 -- ---- npm's grammar
 
-blank : IsSomeBlanks (32 ∷ []) tt
-blank = (omega arith, one_blank 32 (32 ∷ []) refl (encode_ascii 32 (omega arith)))
+whitespace : IsSomeWhitespace (32 ∷ []) tt
+whitespace = (omega arith, one_whitespace 32 (32 ∷ []) refl (encode_ascii 32 (omega arith)))
 
 tilde_one : After (Either (IsText (codes "~>")) (IsText (codes "~"))) IsLed (126 ∷ 49 ∷ []) one
 tilde_one = record { value = (tt, one); is = refl; stands = record { first = 126 ∷ []; second = one_digit; text_is = refl; in_first = that refl; in_second = one_is_led; seam = tt } }
 
-two_ands : After IsMark IsBlanks (38 ∷ 38 ∷ []) tt
-two_ands = record { value = (tt, tt); is = refl; stands = record { first = 38 ∷ 38 ∷ []; second = []; text_is = refl; in_first = this refl; in_second = blanks_none; seam = tt } }
+two_ands : After IsListOperator IsWhitespace (38 ∷ 38 ∷ []) tt
+two_ands = record { value = (tt, tt); is = refl; stands = record { first = 38 ∷ 38 ∷ []; second = []; text_is = refl; in_first = this refl; in_second = whitespace_none; seam = tt } }
 
 hyphened_one : IsHyphened (32 ∷ 45 ∷ 32 ∷ 49 ∷ []) one
-hyphened_one = record { value = (tt, one); is = refl; stands = record { first = 32 ∷ []; second = 45 ∷ 32 ∷ 49 ∷ []; text_is = refl; in_first = blank; in_second = (refl, blank_one); seam = tt } }
+hyphened_one = record { value = (tt, one); is = refl; stands = record { first = 32 ∷ []; second = 45 ∷ 32 ∷ 49 ∷ []; text_is = refl; in_first = whitespace; in_second = (refl, one_whitespace_text); seam = tt } }
 
 two_text : (a b : ℕ) → a < 128 → b < 128 → IsUtf8 (a ∷ b ∷ [])
 two_text a b h k = IsUtf8-append (a ∷ []) (b ∷ []) (one_byte_text a h) (one_byte_text b k)
 
 hyphen_one_text : IsUtf8 (45 ∷ 32 ∷ 49 ∷ [])
-hyphen_one_text = IsUtf8-append (45 ∷ []) (32 ∷ 49 ∷ []) (one_byte_text 45 (omega arith)) blank_one_text
+hyphen_one_text = IsUtf8-append (45 ∷ []) (32 ∷ 49 ∷ []) (one_byte_text 45 (omega arith)) whitespace_one_text
 
 hyphened_one_text : IsUtf8 (32 ∷ 45 ∷ 32 ∷ 49 ∷ [])
 hyphened_one_text = IsUtf8-append (32 ∷ []) (45 ∷ 32 ∷ 49 ∷ []) (one_byte_text 32 (omega arith)) hyphen_one_text
@@ -58,16 +58,16 @@ module _ (d e : ℕ) (alike : IsAlike Npm d e) where
   Ex R = IsExchanged Npm d e alike R
 
   partial_exchanged : Ex (IsPartial Npm)
-  partial_exchanged = let p = plain_partial_exchanged Npm d e alike in either_exchanged Npm d e alike (prefixed_exchanged Npm d e alike 118 refl p) p
+  partial_exchanged = let p = bare_partial_exchanged Npm d e alike in either_exchanged Npm d e alike (prefixed_exchanged Npm d e alike 118 refl p) p
 
   equals_exchanged : Ex IsEquals
   equals_exchanged p u v h = none_here Npm d e alike p u (p ++ (d ∷ u)) (equals_special (p ++ (d ∷ u)) h) refl
 
   led_exchanged : Ex IsLed
-  led_exchanged = mapped_exchanged Npm d e alike (followed_exchanged Npm d e alike one_digit one blanks_letter_one one_text equals_exchanged (mapped_exchanged Npm d e alike (followed_exchanged Npm d e alike one_digit one letter_one one_text (blanks_exchanged Npm d e alike) (mapped_exchanged Npm d e alike (followed_exchanged Npm d e alike one_digit one blanks_one one_text (optional_exchanged Npm d e alike (byte_exchanged Npm d e alike 118 refl)) (mapped_exchanged Npm d e alike (followed_exchanged Npm d e alike one_digit one (one_partial Npm) one_text (blanks_exchanged Npm d e alike) partial_exchanged)))))))
+  led_exchanged = mapped_exchanged Npm d e alike (followed_exchanged Npm d e alike one_digit one whitespace_letter_one one_text equals_exchanged (mapped_exchanged Npm d e alike (followed_exchanged Npm d e alike one_digit one letter_one one_text (whitespace_exchanged Npm d e alike) (mapped_exchanged Npm d e alike (followed_exchanged Npm d e alike one_digit one whitespace_one one_text (optional_exchanged Npm d e alike (byte_exchanged Npm d e alike 118 refl)) (mapped_exchanged Npm d e alike (followed_exchanged Npm d e alike one_digit one (one_partial Npm) one_text (whitespace_exchanged Npm d e alike) partial_exchanged)))))))
 
   ignored_exchanged : Ex IsIgnored
-  ignored_exchanged = optional_exchanged Npm d e alike (followed_exchanged Npm d e alike (32 ∷ []) tt blank (one_byte_text 32 (omega arith)) (kind_exchanged Npm d e alike) (some_blanks_exchanged Npm d e alike))
+  ignored_exchanged = optional_exchanged Npm d e alike (followed_exchanged Npm d e alike (32 ∷ []) tt whitespace (one_byte_text 32 (omega arith)) (kind_exchanged Npm d e alike) (some_whitespace_exchanged Npm d e alike))
 
   tilde_exchanged : Ex IsNpmTilde
   tilde_exchanged = mapped_exchanged Npm d e alike (mapped_exchanged Npm d e alike (followed_exchanged Npm d e alike (126 ∷ 49 ∷ []) one tilde_one (two_text 126 49 (omega arith) (omega arith)) ignored_exchanged (mapped_exchanged Npm d e alike (followed_exchanged Npm d e alike one_digit one one_is_led one_text (either_exchanged Npm d e alike (text_exchanged Npm d e alike (codes "~>") refl) (text_exchanged Npm d e alike (codes "~") refl)) led_exchanged))))
@@ -76,16 +76,16 @@ module _ (d e : ℕ) (alike : IsAlike Npm d e) where
   caret_exchanged = mapped_exchanged Npm d e alike (mapped_exchanged Npm d e alike (followed_exchanged Npm d e alike (94 ∷ 49 ∷ []) one (refl, one_is_led) (two_text 94 49 (omega arith) (omega arith)) ignored_exchanged (prefixed_exchanged Npm d e alike 94 refl led_exchanged)))
 
   comparator_exchanged : Ex (IsComparator Npm)
-  comparator_exchanged = either_exchanged Npm d e alike (either_exchanged Npm d e alike tilde_exchanged caret_exchanged) (either_exchanged Npm d e alike (of_primitive_exchanged Npm d e alike partial_exchanged) (plain_exchanged Npm d e alike partial_exchanged))
+  comparator_exchanged = either_exchanged Npm d e alike (either_exchanged Npm d e alike tilde_exchanged caret_exchanged) (either_exchanged Npm d e alike (of_primitive_exchanged Npm d e alike partial_exchanged) (bare_exchanged Npm d e alike partial_exchanged))
 
   separator_exchanged : Ex IsNpmSeparator
-  separator_exchanged = either_exchanged Npm d e alike (mapped_exchanged Npm d e alike (followed_exchanged Npm d e alike (38 ∷ 38 ∷ []) tt two_ands (two_text 38 38 (omega arith) (omega arith)) (blanks_exchanged Npm d e alike) (mapped_exchanged Npm d e alike (followed_exchanged Npm d e alike [] tt blanks_none IsUtf8-nil (either_exchanged Npm d e alike (text_exchanged Npm d e alike (codes "&&") refl) (text_exchanged Npm d e alike (codes ",") refl)) (blanks_exchanged Npm d e alike))))) (some_blanks_exchanged Npm d e alike)
+  separator_exchanged = either_exchanged Npm d e alike (mapped_exchanged Npm d e alike (followed_exchanged Npm d e alike (38 ∷ 38 ∷ []) tt two_ands (two_text 38 38 (omega arith) (omega arith)) (whitespace_exchanged Npm d e alike) (mapped_exchanged Npm d e alike (followed_exchanged Npm d e alike [] tt whitespace_none IsUtf8-nil (either_exchanged Npm d e alike (text_exchanged Npm d e alike (codes "&&") refl) (text_exchanged Npm d e alike (codes ",") refl)) (whitespace_exchanged Npm d e alike))))) (some_whitespace_exchanged Npm d e alike)
 
   upper_exchanged : Ex IsUpper
-  upper_exchanged = mapped_exchanged Npm d e alike (followed_exchanged Npm d e alike [] tt blanks_none IsUtf8-nil partial_exchanged (blanks_exchanged Npm d e alike))
+  upper_exchanged = mapped_exchanged Npm d e alike (followed_exchanged Npm d e alike [] tt whitespace_none IsUtf8-nil partial_exchanged (whitespace_exchanged Npm d e alike))
 
   hyphened_exchanged : Ex IsHyphened
-  hyphened_exchanged = mapped_exchanged Npm d e alike (followed_exchanged Npm d e alike (45 ∷ 32 ∷ 49 ∷ []) one (refl, blank_one) hyphen_one_text (some_blanks_exchanged Npm d e alike) (prefixed_exchanged Npm d e alike 45 refl (mapped_exchanged Npm d e alike (followed_exchanged Npm d e alike one_digit one one_upper one_text (some_blanks_exchanged Npm d e alike) upper_exchanged))))
+  hyphened_exchanged = mapped_exchanged Npm d e alike (followed_exchanged Npm d e alike (45 ∷ 32 ∷ 49 ∷ []) one (refl, one_whitespace_text) hyphen_one_text (some_whitespace_exchanged Npm d e alike) (prefixed_exchanged Npm d e alike 45 refl (mapped_exchanged Npm d e alike (followed_exchanged Npm d e alike one_digit one one_upper one_text (some_whitespace_exchanged Npm d e alike) upper_exchanged))))
 
   npm_filled_exchanged : Ex (IsFilled Npm)
   npm_filled_exchanged = either_exchanged Npm d e alike (mapped_exchanged Npm d e alike (followed_exchanged Npm d e alike (32 ∷ 45 ∷ 32 ∷ 49 ∷ []) one hyphened_one hyphened_one_text partial_exchanged hyphened_exchanged)) (listed_exchanged Npm d e alike comparator_exchanged separator_exchanged)
@@ -107,7 +107,7 @@ module _ (f : Flavour) (cuts : IsCutting f) (d e : ℕ) (alike : IsAlike f d e) 
 
   any_goes : (p u : List ℕ) (cs : List Comparator) → IsAnyPiece f true (p ++ (d ∷ u)) cs → IsViablePrefix (IsPieceOrCut f) (p ++ (e ∷ []))
   any_goes p u cs (inl h) = piece_goes p u cs h
-  any_goes p u cs (inr h) = none_here f d e alike p u (p ++ (d ∷ u)) (blanks_special (p ++ (d ∷ u)) h.1) refl
+  any_goes p u cs (inr h) = none_here f d e alike p u (p ++ (d ∷ u)) (whitespace_special (p ++ (d ∷ u)) h.1) refl
 
   cut_goes : (p u : List ℕ) (cs : List Comparator) → IsPieceOrCut f (p ++ (d ∷ u)) cs → IsViablePrefix (IsPieceOrCut f) (p ++ (e ∷ []))
   cut_goes p u cs h = go (p ++ (d ∷ u)) cs h refl
@@ -143,7 +143,7 @@ digits_alike f d e h k = record {
   digit_back = λ _. h;
   identifier = λ _. digit_identifier e k;
   wildcard = λ w. absurd (digit_no_wildcard f d h w);
-  plain = digit_plain d h;
+  plain = digit_bare d h;
   no_hyphen = λ m. digit_no_hyphen e k m;
 }
   where
@@ -155,8 +155,8 @@ digits_alike f d e h k = record {
     digit_no_wildcard Normal b h k = grind (arith, nat_tests)
     digit_no_wildcard Specifier b h k = grind (arith, nat_tests)
 
-    digit_plain : (b : ℕ) → is_ascii_digit b ≡ true → is_special b ≡ true → ⊥
-    digit_plain b h k = grind (arith, nat_tests)
+    digit_bare : (b : ℕ) → is_ascii_digit b ≡ true → is_special b ≡ true → ⊥
+    digit_bare b h k = grind (arith, nat_tests)
 
     digit_no_hyphen : (b : ℕ) → is_ascii_digit b ≡ true → b ≡ 45 → ⊥
     digit_no_hyphen b h k = grind (arith, nat_tests)
@@ -167,7 +167,7 @@ letters_alike f d e h k = record {
   digit_back = λ i. absurd (letter_no_digit e k i);
   identifier = λ _. letter_identifier e k;
   wildcard = λ w. absurd (letter_no_wildcard f d h w);
-  plain = letter_plain d h;
+  plain = letter_bare d h;
   no_hyphen = λ m. letter_no_hyphen e k m;
 }
   where
@@ -182,15 +182,15 @@ letters_alike f d e h k = record {
     letter_no_wildcard Normal b h k = grind (arith, nat_tests)
     letter_no_wildcard Specifier b h k = grind (arith, nat_tests)
 
-    letter_no_blank : (b : ℕ) → is_other_letter b ≡ true → is_blank_byte b ≡ true → ⊥
-    letter_no_blank b h k = grind (arith, nat_tests)
+    letter_no_whitespace : (b : ℕ) → is_other_letter b ≡ true → is_whitespace_byte b ≡ true → ⊥
+    letter_no_whitespace b h k = grind (arith, nat_tests)
 
     letter_no_sign : (b : ℕ) → is_other_letter b ≡ true → is_sign_byte b ≡ true → ⊥
     letter_no_sign b h k = grind (arith, nat_tests)
 
-    letter_plain : (b : ℕ) → is_other_letter b ≡ true → is_special b ≡ true → ⊥
-    letter_plain b h k = elim (cases_Bool (is_blank_byte b)) [
-      | inl white ↦ letter_no_blank b h white
+    letter_bare : (b : ℕ) → is_other_letter b ≡ true → is_special b ≡ true → ⊥
+    letter_bare b h k = elim (cases_Bool (is_whitespace_byte b)) [
+      | inl white ↦ letter_no_whitespace b h white
       | inr none ↦ letter_no_sign b h (rw none at k)
     ]
 

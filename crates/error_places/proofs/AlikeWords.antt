@@ -9,14 +9,14 @@ use Rattle.semver_base.specs.declared.lexical.values.Strictness.{Strictness}
 use Rattle.semver_base.specs.declared.lexical.values.Strictness.TheVariants.{Loose, Strict}
 use Rattle.semver_base.specs.declared.partial.XRange.TheVariants.{Wildcard, Val}
 use Rattle.semver_base.proofs.Fronts.{fronts, same, shorter, longer}
-use Rattle.semver_req.specs.Comparators.{IsComparator, IsMarked, IsOfPrimitive, IsPlain}
-use Rattle.semver_req.specs.Partials.{IsComponent, IsPartial, IsPlainPartial, IsSecond, IsThird, is_wildcard, strictness_of}
+use Rattle.semver_req.specs.Comparators.{IsComparator, HasOperator, IsOfPrimitive, IsBare}
+use Rattle.semver_req.specs.Partials.{IsComponent, IsPartial, IsBarePartial, IsSecond, IsThird, is_wildcard, strictness_of}
 use Rattle.semver_req.specs.Pieces.{IsFilled}
 use Rattle.semver_req.specs.declared.common.values.Flavour.{Flavour}
 use Rattle.semver_req.specs.declared.common.values.Flavour.TheVariants.{Normal, Specifier}
-use Rattle.error_places.proofs.Alike.{Goes, IsAlike, IsExchanged, blanks_exchanged, byte_exchanged, either_exchanged, followed_exchanged, joined_exchanged, kind_exchanged, mapped_exchanged, optional_exchanged, other, prefixed_exchanged, run_exchanged, run_short, some_blanks_exchanged}
+use Rattle.error_places.proofs.Alike.{Goes, IsAlike, IsExchanged, whitespace_exchanged, byte_exchanged, either_exchanged, followed_exchanged, joined_exchanged, kind_exchanged, mapped_exchanged, optional_exchanged, other, prefixed_exchanged, run_exchanged, run_short, some_whitespace_exchanged}
 use Rattle.error_places.proofs.Words.{no_qualifier, one_digit}
-use Rattle.error_places.proofs.Partials.{one, one_after_blanks, one_partial}
+use Rattle.error_places.proofs.Partials.{one, one_after_whitespace, one_partial}
 use Rattle.error_places.proofs.Parts.{one_byte_text}
 
 pub one_text : IsUtf8 one_digit
@@ -113,27 +113,27 @@ module _ (f : Flavour) (d e : ℕ) (alike : IsAlike f d e) where
   second_exchanged : Ex (IsSecond f)
   second_exchanged = prefixed_exchanged f d e alike 46 refl (followed_exchanged f d e alike [] None refl IsUtf8-nil component_exchanged (optional_exchanged f d e alike third_exchanged))
 
-  pub plain_partial_exchanged : Ex (IsPlainPartial f)
-  plain_partial_exchanged = mapped_exchanged f d e alike (followed_exchanged f d e alike [] None refl IsUtf8-nil component_exchanged (optional_exchanged f d e alike second_exchanged))
+  pub bare_partial_exchanged : Ex (IsBarePartial f)
+  bare_partial_exchanged = mapped_exchanged f d e alike (followed_exchanged f d e alike [] None refl IsUtf8-nil component_exchanged (optional_exchanged f d e alike second_exchanged))
 
   -- ---- comparators
 
   module _ (partial : Ex (IsPartial f)) where
-    marked_exchanged : Ex (IsMarked f)
-    marked_exchanged = either_exchanged f d e alike (mapped_exchanged f d e alike (prefixed_exchanged f d e alike 126 refl partial)) (mapped_exchanged f d e alike (prefixed_exchanged f d e alike 94 refl partial))
+    operator_form_exchanged : Ex (HasOperator f)
+    operator_form_exchanged = either_exchanged f d e alike (mapped_exchanged f d e alike (prefixed_exchanged f d e alike 126 refl partial)) (mapped_exchanged f d e alike (prefixed_exchanged f d e alike 94 refl partial))
 
-    pub plain_exchanged : Ex (IsPlain f)
-    plain_exchanged = mapped_exchanged f d e alike partial
+    pub bare_exchanged : Ex (IsBare f)
+    bare_exchanged = mapped_exchanged f d e alike partial
 
     pub of_primitive_exchanged : Ex (IsOfPrimitive f)
-    of_primitive_exchanged = mapped_exchanged f d e alike (followed_exchanged f d e alike one_digit one (one_after_blanks f) one_text (kind_exchanged f d e alike) (mapped_exchanged f d e alike (followed_exchanged f d e alike one_digit one (one_partial f) one_text (blanks_exchanged f d e alike) partial)))
+    of_primitive_exchanged = mapped_exchanged f d e alike (followed_exchanged f d e alike one_digit one (one_after_whitespace f) one_text (kind_exchanged f d e alike) (mapped_exchanged f d e alike (followed_exchanged f d e alike one_digit one (one_partial f) one_text (whitespace_exchanged f d e alike) partial)))
 
 -- ---- the strict and the normalized grammar
 
 pub specifier_exchanged : (d e : ℕ) (alike : IsAlike Specifier d e) → IsExchanged Specifier d e alike (IsComparator Specifier)
-specifier_exchanged d e alike = let p = plain_partial_exchanged Specifier d e alike in either_exchanged Specifier d e alike (marked_exchanged Specifier d e alike p) (plain_exchanged Specifier d e alike p)
+specifier_exchanged d e alike = let p = bare_partial_exchanged Specifier d e alike in either_exchanged Specifier d e alike (operator_form_exchanged Specifier d e alike p) (bare_exchanged Specifier d e alike p)
 
 pub normal_filled_exchanged : (d e : ℕ) (alike : IsAlike Normal d e) → IsExchanged Normal d e alike (IsFilled Normal)
 normal_filled_exchanged d e alike =
-    let p = plain_partial_exchanged Normal d e alike in
-    listed_exchanged Normal d e alike (either_exchanged Normal d e alike (marked_exchanged Normal d e alike p) (either_exchanged Normal d e alike (of_primitive_exchanged Normal d e alike p) (plain_exchanged Normal d e alike p))) (some_blanks_exchanged Normal d e alike)
+    let p = bare_partial_exchanged Normal d e alike in
+    listed_exchanged Normal d e alike (either_exchanged Normal d e alike (operator_form_exchanged Normal d e alike p) (either_exchanged Normal d e alike (of_primitive_exchanged Normal d e alike p) (bare_exchanged Normal d e alike p))) (some_whitespace_exchanged Normal d e alike)

@@ -6,7 +6,7 @@ use Rattle.std.proofs.lemmas.Bool.Decides.{nat_tests}
 use Rattle.std.proofs.lemmas.List.{nil_from_length}
 use Rattle.semver_base.specs.Comparators.{Comparator}
 use Rattle.semver_base.specs.Grammar.{IsLongest}
-use Rattle.semver_base.specs.Lexical.{IsBlanks}
+use Rattle.semver_base.specs.Lexical.{IsWhitespace}
 use Rattle.semver_req.specs.Outcome.{IsSpecifierRange}
 use Rattle.semver_req.specs.Pieces.{AreMorePieces, no_piece, last_piece, cut_piece, ArePieces, one_piece, first_cut, HasNoBar, IsCutAt, IsTrimmed}
 use Rattle.semver_req.specs.declared.common.values.Flavour.{Flavour}
@@ -37,18 +37,18 @@ module _ (f : Flavour) (text : List ℕ) where
   first_piece piece rest errors these c is h = λ more others m e. record { followed = true; pieces = piece ∷ more; are_pieces = first_cut c m; among = subst (λ all. AreErrors f text true (piece ∷ more) (all ++ others)) (sym is) (one_more f text true 0 piece more these others h (whole_text (first_cut c m)) e) }
 
   -- the text behind a piece: what was there before it, and whitespace
-  module _ (front rest from : List ℕ) (errors : List InvalidPiece) (text_is : text ≡ front ++ rest) (so_far : Completes f text rest errors) (blanks : IsLongest IsBlanks rest tt from) where
+  module _ (front rest from : List ℕ) (errors : List InvalidPiece) (text_is : text ≡ front ++ rest) (so_far : Completes f text rest errors) (whitespace : IsLongest IsWhitespace rest tt from) where
     trimmed : IsTrimmed rest from
-    trimmed = record { longest = blanks }
+    trimmed = record { longest = whitespace }
 
-    pub behind : text ≡ (front ++ blanks.front) ++ from
-    behind = text_is ∙ (ap (λ t. front ++ t) blanks.text_is ∙ sym (append_assoc front blanks.front from))
+    pub behind : text ≡ (front ++ whitespace.front) ++ from
+    behind = text_is ∙ (ap (λ t. front ++ t) whitespace.text_is ∙ sym (append_assoc front whitespace.front from))
 
-    pub place_of : (start : ℕ) → start ≡ length text - length from → length (front ++ blanks.front) ≡ start
-    place_of start e = omega (arith, e, ap length behind, length-append (front ++ blanks.front) from)
+    pub place_of : (start : ℕ) → start ≡ length text - length from → length (front ++ whitespace.front) ≡ start
+    place_of start e = omega (arith, e, ap length behind, length-append (front ++ whitespace.front) from)
 
     starts : {b : Bool} {pieces : List (List ℕ)} → (start : ℕ) → start ≡ length text - length from → ArePieces from b pieces → StartAt text start pieces
-    starts {b} start e p = record { before = front ++ blanks.front; rest = from; text_is = behind; there = place_of start e; followed = b; are_pieces = p }
+    starts {b} start e p = record { before = front ++ whitespace.front; rest = from; text_is = behind; there = place_of start e; followed = b; are_pieces = p }
 
     pub none_more : (length from == 0) ≡ true → AreErrorsOf f text errors
     none_more empty = let nil : from ≡ [] = nil_from_length from (grind (arith, nat_tests)) in subst (AreErrorsOf f text) (append-nil errors) (so_far [] [] (no_piece (rw nil at trimmed)) none_left)
@@ -65,8 +65,8 @@ module _ (f : Flavour) (text : List ℕ) where
         (so_far (piece ∷ more) (these ++ others) (cut_piece trimmed c m) (one_more f text false start piece more these others h (starts start e (first_cut c m)) k))
 
     -- what follows the next piece is an end of the text too
-    pub further : (piece rest_of : List ℕ) → IsCutAt from piece rest_of → text ≡ ((front ++ blanks.front) ++ (piece ++ (124 ∷ 124 ∷ []))) ++ rest_of
-    further piece rest_of c = behind ∙ (ap (λ t. (front ++ blanks.front) ++ t) (c.text_is ∙ sym (append_assoc piece (124 ∷ 124 ∷ []) rest_of)) ∙ sym (append_assoc (front ++ blanks.front) (piece ++ (124 ∷ 124 ∷ [])) rest_of))
+    pub further : (piece rest_of : List ℕ) → IsCutAt from piece rest_of → text ≡ ((front ++ whitespace.front) ++ (piece ++ (124 ∷ 124 ∷ []))) ++ rest_of
+    further piece rest_of c = behind ∙ (ap (λ t. (front ++ whitespace.front) ++ t) (c.text_is ∙ sym (append_assoc piece (124 ∷ 124 ∷ []) rest_of)) ∙ sym (append_assoc (front ++ whitespace.front) (piece ++ (124 ∷ 124 ∷ [])) rest_of))
 
 -- ---- the strict grammar
 

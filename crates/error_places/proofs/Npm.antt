@@ -2,24 +2,24 @@
 use Rattle.std.proofs.Common.{◌≡◌, ℕ, List, [], ◌∷◌, ◌++◌, Option, Some, None, refl, sym, ap, ◌∙◌, arith, append_assoc, append-nil}
 use Rattle.std.specs.Prelude.{codes}
 use Rattle.std.proofs.lemmas.Str.{encode_ascii}
-use Rattle.semver_base.specs.Comparators.{Caret, Comparator, Plain, Tilde, OfPrimitive}
+use Rattle.semver_base.specs.Comparators.{Caret, Comparator, Bare, Tilde, OfPrimitive}
 use Rattle.semver_base.specs.Grammar.{After, Either, this, that, IsText, Listed, last_item, closed_item, Mapped, Optional, Prefixed}
-use Rattle.semver_base.specs.Lexical.{IsBlanks, IsByte, IsSomeBlanks}
+use Rattle.semver_base.specs.Lexical.{IsWhitespace, IsByte, IsSomeWhitespace}
 use Rattle.semver_base.specs.declared.partial.Partial.{Partial}
 use Rattle.semver_base.specs.declared.primitive.PrimitiveKind.{PrimitiveKind}
 use Rattle.semver_req.specs.Comparators.{IsComparator, IsEquals, no_more, one_more, IsIgnored, IsLed, IsPrimitiveKind}
 use Rattle.semver_req.specs.Partials.{IsPartial}
-use Rattle.semver_req.specs.Pieces.{IsFilled, IsHyphened, IsHyphenPair, IsMark, IsNpmSeparator, IsUpper, hyphen}
+use Rattle.semver_req.specs.Pieces.{IsFilled, IsHyphened, IsHyphenPair, IsListOperator, IsNpmSeparator, IsUpper, hyphen}
 use Rattle.semver_req.specs.declared.common.values.Flavour.TheVariants.{Npm}
 use Rattle.error_places.proofs.Endings.{Ends, IsCutIn, in_first, in_second, IsEnded, Starts, byte_ended, cut_in, either_ended, ended_wider, ends_here, followed_ended, listed_ended, mapped_ended, optional_ended, prefixed_ended}
-use Rattle.error_places.proofs.Words.{IsShort, nothing, digit, blanks_ended, blanks_front, one_blank, one_digit, some_blanks_ended}
-use Rattle.error_places.proofs.Partials.{blanks_none, kind_ended, of_primitive_ended, one, one_partial, partial_ended, plain_ended}
+use Rattle.error_places.proofs.Words.{IsShort, nothing, digit, whitespace_ended, whitespace_front, one_whitespace, one_digit, some_whitespace_ended}
+use Rattle.error_places.proofs.Partials.{whitespace_none, kind_ended, of_primitive_ended, one, one_partial, partial_ended, bare_ended}
 
 -- nothing, `1`, `&` or ` 1`
 pub data IsNpmEnding : List ℕ → Type 0 where
   short : {e : List ℕ} → IsShort e → IsNpmEnding e
   and_sign : IsNpmEnding (38 ∷ [])
-  blank_digit : IsNpmEnding (32 ∷ 49 ∷ [])
+  whitespace_digit : IsNpmEnding (32 ∷ 49 ∷ [])
 
 -- ---- what leads a partial
 
@@ -41,20 +41,20 @@ module _ {V : Type 0} {A : List ℕ → V → Type 0} {B : List ℕ → Partial 
   led_text : (v : V) → A [] v → B one_digit one → After A B one_digit one
   led_text v h t = record { value = (v, one); stands = record { first = []; second = one_digit; text_is = refl; in_first = h; in_second = t; seam = tt }; is = refl }
 
-pub blanks_one : After IsBlanks (IsPartial Npm) one_digit one
-blanks_one = led_text tt blanks_none (one_partial Npm)
+pub whitespace_one : After IsWhitespace (IsPartial Npm) one_digit one
+whitespace_one = led_text tt whitespace_none (one_partial Npm)
 
-pub letter_one : After (Optional (IsByte 118)) (After IsBlanks (IsPartial Npm)) one_digit one
-letter_one = led_text None refl blanks_one
+pub letter_one : After (Optional (IsByte 118)) (After IsWhitespace (IsPartial Npm)) one_digit one
+letter_one = led_text None refl whitespace_one
 
-pub blanks_letter_one : After IsBlanks (After (Optional (IsByte 118)) (After IsBlanks (IsPartial Npm))) one_digit one
-blanks_letter_one = led_text tt blanks_none letter_one
+pub whitespace_letter_one : After IsWhitespace (After (Optional (IsByte 118)) (After IsWhitespace (IsPartial Npm))) one_digit one
+whitespace_letter_one = led_text tt whitespace_none letter_one
 
 pub one_is_led : IsLed one_digit one
-one_is_led = led_text tt no_more blanks_letter_one
+one_is_led = led_text tt no_more whitespace_letter_one
 
 led_is_ended : IsEnded IsLed IsShort
-led_is_ended = led_ended blanks_letter_one (equals_ended refl) (led_ended letter_one (blanks_ended refl) (led_ended blanks_one (optional_ended (byte_ended 118 refl)) (led_ended (one_partial Npm) (blanks_ended refl) (partial_ended Npm))))
+led_is_ended = led_ended whitespace_letter_one (equals_ended refl) (led_ended letter_one (whitespace_ended refl) (led_ended whitespace_one (optional_ended (byte_ended 118 refl)) (led_ended (one_partial Npm) (whitespace_ended refl) (partial_ended Npm))))
 
 -- ---- comparators
 
@@ -72,8 +72,8 @@ tilde_ended = led_ended one_is_led marks led_is_ended
         go x (y ∷ p) u (that h) = cc h
 
 -- a primitive kind and whitespace behind it, with a digit, are a comparator
-kind_blanks : (x : ℕ) (p k b : List ℕ) (kind : PrimitiveKind) → x ∷ p ≡ k ++ b → IsPrimitiveKind k kind → IsBlanks b tt → Ends (IsComparator Npm) IsShort (x ∷ p)
-kind_blanks x p k b kind e h i = record {
+kind_whitespace : (x : ℕ) (p k b : List ℕ) (kind : PrimitiveKind) → x ∷ p ≡ k ++ b → IsPrimitiveKind k kind → IsWhitespace b tt → Ends (IsComparator Npm) IsShort (x ∷ p)
+kind_whitespace x p k b kind e h i = record {
   ending = one_digit;
   value = OfPrimitive kind one;
   is_ending = digit;
@@ -97,11 +97,11 @@ ignored_front x p m None s h = cc h
 ignored_front x p m (Some v) s h = go (cut_in (x ∷ p) m v s h)
   where
     kind_here : Ends IsPrimitiveKind (λ e. e ≡ []) (x ∷ p) → Ends (IsComparator Npm) IsShort (x ∷ p)
-    kind_here i = kind_blanks x p (x ∷ p) [] i.value (sym (append-nil (x ∷ p))) (rw (append-nil p) at (rw i.is_ending at i.stands)) blanks_none
+    kind_here i = kind_whitespace x p (x ∷ p) [] i.value (sym (append-nil (x ∷ p))) (rw (append-nil p) at (rw i.is_ending at i.stands)) whitespace_none
 
-    go : IsCutIn (λ a b. Unit {0}) IsPrimitiveKind IsSomeBlanks (x ∷ p) m → Ends (IsComparator Npm) IsShort (x ∷ p)
+    go : IsCutIn (λ a b. Unit {0}) IsPrimitiveKind IsSomeWhitespace (x ∷ p) m → Ends (IsComparator Npm) IsShort (x ∷ p)
     go (in_first n k j h) = kind_here ((kind_ended refl).ends x p n k j h)
-    go (in_second k y n kind w e h i j) = kind_blanks x p k (y ∷ n) kind e h (blanks_front (y ∷ n) m s i.1)
+    go (in_second k y n kind w e h i j) = kind_whitespace x p k (y ∷ n) kind e h (whitespace_front (y ∷ n) m s i.1)
 
 -- a comparator with an ignored primitive kind before it
 module _ {B : List ℕ → Partial → Type 0} (f : Partial → Comparator) (b : IsEnded B IsShort) (is : (text : List ℕ) (c : Comparator) → Mapped f (After IsIgnored B) text c → IsComparator Npm text c) where
@@ -141,31 +141,31 @@ npm_comparator_ended = record { ends = λ x p u c s h. go x p u c s h }
     go : (x : ℕ) (p u : List ℕ) (c : Comparator) → Starts u → IsComparator Npm ((x ∷ p) ++ u) c → Ends (IsComparator Npm) IsShort (x ∷ p)
     go x p u c s (this (this h)) = ignoring_ended Tilde tilde_ended (λ text c k. this (this k)) x p u c s h
     go x p u c s (this (that h)) = ignoring_ended Caret (prefixed_ended 94 (record { text = one_digit; value = one; is_ending = digit; stands = one_is_led }) led_is_ended) (λ text c k. this (that k)) x p u c s h
-    go x p u c s (that h) = let k = (either_ended (of_primitive_ended Npm) (plain_ended Npm)).ends x p u c s h in record { ending = k.ending; value = k.value; is_ending = k.is_ending; stands = that k.stands }
+    go x p u c s (that h) = let k = (either_ended (of_primitive_ended Npm) (bare_ended Npm)).ends x p u c s h in record { ending = k.ending; value = k.value; is_ending = k.is_ending; stands = that k.stands }
 
 -- ---- separators
 
 -- nothing, or a second `&`
-data IsMarkEnding : List ℕ → Type 0 where
-  no_sign : IsMarkEnding []
-  second_and : IsMarkEnding (38 ∷ [])
+data IsOperatorEnding : List ℕ → Type 0 where
+  no_sign : IsOperatorEnding []
+  second_and : IsOperatorEnding (38 ∷ [])
 
-mark_ending : (e : List ℕ) → IsMarkEnding e → IsNpmEnding e
-mark_ending e no_sign = short nothing
-mark_ending e second_and = and_sign
+operator_ending : (e : List ℕ) → IsOperatorEnding e → IsNpmEnding e
+operator_ending e no_sign = short nothing
+operator_ending e second_and = and_sign
 
-mark_ended : IsEnded IsMark IsMarkEnding
-mark_ended = record { ends = λ x p u v s h. go x p u h }
+operator_ended : IsEnded IsListOperator IsOperatorEnding
+operator_ended = record { ends = λ x p u v s h. go x p u h }
   where
-    go : (x : ℕ) (p u : List ℕ) → IsMark ((x ∷ p) ++ u) tt → Ends IsMark IsMarkEnding (x ∷ p)
+    go : (x : ℕ) (p u : List ℕ) → IsListOperator ((x ∷ p) ++ u) tt → Ends IsListOperator IsOperatorEnding (x ∷ p)
     go x [] u (this h) = let byte : x ≡ 38 = cc h in record { ending = 38 ∷ []; value = tt; is_ending = second_and; stands = this (rw byte refl) }
     go x (y ∷ []) u (this h) = let first : x ≡ 38 = cc h in let second : y ≡ 38 = cc h in ends_here (x ∷ y ∷ []) tt no_sign (this (rw (first, second) refl))
     go x (y ∷ z ∷ p) u (this h) = cc h
     go x [] u (that h) = let byte : x ≡ 44 = cc h in ends_here (x ∷ []) tt no_sign (that (rw byte refl))
     go x (y ∷ p) u (that h) = cc h
 
-mark_blanks_ended : IsEnded (After IsMark IsBlanks) IsNpmEnding
-mark_blanks_ended = mapped_ended (followed_ended IsMarkEnding (λ e. e ≡ []) IsNpmEnding [] tt blanks_none (λ e h. rw append-nil (mark_ending e h)) (λ e h. rw h (short nothing)) mark_ended (blanks_ended refl))
+operator_whitespace_ended : IsEnded (After IsListOperator IsWhitespace) IsNpmEnding
+operator_whitespace_ended = mapped_ended (followed_ended IsOperatorEnding (λ e. e ≡ []) IsNpmEnding [] tt whitespace_none (λ e h. rw append-nil (operator_ending e h)) (λ e h. rw h (short nothing)) operator_ended (whitespace_ended refl))
 
 separator_ended : IsEnded IsNpmSeparator IsNpmEnding
 separator_ended = record { ends = λ x p u v s h. go x p u s h }
@@ -173,18 +173,18 @@ separator_ended = record { ends = λ x p u v s h. go x p u s h }
     go : (x : ℕ) (p u : List ℕ) → Starts u → IsNpmSeparator ((x ∷ p) ++ u) tt → Ends IsNpmSeparator IsNpmEnding (x ∷ p)
     go x p u s (this h) = inner (cut_in (x ∷ p) u h.value s h.stands)
       where
-        inner : IsCutIn (λ a b. Unit {0}) IsBlanks (After IsMark IsBlanks) (x ∷ p) u → Ends IsNpmSeparator IsNpmEnding (x ∷ p)
-        inner (in_first m v j k) = ends_here (x ∷ p) tt (short nothing) (that (omega arith, blanks_front (x ∷ p) m j k))
-        inner (in_second k y n v w e i j z) = second (mark_blanks_ended.ends y n u w s j)
+        inner : IsCutIn (λ a b. Unit {0}) IsWhitespace (After IsListOperator IsWhitespace) (x ∷ p) u → Ends IsNpmSeparator IsNpmEnding (x ∷ p)
+        inner (in_first m v j k) = ends_here (x ∷ p) tt (short nothing) (that (omega arith, whitespace_front (x ∷ p) m j k))
+        inner (in_second k y n v w e i j z) = second (operator_whitespace_ended.ends y n u w s j)
           where
-            second : Ends (After IsMark IsBlanks) IsNpmEnding (y ∷ n) → Ends IsNpmSeparator IsNpmEnding (x ∷ p)
+            second : Ends (After IsListOperator IsWhitespace) IsNpmEnding (y ∷ n) → Ends IsNpmSeparator IsNpmEnding (x ∷ p)
             second t = record {
               ending = t.ending;
               value = tt;
               is_ending = t.is_ending;
               stands = this (record { value = (v, t.value); is = refl; stands = record { first = k; second = (y ∷ n) ++ t.ending; text_is = ap (λ l. l ++ t.ending) e ∙ append_assoc k (y ∷ n) t.ending; in_first = i; in_second = t.stands; seam = tt } });
             }
-    go x p u s (that h) = ends_here (x ∷ p) tt (short nothing) (that (omega arith, blanks_front (x ∷ p) u s h.1))
+    go x p u s (that h) = ends_here (x ∷ p) tt (short nothing) (that (omega arith, whitespace_front (x ∷ p) u s h.1))
 
 npm_list_ended : IsEnded (Listed (IsComparator Npm) IsNpmSeparator) IsNpmEnding
 npm_list_ended = listed_ended (ended_wider IsShort IsNpmEnding (λ e h. short h) npm_comparator_ended) separator_ended
@@ -192,26 +192,26 @@ npm_list_ended = listed_ended (ended_wider IsShort IsNpmEnding (λ e h. short h)
 -- ---- hyphen ranges
 
 upper_ended : IsEnded IsUpper IsShort
-upper_ended = mapped_ended (followed_ended IsShort (λ e. e ≡ []) IsShort [] tt blanks_none (λ e h. rw append-nil h) (λ e h. rw h nothing) (partial_ended Npm) (blanks_ended refl))
+upper_ended = mapped_ended (followed_ended IsShort (λ e. e ≡ []) IsShort [] tt whitespace_none (λ e h. rw append-nil h) (λ e h. rw h nothing) (partial_ended Npm) (whitespace_ended refl))
 
 pub one_upper : IsUpper one_digit one
-one_upper = record { value = (one, tt); is = refl; stands = record { first = one_digit; second = []; text_is = refl; in_first = one_partial Npm; in_second = blanks_none; seam = tt } }
+one_upper = record { value = (one, tt); is = refl; stands = record { first = one_digit; second = []; text_is = refl; in_first = one_partial Npm; in_second = whitespace_none; seam = tt } }
 
-upper_part_ended : IsEnded (After IsSomeBlanks IsUpper) IsShort
-upper_part_ended = mapped_ended (followed_ended (λ e. e ≡ []) IsShort IsShort one_digit one one_upper nil_digit (λ e h. h) (some_blanks_ended refl) upper_ended)
+upper_part_ended : IsEnded (After IsSomeWhitespace IsUpper) IsShort
+upper_part_ended = mapped_ended (followed_ended (λ e. e ≡ []) IsShort IsShort one_digit one one_upper nil_digit (λ e h. h) (some_whitespace_ended refl) upper_ended)
 
-pub blank_one : After IsSomeBlanks IsUpper (32 ∷ 49 ∷ []) one
-blank_one = record { value = (tt, one); is = refl; stands = record { first = 32 ∷ []; second = one_digit; text_is = refl; in_first = (omega arith, one_blank 32 (32 ∷ []) refl (encode_ascii 32 (omega arith))); in_second = one_upper; seam = tt } }
+pub one_whitespace_text : After IsSomeWhitespace IsUpper (32 ∷ 49 ∷ []) one
+one_whitespace_text = record { value = (tt, one); is = refl; stands = record { first = 32 ∷ []; second = one_digit; text_is = refl; in_first = (omega arith, one_whitespace 32 (32 ∷ []) refl (encode_ascii 32 (omega arith))); in_second = one_upper; seam = tt } }
 
-hyphen_part_ended : IsEnded (Prefixed 45 (After IsSomeBlanks IsUpper)) IsNpmEnding
-hyphen_part_ended = prefixed_ended 45 (record { text = 32 ∷ 49 ∷ []; value = one; is_ending = blank_digit; stands = blank_one }) (ended_wider IsShort IsNpmEnding (λ e h. short h) upper_part_ended)
+hyphen_part_ended : IsEnded (Prefixed 45 (After IsSomeWhitespace IsUpper)) IsNpmEnding
+hyphen_part_ended = prefixed_ended 45 (record { text = 32 ∷ 49 ∷ []; value = one; is_ending = whitespace_digit; stands = one_whitespace_text }) (ended_wider IsShort IsNpmEnding (λ e h. short h) upper_part_ended)
 
 -- a partial is a list, and so it is with whitespace behind it
 partial_alone : (p : List ℕ) → Ends (IsPartial Npm) IsShort p → Ends (IsFilled Npm) IsNpmEnding p
-partial_alone p i = record { ending = i.ending; value = Plain i.value ∷ []; is_ending = short i.is_ending; stands = that (last_item (that (that (record { value = i.value; stands = i.stands; is = refl })))) }
+partial_alone p i = record { ending = i.ending; value = Bare i.value ∷ []; is_ending = short i.is_ending; stands = that (last_item (that (that (record { value = i.value; stands = i.stands; is = refl })))) }
 
-partial_blanks_alone : (p f b : List ℕ) (v : Partial) → p ≡ f ++ b → IsPartial Npm f v → IsSomeBlanks b tt → Ends (IsFilled Npm) IsNpmEnding p
-partial_blanks_alone p f b v e h i = ends_here p (Plain v ∷ []) (short nothing) (that (rw e (closed_item (that (that (record { value = v; stands = h; is = refl }))) (that i))))
+partial_whitespace_alone : (p f b : List ℕ) (v : Partial) → p ≡ f ++ b → IsPartial Npm f v → IsSomeWhitespace b tt → Ends (IsFilled Npm) IsNpmEnding p
+partial_whitespace_alone p f b v e h i = ends_here p (Bare v ∷ []) (short nothing) (that (rw e (closed_item (that (that (record { value = v; stands = h; is = refl }))) (that i))))
 
 hyphen_ended : (x : ℕ) (p u : List ℕ) (v : Partial × Partial) → Starts u → IsHyphenPair ((x ∷ p) ++ u) v → Ends (IsFilled Npm) IsNpmEnding (x ∷ p)
 hyphen_ended x p u v s h = go (cut_in (x ∷ p) u v s h)
@@ -220,11 +220,11 @@ hyphen_ended x p u v s h = go (cut_in (x ∷ p) u v s h)
     go (in_first m w j k) = partial_alone (x ∷ p) ((partial_ended Npm).ends x p m w j k)
     go (in_second f y n w z e i j t) = inner (cut_in (y ∷ n) u j.value s j.stands)
       where
-        inner : IsCutIn (λ a b. Unit {0}) IsSomeBlanks (Prefixed 45 (After IsSomeBlanks IsUpper)) (y ∷ n) u → Ends (IsFilled Npm) IsNpmEnding (x ∷ p)
-        inner (in_first m b l k) = partial_blanks_alone (x ∷ p) f (y ∷ n) w e i (omega arith, blanks_front (y ∷ n) m l k.1)
+        inner : IsCutIn (λ a b. Unit {0}) IsSomeWhitespace (Prefixed 45 (After IsSomeWhitespace IsUpper)) (y ∷ n) u → Ends (IsFilled Npm) IsNpmEnding (x ∷ p)
+        inner (in_first m b l k) = partial_whitespace_alone (x ∷ p) f (y ∷ n) w e i (omega arith, whitespace_front (y ∷ n) m l k.1)
         inner (in_second g q r b c d k l o) = second (hyphen_part_ended.ends q r u c s l)
           where
-            second : Ends (Prefixed 45 (After IsSomeBlanks IsUpper)) IsNpmEnding (q ∷ r) → Ends (IsFilled Npm) IsNpmEnding (x ∷ p)
+            second : Ends (Prefixed 45 (After IsSomeWhitespace IsUpper)) IsNpmEnding (q ∷ r) → Ends (IsFilled Npm) IsNpmEnding (x ∷ p)
             second a = record {
               ending = a.ending;
               value = hyphen (w, a.value);

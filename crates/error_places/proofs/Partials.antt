@@ -4,19 +4,19 @@ use Rattle.std.specs.Char.{is_not_whitespace}
 use Rattle.std.proofs.lemmas.Str.{NoCharPasses-nil}
 use Rattle.semver_base.specs.Comparators.{primitive_kind_text}
 use Rattle.semver_base.specs.Grammar.{After, that}
-use Rattle.semver_base.specs.Lexical.{IsBlanks, qualifier_of}
+use Rattle.semver_base.specs.Lexical.{IsWhitespace, qualifier_of}
 use Rattle.semver_base.specs.declared.partial.Partial.{Partial}
 use Rattle.semver_base.specs.declared.partial.XRange.{XRange}
 use Rattle.semver_base.specs.declared.partial.XRange.TheVariants.{Wildcard, Val}
 use Rattle.semver_base.specs.declared.primitive.PrimitiveKind.{PrimitiveKind}
 use Rattle.semver_base.specs.declared.primitive.PrimitiveKind.TheVariants.{GreaterThan, LessThan, GreaterThanOrEqual, LessThanOrEqual, Equal}
-use Rattle.semver_req.specs.Comparators.{IsComparator, IsMarked, IsOfPrimitive, IsPlain, IsPrimitiveKind}
-use Rattle.semver_req.specs.Partials.{IsComponent, IsPartial, IsPlainPartial, IsSecond, IsThird, is_wildcard, strictness_of}
+use Rattle.semver_req.specs.Comparators.{IsComparator, HasOperator, IsOfPrimitive, IsBare, IsPrimitiveKind}
+use Rattle.semver_req.specs.Partials.{IsComponent, IsPartial, IsBarePartial, IsSecond, IsThird, is_wildcard, strictness_of}
 use Rattle.semver_req.specs.Pieces.{IsFilled}
 use Rattle.semver_req.specs.declared.common.values.Flavour.{Flavour}
 use Rattle.semver_req.specs.declared.common.values.Flavour.TheVariants.{Npm, Normal, Specifier}
 use Rattle.error_places.proofs.Endings.{Ends, HasText, IsEnded, Starts, either_ended, ends_here, followed_ended, joined_ended, listed_ended, mapped_ended, optional_ended, prefixed_ended}
-use Rattle.error_places.proofs.Words.{IsShort, nothing, digit, blanks_ended, no_qualifier, number_ended, one_digit, one_number, qualifier_ended, some_blanks_ended}
+use Rattle.error_places.proofs.Words.{IsShort, nothing, digit, whitespace_ended, no_qualifier, number_ended, one_digit, one_number, qualifier_ended, some_whitespace_ended}
 
 -- ---- partial versions
 
@@ -47,45 +47,45 @@ second_ended f = prefixed_ended 46
     (record { text = one_digit; value = (Val 1, None); is_ending = digit; stands = record { first = one_digit; second = []; text_is = refl; in_first = one_component f; in_second = refl; seam = tt } })
     (followed_ended IsShort IsShort IsShort [] None refl short_stays (λ e h. h) (component_ended f) (optional_ended (third_ended f)))
 
-pub plain_partial_ended : (f : Flavour) → IsEnded (IsPlainPartial f) IsShort
-plain_partial_ended f = mapped_ended (followed_ended IsShort IsShort IsShort [] None refl short_stays (λ e h. h) (component_ended f) (optional_ended (second_ended f)))
+pub bare_partial_ended : (f : Flavour) → IsEnded (IsBarePartial f) IsShort
+bare_partial_ended f = mapped_ended (followed_ended IsShort IsShort IsShort [] None refl short_stays (λ e h. h) (component_ended f) (optional_ended (second_ended f)))
 
 abbrev pub one : Partial
 one = record { major = Val 1; minor = Wildcard; patch = Wildcard; pre = []; build = [] }
 
-one_plain_partial : (f : Flavour) → IsPlainPartial f one_digit one
-one_plain_partial f = record { value = (Val 1, None); stands = record { first = one_digit; second = []; text_is = refl; in_first = one_component f; in_second = refl; seam = tt }; is = refl }
+one_bare_partial : (f : Flavour) → IsBarePartial f one_digit one
+one_bare_partial f = record { value = (Val 1, None); stands = record { first = one_digit; second = []; text_is = refl; in_first = one_component f; in_second = refl; seam = tt }; is = refl }
 
 pub one_partial : (f : Flavour) → IsPartial f one_digit one
-one_partial Npm = that (one_plain_partial Npm)
-one_partial Normal = one_plain_partial Normal
-one_partial Specifier = one_plain_partial Specifier
+one_partial Npm = that (one_bare_partial Npm)
+one_partial Normal = one_bare_partial Normal
+one_partial Specifier = one_bare_partial Specifier
 
 pub partial_text : (f : Flavour) → HasText (IsPartial f) IsShort
 partial_text f = record { text = one_digit; value = one; is_ending = digit; stands = one_partial f }
 
 pub partial_ended : (f : Flavour) → IsEnded (IsPartial f) IsShort
-partial_ended Npm = either_ended (prefixed_ended 118 (record { text = one_digit; value = one; is_ending = digit; stands = one_plain_partial Npm }) (plain_partial_ended Npm)) (plain_partial_ended Npm)
-partial_ended Normal = plain_partial_ended Normal
-partial_ended Specifier = plain_partial_ended Specifier
+partial_ended Npm = either_ended (prefixed_ended 118 (record { text = one_digit; value = one; is_ending = digit; stands = one_bare_partial Npm }) (bare_partial_ended Npm)) (bare_partial_ended Npm)
+partial_ended Normal = bare_partial_ended Normal
+partial_ended Specifier = bare_partial_ended Specifier
 
 -- ---- comparators
 
-marked_ended : (f : Flavour) → IsEnded (IsMarked f) IsShort
-marked_ended f = either_ended (mapped_ended (prefixed_ended 126 (partial_text f) (partial_ended f))) (mapped_ended (prefixed_ended 94 (partial_text f) (partial_ended f)))
+operator_form_ended : (f : Flavour) → IsEnded (HasOperator f) IsShort
+operator_form_ended f = either_ended (mapped_ended (prefixed_ended 126 (partial_text f) (partial_ended f))) (mapped_ended (prefixed_ended 94 (partial_text f) (partial_ended f)))
 
-pub plain_ended : (f : Flavour) → IsEnded (IsPlain f) IsShort
-plain_ended f = mapped_ended (partial_ended f)
+pub bare_ended : (f : Flavour) → IsEnded (IsBare f) IsShort
+bare_ended f = mapped_ended (partial_ended f)
 
-pub blanks_none : IsBlanks [] tt
-blanks_none = NoCharPasses-nil is_not_whitespace
+pub whitespace_none : IsWhitespace [] tt
+whitespace_none = NoCharPasses-nil is_not_whitespace
 
 -- whitespace and a partial
-pub blanks_partial_ended : (f : Flavour) → IsEnded (After IsBlanks (IsPartial f)) IsShort
-blanks_partial_ended f = mapped_ended (followed_ended (λ e. e ≡ []) IsShort IsShort one_digit one (one_partial f) (λ e h. rw h digit) (λ e h. h) (blanks_ended refl) (partial_ended f))
+pub whitespace_partial_ended : (f : Flavour) → IsEnded (After IsWhitespace (IsPartial f)) IsShort
+whitespace_partial_ended f = mapped_ended (followed_ended (λ e. e ≡ []) IsShort IsShort one_digit one (one_partial f) (λ e h. rw h digit) (λ e h. h) (whitespace_ended refl) (partial_ended f))
 
-pub one_after_blanks : (f : Flavour) → After IsBlanks (IsPartial f) one_digit one
-one_after_blanks f = record { value = (tt, one); stands = record { first = []; second = one_digit; text_is = refl; in_first = blanks_none; in_second = one_partial f; seam = tt }; is = refl }
+pub one_after_whitespace : (f : Flavour) → After IsWhitespace (IsPartial f) one_digit one
+one_after_whitespace f = record { value = (tt, one); stands = record { first = []; second = one_digit; text_is = refl; in_first = whitespace_none; in_second = one_partial f; seam = tt }; is = refl }
 
 -- a prefix of a primitive kind is one
 pub kind_ended : {E : List ℕ → Type 0} → E [] → IsEnded IsPrimitiveKind E
@@ -108,13 +108,13 @@ kind_ended {E} nil = record { ends = λ x p u v s h. go x p u v h }
     go x p u Equal h = one_byte x 61 p u Equal refl h
 
 pub of_primitive_ended : (f : Flavour) → IsEnded (IsOfPrimitive f) IsShort
-of_primitive_ended f = mapped_ended (followed_ended (λ e. e ≡ []) IsShort IsShort one_digit one (one_after_blanks f) (λ e h. rw h digit) (λ e h. h) (kind_ended refl) (blanks_partial_ended f))
+of_primitive_ended f = mapped_ended (followed_ended (λ e. e ≡ []) IsShort IsShort one_digit one (one_after_whitespace f) (λ e h. rw h digit) (λ e h. h) (kind_ended refl) (whitespace_partial_ended f))
 
 pub specifier_ended : IsEnded (IsComparator Specifier) IsShort
-specifier_ended = either_ended (marked_ended Specifier) (plain_ended Specifier)
+specifier_ended = either_ended (operator_form_ended Specifier) (bare_ended Specifier)
 
 pub normal_comparator_ended : IsEnded (IsComparator Normal) IsShort
-normal_comparator_ended = either_ended (marked_ended Normal) (either_ended (of_primitive_ended Normal) (plain_ended Normal))
+normal_comparator_ended = either_ended (operator_form_ended Normal) (either_ended (of_primitive_ended Normal) (bare_ended Normal))
 
 pub normal_filled_ended : IsEnded (IsFilled Normal) IsShort
-normal_filled_ended = listed_ended normal_comparator_ended (some_blanks_ended nothing)
+normal_filled_ended = listed_ended normal_comparator_ended (some_whitespace_ended nothing)

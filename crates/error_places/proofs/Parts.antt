@@ -8,13 +8,13 @@ use Rattle.std.proofs.lemmas.Bool.{both_ways, cases_lt}
 use Rattle.std.proofs.lemmas.Bool.Decides.{nat_tests}
 use Rattle.std.proofs.lemmas.List.{drop-take, length-take-le, nil_from_length, take-append-drop, take-append-le, take_all}
 use Rattle.std.proofs.lemmas.Str.{IsCharBoundary-start, IsUtf8-append, IsUtf8-between, IsUtf8-encode, IsUtf8-nil, encode_ascii}
-use Rattle.semver_base.specs.Comparators.{Comparator, Plain}
+use Rattle.semver_base.specs.Comparators.{Comparator, Bare}
 use Rattle.semver_base.specs.Grammar.{this, that, HasNone, Listed}
-use Rattle.semver_base.specs.declared.failure.Refusal.{Refusal}
-use Rattle.semver_base.specs.declared.failure.Refusal.TheVariants.{BoundTooLarge, NumberTooLarge, UnexpectedCharacter}
+use Rattle.semver_base.specs.declared.failure.Rejection.{Rejection}
+use Rattle.semver_base.specs.declared.failure.Rejection.TheVariants.{BoundTooLarge, NumberTooLarge, UnexpectedCharacter}
 use Rattle.semver_base.proofs.Fronts.{fronts, same, shorter, longer, same_fronts}
 use Rattle.semver_req.specs.Outcome.{IsBad, IsSpecifierRange}
-use Rattle.semver_req.specs.PieceReading.{IsPieceRefusal, outside, large_number, large_bound}
+use Rattle.semver_req.specs.PieceReading.{IsPieceRejection, outside, large_number, large_bound}
 use Rattle.semver_req.specs.Pieces.{IsCutting, IsFilled, IsPiece, npm, normal}
 use Rattle.semver_req.specs.Written.{IsFront, comparator_of}
 use Rattle.semver_req.specs.declared.common.comparator.Written.{Written}
@@ -22,9 +22,9 @@ use Rattle.semver_req.specs.declared.common.values.Flavour.{Flavour}
 use Rattle.semver_req.specs.declared.common.values.Flavour.TheVariants.{Npm, Normal, Specifier}
 use Rattle.error_places.specs.Viable.{HasPiece, IsAnyPiece, IsErrorPlace, IsPart, IsPieceOrCut, alone, cut, IsViablePrefix}
 use Rattle.error_places.proofs.Endings.{Ends, IsEnded, Starts, ended_wider}
-use Rattle.error_places.proofs.Words.{IsShort, nothing, digit, blanks_front, one_digit}
+use Rattle.error_places.proofs.Words.{IsShort, nothing, digit, whitespace_front, one_digit}
 use Rattle.error_places.proofs.Partials.{normal_filled_ended, one, one_partial, specifier_ended}
-use Rattle.error_places.proofs.Npm.{IsNpmEnding, short, and_sign, blank_digit, npm_filled_ended}
+use Rattle.error_places.proofs.Npm.{IsNpmEnding, short, and_sign, whitespace_digit, npm_filled_ended}
 
 -- ---- texts
 
@@ -34,8 +34,8 @@ one_byte_text c h = subst IsUtf8 (encode_ascii c h) (IsUtf8-encode c (low_scalar
 pub bars_text : IsUtf8 (codes "||")
 bars_text = IsUtf8-append (124 ∷ []) (124 ∷ []) (one_byte_text 124 (omega arith)) (one_byte_text 124 (omega arith))
 
-pub blank_one_text : IsUtf8 (32 ∷ 49 ∷ [])
-blank_one_text = IsUtf8-append (32 ∷ []) (49 ∷ []) (one_byte_text 32 (omega arith)) (one_byte_text 49 (omega arith))
+pub whitespace_one_text : IsUtf8 (32 ∷ 49 ∷ [])
+whitespace_one_text = IsUtf8-append (32 ∷ []) (49 ∷ []) (one_byte_text 32 (omega arith)) (one_byte_text 49 (omega arith))
 
 starts_text : (m : List ℕ) → IsUtf8 m → Starts m
 starts_text [] u = tt
@@ -75,8 +75,8 @@ up_to text n front middle nearest b le = elim (cases_lt front n) [
 
 -- ---- ranges of specifiers
 
-one_plain : IsSpecifierRange one_digit (Plain one)
-one_plain = that (record { value = one; stands = one_partial Specifier; is = refl })
+one_bare : IsSpecifierRange one_digit (Bare one)
+one_bare = that (record { value = one; stands = one_partial Specifier; is = refl })
 
 pub none_range : {text : List ℕ} → HasNone IsSpecifierRange text → IsTrue false ↔ ((c : Comparator) × IsSpecifierRange text c)
 none_range {text} n = (λ t. cc t, λ h. absurd (n.none text [] h.0 (sym (append-nil text)) h.1))
@@ -88,7 +88,7 @@ front_range {text} {rest} {written} {b} e f = (forward, backward)
     forward t =
         let nil : rest ≡ [] = nil_from_length rest (grind (arith, nat_tests)) in
         let whole : text ≡ f.longest.front = f.longest.text_is ∙ (ap (λ t. f.longest.front ++ t) nil ∙ append-nil f.longest.front) in
-        (comparator_of written.mark f.partial, rw whole f.longest.stands)
+        (comparator_of written.operator f.partial, rw whole f.longest.stands)
 
     backward : ((c : Comparator) × IsSpecifierRange text c) → IsTrue b
     backward h =
@@ -102,7 +102,7 @@ pub range_with_viable : (front text : List ℕ) → text ≡ front ++ one_digit 
 range_with_viable front text e h = record { more = one_digit; value = h.0; is_text = one_byte_text 49 (omega arith); stands = rw e at h.1 }
 
 pub range_with : (front text : List ℕ) → text ≡ front ++ one_digit → (((c : Comparator) × IsSpecifierRange front c) → ⊥) → IsViablePrefix IsSpecifierRange front → (c : Comparator) × IsSpecifierRange text c
-range_with [] text e never v = (Plain one, rw e one_plain)
+range_with [] text e never v = (Bare one, rw e one_bare)
 range_with (x ∷ p) text e never v = by (specifier_ended.ends x p v.more v.value (starts_text v.more v.is_text) v.stands)
   where
     ending : (t : List ℕ) (c : Comparator) → IsShort t → IsSpecifierRange ((x ∷ p) ++ t) c → (d : Comparator) × IsSpecifierRange text d
@@ -117,11 +117,11 @@ range_part {front} b h = (λ t. let v = h.0 t in record { more = v.more; value =
 
 -- ---- pieces
 
-pub refused_piece : (f : Flavour) (followed : Bool) (text : List ℕ) (b : Bool) (refusal : Refusal) → (refusal ≡ UnexpectedCharacter → b ≡ false) → (refusal ≡ NumberTooLarge → b ≡ true) → (refusal ≡ BoundTooLarge → b ≡ true)
-    → IsBad f followed text × IsPieceRefusal f text refusal → IsTrue b ↔ HasPiece f followed text
-refused_piece f followed text b refusal unexpected number bound h = go refusal h.1 unexpected number bound
+pub rejected_piece : (f : Flavour) (followed : Bool) (text : List ℕ) (b : Bool) (rejection : Rejection) → (rejection ≡ UnexpectedCharacter → b ≡ false) → (rejection ≡ NumberTooLarge → b ≡ true) → (rejection ≡ BoundTooLarge → b ≡ true)
+    → IsBad f followed text × IsPieceRejection f text rejection → IsTrue b ↔ HasPiece f followed text
+rejected_piece f followed text b rejection unexpected number bound h = go rejection h.1 unexpected number bound
   where
-    go : (r : Refusal) → IsPieceRefusal f text r → (r ≡ UnexpectedCharacter → b ≡ false) → (r ≡ NumberTooLarge → b ≡ true) → (r ≡ BoundTooLarge → b ≡ true) → IsTrue b ↔ HasPiece f followed text
+    go : (r : Rejection) → IsPieceRejection f text r → (r ≡ UnexpectedCharacter → b ≡ false) → (r ≡ NumberTooLarge → b ≡ true) → (r ≡ BoundTooLarge → b ≡ true) → IsTrue b ↔ HasPiece f followed text
     go r (outside none) u n l = (λ t. absurd (both_ways b (u refl) t), no_piece)
       where
         no_piece : HasPiece f followed text → IsTrue b
@@ -173,7 +173,7 @@ wider_piece f t (cs, inr h) = let no : false ≡ true = h.0 in cc no
 
 -- a viable prefix is none of the first five only where it is the sixth
 module _ (f : Flavour) (cuts : IsCutting f) (front : List ℕ) (no_piece : HasPiece f true front → ⊥) (no_digit : HasPiece f false (front ++ codes "1") → ⊥)
-    (no_blank_digit : HasPiece f false (front ++ codes " 1") → ⊥) (no_and : HasPiece f false (front ++ codes "&") → ⊥)
+    (no_whitespace_digit : HasPiece f false (front ++ codes " 1") → ⊥) (no_and : HasPiece f false (front ++ codes "&") → ⊥)
     (no_bar : ((p : List ℕ) × (front ≡ p ++ codes "|") × HasPiece f true p) → ⊥) where
   no_ending : (x : ℕ) (p : List ℕ) → front ≡ x ∷ p → Ends (IsFilled f) IsNpmEnding (x ∷ p) → ⊥
   no_ending x p e k = by k.ending k.is_ending (filled_piece f cuts ((x ∷ p) ++ k.ending) k.value k.stands)
@@ -182,7 +182,7 @@ module _ (f : Flavour) (cuts : IsCutting f) (front : List ℕ) (no_piece : HasPi
       by t (short nothing) h = no_piece (rw e (wider_piece f (x ∷ p) (rw (append-nil p) at h)))
       by t (short digit) h = no_digit (rw e h)
       by t and_sign h = no_and (rw e h)
-      by t blank_digit h = no_blank_digit (rw e h)
+      by t whitespace_digit h = no_whitespace_digit (rw e h)
 
   in_piece : (p more : List ℕ) (cs : List Comparator) → front ≡ p → Starts more → IsPiece f (p ++ more) cs → ⊥
   in_piece [] more cs e s h = no_piece (rw e ([], inl refl))
@@ -198,7 +198,7 @@ module _ (f : Flavour) (cuts : IsCutting f) (front : List ℕ) (no_piece : HasPi
     where
       inside : (x : ℕ) (m : List ℕ) → IsAnyPiece f true piece cs → piece ≡ front ++ (x ∷ m) → Starts ((x ∷ m) ++ codes "||") → ⊥
       inside x m (inl k) g t = in_piece front (x ∷ m) cs refl t (rw g at k)
-      inside x m (inr k) g t = no_piece ([], inr (refl, blanks_front front (x ∷ m) t (rw g at k.1), refl))
+      inside x m (inr k) g t = no_piece ([], inr (refl, whitespace_front front (x ∷ m) t (rw g at k.1), refl))
 
       behind : (x : ℕ) (m : List ℕ) → front ≡ piece ++ (x ∷ m) → codes "||" ≡ (x ∷ m) ++ more → (p : List ℕ) × (front ≡ p ++ codes "||") × HasPiece f true p
       behind x [] g k = let byte : x ≡ 124 = cc k in absurd (no_bar (piece, rw byte at g, (cs, h)))
@@ -217,7 +217,7 @@ module _ (f : Flavour) (cuts : IsCutting f) (front : List ℕ) (no_piece : HasPi
 pub empty_viable : (f : Flavour) → IsViablePrefix (IsPart f) []
 empty_viable Npm = record { more = []; value = []; is_text = IsUtf8-nil; stands = alone refl }
 empty_viable Normal = record { more = []; value = []; is_text = IsUtf8-nil; stands = alone refl }
-empty_viable Specifier = record { more = one_digit; value = Plain one ∷ []; is_text = one_byte_text 49 (omega arith); stands = record { value = Plain one; stands = one_plain; is = refl } }
+empty_viable Specifier = record { more = one_digit; value = Bare one ∷ []; is_text = one_byte_text 49 (omega arith); stands = record { value = Bare one; stands = one_bare; is = refl } }
 
 pub text_some : (f : Flavour) (text : List ℕ) → (IsViablePrefix (IsPart f) text → ⊥) → 0 < length text
 text_some f [] never = absurd (never (empty_viable f))

@@ -9,7 +9,7 @@ use Rattle.std.proofs.Math.Utf8.{low_scalar}
 use Rattle.std.proofs.lemmas.Bool.{not-false}
 use Rattle.std.proofs.lemmas.Bool.Decides.{nat_tests}
 use Rattle.semver_base.specs.Grammar.{last_item}
-use Rattle.semver_base.specs.Lexical.{IsBlanks, IsIdentifiers, IsLooseNumber, IsLoosePre, IsNumber, IsPre, IsQualifier, IsSomeBlanks, IsStrictNumber, is_identifier_byte, qualifier_of}
+use Rattle.semver_base.specs.Lexical.{IsWhitespace, IsIdentifiers, IsLooseNumber, IsLoosePre, IsNumber, IsPre, IsQualifier, IsSomeWhitespace, IsStrictNumber, is_identifier_byte, qualifier_of}
 use Rattle.semver_base.specs.declared.lexical.values.Strictness.{Strictness}
 use Rattle.semver_base.specs.declared.lexical.values.Strictness.TheVariants.{Loose, Strict}
 use Rattle.semver_base.proofs.Fronts.{fronts, same, shorter, longer}
@@ -21,8 +21,8 @@ use Rattle.error_places.proofs.Endings.{Ends, HasText, IsEnded, Starts, byte_end
 white_scalar : (c : ℕ) → is_whitespace c ≡ true → c < 55296
 white_scalar c h = grind (arith, nat_tests)
 
-pub one_blank : (c : ℕ) (p : List ℕ) → is_not_whitespace c ≡ false → encode_utf8 c ≡ p → NoCharPasses is_not_whitespace p
-one_blank c p n e = (c ∷ [], append-nil (encode_utf8 c) ∙ e, (n, tt))
+pub one_whitespace : (c : ℕ) (p : List ℕ) → is_not_whitespace c ≡ false → encode_utf8 c ≡ p → NoCharPasses is_not_whitespace p
+one_whitespace c p n e = (c ∷ [], append-nil (encode_utf8 c) ∙ e, (n, tt))
 
 get_or-append-here : (p : List ℕ) (x : ℕ) (m : List ℕ) → get_or (p ++ (x ∷ m)) (length p) 0 ≡ x
 get_or-append-here [] x m = refl
@@ -48,25 +48,25 @@ not_inside c p x m white e some begins = two_chars c p x m e some (rw (take_at p
         let here : get_or (p ++ (x ∷ m)) (length p) 0 ≡ x = get_or-append-here p x m in
         (omega (arith, ap length e, length-append p (x ∷ m)), λ l. rw (e, here) begins)
 
-go_blanks : (cs p u : List ℕ) → encode_utf8_all cs ≡ p ++ u → NonePass is_not_whitespace cs → Starts u → NoCharPasses is_not_whitespace p
-go_blanks [] [] u e n s = NoCharPasses-nil is_not_whitespace
-go_blanks [] (x ∷ p) u e n s = cc e
-go_blanks (c ∷ cs) [] u e n s = NoCharPasses-nil is_not_whitespace
-go_blanks (c ∷ cs) (y ∷ p) u e n s = elim (fronts (encode_utf8 c) (y ∷ p) (encode_utf8_all cs) u e) [
-  | same one two ↦ one_blank c (y ∷ p) n.0 one
-  | shorter x m one two ↦ rw one (NoCharPasses-append is_not_whitespace (encode_utf8 c) (x ∷ m) (one_blank c (encode_utf8 c) n.0 refl) (go_blanks cs (x ∷ m) u two n.1 s))
+go_whitespace : (cs p u : List ℕ) → encode_utf8_all cs ≡ p ++ u → NonePass is_not_whitespace cs → Starts u → NoCharPasses is_not_whitespace p
+go_whitespace [] [] u e n s = NoCharPasses-nil is_not_whitespace
+go_whitespace [] (x ∷ p) u e n s = cc e
+go_whitespace (c ∷ cs) [] u e n s = NoCharPasses-nil is_not_whitespace
+go_whitespace (c ∷ cs) (y ∷ p) u e n s = elim (fronts (encode_utf8 c) (y ∷ p) (encode_utf8_all cs) u e) [
+  | same one two ↦ one_whitespace c (y ∷ p) n.0 one
+  | shorter x m one two ↦ rw one (NoCharPasses-append is_not_whitespace (encode_utf8 c) (x ∷ m) (one_whitespace c (encode_utf8 c) n.0 refl) (go_whitespace cs (x ∷ m) u two n.1 s))
   | longer x m one two ↦ not_inside c (y ∷ p) x m (not-false (is_whitespace c) n.0) one (omega arith) (rw two at s)
 ]
 
 -- a prefix of whitespace is whitespace
-pub blanks_front : (p u : List ℕ) → Starts u → IsBlanks (p ++ u) tt → IsBlanks p tt
-blanks_front p u s h = go_blanks h.0 p u h.1 h.2 s
+pub whitespace_front : (p u : List ℕ) → Starts u → IsWhitespace (p ++ u) tt → IsWhitespace p tt
+whitespace_front p u s h = go_whitespace h.0 p u h.1 h.2 s
 
-pub blanks_ended : {E : List ℕ → Type 0} → E [] → IsEnded IsBlanks E
-blanks_ended e = record { ends = λ x p u v s h. ends_here (x ∷ p) tt e (blanks_front (x ∷ p) u s h) }
+pub whitespace_ended : {E : List ℕ → Type 0} → E [] → IsEnded IsWhitespace E
+whitespace_ended e = record { ends = λ x p u v s h. ends_here (x ∷ p) tt e (whitespace_front (x ∷ p) u s h) }
 
-pub some_blanks_ended : {E : List ℕ → Type 0} → E [] → IsEnded IsSomeBlanks E
-some_blanks_ended e = record { ends = λ x p u v s h. ends_here (x ∷ p) tt e (omega arith, blanks_front (x ∷ p) u s h.1) }
+pub some_whitespace_ended : {E : List ℕ → Type 0} → E [] → IsEnded IsSomeWhitespace E
+some_whitespace_ended e = record { ends = λ x p u v s h. ends_here (x ∷ p) tt e (omega arith, whitespace_front (x ∷ p) u s h.1) }
 
 -- ---- numbers and identifiers
 

@@ -3,7 +3,7 @@ use Rattle.std.specs.Prelude.{◌≡◌, ◌⊎◌, ℕ, List, [], ◌∷◌, �
 use Rattle.std.specs.Str.{IsCharBoundary}
 use Rattle.semver_base.specs.Comparators.{Comparator}
 use Rattle.semver_base.specs.Grammar.{Mapped}
-use Rattle.semver_base.specs.Lexical.{IsBlanks}
+use Rattle.semver_base.specs.Lexical.{IsWhitespace}
 use Rattle.semver_req.specs.Outcome.{IsSpecifierRange}
 use Rattle.semver_req.specs.Pieces.{IsPiece}
 use Rattle.semver_req.specs.declared.common.values.Flavour.{Flavour}
@@ -28,7 +28,7 @@ pub record IsErrorPlace {V : Type 0} (R : List ℕ → V → Type 0) (text : Lis
 
 -- an alternative of the grammar, or whitespace before `||`
 abbrev pub IsAnyPiece : Flavour → Bool → List ℕ → List Comparator → Type 0
-IsAnyPiece f followed text cs = IsPiece f text cs ⊎ ((followed ≡ true) × IsBlanks text tt × (cs ≡ []))
+IsAnyPiece f followed text cs = IsPiece f text cs ⊎ ((followed ≡ true) × IsWhitespace text tt × (cs ≡ []))
 
 abbrev pub HasPiece : Flavour → Bool → List ℕ → Type 0
 HasPiece f followed text = (cs : List Comparator) × IsAnyPiece f followed text cs

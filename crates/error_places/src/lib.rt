@@ -12,7 +12,7 @@ ghost use Rattle.semver_req.specs.Pieces.{IsCutting};
 pub mod expected;
 pub mod pieces;
 
-use semver_base::failure::{ParseFailure, Refusal};
+use semver_base::failure::{ParseFailure, Rejection};
 use semver_req::common::comparator::non_primitive_front;
 use semver_req::common::values::Flavour;
 use semver_req::range_set_or_tag::RangeOrInvalid;
@@ -33,7 +33,7 @@ fn is_piece(
             drop(range);
             Ok(true)
         }
-        RangeOrInvalid::Invalid(refusal) => Ok(refusal != Refusal::UnexpectedCharacter),
+        RangeOrInvalid::Invalid(rejection) => Ok(rejection != Rejection::UnexpectedCharacter),
     }
 }
 

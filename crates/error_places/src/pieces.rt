@@ -7,7 +7,7 @@ ghost use Rattle.semver_req.specs.Pieces.{HasNoBar, IsCutAt, IsCutting};
 
 use crate::{error_place, is_range};
 use semver_base::failure::ParseFailure;
-use semver_base::lexical::after_blanks;
+use semver_base::lexical::after_whitespace;
 use semver_req::common::values::Flavour;
 use semver_req::range_set_or_tag::RangeOrInvalid;
 use std::alloc::{AllocError, Global};
@@ -96,7 +96,7 @@ fn errors_of(alloc: Global, text: &str, flavour: Flavour) -> Result<Vec<InvalidP
     };
     add_error(alloc, &mut errors, 0, first, true, flavour)?;
     loop {
-        let from = after_blanks(rest);
+        let from = after_whitespace(rest);
         if from.is_empty() {
             return Ok(errors);
         }

@@ -1,2 +1,2 @@
 pub mod Question
-pub mod Told
+pub mod Reported

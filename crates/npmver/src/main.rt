@@ -1,27 +1,27 @@
 //! `npmver` compares versions with version requirements of npm and JSR packages.
 //!
-//! `npmver fits READER REQ VERSION` prints `yes` (status 0) if the version matches the requirement, which is parsed by the
-//! grammar READER, `npm`, `normal` or `strict`, `no` (1) if it doesn't, and `tag NAME` (2) if the requirement is a tag.
-//! `npmver fits-pre READER REQ VERSION` does the same with every pre-release between the bounds.
-//! `npmver best READER REQ VERSION..` prints the highest of the versions that match (0), as it would be installed, or
+//! `npmver fits GRAMMAR RANGE VERSION` prints `yes` (status 0) if the version matches the requirement, which is parsed by the
+//! grammar GRAMMAR, `npm`, `normal` or `strict`, `no` (1) if it doesn't, and `tag NAME` (2) if the requirement is a tag.
+//! `npmver fits-pre GRAMMAR RANGE VERSION` does the same with every pre-release between the bounds.
+//! `npmver best GRAMMAR RANGE VERSION..` prints the highest of the versions that match (0), as it would be installed, or
 //! `none` (1), or the tag (2); each version is parsed, also for a tag.
-//! `npmver normal READER REQ` prints the canonical form of the requirement, or the tag (0). `npmver meet A B` prints `yes`
+//! `npmver normal GRAMMAR RANGE` prints the canonical form of the requirement, or the tag (0). `npmver meet A B` prints `yes`
 //! (0) if two requirements overlap, both by npm's grammar, and `no` (1) if they don't.
 //!
 //! An invalid argument prints `refused: MESSAGE` on standard error (3); other arguments print the usage there (4), and out of
-//! memory `out of memory` (5). The status is 6 if standard output can't be written.
+//! memory `out of memory` (5). The status is 6 if standard output can't be written. `npmver --help` prints the commands (0).
 #![tactic(auto)]
 
 ghost use Rattle.std.specs.Prelude.{◌≡◌, ◌⊎◌, ◌∷◌, ◌<◌, ℕ, List, [], length, Err, IfErr, IfOk, MatchOption, map, string_bytes};
-ghost use Rattle.semver_req.specs.TextRefusal.{IsTextRefusal};
+ghost use Rattle.semver_req.specs.TextRejection.{IsTextRejection};
 ghost use Rattle.semver_req.specs.declared.common.values.Flavour.TheVariants as flavour;
 ghost use Rattle.answers.specs.Asking as fault;
 ghost use Rattle.answers.specs.Asking.{IsFailureAt};
 ghost use Rattle.answers.specs.Questions.{BestMatch, Canonical, Matches, Overlaps};
 ghost use Rattle.answers.specs.declared.asking.Kind.TheVariants as kind;
 ghost use Rattle.answers.specs.declared.asking.Problem.TheVariants as unanswered;
-ghost use Rattle.npmver.specs.Question.{ByReader, IsAnswer, IsAsked, IsReader, IsStatus, NoReader, Prints};
-ghost use Rattle.npmver.specs.Told.{Text, status_of, told_answer, told_best, told_match, told_problem, told_whether};
+ghost use Rattle.npmver.specs.Question.{ByParser, IsAnswer, IsAsked, IsParser, IsStatus, NoParser, Prints};
+ghost use Rattle.npmver.specs.Reported.{Text, status_of, reported_answer, reported_best, reported_match, reported_problem, reported_whether};
 ghost use Rattle.npmver.specs.declared.Problem.TheVariants as problem;
 
 use answers::asking::{Answer, Problem as Unanswered};
@@ -35,6 +35,25 @@ use std::process::ExitCode;
 use std::{env, io};
 
 const USAGE: &str = "usage: npmver fits|fits-pre|normal|meet|best ..";
+
+const HELP: &str = "\
+npmver compares versions with version ranges of npm and JSR packages.
+
+  npmver fits GRAMMAR RANGE VERSION      whether the version matches: yes, no, or `tag NAME` if the range is a tag
+  npmver fits-pre GRAMMAR RANGE VERSION  the same, where every pre-release between the bounds matches
+  npmver best GRAMMAR RANGE VERSION..    the highest version that matches, `none`, or `tag NAME`
+  npmver normal GRAMMAR RANGE            the canonical form of the range, or its tag
+  npmver meet RANGE RANGE                whether two ranges of npm's grammar overlap: yes or no
+
+GRAMMAR is npm, normal (comparators separated by whitespace, alternatives by ||) or strict (that of package specifiers).
+
+  $ npmver fits npm '>=1.2 <2 || 3' 1.3.0
+  yes
+  $ npmver best npm '^1.2' 1.2.5 1.3.0 2.0.0
+  1.3.0
+
+Exit status: 0 yes or a text, 1 no or none, 2 a tag, 3 an invalid argument, 4 unknown arguments, 5 out of memory, 6 the
+output can't be written.";
 
 /// The line that the program prints.
 #[derive(Drop)]
@@ -51,13 +70,13 @@ enum Line {
 
 impl Line {
     fn whether(holds: bool) -> Line
-        ensures { told_answer result ≡ told_whether holds }
+        ensures { reported_answer result ≡ reported_whether holds }
     {
         if holds { Line::Yes } else { Line::No }
     }
 
     fn of_match(answer: Answer<bool>) -> Line
-        ensures { told_answer result ≡ told_match answer }
+        ensures { reported_answer result ≡ reported_match answer }
     {
         match answer {
             Answer::Value(matches) => Line::whether(matches),
@@ -66,7 +85,7 @@ impl Line {
     }
 
     fn of_best(alloc: Global, answer: Answer<Option<Best>>) -> Result<Line, AllocError>
-        ensures { IfOk result (λ line. told_answer line ≡ told_best answer) }
+        ensures { IfOk result (λ line. reported_answer line ≡ reported_best answer) }
     {
         match answer {
             Answer::Value(Some(best)) => Ok(Line::Text(text_of_version(alloc, &best.version)?)),
@@ -101,25 +120,25 @@ impl From<AllocError> for Problem {
 }
 
 /// Prints the result for the arguments as one line on `out`, or reports on `err` why there is none. Returns the exit status.
-pub fn run<O: Write, E: Write>(alloc: Global, words: &[String], out: &mut O, err: &mut E) -> u8
-    ensures { IsStatus (map string_bytes words.now) result }
+pub fn run<O: Write, E: Write>(alloc: Global, arguments: &[String], out: &mut O, err: &mut E) -> u8
+    ensures { IsStatus (map string_bytes arguments.now) result }
 {
-    match ask(alloc, words) {
+    match ask(alloc, arguments) {
         Ok(line) => print(out, &line),
         Err(problem) => report(err, &problem),
     }
 }
 
 // Returns the result for the arguments.
-fn ask(alloc: Global, words: &[String]) -> Result<Line, Problem>
-    ensures { IsAnswer (IsAsked (map string_bytes words.now)) result }
+fn ask(alloc: Global, arguments: &[String]) -> Result<Line, Problem>
+    ensures { IsAnswer (IsAsked (map string_bytes arguments.now)) result }
 {
-    match words {
+    match arguments {
         [command, one, other] => three(alloc, command.as_str(), one.as_str(), other.as_str()),
-        [command, reader, requirement, versions @ ..] => of_versions(
+        [command, parser, requirement, versions @ ..] => of_versions(
             alloc,
             command.as_str(),
-            reader.as_str(),
+            parser.as_str(),
             requirement.as_str(),
             versions,
         ),
@@ -131,18 +150,18 @@ fn ask(alloc: Global, words: &[String]) -> Result<Line, Problem>
 fn of_versions(
     alloc: Global,
     command: &str,
-    reader: &str,
+    parser: &str,
     requirement: &str,
     versions: &[String],
 ) -> Result<Line, Problem>
     requires { 0 < length versions.now }
-    ensures { IsAnswer (IsAsked (command.now ∷ reader.now ∷ requirement.now
+    ensures { IsAnswer (IsAsked (command.now ∷ parser.now ∷ requirement.now
         ∷ map string_bytes versions.now)) result }
 {
     match command {
-        "fits" => fits_one(alloc, reader, requirement, versions, PreRelease::Restricted),
-        "fits-pre" => fits_one(alloc, reader, requirement, versions, PreRelease::Admitted),
-        "best" => best(alloc, reader, requirement, versions),
+        "fits" => fits_one(alloc, parser, requirement, versions, PreRelease::Restricted),
+        "fits-pre" => fits_one(alloc, parser, requirement, versions, PreRelease::Admitted),
+        "best" => best(alloc, parser, requirement, versions),
         _ => Err(Problem::Usage),
     }
 }
@@ -160,7 +179,7 @@ fn three(alloc: Global, command: &str, one: &str, other: &str) -> Result<Line, P
 
 // The grammar with this name.
 fn flavour_of(name: &str) -> Option<Flavour>
-    ensures { MatchOption result (NoReader name.now) (IsReader name.now) }
+    ensures { MatchOption result (NoParser name.now) (IsParser name.now) }
 {
     match name {
         "npm" => Some(Flavour::Npm),
@@ -173,18 +192,18 @@ fn flavour_of(name: &str) -> Option<Flavour>
 // Whether the version matches the requirement; with several versions, reports the usage.
 fn fits_one(
     alloc: Global,
-    reader: &str,
+    parser: &str,
     requirement: &str,
     versions: &[String],
     pre_release: PreRelease,
 ) -> Result<Line, Problem>
     ensures one { (version : List ℕ) → map string_bytes versions.now ≡ version ∷ []
-        → IsAnswer (ByReader reader.now
-        (λ f. Prints told_match (Matches pre_release f requirement.now version))) result }
+        → IsAnswer (ByParser parser.now
+        (λ f. Prints reported_match (Matches pre_release f requirement.now version))) result }
     ensures several { 1 < length versions.now → result ≡ Err problem.Usage }
 {
     match versions {
-        [version] => fits(alloc, reader, requirement, version.as_str(), pre_release),
+        [version] => fits(alloc, parser, requirement, version.as_str(), pre_release),
         _ => Err(Problem::Usage),
     }
 }
@@ -192,15 +211,15 @@ fn fits_one(
 // Whether the version matches the requirement, by the grammar with this name.
 fn fits(
     alloc: Global,
-    reader: &str,
+    parser: &str,
     requirement: &str,
     version: &str,
     pre_release: PreRelease,
 ) -> Result<Line, Problem>
-    ensures { IsAnswer (ByReader reader.now
-        (λ f. Prints told_match (Matches pre_release f requirement.now version.now))) result }
+    ensures { IsAnswer (ByParser parser.now
+        (λ f. Prints reported_match (Matches pre_release f requirement.now version.now))) result }
 {
-    let Some(flavour) = flavour_of(reader) else {
+    let Some(flavour) = flavour_of(parser) else {
         return Err(Problem::Usage);
     };
     let answer = matches(alloc, flavour, pre_release, requirement, version)?;
@@ -222,14 +241,14 @@ fn slices(alloc: Global, texts: &[String]) -> Result<Vec<&str>, AllocError>
 // The highest of the versions that matches the requirement, by the grammar with this name.
 fn best(
     alloc: Global,
-    reader: &str,
+    parser: &str,
     requirement: &str,
     versions: &[String],
 ) -> Result<Line, Problem>
-    ensures { IsAnswer (ByReader reader.now (λ f. Prints told_best
+    ensures { IsAnswer (ByParser parser.now (λ f. Prints reported_best
         (BestMatch PreRelease.Restricted f requirement.now (map string_bytes versions.now)))) result }
 {
-    let Some(flavour) = flavour_of(reader) else {
+    let Some(flavour) = flavour_of(parser) else {
         return Err(Problem::Usage);
     };
     let versions = slices(alloc, versions)?;
@@ -244,11 +263,11 @@ fn best(
 }
 
 // The canonical form of the requirement, by the grammar with this name.
-fn normal(alloc: Global, reader: &str, requirement: &str) -> Result<Line, Problem>
+fn normal(alloc: Global, parser: &str, requirement: &str) -> Result<Line, Problem>
     ensures { IsAnswer
-        (ByReader reader.now (λ f. Prints Text (Canonical f requirement.now))) result }
+        (ByParser parser.now (λ f. Prints Text (Canonical f requirement.now))) result }
 {
-    let Some(flavour) = flavour_of(reader) else {
+    let Some(flavour) = flavour_of(parser) else {
         return Err(Problem::Usage);
     };
     Ok(Line::Text(canonical(alloc, flavour, requirement)?))
@@ -256,14 +275,14 @@ fn normal(alloc: Global, reader: &str, requirement: &str) -> Result<Line, Proble
 
 // Whether the two requirements overlap, both by npm's grammar.
 fn meet(alloc: Global, one: &str, other: &str) -> Result<Line, Problem>
-    ensures { IsAnswer (Prints told_whether (Overlaps flavour.Npm one.now other.now)) result }
+    ensures { IsAnswer (Prints reported_whether (Overlaps flavour.Npm one.now other.now)) result }
 {
     Ok(Line::whether(overlaps(alloc, Flavour::Npm, one, other)?))
 }
 
 // Prints the line, and returns its status, or 6 if it can't be written.
 fn print<O: Write>(out: &mut O, line: &Line) -> u8
-    ensures { (result ≡ 6) ⊎ (result ≡ status_of (told_answer line.now)) }
+    ensures { (result ≡ 6) ⊎ (result ≡ status_of (reported_answer line.now)) }
 {
     let (written, status) = match line {
         Line::Yes => (writeln!(out, "yes"), 0),
@@ -280,7 +299,7 @@ fn print<O: Write>(out: &mut O, line: &Line) -> u8
 
 // Reports a problem, and returns its status, which a failure to write doesn't change.
 fn report<E: Write>(err: &mut E, problem: &Problem) -> u8
-    ensures { result ≡ status_of (told_problem problem.now) }
+    ensures { result ≡ status_of (reported_problem problem.now) }
 {
     let (written, status) = match problem {
         Problem::Usage => (writeln!(err, "{USAGE}"), 4),
@@ -293,20 +312,39 @@ fn report<E: Write>(err: &mut E, problem: &Problem) -> u8
     status
 }
 
-// The arguments after the program's name.
-fn words_after_name<R: Env + AllocGlobal>(rt: &R) -> io::Result<Vec<String>> {
-    let mut words = Vec::new(rt.alloc());
-    for word in env::args(rt)?.skip(1) {
-        words.push(word)?;
+// Whether the arguments are `--help` alone.
+fn is_help(arguments: &[String]) -> bool {
+    match arguments {
+        [option] => option.as_str() == "--help",
+        _ => false,
     }
-    Ok(words)
+}
+
+// Prints the commands, and returns the status.
+fn help<O: Write>(out: &mut O) -> u8
+    ensures { (result ≡ 6) ⊎ (result ≡ 0) }
+{
+    match writeln!(out, "{HELP}") {
+        Ok(()) => 0,
+        Err(_) => 6,
+    }
+}
+
+// The arguments after the program's name.
+fn arguments_after_name<R: Env + AllocGlobal>(rt: &R) -> io::Result<Vec<String>> {
+    let mut arguments = Vec::new(rt.alloc());
+    for argument in env::args(rt)?.skip(1) {
+        arguments.push(argument)?;
+    }
+    Ok(arguments)
 }
 
 fn main(rt: HostRuntime) -> ExitCode {
     let mut out = io::writer(&rt);
     let mut err = rt.stderr();
-    let status = match words_after_name(&rt) {
-        Ok(words) => run(rt.alloc(), words.as_slice(), &mut out, &mut err),
+    let status = match arguments_after_name(&rt) {
+        Ok(arguments) if is_help(arguments.as_slice()) => help(&mut out),
+        Ok(arguments) => run(rt.alloc(), arguments.as_slice(), &mut out, &mut err),
         Err(e) if e.kind() == ErrorKind::OutOfMemory => {
             report(&mut err, &Problem::Unanswered(Unanswered::OutOfMemory))
         }

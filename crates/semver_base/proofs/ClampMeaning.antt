@@ -45,20 +45,20 @@ tied_from kind.Exclusive first second v h = or_first _ _ h
 tied_from kind.Inclusive first second v h = or_second _ _ h
 
 -- if the first of two starts that include the pre-release v admits it, so does the higher
-start_kept_first : (s t : RangeBound) (v : Version) → is_release v ≡ false → start_holds t v ≡ true → has_pre_of s v ≡ true → has_pre_of (clamped_start s t) v ≡ true
-start_kept_first bound.Unbounded t v pre held h = cc h
-start_kept_first (bound.Version x) bound.Unbounded v pre held h = h
-start_kept_first (bound.Version x) (bound.Version y) v pre held h = go (precedence_cmp x.version y.version) refl
+start_retained_first : (s t : RangeBound) (v : Version) → is_release v ≡ false → start_holds t v ≡ true → has_pre_of s v ≡ true → has_pre_of (clamped_start s t) v ≡ true
+start_retained_first bound.Unbounded t v pre held h = cc h
+start_retained_first (bound.Version x) bound.Unbounded v pre held h = h
+start_retained_first (bound.Version x) (bound.Version y) v pre held h = go (precedence_cmp x.version y.version) refl
   where
     go : (r : Ordering) → precedence_cmp x.version y.version ≡ r → has_pre_of (greater_of r x.kind (bound.Version x) (bound.Version y)) v ≡ true
     go Less e = start_between x.version y.version v pre h (le_by _ e) (start_le y v held)
     go Equal e = tied_admits x.kind (bound.Version x) (bound.Version y) v h (start_between x.version y.version v pre h (le_tied _ e) (start_le y v held))
     go Greater e = h
 
-start_kept_second : (s t : RangeBound) (v : Version) → is_release v ≡ false → start_holds s v ≡ true → has_pre_of t v ≡ true → has_pre_of (clamped_start s t) v ≡ true
-start_kept_second bound.Unbounded t v pre held h = h
-start_kept_second (bound.Version x) bound.Unbounded v pre held h = cc h
-start_kept_second (bound.Version x) (bound.Version y) v pre held h = go (precedence_cmp x.version y.version) refl
+start_retained_second : (s t : RangeBound) (v : Version) → is_release v ≡ false → start_holds s v ≡ true → has_pre_of t v ≡ true → has_pre_of (clamped_start s t) v ≡ true
+start_retained_second bound.Unbounded t v pre held h = h
+start_retained_second (bound.Version x) bound.Unbounded v pre held h = cc h
+start_retained_second (bound.Version x) (bound.Version y) v pre held h = go (precedence_cmp x.version y.version) refl
   where
     go : (r : Ordering) → precedence_cmp x.version y.version ≡ r → has_pre_of (greater_of r x.kind (bound.Version x) (bound.Version y)) v ≡ true
     go Less e = h
@@ -66,20 +66,20 @@ start_kept_second (bound.Version x) (bound.Version y) v pre held h = go (precede
     go Greater e = start_between y.version x.version v pre h (le_by _ (turned precedence_total x.version y.version Greater e)) (start_le x v held)
 
 -- if the first of two ends that include v admits it, so does the lower
-end_kept_first : (s t : RangeBound) (v : Version) → end_holds t v ≡ true → has_pre_of s v ≡ true → has_pre_of (clamped_end s t) v ≡ true
-end_kept_first bound.Unbounded t v held h = cc h
-end_kept_first (bound.Version x) bound.Unbounded v held h = h
-end_kept_first (bound.Version x) (bound.Version y) v held h = go (precedence_cmp x.version y.version) refl
+end_retained_first : (s t : RangeBound) (v : Version) → end_holds t v ≡ true → has_pre_of s v ≡ true → has_pre_of (clamped_end s t) v ≡ true
+end_retained_first bound.Unbounded t v held h = cc h
+end_retained_first (bound.Version x) bound.Unbounded v held h = h
+end_retained_first (bound.Version x) (bound.Version y) v held h = go (precedence_cmp x.version y.version) refl
   where
     go : (r : Ordering) → precedence_cmp x.version y.version ≡ r → has_pre_of (lesser_of r x.kind (bound.Version x) (bound.Version y)) v ≡ true
     go Less e = h
     go Equal e = tied_admits x.kind (bound.Version x) (bound.Version y) v h (end_between x.version y.version v h (end_le y v held) (le_tied _ (turned precedence_total x.version y.version Equal e)))
     go Greater e = end_between x.version y.version v h (end_le y v held) (le_by _ (turned precedence_total x.version y.version Greater e))
 
-end_kept_second : (s t : RangeBound) (v : Version) → end_holds s v ≡ true → has_pre_of t v ≡ true → has_pre_of (clamped_end s t) v ≡ true
-end_kept_second bound.Unbounded t v held h = h
-end_kept_second (bound.Version x) bound.Unbounded v held h = cc h
-end_kept_second (bound.Version x) (bound.Version y) v held h = go (precedence_cmp x.version y.version) refl
+end_retained_second : (s t : RangeBound) (v : Version) → end_holds s v ≡ true → has_pre_of t v ≡ true → has_pre_of (clamped_end s t) v ≡ true
+end_retained_second bound.Unbounded t v held h = h
+end_retained_second (bound.Version x) bound.Unbounded v held h = cc h
+end_retained_second (bound.Version x) (bound.Version y) v held h = go (precedence_cmp x.version y.version) refl
   where
     go : (r : Ordering) → precedence_cmp x.version y.version ≡ r → has_pre_of (lesser_of r x.kind (bound.Version x) (bound.Version y)) v ≡ true
     go Less e = end_between y.version x.version v h (end_le x v held) (le_by _ e)
@@ -87,10 +87,10 @@ end_kept_second (bound.Version x) (bound.Version y) v held h = go (precedence_cm
     go Greater e = h
 
 -- a stopped start admits what it did, of what both bounds include
-stop_kept : (s e : RangeBound) (v : Version) → is_release v ≡ false → start_holds s v ≡ true → end_holds e v ≡ true → has_pre_of s v ≡ true → has_pre_of (stopped_at s e) v ≡ true
-stop_kept bound.Unbounded e v pre above below h = cc h
-stop_kept (bound.Version x) bound.Unbounded v pre above below h = h
-stop_kept (bound.Version x) (bound.Version y) v pre above below h = go (precedence_cmp x.version y.version) refl
+stop_retained : (s e : RangeBound) (v : Version) → is_release v ≡ false → start_holds s v ≡ true → end_holds e v ≡ true → has_pre_of s v ≡ true → has_pre_of (stopped_at s e) v ≡ true
+stop_retained bound.Unbounded e v pre above below h = cc h
+stop_retained (bound.Version x) bound.Unbounded v pre above below h = h
+stop_retained (bound.Version x) (bound.Version y) v pre above below h = go (precedence_cmp x.version y.version) refl
   where
     go : (r : Ordering) → precedence_cmp x.version y.version ≡ r → has_pre_of (stopped_by r x y) v ≡ true
     go Less e = h
@@ -153,16 +153,16 @@ admits_from a b v h = elim (or_cases _ _ h) [
   | inr end ↦ by_ends (has_pre_of a.start v) _ (has_pre_of b.start v) _ (end_from a.end b.end v end)
 ]
 
-admits_kept : (a b : VersionRange) (v : Version) → is_release v ≡ false → bounds_hold a v ≡ true → bounds_hold b v ≡ true
+admits_retained : (a b : VersionRange) (v : Version) → is_release v ≡ false → bounds_hold a v ≡ true → bounds_hold b v ≡ true
     → (admits_pre a v || (admits_pre b v || false)) ≡ true → admits_pre (clamped a b) v ≡ true
-admits_kept a b v pre ha hb h = elim (or_cases _ _ h) [
+admits_retained a b v pre ha hb h = elim (or_cases _ _ h) [
   | inl first ↦ elim (or_cases _ _ first) [
-    | inl start ↦ starts (start_kept_first a.start b.start v pre (and_first _ _ hb) start)
-    | inr end ↦ ends (end_kept_first a.end b.end v (and_second _ _ hb) end)
+    | inl start ↦ starts (start_retained_first a.start b.start v pre (and_first _ _ hb) start)
+    | inr end ↦ ends (end_retained_first a.end b.end v (and_second _ _ hb) end)
   ]
   | inr second ↦ elim (or_cases _ _ (sym (or_false (admits_pre b v)) ∙ second)) [
-    | inl start ↦ starts (start_kept_second a.start b.start v pre (and_first _ _ ha) start)
-    | inr end ↦ ends (end_kept_second a.end b.end v (and_second _ _ ha) end)
+    | inl start ↦ starts (start_retained_second a.start b.start v pre (and_first _ _ ha) start)
+    | inr end ↦ ends (end_retained_second a.end b.end v (and_second _ _ ha) end)
   ]
 ]
   where
@@ -170,7 +170,7 @@ admits_kept a b v pre ha hb h = elim (or_cases _ _ h) [
     starts k =
         let above : (start_holds a.start v && start_holds b.start v) ≡ true = and_both _ _ (and_first _ (end_holds a.end v) ha) (and_first _ (end_holds b.end v) hb) in
         let below : (end_holds a.end v && end_holds b.end v) ≡ true = and_both _ _ (and_second (start_holds a.start v) _ ha) (and_second (start_holds b.start v) _ hb) in
-        or_first _ _ (stop_kept (clamped_start a.start b.start) (clamped_end a.end b.end) v pre (start_both a.start b.start v ∙ above) (end_both a.end b.end v ∙ below) k)
+        or_first _ _ (stop_retained (clamped_start a.start b.start) (clamped_end a.end b.end) v pre (start_both a.start b.start v ∙ above) (end_both a.end b.end v ∙ below) k)
 
     ends : has_pre_of (clamped_end a.end b.end) v ≡ true → admits_pre (clamped a b) v ≡ true
     ends k = or_second _ _ k
@@ -187,7 +187,7 @@ clamped_means a b flag v = same_where _ _ _ _ held (admitted flag)
     admitted Admitted both = refl
     admitted Restricted both = elim (cases_Bool (is_release v)) [
       | inl release ↦ rw release refl
-      | inr pre ↦ rw pre (or_false (admits_pre (clamped a b) v) ∙ both_ways _ _ (admits_from a b v) (admits_kept a b v pre (and_first _ _ both) (and_first _ _ (and_second _ _ both))))
+      | inr pre ↦ rw pre (or_false (admits_pre (clamped a b) v) ∙ both_ways _ _ (admits_from a b v) (admits_retained a b v pre (and_first _ _ both) (and_first _ _ (and_second _ _ both))))
     ]
 
 alone : (range : VersionRange) (v : Version) → is_release v ≡ true → alternative_means (range ∷ []) v ≡ bounds_hold range v

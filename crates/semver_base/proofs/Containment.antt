@@ -3,8 +3,8 @@ use Rattle.std.proofs.Common.{◌≡◌, ◌&&◌, Bool, true, false, not, Optio
 use Rattle.std.specs.Str.{trim}
 use Rattle.std.proofs.lemmas.Bool.{cases_Bool}
 use Rattle.std.specs.Prelude.{◌↔◌, ℕ, List, IfSome, IsTrue, Ok, is_some}
-use Rattle.semver_base.specs.Containment.{IsWithin, TellsWithin}
-use Rattle.semver_base.specs.LeastVersion.{IsLeast, IsReadable}
+use Rattle.semver_base.specs.Containment.{IsWithin, ReportsWithin}
+use Rattle.semver_base.specs.LowestVersion.{IsLowestPassing, IsReadable}
 use Rattle.semver_base.specs.VersionGrammar.{IsVersionOutcome, is_version}
 use Rattle.semver_base.specs.VersionText.{version_text, ReadsBack}
 use Rattle.semver_base.specs.declared.version.Version.{Version}
@@ -13,14 +13,14 @@ use Rattle.semver_base.proofs.ReadVersions.{read_writable}
 use Rattle.semver_base.proofs.Triples.{not_true}
 
 -- the second test passes what the first one passes exactly if nothing is found
-pub within_told : (test other : Version → Bool) (x : Option Version) (told : Bool) → is_some x ≡ not told → IsLeast (λ v. test v && not (other v)) x → TellsWithin test other told
-within_told test other None false e h = cc e
-within_told test other (Some v) true e h = cc e
-within_told test other None true e h = λ v readable own. elim (cases_Bool (other v)) [
+pub within_reported : (test other : Version → Bool) (x : Option Version) (reported : Bool) → is_some x ≡ not reported → IsLowestPassing (λ v. test v && not (other v)) x → ReportsWithin test other reported
+within_reported test other None false e h = cc e
+within_reported test other (Some v) true e h = cc e
+within_reported test other None true e h = λ v readable own. elim (cases_Bool (other v)) [
   | inl passes ↦ passes
   | inr fails ↦ let alone : (test v && not (other v)) ≡ true = rw (own, fails) refl in let never : true ≡ false = sym alone ∙ h v readable in cc never
 ]
-within_told test other (Some v) false e h = (v, and_first (test v) _ h.0, not_true (other v) (and_second (test v) _ h.0))
+within_reported test other (Some v) false e h = (v, and_first (test v) _ h.0, not_true (other v) (and_second (test v) _ h.0))
 
 pub back_readable : (v : Version) → ReadsBack v → IsReadable v
 back_readable v back = go (trim (version_text v)) back
@@ -29,10 +29,10 @@ back_readable v back = go (trim (version_text v)) back
     go text (is_version h fits) = record { numbers = fits; pre = (read_writable text v h fits).pre }
 
 -- and it does so exactly, if what is found has a text that parses back
-pub within_exact : (test other : Version → Bool) (x : Option Version) (told : Bool) → is_some x ≡ not told → IsLeast (λ v. test v && not (other v)) x → IfSome x ReadsBack → IsTrue told ↔ IsWithin test other
+pub within_exact : (test other : Version → Bool) (x : Option Version) (reported : Bool) → is_some x ≡ not reported → IsLowestPassing (λ v. test v && not (other v)) x → IfSome x ReadsBack → IsTrue reported ↔ IsWithin test other
 within_exact test other None false e h back = cc e
 within_exact test other (Some v) true e h back = cc e
-within_exact test other None true e h back = (λ _. within_told test other None true e h, λ _. refl)
+within_exact test other None true e h back = (λ _. within_reported test other None true e h, λ _. refl)
 within_exact test other (Some v) false e h back = (
   λ yes. cc yes,
   λ within.

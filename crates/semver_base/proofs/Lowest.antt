@@ -7,8 +7,8 @@ use Rattle.std.specs.List.{fold, list_all, AllByRecursion}
 use Rattle.std.specs.Ordering.{is_le}
 use Rattle.std.specs.declared.cmp.Ordering.{Ordering}
 use Rattle.std.specs.declared.cmp.Ordering.TheVariants.{Less, Equal, Greater}
-use Rattle.semver_base.specs.Candidates.{after, from_ends, from_range, from_set, from_sets, from_start, kept_if, least_free, least_version, lower_passing, lowest_of, own_pre, passes, some_means, with_pre, zero_identifier, zero_pre}
-use Rattle.semver_base.specs.LeastVersion.{IsLeast, IsReadable}
+use Rattle.semver_base.specs.Candidates.{after, from_ends, from_range, from_set, from_sets, from_start, filtered, lowest_free, lowest_version, lower_passing, lowest_of, own_pre, passes, some_means, with_pre, zero_identifier, zero_pre}
+use Rattle.semver_base.specs.LowestVersion.{IsLowestPassing, IsReadable}
 use Rattle.semver_base.specs.Meaning.{admits_pre, end_holds, has_pre_of, is_release, is_unrestricted, set_means_with, start_holds}
 use Rattle.semver_base.specs.Precedence.{numbers_cmp, precedence_cmp}
 use Rattle.semver_base.specs.declared.version.Version.{Version}
@@ -19,9 +19,9 @@ use Rattle.semver_base.specs.declared.range.RangeBound.TheVariants as bound
 use Rattle.semver_base.specs.declared.range.VersionBound.{VersionBound}
 use Rattle.semver_base.specs.declared.range.VersionRange.{VersionRange}
 use Rattle.semver_base.specs.declared.range.VersionRangeSet.{VersionRangeSet}
-use Rattle.semver_base.proofs.LeastAbove.{version_least}
-use Rattle.semver_base.proofs.LeastFrom.{kept_passes, kept_reaches, least_by, lesser_keeps, lesser_reaches_first, lesser_reaches_second, lower_means, means, means_admits, means_start, pre_reached, release_reached, AreAlike, GoesDown, Reaches}
-use Rattle.semver_base.proofs.LeastPres.{least_pre, pre_above, pre_by}
+use Rattle.semver_base.proofs.LowestAbove.{version_lowest}
+use Rattle.semver_base.proofs.LowestFrom.{retained_passes, retained_reaches, lowest_by, lesser_keeps, lesser_reaches_first, lesser_reaches_second, lower_means, means, means_admits, means_start, pre_reached, release_reached, AreAlike, GoesDown, Reaches}
+use Rattle.semver_base.proofs.LowestPres.{lowest_pre, pre_above, pre_by}
 use Rattle.semver_base.proofs.MeaningLemmas.{any_alternatives}
 use Rattle.semver_base.proofs.Orders.{and_both, and_first, and_second, or_cases, or_first, or_second}
 use Rattle.semver_base.proofs.PassedEnds.{after_gone, after_holds, not_meant, one_within, Within}
@@ -63,19 +63,19 @@ pub record AreSuch (Such : RangeBound → Type 0) (own : List VersionRange) (oth
 
 -- what is chosen from such a bound satisfies P
 pub record ChoosesOnly (flag : PreRelease) (test : Version → Bool) (Such : RangeBound → Type 0) (P : Version → Type 0) : Type 0 where
-  pub free : (b : RangeBound) → Such b → IfSome (kept_if test (least_free flag b)) P
-  pub own : (b : RangeBound) → Such b → IfSome (kept_if test (own_pre b)) P
-  pub zero : (b : RangeBound) → Such b → IfSome (kept_if test (zero_pre b)) P
+  pub free : (b : RangeBound) → Such b → IfSome (filtered test (lowest_free flag b)) P
+  pub own : (b : RangeBound) → Such b → IfSome (filtered test (own_pre b)) P
+  pub zero : (b : RangeBound) → Such b → IfSome (filtered test (zero_pre b)) P
 
 module _ (flag : PreRelease) (test : Version → Bool) (Such : RangeBound → Type 0) (P : Version → Type 0) (chosen : ChoosesOnly flag test Such P) where
   start_has : (found : Option Version) (b : RangeBound) → Such b → IfSome found P → IfSome (from_start flag test found b) P
   start_has found b such h =
-      let free = lesser_keeps P found (kept_if test (least_free flag b)) h (chosen.free b such) in
-      let own = lesser_keeps P (lower_passing test found (least_free flag b)) (kept_if test (own_pre b)) free (chosen.own b such) in
-      lesser_keeps P (lower_passing test (lower_passing test found (least_free flag b)) (own_pre b)) (kept_if test (zero_pre b)) own (chosen.zero b such)
+      let free = lesser_keeps P found (filtered test (lowest_free flag b)) h (chosen.free b such) in
+      let own = lesser_keeps P (lower_passing test found (lowest_free flag b)) (filtered test (own_pre b)) free (chosen.own b such) in
+      lesser_keeps P (lower_passing test (lower_passing test found (lowest_free flag b)) (own_pre b)) (filtered test (zero_pre b)) own (chosen.zero b such)
 
   range_has : (found : Option Version) (r : VersionRange) → Such r.start × Such r.end → IfSome found P → IfSome (from_range flag test found r) P
-  range_has found r such h = lesser_keeps P (from_start flag test found r.start) (kept_if test (zero_pre r.end)) (start_has found r.start such.0 h) (chosen.zero r.end such.1)
+  range_has found r such h = lesser_keeps P (from_start flag test found r.start) (filtered test (zero_pre r.end)) (start_has found r.start such.0 h) (chosen.zero r.end such.1)
 
   set_has : (ranges : List VersionRange) → ((r : VersionRange) → IsAmong r ranges → Such r.start × Such r.end) → (found : Option Version) → IfSome found P → IfSome (from_set flag test found ranges) P
   set_has ranges such = fold_has (λ found r. from_range flag test found r) P ranges (λ found r is h. range_has found r (such r is) h)
@@ -93,32 +93,32 @@ module _ (flag : PreRelease) (test : Version → Bool) (Such : RangeBound → Ty
 module _ (flag : PreRelease) (test : Version → Bool) (v : Version) where
   start_keeps : (found : Option Version) (b : RangeBound) → Reaches found v → Reaches (from_start flag test found b) v
   start_keeps found b h =
-      lesser_reaches_first (lower_passing test (lower_passing test found (least_free flag b)) (own_pre b)) (kept_if test (zero_pre b)) v
-      (lesser_reaches_first (lower_passing test found (least_free flag b)) (kept_if test (own_pre b)) v
-      (lesser_reaches_first found (kept_if test (least_free flag b)) v h))
+      lesser_reaches_first (lower_passing test (lower_passing test found (lowest_free flag b)) (own_pre b)) (filtered test (zero_pre b)) v
+      (lesser_reaches_first (lower_passing test found (lowest_free flag b)) (filtered test (own_pre b)) v
+      (lesser_reaches_first found (filtered test (lowest_free flag b)) v h))
 
-  start_free : (b : RangeBound) → Reaches (kept_if test (least_free flag b)) v → (found : Option Version) → Reaches (from_start flag test found b) v
+  start_free : (b : RangeBound) → Reaches (filtered test (lowest_free flag b)) v → (found : Option Version) → Reaches (from_start flag test found b) v
   start_free b h found =
-      lesser_reaches_first (lower_passing test (lower_passing test found (least_free flag b)) (own_pre b)) (kept_if test (zero_pre b)) v
-      (lesser_reaches_first (lower_passing test found (least_free flag b)) (kept_if test (own_pre b)) v
-      (lesser_reaches_second found (kept_if test (least_free flag b)) v h))
+      lesser_reaches_first (lower_passing test (lower_passing test found (lowest_free flag b)) (own_pre b)) (filtered test (zero_pre b)) v
+      (lesser_reaches_first (lower_passing test found (lowest_free flag b)) (filtered test (own_pre b)) v
+      (lesser_reaches_second found (filtered test (lowest_free flag b)) v h))
 
-  start_own : (b : RangeBound) → Reaches (kept_if test (own_pre b)) v → (found : Option Version) → Reaches (from_start flag test found b) v
+  start_own : (b : RangeBound) → Reaches (filtered test (own_pre b)) v → (found : Option Version) → Reaches (from_start flag test found b) v
   start_own b h found =
-      lesser_reaches_first (lower_passing test (lower_passing test found (least_free flag b)) (own_pre b)) (kept_if test (zero_pre b)) v
-      (lesser_reaches_second (lower_passing test found (least_free flag b)) (kept_if test (own_pre b)) v h)
+      lesser_reaches_first (lower_passing test (lower_passing test found (lowest_free flag b)) (own_pre b)) (filtered test (zero_pre b)) v
+      (lesser_reaches_second (lower_passing test found (lowest_free flag b)) (filtered test (own_pre b)) v h)
 
-  start_zero : (b : RangeBound) → Reaches (kept_if test (zero_pre b)) v → (found : Option Version) → Reaches (from_start flag test found b) v
-  start_zero b h found = lesser_reaches_second (lower_passing test (lower_passing test found (least_free flag b)) (own_pre b)) (kept_if test (zero_pre b)) v h
+  start_zero : (b : RangeBound) → Reaches (filtered test (zero_pre b)) v → (found : Option Version) → Reaches (from_start flag test found b) v
+  start_zero b h found = lesser_reaches_second (lower_passing test (lower_passing test found (lowest_free flag b)) (own_pre b)) (filtered test (zero_pre b)) v h
 
   range_keeps : (found : Option Version) (r : VersionRange) → Reaches found v → Reaches (from_range flag test found r) v
-  range_keeps found r h = lesser_reaches_first (from_start flag test found r.start) (kept_if test (zero_pre r.end)) v (start_keeps found r.start h)
+  range_keeps found r h = lesser_reaches_first (from_start flag test found r.start) (filtered test (zero_pre r.end)) v (start_keeps found r.start h)
 
   range_start : (r : VersionRange) → ((found : Option Version) → Reaches (from_start flag test found r.start) v) → (found : Option Version) → Reaches (from_range flag test found r) v
-  range_start r h found = lesser_reaches_first (from_start flag test found r.start) (kept_if test (zero_pre r.end)) v (h found)
+  range_start r h found = lesser_reaches_first (from_start flag test found r.start) (filtered test (zero_pre r.end)) v (h found)
 
-  range_end : (r : VersionRange) → Reaches (kept_if test (zero_pre r.end)) v → (found : Option Version) → Reaches (from_range flag test found r) v
-  range_end r h found = lesser_reaches_second (from_start flag test found r.start) (kept_if test (zero_pre r.end)) v h
+  range_end : (r : VersionRange) → Reaches (filtered test (zero_pre r.end)) v → (found : Option Version) → Reaches (from_range flag test found r) v
+  range_end r h found = lesser_reaches_second (from_start flag test found r.start) (filtered test (zero_pre r.end)) v h
 
   set_keeps : (found : Option Version) (ranges : List VersionRange) → Reaches found v → Reaches (from_set flag test found ranges) v
   set_keeps found ranges h = fold_keeps (λ found r. from_range flag test found r) v range_keeps found ranges h
@@ -145,7 +145,7 @@ module _ (flag : PreRelease) (test : Version → Bool) (v : Version) where
     of_ends r is h = fold_reaches (λ found (r : VersionRange). from_start flag test found (after r.end)) v (λ found r h. start_keeps found (after r.end) h) r without is h (from_sets flag test (from_set flag test None own) others)
 
 -- the lowest pre-release of a bound's numbers from a start on is the lowest of all, or the start's own
-pub pre_cases : (start b : RangeBound) → (least_pre start b ≡ None) ⊎ ((least_pre start b ≡ zero_pre b) ⊎ (least_pre start b ≡ own_pre start))
+pub pre_cases : (start b : RangeBound) → (lowest_pre start b ≡ None) ⊎ ((lowest_pre start b ≡ zero_pre b) ⊎ (lowest_pre start b ≡ own_pre start))
 pre_cases start bound.Unbounded = inl refl
 pre_cases start (bound.Version b) = elim (cases_Bool (is_release b.version)) [
   | inl plain ↦ rw plain (inl refl)
@@ -164,20 +164,20 @@ pre_cases start (bound.Version b) = elim (cases_Bool (is_release b.version)) [
 -- for a version from a start on, down from which the test passes: a candidate of the start reaches it, or the lowest
 -- pre-release of a bound that admits it does
 from_reached : (flag : PreRelease) (test : Version → Bool) (start : RangeBound) (v : Version) (Goal : Type 0) → IsReadable v → start_holds start v ≡ true → GoesDown flag test start v
-    → (Reaches (kept_if test (least_free flag start)) v → Goal) → (Reaches (kept_if test (own_pre start)) v → Goal)
-    → (is_unrestricted flag v ≡ true) ⊎ ((b : RangeBound) × (has_pre_of b v ≡ true) × (Reaches (kept_if test (zero_pre b)) v → Goal)) → Goal
+    → (Reaches (filtered test (lowest_free flag start)) v → Goal) → (Reaches (filtered test (own_pre start)) v → Goal)
+    → (is_unrestricted flag v ≡ true) ⊎ ((b : RangeBound) × (has_pre_of b v ≡ true) × (Reaches (filtered test (zero_pre b)) v → Goal)) → Goal
 from_reached Admitted test start v Goal readable held down free own admitted =
-    free (kept_reaches (start_holds start) test (least_version start) v (version_least start) readable held (λ w own le. down w own tt le))
+    free (retained_reaches (start_holds start) test (lowest_version start) v (version_lowest start) readable held (λ w own le. down w own tt le))
 from_reached Restricted test start v Goal readable held down free own (inl plain) = free (release_reached test start v readable held plain down)
 from_reached Restricted test start v Goal readable held down free own (inr admits) = elim (cases_Bool (is_release v)) [
   | inl plain ↦ free (release_reached test start v readable held plain down)
   | inr pre ↦
       let reached = pre_reached test start admits.0 v readable held pre admits.1 down in
       elim (pre_cases start admits.0) [
-        | inl none ↦ absurd (subst (λ x. Reaches (kept_if test x) v) none reached)
+        | inl none ↦ absurd (subst (λ x. Reaches (filtered test x) v) none reached)
         | inr some ↦ elim some [
-          | inl zero ↦ admits.2 (subst (λ x. Reaches (kept_if test x) v) zero reached)
-          | inr start_own ↦ own (subst (λ x. Reaches (kept_if test x) v) start_own reached)
+          | inl zero ↦ admits.2 (subst (λ x. Reaches (filtered test x) v) zero reached)
+          | inr start_own ↦ own (subst (λ x. Reaches (filtered test x) v) start_own reached)
         ]
       ]
 ]
@@ -299,7 +299,7 @@ module _ (flag : PreRelease) (own : List VersionRange) (others : List VersionRan
       Goal = Reaches (lowest_of flag own others without) v
 
       Q : RangeBound → Type 0
-      Q s = (Reaches (kept_if test (least_free flag s)) v → Goal) × (Reaches (kept_if test (own_pre s)) v → Goal)
+      Q s = (Reaches (filtered test (lowest_free flag s)) v → Goal) × (Reaches (filtered test (own_pre s)) v → Goal)
 
       q_own : (r : VersionRange) → IsAmong r own → Q r.start
       q_own r is = (
@@ -319,15 +319,15 @@ module _ (flag : PreRelease) (own : List VersionRange) (others : List VersionRan
         λ h. of_ends flag test v own others without r is (start_own flag test v (after r.end) h),
       )
 
-      admitted : (r : VersionRange) → IsAmong r own → (is_unrestricted flag v ≡ true) ⊎ (admits_pre r v ≡ true) → (is_unrestricted flag v ≡ true) ⊎ ((b : RangeBound) × (has_pre_of b v ≡ true) × (Reaches (kept_if test (zero_pre b)) v → Goal))
+      admitted : (r : VersionRange) → IsAmong r own → (is_unrestricted flag v ≡ true) ⊎ (admits_pre r v ≡ true) → (is_unrestricted flag v ≡ true) ⊎ ((b : RangeBound) × (has_pre_of b v ≡ true) × (Reaches (filtered test (zero_pre b)) v → Goal))
       admitted r is (inl free) = inl free
       admitted r is (inr admits) = inr (elim (or_cases (has_pre_of r.start v) (has_pre_of r.end v) admits) [
         | inl start ↦ (r.start, start, λ h. of_own flag test v own others without r is (range_start flag test v r (start_zero flag test v r.start h)))
         | inr end ↦ (r.end, end, λ h. of_own flag test v own others without r is (range_end flag test v r h))
       ])
 
-  pub lowest_least : IsLeast test (lowest_of flag own others without)
-  lowest_least = least_by test (lowest_of flag own others without)
-      (lowest_has flag test (λ b. Unit {0}) (λ w. test w ≡ true) (record { free = λ b _. kept_passes test (least_free flag b); own = λ b _. kept_passes test (own_pre b); zero = λ b _. kept_passes test (zero_pre b) })
+  pub lowest_lowest : IsLowestPassing test (lowest_of flag own others without)
+  lowest_lowest = lowest_by test (lowest_of flag own others without)
+      (lowest_has flag test (λ b. Unit {0}) (λ w. test w ≡ true) (record { free = λ b _. retained_passes test (lowest_free flag b); own = λ b _. retained_passes test (own_pre b); zero = λ b _. retained_passes test (zero_pre b) })
       own others without (record { from_own = λ r is. (tt, tt); from_others = λ set r is among. (tt, tt); from_without = λ r is. tt }))
       reached

@@ -3,16 +3,16 @@ use Rattle.std.proofs.Common.{◌≡◌, ◌<◌, ◌+◌, ℕ, Bool, true, fals
 use Rattle.std.specs.Prelude.{◌&&◌, codes, if◌then◌else◌, nat_lt}
 use Rattle.std.proofs.lemmas.Bool.{and_from, and_parts, cases_lt, eq-eqb, eqb-true, lt-ltb, ltb-true}
 use Rattle.std.proofs.lemmas.Bool.Decides.{nat_tests}
-use Rattle.semver_base.specs.Comparators.{Comparator, Tilde, Caret, Plain}
+use Rattle.semver_base.specs.Comparators.{Comparator, Tilde, Caret, Bare}
 use Rattle.semver_base.specs.Meaning.{release}
 use Rattle.semver_base.specs.NormalTable.{IsNormalTable, zero_version}
 use Rattle.semver_base.specs.NormalText.{comparator_text, comparators_text}
-use Rattle.semver_base.specs.PrecedenceLaws.{version_eq, version_told}
-use Rattle.semver_base.specs.Shortest.{ending, is_plain, numbered, shortest_between, starting, whole}
+use Rattle.semver_base.specs.PrecedenceLaws.{version_eq, version_reported}
+use Rattle.semver_base.specs.Shortest.{ending, is_release_of, numbered, shortest_between, starting, whole}
 use Rattle.semver_base.specs.declared.partial.XRange.TheVariants.{Wildcard, Val}
 use Rattle.semver_base.specs.declared.range.VersionBoundKind.TheVariants as kind
 use Rattle.semver_base.specs.declared.version.Version.{Version}
-use Rattle.semver_base.proofs.PlainVersions.{plain_is}
+use Rattle.semver_base.proofs.ShortVersions.{short_is}
 
 -- ---- which versions are the same
 
@@ -21,16 +21,16 @@ fails true never = absurd (never refl)
 fails false never = refl
 
 differs : (v w : Version) → ¬ (v ≡ w) → version_eq v w ≡ false
-differs v w other = fails (version_eq v w) (λ e. other ((version_told v w).0 e))
+differs v w other = fails (version_eq v w) (λ e. other ((version_reported v w).0 e))
 
-plain_release : (major minor patch : ℕ) → is_plain (release major minor patch) major minor patch ≡ true
-plain_release major minor patch = and_from (major == major) _ (eq-eqb major major refl) (and_from (minor == minor) _ (eq-eqb minor minor refl) (and_from (patch == patch) _ (eq-eqb patch patch refl) refl))
+bare_release : (major minor patch : ℕ) → is_release_of (release major minor patch) major minor patch ≡ true
+bare_release major minor patch = and_from (major == major) _ (eq-eqb major major refl) (and_from (minor == minor) _ (eq-eqb minor minor refl) (and_from (patch == patch) _ (eq-eqb patch patch refl) refl))
 
-plain_of : (v : Version) (major minor patch : ℕ) → v ≡ release major minor patch → is_plain v major minor patch ≡ true
-plain_of v major minor patch e = ap (λ (w : Version). is_plain w major minor patch) e ∙ plain_release major minor patch
+bare_of : (v : Version) (major minor patch : ℕ) → v ≡ release major minor patch → is_release_of v major minor patch ≡ true
+bare_of v major minor patch e = ap (λ (w : Version). is_release_of w major minor patch) e ∙ bare_release major minor patch
 
-not_plain : (v : Version) (major minor patch : ℕ) → ¬ (v ≡ release major minor patch) → is_plain v major minor patch ≡ false
-not_plain v major minor patch other = fails (is_plain v major minor patch) (λ e. other (plain_is v major minor patch e))
+not_bare : (v : Version) (major minor patch : ℕ) → ¬ (v ≡ release major minor patch) → is_release_of v major minor patch ≡ false
+not_bare v major minor patch other = fails (is_release_of v major minor patch) (λ e. other (short_is v major minor patch e))
 
 -- ---- steps down the table
 
@@ -55,22 +55,22 @@ two_texts cs c d e = rw e (ap (λ t. comparator_text c ++ (codes " " ++ t)) (app
 
 -- ---- two inclusive ends
 
-one_version : (s : Version) → Path (List Comparator) (shortest_between kind.Inclusive kind.Inclusive s s) (Plain (whole s) ∷ [])
-one_version s = taken (version_eq s s) _ _ ((version_told s s).1 refl)
+one_version : (s : Version) → Path (List Comparator) (shortest_between kind.Inclusive kind.Inclusive s s) (Bare (whole s) ∷ [])
+one_version s = taken (version_eq s s) _ _ ((version_reported s s).1 refl)
 
 from_zero_up_to : (s e : Version) → s ≡ zero_version → ¬ (s ≡ e) → Path (List Comparator) (shortest_between kind.Inclusive kind.Inclusive s e) (ending kind.Inclusive e ∷ [])
-from_zero_up_to s e zero some = passed (version_eq s e) _ _ (differs s e some) ∙ taken (is_plain s 0 0 0) _ _ (plain_of s 0 0 0 zero)
+from_zero_up_to s e zero some = passed (version_eq s e) _ _ (differs s e some) ∙ taken (is_release_of s 0 0 0) _ _ (bare_of s 0 0 0 zero)
 
 closed : (s e : Version) → ¬ (s ≡ e) → ¬ (s ≡ zero_version) → Path (List Comparator) (shortest_between kind.Inclusive kind.Inclusive s e) (starting kind.Inclusive s ∷ ending kind.Inclusive e ∷ [])
-closed s e differ some = passed (version_eq s e) _ _ (differs s e differ) ∙ passed (is_plain s 0 0 0) _ _ (not_plain s 0 0 0 some)
+closed s e differ some = passed (version_eq s e) _ _ (differs s e differ) ∙ passed (is_release_of s 0 0 0) _ _ (not_bare s 0 0 0 some)
 
 -- ---- an inclusive and an exclusive end
 
-other_major : (v : Version) (major minor patch : ℕ) → ¬ (v.major ≡ major) → is_plain v major minor patch ≡ false
-other_major v major minor patch differ = not_plain v major minor patch (λ e. differ (ap (λ (w : Version). w.major) e))
+other_major : (v : Version) (major minor patch : ℕ) → ¬ (v.major ≡ major) → is_release_of v major minor patch ≡ false
+other_major v major minor patch differ = not_bare v major minor patch (λ e. differ (ap (λ (w : Version). w.major) e))
 
-other_minor : (v : Version) (major minor patch : ℕ) → ¬ (v.minor ≡ minor) → is_plain v major minor patch ≡ false
-other_minor v major minor patch differ = not_plain v major minor patch (λ e. differ (ap (λ (w : Version). w.minor) e))
+other_minor : (v : Version) (major minor patch : ℕ) → ¬ (v.minor ≡ minor) → is_release_of v major minor patch ≡ false
+other_minor v major minor patch differ = not_bare v major minor patch (λ e. differ (ap (λ (w : Version). w.minor) e))
 
 not_next : (n : ℕ) → ¬ (n ≡ n + 1)
 not_next n e = omega (arith, e)
@@ -78,34 +78,34 @@ not_next n e = omega (arith, e)
 not_zero : (n : ℕ) → ¬ (0 ≡ n + 1)
 not_zero n e = omega (arith, e)
 
-one_major : (major : ℕ) → Path (List Comparator) (shortest_between kind.Inclusive kind.Exclusive (release major 0 0) (release (major + 1) 0 0)) (Plain (numbered (Val major) Wildcard) ∷ [])
-one_major major = taken _ _ _ (and_from _ _ (plain_release major 0 0) (plain_release (major + 1) 0 0))
+one_major : (major : ℕ) → Path (List Comparator) (shortest_between kind.Inclusive kind.Exclusive (release major 0 0) (release (major + 1) 0 0)) (Bare (numbered (Val major) Wildcard) ∷ [])
+one_major major = taken _ _ _ (and_from _ _ (bare_release major 0 0) (bare_release (major + 1) 0 0))
 
-one_minor : (major minor : ℕ) → Path (List Comparator) (shortest_between kind.Inclusive kind.Exclusive (release major minor 0) (release major (minor + 1) 0)) (Plain (numbered (Val major) (Val minor)) ∷ [])
+one_minor : (major minor : ℕ) → Path (List Comparator) (shortest_between kind.Inclusive kind.Exclusive (release major minor 0) (release major (minor + 1) 0)) (Bare (numbered (Val major) (Val minor)) ∷ [])
 one_minor major minor =
     passed _ _ _ (second_fails _ _ (other_major (release major (minor + 1) 0) (major + 1) 0 0 (not_next major)))
-    ∙ taken _ _ _ (and_from _ _ (plain_release major minor 0) (plain_release major (minor + 1) 0))
+    ∙ taken _ _ _ (and_from _ _ (bare_release major minor 0) (bare_release major (minor + 1) 0))
 
 tilde : (s : Version) → ¬ (s ≡ release s.major s.minor 0) → Path (List Comparator) (shortest_between kind.Inclusive kind.Exclusive s (release s.major (s.minor + 1) 0)) (Tilde (whole s) ∷ [])
 tilde s more =
     passed _ _ _ (second_fails _ _ (other_major (release s.major (s.minor + 1) 0) (s.major + 1) 0 0 (not_next s.major)))
-    ∙ (passed _ _ _ (first_fails _ _ (not_plain s s.major s.minor 0 more))
-    ∙ taken _ _ _ (plain_release s.major (s.minor + 1) 0))
+    ∙ (passed _ _ _ (first_fails _ _ (not_bare s s.major s.minor 0 more))
+    ∙ taken _ _ _ (bare_release s.major (s.minor + 1) 0))
 
 caret_patch : (s : Version) → s.major ≡ 0 → s.minor ≡ 0 → Path (List Comparator) (shortest_between kind.Inclusive kind.Exclusive s (release 0 0 (s.patch + 1))) (Caret (whole s) ∷ [])
 caret_patch s a b =
     passed _ _ _ (second_fails _ _ (other_major (release 0 0 (s.patch + 1)) (s.major + 1) 0 0 (not_zero s.major)))
     ∙ (passed _ _ _ (second_fails _ _ (other_minor (release 0 0 (s.patch + 1)) s.major (s.minor + 1) 0 (not_zero s.minor)))
     ∙ (passed _ _ _ (other_minor (release 0 0 (s.patch + 1)) s.major (s.minor + 1) 0 (not_zero s.minor))
-    ∙ taken _ _ _ (and_from _ _ (eq-eqb s.major 0 a) (and_from _ _ (eq-eqb s.minor 0 b) (plain_release 0 0 (s.patch + 1))))))
+    ∙ taken _ _ _ (and_from _ _ (eq-eqb s.major 0 a) (and_from _ _ (eq-eqb s.minor 0 b) (bare_release 0 0 (s.patch + 1))))))
 
 caret_major : (s : Version) → 0 < s.major → ¬ (s ≡ release s.major 0 0) → Path (List Comparator) (shortest_between kind.Inclusive kind.Exclusive s (release (s.major + 1) 0 0)) (Caret (whole s) ∷ [])
 caret_major s some more =
-    passed _ _ _ (first_fails _ _ (not_plain s s.major 0 0 more))
+    passed _ _ _ (first_fails _ _ (not_bare s s.major 0 0 more))
     ∙ (passed _ _ _ (second_fails _ _ (other_minor (release (s.major + 1) 0 0) s.major (s.minor + 1) 0 (not_zero s.minor)))
     ∙ (passed _ _ _ (other_minor (release (s.major + 1) 0 0) s.major (s.minor + 1) 0 (not_zero s.minor))
     ∙ (passed _ _ _ (first_fails _ _ (positive s.major some))
-    ∙ taken _ _ _ (and_from _ _ (lt-ltb 0 s.major some) (plain_release (s.major + 1) 0 0)))))
+    ∙ taken _ _ _ (and_from _ _ (lt-ltb 0 s.major some) (bare_release (s.major + 1) 0 0)))))
   where
     positive : (n : ℕ) → 0 < n → (n == 0) ≡ false
     positive n h = grind (arith, nat_tests)
@@ -113,23 +113,23 @@ caret_major s some more =
 below : (s e : Version) → s ≡ zero_version → ¬ (e ≡ release (s.major + 1) 0 0) → ¬ (e ≡ release s.major (s.minor + 1) 0) → ¬ (e ≡ release 0 0 (s.patch + 1))
     → Path (List Comparator) (shortest_between kind.Inclusive kind.Exclusive s e) (ending kind.Exclusive e ∷ [])
 below s e zero major minor patch =
-    passed _ _ _ (second_fails _ _ (not_plain e (s.major + 1) 0 0 major))
-    ∙ (passed _ _ _ (second_fails _ _ (not_plain e s.major (s.minor + 1) 0 minor))
-    ∙ (passed _ _ _ (not_plain e s.major (s.minor + 1) 0 minor)
-    ∙ (passed _ _ _ (second_fails _ _ (second_fails _ _ (not_plain e 0 0 (s.patch + 1) patch)))
+    passed _ _ _ (second_fails _ _ (not_bare e (s.major + 1) 0 0 major))
+    ∙ (passed _ _ _ (second_fails _ _ (not_bare e s.major (s.minor + 1) 0 minor))
+    ∙ (passed _ _ _ (not_bare e s.major (s.minor + 1) 0 minor)
+    ∙ (passed _ _ _ (second_fails _ _ (second_fails _ _ (not_bare e 0 0 (s.patch + 1) patch)))
     ∙ (passed _ _ _ (first_fails _ _ (ap (λ (v : Version). nat_lt 0 v.major) zero))
-    ∙ taken _ _ _ (plain_of s 0 0 0 zero)))))
+    ∙ taken _ _ _ (bare_of s 0 0 0 zero)))))
 
 half_open : (s e : Version) → ¬ (s ≡ zero_version) → ¬ (e ≡ release s.major (s.minor + 1) 0)
     → (s.major ≡ 0 → s.minor ≡ 0 → ¬ (e ≡ release 0 0 (s.patch + 1))) → (0 < s.major → ¬ (e ≡ release (s.major + 1) 0 0))
     → Path (List Comparator) (shortest_between kind.Inclusive kind.Exclusive s e) (starting kind.Inclusive s ∷ ending kind.Exclusive e ∷ [])
 half_open s e some minor patch major =
-    passed _ _ _ (fails _ (λ t. let both = and_parts _ _ t in no_major (plain_is s s.major 0 0 both.0) (plain_is e (s.major + 1) 0 0 both.1)))
-    ∙ (passed _ _ _ (second_fails _ _ (not_plain e s.major (s.minor + 1) 0 minor))
-    ∙ (passed _ _ _ (not_plain e s.major (s.minor + 1) 0 minor)
-    ∙ (passed _ _ _ (fails _ (λ t. let both = and_parts _ _ t in let more = and_parts _ _ both.1 in patch (eqb-true s.major 0 both.0) (eqb-true s.minor 0 more.0) (plain_is e 0 0 (s.patch + 1) more.1)))
-    ∙ (passed _ _ _ (fails _ (λ t. let both = and_parts _ _ t in major (ltb-true 0 s.major both.0) (plain_is e (s.major + 1) 0 0 both.1)))
-    ∙ passed _ _ _ (not_plain s 0 0 0 some)))))
+    passed _ _ _ (fails _ (λ t. let both = and_parts _ _ t in no_major (short_is s s.major 0 0 both.0) (short_is e (s.major + 1) 0 0 both.1)))
+    ∙ (passed _ _ _ (second_fails _ _ (not_bare e s.major (s.minor + 1) 0 minor))
+    ∙ (passed _ _ _ (not_bare e s.major (s.minor + 1) 0 minor)
+    ∙ (passed _ _ _ (fails _ (λ t. let both = and_parts _ _ t in let more = and_parts _ _ both.1 in patch (eqb-true s.major 0 both.0) (eqb-true s.minor 0 more.0) (short_is e 0 0 (s.patch + 1) more.1)))
+    ∙ (passed _ _ _ (fails _ (λ t. let both = and_parts _ _ t in major (ltb-true 0 s.major both.0) (short_is e (s.major + 1) 0 0 both.1)))
+    ∙ passed _ _ _ (not_bare s 0 0 0 some)))))
   where
     no_major : s ≡ release s.major 0 0 → ¬ (e ≡ release (s.major + 1) 0 0)
     no_major p q = elim (cases_lt 0 s.major) [

@@ -8,7 +8,7 @@ use Rattle.std.specs.declared.cmp.Ordering.{Ordering}
 use Rattle.std.specs.declared.cmp.Ordering.TheVariants.{Less, Equal, Greater}
 use Rattle.semver_base.specs.Precedence.{numbers_cmp, precedence_cmp, pre_cmp}
 use Rattle.semver_base.specs.declared.version.Version.{Version}
-use Rattle.semver_base.proofs.LeastIdentifiers.{le_then, nat_le_cmp}
+use Rattle.semver_base.proofs.LowestIdentifiers.{le_then, nat_le_cmp}
 
 then_in_threes : (a b c d : Ordering) → ordering_then a (ordering_then b (ordering_then c d)) ≡ ordering_then (ordering_then a (ordering_then b c)) d
 then_in_threes Less b c d = refl

@@ -19,7 +19,7 @@ use Rattle.semver_base.specs.declared.range.VersionBoundKind.{VersionBoundKind}
 use Rattle.semver_base.specs.declared.range.VersionBoundKind.TheVariants as kind
 use Rattle.semver_base.specs.declared.range.VersionRange.{VersionRange}
 use Rattle.semver_base.proofs.ClampLemmas.{above_from, start_both}
-use Rattle.semver_base.proofs.LeastFrom.{alike_admitted, means, means_admits, means_end, means_from, means_start, AreAlike}
+use Rattle.semver_base.proofs.LowestFrom.{alike_admitted, means, means_admits, means_end, means_from, means_start, AreAlike}
 use Rattle.semver_base.proofs.Orders.{and_first, and_second, le_le, le_turned, less_le, turned}
 use Rattle.semver_base.proofs.Triples as triples
 

@@ -3,14 +3,14 @@
 use Rattle.std.proofs.Common.{◌≡◌, ◌&&◌, Bool, true, false, not, Option, Some, None, refl, sym, subst, ◌∙◌, inl, inr}
 use Rattle.std.specs.Prelude.{◌||◌, is_some}
 use Rattle.std.proofs.lemmas.Bool.{cases_Bool}
-use Rattle.semver_base.specs.Candidates.{kept_if, own_pre, zero_pre}
-use Rattle.semver_base.specs.LeastVersion.{IsReadable, TellsSome}
+use Rattle.semver_base.specs.Candidates.{filtered, own_pre, zero_pre}
+use Rattle.semver_base.specs.LowestVersion.{IsReadable, DecidesSome}
 use Rattle.semver_base.specs.Meaning.{has_pre_of, is_pre_match, is_release, range_means}
 use Rattle.semver_base.specs.declared.version.Version.{Version}
 use Rattle.semver_base.specs.declared.range.PreRelease.TheVariants.{Restricted}
 use Rattle.semver_base.specs.declared.range.RangeBound.{RangeBound}
 use Rattle.semver_base.specs.declared.range.VersionRange.{VersionRange}
-use Rattle.semver_base.proofs.LeastFrom.{lower_means, means_start, pre_reached, same_admits, GoesDown, Reaches}
+use Rattle.semver_base.proofs.LowestFrom.{lower_means, means_start, pre_reached, same_admits, GoesDown, Reaches}
 use Rattle.semver_base.proofs.Lowest.{pre_cases}
 use Rattle.semver_base.proofs.Orders.{and_both, and_first, and_second, or_first, or_second}
 use Rattle.semver_base.proofs.Triples as triples
@@ -34,44 +34,44 @@ module _ (range : VersionRange) (b : RangeBound) where
     | inr same ↦ and_both _ _ (rw (same.0, same_admits b w v same.2 (of_bound v h)) refl) (lower_means Restricted range w v held (inr same) le (meant v h))
   ]
 
-  found : (x : Option Version) (v : Version) → Reaches (kept_if test x) v → is_some (kept_if test x) ≡ true
-  found x v h = go (kept_if test x) h
+  found : (x : Option Version) (v : Version) → Reaches (filtered test x) v → is_some (filtered test x) ≡ true
+  found x v h = go (filtered test x) h
     where
       go : (y : Option Version) → Reaches y v → is_some y ≡ true
       go None h = absurd h
       go (Some w) h = refl
 
-  either : (v : Version) → IsReadable v → test v ≡ true → (is_some (kept_if test (zero_pre b)) || is_some (kept_if test (own_pre range.start))) ≡ true
+  either : (v : Version) → IsReadable v → test v ≡ true → (is_some (filtered test (zero_pre b)) || is_some (filtered test (own_pre range.start))) ≡ true
   either v readable h =
       let reached = pre_reached test range.start b v readable (means_start Restricted range v (meant v h)) (pre v h) (of_bound v h) (down v h) in
       elim (pre_cases range.start b) [
-        | inl none ↦ absurd (subst (λ x. Reaches (kept_if test x) v) none reached)
+        | inl none ↦ absurd (subst (λ x. Reaches (filtered test x) v) none reached)
         | inr some ↦ elim some [
-          | inl zero ↦ or_first _ _ (found (zero_pre b) v (subst (λ x. Reaches (kept_if test x) v) zero reached))
-          | inr own ↦ or_second (is_some (kept_if test (zero_pre b))) _ (found (own_pre range.start) v (subst (λ x. Reaches (kept_if test x) v) own reached))
+          | inl zero ↦ or_first _ _ (found (zero_pre b) v (subst (λ x. Reaches (filtered test x) v) zero reached))
+          | inr own ↦ or_second (is_some (filtered test (zero_pre b))) _ (found (own_pre range.start) v (subst (λ x. Reaches (filtered test x) v) own reached))
         ]
       ]
 
   -- a candidate that is kept passes
-  witness : (x : Option Version) → is_some (kept_if test x) ≡ true → (v : Version) × (test v ≡ true)
+  witness : (x : Option Version) → is_some (filtered test x) ≡ true → (v : Version) × (test v ≡ true)
   witness None h = cc h
   witness (Some w) h = elim (cases_Bool (test w)) [
     | inl passes ↦ (w, passes)
     | inr fails ↦ let never : false ≡ true = rw fails at h in cc never
   ]
 
-  told_some : (lowest own : Bool) → lowest ≡ is_some (kept_if test (zero_pre b)) → own ≡ is_some (kept_if test (own_pre range.start)) → TellsSome test (lowest || own)
-  told_some true own e f = witness (zero_pre b) (sym e)
-  told_some false true e f = witness (own_pre range.start) (sym f)
-  told_some false false e f = λ v readable. elim (cases_Bool (test v)) [
+  reported_some : (lowest own : Bool) → lowest ≡ is_some (filtered test (zero_pre b)) → own ≡ is_some (filtered test (own_pre range.start)) → DecidesSome test (lowest || own)
+  reported_some true own e f = witness (zero_pre b) (sym e)
+  reported_some false true e f = witness (own_pre range.start) (sym f)
+  reported_some false false e f = λ v readable. elim (cases_Bool (test v)) [
     | inl passes ↦ let some : (false || false) ≡ true = rw (sym e, sym f) at (either v readable passes) in cc some
     | inr fails ↦ fails
   ]
 
-  pub told_lowest : (lowest own : Bool) → lowest ≡ is_some (kept_if test (zero_pre b)) → own ≡ is_some (kept_if test (own_pre range.start)) → lowest ≡ true → TellsSome test lowest
-  told_lowest true own e f is = told_some true own e f
-  told_lowest false own e f is = cc is
+  pub reported_lowest : (lowest own : Bool) → lowest ≡ is_some (filtered test (zero_pre b)) → own ≡ is_some (filtered test (own_pre range.start)) → lowest ≡ true → DecidesSome test lowest
+  reported_lowest true own e f is = reported_some true own e f
+  reported_lowest false own e f is = cc is
 
-  pub told_own : (lowest own : Bool) → lowest ≡ is_some (kept_if test (zero_pre b)) → own ≡ is_some (kept_if test (own_pre range.start)) → lowest ≡ false → TellsSome test own
-  told_own true own e f is = cc is
-  told_own false own e f is = told_some false own e f
+  pub reported_own : (lowest own : Bool) → lowest ≡ is_some (filtered test (zero_pre b)) → own ≡ is_some (filtered test (own_pre range.start)) → lowest ≡ false → DecidesSome test own
+  reported_own true own e f is = cc is
+  reported_own false own e f is = reported_some false own e f

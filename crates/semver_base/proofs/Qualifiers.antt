@@ -53,9 +53,9 @@ module _ {text : List ℕ} (other : (rest : List ℕ) → text ≡ 45 ∷ rest �
     | inr k ↦ k.1
   ]
 
-  loose_plain : (r : Option (List (List ℕ) × List ℕ)) → Reads IsIdentifiers text r → Reads IsLoosePre text r
-  loose_plain None h = record { none = λ a b w e k. h.none a b w e (identifiers_from_loose a b w e k) }
-  loose_plain (Some p) h = record {
+  loose_bare : (r : Option (List (List ℕ) × List ℕ)) → Reads IsIdentifiers text r → Reads IsLoosePre text r
+  loose_bare None h = record { none = λ a b w e k. h.none a b w e (identifiers_from_loose a b w e k) }
+  loose_bare (Some p) h = record {
     front = h.front;
     text_is = h.text_is;
     stands = loose_from_identifiers h.front p.1 p.0 h.text_is h.stands;
@@ -69,9 +69,9 @@ pre_prefixed Loose text rest r e h = loose_prefixed e r h
 pre_prefixed Strict text rest None e h = prefixed_none e h
 pre_prefixed Strict text rest (Some p) e h = prefixed_some e h
 
-pub pre_plain : (s : Strictness) (text : List ℕ) (r : Option (List (List ℕ) × List ℕ)) → ((rest : List ℕ) → text ≡ 45 ∷ rest → ⊥) → (s ≡ Strict → ⊥) → Reads IsIdentifiers text r → Reads (IsPre s) text r
-pre_plain Loose text r other not h = loose_plain other r h
-pre_plain Strict text r other not h = absurd (not refl)
+pub pre_bare : (s : Strictness) (text : List ℕ) (r : Option (List (List ℕ) × List ℕ)) → ((rest : List ℕ) → text ≡ 45 ∷ rest → ⊥) → (s ≡ Strict → ⊥) → Reads IsIdentifiers text r → Reads (IsPre s) text r
+pre_bare Loose text r other not h = loose_bare other r h
+pre_bare Strict text r other not h = absurd (not refl)
 
 pub build_prefixed : (text rest : List ℕ) (r : Option (List (List ℕ) × List ℕ)) → text ≡ 43 ∷ rest → Reads IsIdentifiers rest r → Reads IsBuild text r
 build_prefixed text rest None e h = prefixed_none e h

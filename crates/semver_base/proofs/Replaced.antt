@@ -55,8 +55,8 @@ module _ (from to : List ℕ) where
     found_begins : (s r : List ℕ) (a b : ℕ) → FindsText from s (Some (a, b)) → IsReplaced from to s r → IsBegun s (drop b s) (take a s ++ to) r
     found_begins s r a b found (no_more none) = absurd (none a (within from s a b some found.1) (drop b s) found.1.split)
     found_begins s r a b found (one_more {replaced = replaced} {start = i} {end = j} other _ more) =
-        let least = first_found from s a b i j found other.1 in
-        let same : i ≡ a = omega (arith, least, first_found from s i j a b other found.1) in
+        let lowest = first_found from s a b i j found other.1 in
+        let same : i ≡ a = omega (arith, lowest, first_found from s i j a b other found.1) in
         let ends : j ≡ b = omega (arith, same, other.1.ends, found.1.ends) in
         record {
           more = replaced;

@@ -11,7 +11,7 @@ use Rattle.std.proofs.lemmas.Str.{chars-IsAscii, encodes-IsAscii}
 use Rattle.std.proofs.lemmas.Str.Ascii.{IsAscii-from_all}
 use Rattle.semver_base.specs.Lexical.{IsIdentifiers, IsLooseNumber, IsQualifier}
 use Rattle.semver_base.specs.declared.lexical.values.Strictness.TheVariants.{Loose}
-use Rattle.semver_base.proofs.Blanks.{is_blank_byte}
+use Rattle.semver_base.proofs.Whitespace.{is_whitespace_byte}
 use Rattle.semver_base.proofs.Bytes.{MadeOf, joined_made, list_all-wider, made_wider, mapped_made, prefixed_made, optional_made, run_made}
 use Rattle.semver_base.proofs.Fronts.{NonEmpty}
 use Rattle.semver_base.proofs.Identifiers.{identifiers_made, is_identifiers_byte}
@@ -33,8 +33,8 @@ solid_ascii b h = grind (arith, nat_tests)
 solid_no_white : (b : ℕ) → is_solid_byte b ≡ true → is_whitespace b ≡ false
 solid_no_white b h = grind (arith, nat_tests)
 
-pub solid_no_blank : (b : ℕ) → is_solid_byte b ≡ true → is_blank_byte b ≡ true → ⊥
-solid_no_blank b h k = grind (arith, nat_tests)
+pub solid_no_whitespace : (b : ℕ) → is_solid_byte b ≡ true → is_whitespace_byte b ≡ true → ⊥
+solid_no_whitespace b h k = grind (arith, nat_tests)
 
 -- ---- what is made of such bytes
 

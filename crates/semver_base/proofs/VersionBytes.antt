@@ -5,7 +5,7 @@ use Rattle.std.specs.List.{list_all}
 use Rattle.std.proofs.lemmas.Bool.Decides.{nat_tests}
 use Rattle.semver_base.specs.Lexical.{IsLooseNumber, IsQualifier}
 use Rattle.semver_base.specs.VersionGrammar.{IsTriple, is_version}
-use Rattle.semver_base.specs.VersionText.{IsWritable, VersionTextsArePlain, is_version_text_byte, version_text}
+use Rattle.semver_base.specs.VersionText.{IsWritable, VersionTextsAreBare, is_version_text_byte, version_text}
 use Rattle.semver_base.specs.declared.lexical.values.Strictness.TheVariants.{Loose}
 use Rattle.semver_base.specs.declared.version.Version.{Version}
 use Rattle.semver_base.proofs.Bytes.{MadeOf, joined_made, made_wider, mapped_made, prefixed_made, optional_made, run_made}
@@ -33,5 +33,5 @@ triple_made = joined_made number_made (prefixed_made (joined_made number_made (p
 passes : (v : Version) → IsWritable v → list_all is_version_text_byte (version_text v) ≡ true
 passes v h = (joined_made triple_made qualifier_made).made (version_text v) _ (version_joined v h)
 
-pub version_plain : VersionTextsArePlain
-version_plain text v (is_version h fits) = passes v (read_writable text v h fits)
+pub version_bare : VersionTextsAreBare
+version_bare text v (is_version h fits) = passes v (read_writable text v h fits)

@@ -7,11 +7,11 @@ use Rattle.std.proofs.lemmas.Bool.{false_from_ne_true, or_left, or_right}
 use Rattle.std.proofs.lemmas.Bool.Decides.{nat_tests}
 use Rattle.std.proofs.lemmas.List.{nil_from_length}
 use Rattle.semver_base.specs.Grammar.{After, Followed, HasNone, IsLongest, IsSeen, Joined, Mapped, Prefixed, Optional, Run, Stops}
-use Rattle.semver_base.specs.Lexical.{IsBlanks, IsByte, IsLooseNumber, IsQualifier, NoDigitFollows}
-use Rattle.semver_base.specs.VersionGrammar.{AllNumbersFit, IsFirstFault, IsLead, IsNumberFault, too_large, no_dot, later, IsTriple, IsVersion, IsVersionAnswer, IsVersionOutcome, is_version, is_fault, is_outside, IsVersionRefusal, LacksDot, ignored, version_failure, version_of}
-use Rattle.semver_base.specs.VersionReaderSteps.{IsFaultOfNumbers, IsFittingNumber, IsFittingTriple, IsNumberRefusal, IsOutsideTriple, IsReadVersion, IsTripleRefusal}
-use Rattle.semver_base.specs.declared.failure.Refusal.{Refusal}
-use Rattle.semver_base.specs.declared.failure.Refusal.TheVariants.{UnexpectedCharacter, MissingMinor, MissingPatch}
+use Rattle.semver_base.specs.Lexical.{IsWhitespace, IsByte, IsLooseNumber, IsQualifier, NoDigitFollows}
+use Rattle.semver_base.specs.VersionGrammar.{AllNumbersFit, IsFirstFault, IsLead, IsNumberFault, too_large, no_dot, later, IsTriple, IsVersion, IsVersionAnswer, IsVersionOutcome, is_version, is_fault, is_outside, IsVersionRejection, LacksDot, ignored, version_failure, version_of}
+use Rattle.semver_base.specs.VersionParserSteps.{IsFaultOfNumbers, IsFittingNumber, IsFittingTriple, IsNumberRejection, IsOutsideTriple, IsReadVersion, IsTripleRejection}
+use Rattle.semver_base.specs.declared.failure.Rejection.{Rejection}
+use Rattle.semver_base.specs.declared.failure.Rejection.TheVariants.{UnexpectedCharacter, MissingMinor, MissingPatch}
 use Rattle.semver_base.specs.declared.lexical.values.Qualifier.{Qualifier}
 use Rattle.semver_base.specs.declared.lexical.values.Strictness.TheVariants.{Loose}
 use Rattle.semver_base.specs.declared.version.Version.{Version}
@@ -22,38 +22,38 @@ use Rattle.semver_base.proofs.Bytes.{BeginsBy, Disjoint, GoesBy, MadeOf, apart_b
 use Rattle.semver_base.proofs.Lists.{run_longest}
 use Rattle.semver_base.proofs.Numbers.{loose_begins, loose_end, loose_goes, loose_some}
 use Rattle.semver_base.proofs.Identifiers.{byte_begins, byte_goes}
-use Rattle.semver_base.proofs.Blanks.{blanks_made, is_blank_byte}
+use Rattle.semver_base.proofs.Whitespace.{whitespace_made, is_whitespace_byte}
 
 -- ---- the lead
 
 abbrev is_v : ℕ → Bool
 is_v x = x == 118
 
-blank_no_v : Disjoint is_blank_byte is_v
-blank_no_v x h k = grind (arith, nat_tests)
+whitespace_no_v : Disjoint is_whitespace_byte is_v
+whitespace_no_v x h k = grind (arith, nat_tests)
 
-blanks_apart : Apart IsBlanks (Optional (Prefixed 118 IsBlanks))
-blanks_apart = apart_by is_blank_byte is_v blank_no_v (goes_from_made blanks_made) (optional_begins (prefixed_begins 118))
+whitespace_apart : Apart IsWhitespace (Optional (Prefixed 118 IsWhitespace))
+whitespace_apart = apart_by is_whitespace_byte is_v whitespace_no_v (goes_from_made whitespace_made) (optional_begins (prefixed_begins 118))
 
 abbrev is_after_equals : ℕ → Bool
-is_after_equals x = is_blank_byte x || is_v x
+is_after_equals x = is_whitespace_byte x || is_v x
 
-equals_no_blank : Disjoint (λ x. x == 61) is_after_equals
-equals_no_blank x h k = grind (arith, nat_tests)
+equals_no_whitespace : Disjoint (λ x. x == 61) is_after_equals
+equals_no_whitespace x h k = grind (arith, nat_tests)
 
 equals_goes : GoesBy (Optional (IsByte 61)) (λ x. x == 61)
 equals_goes = optional_goes (byte_begins 61) (goes_wider _ (λ x. x == 61) (λ x h. cc h) (byte_goes 61))
 
-after_equals_begins : BeginsBy (After IsBlanks (Optional (Prefixed 118 IsBlanks))) is_after_equals
+after_equals_begins : BeginsBy (After IsWhitespace (Optional (Prefixed 118 IsWhitespace))) is_after_equals
 after_equals_begins = mapped_begins (joined_begins_either
-    (begins_wider is_blank_byte is_after_equals (λ x h. or_left (is_blank_byte x) (is_v x) h) (begins_from_made blanks_made))
-    (optional_begins (begins_wider is_v is_after_equals (λ x h. or_right (is_blank_byte x) (is_v x) h) (prefixed_begins 118))))
+    (begins_wider is_whitespace_byte is_after_equals (λ x h. or_left (is_whitespace_byte x) (is_v x) h) (begins_from_made whitespace_made))
+    (optional_begins (begins_wider is_v is_after_equals (λ x h. or_right (is_whitespace_byte x) (is_v x) h) (prefixed_begins 118))))
 
-equals_apart : Apart (Optional (IsByte 61)) (After IsBlanks (Optional (Prefixed 118 IsBlanks)))
-equals_apart = apart_by (λ x. x == 61) is_after_equals equals_no_blank equals_goes after_equals_begins
+equals_apart : Apart (Optional (IsByte 61)) (After IsWhitespace (Optional (Prefixed 118 IsWhitespace)))
+equals_apart = apart_by (λ x. x == 61) is_after_equals equals_no_whitespace equals_goes after_equals_begins
 
-pub lead_read : {text first second rest : List ℕ} → IsSeen ignored (Optional (IsByte 61)) text tt first → IsLongest IsBlanks first tt second → IsSeen ignored (Optional (Prefixed 118 IsBlanks)) second tt rest → IsLongest IsLead text tt rest
-lead_read p q r = mapped (mapped (followed equals_apart p.longest (mapped (followed blanks_apart q r.longest))))
+pub lead_read : {text first second rest : List ℕ} → IsSeen ignored (Optional (IsByte 61)) text tt first → IsLongest IsWhitespace first tt second → IsSeen ignored (Optional (Prefixed 118 IsWhitespace)) second tt rest → IsLongest IsLead text tt rest
+lead_read p q r = mapped (mapped (followed equals_apart p.longest (mapped (followed whitespace_apart q r.longest))))
 
 abbrev is_lead_byte : ℕ → Bool
 is_lead_byte x = (x == 61) || is_after_equals x
@@ -63,9 +63,9 @@ lead_no_digit x h k = grind (arith, nat_tests)
 
 lead_made : MadeOf IsLead is_lead_byte
 lead_made =
-    let blanks : MadeOf IsBlanks is_lead_byte = made_wider is_blank_byte is_lead_byte (λ x h. or_right (x == 61) (is_after_equals x) (or_left (is_blank_byte x) (is_v x) h)) blanks_made in
+    let whitespace : MadeOf IsWhitespace is_lead_byte = made_wider is_whitespace_byte is_lead_byte (λ x h. or_right (x == 61) (is_after_equals x) (or_left (is_whitespace_byte x) (is_v x) h)) whitespace_made in
     let equals : MadeOf (IsByte 61) is_lead_byte = record { made = λ text v h. rw h refl } in
-    mapped_made (mapped_made (joined_made (optional_made equals) (mapped_made (joined_made blanks (optional_made (prefixed_made blanks 118 refl))))))
+    mapped_made (mapped_made (joined_made (optional_made equals) (mapped_made (joined_made whitespace (optional_made (prefixed_made whitespace 118 refl))))))
 
 -- ---- three numbers
 
@@ -148,13 +148,13 @@ no_lead {text} {rest} {numbers} p = record { front = []; text_is = refl; stands 
 -- ---- faults
 
 -- without a number there is no fault of numbers
-none_no_fault : {missing : List Refusal} {text : List ℕ} {fault : Refusal} → HasNone IsLooseNumber text → IsNumberFault missing text fault → ⊥
+none_no_fault : {missing : List Rejection} {text : List ℕ} {fault : Rejection} → HasNone IsLooseNumber text → IsNumberFault missing text fault → ⊥
 none_no_fault none (too_large {rest = rest} {n = n} p h) = none.none p.front rest n p.text_is p.stands
 none_no_fault none (no_dot {rest = rest} {n = n} p h k) = none.none p.front rest n p.text_is p.stands
 none_no_fault none (later {rest = rest} {n = n} p h k) = none.none p.front (46 ∷ rest) n p.text_is p.stands
 
 -- if a number fits and has its dot, the fault is in what follows
-next_fault : {refusal fault : Refusal} {missing : List Refusal} {text rest : List ℕ} {n : ℕ} → IsLongest IsLooseNumber text n (46 ∷ rest) → n < 2 ^ 64 → IsNumberFault (refusal ∷ missing) text fault → IsNumberFault missing rest fault
+next_fault : {rejection fault : Rejection} {missing : List Rejection} {text rest : List ℕ} {n : ℕ} → IsLongest IsLooseNumber text n (46 ∷ rest) → n < 2 ^ 64 → IsNumberFault (rejection ∷ missing) text fault → IsNumberFault missing rest fault
 next_fault p fits (too_large q large) = let same = one_front p q in absurd (omega (arith, same.0))
 next_fault {rest = rest} p fits (no_dot q small lacks) = absurd (lacks rest (sym (one_front p q).1))
 next_fault {fault = fault} {missing = missing} p fits (later {rest = other} q small f) =
@@ -163,54 +163,54 @@ next_fault {fault = fault} {missing = missing} p fits (later {rest = other} q sm
     rw rests at f
 
 -- a last number that fits has no fault
-last_no_fault : {fault : Refusal} {text rest : List ℕ} {n : ℕ} → IsLongest IsLooseNumber text n rest → n < 2 ^ 64 → IsNumberFault [] text fault → ⊥
+last_no_fault : {fault : Rejection} {text rest : List ℕ} {n : ℕ} → IsLongest IsLooseNumber text n rest → n < 2 ^ 64 → IsNumberFault [] text fault → ⊥
 last_no_fault p fits (too_large q large) = let same = one_front p q in omega (arith, same.0)
 
 -- a number's fault is the first of all
-number_fault : {missing : List Refusal} {text : List ℕ} {refusal : Refusal} → IsNumberRefusal text refusal → IsNumberFault missing text refusal ⊎ ((refusal ≡ UnexpectedCharacter) × HasNone IsLooseNumber text)
+number_fault : {missing : List Rejection} {text : List ℕ} {rejection : Rejection} → IsNumberRejection text rejection → IsNumberFault missing text rejection ⊎ ((rejection ≡ UnexpectedCharacter) × HasNone IsLooseNumber text)
 number_fault (inl h) = inl (rw h.0 (too_large h.1.number h.1.large))
 number_fault (inr h) = inr h
 
-pub major_refused : {text : List ℕ} {refusal : Refusal} → IsNumberRefusal text refusal → IsTripleRefusal text refusal
-major_refused {text} {refusal} h = elim (number_fault {missing = MissingMinor ∷ MissingPatch ∷ []} h) [
+pub major_rejected : {text : List ℕ} {rejection : Rejection} → IsNumberRejection text rejection → IsTripleRejection text rejection
+major_rejected {text} {rejection} h = elim (number_fault {missing = MissingMinor ∷ MissingPatch ∷ []} h) [
   | inl fault ↦ inl fault
   | inr outside ↦ inr (outside.0, record { no_triple = joined_none_first outside.1; no_fault = λ f k. none_no_fault outside.1 k })
 ]
 
-pub minor_missing : {text first : List ℕ} {m : ℕ} → IsFittingNumber text m first → LacksDot first → IsTripleRefusal text MissingMinor
+pub minor_missing : {text first : List ℕ} {m : ℕ} → IsFittingNumber text m first → LacksDot first → IsTripleRejection text MissingMinor
 minor_missing a lacks = inl (no_dot a.number a.fits lacks)
 
 module _ {text second : List ℕ} {m : ℕ} (a : IsLongest IsLooseNumber text m (46 ∷ second)) (fits : m < 2 ^ 64) where
-  minor_later : {refusal : Refusal} → IsNumberFault (MissingPatch ∷ []) second refusal → IsTripleRefusal text refusal
+  minor_later : {rejection : Rejection} → IsNumberFault (MissingPatch ∷ []) second rejection → IsTripleRejection text rejection
   minor_later f = inl (later a fits f)
 
-  second_outside : HasNone (Followed IsLooseNumber (Prefixed 46 IsLooseNumber)) second → ((fault : Refusal) → IsNumberFault (MissingPatch ∷ []) second fault → ⊥) → IsOutsideTriple text
+  second_outside : HasNone (Followed IsLooseNumber (Prefixed 46 IsLooseNumber)) second → ((fault : Rejection) → IsNumberFault (MissingPatch ∷ []) second fault → ⊥) → IsOutsideTriple text
   second_outside none no_fault = record {
     no_triple = followed_none_second number_apart a (prefixed_none refl none);
     no_fault = λ fault k. no_fault fault (next_fault a fits k);
   }
 
-  minor_refused_at : {refusal : Refusal} → IsNumberRefusal second refusal → IsTripleRefusal text refusal
-  minor_refused_at h = elim (number_fault {missing = MissingPatch ∷ []} h) [
+  minor_rejected_at : {rejection : Rejection} → IsNumberRejection second rejection → IsTripleRejection text rejection
+  minor_rejected_at h = elim (number_fault {missing = MissingPatch ∷ []} h) [
     | inl fault ↦ minor_later fault
     | inr outside ↦ inr (outside.0, second_outside (joined_none_first outside.1) (λ f k. none_no_fault outside.1 k))
   ]
 
   module _ {fourth : List ℕ} {n : ℕ} (b : IsLongest IsLooseNumber second n (46 ∷ fourth)) (small : n < 2 ^ 64) where
-    patch_refused_at : {refusal : Refusal} → IsNumberRefusal fourth refusal → IsTripleRefusal text refusal
-    patch_refused_at h = elim (number_fault {missing = []} h) [
+    patch_rejected_at : {rejection : Rejection} → IsNumberRejection fourth rejection → IsTripleRejection text rejection
+    patch_rejected_at h = elim (number_fault {missing = []} h) [
       | inl fault ↦ minor_later (later b small fault)
       | inr outside ↦ inr (outside.0, second_outside (followed_none_second number_apart b (prefixed_none refl outside.1)) (λ f k. none_no_fault outside.1 (next_fault b small k)))
     ]
 
-pub minor_refused : {text first second : List ℕ} {m : ℕ} {refusal : Refusal} → IsFittingNumber text m first → first ≡ 46 ∷ second → IsNumberRefusal second refusal → IsTripleRefusal text refusal
-minor_refused a dot h = minor_refused_at (rw dot at a.number) a.fits h
+pub minor_rejected : {text first second : List ℕ} {m : ℕ} {rejection : Rejection} → IsFittingNumber text m first → first ≡ 46 ∷ second → IsNumberRejection second rejection → IsTripleRejection text rejection
+minor_rejected a dot h = minor_rejected_at (rw dot at a.number) a.fits h
 
-pub patch_missing : {text first second third : List ℕ} {m n : ℕ} → IsFittingNumber text m first → first ≡ 46 ∷ second → IsFittingNumber second n third → LacksDot third → IsTripleRefusal text MissingPatch
+pub patch_missing : {text first second third : List ℕ} {m n : ℕ} → IsFittingNumber text m first → first ≡ 46 ∷ second → IsFittingNumber second n third → LacksDot third → IsTripleRejection text MissingPatch
 patch_missing a dot b lacks = inl (later (rw dot at a.number) a.fits (no_dot b.number b.fits lacks))
 
-pub patch_refused : {text first second third fourth : List ℕ} {m n : ℕ} {refusal : Refusal} → IsFittingNumber text m first → first ≡ 46 ∷ second → IsFittingNumber second n third → third ≡ 46 ∷ fourth → IsNumberRefusal fourth refusal → IsTripleRefusal text refusal
-patch_refused a dot b point h = patch_refused_at (rw dot at a.number) a.fits (rw point at b.number) b.fits h
+pub patch_rejected : {text first second third fourth : List ℕ} {m n : ℕ} {rejection : Rejection} → IsFittingNumber text m first → first ≡ 46 ∷ second → IsFittingNumber second n third → third ≡ 46 ∷ fourth → IsNumberRejection fourth rejection → IsTripleRejection text rejection
+patch_rejected a dot b point h = patch_rejected_at (rw dot at a.number) a.fits (rw point at b.number) b.fits h
 
 -- ---- no version has a fault
 
@@ -226,7 +226,7 @@ stops_at [] no_digit = tt
 stops_at (y ∷ rest) no_digit = false_from_ne_true (is_ascii_digit y) no_digit
 
 -- three numbers that fit, each as long as possible, have no fault
-triple_no_fault : (front rest : List ℕ) (v : ℕ × (ℕ × ℕ)) {text : List ℕ} {fault : Refusal} → IsTriple front v → text ≡ front ++ rest → v.0 < 2 ^ 64 → v.1.0 < 2 ^ 64 → v.1.1 < 2 ^ 64 → (is_ascii_digit (slice_index rest 0) ≡ true → ⊥) → IsFaultOfNumbers text fault → ⊥
+triple_no_fault : (front rest : List ℕ) (v : ℕ × (ℕ × ℕ)) {text : List ℕ} {fault : Rejection} → IsTriple front v → text ≡ front ++ rest → v.0 < 2 ^ 64 → v.1.0 < 2 ^ 64 → v.1.1 < 2 ^ 64 → (is_ascii_digit (slice_index rest 0) ≡ true → ⊥) → IsFaultOfNumbers text fault → ⊥
 triple_no_fault front rest v {text} {fault} h e major minor patch no_digit f = at_second h.second h.in_second (e ∙ ap (λ t. t ++ rest) h.text_is ∙ append_assoc h.first h.second rest)
   where
     at_fourth : (fourth : List ℕ) (second : List ℕ) (j : Followed IsLooseNumber (Prefixed 46 IsLooseNumber) second v.1) → Prefixed 46 IsLooseNumber fourth v.1.1 → text ≡ h.first ++ (46 ∷ (j.first ++ (fourth ++ rest))) → ⊥
@@ -246,13 +246,13 @@ triple_no_fault front rest v {text} {fault} h e major minor patch no_digit f = a
         let inner : second ++ rest ≡ j.first ++ (j.second ++ rest) = ap (λ t. t ++ rest) j.text_is ∙ append_assoc j.first j.second rest in
         at_fourth j.second second j j.in_second (rw inner at dot)
 
-pub fitting_no_fault : {text rest : List ℕ} {v : ℕ × (ℕ × ℕ)} {fault : Refusal} → IsFittingTriple text v rest → IsFaultOfNumbers text fault → ⊥
+pub fitting_no_fault : {text rest : List ℕ} {v : ℕ × (ℕ × ℕ)} {fault : Rejection} → IsFittingTriple text v rest → IsFaultOfNumbers text fault → ⊥
 fitting_no_fault {rest = rest} {v = v} h f = triple_no_fault h.triple.front rest v h.triple.stands h.triple.text_is h.major_fits h.minor_fits h.patch_fits h.no_digit f
 
 core_some : NonEmpty IsCore
 core_some = joined_some_text triple_some
 
-version_no_fault : {text : List ℕ} {v : Version} {fault : Refusal} → IsVersion text v → AllNumbersFit v → IsFirstFault text fault → ⊥
+version_no_fault : {text : List ℕ} {v : Version} {fault : Rejection} → IsVersion text v → AllNumbersFit v → IsFirstFault text fault → ⊥
 version_no_fault {text} {v} {fault} h all_fit f =
     let lead = h.stands.stands in
     let core = lead.in_second in
@@ -273,7 +273,7 @@ one_version {text} {v} {w} p h =
     (p.longest text [] w (whole text) h).1 size
 
 -- two first faults of one text are the same
-one_number_fault : {missing : List Refusal} {text : List ℕ} {a b : Refusal} → IsNumberFault missing text a → IsNumberFault missing text b → a ≡ b
+one_number_fault : {missing : List Rejection} {text : List ℕ} {a b : Rejection} → IsNumberFault missing text a → IsNumberFault missing text b → a ≡ b
 one_number_fault (too_large p h) (too_large q k) = refl
 one_number_fault (too_large p h) (no_dot q k l) = let same = one_front p q in absurd (omega (arith, same.0))
 one_number_fault (too_large p h) (later q k f) = let same = one_front p q in absurd (omega (arith, same.0))
@@ -287,26 +287,26 @@ one_number_fault (later {rest = rest} p h f) (later {rest = other} q k g) =
     let rests : rest ≡ other = cc same in
     one_number_fault (rw rests at f) g
 
-one_fault : {text : List ℕ} {a b : Refusal} → IsFirstFault text a → IsFirstFault text b → a ≡ b
+one_fault : {text : List ℕ} {a b : Rejection} → IsFirstFault text a → IsFirstFault text b → a ≡ b
 one_fault f g = let same = (one_front f.lead g.lead).1 in one_number_fault (rw same at f.fault_of_rest) g.fault_of_rest
 
 -- a text whose outcome is an error has no other outcome
-one_refusal : {text : List ℕ} {fault : Refusal} {o : Result Version Refusal} → IsVersionOutcome text (Err fault) → IsVersionOutcome text o → o ≡ Err fault
-one_refusal (is_fault f) (is_version k small) = absurd (version_no_fault k small f)
-one_refusal (is_fault f) (is_fault g) = ap Err (one_fault g f)
-one_refusal (is_fault {fault} f) (is_outside none no_fault) = absurd (no_fault fault f)
-one_refusal (is_outside none no_fault) (is_version {v} k small) = absurd (none v k)
-one_refusal (is_outside none no_fault) (is_fault {fault} g) = absurd (no_fault fault g)
-one_refusal (is_outside none no_fault) (is_outside other no_other) = refl
+one_rejection : {text : List ℕ} {fault : Rejection} {o : Result Version Rejection} → IsVersionOutcome text (Err fault) → IsVersionOutcome text o → o ≡ Err fault
+one_rejection (is_fault f) (is_version k small) = absurd (version_no_fault k small f)
+one_rejection (is_fault f) (is_fault g) = ap Err (one_fault g f)
+one_rejection (is_fault {fault} f) (is_outside none no_fault) = absurd (no_fault fault f)
+one_rejection (is_outside none no_fault) (is_version {v} k small) = absurd (none v k)
+one_rejection (is_outside none no_fault) (is_fault {fault} g) = absurd (no_fault fault g)
+one_rejection (is_outside none no_fault) (is_outside other no_other) = refl
 
 -- a text is at most one version
 version_one : Unambiguous IsVersion
 version_one = mapped_one (after_one lead_apart (joined_one core_clash (followed_one number_apart loose_one (prefixed_one 46 (followed_one number_apart loose_one (prefixed_one 46 loose_one)))) (qualifier_one Loose)))
 
-pub one_outcome : (text : List ℕ) (o p : Result Version Refusal) → IsVersionOutcome text o → IsVersionOutcome text p → o ≡ p
+pub one_outcome : (text : List ℕ) (o p : Result Version Rejection) → IsVersionOutcome text o → IsVersionOutcome text p → o ≡ p
 one_outcome text (Ok v) (Ok w) (is_version h small) (is_version k _) = ap Ok (version_one.one text v w h k)
-one_outcome text (Err fault) (Ok w) h k = sym (one_refusal h k)
-one_outcome text o (Err fault) h k = one_refusal k h
+one_outcome text (Err fault) (Ok w) h k = sym (one_rejection h k)
+one_outcome text o (Err fault) h k = one_rejection k h
 
 -- ---- results
 
@@ -315,7 +315,7 @@ read_outcome {text} {v} h =
     let all : h.longest.front ≡ text = sym (h.longest.text_is ∙ append-nil h.longest.front) in
     is_version (rw all at h.longest.stands) h.fits
 
-pub read_answer : {E : Type 0} (source : E → Option (List ℕ × Option (List ℕ))) (text : List ℕ) (v : Version) → IsReadVersion text v → (o : Result Version Refusal) → IsVersionOutcome text o → IsVersionAnswer source text o (Ok v)
+pub read_answer : {E : Type 0} (source : E → Option (List ℕ × Option (List ℕ))) (text : List ℕ) (v : Version) → IsReadVersion text v → (o : Result Version Rejection) → IsVersionOutcome text o → IsVersionAnswer source text o (Ok v)
 read_answer source text v h (Ok w) (is_version k small) = sym (one_version h.longest k)
 read_answer source text v h (Err fault) (is_fault f) = absurd (no_fault_read (read_outcome h) f)
   where
@@ -326,20 +326,20 @@ read_answer source text v h (Err fault) (is_outside none no_fault) = absurd (no_
     no_version_read : IsVersionOutcome text (Ok v) → ⊥
     no_version_read (is_version k small) = none v k
 
-pub refused_answer : {E : Type 0} (source : E → Option (List ℕ × Option (List ℕ))) (text : List ℕ) (e : E) → IsVersionRefusal text (source e) → (o : Result Version Refusal) → IsVersionOutcome text o → IsVersionAnswer source text o (Err e)
-refused_answer source text e (inl memory) (Ok w) k = memory
-refused_answer source text e (inl memory) (Err fault) k = inl memory
-refused_answer source text e (inr h) (Ok w) k = let same = one_refusal h.1 k in cc same
-refused_answer source text e (inr h) (Err fault) k = let same : fault ≡ h.0 = cc (one_refusal h.1 k) in inr (rw same h.2)
+pub rejected_answer : {E : Type 0} (source : E → Option (List ℕ × Option (List ℕ))) (text : List ℕ) (e : E) → IsVersionRejection text (source e) → (o : Result Version Rejection) → IsVersionOutcome text o → IsVersionAnswer source text o (Err e)
+rejected_answer source text e (inl memory) (Ok w) k = memory
+rejected_answer source text e (inl memory) (Err fault) k = inl memory
+rejected_answer source text e (inr h) (Ok w) k = let same = one_rejection h.1 k in cc same
+rejected_answer source text e (inr h) (Err fault) k = let same : fault ≡ h.0 = cc (one_rejection h.1 k) in inr (rw same h.2)
 
 -- ---- what the steps return
 
 -- a failure of a text with this outcome
-pub shown_refusal : {text : List ℕ} {fault : Refusal} {failure : Option (List ℕ × Option (List ℕ))} → IsVersionOutcome text (Err fault) → (failure ≡ None) ⊎ (failure ≡ version_failure fault text) → IsVersionRefusal text failure
-shown_refusal h (inl memory) = inl memory
-shown_refusal {fault = fault} h (inr shown) = inr (fault, h, shown)
+pub shown_rejection : {text : List ℕ} {fault : Rejection} {failure : Option (List ℕ × Option (List ℕ))} → IsVersionOutcome text (Err fault) → (failure ≡ None) ⊎ (failure ≡ version_failure fault text) → IsVersionRejection text failure
+shown_rejection h (inl memory) = inl memory
+shown_rejection {fault = fault} h (inr shown) = inr (fault, h, shown)
 
-pub triple_outcome : {text rest : List ℕ} {fault : Refusal} → IsLongest IsLead text tt rest → IsTripleRefusal rest fault → IsVersionOutcome text (Err fault)
+pub triple_outcome : {text rest : List ℕ} {fault : Rejection} → IsLongest IsLead text tt rest → IsTripleRejection rest fault → IsVersionOutcome text (Err fault)
 triple_outcome {rest = rest} lead (inl f) = is_fault (record { rest = rest; lead = lead; fault_of_rest = f })
 triple_outcome {text} {rest} lead (inr outside) = rw outside.0 (is_outside no_version no_fault)
   where
@@ -349,7 +349,7 @@ triple_outcome {text} {rest} lead (inr outside) = rw outside.0 (is_outside no_ve
     no_version : (v : Version) → IsVersion text v → ⊥
     no_version v h = none.none text [] v (whole text) h
 
-    no_fault : (fault : Refusal) → IsFirstFault text fault → ⊥
+    no_fault : (fault : Rejection) → IsFirstFault text fault → ⊥
     no_fault fault f = let same = (one_front f.lead lead).1 in outside.1.no_fault fault (rw same at f.fault_of_rest)
 
 -- what the lead, the numbers and the qualifier are of the whole
@@ -368,7 +368,7 @@ left_over {text} {rest = rest} lead triple q more = is_outside no_version no_fau
         let p = version_read lead triple q in
         omega (arith, (p.longest text [] v (whole text) h).0, ap length p.text_is, length-append p.front rest, more)
 
-    no_fault : (fault : Refusal) → IsFirstFault text fault → ⊥
+    no_fault : (fault : Rejection) → IsFirstFault text fault → ⊥
     no_fault fault f = let same = (one_front f.lead lead).1 in fitting_no_fault triple (rw same at f.fault_of_rest)
 
 pub all_read : {text first second rest : List ℕ} {numbers : ℕ × (ℕ × ℕ)} {q : Qualifier} → IsLongest IsLead text tt first → IsFittingTriple first numbers second → IsLongest (IsQualifier Loose) second q rest → length rest ≡ 0 → IsReadVersion text (version_of (numbers, q))

@@ -9,7 +9,7 @@ use Rattle.std.proofs.lemmas.Fmt.{decimal_digit, decimal_is_IsNumeral, first_dec
 use Rattle.std.proofs.lemmas.Str.{NoCharPasses-nil}
 use Rattle.std.specs.Char.{is_not_whitespace}
 use Rattle.semver_base.specs.Grammar.{After, Followed, Joined, Optional, last_item, more_items}
-use Rattle.semver_base.specs.Lexical.{IsBlanks, IsBuild, IsIdentifiers, IsLooseNumber, IsNumber, IsPre, IsQualifier, NoDigitFollows, or_none}
+use Rattle.semver_base.specs.Lexical.{IsWhitespace, IsBuild, IsIdentifiers, IsLooseNumber, IsNumber, IsPre, IsQualifier, NoDigitFollows, or_none}
 use Rattle.semver_base.specs.VersionGrammar.{IsLead, IsTriple, IsVersion, IsVersionOutcome, is_version}
 use Rattle.semver_base.specs.VersionText.{AreIdentifiers, IsWritable, prefixed, version_text}
 use Rattle.semver_base.specs.declared.lexical.values.Strictness.{Strictness}
@@ -84,8 +84,8 @@ no_digit_written (id ∷ ids) build h = cc h
 
 no_lead : IsLead [] tt
 no_lead =
-    let blanks : IsBlanks [] tt = NoCharPasses-nil is_not_whitespace in
-    record { value = None; stands = after [] [] None refl (after [] [] tt blanks refl); is = refl }
+    let whitespace : IsWhitespace [] tt = NoCharPasses-nil is_not_whitespace in
+    record { value = None; stands = after [] [] None refl (after [] [] tt whitespace refl); is = refl }
 
 triple_written : (v : Version) → IsWritable v → IsTriple (decimal v.major ++ (46 ∷ (decimal v.minor ++ (46 ∷ decimal v.patch)))) (v.major, (v.minor, v.patch))
 triple_written v h = follow _ _ (loose_written v.major h.numbers.major) (refl, follow _ _ (loose_written v.minor h.numbers.minor) (refl, loose_written v.patch h.numbers.patch))

@@ -32,9 +32,9 @@ abbrev pub release_from : VersionBoundKind → Version → Option Version
 release_from kind.Inclusive v = Some (release v.major v.minor v.patch)
 release_from kind.Exclusive v = if is_release v then next_release v else Some (release v.major v.minor v.patch)
 
-abbrev pub least_release : RangeBound → Option Version
-least_release bound.Unbounded = Some (release 0 0 0)
-least_release (bound.Version start) = release_from start.kind start.version
+abbrev pub lowest_release : RangeBound → Option Version
+lowest_release bound.Unbounded = Some (release 0 0 0)
+lowest_release (bound.Version start) = release_from start.kind start.version
 
 -- ---- the lowest pre-releases of a bound's numbers
 
@@ -72,14 +72,14 @@ abbrev pub version_from : VersionBoundKind → Version → Option Version
 version_from kind.Inclusive v = Some (pre_from kind.Inclusive v)
 version_from kind.Exclusive v = if is_release v then zero_of (next_release v) else Some (pre_from kind.Exclusive v)
 
-abbrev pub least_version : RangeBound → Option Version
-least_version bound.Unbounded = Some (with_pre (release 0 0 0) (zero_identifier ∷ []))
-least_version (bound.Version start) = version_from start.kind start.version
+abbrev pub lowest_version : RangeBound → Option Version
+lowest_version bound.Unbounded = Some (with_pre (release 0 0 0) (zero_identifier ∷ []))
+lowest_version (bound.Version start) = version_from start.kind start.version
 
 -- the lowest version that no bound has to admit
-abbrev pub least_free : PreRelease → RangeBound → Option Version
-least_free Restricted start = least_release start
-least_free Admitted start = least_version start
+abbrev pub lowest_free : PreRelease → RangeBound → Option Version
+lowest_free Restricted start = lowest_release start
+lowest_free Admitted start = lowest_version start
 
 -- ---- just past the end of a range
 
@@ -106,18 +106,18 @@ lesser (Some x) None = Some x
 lesser (Some x) (Some y) = Some (lower_by (precedence_cmp x y) x y)
 
 -- the version, if it passes the test
-abbrev pub kept_if : (Version → Bool) → Option Version → Option Version
-kept_if test None = None
-kept_if test (Some v) = if test v then Some v else None
+abbrev pub filtered : (Version → Bool) → Option Version → Option Version
+filtered test None = None
+filtered test (Some v) = if test v then Some v else None
 
 -- the lower of the version found so far and a candidate that passes
 abbrev pub lower_passing : (Version → Bool) → Option Version → Option Version → Option Version
-lower_passing test found candidate = lesser found (kept_if test candidate)
+lower_passing test found candidate = lesser found (filtered test candidate)
 
 -- also considers the candidates of a start
 abbrev pub from_start : PreRelease → (Version → Bool) → Option Version → RangeBound → Option Version
 from_start flag test found start = lower_passing test (lower_passing test (lower_passing test found
-    (least_free flag start)) (own_pre start)) (zero_pre start)
+    (lowest_free flag start)) (own_pre start)) (zero_pre start)
 
 -- also considers those of a range, whose end may admit pre-releases too
 abbrev pub from_range : PreRelease → (Version → Bool) → Option Version → VersionRange → Option Version
@@ -125,14 +125,14 @@ from_range flag test found range = lower_passing test (from_start flag test foun
 
 -- also considers those of the ranges of a set, and of several sets
 abbrev pub from_set : PreRelease → (Version → Bool) → Option Version → List VersionRange → Option Version
-from_set flag test found ranges = fold (λ least range. from_range flag test least range) found ranges
+from_set flag test found ranges = fold (λ lowest range. from_range flag test lowest range) found ranges
 
 abbrev pub from_sets : PreRelease → (Version → Bool) → Option Version → List VersionRangeSet → Option Version
-from_sets flag test found sets = fold (λ least (set : VersionRangeSet). from_set flag test least set.0) found sets
+from_sets flag test found sets = fold (λ lowest (set : VersionRangeSet). from_set flag test lowest set.0) found sets
 
 -- also considers those just past the ends of these ranges
 abbrev pub from_ends : PreRelease → (Version → Bool) → Option Version → List VersionRange → Option Version
-from_ends flag test found ranges = fold (λ least (range : VersionRange). from_start flag test least (after range.end)) found ranges
+from_ends flag test found ranges = fold (λ lowest (range : VersionRange). from_start flag test lowest (after range.end)) found ranges
 
 -- ---- what is asked
 

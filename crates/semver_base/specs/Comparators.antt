@@ -20,7 +20,7 @@ pub data Comparator : Type 0 where
   Tilde : Partial → Comparator
   Caret : Partial → Comparator
   OfPrimitive : PrimitiveKind → Partial → Comparator
-  Plain : Partial → Comparator
+  Bare : Partial → Comparator
   Hyphen : Partial → Partial → Comparator
 
 abbrev pub of_primitive : PrimitiveKind × Partial → Comparator
@@ -40,7 +40,7 @@ abbrev pub comparator_line : Comparator → Line
 comparator_line (Tilde p) = tilde p
 comparator_line (Caret p) = caret p
 comparator_line (OfPrimitive primitive_kind p) = primitive_line primitive_kind p
-comparator_line (Plain p) = equal p
+comparator_line (Bare p) = equal p
 comparator_line (Hyphen p q) = record { range = between (from (lowest p)) (upper q).end; sums = (upper q).sums }
 
 abbrev pub comparator_range : Comparator → VersionRange

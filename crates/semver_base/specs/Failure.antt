@@ -1,7 +1,7 @@
 -- Messages and snippets of failures.
 use Rattle.std.specs.Prelude.{ℕ, List, Option, Some, None, codes}
-use Rattle.semver_base.specs.declared.failure.Refusal.{Refusal}
-use Rattle.semver_base.specs.declared.failure.Refusal.TheVariants.{UnexpectedCharacter, EmptyConstraint, MissingMinor, MissingPatch, NumberTooLarge, BoundTooLarge}
+use Rattle.semver_base.specs.declared.failure.Rejection.{Rejection}
+use Rattle.semver_base.specs.declared.failure.Rejection.TheVariants.{UnexpectedCharacter, EmptyConstraint, MissingMinor, MissingPatch, NumberTooLarge, BoundTooLarge}
 
 -- a failure's message; a failure without texts is out of memory
 abbrev pub message_of : Option (List ℕ × Option (List ℕ)) → List ℕ
@@ -13,13 +13,13 @@ abbrev pub snippet_of : Option (List ℕ × Option (List ℕ)) → Option (List 
 snippet_of None = None
 snippet_of (Some texts) = texts.1
 
--- the message of a `Refusal`
-abbrev pub refusal_message : Refusal → List ℕ
-refusal_message UnexpectedCharacter = codes "Unexpected character."
-refusal_message EmptyConstraint = codes "Empty version constraint."
-refusal_message MissingMinor =
+-- the message of a `Rejection`
+abbrev pub rejection_message : Rejection → List ℕ
+rejection_message UnexpectedCharacter = codes "Unexpected character."
+rejection_message EmptyConstraint = codes "Empty version constraint."
+rejection_message MissingMinor =
     codes "Missing minor version. Versions must be in the form MAJOR.MINOR.PATCH (ex. 1.0.0)."
-refusal_message MissingPatch =
+rejection_message MissingPatch =
     codes "Missing patch version. Versions must be in the form MAJOR.MINOR.PATCH (ex. 1.0.0)."
-refusal_message NumberTooLarge = codes "Number is too large."
-refusal_message BoundTooLarge = codes "Version bound is too large."
+rejection_message NumberTooLarge = codes "Number is too large."
+rejection_message BoundTooLarge = codes "Version bound is too large."

@@ -1,6 +1,6 @@
 -- The forms in which a range with two bounds is printed, as comparators.
 use Rattle.std.specs.Prelude.{List, [], ◌∷◌}
-use Rattle.semver_base.specs.Comparators.{Caret, Comparator, Plain, Tilde}
+use Rattle.semver_base.specs.Comparators.{Caret, Comparator, Bare, Tilde}
 use Rattle.semver_base.specs.Shortest.{ending, numbered, starting, whole}
 use Rattle.semver_base.specs.declared.partial.XRange.TheVariants.{Wildcard, Val}
 use Rattle.semver_base.specs.declared.range.VersionBoundKind.{VersionBoundKind}
@@ -10,9 +10,9 @@ use Rattle.semver_base.specs.declared.version.Version.{Version}
 
 -- the comparators of a form, from a start s of the kind k to an end e of the kind l
 abbrev pub form_comparators : Form → VersionBoundKind → VersionBoundKind → Version → Version → List Comparator
-form_comparators form.Whole k l s e = Plain (whole s) ∷ []
-form_comparators form.Major k l s e = Plain (numbered (Val s.major) Wildcard) ∷ []
-form_comparators form.Minor k l s e = Plain (numbered (Val s.major) (Val s.minor)) ∷ []
+form_comparators form.Whole k l s e = Bare (whole s) ∷ []
+form_comparators form.Major k l s e = Bare (numbered (Val s.major) Wildcard) ∷ []
+form_comparators form.Minor k l s e = Bare (numbered (Val s.major) (Val s.minor)) ∷ []
 form_comparators form.Tilde k l s e = Tilde (whole s) ∷ []
 form_comparators form.Caret k l s e = Caret (whole s) ∷ []
 form_comparators form.End k l s e = ending l e ∷ []

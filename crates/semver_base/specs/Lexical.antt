@@ -20,12 +20,12 @@ IsByte m text v = text ≡ m ∷ []
 -- ---- whitespace
 
 -- whitespace characters, or none
-abbrev pub IsBlanks : List ℕ → Unit {0} → Type 0
-IsBlanks text v = NoCharPasses is_not_whitespace text
+abbrev pub IsWhitespace : List ℕ → Unit {0} → Type 0
+IsWhitespace text v = NoCharPasses is_not_whitespace text
 
 -- one or more whitespace characters
-abbrev pub IsSomeBlanks : List ℕ → Unit {0} → Type 0
-IsSomeBlanks text v = (0 < length text) × NoCharPasses is_not_whitespace text
+abbrev pub IsSomeWhitespace : List ℕ → Unit {0} → Type 0
+IsSomeWhitespace text v = (0 < length text) × NoCharPasses is_not_whitespace text
 
 -- ---- numbers, of any size
 

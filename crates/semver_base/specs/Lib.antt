@@ -6,7 +6,7 @@ pub mod Containment
 pub mod Failure
 pub mod Forms
 pub mod Grammar
-pub mod LeastVersion
+pub mod LowestVersion
 pub mod Lexical
 pub mod Meaning
 pub mod NormalTable
@@ -14,12 +14,12 @@ pub mod NormalText
 pub mod Overlap
 pub mod Ownership
 pub mod PartialTable
-pub mod PlainTexts
+pub mod ShortTexts
 pub mod Precedence
 pub mod PrecedenceLaws
 pub mod Sameness
 pub mod Shortest
 pub mod Texts
 pub mod VersionGrammar
-pub mod VersionReaderSteps
+pub mod VersionParserSteps
 pub mod VersionText

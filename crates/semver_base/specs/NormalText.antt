@@ -4,7 +4,7 @@ use Rattle.std.specs.Prelude.{ℕ, List, [], ◌∷◌, ◌++◌, codes}
 use Rattle.std.specs.Fmt.{decimal}
 use Rattle.std.specs.List.{AllByRecursion, join_by}
 use Rattle.semver_base.specs.Characters.{dot}
-use Rattle.semver_base.specs.Comparators.{Caret, Comparator, Hyphen, OfPrimitive, Plain, Tilde, primitive_kind_text}
+use Rattle.semver_base.specs.Comparators.{Caret, Comparator, Hyphen, OfPrimitive, Bare, Tilde, primitive_kind_text}
 use Rattle.semver_base.specs.PartialTable.{lowest}
 use Rattle.semver_base.specs.Shortest.{shortest}
 use Rattle.semver_base.specs.VersionText.{IsWritable, version_text}
@@ -31,7 +31,7 @@ abbrev pub comparator_text : Comparator → List ℕ
 comparator_text (Tilde p) = codes "~" ++ partial_text p
 comparator_text (Caret p) = codes "^" ++ partial_text p
 comparator_text (OfPrimitive kind p) = primitive_kind_text kind ++ partial_text p
-comparator_text (Plain p) = partial_text p
+comparator_text (Bare p) = partial_text p
 comparator_text (Hyphen p q) = partial_text p ++ (codes " - " ++ partial_text q)
 
 abbrev pub comparators_text : List Comparator → List ℕ

@@ -3,12 +3,12 @@
 -- wildcards before numbers.
 use Rattle.std.specs.Prelude.{◌≡◌, ℕ, List, [], ◌∷◌, ◌+◌, ◌^◌, Bool, false, true, Option, Some, None, ◌⊎◌, nat_lt, if◌then◌else◌}
 use Rattle.std.specs.List.{list_all}
-use Rattle.semver_base.specs.Failure.{refusal_message}
-use Rattle.semver_base.specs.declared.failure.Refusal.TheVariants.{BoundTooLarge}
+use Rattle.semver_base.specs.Failure.{rejection_message}
+use Rattle.semver_base.specs.declared.failure.Rejection.TheVariants.{BoundTooLarge}
 use Rattle.semver_base.specs.Meaning.{bound_at, everything, from, nothing, release, to_below}
-use Rattle.semver_base.specs.declared.plain.FewNumbers.{FewNumbers}
-use Rattle.semver_base.specs.declared.plain.FewNumbers.TheVariants as few
-use Rattle.semver_base.specs.declared.plain.Numbers.{Numbers}
+use Rattle.semver_base.specs.declared.short.ShortNumbers.{ShortNumbers}
+use Rattle.semver_base.specs.declared.short.ShortNumbers.TheVariants as short_numbers
+use Rattle.semver_base.specs.declared.short.Numbers.{Numbers}
 use Rattle.semver_base.specs.declared.partial.numbers.ReleaseRange.{ReleaseRange}
 use Rattle.semver_base.specs.declared.version.Version.{Version}
 use Rattle.semver_base.specs.declared.range.RangeBound.{RangeBound}
@@ -39,11 +39,11 @@ all_fit sums = list_all number_fits sums
 
 -- the failure of a bound that doesn't fit
 abbrev pub bound_too_large : Option (List ℕ × Option (List ℕ))
-bound_too_large = Some (refusal_message BoundTooLarge, None)
+bound_too_large = Some (rejection_message BoundTooLarge, None)
 
 -- how a call whose line has these sums fails: out of memory, or with a bound too large if one of them doesn't fit
-abbrev pub IsBoundRefusal : List ℕ → Option (List ℕ × Option (List ℕ)) → Type 0
-IsBoundRefusal sums failure = (failure ≡ None) ⊎ ((failure ≡ bound_too_large) × (all_fit sums ≡ false))
+abbrev pub IsBoundRejection : List ℕ → Option (List ℕ × Option (List ℕ)) → Type 0
+IsBoundRejection sums failure = (failure ≡ None) ⊎ ((failure ≡ bound_too_large) × (all_fit sums ≡ false))
 
 -- ---- the versions that the lines name
 
@@ -82,10 +82,10 @@ abbrev pub of_numbers : Numbers → Partial
 of_numbers n = record { major = Val n.major; minor = Val n.minor; patch = Val n.patch; pre = []; build = [] }
 
 -- one to three numbers, as a partial version with wildcards for the missing ones
-abbrev pub of_few : FewNumbers → Partial
-of_few (few.One m) = record { major = Val m; minor = Wildcard; patch = Wildcard; pre = []; build = [] }
-of_few (few.Two m n) = record { major = Val m; minor = Val n; patch = Wildcard; pre = []; build = [] }
-of_few (few.Three n) = of_numbers n
+abbrev pub of_short : ShortNumbers → Partial
+of_short (short_numbers.One m) = record { major = Val m; minor = Wildcard; patch = Wildcard; pre = []; build = [] }
+of_short (short_numbers.Two m n) = record { major = Val m; minor = Val n; patch = Wildcard; pre = []; build = [] }
+of_short (short_numbers.Three n) = of_numbers n
 
 -- three numbers, as a release
 abbrev pub release_of : Numbers → Version

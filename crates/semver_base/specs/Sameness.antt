@@ -2,5 +2,5 @@
 use Rattle.std.specs.Prelude.{◌≡◌, ◌↔◌, Bool, IsTrue}
 
 -- the test is true exactly if the two values are the same
-abbrev pub TellsSame : {T : Type 0} → (T → T → Bool) → Type 0
-TellsSame {T} test = (x y : T) → IsTrue (test x y) ↔ (x ≡ y)
+abbrev pub ReportsSame : {T : Type 0} → (T → T → Bool) → Type 0
+ReportsSame {T} test = (x y : T) → IsTrue (test x y) ↔ (x ≡ y)

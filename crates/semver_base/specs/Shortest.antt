@@ -1,7 +1,7 @@
 -- The shortest usual form of a range, as comparators. Source: node-semver's range grammar, whose tilde, caret and partial
 -- versions abbreviate two bounds.
 use Rattle.std.specs.Prelude.{ℕ, List, [], ◌∷◌, length, map, ◌+◌, Bool, ◌==◌, ◌&&◌, ◌||◌, nat_lt, if◌then◌else◌}
-use Rattle.semver_base.specs.Comparators.{Caret, Comparator, OfPrimitive, Plain, Tilde}
+use Rattle.semver_base.specs.Comparators.{Caret, Comparator, OfPrimitive, Bare, Tilde}
 use Rattle.semver_base.specs.Meaning.{release}
 use Rattle.semver_base.specs.PrecedenceLaws.{version_eq}
 use Rattle.semver_base.specs.declared.partial.Partial.{Partial}
@@ -35,42 +35,42 @@ ending kind.Exclusive e = OfPrimitive primitive.LessThan (whole e)
 -- ---- the shortest form of a range: the first line that fits
 
 -- the version has these numbers, and neither a pre-release nor a build
-abbrev pub is_plain : Version → ℕ → ℕ → ℕ → Bool
-is_plain v major minor patch =
+abbrev pub is_release_of : Version → ℕ → ℕ → ℕ → Bool
+is_release_of v major minor patch =
     (v.major == major) && ((v.minor == minor) && ((v.patch == patch) && ((length v.pre == 0) && (length v.build == 0))))
 
 abbrev pub is_major : Version → Version → Bool
-is_major s e = is_plain s s.major 0 0 && is_plain e (s.major + 1) 0 0
+is_major s e = is_release_of s s.major 0 0 && is_release_of e (s.major + 1) 0 0
 
 abbrev pub is_minor : Version → Version → Bool
-is_minor s e = is_plain s s.major s.minor 0 && is_plain e s.major (s.minor + 1) 0
+is_minor s e = is_release_of s s.major s.minor 0 && is_release_of e s.major (s.minor + 1) 0
 
 abbrev pub is_tilde : Version → Version → Bool
-is_tilde s e = is_plain e s.major (s.minor + 1) 0
+is_tilde s e = is_release_of e s.major (s.minor + 1) 0
 
 abbrev pub is_caret_patch : Version → Version → Bool
-is_caret_patch s e = (s.major == 0) && ((s.minor == 0) && is_plain e 0 0 (s.patch + 1))
+is_caret_patch s e = (s.major == 0) && ((s.minor == 0) && is_release_of e 0 0 (s.patch + 1))
 
 abbrev pub is_caret_major : Version → Version → Bool
-is_caret_major s e = nat_lt 0 s.major && is_plain e (s.major + 1) 0 0
+is_caret_major s e = nat_lt 0 s.major && is_release_of e (s.major + 1) 0 0
 
 abbrev pub shortest_between : VersionBoundKind → VersionBoundKind → Version → Version → List Comparator
 shortest_between kind.Inclusive kind.Inclusive s e =
-    if version_eq s e then Plain (whole s) ∷ []
-    else if is_plain s 0 0 0 then ending kind.Inclusive e ∷ []
+    if version_eq s e then Bare (whole s) ∷ []
+    else if is_release_of s 0 0 0 then ending kind.Inclusive e ∷ []
     else starting kind.Inclusive s ∷ ending kind.Inclusive e ∷ []
 shortest_between kind.Inclusive kind.Exclusive s e =
-    if is_major s e then Plain (numbered (Val s.major) Wildcard) ∷ []
-    else if is_minor s e then Plain (numbered (Val s.major) (Val s.minor)) ∷ []
+    if is_major s e then Bare (numbered (Val s.major) Wildcard) ∷ []
+    else if is_minor s e then Bare (numbered (Val s.major) (Val s.minor)) ∷ []
     else if is_tilde s e then Tilde (whole s) ∷ []
     else if is_caret_patch s e then Caret (whole s) ∷ []
     else if is_caret_major s e then Caret (whole s) ∷ []
-    else if is_plain s 0 0 0 then ending kind.Exclusive e ∷ []
+    else if is_release_of s 0 0 0 then ending kind.Exclusive e ∷ []
     else starting kind.Inclusive s ∷ ending kind.Exclusive e ∷ []
 shortest_between kind.Exclusive k s e = starting kind.Exclusive s ∷ ending k e ∷ []
 
 abbrev pub shortest_of : RangeBound → RangeBound → List Comparator
-shortest_of bound.Unbounded bound.Unbounded = Plain (numbered Wildcard Wildcard) ∷ []
+shortest_of bound.Unbounded bound.Unbounded = Bare (numbered Wildcard Wildcard) ∷ []
 shortest_of bound.Unbounded (bound.Version e) = ending e.kind e.version ∷ []
 shortest_of (bound.Version s) bound.Unbounded = starting s.kind s.version ∷ []
 shortest_of (bound.Version s) (bound.Version e) = shortest_between s.kind e.kind s.version e.version

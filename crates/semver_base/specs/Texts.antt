@@ -6,29 +6,29 @@ use Rattle.std.specs.Str.Pattern.{FindsText}
 use Rattle.std.specs.declared.borrow.CowStr.{CowStr}
 use Rattle.std.specs.declared.borrow.CowStr.TheVariants as cow
 use Rattle.semver_base.specs.Characters.{zero_digit}
-use Rattle.semver_base.specs.declared.string.Kept.{Kept}
-use Rattle.semver_base.specs.declared.string.Kept.TheVariants as kept
+use Rattle.semver_base.specs.declared.string.Storage.{Storage}
+use Rattle.semver_base.specs.declared.string.Storage.TheVariants as storage
 use Rattle.semver_base.specs.declared.string.list.Items.{Items}
 use Rattle.semver_base.specs.declared.string.list.Items.TheVariants as items
 
 -- the bytes of a text, however it is stored
-abbrev pub kept_bytes : {limit : ℕ} → Kept limit → List ℕ
-kept_bytes (kept.Inline s) = s.bytes
-kept_bytes (kept.Heap s) = string_bytes s
+abbrev pub storage_bytes : {limit : ℕ} → Storage limit → List ℕ
+storage_bytes (storage.Inline s) = s.bytes
+storage_bytes (storage.Heap s) = string_bytes s
 
 -- only a text of more than limit bytes is stored in a `String`
-abbrev pub IsInlineIfShort : {limit : ℕ} → Kept limit → Type 0
-IsInlineIfShort (kept.Inline s) = Unit {0}
-IsInlineIfShort {limit} (kept.Heap s) = limit < length (string_bytes s)
+abbrev pub IsInlineIfShort : {limit : ℕ} → Storage limit → Type 0
+IsInlineIfShort (storage.Inline s) = Unit {0}
+IsInlineIfShort {limit} (storage.Heap s) = limit < length (string_bytes s)
 
 -- how many zeros the text begins with
 abbrev pub zeros_in_front : List ℕ → ℕ
 zeros_in_front bytes = length (take_while (λ b. b == zero_digit) bytes)
 
 -- a text is stored inline if short, with its number of leading zeros
-pub record IsKept {limit : ℕ} (text : Kept limit) (zeros : ℕ) : Type 0 where
+pub record IsStored {limit : ℕ} (text : Storage limit) (zeros : ℕ) : Type 0 where
   pub inline : IsInlineIfShort text
-  pub zeros_are : zeros ≡ zeros_in_front (kept_bytes text)
+  pub zeros_are : zeros ≡ zeros_in_front (storage_bytes text)
 
 -- no item, one, two, or those of a `Vec`
 abbrev pub items_of : {T : Type 0} → Items T → List T

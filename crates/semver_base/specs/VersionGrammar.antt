@@ -2,11 +2,11 @@
 -- node-semver's loose form: a leading `=` or `v`, leading zeros, and a pre-release without `-`.
 use Rattle.std.specs.Prelude.{◌≡◌, ◌≤◌, ◌<◌, ◌^◌, ℕ, List, [], ◌∷◌, Option, Some, None, Result, Ok, Err, ◌⊎◌, MatchResult, IsErrAnd}
 use Rattle.semver_base.specs.Characters.{dot, equals_sign, letter_v}
-use Rattle.semver_base.specs.Failure.{refusal_message}
+use Rattle.semver_base.specs.Failure.{rejection_message}
 use Rattle.semver_base.specs.Grammar.{After, Followed, IsLongest, Joined, Mapped, Prefixed, Optional}
-use Rattle.semver_base.specs.Lexical.{IsBlanks, IsByte, IsLooseNumber, IsQualifier, NoDigitFollows}
-use Rattle.semver_base.specs.declared.failure.Refusal.{Refusal}
-use Rattle.semver_base.specs.declared.failure.Refusal.TheVariants.{UnexpectedCharacter, EmptyConstraint, MissingMinor, MissingPatch, NumberTooLarge, BoundTooLarge}
+use Rattle.semver_base.specs.Lexical.{IsWhitespace, IsByte, IsLooseNumber, IsQualifier, NoDigitFollows}
+use Rattle.semver_base.specs.declared.failure.Rejection.{Rejection}
+use Rattle.semver_base.specs.declared.failure.Rejection.TheVariants.{UnexpectedCharacter, EmptyConstraint, MissingMinor, MissingPatch, NumberTooLarge, BoundTooLarge}
 use Rattle.semver_base.specs.declared.lexical.values.Qualifier.{Qualifier}
 use Rattle.semver_base.specs.declared.lexical.values.Strictness.TheVariants.{Loose}
 use Rattle.semver_base.specs.declared.version.Version.{Version}
@@ -18,7 +18,7 @@ ignored v = tt
 
 -- an optional `=`, and an optional `v`, with optional whitespace after each
 abbrev pub IsLead : List ℕ → Unit {0} → Type 0
-IsLead = Mapped ignored (After (Optional (IsByte equals_sign)) (After IsBlanks (Optional (Prefixed letter_v IsBlanks))))
+IsLead = Mapped ignored (After (Optional (IsByte equals_sign)) (After IsWhitespace (Optional (Prefixed letter_v IsWhitespace))))
 
 -- three numbers with dots between them
 abbrev pub IsTriple : List ℕ → ℕ × (ℕ × ℕ) → Type 0
@@ -44,33 +44,33 @@ LacksDot text = (rest : List ℕ) → text ≡ dot ∷ rest → ⊥
 
 -- the first fault of numbers with dots between them, each number as long as possible; missing has the error of each dot that
 -- has to come
-pub data IsNumberFault : List Refusal → List ℕ → Refusal → Type 0 where
-  too_large : {missing : List Refusal} {text rest : List ℕ} {n : ℕ} → IsLongest IsLooseNumber text n rest → 2 ^ 64 ≤ n
+pub data IsNumberFault : List Rejection → List ℕ → Rejection → Type 0 where
+  too_large : {missing : List Rejection} {text rest : List ℕ} {n : ℕ} → IsLongest IsLooseNumber text n rest → 2 ^ 64 ≤ n
       → IsNumberFault missing text NumberTooLarge
-  no_dot : {refusal : Refusal} {missing : List Refusal} {text rest : List ℕ} {n : ℕ}
+  no_dot : {rejection : Rejection} {missing : List Rejection} {text rest : List ℕ} {n : ℕ}
       → IsLongest IsLooseNumber text n rest → n < 2 ^ 64 → LacksDot rest
-      → IsNumberFault (refusal ∷ missing) text refusal
-  later : {refusal fault : Refusal} {missing : List Refusal} {text rest : List ℕ} {n : ℕ}
+      → IsNumberFault (rejection ∷ missing) text rejection
+  later : {rejection fault : Rejection} {missing : List Rejection} {text rest : List ℕ} {n : ℕ}
       → IsLongest IsLooseNumber text n (dot ∷ rest) → n < 2 ^ 64 → IsNumberFault missing rest fault
-      → IsNumberFault (refusal ∷ missing) text fault
+      → IsNumberFault (rejection ∷ missing) text fault
 
 -- the first fault of the text is a number that is too large or a missing component
-pub record IsFirstFault (text : List ℕ) (fault : Refusal) : Type 0 where
+pub record IsFirstFault (text : List ℕ) (fault : Rejection) : Type 0 where
   pub rest : List ℕ
   pub lead : IsLongest IsLead text tt rest
   pub fault_of_rest : IsNumberFault (MissingMinor ∷ MissingPatch ∷ []) rest fault
 
 -- the outcome of a trimmed text: a version, its first fault, or outside the grammar
-pub data IsVersionOutcome (text : List ℕ) : Result Version Refusal → Type 0 where
+pub data IsVersionOutcome (text : List ℕ) : Result Version Rejection → Type 0 where
   is_version : {v : Version} → IsVersion text v → AllNumbersFit v → IsVersionOutcome text (Ok v)
-  is_fault : {fault : Refusal} → IsFirstFault text fault → IsVersionOutcome text (Err fault)
-  is_outside : ((v : Version) → IsVersion text v → ⊥) → ((fault : Refusal) → IsFirstFault text fault → ⊥)
+  is_fault : {fault : Rejection} → IsFirstFault text fault → IsVersionOutcome text (Err fault)
+  is_outside : ((v : Version) → IsVersion text v → ⊥) → ((fault : Rejection) → IsFirstFault text fault → ⊥)
       → IsVersionOutcome text (Err UnexpectedCharacter)
 
 -- ---- results
 
 -- the snippet of a missing component is the whole text
-abbrev pub version_snippet : Refusal → List ℕ → Option (List ℕ)
+abbrev pub version_snippet : Rejection → List ℕ → Option (List ℕ)
 version_snippet MissingMinor text = Some text
 version_snippet MissingPatch text = Some text
 version_snippet UnexpectedCharacter text = None
@@ -78,17 +78,17 @@ version_snippet EmptyConstraint text = None
 version_snippet NumberTooLarge text = None
 version_snippet BoundTooLarge text = None
 
--- the failure that reports a `Refusal`
-abbrev pub version_failure : Refusal → List ℕ → Option (List ℕ × Option (List ℕ))
-version_failure fault text = Some (refusal_message fault, version_snippet fault text)
+-- the failure that reports a `Rejection`
+abbrev pub version_failure : Rejection → List ℕ → Option (List ℕ × Option (List ℕ))
+version_failure fault text = Some (rejection_message fault, version_snippet fault text)
 
 -- the failure is out of memory, or reports the error that is the text's outcome
-abbrev pub IsVersionRefusal : List ℕ → Option (List ℕ × Option (List ℕ)) → Type 0
-IsVersionRefusal text failure =
-    (failure ≡ None) ⊎ ((fault : Refusal) × IsVersionOutcome text (Err fault) × (failure ≡ version_failure fault text))
+abbrev pub IsVersionRejection : List ℕ → Option (List ℕ × Option (List ℕ)) → Type 0
+IsVersionRejection text failure =
+    (failure ≡ None) ⊎ ((fault : Rejection) × IsVersionOutcome text (Err fault) × (failure ≡ version_failure fault text))
 
 -- the result for a text with this outcome, or out of memory; source is the failure in the error
-abbrev pub IsVersionAnswer : {E : Type 0} → (E → Option (List ℕ × Option (List ℕ))) → List ℕ → Result Version Refusal
+abbrev pub IsVersionAnswer : {E : Type 0} → (E → Option (List ℕ × Option (List ℕ))) → List ℕ → Result Version Rejection
     → Result Version E → Type 0
 IsVersionAnswer source text (Ok v) result = MatchResult result (λ version. version ≡ v) (λ e. source e ≡ None)
 IsVersionAnswer source text (Err fault) result =

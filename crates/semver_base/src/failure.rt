@@ -2,7 +2,7 @@
 
 ghost use Rattle.std.specs.Prelude.{◌≡◌, ◌↔◌, ◌⊎◌, IsTrue, IfOk, Some, None};
 ghost use Rattle.std.specs.Option.{option_copied};
-ghost use Rattle.semver_base.specs.Failure.{message_of, refusal_message, snippet_of};
+ghost use Rattle.semver_base.specs.Failure.{message_of, rejection_message, snippet_of};
 
 use crate::string::SmallStackString;
 use std::alloc::{AllocError, Global};
@@ -11,7 +11,7 @@ use std::marker::Model;
 
 /// Why a version, a version requirement or a bound is rejected, other than out of memory.
 #[derive(Clone, Copy, Debug, PartialEq, Eq)]
-pub enum Refusal {
+pub enum Rejection {
     /// The text doesn't match the grammar.
     UnexpectedCharacter,
     /// A version requirement is empty or only whitespace, where that is invalid.
@@ -26,22 +26,22 @@ pub enum Refusal {
     BoundTooLarge,
 }
 
-impl Refusal {
+impl Rejection {
     /// The error message.
     pub fn message(self) -> &'static str
-        ensures { result.now ≡ refusal_message self }
+        ensures { result.now ≡ rejection_message self }
     {
         match self {
-            Refusal::UnexpectedCharacter => "Unexpected character.",
-            Refusal::EmptyConstraint => "Empty version constraint.",
-            Refusal::MissingMinor => {
+            Rejection::UnexpectedCharacter => "Unexpected character.",
+            Rejection::EmptyConstraint => "Empty version constraint.",
+            Rejection::MissingMinor => {
                 "Missing minor version. Versions must be in the form MAJOR.MINOR.PATCH (ex. 1.0.0)."
             }
-            Refusal::MissingPatch => {
+            Rejection::MissingPatch => {
                 "Missing patch version. Versions must be in the form MAJOR.MINOR.PATCH (ex. 1.0.0)."
             }
-            Refusal::NumberTooLarge => "Number is too large.",
-            Refusal::BoundTooLarge => "Version bound is too large.",
+            Rejection::NumberTooLarge => "Number is too large.",
+            Rejection::BoundTooLarge => "Version bound is too large.",
         }
     }
 }
@@ -49,7 +49,7 @@ impl Refusal {
 /// A parse error: a message and, for some errors, the offending part of the text; or out of memory.
 ///
 /// Contracts see a failure as an optional pair of the message and the optional snippet, where `None` is out of memory. Two
-/// failures are equal if these are. [`ParseFailure::tells_of`] tests for a given [`Refusal`].
+/// failures are equal if these are. [`ParseFailure::reports_of`] tests for a given [`Rejection`].
 #[derive(Debug, PartialEq, Eq)]
 pub struct ParseFailure {
     texts: Option<(SmallStackString, Option<SmallStackString>)>,
@@ -85,11 +85,11 @@ impl ParseFailure {
         }
     }
 
-    /// Creates a failure with the message of `refusal` and no snippet, or an out-of-memory failure.
-    pub fn of_refusal(alloc: Global, refusal: Refusal) -> ParseFailure
-        ensures { (result ≡ None) ⊎ (result ≡ Some (refusal_message refusal, None)) }
+    /// Creates a failure with the message of `rejection` and no snippet, or an out-of-memory failure.
+    pub fn of_rejection(alloc: Global, rejection: Rejection) -> ParseFailure
+        ensures { (result ≡ None) ⊎ (result ≡ Some (rejection_message rejection, None)) }
     {
-        ParseFailure::with_texts(alloc, refusal.message(), None)
+        ParseFailure::with_texts(alloc, rejection.message(), None)
     }
 
     /// The out-of-memory failure.
@@ -121,11 +121,11 @@ impl ParseFailure {
         self.texts.is_none()
     }
 
-    /// Whether the failure's message is that of `refusal`.
-    pub fn tells_of(&self, refusal: Refusal) -> bool
-        ensures { IsTrue result ↔ (message_of self.now ≡ refusal_message refusal) }
+    /// Whether the failure's message is that of `rejection`.
+    pub fn reports_of(&self, rejection: Rejection) -> bool
+        ensures { IsTrue result ↔ (message_of self.now ≡ rejection_message rejection) }
     {
-        self.message() == refusal.message()
+        self.message() == rejection.message()
     }
 
     /// The error message; `Out of memory.` if out of memory.

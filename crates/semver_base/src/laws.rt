@@ -10,12 +10,12 @@
 
 ghost use Rattle.std.specs.Prelude.{◌≡◌, ◌↔◌, IsTrue};
 ghost use Rattle.semver_base.specs.Clamp.{ClampedRangesMeanBoth};
-ghost use Rattle.semver_base.specs.LeastVersion.{ReadVersionsAreReadable};
+ghost use Rattle.semver_base.specs.LowestVersion.{ReadVersionsAreReadable};
 ghost use Rattle.semver_base.specs.NormalTable.{IsNormalTable};
-ghost use Rattle.semver_base.specs.Sameness.{TellsSame};
-ghost use Rattle.semver_base.specs.VersionText.{VersionTextsArePlain, VersionTextsHaveOneOutcome, VersionTextsReadBack};
+ghost use Rattle.semver_base.specs.Sameness.{ReportsSame};
+ghost use Rattle.semver_base.specs.VersionText.{VersionTextsAreBare, VersionTextsHaveOneOutcome, VersionTextsReadBack};
 
-use crate::failure::{ParseFailure, Refusal};
+use crate::failure::{ParseFailure, Rejection};
 use crate::lexical::values::{Measured, Strictness};
 use crate::npm::NpmVersionParseError;
 use crate::partial::XRange;
@@ -36,13 +36,13 @@ pub fn same_texts(one: &SmallStackString, other: &SmallStackString) -> bool
 
 /// Whether two lists are the same, if `==` on their items is sameness.
 pub fn same_lists<T: PartialEq>(one: &CowVec<T>, other: &CowVec<T>) -> bool
-    ensures { TellsSame T.eq → (IsTrue result ↔ (one.now ≡ other.now)) }
+    ensures { ReportsSame T.eq → (IsTrue result ↔ (one.now ≡ other.now)) }
 {
     one == other
 }
 
-/// Whether two [`Refusal`]s are the same.
-pub fn same_refusals(one: &Refusal, other: &Refusal) -> bool
+/// Whether two [`Rejection`]s are the same.
+pub fn same_rejections(one: &Rejection, other: &Rejection) -> bool
     ensures { IsTrue result ↔ (one.now ≡ other.now) }
 {
     one == other
@@ -64,7 +64,7 @@ pub fn same_strictness(one: &Strictness, other: &Strictness) -> bool
 
 /// Whether two parsed values are the same, if `==` on their contents is sameness.
 pub fn same_measured<T: PartialEq>(one: &Measured<T>, other: &Measured<T>) -> bool
-    ensures { TellsSame T.eq → (IsTrue result ↔ (one.now ≡ other.now)) }
+    ensures { ReportsSame T.eq → (IsTrue result ↔ (one.now ≡ other.now)) }
 {
     one == other
 }
@@ -184,6 +184,6 @@ pub fn read_versions_are_readable()
 {}
 
 /// The text of a parsed version consists of letters, digits, `-`, `.` and `+`.
-pub fn version_texts_are_plain()
-    ensures { VersionTextsArePlain }
+pub fn version_texts_are_bare()
+    ensures { VersionTextsAreBare }
 {}

@@ -7,7 +7,7 @@ ghost use Rattle.std.specs.Prelude.{◌≡◌, ◌↔◌, ◌<◌, ◌++◌, [],
 ghost use Rattle.std.specs.List.{take_while};
 ghost use Rattle.std.specs.Char.{is_ascii_digit};
 ghost use Rattle.semver_base.specs.Grammar.{CutsRun, IsAfter, IsLongest, IsSeen, Optional, Reads, ReadsAs, answer_of};
-ghost use Rattle.semver_base.specs.Lexical.{IsBlanks, IsBuild, IsIdentifiers, IsLooseNumber, IsNumber, IsPre, IsQualifier, IsStrictNumber, is_identifier_byte, measured_of, or_none, sized};
+ghost use Rattle.semver_base.specs.Lexical.{IsWhitespace, IsBuild, IsIdentifiers, IsLooseNumber, IsNumber, IsPre, IsQualifier, IsStrictNumber, is_identifier_byte, measured_of, or_none, sized};
 
 pub mod values;
 
@@ -26,17 +26,17 @@ pub fn after(text: &str, character: char) -> Option<&str>
 
 /// Strips leading whitespace, the characters for which `char::is_whitespace` is true.
 #[inline(always)]
-pub fn after_blanks(text: &str) -> &str
-    ensures { IsLongest IsBlanks text.now tt result.now }
+pub fn after_whitespace(text: &str) -> &str
+    ensures { IsLongest IsWhitespace text.now tt result.now }
 {
     text.trim_start()
 }
 
 /// Whether the text is empty or only whitespace.
-pub fn is_blank(text: &str) -> bool
-    ensures { IsTrue result ↔ IsBlanks text.now tt }
+pub fn is_all_whitespace(text: &str) -> bool
+    ensures { IsTrue result ↔ IsWhitespace text.now tt }
 {
-    after_blanks(text).is_empty()
+    after_whitespace(text).is_empty()
 }
 
 // Counts the leading digits.

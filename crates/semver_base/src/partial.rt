@@ -2,11 +2,11 @@
 
 ghost use Rattle.std.specs.Prelude.{◌≡◌, ◌+◌, ◌∷◌, [], IfOk, IfErr, None, OnOk, true};
 ghost use Rattle.semver_base.specs.Meaning.{from, release, to_below};
-ghost use Rattle.semver_base.specs.PartialTable.{IsBoundRefusal, all_fit, between, caret, equal, greater_range, greater_than, less_than, lower_to_below, lowest, or_zero, version_with_pre, tilde, upper, without_build};
+ghost use Rattle.semver_base.specs.PartialTable.{IsBoundRejection, all_fit, between, caret, equal, greater_range, greater_than, less_than, lower_to_below, lowest, or_zero, version_with_pre, tilde, upper, without_build};
 
 mod numbers;
 
-use crate::failure::{ParseFailure, Refusal};
+use crate::failure::{ParseFailure, Rejection};
 use crate::range::{RangeBound, VersionBoundKind, VersionRange};
 use crate::string::CowVec;
 use crate::version::{Version, VersionPreOrBuild, release};
@@ -48,11 +48,11 @@ fn or_zero(component: XRange) -> u64
 fn raised(alloc: Global, number: u64) -> Result<u64, ParseFailure>
     ensures raised { IfOk result (λ n. n ≡ number + 1) }
     ensures fits { OnOk result (all_fit ((number + 1) ∷ []) ≡ true) }
-    ensures refused { IfErr result (IsBoundRefusal ((number + 1) ∷ [])) }
+    ensures rejected { IfErr result (IsBoundRejection ((number + 1) ∷ [])) }
 {
     match number.checked_add(1) {
         Some(number) => Ok(number),
-        None => Err(ParseFailure::of_refusal(alloc, Refusal::BoundTooLarge)),
+        None => Err(ParseFailure::of_rejection(alloc, Rejection::BoundTooLarge)),
     }
 }
 
@@ -90,7 +90,7 @@ impl Partial {
     #[inline(always)]
     pub fn as_lower_bound(&self, _alloc: Global) -> Result<RangeBound, ParseFailure>
         ensures bound { IfOk result (λ bound. bound ≡ from (lowest self.now)) }
-        ensures refused { IfErr result (λ failure. failure ≡ None) }
+        ensures rejected { IfErr result (λ failure. failure ≡ None) }
     {
         Ok(RangeBound::inclusive(self.lowest()?))
     }
@@ -106,7 +106,7 @@ impl Partial {
     ) -> Result<VersionRange, ParseFailure>
         ensures range { IfOk result
             (λ range. range ≡ (lower_to_below self.now (release major minor patch) []).range) }
-        ensures refused { IfErr result (λ failure. failure ≡ None) }
+        ensures rejected { IfErr result (λ failure. failure ≡ None) }
     {
         Ok(VersionRange {
             start: self.as_lower_bound(alloc)?,
@@ -122,7 +122,7 @@ impl Partial {
     pub fn as_tilde_version_range(&self, alloc: Global) -> Result<VersionRange, ParseFailure>
         ensures range { IfOk result (λ range. range ≡ (tilde self.now).range) }
         ensures fits { OnOk result (all_fit (tilde self.now).sums ≡ true) }
-        ensures refused { IfErr result (IsBoundRefusal (tilde self.now).sums) }
+        ensures rejected { IfErr result (IsBoundRejection (tilde self.now).sums) }
     {
         match (self.major, self.minor) {
             (XRange::Wildcard, _) => Ok(VersionRange::all()),
@@ -146,7 +146,7 @@ impl Partial {
     pub fn as_caret_version_range(&self, alloc: Global) -> Result<VersionRange, ParseFailure>
         ensures range { IfOk result (λ range. range ≡ (caret self.now).range) }
         ensures fits { OnOk result (all_fit (caret self.now).sums ≡ true) }
-        ensures refused { IfErr result (IsBoundRefusal (caret self.now).sums) }
+        ensures rejected { IfErr result (IsBoundRejection (caret self.now).sums) }
     {
         match (self.major, self.minor, self.patch) {
             (XRange::Wildcard, _, _) => Ok(VersionRange::all()),
@@ -179,7 +179,7 @@ impl Partial {
     ) -> Result<VersionRange, ParseFailure>
         ensures range { IfOk result (λ range. range ≡ (greater_range kind self.now).range) }
         ensures fits { OnOk result (all_fit (greater_range kind self.now).sums ≡ true) }
-        ensures refused { IfErr result (IsBoundRefusal (greater_range kind self.now).sums) }
+        ensures rejected { IfErr result (IsBoundRejection (greater_range kind self.now).sums) }
     {
         let patch = or_zero(self.patch);
         let (start, end) = match (self.major, self.minor, self.patch) {
@@ -217,7 +217,7 @@ impl Partial {
     pub fn as_equal_range(&self, alloc: Global) -> Result<VersionRange, ParseFailure>
         ensures range { IfOk result (λ range. range ≡ (equal self.now).range) }
         ensures fits { OnOk result (all_fit (equal self.now).sums ≡ true) }
-        ensures refused { IfErr result (IsBoundRefusal (equal self.now).sums) }
+        ensures rejected { IfErr result (IsBoundRejection (equal self.now).sums) }
     {
         match (self.major, self.minor, self.patch) {
             (XRange::Val(_), XRange::Val(_), XRange::Val(_)) => Ok(VersionRange {
@@ -236,7 +236,7 @@ impl Partial {
     pub fn as_upper_bound(&self, alloc: Global) -> Result<RangeBound, ParseFailure>
         ensures bound { IfOk result (λ bound. bound ≡ (upper self.now).end) }
         ensures fits { OnOk result (all_fit (upper self.now).sums ≡ true) }
-        ensures refused { IfErr result (IsBoundRefusal (upper self.now).sums) }
+        ensures rejected { IfErr result (IsBoundRejection (upper self.now).sums) }
     {
         match (self.major, self.minor, self.patch) {
             (XRange::Wildcard, _, _) => Ok(RangeBound::Unbounded),
@@ -298,7 +298,7 @@ impl Partial {
     ) -> Result<VersionRange, ParseFailure>
         ensures range { IfOk result (λ range. range ≡ (greater_than kind self.now).range) }
         ensures fits { OnOk result (all_fit (greater_than kind self.now).sums ≡ true) }
-        ensures refused { IfErr result (IsBoundRefusal (greater_than kind self.now).sums) }
+        ensures rejected { IfErr result (IsBoundRejection (greater_than kind self.now).sums) }
     {
         match kind {
             VersionBoundKind::Inclusive => Ok(self.at_least(alloc)?),
@@ -326,8 +326,8 @@ impl Partial {
             (λ range. range ≡ (greater_than VersionBoundKind.Exclusive self.now).range) }
         ensures fits { OnOk result
             (all_fit (greater_than VersionBoundKind.Exclusive self.now).sums ≡ true) }
-        ensures refused { IfErr result
-            (IsBoundRefusal (greater_than VersionBoundKind.Exclusive self.now).sums) }
+        ensures rejected { IfErr result
+            (IsBoundRejection (greater_than VersionBoundKind.Exclusive self.now).sums) }
     {
         let start = match (self.major, self.minor, self.patch) {
             (XRange::Wildcard, _, _) => return Ok(VersionRange::none(alloc)),
@@ -361,7 +361,7 @@ impl Partial {
     ) -> Result<VersionRange, ParseFailure>
         ensures range { IfOk result (λ range. range ≡ (less_than kind self.now).range) }
         ensures fits { OnOk result (all_fit (less_than kind self.now).sums ≡ true) }
-        ensures refused { IfErr result (IsBoundRefusal (less_than kind self.now).sums) }
+        ensures rejected { IfErr result (IsBoundRejection (less_than kind self.now).sums) }
     {
         match kind {
             VersionBoundKind::Inclusive => self.at_most(alloc),
@@ -375,8 +375,8 @@ impl Partial {
             (λ range. range ≡ (less_than VersionBoundKind.Inclusive self.now).range) }
         ensures fits { OnOk result
             (all_fit (less_than VersionBoundKind.Inclusive self.now).sums ≡ true) }
-        ensures refused { IfErr result
-            (IsBoundRefusal (less_than VersionBoundKind.Inclusive self.now).sums) }
+        ensures rejected { IfErr result
+            (IsBoundRejection (less_than VersionBoundKind.Inclusive self.now).sums) }
     {
         let end = match (self.major, self.minor, self.patch) {
             (XRange::Wildcard, _, _) => return Ok(VersionRange::all()),

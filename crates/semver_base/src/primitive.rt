@@ -2,7 +2,7 @@
 
 ghost use Rattle.std.specs.Prelude.{◌≡◌, IfOk, IfErr, OnOk, true};
 ghost use Rattle.semver_base.specs.Comparators.{primitive_line};
-ghost use Rattle.semver_base.specs.PartialTable.{IsBoundRefusal, all_fit};
+ghost use Rattle.semver_base.specs.PartialTable.{IsBoundRejection, all_fit};
 
 use crate::failure::ParseFailure;
 use crate::partial::Partial;
@@ -32,7 +32,7 @@ impl PrimitiveKind {
     pub fn range(self, alloc: Global, partial: &Partial) -> Result<VersionRange, ParseFailure>
         ensures range { IfOk result (λ range. range ≡ (primitive_line self partial.now).range) }
         ensures fits { OnOk result (all_fit (primitive_line self partial.now).sums ≡ true) }
-        ensures refused { IfErr result (IsBoundRefusal (primitive_line self partial.now).sums) }
+        ensures rejected { IfErr result (IsBoundRejection (primitive_line self partial.now).sums) }
     {
         match self {
             PrimitiveKind::Equal => partial.as_equal_range(alloc),

@@ -11,10 +11,10 @@ ghost use Rattle.std.specs.Cmp.Rules.{hashing};
 ghost use Rattle.std.specs.Cow.{cow_str_bytes};
 ghost use Rattle.std.specs.Hash as fed;
 ghost use Rattle.std.specs.Ordering.{nat_cmp};
-ghost use Rattle.semver_base.specs.Texts.{FitsOrIsOwned, IsInlineIfShort, IsReplaced, kept_bytes, zeros_in_front};
+ghost use Rattle.semver_base.specs.Texts.{FitsOrIsOwned, IsInlineIfShort, IsReplaced, storage_bytes, zeros_in_front};
 
 mod append;
-mod few;
+mod inline_items;
 mod list;
 
 pub use append::{StringAppendable, StringType, append_displayed, displayed};
@@ -32,7 +32,7 @@ use std::{fmt, mem};
 /// Texts are equal if their bytes are, and are ordered by bytes.
 pub struct ShortText<const LIMIT: usize> {
     alloc: Global,
-    kept: Kept<LIMIT>,
+    storage: Storage<LIMIT>,
     // How many zeros the text begins with.
     zeros: usize,
 }
@@ -45,20 +45,20 @@ pub type StackString = ShortText<23>;
 
 // Where a text is stored.
 #[derive(Drop)]
-enum Kept<const LIMIT: usize> {
+enum Storage<const LIMIT: usize> {
     Inline(ArrayString<LIMIT>),
     Heap(String),
 }
 
 impl<const LIMIT: usize> Model for ShortText<LIMIT> {
     ghost use Rattle.std.specs.Prelude.{List, ℕ};
-    ghost use Rattle.semver_base.specs.Texts.{kept_bytes, IsKept};
+    ghost use Rattle.semver_base.specs.Texts.{storage_bytes, IsStored};
 
     ghost Value = { List ℕ };
 
-    ghost view = { λ s. kept_bytes s.kept };
+    ghost view = { λ s. storage_bytes s.storage };
 
-    ghost invariant = { λ s. IsKept s.kept s.zeros };
+    ghost invariant = { λ s. IsStored s.storage s.zeros };
 }
 
 // Written out so that dropping a text is one call.
@@ -67,10 +67,10 @@ impl<const LIMIT: usize> Drop for ShortText<LIMIT> {
     fn drop(self) {
         let ShortText {
             alloc: _,
-            kept,
+            storage,
             zeros: _,
         } = self;
-        drop(kept);
+        drop(storage);
     }
 }
 
@@ -90,36 +90,36 @@ fn zeros_from(bytes: &[u8], known: usize) -> usize
     known + leading_zeros(&bytes[known..])
 }
 
-impl<const LIMIT: usize> Kept<LIMIT> {
+impl<const LIMIT: usize> Storage<LIMIT> {
     // The text.
     fn as_str(&self) -> &str
-        ensures { result.now ≡ kept_bytes self.now }
+        ensures { result.now ≡ storage_bytes self.now }
     {
         match self {
-            Kept::Inline(short) => short.as_str(),
-            Kept::Heap(long) => long.as_str(),
+            Storage::Inline(short) => short.as_str(),
+            Storage::Heap(long) => long.as_str(),
         }
     }
 
     // Appends a text. On failure the text is unchanged.
     fn push_str(&mut self, alloc: Global, text: &str) -> Result<(), AllocError>
-        ensures ok { OnOk result (kept_bytes self.new ≡ kept_bytes self.old ++ text.now) }
-        ensures err { OnErr result (kept_bytes self.new ≡ kept_bytes self.old) }
+        ensures ok { OnOk result (storage_bytes self.new ≡ storage_bytes self.old ++ text.now) }
+        ensures err { OnErr result (storage_bytes self.new ≡ storage_bytes self.old) }
         ensures inline { IsInlineIfShort self.old → IsInlineIfShort self.new }
         ensures succeeds { IsInlineIfShort self.old
-            → length (kept_bytes self.old) + length text.now ≤ LIMIT
+            → length (storage_bytes self.old) + length text.now ≤ LIMIT
             → IsOk result }
     {
         match self {
-            Kept::Inline(short) => {
+            Storage::Inline(short) => {
                 if short.try_push_str(text).is_err() {
                     let mut long = String::from_str(alloc, short.as_str())?;
                     long.push_str(text)?;
-                    *self = Kept::Heap(long);
+                    *self = Storage::Heap(long);
                 }
                 Ok(())
             }
-            Kept::Heap(long) => long.push_str(text),
+            Storage::Heap(long) => long.push_str(text),
         }
     }
 }
@@ -132,7 +132,7 @@ impl<const LIMIT: usize> ShortText<LIMIT> {
     {
         ShortText {
             alloc,
-            kept: Kept::Inline(ArrayString::new()),
+            storage: Storage::Inline(ArrayString::new()),
             zeros: 0,
         }
     }
@@ -152,12 +152,16 @@ impl<const LIMIT: usize> ShortText<LIMIT> {
         ensures value { IfOk result (λ s. s ≡ text.now) }
         ensures succeeds { length text.now ≤ LIMIT → IsOk result }
     {
-        let kept = match ArrayString::from(text) {
-            Ok(short) => Kept::Inline(short),
-            Err(_) => Kept::Heap(String::from_str(alloc, text)?),
+        let storage = match ArrayString::from(text) {
+            Ok(short) => Storage::Inline(short),
+            Err(_) => Storage::Heap(String::from_str(alloc, text)?),
         };
         let zeros = leading_zeros(text.as_bytes());
-        Ok(ShortText { alloc, kept, zeros })
+        Ok(ShortText {
+            alloc,
+            storage,
+            zeros,
+        })
     }
 
     /// Creates a text from a literal, as [`ShortText::from_str`] does.
@@ -174,11 +178,15 @@ impl<const LIMIT: usize> ShortText<LIMIT> {
         ensures succeeds { IsOk result }
     {
         let zeros = leading_zeros(text.as_str().as_bytes());
-        let kept = match ArrayString::from(text.as_str()) {
-            Ok(short) => Kept::Inline(short),
-            Err(_) => Kept::Heap(text),
+        let storage = match ArrayString::from(text.as_str()) {
+            Ok(short) => Storage::Inline(short),
+            Err(_) => Storage::Heap(text),
         };
-        Ok(ShortText { alloc, kept, zeros })
+        Ok(ShortText {
+            alloc,
+            storage,
+            zeros,
+        })
     }
 
     /// Creates a text from `text`, as [`ShortText::from_str`] or [`ShortText::from_string`] does.
@@ -197,7 +205,7 @@ impl<const LIMIT: usize> ShortText<LIMIT> {
         ensures value { result.now ≡ self.now }
         ensures utf8 { IsUtf8 self.now }
     {
-        self.kept.as_str()
+        self.storage.as_str()
     }
 
     // How many zeros the text begins with, in constant time.
@@ -221,8 +229,8 @@ impl<const LIMIT: usize> ShortText<LIMIT> {
         ensures err { OnErr result (self.new ≡ self.old) }
         ensures succeeds { length self.old + length text.now ≤ LIMIT → IsOk result }
     {
-        self.kept.push_str(self.alloc, text)?;
-        self.zeros = zeros_from(self.kept.as_str().as_bytes(), self.zeros);
+        self.storage.push_str(self.alloc, text)?;
+        self.zeros = zeros_from(self.storage.as_str().as_bytes(), self.zeros);
         Ok(())
     }
 
@@ -279,13 +287,13 @@ impl<const LIMIT: usize> ShortText<LIMIT> {
         ensures value { IfOk result (λ s. s ≡ self.now) }
         ensures succeeds { length self.now ≤ LIMIT → IsOk result }
     {
-        let kept = match &self.kept {
-            Kept::Inline(short) => Kept::Inline(*short),
-            Kept::Heap(long) => Kept::Heap(long.clone()?),
+        let storage = match &self.storage {
+            Storage::Inline(short) => Storage::Inline(*short),
+            Storage::Heap(long) => Storage::Heap(long.clone()?),
         };
         Ok(ShortText {
             alloc: self.alloc,
-            kept,
+            storage,
             zeros: self.zeros,
         })
     }
@@ -304,9 +312,9 @@ impl<const LIMIT: usize> ShortText<LIMIT> {
         ensures succeeds { LIMIT < length self.entry → IsOk result }
     {
         self.zeros = 0;
-        match mem::replace(&mut self.kept, Kept::Inline(ArrayString::new())) {
-            Kept::Inline(short) => String::from_str(alloc, short.as_str()),
-            Kept::Heap(long) => Ok(long),
+        match mem::replace(&mut self.storage, Storage::Inline(ArrayString::new())) {
+            Storage::Inline(short) => String::from_str(alloc, short.as_str()),
+            Storage::Heap(long) => Ok(long),
         }
     }
 }

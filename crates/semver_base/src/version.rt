@@ -7,22 +7,22 @@ ghost use Rattle.std.specs.Cmp.{IsTotalOrder};
 ghost use Rattle.std.specs.Cmp.Lexicographic.{slice_cmp};
 ghost use Rattle.std.specs.Ordering.{as_partial_cmp};
 ghost use Rattle.semver_base.specs.Characters.{equals_sign, letter_v};
-ghost use Rattle.semver_base.specs.declared.failure.Refusal.{Refusal};
+ghost use Rattle.semver_base.specs.declared.failure.Rejection.{Rejection};
 ghost use Rattle.semver_base.specs.Grammar.{IsLongest, IsSeen, Optional, Prefixed};
-ghost use Rattle.semver_base.specs.Lexical.{IsBlanks, IsByte};
-ghost use Rattle.semver_base.specs.VersionGrammar.{IsLead, IsVersionAnswer, IsVersionOutcome, IsVersionRefusal, ignored, version_failure};
-ghost use Rattle.semver_base.specs.VersionReaderSteps.{IsFittingNumber, IsFittingTriple, IsNumberRefusal, IsReadVersion, IsTripleRefusal};
+ghost use Rattle.semver_base.specs.Lexical.{IsWhitespace, IsByte};
+ghost use Rattle.semver_base.specs.VersionGrammar.{IsLead, IsVersionAnswer, IsVersionOutcome, IsVersionRejection, ignored, version_failure};
+ghost use Rattle.semver_base.specs.VersionParserSteps.{IsFittingNumber, IsFittingTriple, IsNumberRejection, IsReadVersion, IsTripleRejection};
 ghost use Rattle.semver_base.specs.Meaning.{release};
-ghost use Rattle.semver_base.specs.PlainTexts.{IsTripleFront};
+ghost use Rattle.semver_base.specs.ShortTexts.{IsTripleFront};
 ghost use Rattle.semver_base.specs.Precedence.{identifier_cmp, number_of, numbers_cmp, pre_cmp, precedence_cmp, qualifiers_cmp, version_cmp};
 ghost use Rattle.semver_base.specs.PrecedenceLaws.{version_po, version_ties, version_total, SamePrecedence};
 ghost use Rattle.semver_base.specs.VersionText.{ReadsBack, prefixed, version_text};
 
 use crate::dotted::{DOTTED_ROOM, dotted};
-use crate::failure::{ParseFailure, Refusal};
+use crate::failure::{ParseFailure, Rejection};
 use crate::lexical;
 use crate::lexical::values::{Measured, Strictness};
-use crate::plain::{Numbers, split_numbers};
+use crate::short::{Numbers, split_numbers};
 use crate::string::{CowVec, SmallStackString, StringAppendable, StringType, append_displayed};
 use std::alloc::{AllocError, Global};
 use std::cmp::Ordering;
@@ -116,8 +116,8 @@ impl Version {
     pub fn parse_standard(alloc: Global, text: &str) -> Result<Version, VersionParseError>
         ensures read { IfOk result (λ version. IsVersionOutcome (trim text.now) (Ok version)) }
         ensures reads_back { IfOk result ReadsBack }
-        ensures refused { IfErr result (λ error. IsVersionRefusal (trim text.now) error.source) }
-        ensures answer { (outcome : Result Version Refusal)
+        ensures rejected { IfErr result (λ error. IsVersionRejection (trim text.now) error.source) }
+        ensures answer { (outcome : Result Version Rejection)
             → IsVersionOutcome (trim text.now) outcome
             → IsVersionAnswer (λ (error : VersionParseError). error.source) (trim text.now) outcome result }
     {
@@ -213,10 +213,10 @@ fn after_optional_equals(text: &str) -> &str
 // Skips an optional leading `v` and any whitespace after it.
 #[inline(always)]
 fn after_v(text: &str) -> &str
-    ensures { IsSeen ignored (Optional (Prefixed letter_v IsBlanks)) text.now tt result.now }
+    ensures { IsSeen ignored (Optional (Prefixed letter_v IsWhitespace)) text.now tt result.now }
 {
     match lexical::after(text, 'v') {
-        Some(rest) => lexical::after_blanks(rest),
+        Some(rest) => lexical::after_whitespace(rest),
         None => text,
     }
 }
@@ -226,36 +226,36 @@ fn after_v(text: &str) -> &str
 fn after_lead(text: &str) -> &str
     ensures { IsLongest IsLead text.now tt result.now }
 {
-    after_v(lexical::after_blanks(after_optional_equals(text)))
+    after_v(lexical::after_whitespace(after_optional_equals(text)))
 }
 
 // Parses a leading number that fits.
 #[inline(always)]
-fn fitting_number(text: &str) -> Result<(u64, &str), Refusal>
+fn fitting_number(text: &str) -> Result<(u64, &str), Rejection>
     ensures read { IfOk result (λ r. IsFittingNumber text.now r.0 r.1.now) }
-    ensures refused { IfErr result (IsNumberRefusal text.now) }
+    ensures rejected { IfErr result (IsNumberRejection text.now) }
 {
     match lexical::loose_number(text) {
-        None => Err(Refusal::UnexpectedCharacter),
-        Some((Measured::TooLarge, _)) => Err(Refusal::NumberTooLarge),
+        None => Err(Rejection::UnexpectedCharacter),
+        Some((Measured::TooLarge, _)) => Err(Rejection::NumberTooLarge),
         Some((Measured::Fits(number), rest)) => Ok((number, rest)),
     }
 }
 
 // Parses three leading numbers that fit.
 #[inline(always)]
-fn triple(text: &str) -> Result<(Numbers, &str), Refusal>
+fn triple(text: &str) -> Result<(Numbers, &str), Rejection>
     ensures read { IfOk result
         (λ r. IsFittingTriple text.now (r.0.major, (r.0.minor, r.0.patch)) r.1.now) }
-    ensures refused { IfErr result (IsTripleRefusal text.now) }
+    ensures rejected { IfErr result (IsTripleRejection text.now) }
 {
     let (major, rest) = fitting_number(text)?;
     let Some(rest) = lexical::after(rest, '.') else {
-        return Err(Refusal::MissingMinor);
+        return Err(Rejection::MissingMinor);
     };
     let (minor, rest) = fitting_number(rest)?;
     let Some(rest) = lexical::after(rest, '.') else {
-        return Err(Refusal::MissingPatch);
+        return Err(Rejection::MissingPatch);
     };
     let (patch, rest) = fitting_number(rest)?;
     let numbers = Numbers {
@@ -267,14 +267,14 @@ fn triple(text: &str) -> Result<(Numbers, &str), Refusal>
 }
 
 // The failure of an invalid version text.
-fn failure(alloc: Global, refusal: Refusal, text: &str) -> ParseFailure
-    ensures { (result ≡ None) ⊎ (result ≡ version_failure refusal text.now) }
+fn failure(alloc: Global, rejection: Rejection, text: &str) -> ParseFailure
+    ensures { (result ≡ None) ⊎ (result ≡ version_failure rejection text.now) }
 {
-    let snippet = match refusal {
-        Refusal::MissingMinor | Refusal::MissingPatch => Some(text),
+    let snippet = match rejection {
+        Rejection::MissingMinor | Rejection::MissingPatch => Some(text),
         _ => None,
     };
-    ParseFailure::with_texts(alloc, refusal.message(), snippet)
+    ParseFailure::with_texts(alloc, rejection.message(), snippet)
 }
 
 // Parses the rest of a version after these three numbers.
@@ -289,7 +289,7 @@ fn read_on(
 ) -> Result<Version, ParseFailure>
     requires { IsTripleFront text.now major minor patch rest.now }
     ensures read { IfOk result (IsReadVersion (trim text.now)) }
-    ensures refused { IfErr result (IsVersionRefusal (trim text.now)) }
+    ensures rejected { IfErr result (IsVersionRejection (trim text.now)) }
 {
     let (qualifier, rest) = lexical::qualifier(alloc, rest, Strictness::Loose)?;
     if rest.is_empty() {
@@ -309,15 +309,15 @@ fn read_on(
 #[inline(never)]
 fn read(alloc: Global, text: &str) -> Result<Version, ParseFailure>
     ensures read { IfOk result (IsReadVersion text.now) }
-    ensures refused { IfErr result (IsVersionRefusal text.now) }
+    ensures rejected { IfErr result (IsVersionRejection text.now) }
 {
     let (numbers, rest) = match triple(after_lead(text)) {
         Ok(read) => read,
-        Err(refusal) => return Err(failure(alloc, refusal, text)),
+        Err(rejection) => return Err(failure(alloc, rejection, text)),
     };
     let (qualifier, rest) = lexical::qualifier(alloc, rest, Strictness::Loose)?;
     if !rest.is_empty() {
-        return Err(failure(alloc, Refusal::UnexpectedCharacter, text));
+        return Err(failure(alloc, Rejection::UnexpectedCharacter, text));
     }
     Ok(Version {
         major: numbers.major,

@@ -3,7 +3,7 @@ use Rattle.std.proofs.Common.{◌≡◌, ◌&&◌, Bool, true, false, List, [], 
 use Rattle.std.specs.List.{list_all, list_any}
 use Rattle.std.specs.Prelude.{◌||◌, IfOk, IfSome, IsPermutation}
 use Rattle.std.proofs.lemmas.List.Sorted.{list_any-IsPermutation}
-use Rattle.semver_base.specs.LeastVersion.{HasNoBuild, IsLeast}
+use Rattle.semver_base.specs.LowestVersion.{HasNoBuild, IsLowestPassing}
 use Rattle.semver_base.specs.Meaning.{range_means_with, set_means_with}
 use Rattle.semver_base.specs.NormalText.{AreWritableRanges}
 use Rattle.semver_base.specs.VersionText.{ReadsBack}
@@ -11,9 +11,9 @@ use Rattle.semver_base.specs.declared.range.PreRelease.{PreRelease}
 use Rattle.semver_base.specs.declared.range.VersionRangeSet.{VersionRangeSet}
 use Rattle.semver_base.specs.declared.version.Version.{Version}
 use Rattle.semver_base.proofs.MeaningLemmas.{any_alternatives}
-use Rattle.semver_base.proofs.OnlyLeast.{only_alike, only_least}
+use Rattle.semver_base.proofs.OnlyLowest.{only_alike, only_lowest}
 use Rattle.semver_req.specs.AnyOrder.{AllInAnyOrder, AreEachReordered, AreReordered, BothInAnyOrder, InAnyOrder, IsReordered}
-use Rattle.semver_req.specs.Readers.{AreReadOrTags, IsReadOrTag}
+use Rattle.semver_req.specs.Parsers.{AreReadOrTags, IsReadOrTag}
 use Rattle.semver_req.specs.Requirement.{Requirement, all_inners_mean_with, inner_means_with}
 use Rattle.semver_req.specs.declared.range_set_or_tag.RangeSetOrTag.{RangeSetOrTag}
 use Rattle.semver_req.specs.declared.range_set_or_tag.RangeSetOrTag.TheVariants as inner
@@ -72,42 +72,42 @@ asked flag test one other v = test (inner_means_with flag one v) (inner_means_wi
 
 module _ {E : Type 0} (flag : PreRelease) where
   pub own_in_any_order : (one : RangeSetOrTag) (set : VersionRangeSet) (r : Result (Option Version) E) → one ≡ inner.RangeSet set
-      → IfOk r (IsLeast (set_means_with flag set.0)) → IfOk r (λ least. IfSome least HasNoBuild) → IfOk r (λ least. AreWritableRanges set.0 → IfSome least ReadsBack)
-      → IfOk r (λ least. IsReadOrTag one → InAnyOrder (inner_means_with flag) one least)
-  own_in_any_order one set r is h plain back = subst (λ own. IfOk r (λ least. IsReadOrTag own → InAnyOrder (inner_means_with flag) own least)) (sym is) (go r h plain back)
+      → IfOk r (IsLowestPassing (set_means_with flag set.0)) → IfOk r (λ lowest. IfSome lowest HasNoBuild) → IfOk r (λ lowest. AreWritableRanges set.0 → IfSome lowest ReadsBack)
+      → IfOk r (λ lowest. IsReadOrTag one → InAnyOrder (inner_means_with flag) one lowest)
+  own_in_any_order one set r is h plain back = subst (λ own. IfOk r (λ lowest. IsReadOrTag own → InAnyOrder (inner_means_with flag) own lowest)) (sym is) (go r h plain back)
     where
-      go : (r : Result (Option Version) E) → IfOk r (IsLeast (set_means_with flag set.0)) → IfOk r (λ least. IfSome least HasNoBuild)
-          → IfOk r (λ least. AreWritableRanges set.0 → IfSome least ReadsBack)
-          → IfOk r (λ least. IsReadOrTag (inner.RangeSet set) → InAnyOrder (inner_means_with flag) (inner.RangeSet set) least)
-      go (Ok least) h plain back = λ read same moved.
-          only_alike (set_means_with flag set.0) (inner_means_with flag same) least (reordered_means flag (inner.RangeSet set) same moved)
-          (only_least (set_means_with flag set.0) least h plain (back (read_writable set.0 read)))
+      go : (r : Result (Option Version) E) → IfOk r (IsLowestPassing (set_means_with flag set.0)) → IfOk r (λ lowest. IfSome lowest HasNoBuild)
+          → IfOk r (λ lowest. AreWritableRanges set.0 → IfSome lowest ReadsBack)
+          → IfOk r (λ lowest. IsReadOrTag (inner.RangeSet set) → InAnyOrder (inner_means_with flag) (inner.RangeSet set) lowest)
+      go (Ok lowest) h plain back = λ read same moved.
+          only_alike (set_means_with flag set.0) (inner_means_with flag same) lowest (reordered_means flag (inner.RangeSet set) same moved)
+          (only_lowest (set_means_with flag set.0) lowest h plain (back (read_writable set.0 read)))
       go (Err e) h plain back = tt
 
   pub both_in_any_order : (test : Bool → Bool → Bool) (one other : RangeSetOrTag) (set others : VersionRangeSet) (r : Result (Option Version) E)
       → one ≡ inner.RangeSet set → other ≡ inner.RangeSet others
-      → IfOk r (IsLeast (λ v. test (set_means_with flag set.0 v) (set_means_with flag others.0 v))) → IfOk r (λ least. IfSome least HasNoBuild)
-      → IfOk r (λ least. AreWritableRanges set.0 → AreWritableRanges others.0 → IfSome least ReadsBack)
-      → IfOk r (λ least. IsReadOrTag one → IsReadOrTag other → BothInAnyOrder (asked flag test) one other least)
+      → IfOk r (IsLowestPassing (λ v. test (set_means_with flag set.0 v) (set_means_with flag others.0 v))) → IfOk r (λ lowest. IfSome lowest HasNoBuild)
+      → IfOk r (λ lowest. AreWritableRanges set.0 → AreWritableRanges others.0 → IfSome lowest ReadsBack)
+      → IfOk r (λ lowest. IsReadOrTag one → IsReadOrTag other → BothInAnyOrder (asked flag test) one other lowest)
   both_in_any_order test one other set others r is are h plain back =
-      subst (λ own. IfOk r (λ least. IsReadOrTag own → IsReadOrTag other → BothInAnyOrder (asked flag test) own other least)) (sym is)
-      (subst (λ rest. IfOk r (λ least. IsReadOrTag (inner.RangeSet set) → IsReadOrTag rest → BothInAnyOrder (asked flag test) (inner.RangeSet set) rest least)) (sym are) (go r h plain back))
+      subst (λ own. IfOk r (λ lowest. IsReadOrTag own → IsReadOrTag other → BothInAnyOrder (asked flag test) own other lowest)) (sym is)
+      (subst (λ rest. IfOk r (λ lowest. IsReadOrTag (inner.RangeSet set) → IsReadOrTag rest → BothInAnyOrder (asked flag test) (inner.RangeSet set) rest lowest)) (sym are) (go r h plain back))
     where
-      go : (r : Result (Option Version) E) → IfOk r (IsLeast (λ v. test (set_means_with flag set.0 v) (set_means_with flag others.0 v))) → IfOk r (λ least. IfSome least HasNoBuild)
-          → IfOk r (λ least. AreWritableRanges set.0 → AreWritableRanges others.0 → IfSome least ReadsBack)
-          → IfOk r (λ least. IsReadOrTag (inner.RangeSet set) → IsReadOrTag (inner.RangeSet others)
-          → BothInAnyOrder (asked flag test) (inner.RangeSet set) (inner.RangeSet others) least)
-      go (Ok least) h plain back = λ own rest same alike moved moved_too.
-          only_alike (λ v. test (set_means_with flag set.0 v) (set_means_with flag others.0 v)) (asked flag test same alike) least
+      go : (r : Result (Option Version) E) → IfOk r (IsLowestPassing (λ v. test (set_means_with flag set.0 v) (set_means_with flag others.0 v))) → IfOk r (λ lowest. IfSome lowest HasNoBuild)
+          → IfOk r (λ lowest. AreWritableRanges set.0 → AreWritableRanges others.0 → IfSome lowest ReadsBack)
+          → IfOk r (λ lowest. IsReadOrTag (inner.RangeSet set) → IsReadOrTag (inner.RangeSet others)
+          → BothInAnyOrder (asked flag test) (inner.RangeSet set) (inner.RangeSet others) lowest)
+      go (Ok lowest) h plain back = λ own rest same alike moved moved_too.
+          only_alike (λ v. test (set_means_with flag set.0 v) (set_means_with flag others.0 v)) (asked flag test same alike) lowest
           (λ v. ap₂ test (reordered_means flag (inner.RangeSet set) same moved v) (reordered_means flag (inner.RangeSet others) alike moved_too v))
-          (only_least (λ v. test (set_means_with flag set.0 v) (set_means_with flag others.0 v)) least h plain (back (read_writable set.0 own) (read_writable others.0 rest)))
+          (only_lowest (λ v. test (set_means_with flag set.0 v) (set_means_with flag others.0 v)) lowest h plain (back (read_writable set.0 own) (read_writable others.0 rest)))
       go (Err e) h plain back = tt
 
   pub all_in_any_order : (own : RangeSetOrTag) (others : List Requirement) (r : Result (Option Version) E)
-      → IfOk r (IsLeast (all_inners_mean_with flag own others)) → IfOk r (λ least. IfSome least HasNoBuild)
-      → IfOk r (λ least. IsReadOrTag own → AreReadOrTags others → IfSome least ReadsBack)
-      → IfOk r (λ least. IsReadOrTag own → AreReadOrTags others → AllInAnyOrder flag own others least)
-  all_in_any_order own others (Ok least) h plain back = λ read reads same rest moved.
-      only_alike (all_inners_mean_with flag own others) (all_inners_mean_with flag same rest) least (all_means flag own same others rest moved)
-      (only_least (all_inners_mean_with flag own others) least h plain (back read reads))
+      → IfOk r (IsLowestPassing (all_inners_mean_with flag own others)) → IfOk r (λ lowest. IfSome lowest HasNoBuild)
+      → IfOk r (λ lowest. IsReadOrTag own → AreReadOrTags others → IfSome lowest ReadsBack)
+      → IfOk r (λ lowest. IsReadOrTag own → AreReadOrTags others → AllInAnyOrder flag own others lowest)
+  all_in_any_order own others (Ok lowest) h plain back = λ read reads same rest moved.
+      only_alike (all_inners_mean_with flag own others) (all_inners_mean_with flag same rest) lowest (all_means flag own same others rest moved)
+      (only_lowest (all_inners_mean_with flag own others) lowest h plain (back read reads))
   all_in_any_order own others (Err e) h plain back = tt

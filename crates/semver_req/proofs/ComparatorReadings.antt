@@ -6,23 +6,23 @@ use Rattle.std.proofs.lemmas.Bool.{and_from, or_left, or_right}
 use Rattle.std.proofs.lemmas.Bool.Decides.{nat_tests}
 use Rattle.semver_base.specs.Comparators.{Caret, Comparator, Tilde, primitive_kind_text}
 use Rattle.semver_base.specs.Grammar.{After, Either, this, that, Mapped, Prefixed}
-use Rattle.semver_base.specs.Lexical.{IsBlanks, IsByte, IsSomeBlanks}
+use Rattle.semver_base.specs.Lexical.{IsWhitespace, IsByte, IsSomeWhitespace}
 use Rattle.semver_base.specs.declared.partial.Partial.{Partial}
 use Rattle.semver_base.specs.declared.primitive.PrimitiveKind.{PrimitiveKind}
 use Rattle.semver_base.specs.declared.primitive.PrimitiveKind.TheVariants.{GreaterThan, LessThan, GreaterThanOrEqual, LessThanOrEqual, Equal}
-use Rattle.semver_base.proofs.Blanks.{blanks_made, is_blank_byte}
+use Rattle.semver_base.proofs.Whitespace.{whitespace_made, is_whitespace_byte}
 use Rattle.semver_base.proofs.Bytes.{BeginsBy, Disjoint, GoesBy, MadeOf, apart_by, begins_from_made, begins_wider, either_begins, either_made, goes_from_made, joined_begins, joined_begins_either, joined_goes_second, joined_made, joined_some_second, joined_some_text, list_all-append, made_wider, mapped_begins, mapped_goes, mapped_made, mapped_some_text, prefixed_made, optional_begins, optional_made}
 use Rattle.semver_base.proofs.Fronts.{Apart, NonEmpty, no_clash}
 use Rattle.semver_base.proofs.Readings.{EachByte, HasOther, Unambiguous, Within, after_one, each_made, either_one, either_other, followed_one, goes_within, joined_other_first, joined_other_second, mapped_one, mapped_other, prefixed_other_byte, narrowed_one, never_by, never_made, other_narrower, some_within}
-use Rattle.semver_req.specs.Comparators.{IsComparator, IsEquals, IsIgnored, IsLed, IsNpmCaret, IsNpmTilde, IsOfPrimitive, IsPlain, IsPrimitiveKind, no_more, one_more}
-use Rattle.semver_req.specs.Partials.{IsPartial, IsPlainPartial}
+use Rattle.semver_req.specs.Comparators.{IsComparator, IsEquals, IsIgnored, IsLed, IsNpmCaret, IsNpmTilde, IsOfPrimitive, IsBare, IsPrimitiveKind, no_more, one_more}
+use Rattle.semver_req.specs.Partials.{IsPartial, IsBarePartial}
 use Rattle.semver_req.specs.Written.{IsTildes}
 use Rattle.semver_req.specs.declared.common.values.Flavour.{Flavour}
 use Rattle.semver_req.specs.declared.common.values.Flavour.TheVariants.{Npm, Normal, Specifier}
 use Rattle.semver_req.proofs.Components.{is_component_byte}
-use Rattle.semver_req.proofs.PartialReadings.{is_plain_byte, partial_one, plain_made, plain_one}
+use Rattle.semver_req.proofs.PartialReadings.{is_bare_byte, partial_one, bare_made, bare_one}
 use Rattle.semver_req.proofs.Partials.{partial_begins, partial_some}
-use Rattle.semver_req.proofs.PrimitiveKinds.{any_begins, blanks_apart, is_partial_byte, primitive_kind_apart}
+use Rattle.semver_req.proofs.PrimitiveKinds.{any_begins, whitespace_apart, is_partial_byte, primitive_kind_apart}
 
 -- ---- comparison operators
 
@@ -72,22 +72,22 @@ primitive_kind_some = record { some = λ s h. go s h }
 
 -- what may precede it
 abbrev pub is_lead_byte : ℕ → Bool
-is_lead_byte x = is_primitive_kind_byte x || (x == 126) || (x == 94) || (x == 118) || is_blank_byte x
+is_lead_byte x = is_primitive_kind_byte x || (x == 126) || (x == 94) || (x == 118) || is_whitespace_byte x
 
 abbrev pub IsCore : Flavour → List ℕ → Partial → Type 0
-IsCore f = After (EachByte is_lead_byte) (IsPlainPartial f)
+IsCore f = After (EachByte is_lead_byte) (IsBarePartial f)
 
 lead_no_component : Disjoint is_lead_byte is_component_byte
 lead_no_component x h k = grind (arith, nat_tests)
 
-lead_apart : (f : Flavour) → Apart (EachByte is_lead_byte) (IsPlainPartial f)
+lead_apart : (f : Flavour) → Apart (EachByte is_lead_byte) (IsBarePartial f)
 lead_apart f = apart_by is_lead_byte is_component_byte lead_no_component (goes_from_made (each_made is_lead_byte)) (partial_begins f)
 
 pub core_one : (f : Flavour) → Unambiguous (IsCore f)
-core_one f = after_one (lead_apart f) (plain_one f)
+core_one f = after_one (lead_apart f) (bare_one f)
 
-pub core_goes : (f : Flavour) → GoesBy (IsCore f) is_plain_byte
-core_goes f = mapped_goes (joined_goes_second (no_clash (lead_apart f)) (partial_some f) (goes_from_made (plain_made f)))
+pub core_goes : (f : Flavour) → GoesBy (IsCore f) is_bare_byte
+core_goes f = mapped_goes (joined_goes_second (no_clash (lead_apart f)) (partial_some f) (goes_from_made (bare_made f)))
 
 pub core_some : (f : Flavour) → NonEmpty (IsCore f)
 core_some f = mapped_some_text (joined_some_second (partial_some f))
@@ -96,8 +96,8 @@ core_some f = mapped_some_text (joined_some_second (partial_some f))
 pub record HasCore (f : Flavour) (B : List ℕ → Partial → Type 0) : Type 0 where
   pub core : (text : List ℕ) (p : Partial) → B text p → IsCore f text p
 
-pub plain_core : (f : Flavour) → HasCore f (IsPlainPartial f)
-plain_core f = record { core = λ text p h. record { value = (tt, p); stands = record { first = []; second = text; text_is = refl; in_first = record { pass = refl }; in_second = h; seam = tt }; is = refl } }
+pub bare_core : (f : Flavour) → HasCore f (IsBarePartial f)
+bare_core f = record { core = λ text p h. record { value = (tt, p); stands = record { first = []; second = text; text_is = refl; in_first = record { pass = refl }; in_second = h; seam = tt }; is = refl } }
 
 after_core : {V : Type 0} {A : List ℕ → V → Type 0} {B : List ℕ → Partial → Type 0} (f : Flavour) → MadeOf A is_lead_byte → HasCore f B → HasCore f (After A B)
 after_core {V} {A} {B} f a b = record { core = go }
@@ -119,8 +119,8 @@ after_core {V} {A} {B} f a b = record { core = go }
           is = h.is ∙ c.is;
         }
 
-marked_core : {B : List ℕ → Partial → Type 0} (f : Flavour) (m : ℕ) → is_lead_byte m ≡ true → HasCore f B → HasCore f (Prefixed m B)
-marked_core {B} f m lead b = record { core = go }
+operator_form_core : {B : List ℕ → Partial → Type 0} (f : Flavour) (m : ℕ) → is_lead_byte m ≡ true → HasCore f B → HasCore f (Prefixed m B)
+operator_form_core {B} f m lead b = record { core = go }
   where
     go : (text : List ℕ) (p : Partial) → Prefixed m B text p → IsCore f text p
     go [] p h = absurd h
@@ -147,9 +147,9 @@ either_core {A} {B} f a b = record { core = go }
     go text p (that h) = b.core text p h
 
 pub partial_core : (f : Flavour) → HasCore f (IsPartial f)
-partial_core Npm = either_core Npm (marked_core Npm 118 refl (plain_core Npm)) (plain_core Npm)
-partial_core Normal = plain_core Normal
-partial_core Specifier = plain_core Specifier
+partial_core Npm = either_core Npm (operator_form_core Npm 118 refl (bare_core Npm)) (bare_core Npm)
+partial_core Normal = bare_core Normal
+partial_core Specifier = bare_core Specifier
 
 core_unambiguous : (f : Flavour) {B : List ℕ → Partial → Type 0} → HasCore f B → Unambiguous B
 core_unambiguous f {B} b = narrowed_one B b.core (core_one f)
@@ -163,8 +163,8 @@ equals_all text v (one_more {rest} h) = equals_all rest tt h
 pub equals_made : MadeOf IsEquals is_primitive_kind_byte
 equals_made = record { made = equals_all }
 
-pub some_blanks_made : MadeOf IsSomeBlanks is_blank_byte
-some_blanks_made = record { made = λ text v h. blanks_made.made text v h.1 }
+pub some_whitespace_made : MadeOf IsSomeWhitespace is_whitespace_byte
+some_whitespace_made = record { made = λ text v h. whitespace_made.made text v h.1 }
 
 v_made : MadeOf (IsByte 118) (λ x. x == 118)
 v_made = record { made = λ text v h. rw h refl }
@@ -172,26 +172,26 @@ v_made = record { made = λ text v h. rw h refl }
 primitive_kind_lead : (x : ℕ) → is_primitive_kind_byte x ≡ true → is_lead_byte x ≡ true
 primitive_kind_lead x h = grind (arith, nat_tests)
 
-blank_lead : (x : ℕ) → is_blank_byte x ≡ true → is_lead_byte x ≡ true
-blank_lead x h = grind (arith, nat_tests)
+whitespace_first : (x : ℕ) → is_whitespace_byte x ≡ true → is_lead_byte x ≡ true
+whitespace_first x h = grind (arith, nat_tests)
 
 v_lead : (x : ℕ) → (x == 118) ≡ true → is_lead_byte x ≡ true
 v_lead x h = grind (arith, nat_tests)
 
-blanks_lead : MadeOf IsBlanks is_lead_byte
-blanks_lead = made_wider is_blank_byte is_lead_byte blank_lead blanks_made
+whitespace_lead : MadeOf IsWhitespace is_lead_byte
+whitespace_lead = made_wider is_whitespace_byte is_lead_byte whitespace_first whitespace_made
 
 primitive_kinds_lead : MadeOf IsPrimitiveKind is_lead_byte
 primitive_kinds_lead = made_wider is_primitive_kind_byte is_lead_byte primitive_kind_lead primitive_kind_made
 
 ignored_lead : MadeOf IsIgnored is_lead_byte
-ignored_lead = optional_made (joined_made primitive_kinds_lead (made_wider is_blank_byte is_lead_byte blank_lead some_blanks_made))
+ignored_lead = optional_made (joined_made primitive_kinds_lead (made_wider is_whitespace_byte is_lead_byte whitespace_first some_whitespace_made))
 
 tildes_lead : MadeOf IsTildes is_lead_byte
 tildes_lead = either_made (record { made = λ text v h. rw h refl }) (record { made = λ text v h. rw h refl })
 
 led_core : HasCore Npm IsLed
-led_core = after_core Npm (made_wider is_primitive_kind_byte is_lead_byte primitive_kind_lead equals_made) (after_core Npm blanks_lead (after_core Npm (optional_made (made_wider (λ x. x == 118) is_lead_byte v_lead v_made)) (after_core Npm blanks_lead (partial_core Npm))))
+led_core = after_core Npm (made_wider is_primitive_kind_byte is_lead_byte primitive_kind_lead equals_made) (after_core Npm whitespace_lead (after_core Npm (optional_made (made_wider (λ x. x == 118) is_lead_byte v_lead v_made)) (after_core Npm whitespace_lead (partial_core Npm))))
 
 abbrev IsTildeLed : List ℕ → Partial → Type 0
 IsTildeLed = After IsIgnored (After IsTildes IsLed)
@@ -203,12 +203,12 @@ tilde_core : HasCore Npm IsTildeLed
 tilde_core = after_core Npm ignored_lead (after_core Npm tildes_lead led_core)
 
 caret_core : HasCore Npm IsCaretLed
-caret_core = after_core Npm ignored_lead (marked_core Npm 94 refl led_core)
+caret_core = after_core Npm ignored_lead (operator_form_core Npm 94 refl led_core)
 
 -- ---- which comparator: a tilde has a `~`, a caret a `^` and no `~`, the others have neither
 
 abbrev pub is_word_byte : ℕ → Bool
-is_word_byte x = is_primitive_kind_byte x || (x == 118) || is_blank_byte x || is_plain_byte x
+is_word_byte x = is_primitive_kind_byte x || (x == 118) || is_whitespace_byte x || is_bare_byte x
 
 abbrev is_caret_byte : ℕ → Bool
 is_caret_byte x = is_word_byte x || (x == 94)
@@ -216,8 +216,8 @@ is_caret_byte x = is_word_byte x || (x == 94)
 primitive_kind_word : (x : ℕ) → is_primitive_kind_byte x ≡ true → is_word_byte x ≡ true
 primitive_kind_word x h = grind (arith, nat_tests)
 
-blank_word : (x : ℕ) → is_blank_byte x ≡ true → is_word_byte x ≡ true
-blank_word x h = grind (arith, nat_tests)
+whitespace_apart_word : (x : ℕ) → is_whitespace_byte x ≡ true → is_word_byte x ≡ true
+whitespace_apart_word x h = grind (arith, nat_tests)
 
 v_word : (x : ℕ) → (x == 118) ≡ true → is_word_byte x ≡ true
 v_word x h = grind (arith, nat_tests)
@@ -225,29 +225,29 @@ v_word x h = grind (arith, nat_tests)
 word_caret : (x : ℕ) → is_word_byte x ≡ true → is_caret_byte x ≡ true
 word_caret x h = or_left (is_word_byte x) (x == 94) h
 
-plain_word : (f : Flavour) → MadeOf (IsPlainPartial f) is_word_byte
-plain_word f = made_wider is_plain_byte is_word_byte (λ x h. or_right (is_primitive_kind_byte x || (x == 118) || is_blank_byte x) (is_plain_byte x) h) (plain_made f)
+bare_word : (f : Flavour) → MadeOf (IsBarePartial f) is_word_byte
+bare_word f = made_wider is_bare_byte is_word_byte (λ x h. or_right (is_primitive_kind_byte x || (x == 118) || is_whitespace_byte x) (is_bare_byte x) h) (bare_made f)
 
 partial_word : (f : Flavour) → MadeOf (IsPartial f) is_word_byte
-partial_word Npm = either_made (prefixed_made (plain_word Npm) 118 refl) (plain_word Npm)
-partial_word Normal = plain_word Normal
-partial_word Specifier = plain_word Specifier
+partial_word Npm = either_made (prefixed_made (bare_word Npm) 118 refl) (bare_word Npm)
+partial_word Normal = bare_word Normal
+partial_word Specifier = bare_word Specifier
 
 primitive_kinds_word : MadeOf IsPrimitiveKind is_word_byte
 primitive_kinds_word = made_wider is_primitive_kind_byte is_word_byte primitive_kind_word primitive_kind_made
 
-blanks_word : MadeOf IsBlanks is_word_byte
-blanks_word = made_wider is_blank_byte is_word_byte blank_word blanks_made
+whitespace_word : MadeOf IsWhitespace is_word_byte
+whitespace_word = made_wider is_whitespace_byte is_word_byte whitespace_apart_word whitespace_made
 
 led_word : MadeOf IsLed is_word_byte
 led_word =
     mapped_made (joined_made (made_wider is_primitive_kind_byte is_word_byte primitive_kind_word equals_made)
-    (mapped_made (joined_made blanks_word
+    (mapped_made (joined_made whitespace_word
     (mapped_made (joined_made (optional_made (made_wider (λ x. x == 118) is_word_byte v_word v_made))
-    (mapped_made (joined_made blanks_word (partial_word Npm))))))))
+    (mapped_made (joined_made whitespace_word (partial_word Npm))))))))
 
 pub ignored_word : MadeOf IsIgnored is_word_byte
-ignored_word = optional_made (joined_made primitive_kinds_word (made_wider is_blank_byte is_word_byte blank_word some_blanks_made))
+ignored_word = optional_made (joined_made primitive_kinds_word (made_wider is_whitespace_byte is_word_byte whitespace_apart_word some_whitespace_made))
 
 tildes_other : HasOther IsTildes is_caret_byte
 tildes_other = either_other (record { other = λ text v h k. no_true (rw h at k) }) (record { other = λ text v h k. no_true (rw h at k) })
@@ -272,13 +272,13 @@ IsCaretOf Specifier = Mapped Caret (Prefixed 94 (IsPartial Specifier))
 
 tilde_one : (f : Flavour) → Unambiguous (IsTildeOf f)
 tilde_one Npm = mapped_one (core_unambiguous Npm tilde_core)
-tilde_one Normal = mapped_one (core_unambiguous Normal (marked_core Normal 126 refl (partial_core Normal)))
-tilde_one Specifier = mapped_one (core_unambiguous Specifier (marked_core Specifier 126 refl (partial_core Specifier)))
+tilde_one Normal = mapped_one (core_unambiguous Normal (operator_form_core Normal 126 refl (partial_core Normal)))
+tilde_one Specifier = mapped_one (core_unambiguous Specifier (operator_form_core Specifier 126 refl (partial_core Specifier)))
 
 caret_one : (f : Flavour) → Unambiguous (IsCaretOf f)
 caret_one Npm = mapped_one (core_unambiguous Npm caret_core)
-caret_one Normal = mapped_one (core_unambiguous Normal (marked_core Normal 94 refl (partial_core Normal)))
-caret_one Specifier = mapped_one (core_unambiguous Specifier (marked_core Specifier 94 refl (partial_core Specifier)))
+caret_one Normal = mapped_one (core_unambiguous Normal (operator_form_core Normal 94 refl (partial_core Normal)))
+caret_one Specifier = mapped_one (core_unambiguous Specifier (operator_form_core Specifier 94 refl (partial_core Specifier)))
 
 tilde_other : (f : Flavour) → HasOther (IsTildeOf f) is_caret_byte
 tilde_other Npm = mapped_other (mapped_other (joined_other_second (mapped_other (joined_other_first tildes_other))))
@@ -295,36 +295,36 @@ caret_all Npm = caret_made
 caret_all Normal = mapped_made (prefixed_made (made_wider is_word_byte is_caret_byte word_caret (partial_word Normal)) 94 refl)
 caret_all Specifier = mapped_made (prefixed_made (made_wider is_word_byte is_caret_byte word_caret (partial_word Specifier)) 94 refl)
 
-marks_one : (f : Flavour) → Unambiguous (Either (IsTildeOf f) (IsCaretOf f))
-marks_one f = either_one (never_made is_caret_byte (tilde_other f) (caret_all f)) (tilde_one f) (caret_one f)
+operators_one : (f : Flavour) → Unambiguous (Either (IsTildeOf f) (IsCaretOf f))
+operators_one f = either_one (never_made is_caret_byte (tilde_other f) (caret_all f)) (tilde_one f) (caret_one f)
 
-marks_other : (f : Flavour) → HasOther (Either (IsTildeOf f) (IsCaretOf f)) is_word_byte
-marks_other f = either_other (other_narrower is_word_byte is_caret_byte word_caret (tilde_other f)) (caret_other f)
+operators_other : (f : Flavour) → HasOther (Either (IsTildeOf f) (IsCaretOf f)) is_word_byte
+operators_other f = either_other (other_narrower is_word_byte is_caret_byte word_caret (tilde_other f)) (caret_other f)
 
 primitive_one : (f : Flavour) → Unambiguous (IsOfPrimitive f)
-primitive_one f = mapped_one (followed_one (primitive_kind_apart f) primitive_kind_one (after_one (blanks_apart f) (partial_one f)))
+primitive_one f = mapped_one (followed_one (primitive_kind_apart f) primitive_kind_one (after_one (whitespace_apart f) (partial_one f)))
 
-plainly_one : (f : Flavour) → Unambiguous (IsPlain f)
+plainly_one : (f : Flavour) → Unambiguous (IsBare f)
 plainly_one f = mapped_one (partial_one f)
 
 primitive_kind_no_partial : Disjoint is_primitive_kind_byte is_partial_byte
 primitive_kind_no_partial x h k = grind (arith, nat_tests)
 
-others_one : (f : Flavour) → Unambiguous (Either (IsOfPrimitive f) (IsPlain f))
+others_one : (f : Flavour) → Unambiguous (Either (IsOfPrimitive f) (IsBare f))
 others_one f = either_one (never_by is_primitive_kind_byte is_partial_byte primitive_kind_no_partial (mapped_some_text (joined_some_text primitive_kind_some)) (mapped_begins (joined_begins primitive_kind_some primitive_kind_begins)) (mapped_begins (any_begins f))) (primitive_one f) (plainly_one f)
 
-plainly_word : (f : Flavour) → MadeOf (IsPlain f) is_word_byte
+plainly_word : (f : Flavour) → MadeOf (IsBare f) is_word_byte
 plainly_word f = mapped_made (partial_word f)
 
-others_word : (f : Flavour) → MadeOf (Either (IsOfPrimitive f) (IsPlain f)) is_word_byte
-others_word f = either_made (mapped_made (joined_made primitive_kinds_word (mapped_made (joined_made blanks_word (partial_word f))))) (plainly_word f)
+others_word : (f : Flavour) → MadeOf (Either (IsOfPrimitive f) (IsBare f)) is_word_byte
+others_word f = either_made (mapped_made (joined_made primitive_kinds_word (mapped_made (joined_made whitespace_word (partial_word f))))) (plainly_word f)
 
 -- ---- comparators
 
 pub comparator_one : (f : Flavour) → Unambiguous (IsComparator f)
-comparator_one Npm = either_one (never_made is_word_byte (marks_other Npm) (others_word Npm)) (marks_one Npm) (others_one Npm)
-comparator_one Normal = either_one (never_made is_word_byte (marks_other Normal) (others_word Normal)) (marks_one Normal) (others_one Normal)
-comparator_one Specifier = either_one (never_made is_word_byte (marks_other Specifier) (plainly_word Specifier)) (marks_one Specifier) (plainly_one Specifier)
+comparator_one Npm = either_one (never_made is_word_byte (operators_other Npm) (others_word Npm)) (operators_one Npm) (others_one Npm)
+comparator_one Normal = either_one (never_made is_word_byte (operators_other Normal) (others_word Normal)) (operators_one Normal) (others_one Normal)
+comparator_one Specifier = either_one (never_made is_word_byte (operators_other Specifier) (plainly_word Specifier)) (operators_one Specifier) (plainly_one Specifier)
 
 -- ---- the bytes with which comparators begin and continue
 
@@ -346,15 +346,15 @@ primitive_within f = record { texts = go }
   where
     go : (text : List ℕ) (c : Comparator) → IsOfPrimitive f text c → (p : Partial) × IsCore f text p
     go text c h =
-        let led : After IsPrimitiveKind (After IsBlanks (IsPartial f)) text h.value.1 = record { value = h.value; stands = h.stands; is = refl } in
-        (h.value.1, (after_core f primitive_kinds_lead (after_core f blanks_lead (partial_core f))).core text h.value.1 led)
+        let led : After IsPrimitiveKind (After IsWhitespace (IsPartial f)) text h.value.1 = record { value = h.value; stands = h.stands; is = refl } in
+        (h.value.1, (after_core f primitive_kinds_lead (after_core f whitespace_lead (partial_core f))).core text h.value.1 led)
 
 pub comparator_within : (f : Flavour) → Within (IsComparator f) (IsCore f)
 comparator_within Npm = either_within (either_within (mapped_core Npm tilde_core) (mapped_core Npm caret_core)) (either_within (primitive_within Npm) (mapped_core Npm (partial_core Npm)))
-comparator_within Normal = either_within (either_within (mapped_core Normal (marked_core Normal 126 refl (partial_core Normal))) (mapped_core Normal (marked_core Normal 94 refl (partial_core Normal)))) (either_within (primitive_within Normal) (mapped_core Normal (partial_core Normal)))
-comparator_within Specifier = either_within (either_within (mapped_core Specifier (marked_core Specifier 126 refl (partial_core Specifier))) (mapped_core Specifier (marked_core Specifier 94 refl (partial_core Specifier)))) (mapped_core Specifier (partial_core Specifier))
+comparator_within Normal = either_within (either_within (mapped_core Normal (operator_form_core Normal 126 refl (partial_core Normal))) (mapped_core Normal (operator_form_core Normal 94 refl (partial_core Normal)))) (either_within (primitive_within Normal) (mapped_core Normal (partial_core Normal)))
+comparator_within Specifier = either_within (either_within (mapped_core Specifier (operator_form_core Specifier 126 refl (partial_core Specifier))) (mapped_core Specifier (operator_form_core Specifier 94 refl (partial_core Specifier)))) (mapped_core Specifier (partial_core Specifier))
 
-pub comparator_goes : (f : Flavour) → GoesBy (IsComparator f) is_plain_byte
+pub comparator_goes : (f : Flavour) → GoesBy (IsComparator f) is_bare_byte
 comparator_goes f = goes_within (comparator_within f) (core_goes f)
 
 pub comparator_some : (f : Flavour) → NonEmpty (IsComparator f)
@@ -385,18 +385,18 @@ tildes_some = record { some = go }
     go v (this h) = cc h
     go v (that h) = cc h
 
-mark_start : {V : Type 0} {A : List ℕ → V → Type 0} (m : ℕ) → is_start_byte m ≡ true → BeginsBy (Prefixed m A) is_start_byte
-mark_start m h = record { begins = λ x b. rw b.stands.0 h }
+operator_start : {V : Type 0} {A : List ℕ → V → Type 0} (m : ℕ) → is_start_byte m ≡ true → BeginsBy (Prefixed m A) is_start_byte
+operator_start m h = record { begins = λ x b. rw b.stands.0 h }
 
-others_start : (f : Flavour) → BeginsBy (Either (IsOfPrimitive f) (IsPlain f)) is_start_byte
+others_start : (f : Flavour) → BeginsBy (Either (IsOfPrimitive f) (IsBare f)) is_start_byte
 others_start f = either_begins (mapped_begins (joined_begins primitive_kind_some primitive_kinds_start)) (mapped_begins (partial_start f))
 
-npm_marks_start : BeginsBy (Either IsNpmTilde IsNpmCaret) is_start_byte
-npm_marks_start = either_begins
+npm_operators_start : BeginsBy (Either IsNpmTilde IsNpmCaret) is_start_byte
+npm_operators_start = either_begins
     (mapped_begins (mapped_begins (joined_begins_either ignored_start (mapped_begins (joined_begins tildes_some tildes_begin)))))
-    (mapped_begins (mapped_begins (joined_begins_either ignored_start (mark_start 94 refl))))
+    (mapped_begins (mapped_begins (joined_begins_either ignored_start (operator_start 94 refl))))
 
 pub comparator_begins : (f : Flavour) → BeginsBy (IsComparator f) is_start_byte
-comparator_begins Npm = either_begins npm_marks_start (others_start Npm)
-comparator_begins Normal = either_begins (either_begins (mapped_begins (mark_start 126 refl)) (mapped_begins (mark_start 94 refl))) (others_start Normal)
-comparator_begins Specifier = either_begins (either_begins (mapped_begins (mark_start 126 refl)) (mapped_begins (mark_start 94 refl))) (mapped_begins (partial_start Specifier))
+comparator_begins Npm = either_begins npm_operators_start (others_start Npm)
+comparator_begins Normal = either_begins (either_begins (mapped_begins (operator_start 126 refl)) (mapped_begins (operator_start 94 refl))) (others_start Normal)
+comparator_begins Specifier = either_begins (either_begins (mapped_begins (operator_start 126 refl)) (mapped_begins (operator_start 94 refl))) (mapped_begins (partial_start Specifier))

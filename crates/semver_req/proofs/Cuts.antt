@@ -9,7 +9,7 @@ use Rattle.std.proofs.lemmas.Bool.Decides.{nat_tests}
 use Rattle.std.proofs.lemmas.List.{drop_at, nil_from_length, take-append-drop}
 use Rattle.std.proofs.lemmas.Str.{NoCharPasses-nil}
 use Rattle.semver_base.specs.Grammar.{IsLongest}
-use Rattle.semver_base.specs.Lexical.{IsBlanks}
+use Rattle.semver_base.specs.Lexical.{IsWhitespace}
 use Rattle.semver_req.specs.Pieces.{AreMorePieces, no_piece, last_piece, cut_piece, ArePieces, one_piece, first_cut, HasNoBar, IsCutAt, IsTrimmed}
 use Rattle.semver_req.specs.PieceSteps.{IsFirstPiece, IsNextPiece}
 use Rattle.semver_req.proofs.OneOutcome.{more_pieces_one}
@@ -42,7 +42,7 @@ unwrapped (Some p) other answer is = (ap (λ (q : Bor (List ℕ) × Bor (List �
 nothing_trimmed : IsTrimmed [] []
 nothing_trimmed = record { longest = record { front = []; text_is = refl; stands = NoCharPasses-nil is_not_whitespace; longest = go } }
   where
-    go : (a b : List ℕ) (w : Unit {0}) → [] ≡ a ++ b → IsBlanks a w → (length a ≤ 0) × (length a ≡ 0 → w ≡ tt)
+    go : (a b : List ℕ) (w : Unit {0}) → [] ≡ a ++ b → IsWhitespace a w → (length a ≤ 0) × (length a ≡ 0 → w ≡ tt)
     go a b w e h = (omega (arith, ap length e, length-append a b), λ _. refl)
 
 -- nothing has no further piece
@@ -55,15 +55,15 @@ first_of_cut c = λ pieces m. first_cut c m
 pub first_whole : {text : List ℕ} → HasNoBar text → IsFirstPiece text text false []
 first_whole {text} n = λ pieces m. subst (λ (others : List (List ℕ)). ArePieces text false (text ∷ others)) (none_of_nothing pieces m) (one_piece n)
 
-module _ {rest start : List ℕ} (blanks : IsLongest IsBlanks rest tt start) where
+module _ {rest start : List ℕ} (whitespace : IsLongest IsWhitespace rest tt start) where
   trimmed : IsTrimmed rest start
-  trimmed = record { longest = blanks }
+  trimmed = record { longest = whitespace }
 
   pub next_none : (length start == 0) ≡ true → AreMorePieces rest []
   next_none empty = let nil : start ≡ [] = nil_from_length start (grind (arith, nat_tests)) in no_piece (rw nil at trimmed)
 
   shorter : length start ≤ length rest
-  shorter = omega (arith, ap length blanks.text_is, length-append blanks.front start)
+  shorter = omega (arith, ap length whitespace.text_is, length-append whitespace.front start)
 
   next_cut : (piece more : List ℕ) → IsCutAt start piece more → IsNextPiece rest (Some (piece, more))
   next_cut piece more c = (λ pieces m. cut_piece trimmed c m, omega (arith, shorter, ap length c.text_is, length-append piece (124 ∷ 124 ∷ more)))

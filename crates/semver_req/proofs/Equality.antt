@@ -2,7 +2,7 @@
 use Rattle.std.proofs.Common.{◌≡◌, ℕ, List, Bool, ap}
 use Rattle.std.specs.Bool.{Decides}
 use Rattle.semver_base.specs.declared.range.VersionRangeSet.{VersionRangeSet}
-use Rattle.semver_base.proofs.Equality.{range_set_eq, range_set_told, text_eq, text_told, told_as}
+use Rattle.semver_base.proofs.Equality.{range_set_eq, range_set_reported, text_eq, text_reported, reported_as}
 use Rattle.semver_req.specs.contracts.range_set_or_tag.RangeSetOrTagPartialEq.TheImpl as inner_impl
 use Rattle.semver_req.specs.declared.range_set_or_tag.RangeSetOrTag.{RangeSetOrTag}
 use Rattle.semver_req.specs.declared.range_set_or_tag.RangeSetOrTag.TheVariants as inner
@@ -10,8 +10,8 @@ use Rattle.semver_req.specs.declared.range_set_or_tag.RangeSetOrTag.TheVariants 
 abbrev pub inner_eq : RangeSetOrTag → RangeSetOrTag → Bool
 inner_eq = (inner_impl.ghosts).eq
 
-pub inner_told : (x y : RangeSetOrTag) → Decides (inner_eq x y) (x ≡ y)
-inner_told (inner.RangeSet x) (inner.RangeSet y) = told_as (range_set_eq x y) (ap (λ (set : VersionRangeSet). inner.RangeSet set)) (λ e. cc e) (range_set_told x y)
-inner_told (inner.Tag x) (inner.Tag y) = told_as (text_eq x y) (ap (λ (text : List ℕ). inner.Tag text)) (λ e. cc e) (text_told x y)
-inner_told (inner.RangeSet x) (inner.Tag y) = (λ e. cc e, λ e. cc e)
-inner_told (inner.Tag x) (inner.RangeSet y) = (λ e. cc e, λ e. cc e)
+pub inner_reported : (x y : RangeSetOrTag) → Decides (inner_eq x y) (x ≡ y)
+inner_reported (inner.RangeSet x) (inner.RangeSet y) = reported_as (range_set_eq x y) (ap (λ (set : VersionRangeSet). inner.RangeSet set)) (λ e. cc e) (range_set_reported x y)
+inner_reported (inner.Tag x) (inner.Tag y) = reported_as (text_eq x y) (ap (λ (text : List ℕ). inner.Tag text)) (λ e. cc e) (text_reported x y)
+inner_reported (inner.RangeSet x) (inner.Tag y) = (λ e. cc e, λ e. cc e)
+inner_reported (inner.Tag x) (inner.RangeSet y) = (λ e. cc e, λ e. cc e)

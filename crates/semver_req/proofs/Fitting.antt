@@ -14,8 +14,8 @@ use Rattle.semver_base.specs.declared.partial.XRange.TheVariants.{Wildcard, Val}
 use Rattle.semver_req.specs.Comparators.{comparator_numbers, component_numbers, numbers}
 use Rattle.semver_req.specs.Partials.{component_fits, partial_fits}
 use Rattle.semver_req.specs.Written.{IsFront, comparator_of}
-use Rattle.semver_req.specs.declared.common.comparator.Mark.{Mark}
-use Rattle.semver_req.specs.declared.common.comparator.Mark.TheVariants as mark
+use Rattle.semver_req.specs.declared.common.comparator.Operator.{Operator}
+use Rattle.semver_req.specs.declared.common.comparator.Operator.TheVariants as operator
 
 component_all : (x : XRange) → all_fit (component_numbers x) ≡ component_fits x
 component_all Wildcard = refl
@@ -27,24 +27,24 @@ numbers_all p =
     ∙ (ap (λ b. b && all_fit (component_numbers p.patch)) (list_all-append number_fits (component_numbers p.major) (component_numbers p.minor))
     ∙ rw (component_all p.major, component_all p.minor, component_all p.patch) refl)
 
-pub comparator_all : (m : Mark) (p : Partial) → all_fit (comparator_numbers (comparator_of m p)) ≡ partial_fits p
-comparator_all mark.Tilde p = numbers_all p
-comparator_all mark.Caret p = numbers_all p
-comparator_all (mark.Primitive kind) p = numbers_all p
-comparator_all mark.Absent p = numbers_all p
+pub comparator_all : (m : Operator) (p : Partial) → all_fit (comparator_numbers (comparator_of m p)) ≡ partial_fits p
+comparator_all operator.Tilde p = numbers_all p
+comparator_all operator.Caret p = numbers_all p
+comparator_all (operator.Primitive kind) p = numbers_all p
+comparator_all operator.Absent p = numbers_all p
 
 -- a prefix whose numbers fit
-pub record FittingFront (R : List ℕ → Comparator → Type 0) (text : List ℕ) (m : Mark) (p : Partial) (rest : List ℕ) : Type 0 where
+pub record FittingFront (R : List ℕ → Comparator → Type 0) (text : List ℕ) (m : Operator) (p : Partial) (rest : List ℕ) : Type 0 where
   pub longest : IsLongest R text (comparator_of m p) rest
   pub numbers_fit : all_fit (comparator_numbers (comparator_of m p)) ≡ true
 
 -- a prefix of which some number doesn't fit
-pub record LargeFront (R : List ℕ → Comparator → Type 0) (text : List ℕ) (m : Mark) (p : Partial) (rest : List ℕ) : Type 0 where
+pub record LargeFront (R : List ℕ → Comparator → Type 0) (text : List ℕ) (m : Operator) (p : Partial) (rest : List ℕ) : Type 0 where
   pub longest : IsLongest R text (comparator_of m p) rest
   pub number_large : all_fit (comparator_numbers (comparator_of m p)) ≡ false
 
-module _ {R : List ℕ → Comparator → Type 0} {text rest : List ℕ} {m : Mark} where
-  pub fitting : {p : Partial} → IsFront R text (record { mark = m; partial = Fits p }) rest → FittingFront R text m p rest
+module _ {R : List ℕ → Comparator → Type 0} {text rest : List ℕ} {m : Operator} where
+  pub fitting : {p : Partial} → IsFront R text (record { operator = m; partial = Fits p }) rest → FittingFront R text m p rest
   fitting {p} f = elim (cases_Bool (partial_fits f.partial)) [
     | inl fit ↦
         let seen : Fits p ≡ Fits f.partial = f.seen ∙ rw fit refl in
@@ -53,7 +53,7 @@ module _ {R : List ℕ → Comparator → Type 0} {text rest : List ℕ} {m : Ma
     | inr over ↦ let seen : Fits p ≡ TooLarge = f.seen ∙ rw over refl in absurd (cc seen)
   ]
 
-  pub too_large : {answer : Measured Partial} → answer ≡ TooLarge → (f : IsFront R text (record { mark = m; partial = answer }) rest) → LargeFront R text m f.partial rest
+  pub too_large : {answer : Measured Partial} → answer ≡ TooLarge → (f : IsFront R text (record { operator = m; partial = answer }) rest) → LargeFront R text m f.partial rest
   too_large e f = elim (cases_Bool (partial_fits f.partial)) [
     | inl fit ↦ let seen : TooLarge ≡ Fits f.partial = sym e ∙ (f.seen ∙ rw fit refl) in absurd (cc seen)
     | inr over ↦ record { longest = f.longest; number_large = comparator_all m f.partial ∙ over }

@@ -7,7 +7,7 @@ use Rattle.std.specs.Prelude.{◌⊎◌, if◌then◌else◌, nat_lt}
 use Rattle.std.specs.declared.cmp.Ordering.{Ordering}
 use Rattle.std.specs.declared.cmp.Ordering.TheVariants.{Less, Equal, Greater}
 use Rattle.semver_base.specs.Clamp.{clamped, clamped_end, lesser_of, of_tied, HoldsNothing}
-use Rattle.semver_base.specs.Comparators.{Caret, Comparator, Hyphen, OfPrimitive, Plain, Tilde, comparator_range, primitive_line}
+use Rattle.semver_base.specs.Comparators.{Caret, Comparator, Hyphen, OfPrimitive, Bare, Tilde, comparator_range, primitive_line}
 use Rattle.semver_base.specs.Meaning.{alternative_means_with, alternatives, bounds_hold, everything, from, is_below, release, to_below, tree_means_with}
 use Rattle.semver_base.specs.Overlap.{ends_at_zero, is_exclusive}
 use Rattle.semver_base.specs.PartialTable.{above_by, at_least_by, up_to, at_most_by, below_by, between, caret_by, caret_patch, equal_by, greater_range_by, lower_to_below, version_with_pre, tilde_by, upper_by, without_build}
@@ -29,7 +29,7 @@ use Rattle.semver_base.proofs.ClampLemmas.{clamped_bounds, clamped_empty}
 use Rattle.semver_base.proofs.ClampMeaning.{clamped_means}
 use Rattle.semver_base.proofs.Orders.{and_false, and_first, and_true, le_less, le_turned, never_both}
 use Rattle.semver_base.proofs.OverlapLemmas.{ends_no_release}
-use Rattle.semver_req.specs.KeptSet.{KeptSetsMeanTheirTrees, folded, kept, kept_range}
+use Rattle.semver_req.specs.RetainedSet.{RetainedSetsMeanTheirTrees, folded, retained, retained_range}
 use Rattle.semver_req.specs.Outcome.{tree_ranges}
 use Rattle.semver_req.specs.declared.common.values.Flavour.TheVariants.{Npm, Normal, Specifier}
 
@@ -199,7 +199,7 @@ pub comparator_empty : (c : Comparator) → ends_at_zero (comparator_range c).en
 comparator_empty (Tilde p) h = not_at_zero (comparator_range (Tilde p)) (tilde_ends p p.major p.minor) h
 comparator_empty (Caret p) h = not_at_zero (comparator_range (Caret p)) (caret_ends p p.major p.minor p.patch) h
 comparator_empty (OfPrimitive primitive_kind p) h = primitive_empty primitive_kind p h
-comparator_empty (Plain p) h = not_at_zero (comparator_range (Plain p)) (equal_ends p p.major p.minor p.patch) h
+comparator_empty (Bare p) h = not_at_zero (comparator_range (Bare p)) (equal_ends p p.major p.minor p.patch) h
 comparator_empty (Hyphen p q) h = not_at_zero (comparator_range (Hyphen p q)) (upper_ends q q.major q.minor q.patch) h
 
 -- ---- the kept ranges
@@ -232,37 +232,37 @@ folded_empty : (comparators : List Comparator) → IsEmptyAtZero (folded (map co
 folded_empty comparators = folded_empty_from everything comparators (λ h. cc h)
 
 -- the range of an alternative that ends at 0.0.0 includes nothing
-pub kept_empty : (comparators : List Comparator) → ends_at_zero (kept_range comparators).end ≡ true → HoldsNothing (kept_range comparators)
-kept_empty (Hyphen p q ∷ []) = comparator_empty (Hyphen p q)
-kept_empty comparators = folded_empty comparators
+pub retained_empty : (comparators : List Comparator) → ends_at_zero (retained_range comparators).end ≡ true → HoldsNothing (retained_range comparators)
+retained_empty (Hyphen p q ∷ []) = comparator_empty (Hyphen p q)
+retained_empty comparators = folded_empty comparators
 
 -- the range of an alternative matches what the alternative matches
-pub kept_range_means : (flag : PreRelease) (comparators : List Comparator) (v : Version)
-    → alternative_means_with flag (kept_range comparators ∷ []) v ≡ alternative_means_with flag (map comparator_range comparators) v
-kept_range_means flag (Hyphen p q ∷ []) v = refl
-kept_range_means flag comparators v = folded_means flag (map comparator_range comparators) v
+pub retained_range_means : (flag : PreRelease) (comparators : List Comparator) (v : Version)
+    → alternative_means_with flag (retained_range comparators ∷ []) v ≡ alternative_means_with flag (map comparator_range comparators) v
+retained_range_means flag (Hyphen p q ∷ []) v = refl
+retained_range_means flag comparators v = folded_means flag (map comparator_range comparators) v
 
 pub nothing_means : (flag : PreRelease) (range : VersionRange) (v : Version) → HoldsNothing range → alternative_means_with flag (range ∷ []) v ≡ false
 nothing_means flag range v none = rw (none v) refl
 
 all_mean : (flag : PreRelease) (tree : List (List Comparator)) (v : Version)
-    → tree_means_with flag (alternatives (map kept_range tree)) v ≡ tree_means_with flag (tree_ranges tree) v
+    → tree_means_with flag (alternatives (map retained_range tree)) v ≡ tree_means_with flag (tree_ranges tree) v
 all_mean flag [] v = refl
-all_mean flag (comparators ∷ tree) v = ap₂ (λ (a b : Bool). a || b) (kept_range_means flag comparators v) (all_mean flag tree v)
+all_mean flag (comparators ∷ tree) v = ap₂ (λ (a b : Bool). a || b) (retained_range_means flag comparators v) (all_mean flag tree v)
 
 -- those that are dropped match nothing
 rest_means : (flag : PreRelease) (tree : List (List Comparator)) (v : Version)
-    → tree_means_with flag (alternatives (kept Normal tree)) v ≡ tree_means_with flag (tree_ranges tree) v
+    → tree_means_with flag (alternatives (retained Normal tree)) v ≡ tree_means_with flag (tree_ranges tree) v
 rest_means flag [] v = refl
-rest_means flag (comparators ∷ tree) v = go (ends_at_zero (kept_range comparators).end) refl (rest_means flag tree v)
+rest_means flag (comparators ∷ tree) v = go (ends_at_zero (retained_range comparators).end) refl (rest_means flag tree v)
   where
-    go : (b : Bool) → ends_at_zero (kept_range comparators).end ≡ b → tree_means_with flag (alternatives (kept Normal tree)) v ≡ tree_means_with flag (tree_ranges tree) v
-        → tree_means_with flag (alternatives (if not b then kept_range comparators ∷ kept Normal tree else kept Normal tree)) v ≡ tree_means_with flag (tree_ranges (comparators ∷ tree)) v
-    go true e same = rw (← kept_range_means flag comparators v, nothing_means flag (kept_range comparators) v (kept_empty comparators e)) same
-    go false e same = rw (kept_range_means flag comparators v, same) refl
+    go : (b : Bool) → ends_at_zero (retained_range comparators).end ≡ b → tree_means_with flag (alternatives (retained Normal tree)) v ≡ tree_means_with flag (tree_ranges tree) v
+        → tree_means_with flag (alternatives (if not b then retained_range comparators ∷ retained Normal tree else retained Normal tree)) v ≡ tree_means_with flag (tree_ranges (comparators ∷ tree)) v
+    go true e same = rw (← retained_range_means flag comparators v, nothing_means flag (retained_range comparators) v (retained_empty comparators e)) same
+    go false e same = rw (retained_range_means flag comparators v, same) refl
 
 -- what is kept of a tree matches what the tree matches
-pub kept_means : KeptSetsMeanTheirTrees
-kept_means Npm tree flag v = rest_means flag tree v
-kept_means Normal tree flag v = rest_means flag tree v
-kept_means Specifier tree flag v = all_mean flag tree v
+pub retained_means : RetainedSetsMeanTheirTrees
+retained_means Npm tree flag v = rest_means flag tree v
+retained_means Normal tree flag v = rest_means flag tree v
+retained_means Specifier tree flag v = all_mean flag tree v

@@ -9,19 +9,19 @@ use Rattle.std.specs.Prelude.{◌&&◌, if◌then◌else◌}
 use Rattle.semver_base.specs.Clamp.{clamped}
 use Rattle.semver_base.specs.Comparators.{Comparator, comparator_line, comparator_range}
 use Rattle.semver_base.specs.Meaning.{everything}
-use Rattle.semver_base.specs.PartialTable.{IsBoundRefusal, all_fit}
-use Rattle.semver_base.specs.declared.failure.Refusal.{Refusal}
-use Rattle.semver_base.specs.declared.failure.Refusal.TheVariants.{BoundTooLarge, NumberTooLarge}
+use Rattle.semver_base.specs.PartialTable.{IsBoundRejection, all_fit}
+use Rattle.semver_base.specs.declared.failure.Rejection.{Rejection}
+use Rattle.semver_base.specs.declared.failure.Rejection.TheVariants.{BoundTooLarge, NumberTooLarge}
 use Rattle.semver_base.specs.declared.lexical.values.Measured.TheVariants.{Fits, TooLarge}
 use Rattle.semver_base.specs.declared.partial.Partial.{Partial}
 use Rattle.semver_base.specs.declared.range.VersionRange.{VersionRange}
 use Rattle.semver_base.proofs.Orders.{and_false, and_true}
-use Rattle.semver_req.specs.KeptSet.{folded}
+use Rattle.semver_req.specs.RetainedSet.{folded}
 use Rattle.semver_req.specs.Partials.{partial_fits, sized_partial}
 use Rattle.semver_req.specs.PieceReading.{joined, numbers_fit, sums_fit}
-use Rattle.semver_req.specs.Readers.{Failure}
+use Rattle.semver_req.specs.Parsers.{Failure}
 use Rattle.semver_req.specs.Written.{comparator_of}
-use Rattle.semver_req.specs.declared.common.comparator.Mark.{Mark}
+use Rattle.semver_req.specs.declared.common.comparator.Operator.{Operator}
 use Rattle.semver_req.specs.declared.range_set_or_tag.pieces.RangeOrInvalid.{RangeOrInvalid}
 use Rattle.semver_req.specs.declared.range_set_or_tag.pieces.RangeOrInvalid.TheVariants as read
 use Rattle.semver_req.proofs.Fitting.{comparator_all}
@@ -47,11 +47,11 @@ module _ (cs : List Comparator) (c : Comparator) where
   with_number : numbers_fit c ≡ false → read.Invalid NumberTooLarge ≡ joined (cs ++ c ∷ [])
   with_number large = sym (joined_snoc cs c ∙ rw (large, and_false (list_all numbers_fit cs)) refl)
 
-  with_bad : (refusal : Refusal) → read.Invalid refusal ≡ joined cs → numbers_fit c ≡ true → read.Invalid refusal ≡ joined (cs ++ c ∷ [])
-  with_bad refusal is fits = sym (joined_snoc cs c ∙ go (list_all numbers_fit cs) (list_all sums_fit cs) (folded (map comparator_range cs)) is)
+  with_bad : (rejection : Rejection) → read.Invalid rejection ≡ joined cs → numbers_fit c ≡ true → read.Invalid rejection ≡ joined (cs ++ c ∷ [])
+  with_bad rejection is fits = sym (joined_snoc cs c ∙ go (list_all numbers_fit cs) (list_all sums_fit cs) (folded (map comparator_range cs)) is)
     where
-      go : (a b : Bool) (range : VersionRange) → read.Invalid refusal ≡ read_of a b range
-          → read_of (a && numbers_fit c) (b && sums_fit c) (clamped range (comparator_range c)) ≡ read.Invalid refusal
+      go : (a b : Bool) (range : VersionRange) → read.Invalid rejection ≡ read_of a b range
+          → read_of (a && numbers_fit c) (b && sums_fit c) (clamped range (comparator_range c)) ≡ read.Invalid rejection
       go true true range e = cc e
       go true false range e = rw fits (sym e)
       go false b range e = sym e
@@ -90,12 +90,12 @@ large_partial p e = elim (cases_Bool (partial_fits p)) [
   | inr over ↦ over
 ]
 
-module _ (m : Mark) (cs : List Comparator) (p : Partial) where
+module _ (m : Operator) (cs : List Comparator) (p : Partial) where
   pub and_number : TooLarge ≡ sized_partial p → read.Invalid NumberTooLarge ≡ joined (cs ++ comparator_of m p ∷ [])
   and_number seen = with_number cs (comparator_of m p) (comparator_all m p ∙ large_partial p seen)
 
-  pub and_bad : {q : Partial} {refusal : Refusal} → read.Invalid refusal ≡ joined cs → Fits q ≡ sized_partial p → read.Invalid refusal ≡ joined (cs ++ comparator_of m p ∷ [])
-  and_bad {refusal = refusal} is seen = with_bad cs (comparator_of m p) refusal is (comparator_all m p ∙ (fitting_partial p seen).1)
+  pub and_bad : {q : Partial} {rejection : Rejection} → read.Invalid rejection ≡ joined cs → Fits q ≡ sized_partial p → read.Invalid rejection ≡ joined (cs ++ comparator_of m p ∷ [])
+  and_bad {rejection = rejection} is seen = with_bad cs (comparator_of m p) rejection is (comparator_all m p ∙ (fitting_partial p seen).1)
 
   pub and_range : {q : Partial} {range next result : VersionRange} → read.Range range ≡ joined cs → Fits q ≡ sized_partial p
       → next ≡ comparator_range (comparator_of m q) → all_fit (comparator_line (comparator_of m q)).sums ≡ true → result ≡ clamped range next
@@ -105,8 +105,8 @@ module _ (m : Mark) (cs : List Comparator) (p : Partial) where
       with_range cs (comparator_of m p) range is (comparator_all m p ∙ both.1) result (rw both.0 sums) (clamp ∙ ap (clamped range) (value ∙ ap (λ (x : Partial). comparator_range (comparator_of m x)) (sym both.0)))
 
   pub and_bound : {q : Partial} {range : VersionRange} {failure : Failure} → read.Range range ≡ joined cs → Fits q ≡ sized_partial p
-      → IsBoundRefusal (comparator_line (comparator_of m q)).sums failure → (failure ≡ None → ⊥) → read.Invalid BoundTooLarge ≡ joined (cs ++ comparator_of m p ∷ [])
+      → IsBoundRejection (comparator_line (comparator_of m q)).sums failure → (failure ≡ None → ⊥) → read.Invalid BoundTooLarge ≡ joined (cs ++ comparator_of m p ∷ [])
   and_bound is seen (inl none) other = absurd (other none)
-  and_bound {range = range} is seen (inr refused) other =
+  and_bound {range = range} is seen (inr rejected) other =
       let both = fitting_partial p seen in
-      with_bound cs (comparator_of m p) range is (comparator_all m p ∙ both.1) (rw both.0 refused.1)
+      with_bound cs (comparator_of m p) range is (comparator_all m p ∙ both.1) (rw both.0 rejected.1)

@@ -6,59 +6,59 @@ use Rattle.std.proofs.lemmas.Bool.{or_left, or_right}
 use Rattle.std.proofs.lemmas.Bool.Decides.{nat_tests}
 use Rattle.std.proofs.lemmas.Str.{NoCharPasses-append, NoCharPasses-nil}
 use Rattle.semver_base.specs.Grammar.{After, Either, this, that, HasNone, IsLongest, Prefixed, Optional, ReadsAs}
-use Rattle.semver_base.specs.Lexical.{IsBlanks, IsByte}
+use Rattle.semver_base.specs.Lexical.{IsWhitespace, IsByte}
 use Rattle.semver_base.specs.declared.partial.Partial.{Partial}
-use Rattle.semver_base.proofs.Blanks.{blanks_made, is_blank_byte}
+use Rattle.semver_base.proofs.Whitespace.{whitespace_made, is_whitespace_byte}
 use Rattle.semver_base.proofs.Bytes.{BeginsBy, Disjoint, apart_by, begins_from_made, begins_wider, either_begins, goes_from_made, joined_begins_either, mapped_begins, prefixed_begins, none_by_byte}
 use Rattle.semver_base.proofs.Fronts.{Apart, either_none, either_that, either_this, followed, followed_none_second, mapped, mapped_none, prefixed_none, prefixed_other, prefixed_some, narrowed, narrowed_none}
 use Rattle.semver_base.proofs.Readings.{after_maps, after_of, after_parts}
 use Rattle.semver_req.specs.Comparators.{IsEquals, one_more, IsLed}
-use Rattle.semver_req.specs.Partials.{IsPartial, IsPlainPartial}
+use Rattle.semver_req.specs.Partials.{IsPartial, IsBarePartial}
 use Rattle.semver_req.specs.declared.common.values.Flavour.TheVariants.{Npm}
 use Rattle.semver_req.proofs.ComparatorReadings.{equals_made, is_primitive_kind_byte}
 use Rattle.semver_req.proofs.Components.{is_component_byte}
 use Rattle.semver_req.proofs.Partials.{no_v, partial_begins, partial_some}
-use Rattle.semver_req.proofs.PrimitiveKinds.{blanks_apart}
+use Rattle.semver_req.proofs.PrimitiveKinds.{whitespace_apart}
 
 -- after the whitespace: a `v`, optional whitespace and a partial version, which may have its own `v`, or a plain one
-abbrev pub IsAfterBlanks : List ℕ → Partial → Type 0
-IsAfterBlanks = Either (Prefixed 118 (After IsBlanks (IsPartial Npm))) (IsPlainPartial Npm)
+abbrev pub IsAfterWhitespace : List ℕ → Partial → Type 0
+IsAfterWhitespace = Either (Prefixed 118 (After IsWhitespace (IsPartial Npm))) (IsBarePartial Npm)
 
 abbrev pub IsOrderedLed : List ℕ → Partial → Type 0
-IsOrderedLed = After IsEquals (After IsBlanks IsAfterBlanks)
+IsOrderedLed = After IsEquals (After IsWhitespace IsAfterWhitespace)
 
 -- the same, as `IsLed` has it
 abbrev IsAfterMaybeV : List ℕ → Partial → Type 0
-IsAfterMaybeV = After (Optional (IsByte 118)) (After IsBlanks (IsPartial Npm))
+IsAfterMaybeV = After (Optional (IsByte 118)) (After IsWhitespace (IsPartial Npm))
 
-blanks_append : (a b : List ℕ) → IsBlanks a tt → IsBlanks b tt → IsBlanks (a ++ b) tt
-blanks_append a b h k = NoCharPasses-append is_not_whitespace a b h k
+whitespace_append : (a b : List ℕ) → IsWhitespace a tt → IsWhitespace b tt → IsWhitespace (a ++ b) tt
+whitespace_append a b h k = NoCharPasses-append is_not_whitespace a b h k
 
 -- a partial version, with its own `v` or without, doesn't begin with whitespace
-partial_after : (t : List ℕ) (p : Partial) → IsPartial Npm t p → IsAfterBlanks t p
+partial_after : (t : List ℕ) (p : Partial) → IsPartial Npm t p → IsAfterWhitespace t p
 partial_after [] p (this h) = absurd h
 partial_after (x ∷ t) p (this h) = this (h.0, after_of [] t tt p (NoCharPasses-nil is_not_whitespace) (that h.1))
 partial_after t p (that h) = that h
 
-to_ordered : (text : List ℕ) (p : Partial) → After IsBlanks IsAfterMaybeV text p → After IsBlanks IsAfterBlanks text p
+to_ordered : (text : List ℕ) (p : Partial) → After IsWhitespace IsAfterMaybeV text p → After IsWhitespace IsAfterWhitespace text p
 to_ordered text p h = go middle.2 middle.4
   where
-    outer : (a : List ℕ) × (b : List ℕ) × (v : Unit {0}) × (text ≡ a ++ b) × IsBlanks a v × IsAfterMaybeV b p
+    outer : (a : List ℕ) × (b : List ℕ) × (v : Unit {0}) × (text ≡ a ++ b) × IsWhitespace a v × IsAfterMaybeV b p
     outer = after_parts h
 
-    middle : (a : List ℕ) × (b : List ℕ) × (v : Option (Unit {0})) × (outer.1 ≡ a ++ b) × Optional (IsByte 118) a v × After IsBlanks (IsPartial Npm) b p
+    middle : (a : List ℕ) × (b : List ℕ) × (v : Option (Unit {0})) × (outer.1 ≡ a ++ b) × Optional (IsByte 118) a v × After IsWhitespace (IsPartial Npm) b p
     middle = after_parts outer.5
 
-    go : (o : Option (Unit {0})) → Optional (IsByte 118) middle.0 o → After IsBlanks IsAfterBlanks text p
+    go : (o : Option (Unit {0})) → Optional (IsByte 118) middle.0 o → After IsWhitespace IsAfterWhitespace text p
     go None nil =
         let inner = after_parts middle.5 in
         let whole : text ≡ (outer.0 ++ inner.0) ++ inner.1 = outer.3 ∙ (ap (λ t. outer.0 ++ t) (middle.3 ∙ (ap (λ t. t ++ middle.1) nil ∙ inner.3)) ∙ sym (append_assoc outer.0 inner.0 inner.1)) in
-        rw whole (after_of (outer.0 ++ inner.0) inner.1 tt p (blanks_append outer.0 inner.0 outer.4 inner.4) (partial_after inner.1 p inner.5))
+        rw whole (after_of (outer.0 ++ inner.0) inner.1 tt p (whitespace_append outer.0 inner.0 outer.4 inner.4) (partial_after inner.1 p inner.5))
     go (Some u) byte =
         let whole : text ≡ outer.0 ++ (118 ∷ middle.1) = outer.3 ∙ ap (λ t. outer.0 ++ t) (middle.3 ∙ ap (λ t. t ++ middle.1) byte) in
         rw whole (after_of outer.0 (118 ∷ middle.1) tt p outer.4 (this (refl, middle.5)))
 
-from_ordered : (t : List ℕ) (p : Partial) → IsAfterBlanks t p → IsAfterMaybeV t p
+from_ordered : (t : List ℕ) (p : Partial) → IsAfterWhitespace t p → IsAfterMaybeV t p
 from_ordered [] p (this k) = absurd k
 from_ordered (x ∷ t) p (this k) = after_of (x ∷ []) t (Some tt) p (ap (λ y. y ∷ []) k.0) k.1
 from_ordered t p (that k) = after_of [] t None p refl (after_of [] t tt p (NoCharPasses-nil is_not_whitespace) (that k))
@@ -81,30 +81,30 @@ led_none h = narrowed_none IsLed led_to h
 abbrev is_after_byte : ℕ → Bool
 is_after_byte x = (x == 118) || is_component_byte x
 
-after_begins : BeginsBy IsAfterBlanks is_after_byte
+after_begins : BeginsBy IsAfterWhitespace is_after_byte
 after_begins = either_begins
     (begins_wider (λ x. x == 118) is_after_byte (λ x h. or_left (x == 118) (is_component_byte x) h) (prefixed_begins 118))
     (begins_wider is_component_byte is_after_byte (λ x h. or_right (x == 118) (is_component_byte x) h) (partial_begins Npm))
 
-blank_no_after : Disjoint is_blank_byte is_after_byte
-blank_no_after x h k = grind (arith, nat_tests)
+whitespace_no_after : Disjoint is_whitespace_byte is_after_byte
+whitespace_no_after x h k = grind (arith, nat_tests)
 
-blanks_after : Apart IsBlanks IsAfterBlanks
-blanks_after = apart_by is_blank_byte is_after_byte blank_no_after (goes_from_made blanks_made) after_begins
+whitespace_after : Apart IsWhitespace IsAfterWhitespace
+whitespace_after = apart_by is_whitespace_byte is_after_byte whitespace_no_after (goes_from_made whitespace_made) after_begins
 
 abbrev is_led_byte : ℕ → Bool
-is_led_byte x = is_blank_byte x || is_after_byte x
+is_led_byte x = is_whitespace_byte x || is_after_byte x
 
 primitive_kind_no_led : Disjoint is_primitive_kind_byte is_led_byte
 primitive_kind_no_led x h k = grind (arith, nat_tests)
 
-blanks_led : BeginsBy (After IsBlanks IsAfterBlanks) is_led_byte
-blanks_led = mapped_begins (joined_begins_either
-    (begins_wider is_blank_byte is_led_byte (λ x h. or_left (is_blank_byte x) (is_after_byte x) h) (begins_from_made blanks_made))
-    (begins_wider is_after_byte is_led_byte (λ x h. or_right (is_blank_byte x) (is_after_byte x) h) after_begins))
+whitespace_led : BeginsBy (After IsWhitespace IsAfterWhitespace) is_led_byte
+whitespace_led = mapped_begins (joined_begins_either
+    (begins_wider is_whitespace_byte is_led_byte (λ x h. or_left (is_whitespace_byte x) (is_after_byte x) h) (begins_from_made whitespace_made))
+    (begins_wider is_after_byte is_led_byte (λ x h. or_right (is_whitespace_byte x) (is_after_byte x) h) after_begins))
 
-equals_led : Apart IsEquals (After IsBlanks IsAfterBlanks)
-equals_led = apart_by is_primitive_kind_byte is_led_byte primitive_kind_no_led (goes_from_made equals_made) blanks_led
+equals_led : Apart IsEquals (After IsWhitespace IsAfterWhitespace)
+equals_led = apart_by is_primitive_kind_byte is_led_byte primitive_kind_no_led (goes_from_made equals_made) whitespace_led
 
 -- the byte with which all of it begins
 abbrev pub is_ordered_byte : ℕ → Bool
@@ -117,28 +117,28 @@ equals_begin = record { begins = λ x b. go x b.more b.value b.stands }
     go x more v (one_more h) = refl
 
 ordered_begins : BeginsBy IsOrderedLed is_ordered_byte
-ordered_begins = mapped_begins (joined_begins_either equals_begin (begins_wider is_led_byte is_ordered_byte (λ x h. or_right (x == 61) (is_led_byte x) h) blanks_led))
+ordered_begins = mapped_begins (joined_begins_either equals_begin (begins_wider is_led_byte is_ordered_byte (λ x h. or_right (x == 61) (is_led_byte x) h) whitespace_led))
 
 pub led_begins : BeginsBy IsLed is_ordered_byte
 led_begins = record { begins = λ x b. ordered_begins.begins x (record { more = b.more; value = b.value; stands = led_to (x ∷ b.more) b.value b.stands }) }
 
 module _ {X : Type 0} (see : Partial → X) where
   -- a `v`, and the partial version after its whitespace
-  pub after_v : {text middle start : List ℕ} (r : Option (X × List ℕ)) → text ≡ 118 ∷ middle → IsLongest IsBlanks middle tt start → ReadsAs see (IsPartial Npm) start r → ReadsAs see IsAfterBlanks text r
+  pub after_v : {text middle start : List ℕ} (r : Option (X × List ℕ)) → text ≡ 118 ∷ middle → IsLongest IsWhitespace middle tt start → ReadsAs see (IsPartial Npm) start r → ReadsAs see IsAfterWhitespace text r
   after_v {text} {middle} {start} r e b p = go r p
     where
-      plain : HasNone (IsPlainPartial Npm) text
+      plain : HasNone (IsBarePartial Npm) text
       plain = none_by_byte (partial_some Npm) (partial_begins Npm) text (λ x t f k. no_v x (cc) k)
 
-      go : (r : Option (X × List ℕ)) → ReadsAs see (IsPartial Npm) start r → ReadsAs see IsAfterBlanks text r
-      go None h = either_none (prefixed_none e (mapped_none (followed_none_second (blanks_apart Npm) b h))) plain
-      go (Some q) h = record { value = h.value; longest = either_this (prefixed_some e (mapped (followed (blanks_apart Npm) b h.longest))) plain; seen = h.seen }
+      go : (r : Option (X × List ℕ)) → ReadsAs see (IsPartial Npm) start r → ReadsAs see IsAfterWhitespace text r
+      go None h = either_none (prefixed_none e (mapped_none (followed_none_second (whitespace_apart Npm) b h))) plain
+      go (Some q) h = record { value = h.value; longest = either_this (prefixed_some e (mapped (followed (whitespace_apart Npm) b h.longest))) plain; seen = h.seen }
 
   -- no `v`
-  pub after_no_v : {text : List ℕ} (r : Option (X × List ℕ)) → ((rest : List ℕ) → text ≡ 118 ∷ rest → ⊥) → ReadsAs see (IsPlainPartial Npm) text r → ReadsAs see IsAfterBlanks text r
+  pub after_no_v : {text : List ℕ} (r : Option (X × List ℕ)) → ((rest : List ℕ) → text ≡ 118 ∷ rest → ⊥) → ReadsAs see (IsBarePartial Npm) text r → ReadsAs see IsAfterWhitespace text r
   after_no_v None other h = either_none (prefixed_other other) h
   after_no_v (Some p) other h = record { value = h.value; longest = either_that (prefixed_other other) h.longest; seen = h.seen }
 
-  pub led_read : {text middle start : List ℕ} (r : Option (X × List ℕ)) → IsLongest IsEquals text tt middle → IsLongest IsBlanks middle tt start → ReadsAs see IsAfterBlanks start r → ReadsAs see IsLed text r
-  led_read None e b h = led_none (mapped_none (followed_none_second equals_led e (mapped_none (followed_none_second blanks_after b h))))
-  led_read (Some p) e b h = record { value = h.value; longest = led_longest (mapped (followed equals_led e (mapped (followed blanks_after b h.longest)))); seen = h.seen }
+  pub led_read : {text middle start : List ℕ} (r : Option (X × List ℕ)) → IsLongest IsEquals text tt middle → IsLongest IsWhitespace middle tt start → ReadsAs see IsAfterWhitespace start r → ReadsAs see IsLed text r
+  led_read None e b h = led_none (mapped_none (followed_none_second equals_led e (mapped_none (followed_none_second whitespace_after b h))))
+  led_read (Some p) e b h = record { value = h.value; longest = led_longest (mapped (followed equals_led e (mapped (followed whitespace_after b h.longest)))); seen = h.seen }

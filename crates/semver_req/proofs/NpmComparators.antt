@@ -8,25 +8,25 @@ use Rattle.std.proofs.lemmas.Bool.Decides.{nat_tests}
 use Rattle.std.proofs.lemmas.Str.{NoCharPasses-nil}
 use Rattle.semver_base.specs.Comparators.{Comparator, Tilde, Caret}
 use Rattle.semver_base.specs.Grammar.{After, Either, this, that, HasNone, IsAfter, IsLongest, Prefixed, ReadsAs}
-use Rattle.semver_base.specs.Lexical.{IsBlanks, IsSomeBlanks}
+use Rattle.semver_base.specs.Lexical.{IsWhitespace, IsSomeWhitespace}
 use Rattle.semver_base.specs.declared.lexical.values.Measured.{Measured}
 use Rattle.semver_base.specs.declared.partial.Partial.{Partial}
 use Rattle.semver_base.specs.declared.primitive.PrimitiveKind.{PrimitiveKind}
-use Rattle.semver_base.proofs.Blanks.{is_blank_byte}
+use Rattle.semver_base.proofs.Whitespace.{is_whitespace_byte}
 use Rattle.semver_base.proofs.Bytes.{BeginsBy, Disjoint, GoesBy, apart_by, begins_from_made, goes_from_made, joined_begins, joined_some_text, mapped_begins, prefixed_begins}
 use Rattle.semver_base.proofs.Fronts.{Apart, either_longer, either_none, either_that, either_this, followed, followed_none_second, joined_none_first, mapped, mapped_none, prefixed_none, prefixed_other, prefixed_some, optional_none, optional_some}
-use Rattle.semver_req.specs.Comparators.{IsComparator, IsEquals, IsIgnored, IsLed, IsNpmCaret, IsNpmTilde, IsOfPrimitive, IsPlain, IsPrimitiveKind, no_more, one_more}
+use Rattle.semver_req.specs.Comparators.{IsComparator, IsEquals, IsIgnored, IsLed, IsNpmCaret, IsNpmTilde, IsOfPrimitive, IsBare, IsPrimitiveKind, no_more, one_more}
 use Rattle.semver_req.specs.Partials.{IsPartial, sized_partial}
-use Rattle.semver_req.specs.Written.{IsNpmFront, IsNpmMarkCut, IsTildes, ReadsByMark, ReadsComparator, ReadsMarked, comparator_of, with_mark}
-use Rattle.semver_req.specs.declared.common.comparator.Mark.{Mark}
-use Rattle.semver_req.specs.declared.common.comparator.Mark.TheVariants as mark
+use Rattle.semver_req.specs.Written.{IsNpmFront, IsNpmOperatorCut, IsTildes, ReadsByOperator, ReadsComparator, ReadsOperatorForm, comparator_of, with_operator}
+use Rattle.semver_req.specs.declared.common.comparator.Operator.{Operator}
+use Rattle.semver_req.specs.declared.common.comparator.Operator.TheVariants as operator
 use Rattle.semver_req.specs.declared.common.comparator.Written.{Written}
 use Rattle.semver_req.specs.declared.common.values.Flavour.TheVariants.{Npm}
-use Rattle.semver_req.proofs.ComparatorReadings.{ignored_word, is_word_byte, primitive_kind_some, some_blanks_made, tildes_some}
+use Rattle.semver_req.proofs.ComparatorReadings.{ignored_word, is_word_byte, primitive_kind_some, some_whitespace_made, tildes_some}
 use Rattle.semver_req.proofs.LedReadings.{is_ordered_byte, led_begins}
-use Rattle.semver_req.proofs.Marks.{after_caret, after_tilde, caret_no_primitive_kind, no_plain, primitive_byte, tilde_no_primitive_kind}
+use Rattle.semver_req.proofs.Operators.{after_caret, after_tilde, caret_no_primitive_kind, no_bare, primitive_byte, tilde_no_primitive_kind}
 use Rattle.semver_req.proofs.Separators.{text_longest, text_none}
-use Rattle.semver_req.proofs.PrimitiveKinds.{blanks_apart, primitive_kind_apart, primitive_kind_goes, primitive_none}
+use Rattle.semver_req.proofs.PrimitiveKinds.{whitespace_apart, primitive_kind_apart, primitive_kind_goes, primitive_none}
 
 -- ---- any number of `=`
 
@@ -93,11 +93,11 @@ tildes_byte {text} {rest} p = go p.stands
 
 -- ---- an ignored operator, and an operator
 
-equal_no_blank : Disjoint (λ x. x == 61) is_blank_byte
-equal_no_blank x h k = grind (arith, nat_tests)
+equal_no_whitespace : Disjoint (λ x. x == 61) is_whitespace_byte
+equal_no_whitespace x h k = grind (arith, nat_tests)
 
-primitive_kind_blanks : Apart IsPrimitiveKind IsSomeBlanks
-primitive_kind_blanks = apart_by (λ x. x == 61) is_blank_byte equal_no_blank primitive_kind_goes (begins_from_made some_blanks_made)
+primitive_kind_whitespace : Apart IsPrimitiveKind IsSomeWhitespace
+primitive_kind_whitespace = apart_by (λ x. x == 61) is_whitespace_byte equal_no_whitespace primitive_kind_goes (begins_from_made some_whitespace_made)
 
 greater_no_led : Disjoint (λ x. x == 62) is_ordered_byte
 greater_no_led x h k = grind (arith, nat_tests)
@@ -142,50 +142,50 @@ tilde_no_caret e more f = omega (arith, ap (λ t. get_or t 0 0) (sym e ∙ f))
 -- ---- the comparator, by its operator
 
 -- the comparators with `~` or `^`, and those without
-abbrev IsNpmMarked : List ℕ → Comparator → Type 0
-IsNpmMarked = Either IsNpmTilde IsNpmCaret
+abbrev HasNpmOperator : List ℕ → Comparator → Type 0
+HasNpmOperator = Either IsNpmTilde IsNpmCaret
 
 abbrev IsNpmOther : List ℕ → Comparator → Type 0
-IsNpmOther = Either (IsOfPrimitive Npm) (IsPlain Npm)
+IsNpmOther = Either (IsOfPrimitive Npm) (IsBare Npm)
 
 -- if neither `~` nor `^` follows, the partial version after the operator m is parsed
-record ReadsOther (m : Mark) (text start : List ℕ) : Type 0 where
+record ReadsOther (m : Operator) (text start : List ℕ) : Type 0 where
   none : HasNone (IsPartial Npm) start → HasNone IsNpmOther text
   some : {p : Partial} {rest : List ℕ} → IsLongest (IsPartial Npm) start p rest → IsLongest IsNpmOther text (comparator_of m p) rest
 
-other_front : {m : Mark} {text start : List ℕ} → ReadsOther m text start → HasNone IsNpmMarked text → (r : Option (Written × List ℕ)) → ReadsMarked m (IsPartial Npm) start r → ReadsComparator (IsComparator Npm) text r
+other_front : {m : Operator} {text start : List ℕ} → ReadsOther m text start → HasNone HasNpmOperator text → (r : Option (Written × List ℕ)) → ReadsOperatorForm m (IsPartial Npm) start r → ReadsComparator (IsComparator Npm) text r
 other_front o n None h = either_none n (o.none h)
 other_front {m} o n (Some p) h = record { partial = h.1.value; longest = rw h.0 (either_that n (o.some h.1.longest)); seen = h.1.seen }
 
-module _ {text start : List ℕ} {o : Option (PrimitiveKind × Unit {0})} {other : Mark} (i : IsLongest IsIgnored text o start) (others : ReadsOther other text start) where
-  by_mark : (m : Mark) (rest : List ℕ) (r : Option (Written × List ℕ)) → IsNpmMarkCut start m rest → ReadsByMark m other rest r → ReadsComparator (IsComparator Npm) text r
-  by_mark mark.Tilde rest None t h =
+module _ {text start : List ℕ} {o : Option (PrimitiveKind × Unit {0})} {other : Operator} (i : IsLongest IsIgnored text o start) (others : ReadsOther other text start) where
+  by_operator : (m : Operator) (rest : List ℕ) (r : Option (Written × List ℕ)) → IsNpmOperatorCut start m rest → ReadsByOperator m other rest r → ReadsComparator (IsComparator Npm) text r
+  by_operator operator.Tilde rest None t h =
       let byte = tildes_byte t in
       either_none (either_none (tilde_unled i t h) (caret_none i (tilde_no_caret byte.1))) (others.none (after_tilde Npm byte.1))
-  by_mark mark.Tilde rest (Some p) t h =
+  by_operator operator.Tilde rest (Some p) t h =
       let byte = tildes_byte t in
       record { partial = h.1.value; longest = rw h.0 (either_this (either_this (tilde_some i t h.1.longest) (caret_none i (tilde_no_caret byte.1))) (others.none (after_tilde Npm byte.1))); seen = h.1.seen }
-  by_mark mark.Caret rest None e h = either_none (either_none (tilde_none i (λ more f. tilde_no_caret f rest e)) (caret_unled i e h)) (others.none (after_caret Npm e))
-  by_mark mark.Caret rest (Some p) e h =
+  by_operator operator.Caret rest None e h = either_none (either_none (tilde_none i (λ more f. tilde_no_caret f rest e)) (caret_unled i e h)) (others.none (after_caret Npm e))
+  by_operator operator.Caret rest (Some p) e h =
       record { partial = h.1.value; longest = rw h.0 (either_this (either_that (tilde_none i (λ more f. tilde_no_caret f rest e)) (caret_some i e h.1.longest)) (others.none (after_caret Npm e))); seen = h.1.seen }
-  by_mark (mark.Primitive kind) rest r t h = absurd t
-  by_mark mark.Absent rest r t h = other_front others (either_none (tilde_none i t.1) (caret_none i t.2)) r (rw t.0 at h)
+  by_operator (operator.Primitive kind) rest r t h = absurd t
+  by_operator operator.Absent rest r t h = other_front others (either_none (tilde_none i t.1) (caret_none i t.2)) r (rw t.0 at h)
 
   npm_front : {r : Option (Written × List ℕ)} → IsNpmFront other start r → ReadsComparator (IsComparator Npm) text r
-  npm_front {r} h = by_mark h.mark h.rest r h.cut h.reads
+  npm_front {r} h = by_operator h.operator h.rest r h.cut h.reads
 
 -- ---- a parsed partial version, with an operator
 
-pub marked_read : (m : Mark) (B : List ℕ → Partial → Type 0) (text : List ℕ) (r : Option (Measured Partial × List ℕ)) → ReadsAs sized_partial B text r → ReadsMarked m B text (with_mark m r)
-marked_read m B text None h = h
-marked_read m B text (Some p) h = (refl, h)
+pub operator_form_read : (m : Operator) (B : List ℕ → Partial → Type 0) (text : List ℕ) (r : Option (Measured Partial × List ℕ)) → ReadsAs sized_partial B text r → ReadsOperatorForm m B text (with_operator m r)
+operator_form_read m B text None h = h
+operator_form_read m B text (Some p) h = (refl, h)
 
 -- ---- no comparison operator
 
-pub non_primitive_npm : {text : List ℕ} (r : Option (Written × List ℕ)) → HasNone IsPrimitiveKind text → IsNpmFront mark.Absent text r → ReadsComparator (IsComparator Npm) text r
+pub non_primitive_npm : {text : List ℕ} (r : Option (Written × List ℕ)) → HasNone IsPrimitiveKind text → IsNpmFront operator.Absent text r → ReadsComparator (IsComparator Npm) text r
 non_primitive_npm {text} r n h = npm_front (optional_none (joined_none_first n)) others h
   where
-    others : ReadsOther mark.Absent text text
+    others : ReadsOther operator.Absent text text
     others = record {
       none = λ p. either_none (mapped_none (joined_none_first n)) (mapped_none p);
       some = λ p. either_that (mapped_none (joined_none_first n)) (mapped p);
@@ -193,35 +193,35 @@ non_primitive_npm {text} r n h = npm_front (optional_none (joined_none_first n))
 
 -- ---- a comparison operator, with optional whitespace after it
 
-blanks_of_some : {text rest : List ℕ} → IsLongest IsSomeBlanks text tt rest → IsLongest IsBlanks text tt rest
-blanks_of_some {text} p = record { front = p.front; text_is = p.text_is; stands = p.stands.1; longest = λ a b w e h. (go a b e h, λ _. refl) }
+whitespace_of_some : {text rest : List ℕ} → IsLongest IsSomeWhitespace text tt rest → IsLongest IsWhitespace text tt rest
+whitespace_of_some {text} p = record { front = p.front; text_is = p.text_is; stands = p.stands.1; longest = λ a b w e h. (go a b e h, λ _. refl) }
   where
-    go : (a b : List ℕ) → text ≡ a ++ b → IsBlanks a tt → length a ≤ length p.front
+    go : (a b : List ℕ) → text ≡ a ++ b → IsWhitespace a tt → length a ≤ length p.front
     go [] b e h = omega arith
     go (x ∷ a) b e h = (p.longest (x ∷ a) b tt e (omega arith, h)).0
 
-blanks_of_none : {text : List ℕ} → HasNone IsSomeBlanks text → IsLongest IsBlanks text tt text
-blanks_of_none {text} n = record { front = []; text_is = refl; stands = NoCharPasses-nil is_not_whitespace; longest = λ a b w e h. (go a b e h, λ _. refl) }
+whitespace_of_none : {text : List ℕ} → HasNone IsSomeWhitespace text → IsLongest IsWhitespace text tt text
+whitespace_of_none {text} n = record { front = []; text_is = refl; stands = NoCharPasses-nil is_not_whitespace; longest = λ a b w e h. (go a b e h, λ _. refl) }
   where
-    go : (a b : List ℕ) → text ≡ a ++ b → IsBlanks a tt → length a ≤ 0
+    go : (a b : List ℕ) → text ≡ a ++ b → IsWhitespace a tt → length a ≤ 0
     go [] b e h = omega arith
     go (x ∷ a) b e h = absurd (n.none (x ∷ a) b tt e (omega arith, h))
 
 module _ {text middle : List ℕ} {kind : PrimitiveKind} (s : IsLongest IsPrimitiveKind text kind middle) where
-  primitive_others : {start : List ℕ} → IsLongest IsBlanks middle tt start → ReadsOther (mark.Primitive kind) text start
+  primitive_others : {start : List ℕ} → IsLongest IsWhitespace middle tt start → ReadsOther (operator.Primitive kind) text start
   primitive_others b = record {
-    none = λ p. either_none (mapped_none (primitive_none Npm s b p)) (no_plain s Npm);
-    some = λ p. either_this (mapped (followed (primitive_kind_apart Npm) s (mapped (followed (blanks_apart Npm) b p)))) (no_plain s Npm);
+    none = λ p. either_none (mapped_none (primitive_none Npm s b p)) (no_bare s Npm);
+    some = λ p. either_this (mapped (followed (primitive_kind_apart Npm) s (mapped (followed (whitespace_apart Npm) b p)))) (no_bare s Npm);
   }
 
-  pub spaced_npm : {start : List ℕ} (r : Option (Written × List ℕ)) → IsLongest IsSomeBlanks middle tt start → IsNpmFront (mark.Primitive kind) start r → ReadsComparator (IsComparator Npm) text r
-  spaced_npm r b h = npm_front (optional_some (joined_some_text primitive_kind_some) (followed primitive_kind_blanks s b)) (primitive_others (blanks_of_some b)) h
+  pub spaced_npm : {start : List ℕ} (r : Option (Written × List ℕ)) → IsLongest IsSomeWhitespace middle tt start → IsNpmFront (operator.Primitive kind) start r → ReadsComparator (IsComparator Npm) text r
+  spaced_npm r b h = npm_front (optional_some (joined_some_text primitive_kind_some) (followed primitive_kind_whitespace s b)) (primitive_others (whitespace_of_some b)) h
 
-  pub unspaced_npm : (r : Option (Written × List ℕ)) → HasNone IsSomeBlanks middle → ReadsMarked (mark.Primitive kind) (IsPartial Npm) middle r → ReadsComparator (IsComparator Npm) text r
-  unspaced_npm r n h = other_front (primitive_others (blanks_of_none n)) unmarked r h
+  pub unspaced_npm : (r : Option (Written × List ℕ)) → HasNone IsSomeWhitespace middle → ReadsOperatorForm (operator.Primitive kind) (IsPartial Npm) middle r → ReadsComparator (IsComparator Npm) text r
+  unspaced_npm r n h = other_front (primitive_others (whitespace_of_none n)) unmarked r h
     where
       ignored : IsLongest IsIgnored text None text
-      ignored = optional_none (followed_none_second primitive_kind_blanks s n)
+      ignored = optional_none (followed_none_second primitive_kind_whitespace s n)
 
-      unmarked : HasNone IsNpmMarked text
+      unmarked : HasNone HasNpmOperator text
       unmarked = either_none (tilde_none ignored (λ r e. tilde_no_primitive_kind 126 refl (primitive_byte s 126 r e))) (caret_none ignored (λ r e. caret_no_primitive_kind 94 refl (primitive_byte s 94 r e)))

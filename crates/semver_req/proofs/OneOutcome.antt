@@ -5,11 +5,11 @@ use Rattle.semver_base.specs.Comparators.{Comparator}
 use Rattle.semver_base.specs.Grammar.{HasNone, IsLongest}
 use Rattle.semver_base.proofs.Fronts.{one_front, same_fronts}
 use Rattle.semver_req.specs.Comparators.{fits}
-use Rattle.semver_req.specs.Outcome.{AreGoodOnes, IsBad, IsCutOutcome, IsGood, IsSpecifierOutcome, IsSpecifierRange, IsTagOr, Outcome, Ranges, TextsHaveOneOutcome, bad, good, left_over, no_fit, no_front, no_tag, none_left, normal_many, normal_refused, npm_many, one_bad, one_good, tag, whole}
+use Rattle.semver_req.specs.Outcome.{AreGoodOnes, IsBad, IsCutOutcome, IsGood, IsSpecifierOutcome, IsSpecifierRange, IsTagOr, Outcome, Ranges, TextsHaveOneOutcome, bad, good, left_over, no_fit, no_front, no_tag, none_left, normal_many, normal_rejected, npm_many, one_bad, one_good, tag, whole}
 use Rattle.semver_req.specs.Pieces.{AreMorePieces, no_piece, last_piece, cut_piece, ArePieces, one_piece, first_cut, HasNoBar, IsCutAt, IsTrimmed}
 use Rattle.semver_req.specs.declared.common.values.Flavour.{Flavour}
 use Rattle.semver_req.specs.declared.common.values.Flavour.TheVariants.{Npm, Normal, Specifier}
-use Rattle.semver_req.proofs.PieceReadings.{blank_piece, piece_one}
+use Rattle.semver_req.proofs.PieceReadings.{whitespace_piece, piece_one}
 
 -- ---- how a text is split
 
@@ -58,8 +58,8 @@ pieces_one (first_cut {piece = p} {rest = a} {pieces = vs} c m) (first_cut {piec
 
 good_one : (f : Flavour) (b : Bool) (piece : List ℕ) (cs ds : List Comparator) → IsGood f b piece cs → IsGood f b piece ds → cs ≡ ds
 good_one f b piece cs ds (inl h) (inl k) = (piece_one f).one piece cs ds h.0 k.0
-good_one f b piece cs ds (inl h) (inr k) = blank_piece f piece cs h.0 k.1 ∙ sym k.2
-good_one f b piece cs ds (inr h) (inl k) = h.2 ∙ sym (blank_piece f piece ds k.0 h.1)
+good_one f b piece cs ds (inl h) (inr k) = whitespace_piece f piece cs h.0 k.1 ∙ sym k.2
+good_one f b piece cs ds (inr h) (inl k) = h.2 ∙ sym (whitespace_piece f piece ds k.0 h.1)
 good_one f b piece cs ds (inr h) (inr k) = h.2 ∙ sym k.2
 
 good_ones_one : {f : Flavour} {b : Bool} {ps : List (List ℕ)} {t u : List (List Comparator)} → AreGoodOnes f b ps t → AreGoodOnes f b ps u → t ≡ u
@@ -105,23 +105,23 @@ cut_one_outcome (one_good {f} {piece = p} {b} {cs} h g) (one_good {piece = q} {b
 cut_one_outcome (one_good {f} h g) (one_bad k n t) = good_or_bad f h k g n
 cut_one_outcome (one_good h g) (npm_many k m) = one_or_many h k
 cut_one_outcome (one_good h g) (normal_many k m all) = one_or_many h k
-cut_one_outcome (one_good h g) (normal_refused k m less) = one_or_many h k
+cut_one_outcome (one_good h g) (normal_rejected k m less) = one_or_many h k
 cut_one_outcome (one_bad {f} h n t) (one_good k g) = good_or_bad f k h g n
 cut_one_outcome (one_bad h n t) (one_bad k m u) = tag_one (single h k).1 t u
 cut_one_outcome (one_bad h n t) (npm_many k m) = one_or_many h k
 cut_one_outcome (one_bad h n t) (normal_many k m all) = one_or_many h k
-cut_one_outcome (one_bad h n t) (normal_refused k m less) = one_or_many h k
+cut_one_outcome (one_bad h n t) (normal_rejected k m less) = one_or_many h k
 cut_one_outcome (npm_many h m) (one_good k g) = one_or_many k h
 cut_one_outcome (npm_many h m) (one_bad k n t) = one_or_many k h
 cut_one_outcome (npm_many h m) (npm_many k n) = ap Ranges (many_one h k m n).0
 cut_one_outcome (normal_many h m all) (one_good k g) = one_or_many k h
 cut_one_outcome (normal_many h m all) (one_bad k n t) = one_or_many k h
 cut_one_outcome (normal_many h m all) (normal_many k n every) = ap Ranges (many_one h k m n).0
-cut_one_outcome (normal_many h m all) (normal_refused k n less) = all_or_not h k m n all less
-cut_one_outcome (normal_refused h m less) (one_good k g) = one_or_many k h
-cut_one_outcome (normal_refused h m less) (one_bad k n t) = one_or_many k h
-cut_one_outcome (normal_refused h m less) (normal_many k n all) = all_or_not k h n m all less
-cut_one_outcome (normal_refused h m less) (normal_refused k n fewer) = refl
+cut_one_outcome (normal_many h m all) (normal_rejected k n less) = all_or_not h k m n all less
+cut_one_outcome (normal_rejected h m less) (one_good k g) = one_or_many k h
+cut_one_outcome (normal_rejected h m less) (one_bad k n t) = one_or_many k h
+cut_one_outcome (normal_rejected h m less) (normal_many k n all) = all_or_not k h n m all less
+cut_one_outcome (normal_rejected h m less) (normal_rejected k n fewer) = refl
 
 -- ---- outcomes of the strict parser
 

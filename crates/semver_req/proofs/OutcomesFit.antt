@@ -4,7 +4,7 @@ use Rattle.std.specs.List.{list_all}
 use Rattle.semver_base.specs.Comparators.{Comparator}
 use Rattle.semver_base.proofs.Orders.{and_both}
 use Rattle.semver_req.specs.Comparators.{fits}
-use Rattle.semver_req.specs.Outcome.{AreGoodOnes, IsCutOutcome, IsGood, IsOutcome, IsSpecifierOutcome, IsTagOr, Outcome, Ranges, Refused, Tag, bad, good, left_over, no_fit, no_front, no_tag, none_left, normal_many, normal_refused, npm_many, one_bad, one_good, tag, whole}
+use Rattle.semver_req.specs.Outcome.{AreGoodOnes, IsCutOutcome, IsGood, IsOutcome, IsSpecifierOutcome, IsTagOr, Outcome, Ranges, Rejected, Tag, bad, good, left_over, no_fit, no_front, no_tag, none_left, normal_many, normal_rejected, npm_many, one_bad, one_good, tag, whole}
 use Rattle.semver_req.specs.declared.common.values.Flavour.{Flavour}
 use Rattle.semver_req.specs.declared.common.values.Flavour.TheVariants.{Npm, Normal, Specifier}
 use Rattle.semver_req.proofs.WritableRanges.{all_trees_fit}
@@ -21,7 +21,7 @@ good_ones_fit (bad g more) = good_ones_fit more
 abbrev Fits : Outcome → Type 0
 Fits (Ranges tree) = all_trees_fit tree ≡ true
 Fits (Tag text) = Unit {0}
-Fits Refused = Unit {0}
+Fits Rejected = Unit {0}
 
 tag_or_fits : {text : List ℕ} {o : Outcome} → IsTagOr text o → Fits o
 tag_or_fits (tag e) = tt
@@ -32,7 +32,7 @@ cut_outcome_fits (one_good pieces g) = and_both _ _ (good_fits _ _ _ g) refl
 cut_outcome_fits (one_bad pieces g t) = tag_or_fits t
 cut_outcome_fits (npm_many pieces g) = good_ones_fit g
 cut_outcome_fits (normal_many pieces g all) = good_ones_fit g
-cut_outcome_fits (normal_refused pieces g some) = tt
+cut_outcome_fits (normal_rejected pieces g some) = tt
 
 specifier_outcome_fits : {text : List ℕ} {o : Outcome} → IsSpecifierOutcome text o → Fits o
 specifier_outcome_fits (whole s fit) = and_both _ _ (and_both _ _ fit refl) refl

@@ -3,24 +3,24 @@ use Rattle.std.proofs.Common.{ℕ, List, [], ◌∷◌, Bool, true, Option, Some
 use Rattle.std.specs.List.{list_all}
 use Rattle.semver_base.specs.Comparators.{Comparator}
 use Rattle.semver_base.specs.Grammar.{After, Before, Listed, Optional, Prefixed, closed_item, last_item, more_items, that, this}
-use Rattle.semver_base.specs.Lexical.{IsBlanks, IsSomeBlanks}
+use Rattle.semver_base.specs.Lexical.{IsWhitespace, IsSomeWhitespace}
 use Rattle.semver_base.specs.NormalText.{AreWritableRanges, IsWritableRange}
 use Rattle.semver_base.specs.declared.lexical.values.Qualifier.{Qualifier}
 use Rattle.semver_base.specs.declared.partial.Partial.{Partial}
 use Rattle.semver_base.specs.declared.partial.XRange.{XRange}
 use Rattle.semver_base.specs.declared.range.VersionRange.{VersionRange}
 use Rattle.semver_base.proofs.ReadVersions.{by_after, by_mapped, by_prefixed, qualifier_has}
-use Rattle.semver_req.specs.Comparators.{fits, IsComparator, IsLed, IsMarked, IsOfPrimitive, IsPlain}
-use Rattle.semver_req.specs.KeptSet.{kept}
-use Rattle.semver_req.specs.Outcome.{AreGoodOnes, IsCutOutcome, IsGood, IsOutcome, IsSpecifierOutcome, IsTagOr, Outcome, Ranges, Refused, Tag, bad, good, left_over, no_fit, no_front, no_tag, none_left, normal_many, normal_refused, npm_many, one_bad, one_good, tag, whole}
-use Rattle.semver_req.specs.Partials.{IsPartial, IsPlainPartial, IsSecond, IsThird, partial_of, strictness_of}
+use Rattle.semver_req.specs.Comparators.{fits, IsComparator, IsLed, HasOperator, IsOfPrimitive, IsBare}
+use Rattle.semver_req.specs.RetainedSet.{retained}
+use Rattle.semver_req.specs.Outcome.{AreGoodOnes, IsCutOutcome, IsGood, IsOutcome, IsSpecifierOutcome, IsTagOr, Outcome, Ranges, Rejected, Tag, bad, good, left_over, no_fit, no_front, no_tag, none_left, normal_many, normal_rejected, npm_many, one_bad, one_good, tag, whole}
+use Rattle.semver_req.specs.Partials.{IsPartial, IsBarePartial, IsSecond, IsThird, partial_of, strictness_of}
 use Rattle.semver_req.specs.PieceReading.{IsPieceRead}
 use Rattle.semver_req.specs.Pieces.{IsFilled, IsHyphen, IsNpmSeparator, IsPiece}
 use Rattle.semver_req.specs.declared.common.values.Flavour.{Flavour}
 use Rattle.semver_req.specs.declared.common.values.Flavour.TheVariants.{Normal, Npm, Specifier}
 use Rattle.semver_req.specs.declared.range_set_or_tag.pieces.RangeOrInvalid.TheVariants as read
 use Rattle.semver_req.proofs.OutcomesFit.{outcome_fits}
-use Rattle.semver_req.proofs.WritableRanges.{AllHaveIdentifiers, ComparatorHasIdentifiers, PartialHasIdentifiers, TreeHasIdentifiers, kept_range_writable, kept_writable}
+use Rattle.semver_req.proofs.WritableRanges.{AllHaveIdentifiers, ComparatorHasIdentifiers, PartialHasIdentifiers, TreeHasIdentifiers, retained_range_writable, retained_writable}
 
 -- ---- partial versions
 
@@ -34,26 +34,26 @@ second_has f m text None h = (tt, tt)
 second_has f m [] (Some v) h = absurd h
 second_has f m (b ∷ rest) (Some (n, o)) h = third_has f m n h.1.second o h.1.in_second
 
-plain_has : (f : Flavour) (text : List ℕ) (p : Partial) → IsPlainPartial f text p → PartialHasIdentifiers p
-plain_has f text p h = by_mapped PartialHasIdentifiers (λ t v k. second_has f v.0 k.second v.1 k.in_second) h
+bare_has : (f : Flavour) (text : List ℕ) (p : Partial) → IsBarePartial f text p → PartialHasIdentifiers p
+bare_has f text p h = by_mapped PartialHasIdentifiers (λ t v k. second_has f v.0 k.second v.1 k.in_second) h
 
 partial_has : (f : Flavour) (text : List ℕ) (p : Partial) → IsPartial f text p → PartialHasIdentifiers p
-partial_has Npm text p (this h) = by_prefixed 118 (IsPlainPartial Npm) PartialHasIdentifiers (plain_has Npm) text p h
-partial_has Npm text p (that h) = plain_has Npm text p h
-partial_has Normal text p h = plain_has Normal text p h
-partial_has Specifier text p h = plain_has Specifier text p h
+partial_has Npm text p (this h) = by_prefixed 118 (IsBarePartial Npm) PartialHasIdentifiers (bare_has Npm) text p h
+partial_has Npm text p (that h) = bare_has Npm text p h
+partial_has Normal text p h = bare_has Normal text p h
+partial_has Specifier text p h = bare_has Specifier text p h
 
 -- ---- comparators
 
 primitive_has : (f : Flavour) (text : List ℕ) (c : Comparator) → IsOfPrimitive f text c → ComparatorHasIdentifiers c
 primitive_has f text c h = by_mapped ComparatorHasIdentifiers (λ t v k. by_after PartialHasIdentifiers (partial_has f) k.in_second) h
 
-plain_comparator_has : (f : Flavour) (text : List ℕ) (c : Comparator) → IsPlain f text c → ComparatorHasIdentifiers c
-plain_comparator_has f text c h = by_mapped ComparatorHasIdentifiers (partial_has f) h
+bare_comparator_has : (f : Flavour) (text : List ℕ) (c : Comparator) → IsBare f text c → ComparatorHasIdentifiers c
+bare_comparator_has f text c h = by_mapped ComparatorHasIdentifiers (partial_has f) h
 
-marked_has : (f : Flavour) (text : List ℕ) (c : Comparator) → IsMarked f text c → ComparatorHasIdentifiers c
-marked_has f text c (this h) = by_mapped ComparatorHasIdentifiers (by_prefixed 126 (IsPartial f) PartialHasIdentifiers (partial_has f)) h
-marked_has f text c (that h) = by_mapped ComparatorHasIdentifiers (by_prefixed 94 (IsPartial f) PartialHasIdentifiers (partial_has f)) h
+operator_form_has : (f : Flavour) (text : List ℕ) (c : Comparator) → HasOperator f text c → ComparatorHasIdentifiers c
+operator_form_has f text c (this h) = by_mapped ComparatorHasIdentifiers (by_prefixed 126 (IsPartial f) PartialHasIdentifiers (partial_has f)) h
+operator_form_has f text c (that h) = by_mapped ComparatorHasIdentifiers (by_prefixed 94 (IsPartial f) PartialHasIdentifiers (partial_has f)) h
 
 led_has : (text : List ℕ) (p : Partial) → IsLed text p → PartialHasIdentifiers p
 led_has text p h = by_after PartialHasIdentifiers (λ t v k. by_after PartialHasIdentifiers (λ t v k. by_after PartialHasIdentifiers (λ t v k. by_after PartialHasIdentifiers (partial_has Npm) k) k) k) h
@@ -62,12 +62,12 @@ comparator_has : (f : Flavour) (text : List ℕ) (c : Comparator) → IsComparat
 comparator_has Npm text c (this (this h)) = by_mapped ComparatorHasIdentifiers (λ t v k. by_after PartialHasIdentifiers (λ t v k. by_after PartialHasIdentifiers led_has k) k) h
 comparator_has Npm text c (this (that h)) = by_mapped ComparatorHasIdentifiers (λ t v k. by_after PartialHasIdentifiers (λ t v k. by_prefixed 94 IsLed PartialHasIdentifiers led_has t v k) k) h
 comparator_has Npm text c (that (this h)) = primitive_has Npm text c h
-comparator_has Npm text c (that (that h)) = plain_comparator_has Npm text c h
-comparator_has Normal text c (this h) = marked_has Normal text c h
+comparator_has Npm text c (that (that h)) = bare_comparator_has Npm text c h
+comparator_has Normal text c (this h) = operator_form_has Normal text c h
 comparator_has Normal text c (that (this h)) = primitive_has Normal text c h
-comparator_has Normal text c (that (that h)) = plain_comparator_has Normal text c h
-comparator_has Specifier text c (this h) = marked_has Specifier text c h
-comparator_has Specifier text c (that h) = plain_comparator_has Specifier text c h
+comparator_has Normal text c (that (that h)) = bare_comparator_has Normal text c h
+comparator_has Specifier text c (this h) = operator_form_has Specifier text c h
+comparator_has Specifier text c (that h) = bare_comparator_has Specifier text c h
 
 -- ---- pieces
 
@@ -79,16 +79,16 @@ listed_have f S (more_items a s more) = (comparator_has f _ _ a, listed_have f S
 hyphen_has : (text : List ℕ) (cs : List Comparator) → IsHyphen text cs → AllHaveIdentifiers cs
 hyphen_has text cs h = by_mapped AllHaveIdentifiers (λ t v k. ((partial_has Npm k.first v.0 k.in_first, second k.second v.1 k.in_second), tt)) h
   where
-    before : (t : List ℕ) (p : Partial) → Before (IsPartial Npm) IsBlanks t p → PartialHasIdentifiers p
+    before : (t : List ℕ) (p : Partial) → Before (IsPartial Npm) IsWhitespace t p → PartialHasIdentifiers p
     before t p k = by_mapped PartialHasIdentifiers (λ t v k. partial_has Npm k.first v.0 k.in_first) k
 
-    second : (t : List ℕ) (p : Partial) → After IsSomeBlanks (Prefixed 45 (After IsSomeBlanks (Before (IsPartial Npm) IsBlanks))) t p → PartialHasIdentifiers p
-    second t p k = by_after PartialHasIdentifiers (λ t v k. by_prefixed 45 (After IsSomeBlanks (Before (IsPartial Npm) IsBlanks)) PartialHasIdentifiers (λ t v k. by_after PartialHasIdentifiers before k) t v k) k
+    second : (t : List ℕ) (p : Partial) → After IsSomeWhitespace (Prefixed 45 (After IsSomeWhitespace (Before (IsPartial Npm) IsWhitespace))) t p → PartialHasIdentifiers p
+    second t p k = by_after PartialHasIdentifiers (λ t v k. by_prefixed 45 (After IsSomeWhitespace (Before (IsPartial Npm) IsWhitespace)) PartialHasIdentifiers (λ t v k. by_after PartialHasIdentifiers before k) t v k) k
 
 filled_have : (f : Flavour) (text : List ℕ) (cs : List Comparator) → IsFilled f text cs → AllHaveIdentifiers cs
 filled_have Npm text cs (this h) = hyphen_has text cs h
 filled_have Npm text cs (that h) = listed_have Npm IsNpmSeparator h
-filled_have Normal text cs h = listed_have Normal IsSomeBlanks h
+filled_have Normal text cs h = listed_have Normal IsSomeWhitespace h
 filled_have Specifier text cs h = absurd h
 
 piece_has : (f : Flavour) (text : List ℕ) (cs : List Comparator) → IsPiece f text cs → AllHaveIdentifiers cs
@@ -109,7 +109,7 @@ good_ones_have (bad g more) = good_ones_have more
 abbrev OutcomeHas : Outcome → Type 0
 OutcomeHas (Ranges tree) = TreeHasIdentifiers tree
 OutcomeHas (Tag text) = Unit {0}
-OutcomeHas Refused = Unit {0}
+OutcomeHas Rejected = Unit {0}
 
 tag_or_has : {text : List ℕ} {o : Outcome} → IsTagOr text o → OutcomeHas o
 tag_or_has (tag e) = tt
@@ -120,7 +120,7 @@ cut_outcome_has (one_good pieces g) = (good_has _ _ _ _ g, tt)
 cut_outcome_has (one_bad pieces g t) = tag_or_has t
 cut_outcome_has (npm_many pieces g) = good_ones_have g
 cut_outcome_has (normal_many pieces g every) = good_ones_have g
-cut_outcome_has (normal_refused pieces g some) = tt
+cut_outcome_has (normal_rejected pieces g some) = tt
 
 specifier_outcome_has : {text : List ℕ} {o : Outcome} → IsSpecifierOutcome text o → OutcomeHas o
 specifier_outcome_has (whole {c = c} s fit) = ((comparator_has Specifier _ c s.stands, tt), tt)
@@ -134,12 +134,12 @@ outcome_has Normal text tree o = cut_outcome_has o
 outcome_has Specifier text tree o = specifier_outcome_has o
 
 -- what a parser keeps has a text that parses back
-pub outcome_writable : (f : Flavour) (text : List ℕ) (tree : List (List Comparator)) → IsOutcome f text (Ranges tree) → AreWritableRanges (kept f tree)
-outcome_writable f text tree o = kept_writable f tree (outcome_fits f text tree o) (outcome_has f text tree o)
+pub outcome_writable : (f : Flavour) (text : List ℕ) (tree : List (List Comparator)) → IsOutcome f text (Ranges tree) → AreWritableRanges (retained f tree)
+outcome_writable f text tree o = retained_writable f tree (outcome_fits f text tree o) (outcome_has f text tree o)
 
 -- so has the range of a piece
 pub piece_writable : (f : Flavour) (b : Bool) (piece : List ℕ) (range : VersionRange) → IsPieceRead f b piece (read.Range range) → IsWritableRange range
-piece_writable f b piece range h = subst IsWritableRange (sym h.2) (kept_range_writable h.0 (good_fits h.1) (good_has f b piece h.0 h.1))
+piece_writable f b piece range h = subst IsWritableRange (sym h.2) (retained_range_writable h.0 (good_fits h.1) (good_has f b piece h.0 h.1))
   where
     good_fits : IsGood f b piece h.0 → list_all fits h.0 ≡ true
     good_fits (inl g) = g.1

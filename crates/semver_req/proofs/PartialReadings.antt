@@ -11,7 +11,7 @@ use Rattle.semver_base.proofs.Bytes.{Disjoint, MadeOf, joined_made, made_wider, 
 use Rattle.semver_base.proofs.Numbers.{loose_begins, loose_some}
 use Rattle.semver_base.proofs.Readings.{Unambiguous, either_one, followed_one, joined_one, mapped_one, prefixed_one, never_by, optional_one}
 use Rattle.semver_base.proofs.WordReadings.{is_qualifier_byte, number_made, number_one, qualifier_made, qualifier_one}
-use Rattle.semver_req.specs.Partials.{IsComponent, IsPartial, IsPlainPartial, IsSecond, IsThird, strictness_of}
+use Rattle.semver_req.specs.Partials.{IsComponent, IsPartial, IsBarePartial, IsSecond, IsThird, strictness_of}
 use Rattle.semver_req.specs.declared.common.values.Flavour.{Flavour}
 use Rattle.semver_req.specs.declared.common.values.Flavour.TheVariants.{Npm, Normal, Specifier}
 use Rattle.semver_req.proofs.Components.{component_clash, is_component_byte, is_loose, wildcard_no_digit, wildcard_wider}
@@ -50,36 +50,36 @@ third_one f = prefixed_one 46 (joined_one (component_clash f) (component_one f) 
 second_one : (f : Flavour) → Unambiguous (IsSecond f)
 second_one f = prefixed_one 46 (followed_one (component_dot_apart f) (component_one f) (optional_one (prefixed_some_text 46) (third_one f)))
 
-pub plain_one : (f : Flavour) → Unambiguous (IsPlainPartial f)
-plain_one f = mapped_one (followed_one (component_dot_apart f) (component_one f) (optional_one (prefixed_some_text 46) (second_one f)))
+pub bare_one : (f : Flavour) → Unambiguous (IsBarePartial f)
+bare_one f = mapped_one (followed_one (component_dot_apart f) (component_one f) (optional_one (prefixed_some_text 46) (second_one f)))
 
 v_no_component : Disjoint (λ x. x == 118) is_component_byte
 v_no_component x h k = grind (arith, nat_tests)
 
 pub partial_one : (f : Flavour) → Unambiguous (IsPartial f)
-partial_one Npm = either_one (never_by (λ x. x == 118) is_component_byte v_no_component (prefixed_some_text 118) (prefixed_begins 118) (partial_begins Npm)) (prefixed_one 118 (plain_one Npm)) (plain_one Npm)
-partial_one Normal = plain_one Normal
-partial_one Specifier = plain_one Specifier
+partial_one Npm = either_one (never_by (λ x. x == 118) is_component_byte v_no_component (prefixed_some_text 118) (prefixed_begins 118) (partial_begins Npm)) (prefixed_one 118 (bare_one Npm)) (bare_one Npm)
+partial_one Normal = bare_one Normal
+partial_one Specifier = bare_one Specifier
 
 -- ---- the bytes of partial versions
 
-abbrev pub is_plain_byte : ℕ → Bool
-is_plain_byte x = is_qualifier_byte x || (x == 42)
+abbrev pub is_bare_byte : ℕ → Bool
+is_bare_byte x = is_qualifier_byte x || (x == 42)
 
-component_plain : (x : ℕ) → is_component_byte x ≡ true → is_plain_byte x ≡ true
-component_plain x h = grind (arith, nat_tests)
+component_bare : (x : ℕ) → is_component_byte x ≡ true → is_bare_byte x ≡ true
+component_bare x h = grind (arith, nat_tests)
 
-qualifier_plain : (x : ℕ) → is_qualifier_byte x ≡ true → is_plain_byte x ≡ true
-qualifier_plain x h = or_left (is_qualifier_byte x) (x == 42) h
+qualifier_bare : (x : ℕ) → is_qualifier_byte x ≡ true → is_bare_byte x ≡ true
+qualifier_bare x h = or_left (is_qualifier_byte x) (x == 42) h
 
-plain_component_made : (f : Flavour) → MadeOf (IsComponent f) is_plain_byte
-plain_component_made f = made_wider is_component_byte is_plain_byte component_plain (component_made f)
+bare_component_made : (f : Flavour) → MadeOf (IsComponent f) is_bare_byte
+bare_component_made f = made_wider is_component_byte is_bare_byte component_bare (component_made f)
 
-third_made : (f : Flavour) → MadeOf (IsThird f) is_plain_byte
-third_made f = prefixed_made (joined_made (plain_component_made f) (made_wider is_qualifier_byte is_plain_byte qualifier_plain (qualifier_made (strictness_of f)))) 46 refl
+third_made : (f : Flavour) → MadeOf (IsThird f) is_bare_byte
+third_made f = prefixed_made (joined_made (bare_component_made f) (made_wider is_qualifier_byte is_bare_byte qualifier_bare (qualifier_made (strictness_of f)))) 46 refl
 
-second_made : (f : Flavour) → MadeOf (IsSecond f) is_plain_byte
-second_made f = prefixed_made (joined_made (plain_component_made f) (optional_made (third_made f))) 46 refl
+second_made : (f : Flavour) → MadeOf (IsSecond f) is_bare_byte
+second_made f = prefixed_made (joined_made (bare_component_made f) (optional_made (third_made f))) 46 refl
 
-pub plain_made : (f : Flavour) → MadeOf (IsPlainPartial f) is_plain_byte
-plain_made f = mapped_made (joined_made (plain_component_made f) (optional_made (second_made f)))
+pub bare_made : (f : Flavour) → MadeOf (IsBarePartial f) is_bare_byte
+bare_made f = mapped_made (joined_made (bare_component_made f) (optional_made (second_made f)))

@@ -12,7 +12,7 @@ use Rattle.semver_base.specs.declared.partial.XRange.{XRange}
 use Rattle.semver_base.specs.declared.partial.XRange.TheVariants.{Wildcard}
 use Rattle.semver_base.proofs.Fronts.{Apart, NonEmpty, either_none, either_that, either_this, prefixed_none, prefixed_other, followed, mapped, prefixed_some, optional_none, optional_some}
 use Rattle.semver_base.proofs.Bytes.{BeginsBy, Disjoint, apart_by, joined_begins, joined_some_text, mapped_begins, mapped_some_text, none_by_byte, prefixed_begins, optional_begins}
-use Rattle.semver_req.specs.Partials.{IsComponent, IsPartial, IsPlainPartial, IsSecond, IsThird, assembled, assembled_by, component_fits, partial_of, second_or_none, sized_component, sized_partial, sized_second, third_or_none}
+use Rattle.semver_req.specs.Partials.{IsComponent, IsPartial, IsBarePartial, IsSecond, IsThird, assembled, assembled_by, component_fits, partial_of, second_or_none, sized_component, sized_partial, sized_second, third_or_none}
 use Rattle.semver_req.specs.declared.common.FromMinor.{FromMinor}
 use Rattle.semver_req.specs.declared.common.FromPatch.{FromPatch}
 use Rattle.semver_req.specs.declared.common.values.Flavour.{Flavour}
@@ -59,7 +59,7 @@ sized_whole m None = assembled_is m Wildcard Wildcard (record { pre = []; build 
 sized_whole m (Some (n, None)) = assembled_is m n Wildcard (record { pre = []; build = [] })
 sized_whole m (Some (n, Some (p, q))) = assembled_is m n p q
 
-pub partial_read : (f : Flavour) {text middle rest : List ℕ} {major : Measured XRange} {second : FromMinor} {answer : Measured Partial} → answer ≡ assembled major second → IsSeen sized_component (IsComponent f) text major middle → IsSeen second_or_none (Optional (IsSecond f)) middle second rest → IsSeen sized_partial (IsPlainPartial f) text answer rest
+pub partial_read : (f : Flavour) {text middle rest : List ℕ} {major : Measured XRange} {second : FromMinor} {answer : Measured Partial} → answer ≡ assembled major second → IsSeen sized_component (IsComponent f) text major middle → IsSeen second_or_none (Optional (IsSecond f)) middle second rest → IsSeen sized_partial (IsBarePartial f) text answer rest
 partial_read f e a b = record {
   value = partial_of (a.value, b.value);
   longest = mapped (followed (component_dot_apart f) a.longest b.longest);
@@ -68,25 +68,25 @@ partial_read f e a b = record {
 
 -- ---- npm's `v`
 
-pub partial_begins : (f : Flavour) → BeginsBy (IsPlainPartial f) is_component_byte
+pub partial_begins : (f : Flavour) → BeginsBy (IsBarePartial f) is_component_byte
 partial_begins f = mapped_begins (joined_begins (component_some f) (component_begins f))
 
-pub partial_some : (f : Flavour) → NonEmpty (IsPlainPartial f)
+pub partial_some : (f : Flavour) → NonEmpty (IsBarePartial f)
 partial_some f = mapped_some_text (joined_some_text (component_some f))
 
 pub no_v : (x : ℕ) → x ≡ 118 → is_component_byte x ≡ true → ⊥
 no_v x e h = grind (arith, nat_tests)
 
-pub led_by_v : (text rest : List ℕ) (r : Option (Measured Partial × List ℕ)) → text ≡ 118 ∷ rest → ReadsAs sized_partial (IsPlainPartial Npm) rest r → ReadsAs sized_partial (IsPartial Npm) text r
+pub led_by_v : (text rest : List ℕ) (r : Option (Measured Partial × List ℕ)) → text ≡ 118 ∷ rest → ReadsAs sized_partial (IsBarePartial Npm) rest r → ReadsAs sized_partial (IsPartial Npm) text r
 led_by_v text rest r e h = go r h
   where
-    plain : HasNone (IsPlainPartial Npm) text
+    plain : HasNone (IsBarePartial Npm) text
     plain = none_by_byte (partial_some Npm) (partial_begins Npm) text (λ x t f k. no_v x (cc) k)
 
-    go : (r : Option (Measured Partial × List ℕ)) → ReadsAs sized_partial (IsPlainPartial Npm) rest r → ReadsAs sized_partial (IsPartial Npm) text r
+    go : (r : Option (Measured Partial × List ℕ)) → ReadsAs sized_partial (IsBarePartial Npm) rest r → ReadsAs sized_partial (IsPartial Npm) text r
     go None h = either_none (prefixed_none e h) plain
     go (Some p) h = record { value = h.value; longest = either_this (prefixed_some e h.longest) plain; seen = h.seen }
 
-pub not_led : (text : List ℕ) (r : Option (Measured Partial × List ℕ)) → ((rest : List ℕ) → text ≡ 118 ∷ rest → ⊥) → ReadsAs sized_partial (IsPlainPartial Npm) text r → ReadsAs sized_partial (IsPartial Npm) text r
+pub not_led : (text : List ℕ) (r : Option (Measured Partial × List ℕ)) → ((rest : List ℕ) → text ≡ 118 ∷ rest → ⊥) → ReadsAs sized_partial (IsBarePartial Npm) text r → ReadsAs sized_partial (IsPartial Npm) text r
 not_led text None other h = either_none (prefixed_other other) h
 not_led text (Some p) other h = record { value = h.value; longest = either_that (prefixed_other other) h.longest; seen = h.seen }

@@ -6,80 +6,80 @@ use Rattle.std.proofs.lemmas.Bool.{and_parts, or_left}
 use Rattle.std.proofs.lemmas.Bool.Decides.{nat_tests}
 use Rattle.semver_base.specs.Comparators.{Comparator}
 use Rattle.semver_base.specs.Grammar.{After, this, that, IsLongest, Listed, last_item, closed_item, more_items, Prefixed, Stops}
-use Rattle.semver_base.specs.Lexical.{IsBlanks, IsSomeBlanks}
+use Rattle.semver_base.specs.Lexical.{IsWhitespace, IsSomeWhitespace}
 use Rattle.semver_base.specs.declared.partial.Partial.{Partial}
-use Rattle.semver_base.proofs.Blanks.{blanks_made, is_blank_byte}
+use Rattle.semver_base.proofs.Whitespace.{whitespace_made, is_whitespace_byte}
 use Rattle.semver_base.proofs.Bytes.{BeginsBy, Disjoint, GoesBy, MadeOf, apart_by, begins_from_made, begins_wider, either_begins, either_made, goes_from_made, joined_begins, joined_made, joined_some_second, joined_some_text, made_wider, mapped_begins, mapped_made, mapped_some_text, prefixed_begins}
 use Rattle.semver_base.proofs.Fronts.{Apart, NonEmpty, one_front}
 use Rattle.semver_base.proofs.Lists.{IsListing, listed_begins, listed_some}
 use Rattle.semver_base.proofs.Readings.{EachByte, Never, Unambiguous, after_one, before_one, each_made, either_one, followed_one, goes_within, in_place, listed_one, mapped_one, prefixed_one, never_by, some_within, unit_one}
 use Rattle.semver_req.specs.Comparators.{IsComparator}
 use Rattle.semver_req.specs.Partials.{IsPartial}
-use Rattle.semver_req.specs.Pieces.{IsFilled, IsHyphen, IsHyphened, IsMark, IsNpmSeparator, IsPiece, IsSeparator, IsUpper}
+use Rattle.semver_req.specs.Pieces.{IsFilled, IsHyphen, IsHyphened, IsListOperator, IsNpmSeparator, IsPiece, IsSeparator, IsUpper}
 use Rattle.semver_req.specs.declared.common.values.Flavour.{Flavour}
 use Rattle.semver_req.specs.declared.common.values.Flavour.TheVariants.{Npm, Normal, Specifier}
-use Rattle.semver_req.proofs.ComparatorReadings.{IsCore, comparator_begins, comparator_goes, comparator_one, comparator_some, comparator_within, core_goes, core_one, core_some, is_start_byte, partial_core, partial_within, some_blanks_made}
-use Rattle.semver_req.proofs.PartialReadings.{is_plain_byte, partial_one}
+use Rattle.semver_req.proofs.ComparatorReadings.{IsCore, comparator_begins, comparator_goes, comparator_one, comparator_some, comparator_within, core_goes, core_one, core_some, is_start_byte, partial_core, partial_within, some_whitespace_made}
+use Rattle.semver_req.proofs.PartialReadings.{is_bare_byte, partial_one}
 use Rattle.semver_req.proofs.PrimitiveKinds.{any_begins, is_partial_byte}
 
 -- ---- lists
 
-plain_no_blank : Disjoint is_plain_byte is_blank_byte
-plain_no_blank x h k = grind (arith, nat_tests)
+bare_no_whitespace : Disjoint is_bare_byte is_whitespace_byte
+bare_no_whitespace x h k = grind (arith, nat_tests)
 
-blanks_some : NonEmpty IsSomeBlanks
-blanks_some = record { some = λ v h. let some : 0 < 0 = h.0 in omega arith }
+whitespace_some : NonEmpty IsSomeWhitespace
+whitespace_some = record { some = λ v h. let some : 0 < 0 = h.0 in omega arith }
 
 abbrev pub is_separator_byte : ℕ → Bool
-is_separator_byte x = is_blank_byte x || ((x == 38) || (x == 44))
+is_separator_byte x = is_whitespace_byte x || ((x == 38) || (x == 44))
 
-blank_separator : (x : ℕ) → is_blank_byte x ≡ true → is_separator_byte x ≡ true
-blank_separator x h = or_left (is_blank_byte x) ((x == 38) || (x == 44)) h
+whitespace_separator : (x : ℕ) → is_whitespace_byte x ≡ true → is_separator_byte x ≡ true
+whitespace_separator x h = or_left (is_whitespace_byte x) ((x == 38) || (x == 44)) h
 
-mark_made : MadeOf IsMark is_separator_byte
-mark_made = either_made (record { made = λ text v h. rw h refl }) (record { made = λ text v h. rw h refl })
+operator_made : MadeOf IsListOperator is_separator_byte
+operator_made = either_made (record { made = λ text v h. rw h refl }) (record { made = λ text v h. rw h refl })
 
-pub mark_some : NonEmpty IsMark
-mark_some = record { some = go }
+pub operator_some : NonEmpty IsListOperator
+operator_some = record { some = go }
   where
-    go : (v : Unit {0}) → IsMark [] v → ⊥
+    go : (v : Unit {0}) → IsListOperator [] v → ⊥
     go v (this h) = cc h
     go v (that h) = cc h
 
-blanks_separate : MadeOf IsBlanks is_separator_byte
-blanks_separate = made_wider is_blank_byte is_separator_byte blank_separator blanks_made
+whitespace_separate : MadeOf IsWhitespace is_separator_byte
+whitespace_separate = made_wider is_whitespace_byte is_separator_byte whitespace_separator whitespace_made
 
 separator_made : MadeOf IsNpmSeparator is_separator_byte
-separator_made = either_made (mapped_made (joined_made blanks_separate (mapped_made (joined_made mark_made blanks_separate)))) (made_wider is_blank_byte is_separator_byte blank_separator some_blanks_made)
+separator_made = either_made (mapped_made (joined_made whitespace_separate (mapped_made (joined_made operator_made whitespace_separate)))) (made_wider is_whitespace_byte is_separator_byte whitespace_separator some_whitespace_made)
 
 separator_some : NonEmpty IsNpmSeparator
 separator_some = record { some = go }
   where
-    prefixed : NonEmpty (After IsBlanks (After IsMark IsBlanks))
-    prefixed = mapped_some_text (joined_some_second (mapped_some_text (joined_some_text mark_some)))
+    prefixed : NonEmpty (After IsWhitespace (After IsListOperator IsWhitespace))
+    prefixed = mapped_some_text (joined_some_second (mapped_some_text (joined_some_text operator_some)))
 
     go : (v : Unit {0}) → IsNpmSeparator [] v → ⊥
     go v (this h) = prefixed.some v h
-    go v (that h) = blanks_some.some v h
+    go v (that h) = whitespace_some.some v h
 
-plain_no_separator : Disjoint is_plain_byte is_separator_byte
-plain_no_separator x h k = grind (arith, nat_tests)
+bare_no_separator : Disjoint is_bare_byte is_separator_byte
+bare_no_separator x h k = grind (arith, nat_tests)
 
 separator_no_start : Disjoint is_separator_byte is_start_byte
 separator_no_start x h k = grind (arith, nat_tests)
 
 separators_made : (f : Flavour) → MadeOf (IsSeparator f) is_separator_byte
 separators_made Npm = separator_made
-separators_made Normal = made_wider is_blank_byte is_separator_byte blank_separator some_blanks_made
+separators_made Normal = made_wider is_whitespace_byte is_separator_byte whitespace_separator some_whitespace_made
 separators_made Specifier = record { made = λ text v h. absurd h }
 
 separators_some : (f : Flavour) → NonEmpty (IsSeparator f)
 separators_some Npm = separator_some
-separators_some Normal = blanks_some
+separators_some Normal = whitespace_some
 separators_some Specifier = record { some = λ v h. h }
 
 -- the lists of each grammar
-pub listing : (f : Flavour) → IsListing (IsComparator f) (IsSeparator f) is_start_byte is_plain_byte is_separator_byte is_separator_byte
+pub listing : (f : Flavour) → IsListing (IsComparator f) (IsSeparator f) is_start_byte is_bare_byte is_separator_byte is_separator_byte
 listing f = record {
   item_some = comparator_some f;
   separator_some = separators_some f;
@@ -87,41 +87,41 @@ listing f = record {
   item_goes = comparator_goes f;
   separator_begins = begins_from_made (separators_made f);
   separator_goes = goes_from_made (separators_made f);
-  after_item = plain_no_separator;
+  after_item = bare_no_separator;
   after_separator = separator_no_start;
 }
 
 -- ---- hyphen ranges
 
-any_goes : GoesBy (IsPartial Npm) is_plain_byte
+any_goes : GoesBy (IsPartial Npm) is_bare_byte
 any_goes = goes_within (partial_within Npm) (core_goes Npm)
 
 any_some : NonEmpty (IsPartial Npm)
 any_some = some_within (partial_within Npm) (core_some Npm)
 
-blank_no_hyphen : Disjoint is_blank_byte (λ x. x == 45)
-blank_no_hyphen x h k = grind (arith, nat_tests)
+whitespace_no_hyphen : Disjoint is_whitespace_byte (λ x. x == 45)
+whitespace_no_hyphen x h k = grind (arith, nat_tests)
 
-blank_no_partial : Disjoint is_blank_byte is_partial_byte
-blank_no_partial x h k = grind (arith, nat_tests)
+whitespace_no_partial : Disjoint is_whitespace_byte is_partial_byte
+whitespace_no_partial x h k = grind (arith, nat_tests)
 
-pub partial_blanks : Apart (IsPartial Npm) IsBlanks
-partial_blanks = apart_by is_plain_byte is_blank_byte plain_no_blank any_goes (begins_from_made blanks_made)
+pub partial_whitespace : Apart (IsPartial Npm) IsWhitespace
+partial_whitespace = apart_by is_bare_byte is_whitespace_byte bare_no_whitespace any_goes (begins_from_made whitespace_made)
 
 upper_one : Unambiguous IsUpper
-upper_one = before_one partial_blanks (partial_one Npm)
+upper_one = before_one partial_whitespace (partial_one Npm)
 
-pub blanks_upper : Apart IsSomeBlanks IsUpper
-blanks_upper = apart_by is_blank_byte is_partial_byte blank_no_partial (goes_from_made some_blanks_made) (mapped_begins (joined_begins any_some (any_begins Npm)))
+pub whitespace_upper : Apart IsSomeWhitespace IsUpper
+whitespace_upper = apart_by is_whitespace_byte is_partial_byte whitespace_no_partial (goes_from_made some_whitespace_made) (mapped_begins (joined_begins any_some (any_begins Npm)))
 
-pub blanks_hyphen : Apart IsSomeBlanks (Prefixed 45 (After IsSomeBlanks IsUpper))
-blanks_hyphen = apart_by is_blank_byte (λ x. x == 45) blank_no_hyphen (goes_from_made some_blanks_made) (prefixed_begins 45)
+pub whitespace_hyphen : Apart IsSomeWhitespace (Prefixed 45 (After IsSomeWhitespace IsUpper))
+whitespace_hyphen = apart_by is_whitespace_byte (λ x. x == 45) whitespace_no_hyphen (goes_from_made some_whitespace_made) (prefixed_begins 45)
 
 hyphened_one : Unambiguous IsHyphened
-hyphened_one = after_one blanks_hyphen (prefixed_one 45 (after_one blanks_upper upper_one))
+hyphened_one = after_one whitespace_hyphen (prefixed_one 45 (after_one whitespace_upper upper_one))
 
 pub partial_hyphened : Apart (IsPartial Npm) IsHyphened
-partial_hyphened = apart_by is_plain_byte is_blank_byte plain_no_blank any_goes (mapped_begins (joined_begins blanks_some (begins_from_made some_blanks_made)))
+partial_hyphened = apart_by is_bare_byte is_whitespace_byte bare_no_whitespace any_goes (mapped_begins (joined_begins whitespace_some (begins_from_made some_whitespace_made)))
 
 pub hyphen_one : Unambiguous IsHyphen
 hyphen_one = mapped_one (followed_one partial_hyphened (partial_one Npm) hyphened_one)
@@ -148,7 +148,7 @@ record IsLaidOut (hyphen : Bool) (text : List ℕ) : Type 0 where
   text_is : text ≡ first ++ (between ++ rest)
   core : IsCore Npm first value
   separate : list_all is_separator_byte between ≡ true
-  first_ends : Stops is_plain_byte (between ++ rest)
+  first_ends : Stops is_bare_byte (between ++ rest)
   between_ends : Stops is_separator_byte rest
   next : hyphen ≡ is_hyphen rest
 
@@ -164,36 +164,36 @@ one_layout b c text h k =
     let rests = (one_front (separators_in_place h.between h.rest h.separate h.between_ends) (rw (← ends) at (separators_in_place k.between k.rest k.separate k.between_ends))).1 in
     h.next ∙ (ap is_hyphen rests ∙ sym k.next)
 
-separator_ends : (s b : List ℕ) → 0 < length s → list_all is_separator_byte s ≡ true → Stops is_plain_byte (s ++ b)
+separator_ends : (s b : List ℕ) → 0 < length s → list_all is_separator_byte s ≡ true → Stops is_bare_byte (s ++ b)
 separator_ends [] b some pass = absurd (omega arith)
-separator_ends (x ∷ s) b some pass = stops_at is_plain_byte is_separator_byte plain_no_separator x (and_parts (is_separator_byte x) (list_all is_separator_byte s) pass).0
+separator_ends (x ∷ s) b some pass = stops_at is_bare_byte is_separator_byte bare_no_separator x (and_parts (is_separator_byte x) (list_all is_separator_byte s) pass).0
 
 some_length : {V : Type 0} {A : List ℕ → V → Type 0} {v : V} → NonEmpty A → (text : List ℕ) → A text v → 0 < length text
 some_length {v = v} never [] h = absurd (never.some v h)
 some_length never (x ∷ text) h = omega arith
 
-some_separate : MadeOf IsSomeBlanks is_separator_byte
-some_separate = made_wider is_blank_byte is_separator_byte blank_separator some_blanks_made
+some_separate : MadeOf IsSomeWhitespace is_separator_byte
+some_separate = made_wider is_whitespace_byte is_separator_byte whitespace_separator some_whitespace_made
 
 -- a hyphen range
 hyphen_laid_out : (text : List ℕ) (cs : List Comparator) → IsHyphen text cs → IsLaidOut true text
 hyphen_laid_out text cs h = go h.stands.second h.stands.text_is h.stands.in_second.stands.second h.stands.in_second.stands.text_is h.stands.in_second.stands.in_second
   where
-    go : (s : List ℕ) → text ≡ h.stands.first ++ s → (r : List ℕ) → s ≡ h.stands.in_second.stands.first ++ r → Prefixed 45 (After IsSomeBlanks IsUpper) r h.stands.in_second.value.1 → IsLaidOut true text
+    go : (s : List ℕ) → text ≡ h.stands.first ++ s → (r : List ℕ) → s ≡ h.stands.in_second.stands.first ++ r → Prefixed 45 (After IsSomeWhitespace IsUpper) r h.stands.in_second.value.1 → IsLaidOut true text
     go s e [] f k = absurd k
     go s e (x ∷ r) f k =
-        let blanks = h.stands.in_second.stands.first in
+        let whitespace = h.stands.in_second.stands.first in
         let some = h.stands.in_second.stands.in_first in
-        let pass = some_separate.made blanks tt some in
+        let pass = some_separate.made whitespace tt some in
         record {
           first = h.stands.first;
-          between = blanks;
+          between = whitespace;
           rest = x ∷ r;
           value = h.value.0;
           text_is = e ∙ ap (λ t. h.stands.first ++ t) f;
           core = (partial_core Npm).core h.stands.first h.value.0 h.stands.in_first;
           separate = pass;
-          first_ends = separator_ends blanks (x ∷ r) some.0 pass;
+          first_ends = separator_ends whitespace (x ∷ r) some.0 pass;
           between_ends = rw k.0 refl;
           next = rw k.0 refl;
         }
@@ -279,10 +279,10 @@ piece_one f = record { one = go }
     go text (c ∷ cs) [] h k = absurd ((filled_some f).some (c ∷ cs) (rw k at h))
     go text (c ∷ cs) (d ∷ ds) h k = (filled_one f).one text (c ∷ cs) (d ∷ ds) h k
 
-start_no_blank : Disjoint is_start_byte is_blank_byte
-start_no_blank x h k = grind (arith, nat_tests)
+start_no_whitespace : Disjoint is_start_byte is_whitespace_byte
+start_no_whitespace x h k = grind (arith, nat_tests)
 
 -- the only piece that is whitespace is the empty one
-pub blank_piece : (f : Flavour) (text : List ℕ) (cs : List Comparator) → IsPiece f text cs → IsBlanks text tt → cs ≡ []
-blank_piece f text [] h k = refl
-blank_piece f text (c ∷ cs) h k = absurd ((never_by is_start_byte is_blank_byte start_no_blank (filled_some f) (filled_begins f) (begins_from_made blanks_made)).both text (c ∷ cs) tt h k)
+pub whitespace_piece : (f : Flavour) (text : List ℕ) (cs : List Comparator) → IsPiece f text cs → IsWhitespace text tt → cs ≡ []
+whitespace_piece f text [] h k = refl
+whitespace_piece f text (c ∷ cs) h k = absurd ((never_by is_start_byte is_whitespace_byte start_no_whitespace (filled_some f) (filled_begins f) (begins_from_made whitespace_made)).both text (c ∷ cs) tt h k)

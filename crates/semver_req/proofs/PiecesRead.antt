@@ -8,23 +8,23 @@ use Rattle.std.specs.Char.{is_not_whitespace}
 use Rattle.std.specs.Prelude.{◌⊎◌, ◌↔◌, IsTrue, if◌then◌else◌}
 use Rattle.std.proofs.lemmas.Str.{NoCharPasses-nil}
 use Rattle.std.specs.Str.{trim}
-use Rattle.semver_base.specs.Comparators.{Caret, Comparator, Hyphen, OfPrimitive, Plain, Tilde, comparator_range}
+use Rattle.semver_base.specs.Comparators.{Caret, Comparator, Hyphen, OfPrimitive, Bare, Tilde, comparator_range}
 use Rattle.semver_base.specs.Grammar.{this, that, HasNone, IsLongest, Listed, last_item, closed_item, more_items}
-use Rattle.semver_base.specs.Lexical.{IsBlanks}
+use Rattle.semver_base.specs.Lexical.{IsWhitespace}
 use Rattle.semver_base.specs.Overlap.{ends_at_zero}
-use Rattle.semver_base.specs.declared.failure.Refusal.{Refusal}
-use Rattle.semver_base.specs.declared.failure.Refusal.TheVariants.{BoundTooLarge, NumberTooLarge, UnexpectedCharacter}
+use Rattle.semver_base.specs.declared.failure.Rejection.{Rejection}
+use Rattle.semver_base.specs.declared.failure.Rejection.TheVariants.{BoundTooLarge, NumberTooLarge, UnexpectedCharacter}
 use Rattle.semver_base.specs.declared.partial.Partial.{Partial}
 use Rattle.semver_base.specs.declared.range.VersionRange.{VersionRange}
-use Rattle.semver_base.proofs.Blanks.{blank_whole}
+use Rattle.semver_base.proofs.Whitespace.{whitespace_whole}
 use Rattle.semver_base.proofs.Orders.{and_both, and_first, and_second}
 use Rattle.semver_req.specs.Comparators.{IsComparator, fits}
-use Rattle.semver_req.specs.KeptSet.{folded, kept, kept_range, without_none}
-use Rattle.semver_req.specs.Outcome.{AreGoodOnes, none_left, good, bad, IsBad, IsGood, IsCutOutcome, IsOutcome, one_good, one_bad, npm_many, normal_many, normal_refused, IsTagOr, tag, no_tag, Outcome, Ranges, Tag, Refused, worked_on}
-use Rattle.semver_req.specs.PieceReading.{IsFirstBad, this_bad, later_bad, IsCutRefusal, memory_wanting, bad_piece, IsPieceRead, IsPieceRefusal, outside, large_number, large_bound, as_kept, joined, kept_of, read_as, numbers_fit, sums_fit, refusal_failure}
-use Rattle.semver_req.specs.PieceSteps.{AreAllRead, AreRead, IsEverything, IsFirstPiece, IsTold, IsWholeRead, first_refusal}
+use Rattle.semver_req.specs.RetainedSet.{folded, retained, retained_range, without_none}
+use Rattle.semver_req.specs.Outcome.{AreGoodOnes, none_left, good, bad, IsBad, IsGood, IsCutOutcome, IsOutcome, one_good, one_bad, npm_many, normal_many, normal_rejected, IsTagOr, tag, no_tag, Outcome, Ranges, Tag, Rejected, worked_on}
+use Rattle.semver_req.specs.PieceReading.{IsFirstBad, this_bad, later_bad, IsCutRejection, is_out_of_memory, bad_piece, IsPieceRead, IsPieceRejection, outside, large_number, large_bound, as_retained, joined, retained_of, read_as, numbers_fit, sums_fit, rejection_failure}
+use Rattle.semver_req.specs.PieceSteps.{AreAllRead, AreRead, IsEverything, IsFirstPiece, IsReported, IsWholeRead, first_rejection}
 use Rattle.semver_req.specs.Pieces.{ArePieces, IsComparators, IsCutting, npm, normal, IsFilled, IsHyphen, IsPiece}
-use Rattle.semver_req.specs.Readers.{Failure, IsReading}
+use Rattle.semver_req.specs.Parsers.{Failure, IsReading}
 use Rattle.semver_req.specs.Tag.{is_valid_tag}
 use Rattle.semver_req.specs.declared.common.values.Flavour.{Flavour}
 use Rattle.semver_req.specs.declared.common.values.Flavour.TheVariants.{Npm, Normal, Specifier}
@@ -33,16 +33,16 @@ use Rattle.semver_req.specs.declared.range_set_or_tag.pieces.RangeOrInvalid.{Ran
 use Rattle.semver_req.specs.declared.range_set_or_tag.pieces.RangeOrInvalid.TheVariants as read
 use Rattle.semver_req.specs.declared.range_set_or_tag.RangeSetOrTag.{RangeSetOrTag}
 use Rattle.semver_req.specs.declared.range_set_or_tag.RangeSetOrTag.TheVariants as inner
-use Rattle.semver_req.proofs.PieceReadings.{blank_piece, piece_one}
+use Rattle.semver_req.proofs.PieceReadings.{whitespace_piece, piece_one}
 
 -- ---- one piece
 
-pub followed_blank : (followed : Bool) (piece rest : List ℕ) (b : Bool) → followed ≡ true → b ≡ (length rest == 0) → IsLongest IsBlanks piece tt rest → IsTrue b ↔ IsEverything followed piece
-followed_blank followed piece rest b is e p = let blank = blank_whole piece rest b e p in (
-  λ h. inr (is, blank.0 h),
+pub followed_whitespace : (followed : Bool) (piece rest : List ℕ) (b : Bool) → followed ≡ true → b ≡ (length rest == 0) → IsLongest IsWhitespace piece tt rest → IsTrue b ↔ IsEverything followed piece
+followed_whitespace followed piece rest b is e p = let whitespace = whitespace_whole piece rest b e p in (
+  λ h. inr (is, whitespace.0 h),
   λ h. elim h [
-    | inl nil ↦ blank.1 (rw nil (NoCharPasses-nil is_not_whitespace))
-    | inr k ↦ blank.1 k.1
+    | inl nil ↦ whitespace.1 (rw nil (NoCharPasses-nil is_not_whitespace))
+    | inr k ↦ whitespace.1 k.1
   ],
 )
 
@@ -90,30 +90,30 @@ no_hyphen Specifier text p q (this (that h)) = let is = h.is in cc is
 no_hyphen Specifier text p q (that h) = let is = h.is in cc is
 
 module _ (f : Flavour) where
-  one_kept : (text : List ℕ) (c : Comparator) → IsComparator f text c → kept_range (c ∷ []) ≡ folded (map comparator_range (c ∷ []))
-  one_kept text (Tilde p) h = refl
-  one_kept text (Caret p) h = refl
-  one_kept text (OfPrimitive kind p) h = refl
-  one_kept text (Plain p) h = refl
-  one_kept text (Hyphen p q) h = absurd (no_hyphen f text p q h)
+  one_retained : (text : List ℕ) (c : Comparator) → IsComparator f text c → retained_range (c ∷ []) ≡ folded (map comparator_range (c ∷ []))
+  one_retained text (Tilde p) h = refl
+  one_retained text (Caret p) h = refl
+  one_retained text (OfPrimitive kind p) h = refl
+  one_retained text (Bare p) h = refl
+  one_retained text (Hyphen p q) h = absurd (no_hyphen f text p q h)
 
-  many_kept : (text : List ℕ) (c : Comparator) (cs : List Comparator) → IsComparators f text cs → kept_range (c ∷ cs) ≡ folded (map comparator_range (c ∷ cs))
-  many_kept text (Tilde p) cs h = refl
-  many_kept text (Caret p) cs h = refl
-  many_kept text (OfPrimitive kind p) cs h = refl
-  many_kept text (Plain p) cs h = refl
-  many_kept text (Hyphen p q) cs (last_item a) = refl
-  many_kept text (Hyphen p q) cs (closed_item a s) = refl
-  many_kept text (Hyphen p q) cs (more_items a s more) = refl
+  many_retained : (text : List ℕ) (c : Comparator) (cs : List Comparator) → IsComparators f text cs → retained_range (c ∷ cs) ≡ folded (map comparator_range (c ∷ cs))
+  many_retained text (Tilde p) cs h = refl
+  many_retained text (Caret p) cs h = refl
+  many_retained text (OfPrimitive kind p) cs h = refl
+  many_retained text (Bare p) cs h = refl
+  many_retained text (Hyphen p q) cs (last_item a) = refl
+  many_retained text (Hyphen p q) cs (closed_item a s) = refl
+  many_retained text (Hyphen p q) cs (more_items a s more) = refl
 
-  pub list_kept : {text : List ℕ} {cs : List Comparator} → IsComparators f text cs → kept_range cs ≡ folded (map comparator_range cs)
-  list_kept (last_item {a} {v} h) = one_kept a v h
-  list_kept (closed_item {a} {v} h s) = one_kept a v h
-  list_kept (more_items {b} {v} {vs} h s more) = many_kept b v vs more
+  pub list_retained : {text : List ℕ} {cs : List Comparator} → IsComparators f text cs → retained_range cs ≡ folded (map comparator_range cs)
+  list_retained (last_item {a} {v} h) = one_retained a v h
+  list_retained (closed_item {a} {v} h s) = one_retained a v h
+  list_retained (more_items {b} {v} {vs} h s more) = many_retained b v vs more
 
   -- comparators and nothing more
   pub list_read : {piece rest : List ℕ} {cs : List Comparator} {answer : RangeOrInvalid} → IsLongest (IsComparators f) piece cs rest → answer ≡ joined cs → (length rest == 0) ≡ true → IsWholeRead (IsComparators f) piece (Some answer)
-  list_read {cs = cs} p seen empty = let whole = whole_of p empty in (cs, whole, seen ∙ ap (read_as cs) (sym (list_kept whole)))
+  list_read {cs = cs} p seen empty = let whole = whole_of p empty in (cs, whole, seen ∙ ap (read_as cs) (sym (list_retained whole)))
 
 -- ---- pieces that aren't empty
 
@@ -161,20 +161,20 @@ module _ (f : Flavour) (b : Bool) (piece : List ℕ) where
     where
       go : (ds : List Comparator) → IsGood f b piece ds → ⊥
       go ds (inl k) = let same = (piece_one f).one piece ds cs k.0 h in let wrong : true ≡ false = sym (passes ds k.1) ∙ (ap p same ∙ fails) in cc wrong
-      go ds (inr k) = let same = blank_piece f piece cs h k.1 in let wrong : true ≡ false = sym none ∙ (ap p (sym same) ∙ fails) in cc wrong
+      go ds (inr k) = let same = whitespace_piece f piece cs h k.1 in let wrong : true ≡ false = sym none ∙ (ap p (sym same) ∙ fails) in cc wrong
 
-  kept_read : (cs : List Comparator) → IsPiece f piece cs → IsPieceRead f b piece (as_kept cs)
-  kept_read cs h = go (list_all numbers_fit cs) refl (list_all sums_fit cs) refl
+  retained_read : (cs : List Comparator) → IsPiece f piece cs → IsPieceRead f b piece (as_retained cs)
+  retained_read cs h = go (list_all numbers_fit cs) refl (list_all sums_fit cs) refl
     where
       go : (x : Bool) → list_all numbers_fit cs ≡ x → (y : Bool) → list_all sums_fit cs ≡ y
-          → IsPieceRead f b piece (if x then (if y then read.Range (kept_range cs) else read.Invalid BoundTooLarge) else read.Invalid NumberTooLarge)
+          → IsPieceRead f b piece (if x then (if y then read.Range (retained_range cs) else read.Invalid BoundTooLarge) else read.Invalid NumberTooLarge)
       go true numbers true sums = (cs, inl (h, fits_split cs numbers sums), refl)
       go true numbers false sums = (never_good cs h (list_all sums_fit) sums refl sums_of, large_bound cs h numbers sums)
       go false numbers y sums = (never_good cs h (list_all numbers_fit) numbers refl numbers_of, large_number cs h numbers)
 
   -- comparators that are the whole piece
   pub filled_read : {answer : RangeOrInvalid} → IsWholeRead (IsFilled f) piece (Some answer) → IsPieceRead f b piece answer
-  filled_read h = subst (IsPieceRead f b piece) (sym h.2) (kept_read h.0 (filled_piece f piece h.0 h.1))
+  filled_read h = subst (IsPieceRead f b piece) (sym h.2) (retained_read h.0 (filled_piece f piece h.0 h.1))
 
   -- no comparators, nor empty, nor whitespace followed by `||`
   pub outside_read : IsWholeRead (IsFilled f) piece None → (IsEverything b piece → ⊥) → IsPieceRead f b piece (read.Invalid UnexpectedCharacter)
@@ -200,24 +200,24 @@ module _ {f : Flavour} where
   goods_after (good g m) n = good g (goods_more m n)
   goods_after (bad g m) n = bad g (goods_more m n)
 
-  goods_few : {b : Bool} {ps : List (List ℕ)} {t : List (List Comparator)} → AreGoodOnes f b ps t → length t ≤ length ps
-  goods_few none_left = omega arith
-  goods_few (good g m) = let fewer = goods_few m in omega arith
-  goods_few (bad g m) = let fewer = goods_few m in omega arith
+  goods_short : {b : Bool} {ps : List (List ℕ)} {t : List (List Comparator)} → AreGoodOnes f b ps t → length t ≤ length ps
+  goods_short none_left = omega arith
+  goods_short (good g m) = let fewer = goods_short m in omega arith
+  goods_short (bad g m) = let fewer = goods_short m in omega arith
 
-  first_stays : {b : Bool} {ps : List (List ℕ)} {refusal : Refusal} (ms : List (List ℕ)) → IsFirstBad f b ps refusal → IsFirstBad f b (ps ++ ms) refusal
+  first_stays : {b : Bool} {ps : List (List ℕ)} {rejection : Rejection} (ms : List (List ℕ)) → IsFirstBad f b ps rejection → IsFirstBad f b (ps ++ ms) rejection
   first_stays ms (this_bad g r) = this_bad g r
   first_stays ms (later_bad cs g m) = later_bad cs g (first_stays ms m)
 
   -- all pieces so far are valid, and the next one isn't
-  first_more : {ps : List (List ℕ)} {t : List (List Comparator)} {piece : List ℕ} {refusal : Refusal} → AreGoodOnes f false ps t → length t ≡ length ps → IsBad f false piece → IsPieceRefusal f piece refusal → IsFirstBad f false (ps ++ piece ∷ []) refusal
+  first_more : {ps : List (List ℕ)} {t : List (List Comparator)} {piece : List ℕ} {rejection : Rejection} → AreGoodOnes f false ps t → length t ≡ length ps → IsBad f false piece → IsPieceRejection f piece rejection → IsFirstBad f false (ps ++ piece ∷ []) rejection
   first_more none_left e g r = this_bad g r
   first_more (good {cs = cs} h m) e g r = later_bad cs h (first_more m (omega (arith, e)) g r)
-  first_more (bad h m) e g r = absurd (let fewer = goods_few m in omega (arith, e, fewer))
+  first_more (bad h m) e g r = absurd (let fewer = goods_short m in omega (arith, e, fewer))
 
-  first_after : {b : Bool} {p : List ℕ} {ps : List (List ℕ)} {t : List (List Comparator)} {piece : List ℕ} {refusal : Refusal} → AreGoodOnes f b (p ∷ ps) t → length t ≡ length (p ∷ ps) → IsBad f false piece → IsPieceRefusal f piece refusal → IsFirstBad f b ((p ∷ ps) ++ piece ∷ []) refusal
+  first_after : {b : Bool} {p : List ℕ} {ps : List (List ℕ)} {t : List (List Comparator)} {piece : List ℕ} {rejection : Rejection} → AreGoodOnes f b (p ∷ ps) t → length t ≡ length (p ∷ ps) → IsBad f false piece → IsPieceRejection f piece rejection → IsFirstBad f b ((p ∷ ps) ++ piece ∷ []) rejection
   first_after (good {cs = cs} h m) e g r = later_bad cs h (first_more m (omega (arith, e)) g r)
-  first_after (bad h m) e g r = absurd (let fewer = goods_few m in omega (arith, e, fewer))
+  first_after (bad h m) e g r = absurd (let fewer = goods_short m in omega (arith, e, fewer))
 
 -- ---- one piece more
 
@@ -229,7 +229,7 @@ split_filter p (x ∷ xs) ys = go (p x) (split_filter p xs ys)
     go true same = ap (λ (rest : List VersionRange). x ∷ rest) same
     go false same = same
 
-without_one : (range : VersionRange) → without_none (range ∷ []) ≡ option_to_list (kept_of (read.Range range))
+without_one : (range : VersionRange) → without_none (range ∷ []) ≡ option_to_list (retained_of (read.Range range))
 without_one range = go (ends_at_zero range.end)
   where
     go : (b : Bool) → (if not b then range ∷ [] else []) ≡ option_to_list (if b then None else Some range)
@@ -237,36 +237,36 @@ without_one range = go (ends_at_zero range.end)
     go false = refl
 
 -- the two parsers that split a text keep the same of a tree
-kept_without : (f : Flavour) → IsCutting f → (tree : List (List Comparator)) → kept f tree ≡ without_none (map kept_range tree)
-kept_without Npm npm tree = refl
-kept_without Normal normal tree = refl
-kept_without Specifier cutting tree = elim cutting [ ]
+retained_without : (f : Flavour) → IsCutting f → (tree : List (List Comparator)) → retained f tree ≡ without_none (map retained_range tree)
+retained_without Npm npm tree = refl
+retained_without Normal normal tree = refl
+retained_without Specifier cutting tree = elim cutting [ ]
 
-kept_added : (tree : List (List Comparator)) (cs : List Comparator) → without_none (map kept_range (tree ++ cs ∷ [])) ≡ without_none (map kept_range tree) ++ option_to_list (kept_of (read.Range (kept_range cs)))
-kept_added tree cs =
-    ap without_none (map-append kept_range tree (cs ∷ []))
-    ∙ split_filter (λ range. not (ends_at_zero range.end)) (map kept_range tree) (kept_range cs ∷ [])
-    ∙ ap (λ (rest : List VersionRange). without_none (map kept_range tree) ++ rest) (without_one (kept_range cs))
+retained_added : (tree : List (List Comparator)) (cs : List Comparator) → without_none (map retained_range (tree ++ cs ∷ [])) ≡ without_none (map retained_range tree) ++ option_to_list (retained_of (read.Range (retained_range cs)))
+retained_added tree cs =
+    ap without_none (map-append retained_range tree (cs ∷ []))
+    ∙ split_filter (λ range. not (ends_at_zero range.end)) (map retained_range tree) (retained_range cs ∷ [])
+    ∙ ap (λ (rest : List VersionRange). without_none (map retained_range tree) ++ rest) (without_one (retained_range cs))
 
-kept_more : (f : Flavour) → IsCutting f → (tree : List (List Comparator)) (cs : List Comparator) → kept f (tree ++ cs ∷ []) ≡ kept f tree ++ option_to_list (kept_of (read.Range (kept_range cs)))
-kept_more f cutting tree cs =
-    kept_without f cutting (tree ++ cs ∷ [])
-    ∙ kept_added tree cs
-    ∙ ap (λ (rest : List VersionRange). rest ++ option_to_list (kept_of (read.Range (kept_range cs)))) (sym (kept_without f cutting tree))
+retained_more : (f : Flavour) → IsCutting f → (tree : List (List Comparator)) (cs : List Comparator) → retained f (tree ++ cs ∷ []) ≡ retained f tree ++ option_to_list (retained_of (read.Range (retained_range cs)))
+retained_more f cutting tree cs =
+    retained_without f cutting (tree ++ cs ∷ [])
+    ∙ retained_added tree cs
+    ∙ ap (λ (rest : List VersionRange). rest ++ option_to_list (retained_of (read.Range (retained_range cs)))) (sym (retained_without f cutting tree))
 
 module _ (f : Flavour) (b : Bool) (p : List ℕ) (ps : List (List ℕ)) (piece : List ℕ) (tree : List (List Comparator)) where
-  told_good : (o : Option Refusal) → IsTold f b (p ∷ ps) tree o → (cs : List Comparator) → IsTold f b ((p ∷ ps) ++ piece ∷ []) (tree ++ cs ∷ []) o
-  told_good None told cs = omega (arith, told, length-append tree (cs ∷ []), length-append ps (piece ∷ []))
-  told_good (Some refusal) told cs = (omega (arith, told.0, length-append tree (cs ∷ []), length-append ps (piece ∷ [])), first_stays (piece ∷ []) told.1)
+  reported_good : (o : Option Rejection) → IsReported f b (p ∷ ps) tree o → (cs : List Comparator) → IsReported f b ((p ∷ ps) ++ piece ∷ []) (tree ++ cs ∷ []) o
+  reported_good None reported cs = omega (arith, reported, length-append tree (cs ∷ []), length-append ps (piece ∷ []))
+  reported_good (Some rejection) reported cs = (omega (arith, reported.0, length-append tree (cs ∷ []), length-append ps (piece ∷ [])), first_stays (piece ∷ []) reported.1)
 
-  told_bad : AreGoodOnes f b (p ∷ ps) tree → (o : Option Refusal) → IsTold f b (p ∷ ps) tree o → (refusal : Refusal) → IsBad f false piece → IsPieceRefusal f piece refusal
-      → IsTold f b ((p ∷ ps) ++ piece ∷ []) tree (first_refusal o (read.Invalid refusal))
-  told_bad goods None told refusal g r = (omega (arith, told, length-append ps (piece ∷ [])), first_after goods told g r)
-  told_bad goods (Some first) told refusal g r = (omega (arith, told.0, length-append ps (piece ∷ [])), first_stays (piece ∷ []) told.1)
+  reported_bad : AreGoodOnes f b (p ∷ ps) tree → (o : Option Rejection) → IsReported f b (p ∷ ps) tree o → (rejection : Rejection) → IsBad f false piece → IsPieceRejection f piece rejection
+      → IsReported f b ((p ∷ ps) ++ piece ∷ []) tree (first_rejection o (read.Invalid rejection))
+  reported_bad goods None reported rejection g r = (omega (arith, reported, length-append ps (piece ∷ [])), first_after goods reported g r)
+  reported_bad goods (Some first) reported rejection g r = (omega (arith, reported.0, length-append ps (piece ∷ [])), first_stays (piece ∷ []) reported.1)
 
-told_same : (o : Option Refusal) (range : VersionRange) → first_refusal o (read.Range range) ≡ o
-told_same None range = refl
-told_same (Some refusal) range = refl
+reported_same : (o : Option Rejection) (range : VersionRange) → first_rejection o (read.Range range) ≡ o
+reported_same None range = refl
+reported_same (Some rejection) range = refl
 
 none_only : (p : List ℕ) (ps : List (List ℕ)) (piece : List ℕ) → false ≡ (length ((p ∷ ps) ++ piece ∷ []) == 1)
 none_only p ps piece = let more : 0 < length (ps ++ piece ∷ []) = omega (arith, length-append ps (piece ∷ [])) in grind (arith, nat_tests)
@@ -274,39 +274,39 @@ none_only p ps piece = let more : 0 < length (ps ++ piece ∷ []) = omega (arith
 -- a further piece is parsed
 pub read_more : {f : Flavour} → IsCutting f → (b : Bool) (p : List ℕ) (ps : List (List ℕ)) (old new : Alternatives) (piece : List ℕ) (answer : RangeOrInvalid)
     → AreRead f b (p ∷ ps) old → IsPieceRead f false piece answer
-    → new.ranges ≡ old.ranges ++ option_to_list (kept_of answer) → new.refused ≡ first_refusal old.refused answer → new.is_only ≡ false → AreRead f b ((p ∷ ps) ++ piece ∷ []) new
-read_more {f} cutting b p ps old new piece (read.Range range) all h ranges refused only = record {
+    → new.ranges ≡ old.ranges ++ option_to_list (retained_of answer) → new.rejected ≡ first_rejection old.rejected answer → new.is_only ≡ false → AreRead f b ((p ∷ ps) ++ piece ∷ []) new
+read_more {f} cutting b p ps old new piece (read.Range range) all h ranges rejected only = record {
   tree = all.tree ++ h.0 ∷ [];
   good_ones = goods_after all.good_ones (good h.1 none_left);
-  kept = ranges ∙ (ap₂ (λ (xs : List VersionRange) (r : VersionRange). xs ++ option_to_list (kept_of (read.Range r))) all.kept h.2 ∙ sym (kept_more f cutting all.tree h.0));
-  told = subst (IsTold f b ((p ∷ ps) ++ piece ∷ []) (all.tree ++ h.0 ∷ [])) (sym (refused ∙ told_same old.refused range)) (told_good f b p ps piece all.tree old.refused all.told h.0);
+  retained = ranges ∙ (ap₂ (λ (xs : List VersionRange) (r : VersionRange). xs ++ option_to_list (retained_of (read.Range r))) all.retained h.2 ∙ sym (retained_more f cutting all.tree h.0));
+  reported = subst (IsReported f b ((p ∷ ps) ++ piece ∷ []) (all.tree ++ h.0 ∷ [])) (sym (rejected ∙ reported_same old.rejected range)) (reported_good f b p ps piece all.tree old.rejected all.reported h.0);
   is_only = only ∙ none_only p ps piece;
 }
-read_more {f} cutting b p ps old new piece (read.Invalid refusal) all h ranges refused only = record {
+read_more {f} cutting b p ps old new piece (read.Invalid rejection) all h ranges rejected only = record {
   tree = all.tree;
   good_ones = rw append-nil at (goods_after all.good_ones (bad h.0 none_left));
-  kept = ranges ∙ (append-nil old.ranges ∙ all.kept);
-  told = subst (IsTold f b ((p ∷ ps) ++ piece ∷ []) all.tree) (sym refused) (told_bad f b p ps piece all.tree all.good_ones old.refused all.told refusal h.0 h.1);
+  retained = ranges ∙ (append-nil old.ranges ∙ all.retained);
+  reported = subst (IsReported f b ((p ∷ ps) ++ piece ∷ []) all.tree) (sym rejected) (reported_bad f b p ps piece all.tree all.good_ones old.rejected all.reported rejection h.0 h.1);
   is_only = only ∙ none_only p ps piece;
 }
 
 -- the first piece is parsed
 pub read_first : {f : Flavour} → IsCutting f → (b : Bool) (new : Alternatives) (piece : List ℕ) (answer : RangeOrInvalid) → IsPieceRead f b piece answer
-    → new.ranges ≡ option_to_list (kept_of answer) → new.refused ≡ first_refusal None answer → new.is_only ≡ true → AreRead f b (piece ∷ []) new
-read_first {f} cutting b new piece (read.Range range) h ranges refused only = record {
+    → new.ranges ≡ option_to_list (retained_of answer) → new.rejected ≡ first_rejection None answer → new.is_only ≡ true → AreRead f b (piece ∷ []) new
+read_first {f} cutting b new piece (read.Range range) h ranges rejected only = record {
   tree = h.0 ∷ [];
   good_ones = good h.1 none_left;
-  kept = ranges ∙ (ap (λ (r : VersionRange). option_to_list (kept_of (read.Range r))) h.2 ∙ (sym (without_one (kept_range h.0)) ∙ sym (kept_without f cutting (h.0 ∷ []))));
-  told = subst (IsTold f b (piece ∷ []) (h.0 ∷ [])) (sym refused) refl;
+  retained = ranges ∙ (ap (λ (r : VersionRange). option_to_list (retained_of (read.Range r))) h.2 ∙ (sym (without_one (retained_range h.0)) ∙ sym (retained_without f cutting (h.0 ∷ []))));
+  reported = subst (IsReported f b (piece ∷ []) (h.0 ∷ [])) (sym rejected) refl;
   is_only = only;
 }
-read_first {f} cutting b new piece (read.Invalid refusal) h ranges refused only =
-    let none_good : IsTold f b (piece ∷ []) [] (Some refusal) = (omega arith, this_bad h.0 h.1) in
+read_first {f} cutting b new piece (read.Invalid rejection) h ranges rejected only =
+    let none_good : IsReported f b (piece ∷ []) [] (Some rejection) = (omega arith, this_bad h.0 h.1) in
     record {
       tree = [];
       good_ones = bad h.0 none_left;
-      kept = ranges ∙ sym (kept_without f cutting []);
-      told = subst (IsTold f b (piece ∷ []) []) (sym refused) none_good;
+      retained = ranges ∙ sym (retained_without f cutting []);
+      reported = subst (IsReported f b (piece ∷ []) []) (sym rejected) none_good;
       is_only = only;
     }
 
@@ -321,9 +321,9 @@ one_tree : {f : Flavour} {text p : List ℕ} {b : Bool} {t : List (List Comparat
 one_tree (good g none_left) size k = one_good k g
 one_tree (bad g none_left) size k = absurd (omega (arith, size))
 
-one_refused : {f : Flavour} {text p : List ℕ} {b : Bool} {t : List (List Comparator)} → AreGoodOnes f b (p ∷ []) t → length t < 1 → ArePieces text b (p ∷ []) → (o : Outcome) → IsTagOr (trim p) o → IsCutOutcome f text o
-one_refused (good g none_left) fewer k o t = absurd (omega (arith, fewer))
-one_refused (bad g none_left) fewer k o t = one_bad k g t
+one_rejected : {f : Flavour} {text p : List ℕ} {b : Bool} {t : List (List Comparator)} → AreGoodOnes f b (p ∷ []) t → length t < 1 → ArePieces text b (p ∷ []) → (o : Outcome) → IsTagOr (trim p) o → IsCutOutcome f text o
+one_rejected (good g none_left) fewer k o t = absurd (omega (arith, fewer))
+one_rejected (bad g none_left) fewer k o t = one_bad k g t
 
 only_one : (p : List ℕ) (others : List (List ℕ)) → (length (p ∷ others) == 1) ≡ true → others ≡ []
 only_one p others e = nil_from_length others (grind (arith, nat_tests))
@@ -334,8 +334,8 @@ module _ {f : Flavour} {text piece rest : List ℕ} {b : Bool} {all : Alternativ
 
   -- no piece is invalid
   good_outcome : ((q : List ℕ) (more : List (List ℕ)) → ArePieces text b (piece ∷ q ∷ more) → AreGoodOnes f b (piece ∷ q ∷ more) h.read.tree → length h.read.tree ≡ length (piece ∷ q ∷ more) → IsCutOutcome f text (Ranges h.read.tree))
-      → all.refused ≡ None → IsCutOutcome f text (Ranges h.read.tree)
-  good_outcome many none = go h.others pieces h.read.good_ones (rw none at h.read.told)
+      → all.rejected ≡ None → IsCutOutcome f text (Ranges h.read.tree)
+  good_outcome many none = go h.others pieces h.read.good_ones (rw none at h.read.reported)
     where
       go : (others : List (List ℕ)) → ArePieces text b (piece ∷ others) → AreGoodOnes f b (piece ∷ others) h.read.tree → length h.read.tree ≡ length (piece ∷ others) → IsCutOutcome f text (Ranges h.read.tree)
       go [] k m size = one_tree m size k
@@ -349,18 +349,18 @@ module _ {f : Flavour} {text piece rest : List ℕ} {b : Bool} {all : Alternativ
       go [] is k m e = cc e
       go (q ∷ more) is k m e = many q more k m is
 
-  module _ {refusal : Refusal} (some : all.refused ≡ Some refusal) where
-    told : (length h.read.tree < length (piece ∷ h.others)) × IsFirstBad f b (piece ∷ h.others) refusal
-    told = rw some at h.read.told
+  module _ {rejection : Rejection} (some : all.rejected ≡ Some rejection) where
+    reported : (length h.read.tree < length (piece ∷ h.others)) × IsFirstBad f b (piece ∷ h.others) rejection
+    reported = rw some at h.read.reported
 
-    pub first_refused : {failure : Failure} → (failure ≡ None) ⊎ (failure ≡ refusal_failure refusal) → IsCutRefusal f text failure
-    first_refused (inl e) = rw e memory_wanting
-    first_refused (inr e) = rw e (bad_piece pieces told.1)
+    pub first_rejected : {failure : Failure} → (failure ≡ None) ⊎ (failure ≡ rejection_failure rejection) → IsCutRejection f text failure
+    first_rejected (inl e) = rw e is_out_of_memory
+    first_rejected (inr e) = rw e (bad_piece pieces reported.1)
 
     tag_outcome : all.is_only ≡ true → (o : Outcome) → IsTagOr (trim piece) o → IsCutOutcome f text o
     tag_outcome only o t =
         let nil = only_one piece h.others (sym h.read.is_only ∙ only) in
-        one_refused (rw nil at h.read.good_ones) (rw nil at told.0) (rw nil at pieces) o t
+        one_rejected (rw nil at h.read.good_ones) (rw nil at reported.0) (rw nil at pieces) o t
 
 -- ---- the result for a text
 
@@ -369,32 +369,32 @@ module _ {f : Flavour} (cutting : IsCutting f) (text : List ℕ) {piece rest : L
   ranges_reading o is = record {
     outcome = Ranges h.read.tree;
     is_outcome = cut_outcome f cutting text (Ranges h.read.tree) o;
-    is_read = is ∙ ap (λ (ranges : List VersionRange). inner.RangeSet (record { 0 = ranges })) h.read.kept;
+    is_read = is ∙ ap (λ (ranges : List VersionRange). inner.RangeSet (record { 0 = ranges })) h.read.retained;
   }
 
-  module _ {refusal : Refusal} (some : all.refused ≡ Some refusal) (only : all.is_only ≡ true) where
+  module _ {rejection : Rejection} (some : all.rejected ≡ Some rejection) (only : all.is_only ≡ true) where
     pub tag_read : (answer : RangeSetOrTag) → (answer ≡ inner.Tag (trim piece)) × (is_valid_tag (trim piece) ≡ true) → IsReading f text answer
     tag_read answer t = record { outcome = Tag (trim piece); is_outcome = cut_outcome f cutting text (Tag (trim piece)) (tag_outcome first h some only (Tag (trim piece)) (tag t.1)); is_read = t.0 }
 
-    pub tag_refused : (failure : Failure) → (failure ≡ None) ⊎ ((failure ≡ refusal_failure refusal) × (is_valid_tag (trim piece) ≡ false)) → (failure ≡ None) ⊎ IsOutcome f text Refused
-    tag_refused failure (inl e) = inl e
-    tag_refused failure (inr k) = inr (cut_outcome f cutting text Refused (tag_outcome first h some only Refused (no_tag k.1)))
+    pub tag_rejected : (failure : Failure) → (failure ≡ None) ⊎ ((failure ≡ rejection_failure rejection) × (is_valid_tag (trim piece) ≡ false)) → (failure ≡ None) ⊎ IsOutcome f text Rejected
+    tag_rejected failure (inl e) = inl e
+    tag_rejected failure (inr k) = inr (cut_outcome f cutting text Rejected (tag_outcome first h some only Rejected (no_tag k.1)))
 
-    pub tag_refusal : (failure : Failure) → (failure ≡ None) ⊎ ((failure ≡ refusal_failure refusal) × (is_valid_tag (trim piece) ≡ false)) → IsCutRefusal f (worked_on f text) failure
-    tag_refusal failure (inl e) = first_refused first h some (inl e)
-    tag_refusal failure (inr k) = first_refused first h some (inr k.0)
+    pub tag_rejection : (failure : Failure) → (failure ≡ None) ⊎ ((failure ≡ rejection_failure rejection) × (is_valid_tag (trim piece) ≡ false)) → IsCutRejection f (worked_on f text) failure
+    tag_rejection failure (inl e) = first_rejected first h some (inl e)
+    tag_rejection failure (inr k) = first_rejected first h some (inr k.0)
 
 -- the normalized parser
 module _ (text : List ℕ) {piece rest : List ℕ} {b : Bool} {all : Alternatives} (first : IsFirstPiece text piece b rest) (h : AreAllRead Normal piece b rest all) where
-  pub normal_ranges : {answer : RangeSetOrTag} → all.refused ≡ None → answer ≡ inner.RangeSet (record { 0 = all.ranges }) → IsReading Normal text answer
+  pub normal_ranges : {answer : RangeSetOrTag} → all.rejected ≡ None → answer ≡ inner.RangeSet (record { 0 = all.ranges }) → IsReading Normal text answer
   normal_ranges none is = ranges_reading normal text first h (good_outcome first h (λ q more k m size. normal_many k m size) none) is
 
-  pub many_refused : {refusal : Refusal} → all.refused ≡ Some refusal → all.is_only ≡ false → IsOutcome Normal text Refused
-  many_refused some more = many_outcome first h (λ q others k m is. normal_refused k m (rw is at (told first h some).0)) more
+  pub many_rejected : {rejection : Rejection} → all.rejected ≡ Some rejection → all.is_only ≡ false → IsOutcome Normal text Rejected
+  many_rejected some more = many_outcome first h (λ q others k m is. normal_rejected k m (rw is at (reported first h some).0)) more
 
 -- npm's parser
 module _ (text : List ℕ) {piece rest : List ℕ} {b : Bool} {all : Alternatives} (first : IsFirstPiece (trim text) piece b rest) (h : AreAllRead Npm piece b rest all) where
-  pub npm_ranges : {answer : RangeSetOrTag} → all.refused ≡ None → answer ≡ inner.RangeSet (record { 0 = all.ranges }) → IsReading Npm text answer
+  pub npm_ranges : {answer : RangeSetOrTag} → all.rejected ≡ None → answer ≡ inner.RangeSet (record { 0 = all.ranges }) → IsReading Npm text answer
   npm_ranges none is = ranges_reading npm text first h (good_outcome first h (λ q more k m size. npm_many k m) none) is
 
   pub npm_many_ranges : {answer : RangeSetOrTag} → all.is_only ≡ false → answer ≡ inner.RangeSet (record { 0 = all.ranges }) → IsReading Npm text answer

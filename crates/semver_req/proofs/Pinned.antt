@@ -17,15 +17,15 @@ use Rattle.semver_base.specs.declared.range.VersionRange.{VersionRange}
 use Rattle.semver_base.specs.declared.version.Version.{Version}
 use Rattle.semver_base.proofs.Orders.{and_first, and_second, or_false}
 use Rattle.semver_base.proofs.ReadVersions.{read_writable}
-use Rattle.semver_req.specs.KeptSet.{IsReadSet}
+use Rattle.semver_req.specs.RetainedSet.{IsReadSet}
 use Rattle.semver_req.specs.Pieces.{normal}
 use Rattle.semver_req.specs.Requirement.{PinsTo, inner_means, pinned}
-use Rattle.semver_req.specs.Rereading.{IsSettledSet}
-use Rattle.semver_req.specs.Settled.{one_version, reread_set}
+use Rattle.semver_req.specs.Rereading.{IsStableSet}
+use Rattle.semver_req.specs.Stable.{one_version, reread_set}
 use Rattle.semver_req.specs.declared.common.values.Flavour.TheVariants.{Normal}
-use Rattle.semver_req.proofs.Rereading.{kept_alike}
-use Rattle.semver_req.proofs.SettledSets.{set_reread}
-use Rattle.semver_req.proofs.Settling.{settled_reread}
+use Rattle.semver_req.proofs.Rereading.{retained_alike}
+use Rattle.semver_req.proofs.StableSets.{set_reread}
+use Rattle.semver_req.proofs.Stabilizing.{stable_reread}
 use Rattle.semver_req.proofs.WrittenSets.{set_outcome}
 
 tied : (r : Ordering) → is_ge r ≡ true → is_le r ≡ true → r ≡ Equal
@@ -74,21 +74,21 @@ pinned_means v w = (only v w, also v w)
 abbrev only_range : Version → List VersionRange
 only_range v = one v ∷ []
 
-one_kept : (v : Version) → reread_set (only_range v) ≡ only_range v
-one_kept v = set_reread (only_range v) refl ∙ ap (λ (range : VersionRange). range ∷ []) (settled_reread (one v) one_version)
+one_retained : (v : Version) → reread_set (only_range v) ≡ only_range v
+one_retained v = set_reread (only_range v) refl ∙ ap (λ (range : VersionRange). range ∷ []) (stable_reread (one v) one_version)
 
-one_settled : (v : Version) → IsWritable v → IsSettledSet (only_range v)
-one_settled v w f cut = record {
+one_stable : (v : Version) → IsWritable v → IsStableSet (only_range v)
+one_stable v w f cut = record {
   tree = shortest_tree (only_range v);
   is_tree = set_outcome f cut (only_range v) (record { start = w; end = w }, tt);
-  is_kept = kept_alike f cut (shortest_tree (only_range v)) ∙ one_kept v;
+  is_retained = retained_alike f cut (shortest_tree (only_range v)) ∙ one_retained v;
 }
 
-pub pinned_settled : (v : Version) (text : List ℕ) → IsVersionOutcome text (Ok v) → IsSettledSet (only_range v)
-pinned_settled v text (is_version h fits) = one_settled v (read_writable text v h fits)
+pub pinned_stable : (v : Version) (text : List ℕ) → IsVersionOutcome text (Ok v) → IsStableSet (only_range v)
+pinned_stable v text (is_version h fits) = one_stable v (read_writable text v h fits)
 
 -- so it is a parsed set
 pub pinned_read : (v : Version) (text : List ℕ) → IsVersionOutcome text (Ok v) → IsReadSet (only_range v)
 pinned_read v text h =
-    let s = pinned_settled v text h Normal normal in
-    record { flavour = Normal; text = set_text (only_range v); tree = s.tree; is_outcome = s.is_tree; is_kept = sym s.is_kept }
+    let s = pinned_stable v text h Normal normal in
+    record { flavour = Normal; text = set_text (only_range v); tree = s.tree; is_outcome = s.is_tree; is_retained = sym s.is_retained }

@@ -7,28 +7,28 @@ use Rattle.semver_base.specs.NormalText.{set_text}
 use Rattle.semver_base.specs.Shortest.{shortest_tree}
 use Rattle.semver_base.specs.declared.range.PreRelease.TheVariants.{Restricted}
 use Rattle.semver_base.specs.declared.range.VersionRange.{VersionRange}
-use Rattle.semver_req.specs.KeptSet.{IsReadSet, kept}
-use Rattle.semver_req.specs.Outcome.{IsOutcome, Outcome, Ranges, Refused, Tag, tree_ranges}
+use Rattle.semver_req.specs.RetainedSet.{IsReadSet, retained}
+use Rattle.semver_req.specs.Outcome.{IsOutcome, Outcome, Ranges, Rejected, Tag, tree_ranges}
 use Rattle.semver_req.specs.Pieces.{IsCutting, npm, normal}
-use Rattle.semver_req.specs.Rereading.{IsReadAsItself, IsTree, NormalTextsAreEquivalent, NormalTextsKeepTheirMeaning, OneRereadingSettles, OfReadRanges, SettledSetsAreTheirTexts}
-use Rattle.semver_req.specs.Readers.{IsRead}
+use Rattle.semver_req.specs.Rereading.{IsReadAsItself, IsTree, NormalTextsAreEquivalent, NormalTextsKeepTheirMeaning, OneRereadingStabilizes, OfReadRanges, StableSetsAreTheirTexts}
+use Rattle.semver_req.specs.Parsers.{IsRead}
 use Rattle.semver_req.specs.Requirement.{inner_means, inner_text}
-use Rattle.semver_req.specs.Settled.{reread_set}
+use Rattle.semver_req.specs.Stable.{reread_set}
 use Rattle.semver_req.specs.declared.common.values.Flavour.{Flavour}
 use Rattle.semver_req.specs.declared.common.values.Flavour.TheVariants.{Normal}
 use Rattle.semver_req.specs.declared.range_set_or_tag.RangeSetOrTag.{RangeSetOrTag}
 use Rattle.semver_req.specs.declared.range_set_or_tag.RangeSetOrTag.TheVariants as inner
 use Rattle.semver_req.proofs.OneOutcome.{one_outcome}
-use Rattle.semver_req.proofs.ReadSets.{read_again_means, read_form_means, read_orderly, read_settles, read_writable}
+use Rattle.semver_req.proofs.ReadSets.{read_again_means, read_form_means, read_orderly, read_stabilizes, read_writable}
 use Rattle.semver_req.proofs.WrittenSets.{set_outcome, set_trimmed}
 
 one_tree : (t u : List (List Comparator)) → Ranges t ≡ Ranges u → t ≡ u
 one_tree t u e = cc e
 
 -- both parsers keep the same of a tree
-pub kept_alike : (f : Flavour) → IsCutting f → (tree : List (List Comparator)) → kept f tree ≡ kept Normal tree
-kept_alike f npm tree = refl
-kept_alike f normal tree = refl
+pub retained_alike : (f : Flavour) → IsCutting f → (tree : List (List Comparator)) → retained f tree ≡ retained Normal tree
+retained_alike f npm tree = refl
+retained_alike f normal tree = refl
 
 module _ (f : Flavour) (cut : IsCutting f) (ranges : List VersionRange) (r : IsReadSet ranges) where
   text_read : IsTree f (set_text ranges) (shortest_tree ranges)
@@ -38,23 +38,23 @@ module _ (f : Flavour) (cut : IsCutting f) (ranges : List VersionRange) (r : IsR
   tree_read tree h = one_tree tree (shortest_tree ranges) (one_outcome f (set_text ranges) (Ranges tree) (Ranges (shortest_tree ranges)) h text_read)
 
   -- what is kept of the tree that the text parses to
-  kept_read : (tree : List (List Comparator)) → IsTree f (set_text ranges) tree → kept f tree ≡ reread_set ranges
-  kept_read tree h = kept_alike f cut tree ∙ ap (kept Normal) (tree_read tree h)
+  retained_read : (tree : List (List Comparator)) → IsTree f (set_text ranges) tree → retained f tree ≡ reread_set ranges
+  retained_read tree h = retained_alike f cut tree ∙ ap (retained Normal) (tree_read tree h)
 
-  kept_settled : (tree : List (List Comparator)) → IsTree f (set_text ranges) tree → reread_set (kept f tree) ≡ kept f tree
-  kept_settled tree h = let e = kept_read tree h in ap reread_set e ∙ read_settles ranges r ∙ sym e
+  retained_stable : (tree : List (List Comparator)) → IsTree f (set_text ranges) tree → reread_set (retained f tree) ≡ retained f tree
+  retained_stable tree h = let e = retained_read tree h in ap reread_set e ∙ read_stabilizes ranges r ∙ sym e
 
-read_again : (f : Flavour) (ranges : List VersionRange) (tree : List (List Comparator)) → IsTree f (set_text ranges) tree → IsReadSet (kept f tree)
-read_again f ranges tree h = record { flavour = f; text = set_text ranges; tree = tree; is_outcome = h; is_kept = refl }
+read_again : (f : Flavour) (ranges : List VersionRange) (tree : List (List Comparator)) → IsTree f (set_text ranges) tree → IsReadSet (retained f tree)
+read_again f ranges tree h = record { flavour = f; text = set_text ranges; tree = tree; is_outcome = h; is_retained = refl }
 
-pub settles : OneRereadingSettles
-settles ranges r f cut tree h g other =
-    let again : IsReadSet (kept f tree) = read_again f ranges tree h in
-    let read : IsTree g (set_text (kept f tree)) (shortest_tree (kept f tree)) = text_read g other (kept f tree) again in
+pub stabilizes : OneRereadingStabilizes
+stabilizes ranges r f cut tree h g other =
+    let again : IsReadSet (retained f tree) = read_again f ranges tree h in
+    let read : IsTree g (set_text (retained f tree)) (shortest_tree (retained f tree)) = text_read g other (retained f tree) again in
     record {
-      tree = shortest_tree (kept f tree);
+      tree = shortest_tree (retained f tree);
       is_tree = read;
-      is_kept = kept_read g other (kept f tree) again (shortest_tree (kept f tree)) read ∙ kept_settled f cut ranges r tree h;
+      is_retained = retained_read g other (retained f tree) again (shortest_tree (retained f tree)) read ∙ retained_stable f cut ranges r tree h;
     }
 
 pub rereadings : NormalTextsKeepTheirMeaning
@@ -62,27 +62,27 @@ rereadings ranges r = record {
   forms = λ f cut. (text_read f cut ranges r, λ o h. one_outcome f (set_text ranges) o (Ranges (shortest_tree ranges)) h (text_read f cut ranges r));
   is_trimmed = set_trimmed ranges (read_writable ranges r);
   means = λ k f cut tree h flag v. ap (λ tree. tree_means_with flag (tree_ranges tree) v) (tree_read f cut ranges r tree h) ∙ read_form_means ranges r k flag v;
-  kept_means = λ k f cut tree h flag v. ap (λ set. tree_means_with flag (alternatives set) v) (kept_read f cut ranges r tree h) ∙ read_again_means ranges r k flag v;
-  equal = λ orderly k f cut tree h. kept_read f cut ranges r tree h ∙ read_orderly ranges r orderly k;
+  retained_means = λ k f cut tree h flag v. ap (λ set. tree_means_with flag (alternatives set) v) (retained_read f cut ranges r tree h) ∙ read_again_means ranges r k flag v;
+  equal = λ orderly k f cut tree h. retained_read f cut ranges r tree h ∙ read_orderly ranges r orderly k;
 }
 
 pub equivalent_again : NormalTextsAreEquivalent
 equivalent_again ranges r k f cut again reading = go reading.outcome reading.is_outcome reading.is_read
   where
     go : (o : Outcome) → IsOutcome f (set_text ranges) o → IsRead f o again → AreEquivalent (set_means ranges) (inner_means again)
-    go (Ranges tree) h is = λ v _. sym ((rereadings ranges r).kept_means k f cut tree h Restricted v) ∙ sym (ap (λ answer. inner_means answer v) is)
+    go (Ranges tree) h is = λ v _. sym ((rereadings ranges r).retained_means k f cut tree h Restricted v) ∙ sym (ap (λ answer. inner_means answer v) is)
     go (Tag text) h is = absurd (cc (one_outcome f (set_text ranges) (Tag text) (Ranges (shortest_tree ranges)) h (text_read f cut ranges r)))
-    go Refused h is = absurd is
+    go Rejected h is = absurd is
 
 -- two sets that a parser keeps of their texts are the same if the texts are
 same_by_text : (some others : List VersionRange) → IsReadAsItself Normal some → IsReadAsItself Normal others → set_text some ≡ set_text others → some ≡ others
 same_by_text some others one other same =
     let read : IsTree Normal (set_text others) one.tree = subst (λ text. IsTree Normal text one.tree) same one.is_tree in
     let trees : one.tree ≡ other.tree = one_tree one.tree other.tree (one_outcome Normal (set_text others) (Ranges one.tree) (Ranges other.tree) read other.is_tree) in
-    sym one.is_kept ∙ ap (kept Normal) trees ∙ other.is_kept
+    sym one.is_retained ∙ ap (retained Normal) trees ∙ other.is_retained
 
-pub settled_by_text : SettledSetsAreTheirTexts
-settled_by_text some others one other = (ap set_text, same_by_text some others (one Normal normal) (other Normal normal))
+pub stable_by_text : StableSetsAreTheirTexts
+stable_by_text some others one other = (ap set_text, same_by_text some others (one Normal normal) (other Normal normal))
 
 -- what is true of the canonical form of every parsed set is true of the text of a requirement
 pub of_text : (Says : List ℕ → List VersionRange → Type 0) → ((ranges : List VersionRange) → IsReadSet ranges → Says (set_text ranges) ranges)

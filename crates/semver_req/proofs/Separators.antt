@@ -5,12 +5,12 @@ use Rattle.std.specs.Char.{is_whitespace}
 use Rattle.std.proofs.lemmas.Bool.{cases_lt, eq-eqb, or_left, or_right}
 use Rattle.std.proofs.lemmas.Bool.Decides.{nat_tests}
 use Rattle.semver_base.specs.Grammar.{After, this, that, HasNone, IsLongest, IsText, Reads}
-use Rattle.semver_base.specs.Lexical.{IsBlanks}
-use Rattle.semver_base.proofs.Blanks.{blanks_made, is_blank_byte, no_blanks, some_blanks}
+use Rattle.semver_base.specs.Lexical.{IsWhitespace}
+use Rattle.semver_base.proofs.Whitespace.{whitespace_made, is_whitespace_byte, no_whitespace, some_whitespace}
 use Rattle.semver_base.proofs.Bytes.{BeginsBy, Disjoint, apart_by, goes_from_made, joined_begins, mapped_begins}
 use Rattle.semver_base.proofs.Fronts.{Apart, NonEmpty, either_longer, either_none, either_that, either_this, followed, followed_none_second, joined_none_first, mapped, mapped_none}
-use Rattle.semver_req.specs.Pieces.{IsMark, IsNpmSeparator, IsOperator}
-use Rattle.semver_req.proofs.PieceReadings.{mark_some}
+use Rattle.semver_req.specs.Pieces.{IsListOperator, IsNpmSeparator, IsOperator}
+use Rattle.semver_req.proofs.PieceReadings.{operator_some}
 
 -- ---- a token
 
@@ -22,68 +22,68 @@ text_none t text other = record { none = λ a b w e h. other b (e ∙ ap (λ z. 
 
 -- ---- `&&` or `,`
 
-pub mark_comma : {text rest : List ℕ} → text ≡ 44 ∷ rest → IsLongest IsMark text tt rest
-mark_comma {text} {rest} e = either_that (text_none (codes "&&") text (λ r f. cc (sym e ∙ f))) (text_longest (codes ",") text rest e)
+pub operator_comma : {text rest : List ℕ} → text ≡ 44 ∷ rest → IsLongest IsListOperator text tt rest
+operator_comma {text} {rest} e = either_that (text_none (codes "&&") text (λ r f. cc (sym e ∙ f))) (text_longest (codes ",") text rest e)
 
 module _ {text : List ℕ} (other : (rest : List ℕ) → text ≡ 44 ∷ rest → ⊥) where
   no_comma : HasNone (IsText (codes ",")) text
   no_comma = text_none (codes ",") text other
 
-  pub mark_or_none : (r : Option (Unit {0} × List ℕ)) → Reads (IsText (codes "&&")) text r → Reads IsMark text r
-  mark_or_none None n = either_none n no_comma
-  mark_or_none (Some p) h = either_this h no_comma
+  pub operator_or_none : (r : Option (Unit {0} × List ℕ)) → Reads (IsText (codes "&&")) text r → Reads IsListOperator text r
+  operator_or_none None n = either_none n no_comma
+  operator_or_none (Some p) h = either_this h no_comma
 
 -- ---- `&&` or `,`, and whitespace
 
-abbrev is_mark_byte : ℕ → Bool
-is_mark_byte b = (b == 38) || (b == 44)
+abbrev is_operator_byte : ℕ → Bool
+is_operator_byte b = (b == 38) || (b == 44)
 
-mark_begins : BeginsBy IsMark is_mark_byte
-mark_begins = record { begins = λ x b. go x b.more b.value b.stands }
+operator_begins : BeginsBy IsListOperator is_operator_byte
+operator_begins = record { begins = λ x b. go x b.more b.value b.stands }
   where
-    go : (x : ℕ) (more : List ℕ) (v : Unit {0}) → IsMark (x ∷ more) v → is_mark_byte x ≡ true
+    go : (x : ℕ) (more : List ℕ) (v : Unit {0}) → IsListOperator (x ∷ more) v → is_operator_byte x ≡ true
     go x more v (this h) = let same_byte : x ≡ 38 = cc in or_left (x == 38) (x == 44) (eq-eqb x 38 same_byte)
     go x more v (that h) = let same_byte : x ≡ 44 = cc in or_right (x == 38) (x == 44) (eq-eqb x 44 same_byte)
 
 -- neither `&&` nor `,` continues
-mark_apart : Apart IsMark IsBlanks
-mark_apart = record { apart = λ x g b. go x g.front g.more g.short_value g.long_value g.short g.long }
+operator_apart : Apart IsListOperator IsWhitespace
+operator_apart = record { apart = λ x g b. go x g.front g.more g.short_value g.long_value g.short g.long }
   where
-    go : (x : ℕ) (a more : List ℕ) (v u : Unit {0}) → IsMark a v → IsMark (a ++ (x ∷ more)) u → ⊥
+    go : (x : ℕ) (a more : List ℕ) (v u : Unit {0}) → IsListOperator a v → IsListOperator (a ++ (x ∷ more)) u → ⊥
     go x a more v u (this h) (this k) = omega (arith, ap length k, ap length h, length-append a (x ∷ more))
     go x a more v u (this h) (that k) = omega (arith, ap length k, ap length h, length-append a (x ∷ more))
     go x a more v u (that h) (this k) = omega (arith, ap (λ t. get_or t 0 0) (ap (λ t. t ++ (x ∷ more)) (sym h) ∙ k))
     go x a more v u (that h) (that k) = omega (arith, ap length k, ap length h, length-append a (x ∷ more))
 
-blank_no_mark : Disjoint is_blank_byte is_mark_byte
-blank_no_mark x h k = grind (arith, nat_tests)
+whitespace_no_operator : Disjoint is_whitespace_byte is_operator_byte
+whitespace_no_operator x h k = grind (arith, nat_tests)
 
-blanks_mark : Apart IsBlanks (After IsMark IsBlanks)
-blanks_mark = apart_by is_blank_byte is_mark_byte blank_no_mark (goes_from_made blanks_made) (mapped_begins (joined_begins mark_some mark_begins))
+whitespace_operator : Apart IsWhitespace (After IsListOperator IsWhitespace)
+whitespace_operator = apart_by is_whitespace_byte is_operator_byte whitespace_no_operator (goes_from_made whitespace_made) (mapped_begins (joined_begins operator_some operator_begins))
 
 -- ---- npm's separators
 
-pub separator_prefixed : {text rest more end : List ℕ} → IsLongest IsBlanks text tt rest → IsLongest IsMark rest tt more → IsLongest IsBlanks more tt end → IsLongest IsNpmSeparator text tt end
+pub separator_prefixed : {text rest more end : List ℕ} → IsLongest IsWhitespace text tt rest → IsLongest IsListOperator rest tt more → IsLongest IsWhitespace more tt end → IsLongest IsNpmSeparator text tt end
 separator_prefixed {text} {rest} {more} {end} p q r =
-    let whole : IsLongest (After IsBlanks (After IsMark IsBlanks)) text tt end = mapped (followed blanks_mark p (mapped (followed mark_apart q r))) in
+    let whole : IsLongest (After IsWhitespace (After IsListOperator IsWhitespace)) text tt end = mapped (followed whitespace_operator p (mapped (followed operator_apart q r))) in
     elim (cases_lt (length rest) (length text)) [
-      | inl blank ↦ either_longer whole (some_blanks text rest p blank) (omega (arith, some_front q.front q.stands, ap length q.text_is, length-append q.front more, ap length r.text_is, length-append r.front end))
-      | inr no_blank ↦ either_this whole (no_blanks text rest p no_blank)
+      | inl whitespace ↦ either_longer whole (some_whitespace text rest p whitespace) (omega (arith, some_front q.front q.stands, ap length q.text_is, length-append q.front more, ap length r.text_is, length-append r.front end))
+      | inr not_whitespace ↦ either_this whole (no_whitespace text rest p not_whitespace)
     ]
   where
-    some_front : (a : List ℕ) → IsMark a tt → 0 < length a
-    some_front [] h = absurd (mark_some.some tt h)
+    some_front : (a : List ℕ) → IsListOperator a tt → 0 < length a
+    some_front [] h = absurd (operator_some.some tt h)
     some_front (x ∷ a) h = omega arith
 
-module _ {text rest : List ℕ} (p : IsLongest IsBlanks text tt rest) (n : HasNone IsMark rest) where
-  no_mark : HasNone (After IsBlanks (After IsMark IsBlanks)) text
-  no_mark = mapped_none (followed_none_second blanks_mark p (mapped_none (joined_none_first n)))
+module _ {text rest : List ℕ} (p : IsLongest IsWhitespace text tt rest) (n : HasNone IsListOperator rest) where
+  no_operator : HasNone (After IsWhitespace (After IsListOperator IsWhitespace)) text
+  no_operator = mapped_none (followed_none_second whitespace_operator p (mapped_none (joined_none_first n)))
 
-  pub separator_blank : length rest < length text → IsLongest IsNpmSeparator text tt rest
-  separator_blank blank = either_that no_mark (some_blanks text rest p blank)
+  pub separator_whitespace : length rest < length text → IsLongest IsNpmSeparator text tt rest
+  separator_whitespace whitespace = either_that no_operator (some_whitespace text rest p whitespace)
 
   pub separator_none : length text ≤ length rest → HasNone IsNpmSeparator text
-  separator_none no_blank = either_none no_mark (no_blanks text rest p no_blank)
+  separator_none not_whitespace = either_none no_operator (no_whitespace text rest p not_whitespace)
 
 -- ---- a byte twice, and the whitespace around it
 
@@ -95,22 +95,22 @@ module _ (m : ℕ) where
   word_some = record { some = λ v h. cc h }
 
   -- the token doesn't continue
-  word_apart : Apart (IsText (m ∷ m ∷ [])) IsBlanks
+  word_apart : Apart (IsText (m ∷ m ∷ [])) IsWhitespace
   word_apart = record { apart = λ x g b. omega (arith, ap length g.short, ap length g.long, length-append g.front (x ∷ g.more)) }
 
   module _ (ascii : m < 128) (other : is_whitespace m ≡ false) where
-    blank_no_word : Disjoint is_blank_byte (λ x. x == m)
-    blank_no_word x h k = let same : x ≡ m = grind (arith, nat_tests) in let blank : is_blank_byte m ≡ true = rw (← same) h in no_blank (rw other at blank)
+    whitespace_no_word : Disjoint is_whitespace_byte (λ x. x == m)
+    whitespace_no_word x h k = let same : x ≡ m = grind (arith, nat_tests) in let whitespace : is_whitespace_byte m ≡ true = rw (← same) h in not_whitespace (rw other at whitespace)
       where
-        no_blank : nat_le 128 m ≡ true → ⊥
-        no_blank e = grind (arith, nat_tests)
+        not_whitespace : nat_le 128 m ≡ true → ⊥
+        not_whitespace e = grind (arith, nat_tests)
 
-    blanks_word : Apart IsBlanks (After (IsText (m ∷ m ∷ [])) IsBlanks)
-    blanks_word = apart_by is_blank_byte (λ x. x == m) blank_no_word (goes_from_made blanks_made) (mapped_begins (joined_begins word_some word_begins))
+    whitespace_word : Apart IsWhitespace (After (IsText (m ∷ m ∷ [])) IsWhitespace)
+    whitespace_word = apart_by is_whitespace_byte (λ x. x == m) whitespace_no_word (goes_from_made whitespace_made) (mapped_begins (joined_begins word_some word_begins))
 
-    module _ {text start : List ℕ} (b : IsLongest IsBlanks text tt start) where
-      pub operator_read : {rest end : List ℕ} → IsLongest (IsText (m ∷ m ∷ [])) start tt rest → IsLongest IsBlanks rest tt end → IsLongest (IsOperator m) text tt end
-      operator_read w c = mapped (followed blanks_word b (mapped (followed word_apart w c)))
+    module _ {text start : List ℕ} (b : IsLongest IsWhitespace text tt start) where
+      pub operator_read : {rest end : List ℕ} → IsLongest (IsText (m ∷ m ∷ [])) start tt rest → IsLongest IsWhitespace rest tt end → IsLongest (IsOperator m) text tt end
+      operator_read w c = mapped (followed whitespace_word b (mapped (followed word_apart w c)))
 
       pub operator_none : HasNone (IsText (m ∷ m ∷ [])) start → HasNone (IsOperator m) text
-      operator_none n = mapped_none (followed_none_second blanks_word b (mapped_none (joined_none_first n)))
+      operator_none n = mapped_none (followed_none_second whitespace_word b (mapped_none (joined_none_first n)))

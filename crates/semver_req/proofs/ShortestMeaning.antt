@@ -7,12 +7,12 @@ use Rattle.std.specs.Ordering.{is_ge, is_le, nat_cmp, ordering_then, MatchOrderi
 use Rattle.std.specs.Prelude.{if◌then◌else◌, nat_lt}
 use Rattle.std.specs.declared.cmp.Ordering.{Ordering}
 use Rattle.std.specs.declared.cmp.Ordering.TheVariants.{Less, Equal, Greater}
-use Rattle.semver_base.specs.Comparators.{Caret, Comparator, Plain, Tilde, comparator_range}
+use Rattle.semver_base.specs.Comparators.{Caret, Comparator, Bare, Tilde, comparator_range}
 use Rattle.semver_base.specs.Meaning.{alternative_means_with, bound_at, from, is_above, release, to_below}
 use Rattle.semver_base.specs.PartialTable.{up_to, between, caret}
 use Rattle.semver_base.specs.Precedence.{precedence_cmp, pre_cmp}
-use Rattle.semver_base.specs.PrecedenceLaws.{precedence_total, version_eq, version_told}
-use Rattle.semver_base.specs.Shortest.{ending, has_short_form, is_caret_major, is_caret_patch, is_major, is_minor, is_plain, is_tilde, numbered, shortest, shortest_between, shortest_of, starting, whole}
+use Rattle.semver_base.specs.PrecedenceLaws.{precedence_total, version_eq, version_reported}
+use Rattle.semver_base.specs.Shortest.{ending, has_short_form, is_caret_major, is_caret_patch, is_major, is_minor, is_release_of, is_tilde, numbered, shortest, shortest_between, shortest_of, starting, whole}
 use Rattle.semver_base.specs.declared.partial.XRange.TheVariants.{Wildcard, Val}
 use Rattle.semver_base.specs.declared.range.PreRelease.{PreRelease}
 use Rattle.semver_base.specs.declared.range.RangeBound.{RangeBound}
@@ -23,7 +23,7 @@ use Rattle.semver_base.specs.declared.range.VersionRange.{VersionRange}
 use Rattle.semver_base.specs.declared.version.Version.{Version}
 use Rattle.semver_base.proofs.ClampLemmas.{above_ge}
 use Rattle.semver_base.proofs.Orders.{and_both, and_first, and_second, le_le, le_turned, or_cases, or_first, or_second, turned}
-use Rattle.semver_base.proofs.PlainVersions.{plain_is, same_number}
+use Rattle.semver_base.proofs.ShortVersions.{short_is, same_number}
 use Rattle.semver_req.specs.Rereading.{has_own_form, is_pre_of_zero, keeps_meaning, keeps_start}
 use Rattle.semver_req.proofs.Starts.{has_start, starts_or_is_open}
 
@@ -105,29 +105,29 @@ start_means : (k : VersionBoundKind) (s : Version) → Means (starting k s ∷ [
 start_means kind.Inclusive s flag v = refl
 start_means kind.Exclusive s flag v = refl
 
-end_means : (k : VersionBoundKind) (s e : Version) → is_plain s 0 0 0 ≡ true → Means (ending k e ∷ []) (between (from s) (bound_at k e))
-end_means kind.Inclusive s e h flag v = ap (λ (start : Version). alternative_means_with flag (between (from start) (up_to e) ∷ []) v) (sym (plain_is s 0 0 0 h))
-end_means kind.Exclusive s e h flag v = ap (λ (start : Version). alternative_means_with flag (between (from start) (to_below e) ∷ []) v) (sym (plain_is s 0 0 0 h))
+end_means : (k : VersionBoundKind) (s e : Version) → is_release_of s 0 0 0 ≡ true → Means (ending k e ∷ []) (between (from s) (bound_at k e))
+end_means kind.Inclusive s e h flag v = ap (λ (start : Version). alternative_means_with flag (between (from start) (up_to e) ∷ []) v) (sym (short_is s 0 0 0 h))
+end_means kind.Exclusive s e h flag v = ap (λ (start : Version). alternative_means_with flag (between (from start) (to_below e) ∷ []) v) (sym (short_is s 0 0 0 h))
 
 -- a comparator with the range itself
 alone_means : (c : Comparator) (range : VersionRange) → comparator_range c ≡ range → Means (c ∷ []) range
 alone_means c range same flag v = ap (λ (r : VersionRange). alternative_means_with flag (r ∷ []) v) same
 
-pub version_range : (s e : Version) → version_eq s e ≡ true → comparator_range (Plain (whole s)) ≡ between (from s) (up_to e)
-version_range s e h = ap (λ (end : Version). between (from s) (up_to end)) ((version_told s e).0 h)
+pub version_range : (s e : Version) → version_eq s e ≡ true → comparator_range (Bare (whole s)) ≡ between (from s) (up_to e)
+version_range s e h = ap (λ (end : Version). between (from s) (up_to end)) ((version_reported s e).0 h)
 
 -- two plain versions by their numbers
-plain_range : {start end : Version} (s e : Version) → s ≡ start → e ≡ end → between (from start) (to_below end) ≡ between (from s) (to_below e)
-plain_range s e p q = ap₂ (λ (start end : Version). between (from start) (to_below end)) (sym p) (sym q)
+short_range : {start end : Version} (s e : Version) → s ≡ start → e ≡ end → between (from start) (to_below end) ≡ between (from s) (to_below e)
+short_range s e p q = ap₂ (λ (start end : Version). between (from start) (to_below end)) (sym p) (sym q)
 
-major_range : (s e : Version) → is_major s e ≡ true → comparator_range (Plain (numbered (Val s.major) Wildcard)) ≡ between (from s) (to_below e)
-major_range s e h = plain_range s e (plain_is s s.major 0 0 (and_first _ _ h)) (plain_is e (s.major + 1) 0 0 (and_second (is_plain s s.major 0 0) _ h))
+major_range : (s e : Version) → is_major s e ≡ true → comparator_range (Bare (numbered (Val s.major) Wildcard)) ≡ between (from s) (to_below e)
+major_range s e h = short_range s e (short_is s s.major 0 0 (and_first _ _ h)) (short_is e (s.major + 1) 0 0 (and_second (is_release_of s s.major 0 0) _ h))
 
-minor_range : (s e : Version) → is_minor s e ≡ true → comparator_range (Plain (numbered (Val s.major) (Val s.minor))) ≡ between (from s) (to_below e)
-minor_range s e h = plain_range s e (plain_is s s.major s.minor 0 (and_first _ _ h)) (plain_is e s.major (s.minor + 1) 0 (and_second (is_plain s s.major s.minor 0) _ h))
+minor_range : (s e : Version) → is_minor s e ≡ true → comparator_range (Bare (numbered (Val s.major) (Val s.minor))) ≡ between (from s) (to_below e)
+minor_range s e h = short_range s e (short_is s s.major s.minor 0 (and_first _ _ h)) (short_is e s.major (s.minor + 1) 0 (and_second (is_release_of s s.major s.minor 0) _ h))
 
 tilde_range : (s e : Version) → is_tilde s e ≡ true → comparator_range (Tilde (whole s)) ≡ between (from s) (to_below e)
-tilde_range s e h = plain_range s e refl (plain_is e s.major (s.minor + 1) 0 h)
+tilde_range s e h = short_range s e refl (short_is e s.major (s.minor + 1) 0 h)
 
 pub none_below : (n : ℕ) → (n == 0) ≡ true → nat_lt 0 n ≡ false
 none_below n e = grind (arith, nat_tests)
@@ -141,13 +141,13 @@ caret_patch s h k = rw (h, k) refl
 caret_major_range : (s e : Version) → is_caret_major s e ≡ true → comparator_range (Caret (whole s)) ≡ between (from s) (to_below e)
 caret_major_range s e h =
     caret_major s (and_first (nat_lt 0 s.major) _ h)
-    ∙ plain_range s e refl (plain_is e (s.major + 1) 0 0 (and_second (nat_lt 0 s.major) _ h))
+    ∙ short_range s e refl (short_is e (s.major + 1) 0 0 (and_second (nat_lt 0 s.major) _ h))
 
 caret_patch_range : (s e : Version) → is_caret_patch s e ≡ true → comparator_range (Caret (whole s)) ≡ between (from s) (to_below e)
 caret_patch_range s e h =
     let h1 = and_second (s.major == 0) _ h in
     caret_patch s (none_below s.major (and_first (s.major == 0) _ h)) (none_below s.minor (and_first (s.minor == 0) _ h1))
-    ∙ plain_range s e refl (plain_is e 0 0 (s.patch + 1) (and_second (s.minor == 0) _ h1))
+    ∙ short_range s e refl (short_is e 0 0 (s.patch + 1) (and_second (s.minor == 0) _ h1))
 
 -- ---- ranges with a short form
 
@@ -166,11 +166,11 @@ short_by_caret_major s e h = or_second (is_major s e) _ (or_second (is_tilde s e
 -- the comparators from s to below e: one with the range itself, or those of the last two lines
 pub by_form : (P : List Comparator → Type 0) (s e : Version)
     → (has_short_form s e ≡ true → (c : Comparator) → comparator_range c ≡ between (from s) (to_below e) → P (c ∷ []))
-    → (has_short_form s e ≡ false → P (if is_plain s 0 0 0 then ending kind.Exclusive e ∷ [] else starting kind.Inclusive s ∷ ending kind.Exclusive e ∷ []))
+    → (has_short_form s e ≡ false → P (if is_release_of s 0 0 0 then ending kind.Exclusive e ∷ [] else starting kind.Inclusive s ∷ ending kind.Exclusive e ∷ []))
     → P (shortest_between kind.Inclusive kind.Exclusive s e)
 by_form P s e own rest =
     by_test P (is_major s e) (λ fits. own (short_by_major s e fits) _ (major_range s e fits)) (λ no_major.
-    by_test P (is_minor s e) (λ fits. own (short_by_tilde s e (and_second (is_plain s s.major s.minor 0) _ fits)) _ (minor_range s e fits)) (λ _.
+    by_test P (is_minor s e) (λ fits. own (short_by_tilde s e (and_second (is_release_of s s.major s.minor 0) _ fits)) _ (minor_range s e fits)) (λ _.
     by_test P (is_tilde s e) (λ fits. own (short_by_tilde s e fits) _ (tilde_range s e fits)) (λ no_tilde.
     by_test P (is_caret_patch s e) (λ fits. own (short_by_caret_patch s e fits) _ (caret_patch_range s e fits)) (λ no_patch.
     by_test P (is_caret_major s e) (λ fits. own (short_by_caret_major s e fits) _ (caret_major_range s e fits)) (λ no_caret.
@@ -183,7 +183,7 @@ not_below true b h k = cc (h, k)
 not_below false b h k = refl
 
 -- a range from a pre-release of 0.0.0 to below 0.0.1 or 0.1.0 has a short form
-pub short_end : (s e : Version) → is_pre_of_zero s ≡ true → (is_plain e 0 0 1 || is_plain e 0 1 0) ≡ true → has_short_form s e ≡ true
+pub short_end : (s e : Version) → is_pre_of_zero s ≡ true → (is_release_of e 0 0 1 || is_release_of e 0 1 0) ≡ true → has_short_form s e ≡ true
 short_end s e low h =
     let numbers = and_second (not (length s.pre == 0)) _ low in
     let numbers1 = and_second (s.major == 0) _ numbers in
@@ -195,10 +195,10 @@ short_end s e low h =
       | inr minors ↦ short_by_tilde s e (rw (major, minor) minors)
     ]
 
-not_short : (s e : Version) → (not (is_pre_of_zero s) || (is_plain e 0 0 1 || is_plain e 0 1 0)) ≡ true → has_short_form s e ≡ false → is_pre_of_zero s ≡ false
+not_short : (s e : Version) → (not (is_pre_of_zero s) || (is_release_of e 0 0 1 || is_release_of e 0 1 0)) ≡ true → has_short_form s e ≡ false → is_pre_of_zero s ≡ false
 not_short s e h long = go (is_pre_of_zero s) refl h
   where
-    go : (b : Bool) → is_pre_of_zero s ≡ b → (not b || (is_plain e 0 0 1 || is_plain e 0 1 0)) ≡ true → b ≡ false
+    go : (b : Bool) → is_pre_of_zero s ≡ b → (not b || (is_release_of e 0 0 1 || is_release_of e 0 1 0)) ≡ true → b ≡ false
     go false low h = refl
     go true low h = cc (short_end s e low h, long)
 
@@ -207,13 +207,13 @@ not_short s e h long = go (is_pre_of_zero s) refl h
 between_means : (k l : VersionBoundKind) (s e : Version) → (not (is_pre_of_zero s) || has_own_form k l s e) ≡ true → Means (shortest_between k l s e) (between (bound_at k s) (bound_at l e))
 between_means kind.Inclusive kind.Inclusive s e h =
     let P : List Comparator → Type 0 = λ cs. Means cs (between (from s) (up_to e)) in
-    by_test P (version_eq s e) (λ same. alone_means (Plain (whole s)) _ (version_range s e same)) (λ other.
-    by_test P (is_plain s 0 0 0) (end_means kind.Inclusive s e) (λ _.
+    by_test P (version_eq s e) (λ same. alone_means (Bare (whole s)) _ (version_range s e same)) (λ other.
+    by_test P (is_release_of s 0 0 0) (end_means kind.Inclusive s e) (λ _.
     both_mean kind.Inclusive kind.Inclusive s e (not_below _ _ h other)))
 between_means kind.Inclusive kind.Exclusive s e h =
     let P : List Comparator → Type 0 = λ cs. Means cs (between (from s) (to_below e)) in
     by_form P s e (λ _ c own. alone_means c _ own) (λ long.
-    by_test P (is_plain s 0 0 0) (end_means kind.Exclusive s e) (λ _.
+    by_test P (is_release_of s 0 0 0) (end_means kind.Exclusive s e) (λ _.
     both_mean kind.Inclusive kind.Exclusive s e (not_short s e h long)))
 between_means kind.Exclusive l s e h = both_mean kind.Exclusive l s e (not_below _ false h refl)
 

@@ -1,7 +1,7 @@
 -- The longest strict prefix of a text that the normalized grammar matches fits if that does.
 use Rattle.std.proofs.Common.{◌≡◌, ◌+◌, ℕ, true, List, [], ◌∷◌, ◌++◌, refl, ◌∙◌}
 use Rattle.std.proofs.lemmas.Bool.{and_parts}
-use Rattle.semver_base.specs.Comparators.{Comparator, Plain, Tilde, comparator_line}
+use Rattle.semver_base.specs.Comparators.{Comparator, Bare, Tilde, comparator_line}
 use Rattle.semver_base.specs.PartialTable.{all_fit, number_fits}
 use Rattle.semver_base.specs.declared.partial.Partial.{Partial}
 use Rattle.semver_base.specs.declared.partial.XRange.{XRange}
@@ -13,11 +13,11 @@ abbrev partial : XRange → XRange → XRange → List (List ℕ) → List (List
 partial major minor patch pre build = record { major = major; minor = minor; patch = patch; pre = pre; build = build }
 
 -- what fits doesn't depend on the pre-release and the build
-plain_same : (m n p : XRange) (a b c d : List (List ℕ)) → fits (Plain (partial m n p a b)) ≡ fits (Plain (partial m n p c d))
-plain_same Wildcard n p a b c d = refl
-plain_same (Val m) Wildcard p a b c d = refl
-plain_same (Val m) (Val n) Wildcard a b c d = refl
-plain_same (Val m) (Val n) (Val p) a b c d = refl
+bare_same : (m n p : XRange) (a b c d : List (List ℕ)) → fits (Bare (partial m n p a b)) ≡ fits (Bare (partial m n p c d))
+bare_same Wildcard n p a b c d = refl
+bare_same (Val m) Wildcard p a b c d = refl
+bare_same (Val m) (Val n) Wildcard a b c d = refl
+bare_same (Val m) (Val n) (Val p) a b c d = refl
 
 tilde_same : (m n p : XRange) (a b c d : List (List ℕ)) → fits (Tilde (partial m n p a b)) ≡ fits (Tilde (partial m n p c d))
 tilde_same Wildcard n p a b c d = refl
@@ -42,17 +42,17 @@ abbrev Numbers : XRange → XRange → XRange → List ℕ
 Numbers m n p = component_numbers m ++ component_numbers n ++ component_numbers p
 
 -- cut after a `0`, a plain partial version fits if it did
-plain_cut_fits : (m n p x y z : XRange) (a b c d : List (List ℕ)) → IsCutOf m n p x y z → fits (Plain (partial m n p a b)) ≡ true → fits (Plain (partial x y z c d)) ≡ true
-plain_cut_fits m n p x y z a b c d all_same h = plain_same m n p c d a b ∙ h
-plain_cut_fits m n p x y z a b c d major_cut h = refl
-plain_cut_fits Wildcard n p x y z a b c d minor_cut h = refl
-plain_cut_fits (Val m) n p x y z a b c d minor_cut h = rw (first_fits m (component_numbers n ++ component_numbers p) (numbers_fit Plain (λ q. refl) (partial (Val m) n p a b) h)) refl
-plain_cut_fits Wildcard Wildcard p x y z a b c d patch_cut h = refl
-plain_cut_fits Wildcard (Val n) p x y z a b c d patch_cut h = rw (first_fits n (component_numbers p) (numbers_fit Plain (λ q. refl) (partial Wildcard (Val n) p a b) h)) refl
-plain_cut_fits (Val m) Wildcard p x y z a b c d patch_cut h =
-    rw (first_fits m (component_numbers p) (numbers_fit Plain (λ q. refl) (partial (Val m) Wildcard p a b) h), first_fits (m + 1) [] (sums_fit Plain (λ q. refl) (partial (Val m) Wildcard p a b) h)) refl
-plain_cut_fits (Val m) (Val n) p x y z a b c d patch_cut h =
-    let all : all_fit (m ∷ n ∷ component_numbers p) ≡ true = numbers_fit Plain (λ q. refl) (partial (Val m) (Val n) p a b) h in
+bare_cut_fits : (m n p x y z : XRange) (a b c d : List (List ℕ)) → IsCutOf m n p x y z → fits (Bare (partial m n p a b)) ≡ true → fits (Bare (partial x y z c d)) ≡ true
+bare_cut_fits m n p x y z a b c d all_same h = bare_same m n p c d a b ∙ h
+bare_cut_fits m n p x y z a b c d major_cut h = refl
+bare_cut_fits Wildcard n p x y z a b c d minor_cut h = refl
+bare_cut_fits (Val m) n p x y z a b c d minor_cut h = rw (first_fits m (component_numbers n ++ component_numbers p) (numbers_fit Bare (λ q. refl) (partial (Val m) n p a b) h)) refl
+bare_cut_fits Wildcard Wildcard p x y z a b c d patch_cut h = refl
+bare_cut_fits Wildcard (Val n) p x y z a b c d patch_cut h = rw (first_fits n (component_numbers p) (numbers_fit Bare (λ q. refl) (partial Wildcard (Val n) p a b) h)) refl
+bare_cut_fits (Val m) Wildcard p x y z a b c d patch_cut h =
+    rw (first_fits m (component_numbers p) (numbers_fit Bare (λ q. refl) (partial (Val m) Wildcard p a b) h), first_fits (m + 1) [] (sums_fit Bare (λ q. refl) (partial (Val m) Wildcard p a b) h)) refl
+bare_cut_fits (Val m) (Val n) p x y z a b c d patch_cut h =
+    let all : all_fit (m ∷ n ∷ component_numbers p) ≡ true = numbers_fit Bare (λ q. refl) (partial (Val m) (Val n) p a b) h in
     rw (first_fits m (n ∷ component_numbers p) all, first_fits n (component_numbers p) (others_fit m (n ∷ component_numbers p) all)) refl
 
 -- so does one after a tilde
@@ -69,8 +69,8 @@ tilde_cut_fits (Val m) (Val n) p x y z a b c d patch_cut h =
     let all : all_fit (m ∷ n ∷ component_numbers p) ≡ true = numbers_fit Tilde (λ q. refl) (partial (Val m) (Val n) p a b) h in
     rw (first_fits m (n ∷ component_numbers p) all, first_fits n (component_numbers p) (others_fit m (n ∷ component_numbers p) all), first_fits (n + 1) [] (sums_fit Tilde (λ q. refl) (partial (Val m) (Val n) p a b) h)) refl
 
-pub plain_fits : (p q : Partial) → IsCut p q → fits (Plain p) ≡ true → fits (Plain q) ≡ true
-plain_fits p q cut h = plain_cut_fits p.major p.minor p.patch q.major q.minor q.patch p.pre p.build q.pre q.build cut h
+pub bare_fits : (p q : Partial) → IsCut p q → fits (Bare p) ≡ true → fits (Bare q) ≡ true
+bare_fits p q cut h = bare_cut_fits p.major p.minor p.patch q.major q.minor q.patch p.pre p.build q.pre q.build cut h
 
 pub tilde_fits : (p q : Partial) → IsCut p q → fits (Tilde p) ≡ true → fits (Tilde q) ≡ true
 tilde_fits p q cut h = tilde_cut_fits p.major p.minor p.patch q.major q.minor q.patch p.pre p.build q.pre q.build cut h

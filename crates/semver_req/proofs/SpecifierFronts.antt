@@ -16,7 +16,7 @@ use Rattle.semver_base.proofs.Fronts.{Apart, fronts, longer, same, shorter}
 use Rattle.semver_base.proofs.Numbers.{loose_goes, loose_some, strict_zero}
 use Rattle.semver_base.proofs.Readings.{in_place}
 use Rattle.semver_base.proofs.WordReadings.{number_one}
-use Rattle.semver_req.specs.Partials.{IsComponent, IsPlainPartial, IsSecond, IsThird, is_wildcard, partial_of}
+use Rattle.semver_req.specs.Partials.{IsComponent, IsBarePartial, IsSecond, IsThird, is_wildcard, partial_of}
 use Rattle.semver_req.specs.declared.common.values.Flavour.TheVariants.{Normal, Specifier}
 use Rattle.semver_base.proofs.Qualifiers.{strict_no_digit}
 use Rattle.semver_req.proofs.Components.{component_goes, component_number, component_wildcard, wildcard_no_digit}
@@ -307,8 +307,8 @@ module _ (w : List ℕ) (past : IsPast w) {rest : List ℕ} where
       let none : v.1 ≡ None = no_dot {D = Seconds} v.1 (digit_no_dot more digit) parts.second in
       rw (pair_is v (Val 0) None parts.value none) major_cut
 
-  pub plain_cut : (text : List ℕ) (p q : Partial) → IsPlainPartial Normal text p → IsLongest (IsPlainPartial Specifier) (text ++ w) q rest → IsCut p q
-  plain_cut text p q m h =
+  pub bare_cut : (text : List ℕ) (p q : Partial) → IsBarePartial Normal text p → IsLongest (IsBarePartial Specifier) (text ++ w) q rest → IsCut p q
+  bare_cut text p q m h =
       let k = m.stands in
       let found = component_cut k.first (k.second ++ w) m.value.0 k.in_first (λ d. after_first k.second w m.value.1 k.in_second past) in
       let same : text ++ w ≡ k.first ++ (k.second ++ w) = ap (λ t. t ++ w) k.text_is ∙ append_assoc k.first k.second w in
@@ -326,7 +326,7 @@ pub record HasSpecifier (text : List ℕ) : Type 0 where
   pub rest : List ℕ
   pub value : Partial
   pub text_is : text ≡ front ++ rest
-  pub stands : IsPlainPartial Specifier front value
+  pub stands : IsBarePartial Specifier front value
 
 first_alone : {text middle : List ℕ} {x : XRange} → IsLongest (IsComponent Specifier) text x middle → HasSpecifier text
 first_alone {middle = middle} {x = x} p = record {
@@ -337,8 +337,8 @@ first_alone {middle = middle} {x = x} p = record {
   stands = record { value = (x, None); stands = record { first = p.front; second = []; text_is = refl; in_first = p.stands; in_second = refl; seam = tt }; is = refl };
 }
 
-pub plain_has_specifier : (text w : List ℕ) (p : Partial) → IsPlainPartial Normal text p → IsPast w → HasSpecifier (text ++ w)
-plain_has_specifier text w p m past =
+pub bare_has_specifier : (text w : List ℕ) (p : Partial) → IsBarePartial Normal text p → IsPast w → HasSpecifier (text ++ w)
+bare_has_specifier text w p m past =
     let k = m.stands in
     let same : text ++ w ≡ k.first ++ (k.second ++ w) = ap (λ t. t ++ w) k.text_is ∙ append_assoc k.first k.second w in
     subst HasSpecifier (sym same) (go (component_cut k.first (k.second ++ w) m.value.0 k.in_first (λ d. after_first k.second w m.value.1 k.in_second past)))

@@ -6,23 +6,23 @@ use Rattle.std.specs.List.{list_all}
 use Rattle.std.specs.Str.{chars}
 use Rattle.std.proofs.lemmas.Bool.{and_parts}
 use Rattle.std.proofs.lemmas.Bool.Decides.{nat_tests}
-use Rattle.semver_base.specs.Comparators.{Comparator, Plain, Tilde, primitive_kind_text}
+use Rattle.semver_base.specs.Comparators.{Comparator, Bare, Tilde, primitive_kind_text}
 use Rattle.semver_base.specs.Grammar.{IsLongest, Listed, closed_item, last_item, more_items, that, this}
-use Rattle.semver_base.specs.Lexical.{IsSomeBlanks}
+use Rattle.semver_base.specs.Lexical.{IsSomeWhitespace}
 use Rattle.semver_base.specs.declared.partial.Partial.{Partial}
 use Rattle.semver_base.specs.declared.primitive.PrimitiveKind.{PrimitiveKind}
 use Rattle.semver_base.specs.declared.primitive.PrimitiveKind.TheVariants.{Equal, GreaterThan, GreaterThanOrEqual, LessThan, LessThanOrEqual}
-use Rattle.semver_base.proofs.Blanks.{blanks_made, is_blank_byte}
+use Rattle.semver_base.proofs.Whitespace.{whitespace_made, is_whitespace_byte}
 use Rattle.semver_req.specs.Comparators.{IsComparator, fits}
 use Rattle.semver_req.specs.Outcome.{IsGood, IsSpecifierOutcome, IsSpecifierRange, Tag, no_fit, no_front, tag}
-use Rattle.semver_req.specs.Partials.{IsPlainPartial}
+use Rattle.semver_req.specs.Partials.{IsBarePartial}
 use Rattle.semver_req.specs.Tag.{is_valid_tag}
 use Rattle.semver_req.specs.declared.common.values.Flavour.TheVariants.{Normal, Specifier}
 use Rattle.semver_req.proofs.Components.{is_component_byte}
 use Rattle.semver_req.proofs.Partials.{partial_begins, partial_some}
 use Rattle.semver_req.proofs.PrimitiveKindsNoTag.{are_tag_characters, first_caret, first_equal, first_greater, first_less}
-use Rattle.semver_req.proofs.SpecifierFits.{plain_fits, tilde_fits}
-use Rattle.semver_req.proofs.SpecifierFronts.{IsPast, plain_cut, plain_has_specifier}
+use Rattle.semver_req.proofs.SpecifierFits.{bare_fits, tilde_fits}
+use Rattle.semver_req.proofs.SpecifierFronts.{IsPast, bare_cut, bare_has_specifier}
 
 -- the text is a comparator, and nothing or whitespace follows it
 record BeginsByComparator (text : List ℕ) (c : Comparator) : Type 0 where
@@ -32,35 +32,35 @@ record BeginsByComparator (text : List ℕ) (c : Comparator) : Type 0 where
   stands : IsComparator Normal first c
   past : IsPast rest
 
-blank_past : (s rest : List ℕ) → IsSomeBlanks s tt → IsPast (s ++ rest)
-blank_past [] rest h = absurd (omega (arith, h.0))
-blank_past (x ∷ s) rest h =
-    let blank : is_blank_byte x ≡ true = (and_parts (is_blank_byte x) _ (blanks_made.made (x ∷ s) tt h.1)).0 in
+whitespace_past : (s rest : List ℕ) → IsSomeWhitespace s tt → IsPast (s ++ rest)
+whitespace_past [] rest h = absurd (omega (arith, h.0))
+whitespace_past (x ∷ s) rest h =
+    let whitespace : is_whitespace_byte x ≡ true = (and_parts (is_whitespace_byte x) _ (whitespace_made.made (x ∷ s) tt h.1)).0 in
     record { no_digit = grind (arith, nat_tests); no_dot = λ more e. let byte : x ≡ 46 = cc e in grind (arith, nat_tests) }
 
 nothing_past : IsPast []
 nothing_past = record { no_digit = tt; no_dot = λ more e. cc e }
 
 -- the first comparator of a list
-begins : (text : List ℕ) (c : Comparator) (cs : List Comparator) → Listed (IsComparator Normal) IsSomeBlanks text (c ∷ cs) → BeginsByComparator text c
+begins : (text : List ℕ) (c : Comparator) (cs : List Comparator) → Listed (IsComparator Normal) IsSomeWhitespace text (c ∷ cs) → BeginsByComparator text c
 begins text c cs (last_item h) = record { first = text; rest = []; text_is = sym (append-nil text); stands = h; past = nothing_past }
-begins text c cs (closed_item {a} {s} h k) = record { first = a; rest = s; text_is = refl; stands = h; past = rw append-nil at (blank_past s [] k) }
-begins text c cs (more_items {a} {s} {b} h k t) = record { first = a; rest = s ++ b; text_is = refl; stands = h; past = blank_past s b k }
+begins text c cs (closed_item {a} {s} h k) = record { first = a; rest = s; text_is = refl; stands = h; past = rw append-nil at (whitespace_past s [] k) }
+begins text c cs (more_items {a} {s} {b} h k t) = record { first = a; rest = s ++ b; text_is = refl; stands = h; past = whitespace_past s b k }
 
 -- ---- the strict prefixes of such a text
 
-plain_longest : {text after : List ℕ} {c : Comparator} (q : Partial) (h : IsLongest IsSpecifierRange text c after) → c ≡ Plain q → IsPlainPartial Specifier h.front q → IsLongest (IsPlainPartial Specifier) text q after
-plain_longest q h is k = record {
+bare_longest : {text after : List ℕ} {c : Comparator} (q : Partial) (h : IsLongest IsSpecifierRange text c after) → c ≡ Bare q → IsBarePartial Specifier h.front q → IsLongest (IsBarePartial Specifier) text q after
+bare_longest q h is k = record {
   front = h.front;
   text_is = h.text_is;
   stands = k;
   longest = λ a b u e r.
-      let best = h.longest a b (Plain u) e (that (record { value = u; stands = r; is = refl })) in
-      (best.0, λ s. let same : Plain u ≡ Plain q = best.1 s ∙ is in cc same);
+      let best = h.longest a b (Bare u) e (that (record { value = u; stands = r; is = refl })) in
+      (best.0, λ s. let same : Bare u ≡ Bare q = best.1 s ∙ is in cc same);
 }
 
 -- the strict prefix of a text after a tilde
-tilde_longest : {text after : List ℕ} {c : Comparator} (q : Partial) (front : List ℕ) (h : IsLongest IsSpecifierRange (126 ∷ text) c after) → h.front ≡ 126 ∷ front → c ≡ Tilde q → IsPlainPartial Specifier front q → IsLongest (IsPlainPartial Specifier) text q after
+tilde_longest : {text after : List ℕ} {c : Comparator} (q : Partial) (front : List ℕ) (h : IsLongest IsSpecifierRange (126 ∷ text) c after) → h.front ≡ 126 ∷ front → c ≡ Tilde q → IsBarePartial Specifier front q → IsLongest (IsBarePartial Specifier) text q after
 tilde_longest {after = after} q front h f is k = record {
   front = front;
   text_is = cc (h.text_is ∙ ap (λ t. t ++ after) f);
@@ -71,9 +71,9 @@ tilde_longest {after = after} q front h f is k = record {
 }
 
 -- what begins with a component doesn't begin with an operator
-no_mark : (text : List ℕ) (p : Partial) → IsPlainPartial Normal text p → (rest more : List ℕ) (m : ℕ) → text ++ rest ≡ m ∷ more → is_component_byte m ≡ false → ⊥
-no_mark [] p h rest more m e other = (partial_some Normal).some p h
-no_mark (x ∷ text) p h rest more m e other =
+no_operator : (text : List ℕ) (p : Partial) → IsBarePartial Normal text p → (rest more : List ℕ) (m : ℕ) → text ++ rest ≡ m ∷ more → is_component_byte m ≡ false → ⊥
+no_operator [] p h rest more m e other = (partial_some Normal).some p h
+no_operator (x ∷ text) p h rest more m e other =
     let byte : x ≡ m = cc e in
     let same : true ≡ false = sym ((partial_begins Normal).begins x (record { more = text; value = p; stands = h })) ∙ rw byte other in
     cc same
@@ -81,27 +81,27 @@ no_mark (x ∷ text) p h rest more m e other =
 -- ---- such a text isn't a tag of the strict parser
 
 -- the prefix doesn't fit
-no_plain : (text rest after : List ℕ) (p : Partial) (c : Comparator) → IsPlainPartial Normal text p → IsPast rest → fits (Plain p) ≡ true → IsLongest IsSpecifierRange (text ++ rest) c after → fits c ≡ false → ⊥
-no_plain text rest after p c m past fit h misfit = go h.front refl h.stands
+no_bare : (text rest after : List ℕ) (p : Partial) (c : Comparator) → IsBarePartial Normal text p → IsPast rest → fits (Bare p) ≡ true → IsLongest IsSpecifierRange (text ++ rest) c after → fits c ≡ false → ⊥
+no_bare text rest after p c m past fit h misfit = go h.front refl h.stands
   where
     go : (front : List ℕ) → h.front ≡ front → IsSpecifierRange front c → ⊥
     go [] f (this (this k)) = k.stands
-    go (b ∷ front) f (this (this k)) = no_mark text p m rest (front ++ after) b (h.text_is ∙ ap (λ t. t ++ after) f) (rw k.stands.0 refl)
+    go (b ∷ front) f (this (this k)) = no_operator text p m rest (front ++ after) b (h.text_is ∙ ap (λ t. t ++ after) f) (rw k.stands.0 refl)
     go [] f (this (that k)) = k.stands
-    go (b ∷ front) f (this (that k)) = no_mark text p m rest (front ++ after) b (h.text_is ∙ ap (λ t. t ++ after) f) (rw k.stands.0 refl)
+    go (b ∷ front) f (this (that k)) = no_operator text p m rest (front ++ after) b (h.text_is ∙ ap (λ t. t ++ after) f) (rw k.stands.0 refl)
     go front f (that k) =
-        let cut = plain_cut rest past text p k.value m (plain_longest k.value h k.is (rw f k.stands)) in
-        let same : true ≡ false = sym (plain_fits p k.value cut fit) ∙ (sym (ap fits k.is) ∙ misfit) in
+        let cut = bare_cut rest past text p k.value m (bare_longest k.value h k.is (rw f k.stands)) in
+        let same : true ≡ false = sym (bare_fits p k.value cut fit) ∙ (sym (ap fits k.is) ∙ misfit) in
         cc same
 
-no_tilde : (text rest after : List ℕ) (p : Partial) (c : Comparator) → IsPlainPartial Normal text p → IsPast rest → fits (Tilde p) ≡ true → IsLongest IsSpecifierRange (126 ∷ (text ++ rest)) c after → fits c ≡ false → ⊥
+no_tilde : (text rest after : List ℕ) (p : Partial) (c : Comparator) → IsBarePartial Normal text p → IsPast rest → fits (Tilde p) ≡ true → IsLongest IsSpecifierRange (126 ∷ (text ++ rest)) c after → fits c ≡ false → ⊥
 no_tilde text rest after p c m past fit h misfit = go h.front refl h.stands
   where
     go : (front : List ℕ) → h.front ≡ front → IsSpecifierRange front c → ⊥
     go [] f (this (this k)) = k.stands
     go (b ∷ front) f (this (this k)) =
-        let mark : h.front ≡ 126 ∷ front = rw k.stands.0 at f in
-        let cut = plain_cut rest past text p k.value m (tilde_longest k.value front h mark k.is k.stands.1) in
+        let operator : h.front ≡ 126 ∷ front = rw k.stands.0 at f in
+        let cut = bare_cut rest past text p k.value m (tilde_longest k.value front h operator k.is k.stands.1) in
         let same : true ≡ false = sym (tilde_fits p k.value cut fit) ∙ (sym (ap fits k.is) ∙ misfit) in
         cc same
     go [] f (this (that k)) = k.stands
@@ -131,13 +131,13 @@ comparator_no_tag text c t b fit characters o = go b.first refl b.stands
     primitive_kinds LessThanOrEqual s more f e = begins_primitive_kind 60 (61 ∷ more) (e ∙ ap (λ t. t ++ more) f) first_less
     primitive_kinds Equal s more f e = begins_primitive_kind 61 more (e ∙ ap (λ t. t ++ more) f) first_equal
 
-    plain : (p : Partial) → IsPlainPartial Normal b.first p → fits (Plain p) ≡ true → IsSpecifierOutcome text (Tag t) → ⊥
-    plain p m f (no_front n k) = let s = plain_has_specifier b.first b.rest p m b.past in n.none s.front s.rest (Plain s.value) (b.text_is ∙ s.text_is) (that (record { value = s.value; stands = s.stands; is = refl }))
-    plain p m f (no_fit {c = d} h misfit k) = no_plain b.first b.rest _ p d m b.past f (rw b.text_is at h) misfit
+    plain : (p : Partial) → IsBarePartial Normal b.first p → fits (Bare p) ≡ true → IsSpecifierOutcome text (Tag t) → ⊥
+    plain p m f (no_front n k) = let s = bare_has_specifier b.first b.rest p m b.past in n.none s.front s.rest (Bare s.value) (b.text_is ∙ s.text_is) (that (record { value = s.value; stands = s.stands; is = refl }))
+    plain p m f (no_fit {c = d} h misfit k) = no_bare b.first b.rest _ p d m b.past f (rw b.text_is at h) misfit
 
-    tilde : (more : List ℕ) (p : Partial) → b.first ≡ 126 ∷ more → IsPlainPartial Normal more p → fits (Tilde p) ≡ true → IsSpecifierOutcome text (Tag t) → ⊥
+    tilde : (more : List ℕ) (p : Partial) → b.first ≡ 126 ∷ more → IsBarePartial Normal more p → fits (Tilde p) ≡ true → IsSpecifierOutcome text (Tag t) → ⊥
     tilde more p e m f (no_front n k) =
-        let s = plain_has_specifier more b.rest p m b.past in
+        let s = bare_has_specifier more b.rest p m b.past in
         n.none (126 ∷ s.front) s.rest (Tilde s.value) (b.text_is ∙ (ap (λ t. t ++ b.rest) e ∙ ap (λ t. 126 ∷ t) s.text_is)) (this (this (record { value = s.value; stands = (refl, s.stands); is = refl })))
     tilde more p e m f (no_fit {c = d} h misfit k) = no_tilde more b.rest _ p d m b.past f (rw (b.text_is, e) at h) misfit
 

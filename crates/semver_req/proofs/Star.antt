@@ -1,7 +1,7 @@
 -- Each parser parses `*` to any version.
 use Rattle.std.proofs.Common.{[], ◌∷◌, List, None, refl, sym}
 use Rattle.std.specs.Prelude.{codes}
-use Rattle.semver_base.specs.Comparators.{Plain}
+use Rattle.semver_base.specs.Comparators.{Bare}
 use Rattle.semver_base.specs.Grammar.{IsLongest, that}
 use Rattle.semver_base.specs.Meaning.{everything}
 use Rattle.semver_base.specs.NormalText.{AreWritableRanges}
@@ -30,7 +30,7 @@ writable = (record { start = tt; end = tt }, tt)
 abbrev any_partial : Partial
 any_partial = record { major = Wildcard; minor = Wildcard; patch = Wildcard; pre = []; build = [] }
 
-star_read : IsSpecifierRange (codes "*") (Plain any_partial)
+star_read : IsSpecifierRange (codes "*") (Bare any_partial)
 star_read = that (record {
   value = any_partial;
   stands = record {
@@ -41,7 +41,7 @@ star_read = that (record {
   is = refl;
 })
 
-star_longest : IsLongest IsSpecifierRange (codes "*") (Plain any_partial) []
+star_longest : IsLongest IsSpecifierRange (codes "*") (Bare any_partial) []
 star_longest = in_place (comparator_one Specifier) (comparator_goes Specifier) (codes "*") [] star_read tt
 
 pub star_any : StarIsAnyVersion
@@ -50,4 +50,4 @@ star_any Npm = record {
   raw_text = sym (set_trimmed any_set writable);
 }
 star_any Normal = record { reading = record { outcome = Ranges (shortest_tree any_set); is_outcome = set_outcome Normal normal any_set writable; is_read = refl }; raw_text = refl }
-star_any Specifier = record { reading = record { outcome = Ranges ((Plain any_partial ∷ []) ∷ []); is_outcome = whole star_longest refl; is_read = refl }; raw_text = refl }
+star_any Specifier = record { reading = record { outcome = Ranges ((Bare any_partial ∷ []) ∷ []); is_outcome = whole star_longest refl; is_read = refl }; raw_text = refl }

@@ -5,7 +5,7 @@ use Rattle.std.specs.Prelude.{if◌then◌else◌, nat_lt}
 use Rattle.std.specs.declared.cmp.Ordering.{Ordering}
 use Rattle.std.specs.declared.cmp.Ordering.TheVariants.{Less, Equal, Greater}
 use Rattle.semver_base.specs.Clamp.{clamped, clamped_end, clamped_start, greater_of, of_tied, stopped_at, stopped_by}
-use Rattle.semver_base.specs.Comparators.{Caret, Comparator, Hyphen, OfPrimitive, Plain, Tilde, comparator_range, primitive_line}
+use Rattle.semver_base.specs.Comparators.{Caret, Comparator, Hyphen, OfPrimitive, Bare, Tilde, comparator_range, primitive_line}
 use Rattle.semver_base.specs.Meaning.{everything, release}
 use Rattle.semver_base.specs.PartialTable.{above_by, at_least_by, at_most_by, below_by, caret_by, caret_patch, equal_by, greater_range_by, lower_to_below, tilde_by}
 use Rattle.semver_base.specs.Precedence.{precedence_cmp}
@@ -20,7 +20,7 @@ use Rattle.semver_base.specs.declared.range.VersionBound.{VersionBound}
 use Rattle.semver_base.specs.declared.range.VersionBoundKind.{VersionBoundKind}
 use Rattle.semver_base.specs.declared.range.VersionBoundKind.TheVariants as kind
 use Rattle.semver_base.specs.declared.range.VersionRange.{VersionRange}
-use Rattle.semver_req.specs.KeptSet.{kept_range}
+use Rattle.semver_req.specs.RetainedSet.{retained_range}
 
 -- an absent start comes with an absent end only
 abbrev pub starts_or_is_open : RangeBound → RangeBound → Bool
@@ -101,7 +101,7 @@ pub comparator_starts : (c : Comparator) → has_start (comparator_range c) ≡ 
 comparator_starts (Tilde p) = tilde_starts p p.major p.minor
 comparator_starts (Caret p) = caret_starts p p.major p.minor p.patch
 comparator_starts (OfPrimitive primitive_kind p) = primitive_starts primitive_kind p
-comparator_starts (Plain p) = equal_starts p p.major p.minor p.patch
+comparator_starts (Bare p) = equal_starts p p.major p.minor p.patch
 comparator_starts (Hyphen p q) = refl
 
 -- ---- what `clamp` keeps
@@ -139,6 +139,6 @@ folded_starts start [] h = h
 folded_starts start (c ∷ cs) h = folded_starts (clamped start (comparator_range c)) cs (clamped_starts start (comparator_range c) h (comparator_starts c))
 
 -- an absent start of the range of an alternative comes with an absent end
-pub kept_range_starts : (comparators : List Comparator) → has_start (kept_range comparators) ≡ true
-kept_range_starts (Hyphen p q ∷ []) = comparator_starts (Hyphen p q)
-kept_range_starts comparators = folded_starts everything comparators refl
+pub retained_range_starts : (comparators : List Comparator) → has_start (retained_range comparators) ≡ true
+retained_range_starts (Hyphen p q ∷ []) = comparator_starts (Hyphen p q)
+retained_range_starts comparators = folded_starts everything comparators refl

@@ -26,13 +26,13 @@ is_one_of c [] = false
 is_one_of c (b ∷ bs) = (c == b) || is_one_of c bs
 
 -- the whitespace characters
-abbrev blanks : List ℕ
-blanks = 9 ∷ 10 ∷ 11 ∷ 12 ∷ 13 ∷ 32 ∷ 133 ∷ 160 ∷ 5760 ∷ 8192 ∷ 8193 ∷ 8194 ∷ 8195 ∷ 8196 ∷ 8197 ∷ 8198 ∷ 8199 ∷ 8200 ∷ 8201 ∷ 8202 ∷ 8232 ∷ 8233 ∷ 8239 ∷ 8287 ∷ 12288 ∷ []
+abbrev whitespace : List ℕ
+whitespace = 9 ∷ 10 ∷ 11 ∷ 12 ∷ 13 ∷ 32 ∷ 133 ∷ 160 ∷ 5760 ∷ 8192 ∷ 8193 ∷ 8194 ∷ 8195 ∷ 8196 ∷ 8197 ∷ 8198 ∷ 8199 ∷ 8200 ∷ 8201 ∷ 8202 ∷ 8232 ∷ 8233 ∷ 8239 ∷ 8287 ∷ 12288 ∷ []
 
-white_one : (c : ℕ) → is_whitespace c ≡ true → is_one_of c blanks ≡ true
+white_one : (c : ℕ) → is_whitespace c ≡ true → is_one_of c whitespace ≡ true
 white_one c h = grind (arith, nat_tests)
 
-none_tags : list_all (λ b. not (is_tag_character b)) blanks ≡ true
+none_tags : list_all (λ b. not (is_tag_character b)) whitespace ≡ true
 unfolding ucd_derived ucd_category
 none_tags = refl
 
@@ -49,4 +49,4 @@ other c (b ∷ bs) h k t = elim (either_true (c == b) (is_one_of c bs) h) [
 ]
 
 pub white_no_tag : (c : ℕ) → is_whitespace c ≡ true → is_tag_character c ≡ true → ⊥
-white_no_tag c h t = other c blanks (white_one c h) none_tags t
+white_no_tag c h t = other c whitespace (white_one c h) none_tags t

@@ -7,7 +7,7 @@ use Rattle.std.proofs.lemmas.Bool.{and_from, and_parts, cases_Bool, eqb-true}
 use Rattle.std.proofs.lemmas.Str.{IsCharBoundary-before_ascii, IsUtf8-take, chars-append, encodes-append, encodes-chars, encodes_same, scalars-chars}
 use Rattle.std.proofs.Math.Seq.{take-append_seam}
 use Rattle.std.proofs.lemmas.List.{get_or-append_right, nil_from_length}
-use Rattle.semver_base.specs.Lexical.{IsBlanks}
+use Rattle.semver_base.specs.Lexical.{IsWhitespace}
 use Rattle.semver_req.specs.Pieces.{ArePieces, first_cut, one_piece}
 
 -- ---- at the start
@@ -41,28 +41,28 @@ front_start piece rest u v e = start_same piece u (front_starts (chars piece) (c
 
 -- ---- at the end
 
-record EndsBlank (cs : List ℕ) : Type 0 where
-  blanks : List ℕ
-  text_is : cs ≡ drop_trailing_whitespace cs ++ blanks
-  white : NonePass is_not_whitespace blanks
+record EndsWhitespace (cs : List ℕ) : Type 0 where
+  whitespace : List ℕ
+  text_is : cs ≡ drop_trailing_whitespace cs ++ whitespace
+  white : NonePass is_not_whitespace whitespace
 
 -- a character before characters of which this is known
-one_more : (c : ℕ) (cs : List ℕ) → EndsBlank cs → EndsBlank (c ∷ cs)
+one_more : (c : ℕ) (cs : List ℕ) → EndsWhitespace cs → EndsWhitespace (c ∷ cs)
 one_more c cs rest = go (cases_Bool (is_whitespace c)) (cases_Bool (length (drop_trailing_whitespace cs) == 0))
   where
-    kept : is_whitespace c && (length (drop_trailing_whitespace cs) == 0) ≡ false → EndsBlank (c ∷ cs)
-    kept e = record { blanks = rest.blanks; text_is = rw e (ap (λ t. c ∷ t) rest.text_is); white = rest.white }
+    retained : is_whitespace c && (length (drop_trailing_whitespace cs) == 0) ≡ false → EndsWhitespace (c ∷ cs)
+    retained e = record { whitespace = rest.whitespace; text_is = rw e (ap (λ t. c ∷ t) rest.text_is); white = rest.white }
 
-    go : (is_whitespace c ≡ true) ⊎ (is_whitespace c ≡ false) → ((length (drop_trailing_whitespace cs) == 0) ≡ true) ⊎ ((length (drop_trailing_whitespace cs) == 0) ≡ false) → EndsBlank (c ∷ cs)
+    go : (is_whitespace c ≡ true) ⊎ (is_whitespace c ≡ false) → ((length (drop_trailing_whitespace cs) == 0) ≡ true) ⊎ ((length (drop_trailing_whitespace cs) == 0) ≡ false) → EndsWhitespace (c ∷ cs)
     go (inl w) (inl none) =
         let gone : drop_trailing_whitespace cs ≡ [] = nil_from_length _ (eqb-true _ _ none) in
-        record { blanks = c ∷ rest.blanks; text_is = rw (w, none) (ap (λ t. c ∷ t) (rest.text_is ∙ ap (λ t. t ++ rest.blanks) gone)); white = (rw w refl, rest.white) }
-    go (inl w) (inr some) = kept (rw (w, some) refl)
-    go (inr o) n = kept (rw o refl)
+        record { whitespace = c ∷ rest.whitespace; text_is = rw (w, none) (ap (λ t. c ∷ t) (rest.text_is ∙ ap (λ t. t ++ rest.whitespace) gone)); white = (rw w refl, rest.white) }
+    go (inl w) (inr some) = retained (rw (w, some) refl)
+    go (inr o) n = retained (rw o refl)
 
-ends_blank : (cs : List ℕ) → EndsBlank cs
-ends_blank [] = record { blanks = []; text_is = refl; white = tt }
-ends_blank (c ∷ cs) = one_more c cs (ends_blank cs)
+ends_whitespace : (cs : List ℕ) → EndsWhitespace cs
+ends_whitespace [] = record { whitespace = []; text_is = refl; white = tt }
+ends_whitespace (c ∷ cs) = one_more c cs (ends_whitespace cs)
 
 front_scalars : (cs ds : List ℕ) → all_scalars (cs ++ ds) ≡ true → all_scalars cs ≡ true
 front_scalars [] ds h = refl
@@ -72,18 +72,18 @@ front_scalars (c ∷ cs) ds h = let both = and_parts _ _ h in and_from _ _ both.
 pub record IsLeft (piece left : List ℕ) : Type 0 where
   pub behind : List ℕ
   pub text_is : piece ≡ left ++ behind
-  pub blank : IsBlanks behind tt
+  pub whitespace : IsWhitespace behind tt
   pub utf8 : IsUtf8 left
 
 end_left : (piece : List ℕ) → IsUtf8 piece → IsLeft piece (trim_end piece)
 unfolding trim_end
 end_left piece u =
-    let ends = ends_blank (chars piece) in
+    let ends = ends_whitespace (chars piece) in
     record {
-      behind = encode_utf8_all ends.blanks;
-      text_is = sym (encodes-chars piece u) ∙ (ap encode_utf8_all ends.text_is ∙ encodes-append (drop_trailing_whitespace (chars piece)) ends.blanks);
-      blank = (ends.blanks, refl, ends.white);
-      utf8 = (drop_trailing_whitespace (chars piece), (front_scalars (drop_trailing_whitespace (chars piece)) ends.blanks (ap all_scalars (sym ends.text_is) ∙ scalars-chars piece u), refl));
+      behind = encode_utf8_all ends.whitespace;
+      text_is = sym (encodes-chars piece u) ∙ (ap encode_utf8_all ends.text_is ∙ encodes-append (drop_trailing_whitespace (chars piece)) ends.whitespace);
+      whitespace = (ends.whitespace, refl, ends.white);
+      utf8 = (drop_trailing_whitespace (chars piece), (front_scalars (drop_trailing_whitespace (chars piece)) ends.whitespace (ap all_scalars (sym ends.text_is) ∙ scalars-chars piece u), refl));
     }
 
 pub piece_left : (piece : List ℕ) → IsUtf8 piece → trim_start piece ≡ piece → IsLeft piece (trim piece)

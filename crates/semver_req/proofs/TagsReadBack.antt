@@ -4,12 +4,12 @@ use Rattle.std.specs.Prelude.{IsUtf8}
 use Rattle.std.specs.Str.{trim, trim_start}
 use Rattle.semver_req.specs.Outcome.{IsBad, IsCutOutcome, IsOutcome, IsSpecifierOutcome, IsTagOr, Tag, no_fit, no_front, one_bad, tag}
 use Rattle.semver_req.specs.Pieces.{IsCutting, npm, normal, one_piece}
-use Rattle.semver_req.specs.Readers.{StartsFit}
+use Rattle.semver_req.specs.Parsers.{StartsFit}
 use Rattle.semver_req.specs.Rereading.{TagsReadBack}
 use Rattle.semver_req.specs.Tag.{is_valid_tag}
 use Rattle.semver_req.specs.declared.common.values.Flavour.{Flavour}
 use Rattle.semver_req.specs.declared.common.values.Flavour.TheVariants.{Npm, Normal, Specifier}
-use Rattle.semver_req.proofs.BlanksBehind.{bad_before}
+use Rattle.semver_req.proofs.WhitespaceBehind.{bad_before}
 use Rattle.semver_req.proofs.SpecifierTags.{nothing_no_tag, specifier_no_tag}
 use Rattle.semver_req.proofs.TagPieces.{IsFirst, only_piece, piece_left, trimmed}
 use Rattle.semver_req.proofs.TagTexts.{tag_no_bar, tag_trimmed}
@@ -28,7 +28,7 @@ piece_back : (f : Flavour) (followed : Bool) → IsCutting f → (piece t : List
 piece_back f followed cuts piece t first bad (tag valid) =
     let left = piece_left piece first.utf8 first.start in
     let whole : IsBad f followed (trim piece ++ left.behind) = rw left.text_is at bad in
-    bad_tag (trim piece) left.utf8 valid (bad_before f followed cuts (trim piece) left.behind (some_tag (trim piece) valid) left.blank whole)
+    bad_tag (trim piece) left.utf8 valid (bad_before f followed cuts (trim piece) left.behind (some_tag (trim piece) valid) left.whitespace whole)
 
 cut_back : (f : Flavour) → IsCutting f → (text t : List ℕ) → IsUtf8 text → trim_start text ≡ text → IsCutOutcome f text (Tag t) → IsCutOutcome Normal t (Tag t)
 cut_back f cuts text t u start (one_bad {piece = piece} {b = b} pieces bad is) = piece_back f b cuts piece t (only_piece text piece b u start pieces) bad is

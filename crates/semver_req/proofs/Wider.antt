@@ -6,14 +6,14 @@ use Rattle.std.proofs.lemmas.Bool.{or_left}
 use Rattle.std.proofs.lemmas.Str.{NoCharPasses-nil}
 use Rattle.semver_base.specs.Comparators.{Comparator}
 use Rattle.semver_base.specs.Grammar.{Listed, last_item, closed_item, more_items, Optional, this, that}
-use Rattle.semver_base.specs.Lexical.{IsBlanks, IsSomeBlanks}
+use Rattle.semver_base.specs.Lexical.{IsWhitespace, IsSomeWhitespace}
 use Rattle.semver_base.specs.declared.lexical.values.Qualifier.{Qualifier}
 use Rattle.semver_base.specs.declared.partial.Partial.{Partial}
 use Rattle.semver_base.specs.declared.partial.XRange.{XRange}
 use Rattle.semver_base.specs.declared.partial.XRange.TheVariants.{Wildcard, Val}
 use Rattle.semver_base.proofs.WrittenVersions.{after}
 use Rattle.semver_req.specs.Comparators.{IsComparator, IsLed, no_more}
-use Rattle.semver_req.specs.Partials.{IsComponent, IsPlainPartial, IsSecond, IsThird}
+use Rattle.semver_req.specs.Partials.{IsComponent, IsBarePartial, IsSecond, IsThird}
 use Rattle.semver_req.specs.Pieces.{IsNpmSeparator, NormalPiecesAreNpms}
 use Rattle.semver_req.specs.declared.common.values.Flavour.TheVariants.{Npm, Normal}
 
@@ -33,18 +33,18 @@ second_wider text None h = h
 second_wider [] (Some v) h = absurd h
 second_wider (b ∷ rest) (Some v) (e, h) = (e, record { first = h.first; second = h.second; text_is = h.text_is; in_first = component_wider h.first v.0 h.in_first; in_second = third_wider h.second v.1 h.in_second; seam = tt })
 
-plain_wider : (text : List ℕ) (p : Partial) → IsPlainPartial Normal text p → IsPlainPartial Npm text p
-plain_wider text p m =
+bare_wider : (text : List ℕ) (p : Partial) → IsBarePartial Normal text p → IsBarePartial Npm text p
+bare_wider text p m =
     let h = m.stands in
     record { value = m.value; stands = record { first = h.first; second = h.second; text_is = h.text_is; in_first = component_wider h.first m.value.0 h.in_first; in_second = second_wider h.second m.value.1 h.in_second; seam = tt }; is = m.is }
 
 -- ---- comparators
 
-no_blanks : IsBlanks [] tt
-no_blanks = NoCharPasses-nil is_not_whitespace
+no_whitespace : IsWhitespace [] tt
+no_whitespace = NoCharPasses-nil is_not_whitespace
 
-led : (text : List ℕ) (p : Partial) → IsPlainPartial Normal text p → IsLed text p
-led text p h = after [] text tt no_more (after [] text tt no_blanks (after [] text None refl (after [] text tt no_blanks (that (plain_wider text p h)))))
+led : (text : List ℕ) (p : Partial) → IsBarePartial Normal text p → IsLed text p
+led text p h = after [] text tt no_more (after [] text tt no_whitespace (after [] text None refl (after [] text tt no_whitespace (that (bare_wider text p h)))))
 
 pub comparator_wider : (text : List ℕ) (c : Comparator) → IsComparator Normal text c → IsComparator Npm text c
 comparator_wider [] c (this (this m)) = absurd m.stands
@@ -61,16 +61,16 @@ comparator_wider text c (that (this m)) =
         second = h.second;
         text_is = h.text_is;
         in_first = h.in_first;
-        in_second = record { value = k.value; stands = record { first = k.stands.first; second = k.stands.second; text_is = k.stands.text_is; in_first = k.stands.in_first; in_second = that (plain_wider k.stands.second k.value.1 k.stands.in_second); seam = tt }; is = k.is };
+        in_second = record { value = k.value; stands = record { first = k.stands.first; second = k.stands.second; text_is = k.stands.text_is; in_first = k.stands.in_first; in_second = that (bare_wider k.stands.second k.value.1 k.stands.in_second); seam = tt }; is = k.is };
         seam = tt;
       };
       is = m.is;
     }))
-comparator_wider text c (that (that m)) = that (that (record { value = m.value; stands = that (plain_wider text m.value m.stands); is = m.is }))
+comparator_wider text c (that (that m)) = that (that (record { value = m.value; stands = that (bare_wider text m.value m.stands); is = m.is }))
 
 -- ---- lists
 
-list_wider : (text : List ℕ) (cs : List Comparator) → Listed (IsComparator Normal) IsSomeBlanks text cs → Listed (IsComparator Npm) IsNpmSeparator text cs
+list_wider : (text : List ℕ) (cs : List Comparator) → Listed (IsComparator Normal) IsSomeWhitespace text cs → Listed (IsComparator Npm) IsNpmSeparator text cs
 list_wider text cs (last_item {v = c} h) = last_item (comparator_wider text c h)
 list_wider text cs (closed_item {a = a} {v = c} h s) = closed_item (comparator_wider a c h) (that s)
 list_wider text cs (more_items {a = a} {b = b} {v = c} {vs = ds} h s t) = more_items (comparator_wider a c h) (that s) (list_wider b ds t)

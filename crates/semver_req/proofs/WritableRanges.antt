@@ -7,7 +7,7 @@ use Rattle.std.specs.Prelude.{if◌then◌else◌, nat_lt, ◌++◌, ◌^◌}
 use Rattle.std.specs.declared.cmp.Ordering.{Ordering}
 use Rattle.std.specs.declared.cmp.Ordering.TheVariants.{Less, Equal, Greater}
 use Rattle.semver_base.specs.Clamp.{clamped, clamped_end, clamped_start, greater_of, lesser_of, of_tied, stopped_at, stopped_by}
-use Rattle.semver_base.specs.Comparators.{Caret, Comparator, Hyphen, OfPrimitive, Plain, Tilde, comparator_range, primitive_line}
+use Rattle.semver_base.specs.Comparators.{Caret, Comparator, Hyphen, OfPrimitive, Bare, Tilde, comparator_range, primitive_line}
 use Rattle.semver_base.specs.Meaning.{everything, release}
 use Rattle.semver_base.specs.NormalText.{AreWritableRanges, IsWritableBound, IsWritableRange}
 use Rattle.semver_base.specs.Overlap.{ends_at_zero}
@@ -27,7 +27,7 @@ use Rattle.semver_base.specs.declared.range.VersionBoundKind.TheVariants as kind
 use Rattle.semver_base.specs.declared.range.VersionRange.{VersionRange}
 use Rattle.semver_base.proofs.Orders.{and_first, and_second}
 use Rattle.semver_req.specs.Comparators.{component_numbers, fits, numbers}
-use Rattle.semver_req.specs.KeptSet.{kept, kept_range}
+use Rattle.semver_req.specs.RetainedSet.{retained, retained_range}
 use Rattle.semver_req.specs.declared.common.values.Flavour.{Flavour}
 use Rattle.semver_req.specs.declared.common.values.Flavour.TheVariants.{Npm, Normal, Specifier}
 
@@ -41,7 +41,7 @@ abbrev pub ComparatorHasIdentifiers : Comparator → Type 0
 ComparatorHasIdentifiers (Tilde p) = PartialHasIdentifiers p
 ComparatorHasIdentifiers (Caret p) = PartialHasIdentifiers p
 ComparatorHasIdentifiers (OfPrimitive primitive_kind p) = PartialHasIdentifiers p
-ComparatorHasIdentifiers (Plain p) = PartialHasIdentifiers p
+ComparatorHasIdentifiers (Bare p) = PartialHasIdentifiers p
 ComparatorHasIdentifiers (Hyphen p q) = PartialHasIdentifiers p × PartialHasIdentifiers q
 
 abbrev pub AllHaveIdentifiers : List Comparator → Type 0
@@ -214,7 +214,7 @@ comparator_writable : (c : Comparator) → fits c ≡ true → ComparatorHasIden
 comparator_writable (Tilde p) h has = let n = partial_fit p (and_first _ _ h) in tilde_writable p (lowest_writable p n has) p.major p.minor n.0 (and_second (all_fit (numbers p)) _ h)
 comparator_writable (Caret p) h has = let n = partial_fit p (and_first _ _ h) in caret_writable p (lowest_writable p n has) p.major p.minor p.patch (and_second (all_fit (numbers p)) _ h)
 comparator_writable (OfPrimitive primitive_kind p) h has = let n = partial_fit p (and_first _ _ h) in primitive_writable primitive_kind p (lowest_writable p n has) n (and_second (all_fit (numbers p)) _ h)
-comparator_writable (Plain p) h has = let n = partial_fit p (and_first _ _ h) in equal_writable p (lowest_writable p n has) n p.major p.minor p.patch (and_second (all_fit (numbers p)) _ h)
+comparator_writable (Bare p) h has = let n = partial_fit p (and_first _ _ h) in equal_writable p (lowest_writable p n has) n p.major p.minor p.patch (and_second (all_fit (numbers p)) _ h)
 comparator_writable (Hyphen p q) h has =
     let both = sym (list_all-append number_fits (numbers p) (numbers q)) ∙ and_first _ _ h in
     let n = partial_fit p (and_first _ _ both) in
@@ -228,28 +228,28 @@ folded_writable start (c ∷ cs) h fit has =
     folded_writable (clamped start (comparator_range c)) cs (clamped_writable start (comparator_range c) h (comparator_writable c (and_first _ _ fit) has.0)) (and_second (fits c) _ fit) has.1
 
 -- the range of an alternative whose comparators fit
-pub kept_range_writable : (comparators : List Comparator) → list_all fits comparators ≡ true → AllHaveIdentifiers comparators → IsWritableRange (kept_range comparators)
-kept_range_writable (Hyphen p q ∷ []) fit has = comparator_writable (Hyphen p q) (and_first _ _ fit) has.0
-kept_range_writable comparators fit has = folded_writable everything comparators (record { start = tt; end = tt }) fit has
+pub retained_range_writable : (comparators : List Comparator) → list_all fits comparators ≡ true → AllHaveIdentifiers comparators → IsWritableRange (retained_range comparators)
+retained_range_writable (Hyphen p q ∷ []) fit has = comparator_writable (Hyphen p q) (and_first _ _ fit) has.0
+retained_range_writable comparators fit has = folded_writable everything comparators (record { start = tt; end = tt }) fit has
 
 abbrev pub all_trees_fit : List (List Comparator) → Bool
 all_trees_fit tree = list_all (λ cs. list_all fits cs) tree
 
-all_writable : (tree : List (List Comparator)) → all_trees_fit tree ≡ true → TreeHasIdentifiers tree → AreWritableRanges (map kept_range tree)
+all_writable : (tree : List (List Comparator)) → all_trees_fit tree ≡ true → TreeHasIdentifiers tree → AreWritableRanges (map retained_range tree)
 all_writable [] fit has = tt
 all_writable (comparators ∷ tree) fit has =
-    (kept_range_writable comparators (and_first _ _ fit) has.0, all_writable tree (and_second (list_all fits comparators) _ fit) has.1)
+    (retained_range_writable comparators (and_first _ _ fit) has.0, all_writable tree (and_second (list_all fits comparators) _ fit) has.1)
 
-rest_writable : (tree : List (List Comparator)) → all_trees_fit tree ≡ true → TreeHasIdentifiers tree → AreWritableRanges (kept Normal tree)
+rest_writable : (tree : List (List Comparator)) → all_trees_fit tree ≡ true → TreeHasIdentifiers tree → AreWritableRanges (retained Normal tree)
 rest_writable [] fit has = tt
-rest_writable (comparators ∷ tree) fit has = go (ends_at_zero (kept_range comparators).end) (rest_writable tree (and_second (list_all fits comparators) _ fit) has.1)
+rest_writable (comparators ∷ tree) fit has = go (ends_at_zero (retained_range comparators).end) (rest_writable tree (and_second (list_all fits comparators) _ fit) has.1)
   where
-    go : (b : Bool) → AreWritableRanges (kept Normal tree) → AreWritableRanges (if not b then kept_range comparators ∷ kept Normal tree else kept Normal tree)
+    go : (b : Bool) → AreWritableRanges (retained Normal tree) → AreWritableRanges (if not b then retained_range comparators ∷ retained Normal tree else retained Normal tree)
     go true rest = rest
-    go false rest = (kept_range_writable comparators (and_first _ _ fit) has.0, rest)
+    go false rest = (retained_range_writable comparators (and_first _ _ fit) has.0, rest)
 
 -- what is kept of a tree whose comparators fit
-pub kept_writable : (f : Flavour) (tree : List (List Comparator)) → all_trees_fit tree ≡ true → TreeHasIdentifiers tree → AreWritableRanges (kept f tree)
-kept_writable Npm tree fit has = rest_writable tree fit has
-kept_writable Normal tree fit has = rest_writable tree fit has
-kept_writable Specifier tree fit has = all_writable tree fit has
+pub retained_writable : (f : Flavour) (tree : List (List Comparator)) → all_trees_fit tree ≡ true → TreeHasIdentifiers tree → AreWritableRanges (retained f tree)
+retained_writable Npm tree fit has = rest_writable tree fit has
+retained_writable Normal tree fit has = rest_writable tree fit has
+retained_writable Specifier tree fit has = all_writable tree fit has

@@ -7,14 +7,14 @@ use Rattle.std.specs.List.{list_all}
 use Rattle.std.proofs.lemmas.Bool.{and_from, and_parts, eqb-true, lt-ltb}
 use Rattle.std.proofs.lemmas.Bool.Decides.{nat_tests}
 use Rattle.std.proofs.lemmas.Str.{NoCharPasses-nil}
-use Rattle.semver_base.specs.Comparators.{Caret, Comparator, OfPrimitive, Plain, Tilde, comparator_line, primitive_kind_text}
+use Rattle.semver_base.specs.Comparators.{Caret, Comparator, OfPrimitive, Bare, Tilde, comparator_line, primitive_kind_text}
 use Rattle.semver_base.specs.Grammar.{Followed, Optional, this, that}
-use Rattle.semver_base.specs.Lexical.{IsBlanks}
+use Rattle.semver_base.specs.Lexical.{IsWhitespace}
 use Rattle.semver_base.specs.Meaning.{release}
 use Rattle.semver_base.specs.NormalText.{IsWritableBound, IsWritableRange, comparator_text, partial_text}
 use Rattle.semver_base.specs.PartialTable.{Line, all_fit, caret, caret_by, lower_to_below, equal, number_fits, tilde}
 use Rattle.semver_base.specs.PrecedenceLaws.{version_eq}
-use Rattle.semver_base.specs.Shortest.{ending, is_caret_major, is_caret_patch, is_plain, numbered, shortest, shortest_between, shortest_of, starting, whole}
+use Rattle.semver_base.specs.Shortest.{ending, is_caret_major, is_caret_patch, is_release_of, numbered, shortest, shortest_between, shortest_of, starting, whole}
 use Rattle.semver_base.specs.VersionText.{IsWritable, prefixed, version_text}
 use Rattle.semver_base.specs.declared.partial.Partial.{Partial}
 use Rattle.semver_base.specs.declared.primitive.PrimitiveKind.{PrimitiveKind}
@@ -28,11 +28,11 @@ use Rattle.semver_base.specs.declared.range.VersionBoundKind.TheVariants as kind
 use Rattle.semver_base.specs.declared.range.VersionRange.{VersionRange}
 use Rattle.semver_base.specs.declared.version.Version.{Version}
 use Rattle.semver_base.proofs.Bytes.{MadeOf, joined_made, list_all-append, mapped_made, prefixed_made, optional_made}
-use Rattle.semver_base.proofs.PlainVersions.{plain_is}
+use Rattle.semver_base.proofs.ShortVersions.{short_is}
 use Rattle.semver_base.proofs.Solid.{is_solid_byte, number_made, qualifier_made, some_text}
 use Rattle.semver_base.proofs.WrittenVersions.{after, follow, no_digit_written, number_written, qualifier_written}
 use Rattle.semver_req.specs.Comparators.{IsComparator, IsLed, fits, no_more, numbers}
-use Rattle.semver_req.specs.Partials.{IsComponent, IsPartial, IsPlainPartial, IsThird, is_wildcard, strictness_of}
+use Rattle.semver_req.specs.Partials.{IsComponent, IsPartial, IsBarePartial, IsThird, is_wildcard, strictness_of}
 use Rattle.semver_req.specs.declared.common.values.Flavour.{Flavour}
 use Rattle.semver_req.specs.declared.common.values.Flavour.TheVariants.{Npm, Normal, Specifier}
 use Rattle.semver_req.proofs.Partials.{partial_some}
@@ -41,7 +41,7 @@ use Rattle.semver_req.proofs.Partials.{partial_some}
 
 -- the text of the partial version is one in each grammar and parses to it, and its numbers fit
 pub record IsWrittenPartial (p : Partial) : Type 0 where
-  pub reads : (f : Flavour) → IsPlainPartial f (partial_text p) p
+  pub reads : (f : Flavour) → IsBarePartial f (partial_text p) p
   pub fit : all_fit (numbers p) ≡ true
 
 component_written : (f : Flavour) (n : ℕ) → n < 2 ^ 64 → IsComponent f (decimal n) (Val n)
@@ -99,7 +99,7 @@ module _ (v : Version) (h : IsWritable v) where
   )
 
   -- the text of a version is a partial version of each grammar
-  pub whole_reads : (f : Flavour) → IsPlainPartial f (version_text v) (whole v)
+  pub whole_reads : (f : Flavour) → IsBarePartial f (version_text v) (whole v)
   whole_reads f = record {
     value = (Val v.major, Some (Val v.minor, Some (Val v.patch, record { pre = v.pre; build = v.build })));
     stands = follow _ _ (component_written f v.major h.numbers.major) (refl, follow _ _ (component_written f v.minor h.numbers.minor) (third_written f));
@@ -127,7 +127,7 @@ component_made = record { made = go }
 third_made : MadeOf (IsThird Normal) is_solid_byte
 third_made = prefixed_made (joined_made component_made qualifier_made) 46 refl
 
-partial_made : MadeOf (IsPlainPartial Normal) is_solid_byte
+partial_made : MadeOf (IsBarePartial Normal) is_solid_byte
 partial_made = mapped_made (joined_made component_made (optional_made (prefixed_made (joined_made component_made (optional_made third_made)) 46 refl)))
 
 -- ---- comparators
@@ -140,8 +140,8 @@ pub record IsWritten (c : Comparator) : Type 0 where
   pub some : 0 < length (comparator_text c)
   pub fit : fits c ≡ true
 
-no_blank : IsBlanks [] tt
-no_blank = NoCharPasses-nil is_not_whitespace
+not_whitespace : IsWhitespace [] tt
+not_whitespace = NoCharPasses-nil is_not_whitespace
 
 module _ {p : Partial} (w : IsWrittenPartial p) where
   npm_partial : IsPartial Npm (partial_text p) p
@@ -154,7 +154,7 @@ module _ {p : Partial} (w : IsWrittenPartial p) where
   some_partial = some_text (partial_some Normal) (partial_text p) (w.reads Normal)
 
   led : IsLed (partial_text p) p
-  led = after [] _ tt no_more (after [] _ tt no_blank (after [] _ None refl (after [] _ tt no_blank npm_partial)))
+  led = after [] _ tt no_more (after [] _ tt not_whitespace (after [] _ None refl (after [] _ tt not_whitespace npm_partial)))
 
   fit_with : (sums : List ℕ) → all_fit sums ≡ true → (all_fit (numbers p) && all_fit sums) ≡ true
   fit_with sums fit = and_from (all_fit (numbers p)) (all_fit sums) w.fit fit
@@ -177,8 +177,8 @@ module _ {p : Partial} (w : IsWrittenPartial p) where
     fit = fit_with (caret p).sums fit;
   }
 
-  plain_written : all_fit (equal p).sums ≡ true → IsWritten (Plain p)
-  plain_written fit = record {
+  bare_written : all_fit (equal p).sums ≡ true → IsWritten (Bare p)
+  bare_written fit = record {
     npm = that (that (record { value = p; stands = npm_partial; is = refl }));
     normal = that (that (record { value = p; stands = w.reads Normal; is = refl }));
     solid = solid_partial;
@@ -188,8 +188,8 @@ module _ {p : Partial} (w : IsWrittenPartial p) where
 
   primitive_written : (primitive_kind : PrimitiveKind) → list_all is_solid_byte (primitive_kind_text primitive_kind) ≡ true → all_fit (comparator_line (OfPrimitive primitive_kind p)).sums ≡ true → IsWritten (OfPrimitive primitive_kind p)
   primitive_written primitive_kind solid fit = record {
-    npm = that (this (record { value = (primitive_kind, p); stands = follow (primitive_kind_text primitive_kind) _ refl (after [] _ tt no_blank npm_partial); is = refl }));
-    normal = that (this (record { value = (primitive_kind, p); stands = follow (primitive_kind_text primitive_kind) _ refl (after [] _ tt no_blank (w.reads Normal)); is = refl }));
+    npm = that (this (record { value = (primitive_kind, p); stands = follow (primitive_kind_text primitive_kind) _ refl (after [] _ tt not_whitespace npm_partial); is = refl }));
+    normal = that (this (record { value = (primitive_kind, p); stands = follow (primitive_kind_text primitive_kind) _ refl (after [] _ tt not_whitespace (w.reads Normal)); is = refl }));
     solid = list_all-append is_solid_byte (primitive_kind_text primitive_kind) (partial_text p) solid solid_partial;
     some = omega (arith, some_partial, length-append (primitive_kind_text primitive_kind) (partial_text p));
     fit = fit_with (comparator_line (OfPrimitive primitive_kind p)).sums fit;
@@ -230,15 +230,15 @@ module _ (s e : Version) (h : IsWritable s) (k : IsWritable e) where
 
   closed_written : AreWritten (shortest_between kind.Inclusive kind.Inclusive s e)
   closed_written =
-      either_row (version_eq s e) _ _ (λ _. one (plain_written (whole_written s h) refl))
-      (either_row (is_plain s 0 0 0) _ _ (λ _. one (ending_written kind.Inclusive e k))
+      either_row (version_eq s e) _ _ (λ _. one (bare_written (whole_written s h) refl))
+      (either_row (is_release_of s 0 0 0) _ _ (λ _. one (ending_written kind.Inclusive e k))
       (both_written kind.Inclusive kind.Inclusive))
 
   below_written : AreWritten (shortest_between kind.Inclusive kind.Exclusive s e)
   below_written =
-      either_row _ _ _ (λ c. one (plain_written (major_written s h) (next_fits s.major e.major (ap (λ (v : Version). v.major) (plain_is e (s.major + 1) 0 0 (and_parts _ _ c).1)) k.numbers.major)))
-      (either_row _ _ _ (λ c. one (plain_written (minor_written s h) (next_fits s.minor e.minor (ap (λ (v : Version). v.minor) (plain_is e s.major (s.minor + 1) 0 (and_parts _ _ c).1)) k.numbers.minor)))
-      (either_row _ _ _ (λ c. one (tilde_written (whole_written s h) (next_fits s.minor e.minor (ap (λ (v : Version). v.minor) (plain_is e s.major (s.minor + 1) 0 c)) k.numbers.minor)))
+      either_row _ _ _ (λ c. one (bare_written (major_written s h) (next_fits s.major e.major (ap (λ (v : Version). v.major) (short_is e (s.major + 1) 0 0 (and_parts _ _ c).1)) k.numbers.major)))
+      (either_row _ _ _ (λ c. one (bare_written (minor_written s h) (next_fits s.minor e.minor (ap (λ (v : Version). v.minor) (short_is e s.major (s.minor + 1) 0 (and_parts _ _ c).1)) k.numbers.minor)))
+      (either_row _ _ _ (λ c. one (tilde_written (whole_written s h) (next_fits s.minor e.minor (ap (λ (v : Version). v.minor) (short_is e s.major (s.minor + 1) 0 c)) k.numbers.minor)))
       (either_row _ _ _ (λ c. one (caret_written (whole_written s h) (patch_fits c)))
       (either_row _ _ _ (λ c. one (caret_written (whole_written s h) (major_fits c)))
       (either_row _ _ _ (λ _. one (ending_written kind.Exclusive e k))
@@ -249,13 +249,13 @@ module _ (s e : Version) (h : IsWritable s) (k : IsWritable e) where
           let a = and_parts _ _ c in
           let b = and_parts _ _ a.1 in
           ap (λ (line : Line). all_fit line.sums) (caret_patch (whole s) s.major s.minor s.patch (eqb-true s.major 0 a.0) (eqb-true s.minor 0 b.0))
-          ∙ next_fits s.patch e.patch (ap (λ (v : Version). v.patch) (plain_is e 0 0 (s.patch + 1) b.1)) k.numbers.patch
+          ∙ next_fits s.patch e.patch (ap (λ (v : Version). v.patch) (short_is e 0 0 (s.patch + 1) b.1)) k.numbers.patch
 
       major_fits : is_caret_major s e ≡ true → all_fit (caret (whole s)).sums ≡ true
       major_fits c =
           let a = and_parts _ _ c in
           ap (λ (line : Line). all_fit line.sums) (caret_major (whole s) s.major s.minor s.patch a.0)
-          ∙ next_fits s.major e.major (ap (λ (v : Version). v.major) (plain_is e (s.major + 1) 0 0 a.1)) k.numbers.major
+          ∙ next_fits s.major e.major (ap (λ (v : Version). v.major) (short_is e (s.major + 1) 0 0 a.1)) k.numbers.major
 
   between_written : (i j : VersionBoundKind) → AreWritten (shortest_between i j s e)
   between_written kind.Inclusive kind.Inclusive = closed_written
@@ -263,7 +263,7 @@ module _ (s e : Version) (h : IsWritable s) (k : IsWritable e) where
   between_written kind.Exclusive j = both_written kind.Exclusive j
 
 by_written : (start end : RangeBound) → IsWritableBound start → IsWritableBound end → AreWritten (shortest_of start end)
-by_written bound.Unbounded bound.Unbounded h k = one (plain_written star_written refl)
+by_written bound.Unbounded bound.Unbounded h k = one (bare_written star_written refl)
 by_written bound.Unbounded (bound.Version e) h k = one (ending_written e.kind e.version k)
 by_written (bound.Version s) bound.Unbounded h k = one (starting_written s.kind s.version h)
 by_written (bound.Version s) (bound.Version e) h k = between_written s.version e.version h k s.kind e.kind

@@ -11,21 +11,21 @@ use Rattle.std.proofs.lemmas.Fmt.{decimal_digit}
 use Rattle.std.proofs.lemmas.Str.{encode_ascii}
 use Rattle.semver_base.specs.Comparators.{Comparator}
 use Rattle.semver_base.specs.Grammar.{Listed, last_item, closed_item, more_items, that}
-use Rattle.semver_base.specs.Lexical.{IsBlanks, IsSomeBlanks}
+use Rattle.semver_base.specs.Lexical.{IsWhitespace, IsSomeWhitespace}
 use Rattle.semver_base.specs.Meaning.{release}
 use Rattle.semver_base.specs.NormalText.{AreWritableRanges, IsWritableRange, comparator_text, comparators_text, range_text, set_text}
 use Rattle.semver_base.specs.PrecedenceLaws.{version_eq}
-use Rattle.semver_base.specs.Shortest.{ending, is_caret_major, is_caret_patch, is_major, is_minor, is_plain, is_tilde, shortest, shortest_between, shortest_of, shortest_tree}
+use Rattle.semver_base.specs.Shortest.{ending, is_caret_major, is_caret_patch, is_major, is_minor, is_release_of, is_tilde, shortest, shortest_between, shortest_of, shortest_tree}
 use Rattle.semver_base.specs.declared.range.RangeBound.{RangeBound}
 use Rattle.semver_base.specs.declared.range.RangeBound.TheVariants as bound
 use Rattle.semver_base.specs.declared.range.VersionBoundKind.{VersionBoundKind}
 use Rattle.semver_base.specs.declared.range.VersionBoundKind.TheVariants as kind
 use Rattle.semver_base.specs.declared.range.VersionRange.{VersionRange}
 use Rattle.semver_base.specs.declared.version.Version.{Version}
-use Rattle.semver_base.proofs.Blanks.{blanks_made, is_blank_byte}
+use Rattle.semver_base.proofs.Whitespace.{whitespace_made, is_whitespace_byte}
 use Rattle.semver_base.proofs.Bytes.{list_all-append, list_all-wider}
 use Rattle.semver_base.proofs.Fronts.{fronts, same, shorter, longer}
-use Rattle.semver_base.proofs.Solid.{EndsSolid, StartsSolid, ends_after, ends_solid, is_solid_byte, solid_ascii, solid_no_blank, starts_before, starts_solid, trim_same}
+use Rattle.semver_base.proofs.Solid.{EndsSolid, StartsSolid, ends_after, ends_solid, is_solid_byte, solid_ascii, solid_no_whitespace, starts_before, starts_solid, trim_same}
 use Rattle.semver_req.specs.Comparators.{fits}
 use Rattle.semver_req.specs.Outcome.{AreGoodOnes, none_left, good, IsCutOutcome, IsOutcome, one_good, npm_many, normal_many, Ranges}
 use Rattle.semver_req.specs.Pieces.{IsCutting, npm, normal, AreMorePieces, last_piece, cut_piece, one_piece, first_cut, HasNoBar, IsCutAt, IsFilled, IsPiece, IsTrimmed}
@@ -36,29 +36,29 @@ use Rattle.semver_req.proofs.WrittenComparators.{AreWritten, one, more, IsWritte
 
 -- ---- pieces
 
-pub one_blank : IsSomeBlanks (codes " ") tt
-one_blank = (omega arith, (codes " ", ap (λ t. t ++ []) (encode_ascii 32 (omega arith)), (refl, tt)))
+pub one_whitespace : IsSomeWhitespace (codes " ") tt
+one_whitespace = (omega arith, (codes " ", ap (λ t. t ++ []) (encode_ascii 32 (omega arith)), (refl, tt)))
 
 -- comparators with a space between them, where end follows the last
-module _ {A : List ℕ → Comparator → Type 0} {S : List ℕ → Unit {0} → Type 0} (blank : S (codes " ") tt) (item : (c : Comparator) → IsWritten c → A (comparator_text c) c) where
+module _ {A : List ℕ → Comparator → Type 0} {S : List ℕ → Unit {0} → Type 0} (whitespace : S (codes " ") tt) (item : (c : Comparator) → IsWritten c → A (comparator_text c) c) where
   listed_with : (end : List ℕ) → ((c : Comparator) → IsWritten c → Listed A S (comparator_text c ++ end) (c ∷ [])) → (cs : List Comparator) → AreWritten cs → Listed A S (comparators_text cs ++ end) cs
   listed_with end last cs (one {c} h) = rw append-nil (last c h)
-  listed_with end last cs (more {c} {d} {cs = ds} h t) = rw (append_assoc (comparator_text c) _ end) (more_items (item c h) blank (listed_with end last (d ∷ ds) t))
+  listed_with end last cs (more {c} {d} {cs = ds} h t) = rw (append_assoc (comparator_text c) _ end) (more_items (item c h) whitespace (listed_with end last (d ∷ ds) t))
 
   listed_written : (cs : List Comparator) → AreWritten cs → Listed A S (comparators_text cs) cs
   listed_written cs h = rw append-nil at (listed_with [] (λ c w. rw append-nil (last_item (item c w))) cs h)
 
   -- the same with one space after them
   listed_closed : (cs : List Comparator) → AreWritten cs → Listed A S (comparators_text cs ++ codes " ") cs
-  listed_closed cs h = listed_with (codes " ") (λ c w. closed_item (item c w) blank) cs h
+  listed_closed cs h = listed_with (codes " ") (λ c w. closed_item (item c w) whitespace) cs h
 
 filled : (f : Flavour) → IsCutting f → (cs : List Comparator) → AreWritten cs → IsFilled f (comparators_text cs) cs
-filled f npm cs h = that (listed_written (that one_blank) (λ c w. w.npm) cs h)
-filled f normal cs h = listed_written one_blank (λ c w. w.normal) cs h
+filled f npm cs h = that (listed_written (that one_whitespace) (λ c w. w.npm) cs h)
+filled f normal cs h = listed_written one_whitespace (λ c w. w.normal) cs h
 
 filled_closed : (f : Flavour) → IsCutting f → (cs : List Comparator) → AreWritten cs → IsFilled f (comparators_text cs ++ codes " ") cs
-filled_closed f npm cs h = that (listed_closed (that one_blank) (λ c w. w.npm) cs h)
-filled_closed f normal cs h = listed_closed one_blank (λ c w. w.normal) cs h
+filled_closed f npm cs h = that (listed_closed (that one_whitespace) (λ c w. w.npm) cs h)
+filled_closed f normal cs h = listed_closed one_whitespace (λ c w. w.normal) cs h
 
 piece_of : (f : Flavour) (text : List ℕ) (cs : List Comparator) → AreWritten cs → IsFilled f text cs → IsPiece f text cs
 piece_of f text cs (one h) k = k
@@ -83,8 +83,8 @@ solid_no_bar b h = grind (arith, nat_tests)
 
 -- a test that passes each such byte and the space passes each byte of these comparators
 comparators_pass : (p : ℕ → Bool) → ((b : ℕ) → is_solid_byte b ≡ true → p b ≡ true) → p 32 ≡ true → (cs : List Comparator) → AreWritten cs → list_all p (comparators_text cs) ≡ true
-comparators_pass p wider blank cs (one {c} h) = rw append-nil (list_all-wider is_solid_byte p wider (comparator_text c) h.solid)
-comparators_pass p wider blank cs (more {c} {d} {cs = ds} h t) = list_all-append p (comparator_text c) _ (list_all-wider is_solid_byte p wider (comparator_text c) h.solid) (and_from (p 32) _ blank (comparators_pass p wider blank (d ∷ ds) t))
+comparators_pass p wider whitespace cs (one {c} h) = rw append-nil (list_all-wider is_solid_byte p wider (comparator_text c) h.solid)
+comparators_pass p wider whitespace cs (more {c} {d} {cs = ds} h t) = list_all-append p (comparator_text c) _ (list_all-wider is_solid_byte p wider (comparator_text c) h.solid) (and_from (p 32) _ whitespace (comparators_pass p wider whitespace (d ∷ ds) t))
 
 comparators_start : (cs : List Comparator) → AreWritten cs → StartsSolid (comparators_text cs)
 comparators_start cs (one {c} h) = starts_before (comparator_text c) _ (starts_solid (comparator_text c) h.some h.solid)
@@ -131,18 +131,18 @@ cut_at piece rest h = record { text_is = refl; leftmost = go }
     ]
 
 one_trimmed : (text : List ℕ) → StartsSolid text → IsTrimmed (32 ∷ text) text
-one_trimmed text s = record { longest = record { front = codes " "; text_is = refl; stands = one_blank.1; longest = go } }
+one_trimmed text s = record { longest = record { front = codes " "; text_is = refl; stands = one_whitespace.1; longest = go } }
   where
-    short : (a b : List ℕ) → 32 ∷ text ≡ a ++ b → list_all is_blank_byte a ≡ true → length a ≤ 1
+    short : (a b : List ℕ) → 32 ∷ text ≡ a ++ b → list_all is_whitespace_byte a ≡ true → length a ≤ 1
     short [] b e h = omega arith
     short (x ∷ []) b e h = omega arith
     short (x ∷ y ∷ a) b e h =
         let tail : text ≡ y ∷ (a ++ b) = cc in
         let byte : s.first ≡ y = cc (sym s.text_is ∙ tail) in
-        absurd (solid_no_blank y (rw byte at s.solid) (and_parts _ _ (and_parts _ _ h).1).0)
+        absurd (solid_no_whitespace y (rw byte at s.solid) (and_parts _ _ (and_parts _ _ h).1).0)
 
-    go : (a b : List ℕ) (w : Unit {0}) → 32 ∷ text ≡ a ++ b → IsBlanks a w → (length a ≤ 1) × (length a ≡ 1 → w ≡ tt)
-    go a b w e h = (short a b e (blanks_made.made a w h), λ _. refl)
+    go : (a b : List ℕ) (w : Unit {0}) → 32 ∷ text ≡ a ++ b → IsWhitespace a w → (length a ≤ 1) × (length a ≡ 1 → w ≡ tt)
+    go a b w e h = (short a b e (whitespace_made.made a w h), λ _. refl)
 
 -- ---- sets
 
@@ -205,10 +205,10 @@ cut_outcome f cut (r ∷ q ∷ others) h = many_outcome f cut r q others h
 
 -- a test that passes each byte of comparators, the space and the bars passes each byte of the text of a set
 pub set_passes : (p : ℕ → Bool) → ((b : ℕ) → is_solid_byte b ≡ true → p b ≡ true) → p 32 ≡ true → list_all p (codes " || ") ≡ true → (ranges : List VersionRange) → AreWritableRanges ranges → list_all p (set_text ranges) ≡ true
-set_passes p wider blank bars [] h = list_all-wider is_solid_byte p wider (codes "<0.0.0") refl
-set_passes p wider blank bars (r ∷ []) h = rw append-nil (comparators_pass p wider blank (shortest r) (shortest_written r h.0))
-set_passes p wider blank bars (r ∷ q ∷ others) h =
-    list_all-append p (range_text r) _ (comparators_pass p wider blank (shortest r) (shortest_written r h.0)) (list_all-append p (codes " || ") (set_text (q ∷ others)) bars (set_passes p wider blank bars (q ∷ others) h.1))
+set_passes p wider whitespace bars [] h = list_all-wider is_solid_byte p wider (codes "<0.0.0") refl
+set_passes p wider whitespace bars (r ∷ []) h = rw append-nil (comparators_pass p wider whitespace (shortest r) (shortest_written r h.0))
+set_passes p wider whitespace bars (r ∷ q ∷ others) h =
+    list_all-append p (range_text r) _ (comparators_pass p wider whitespace (shortest r) (shortest_written r h.0)) (list_all-append p (codes " || ") (set_text (q ∷ others)) bars (set_passes p wider whitespace bars (q ∷ others) h.1))
 
 set_starts : (ranges : List VersionRange) → AreWritableRanges ranges → StartsSolid (set_text ranges)
 set_starts [] h = record { first = 60; rest = codes "0.0.0"; text_is = refl; solid = refl }
@@ -231,44 +231,44 @@ set_outcome f normal ranges h = cut_outcome Normal normal ranges h
 
 record AreOneOrTwo (cs : List Comparator) : Type 0 where
   pub some : 0 < length cs
-  pub few : length cs ≤ 2
+  pub at_most_two : length cs ≤ 2
 
 either : (b : Bool) (cs ds : List Comparator) → AreOneOrTwo cs → AreOneOrTwo ds → AreOneOrTwo (if b then cs else ds)
 either true cs ds h k = h
 either false cs ds h k = k
 
 one_is : (c : Comparator) → AreOneOrTwo (c ∷ [])
-one_is c = record { some = omega arith; few = omega arith }
+one_is c = record { some = omega arith; at_most_two = omega arith }
 
 two_are : (c d : Comparator) → AreOneOrTwo (c ∷ d ∷ [])
-two_are c d = record { some = omega arith; few = omega arith }
+two_are c d = record { some = omega arith; at_most_two = omega arith }
 
-between_few : (i j : VersionBoundKind) (s e : Version) → AreOneOrTwo (shortest_between i j s e)
-between_few kind.Inclusive kind.Inclusive s e = either (version_eq s e) _ _ (one_is _) (either (is_plain s 0 0 0) _ _ (one_is _) (two_are _ _))
-between_few kind.Inclusive kind.Exclusive s e =
+between_short : (i j : VersionBoundKind) (s e : Version) → AreOneOrTwo (shortest_between i j s e)
+between_short kind.Inclusive kind.Inclusive s e = either (version_eq s e) _ _ (one_is _) (either (is_release_of s 0 0 0) _ _ (one_is _) (two_are _ _))
+between_short kind.Inclusive kind.Exclusive s e =
     either (is_major s e) _ _ (one_is _)
     (either (is_minor s e) _ _ (one_is _)
     (either (is_tilde s e) _ _ (one_is _)
     (either (is_caret_patch s e) _ _ (one_is _)
     (either (is_caret_major s e) _ _ (one_is _)
-    (either (is_plain s 0 0 0) _ _ (one_is _) (two_are _ _))))))
-between_few kind.Exclusive j s e = two_are _ _
+    (either (is_release_of s 0 0 0) _ _ (one_is _) (two_are _ _))))))
+between_short kind.Exclusive j s e = two_are _ _
 
-bounds_few : (s e : RangeBound) → AreOneOrTwo (shortest_of s e)
-bounds_few bound.Unbounded bound.Unbounded = one_is _
-bounds_few bound.Unbounded (bound.Version e) = one_is _
-bounds_few (bound.Version s) bound.Unbounded = one_is _
-bounds_few (bound.Version s) (bound.Version e) = between_few s.kind e.kind s.version e.version
+bounds_short : (s e : RangeBound) → AreOneOrTwo (shortest_of s e)
+bounds_short bound.Unbounded bound.Unbounded = one_is _
+bounds_short bound.Unbounded (bound.Version e) = one_is _
+bounds_short (bound.Version s) bound.Unbounded = one_is _
+bounds_short (bound.Version s) (bound.Version e) = between_short s.kind e.kind s.version e.version
 
 pub written_pieces : (ranges : List VersionRange) → AreWritableRanges ranges → AllByRecursion (λ range. IsOnePiece (range_text range) (shortest range)) ranges
 written_pieces [] h = tt
 written_pieces (r ∷ rs) h =
-    let few = bounds_few r.start r.end in (
+    let at_most_two = bounds_short r.start r.end in (
       record {
         no_bar = no_bar (range_text r) (range_no_bar r h.0);
         piece = λ f cut. range_piece f cut r h.0;
-        some = few.some;
-        few = few.few;
+        some = at_most_two.some;
+        at_most_two = at_most_two.at_most_two;
         fit = range_fits r h.0;
       },
       written_pieces rs h.1,
@@ -279,6 +279,6 @@ none_written_as_piece = record {
   no_bar = no_bar (codes "<0.0.0") refl;
   piece = none_piece;
   some = omega arith;
-  few = omega arith;
+  at_most_two = omega arith;
   fit = all_comparators_fit _ (one none_written);
 }

@@ -1,6 +1,6 @@
 -- Requirements with the same ranges in any order, which have one lowest version.
 use Rattle.std.specs.Prelude.{◌≡◌, List, [], ◌∷◌, Bool, Option, IsPermutation, map}
-use Rattle.semver_base.specs.LeastVersion.{IsOnlyLeast}
+use Rattle.semver_base.specs.LowestVersion.{IsOnlyLowest}
 use Rattle.semver_base.specs.declared.range.PreRelease.{PreRelease}
 use Rattle.semver_base.specs.declared.version.Version.{Version}
 use Rattle.semver_req.specs.Requirement.{Requirement, all_inners_mean_with}
@@ -26,18 +26,18 @@ pub record AreReordered (some others : List RangeSetOrTag) : Type 0 where
 
 -- in any order of the ranges, no other result is the lowest
 abbrev pub InAnyOrder : (RangeSetOrTag → Version → Bool) → RangeSetOrTag → Option Version → Type 0
-InAnyOrder test one least = (same : RangeSetOrTag) → IsReordered one same → IsOnlyLeast (test same) least
+InAnyOrder test one lowest = (same : RangeSetOrTag) → IsReordered one same → IsOnlyLowest (test same) lowest
 
 -- the same for two requirements
 abbrev pub BothInAnyOrder : (RangeSetOrTag → RangeSetOrTag → Version → Bool) → RangeSetOrTag → RangeSetOrTag
     → Option Version → Type 0
-BothInAnyOrder test one other least =
+BothInAnyOrder test one other lowest =
     (same others : RangeSetOrTag) → IsReordered one same → IsReordered other others
-    → IsOnlyLeast (test same others) least
+    → IsOnlyLowest (test same others) lowest
 
 -- the same for a requirement and others, which are in any order too
 abbrev pub AllInAnyOrder : PreRelease → RangeSetOrTag → List Requirement → Option Version → Type 0
-AllInAnyOrder flag own others least = (same : RangeSetOrTag) (rest : List Requirement)
+AllInAnyOrder flag own others lowest = (same : RangeSetOrTag) (rest : List Requirement)
     → AreReordered (own ∷ map (λ (req : Requirement). req.inner) others)
     (same ∷ map (λ (req : Requirement). req.inner) rest)
-    → IsOnlyLeast (all_inners_mean_with flag same rest) least
+    → IsOnlyLowest (all_inners_mean_with flag same rest) lowest

@@ -2,9 +2,9 @@
 -- the leading `v` that npm accepts.
 use Rattle.std.specs.Prelude.{◌≡◌, ◌⊎◌, ℕ, List, [], ◌∷◌, ◌++◌, Bool, ◌&&◌, Option, codes, if◌then◌else◌}
 use Rattle.semver_base.specs.Characters.{caret_sign, equals_sign, letter_v, tilde_sign}
-use Rattle.semver_base.specs.Comparators.{Caret, Comparator, Hyphen, OfPrimitive, Plain, Tilde, comparator_line, of_primitive, primitive_kind_text}
+use Rattle.semver_base.specs.Comparators.{Caret, Comparator, Hyphen, OfPrimitive, Bare, Tilde, comparator_line, of_primitive, primitive_kind_text}
 use Rattle.semver_base.specs.Grammar.{After, Either, Followed, IsText, Mapped, Prefixed, Optional}
-use Rattle.semver_base.specs.Lexical.{IsBlanks, IsByte, IsSomeBlanks}
+use Rattle.semver_base.specs.Lexical.{IsWhitespace, IsByte, IsSomeWhitespace}
 use Rattle.semver_base.specs.PartialTable.{all_fit}
 use Rattle.semver_base.specs.declared.lexical.values.Measured.{Measured}
 use Rattle.semver_base.specs.declared.lexical.values.Measured.TheVariants.{Fits, TooLarge}
@@ -30,7 +30,7 @@ IsMaybeEqual text alone with_equal kind rest =
 
 -- a comparison operator, optional whitespace and a partial version
 abbrev pub IsPrimitive : Flavour → List ℕ → PrimitiveKind × Partial → Type 0
-IsPrimitive f = Followed IsPrimitiveKind (After IsBlanks (IsPartial f))
+IsPrimitive f = Followed IsPrimitiveKind (After IsWhitespace (IsPartial f))
 
 -- a comparison operator and a partial version, unless a number in it is too large
 abbrev pub sized_primitive : PrimitiveKind × Partial → Measured Primitive
@@ -51,11 +51,11 @@ pub data IsEquals : List ℕ → Unit {0} → Type 0 where
 -- what npm's grammar allows before the partial of a tilde or caret: any number of `=` and an optional `v`, with optional
 -- whitespace after each
 abbrev pub IsLed : List ℕ → Partial → Type 0
-IsLed = After IsEquals (After IsBlanks (After (Optional (IsByte letter_v)) (After IsBlanks (IsPartial Npm))))
+IsLed = After IsEquals (After IsWhitespace (After (Optional (IsByte letter_v)) (After IsWhitespace (IsPartial Npm))))
 
 -- an ignored operator with whitespace after it, or nothing
 abbrev pub IsIgnored : List ℕ → Option (PrimitiveKind × Unit {0}) → Type 0
-IsIgnored = Optional (Followed IsPrimitiveKind IsSomeBlanks)
+IsIgnored = Optional (Followed IsPrimitiveKind IsSomeWhitespace)
 
 abbrev pub IsNpmTilde : List ℕ → Comparator → Type 0
 IsNpmTilde = Mapped Tilde (After IsIgnored (After (Either (IsText (codes "~>")) (IsText (codes "~"))) IsLed))
@@ -67,18 +67,18 @@ IsNpmCaret = Mapped Caret (After IsIgnored (Prefixed caret_sign IsLed))
 abbrev pub IsOfPrimitive : Flavour → List ℕ → Comparator → Type 0
 IsOfPrimitive f = Mapped of_primitive (IsPrimitive f)
 
-abbrev pub IsPlain : Flavour → List ℕ → Comparator → Type 0
-IsPlain f = Mapped Plain (IsPartial f)
+abbrev pub IsBare : Flavour → List ℕ → Comparator → Type 0
+IsBare f = Mapped Bare (IsPartial f)
 
 -- `~` or `^` and a partial
-abbrev pub IsMarked : Flavour → List ℕ → Comparator → Type 0
-IsMarked f =
+abbrev pub HasOperator : Flavour → List ℕ → Comparator → Type 0
+HasOperator f =
     Either (Mapped Tilde (Prefixed tilde_sign (IsPartial f))) (Mapped Caret (Prefixed caret_sign (IsPartial f)))
 
 abbrev pub IsComparator : Flavour → List ℕ → Comparator → Type 0
-IsComparator Npm = Either (Either IsNpmTilde IsNpmCaret) (Either (IsOfPrimitive Npm) (IsPlain Npm))
-IsComparator Normal = Either (IsMarked Normal) (Either (IsOfPrimitive Normal) (IsPlain Normal))
-IsComparator Specifier = Either (IsMarked Specifier) (IsPlain Specifier)
+IsComparator Npm = Either (Either IsNpmTilde IsNpmCaret) (Either (IsOfPrimitive Npm) (IsBare Npm))
+IsComparator Normal = Either (HasOperator Normal) (Either (IsOfPrimitive Normal) (IsBare Normal))
+IsComparator Specifier = Either (HasOperator Specifier) (IsBare Specifier)
 
 -- ---- which fit
 
@@ -94,7 +94,7 @@ abbrev pub comparator_numbers : Comparator → List ℕ
 comparator_numbers (Tilde p) = numbers p
 comparator_numbers (Caret p) = numbers p
 comparator_numbers (OfPrimitive kind p) = numbers p
-comparator_numbers (Plain p) = numbers p
+comparator_numbers (Bare p) = numbers p
 comparator_numbers (Hyphen p q) = numbers p ++ numbers q
 
 -- every number among the components, and every sum that the line needs, is at most 18446744073709551615

@@ -5,7 +5,7 @@ use Rattle.std.specs.List.{list_all}
 use Rattle.std.specs.Str.{trim}
 use Rattle.semver_base.specs.Comparators.{Comparator, comparator_range}
 use Rattle.semver_base.specs.Grammar.{HasNone, IsLongest}
-use Rattle.semver_base.specs.Lexical.{IsBlanks}
+use Rattle.semver_base.specs.Lexical.{IsWhitespace}
 use Rattle.semver_base.specs.declared.range.VersionRange.{VersionRange}
 use Rattle.semver_req.specs.Comparators.{IsComparator, fits}
 use Rattle.semver_req.specs.Pieces.{ArePieces, IsPiece}
@@ -17,7 +17,7 @@ use Rattle.semver_req.specs.declared.common.values.Flavour.TheVariants.{Npm, Nor
 pub data Outcome : Type 0 where
   Ranges : List (List Comparator) → Outcome
   Tag : List ℕ → Outcome
-  Refused : Outcome
+  Rejected : Outcome
 
 -- the bounds of the comparators of a tree
 abbrev pub tree_ranges : List (List Comparator) → List (List VersionRange)
@@ -26,14 +26,14 @@ tree_ranges tree = map (λ comparators. map comparator_range comparators) tree
 -- the text as a tag if it is a valid one, otherwise an error
 pub data IsTagOr : List ℕ → Outcome → Type 0 where
   tag : {text : List ℕ} → is_valid_tag text ≡ true → IsTagOr text (Tag text)
-  no_tag : {text : List ℕ} → is_valid_tag text ≡ false → IsTagOr text Refused
+  no_tag : {text : List ℕ} → is_valid_tag text ≡ false → IsTagOr text Rejected
 
 -- ---- npm's and the normalized parser
 
 -- the piece is valid: comparators of the grammar that all fit, or whitespace before a `||`, which is everything
 abbrev pub IsGood : Flavour → Bool → List ℕ → List Comparator → Type 0
 IsGood f followed piece cs =
-    (IsPiece f piece cs × (list_all fits cs ≡ true)) ⊎ ((followed ≡ true) × IsBlanks piece tt × (cs ≡ []))
+    (IsPiece f piece cs × (list_all fits cs ≡ true)) ⊎ ((followed ≡ true) × IsWhitespace piece tt × (cs ≡ []))
 
 abbrev pub IsBad : Flavour → Bool → List ℕ → Type 0
 IsBad f followed piece = (cs : List Comparator) → IsGood f followed piece cs → ⊥
@@ -60,9 +60,9 @@ pub data IsCutOutcome : Flavour → List ℕ → Outcome → Type 0 where
   normal_many : {text one two : List ℕ} {more : List (List ℕ)} {b : Bool} {tree : List (List Comparator)}
       → ArePieces text b (one ∷ two ∷ more) → AreGoodOnes Normal b (one ∷ two ∷ more) tree
       → length tree ≡ length (one ∷ two ∷ more) → IsCutOutcome Normal text (Ranges tree)
-  normal_refused : {text one two : List ℕ} {more : List (List ℕ)} {b : Bool} {tree : List (List Comparator)}
+  normal_rejected : {text one two : List ℕ} {more : List (List ℕ)} {b : Bool} {tree : List (List Comparator)}
       → ArePieces text b (one ∷ two ∷ more) → AreGoodOnes Normal b (one ∷ two ∷ more) tree
-      → length tree < length (one ∷ two ∷ more) → IsCutOutcome Normal text Refused
+      → length tree < length (one ∷ two ∷ more) → IsCutOutcome Normal text Rejected
 
 -- ---- the strict parser
 
@@ -76,7 +76,7 @@ pub data IsSpecifierOutcome : List ℕ → Outcome → Type 0 where
   whole : {text : List ℕ} {c : Comparator} → IsLongest IsSpecifierRange text c [] → fits c ≡ true
       → IsSpecifierOutcome text (Ranges ((c ∷ []) ∷ []))
   left_over : {text rest : List ℕ} {c : Comparator} → IsLongest IsSpecifierRange text c rest → fits c ≡ true
-      → 0 < length rest → IsSpecifierOutcome text Refused
+      → 0 < length rest → IsSpecifierOutcome text Rejected
   no_front : {text : List ℕ} {o : Outcome} → HasNone IsSpecifierRange text → IsTagOr text o → IsSpecifierOutcome text o
   no_fit : {text rest : List ℕ} {c : Comparator} {o : Outcome} → IsLongest IsSpecifierRange text c rest → fits c ≡ false
       → IsTagOr text o → IsSpecifierOutcome text o

@@ -54,14 +54,14 @@ partial_of (m, Some (n, None)) = record { major = m; minor = n; patch = Wildcard
 partial_of (m, Some (n, Some (p, q))) = record { major = m; minor = n; patch = p; pre = q.pre; build = q.build }
 
 -- a component, and then an optional second part
-abbrev pub IsPlainPartial : Flavour → List ℕ → Partial → Type 0
-IsPlainPartial f = Mapped partial_of (Followed (IsComponent f) (Optional (IsSecond f)))
+abbrev pub IsBarePartial : Flavour → List ℕ → Partial → Type 0
+IsBarePartial f = Mapped partial_of (Followed (IsComponent f) (Optional (IsSecond f)))
 
 -- npm's grammar allows one `v` before the first component
 abbrev pub IsPartial : Flavour → List ℕ → Partial → Type 0
-IsPartial Npm = Either (Prefixed letter_v (IsPlainPartial Npm)) (IsPlainPartial Npm)
-IsPartial Normal = IsPlainPartial Normal
-IsPartial Specifier = IsPlainPartial Specifier
+IsPartial Npm = Either (Prefixed letter_v (IsBarePartial Npm)) (IsBarePartial Npm)
+IsPartial Normal = IsBarePartial Normal
+IsPartial Specifier = IsBarePartial Specifier
 
 -- ---- whether they fit in 64 bits
 

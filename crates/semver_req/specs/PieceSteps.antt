@@ -3,13 +3,13 @@ use Rattle.std.specs.Prelude.{◌≡◌, ◌<◌, ◌==◌, ◌⊎◌, ℕ, List
 use Rattle.std.specs.Borrow.{Bor}
 use Rattle.std.specs.Option.{option_to_list}
 use Rattle.semver_base.specs.Comparators.{Comparator}
-use Rattle.semver_base.specs.Lexical.{IsBlanks}
-use Rattle.semver_base.specs.declared.failure.Refusal.{Refusal}
+use Rattle.semver_base.specs.Lexical.{IsWhitespace}
+use Rattle.semver_base.specs.declared.failure.Rejection.{Rejection}
 use Rattle.semver_base.specs.declared.partial.Partial.{Partial}
-use Rattle.semver_req.specs.KeptSet.{kept}
+use Rattle.semver_req.specs.RetainedSet.{retained}
 use Rattle.semver_req.specs.Outcome.{AreGoodOnes}
 use Rattle.semver_req.specs.Partials.{sized_partial}
-use Rattle.semver_req.specs.PieceReading.{IsFirstBad, as_kept, kept_of}
+use Rattle.semver_req.specs.PieceReading.{IsFirstBad, as_retained, retained_of}
 use Rattle.semver_req.specs.Pieces.{AreMorePieces, ArePieces, hyphen}
 use Rattle.semver_req.specs.declared.common.hyphen.HyphenRange.{HyphenRange}
 use Rattle.semver_req.specs.declared.common.values.Flavour.{Flavour}
@@ -40,7 +40,7 @@ both_now (Some p) = Some (p.0.now, p.1.now)
 
 -- the piece is empty, or whitespace followed by `||`
 abbrev pub IsEverything : Bool → List ℕ → Type 0
-IsEverything followed piece = (piece ≡ []) ⊎ ((followed ≡ true) × IsBlanks piece tt)
+IsEverything followed piece = (piece ≡ []) ⊎ ((followed ≡ true) × IsWhitespace piece tt)
 
 -- a hyphen range, with both of its partial versions measured
 abbrev pub sized_hyphen : Partial × Partial → HyphenRange
@@ -48,35 +48,35 @@ sized_hyphen v = record { lower = sized_partial v.0; upper = sized_partial v.1 }
 
 -- what a hyphen range parses to, if this is what was measured of it
 abbrev pub IsHyphenRead : HyphenRange → RangeOrInvalid → Type 0
-IsHyphenRead measured answer = (v : Partial × Partial) → measured ≡ sized_hyphen v → answer ≡ as_kept (hyphen v)
+IsHyphenRead measured answer = (v : Partial × Partial) → measured ≡ sized_hyphen v → answer ≡ as_retained (hyphen v)
 
 -- the whole piece is comparators of the grammar, which parse to this, or it isn't any
 abbrev pub IsWholeRead : (List ℕ → List Comparator → Type 0) → List ℕ → Option RangeOrInvalid → Type 0
 IsWholeRead R piece None = (cs : List Comparator) → R piece cs → ⊥
-IsWholeRead R piece (Some answer) = (cs : List Comparator) × R piece cs × (answer ≡ as_kept cs)
+IsWholeRead R piece (Some answer) = (cs : List Comparator) × R piece cs × (answer ≡ as_retained cs)
 
 -- why the first invalid piece is invalid, with one more piece
-abbrev pub first_refusal : Option Refusal → RangeOrInvalid → Option Refusal
-first_refusal (Some refusal) piece = Some refusal
-first_refusal None (read.Range range) = None
-first_refusal None (read.Invalid refusal) = Some refusal
+abbrev pub first_rejection : Option Rejection → RangeOrInvalid → Option Rejection
+first_rejection (Some rejection) piece = Some rejection
+first_rejection None (read.Range range) = None
+first_rejection None (read.Invalid rejection) = Some rejection
 
 pub record IsOneMore (piece : RangeOrInvalid) (old new : Alternatives) : Type 0 where
-  pub ranges : new.ranges ≡ old.ranges ++ option_to_list (kept_of piece)
-  pub refused : new.refused ≡ first_refusal old.refused piece
+  pub ranges : new.ranges ≡ old.ranges ++ option_to_list (retained_of piece)
+  pub rejected : new.rejected ≡ first_rejection old.rejected piece
   pub is_only : new.is_only ≡ old.is_only
 
 -- all the pieces are valid, or the first invalid one is so for this reason
-abbrev pub IsTold : Flavour → Bool → List (List ℕ) → List (List Comparator) → Option Refusal → Type 0
-IsTold f b pieces tree None = length tree ≡ length pieces
-IsTold f b pieces tree (Some refusal) = (length tree < length pieces) × IsFirstBad f b pieces refusal
+abbrev pub IsReported : Flavour → Bool → List (List ℕ) → List (List Comparator) → Option Rejection → Type 0
+IsReported f b pieces tree None = length tree ≡ length pieces
+IsReported f b pieces tree (Some rejection) = (length tree < length pieces) × IsFirstBad f b pieces rejection
 
 -- what these pieces parse to
 pub record AreRead (f : Flavour) (b : Bool) (pieces : List (List ℕ)) (all : Alternatives) : Type 0 where
   pub tree : List (List Comparator)
   pub good_ones : AreGoodOnes f b pieces tree
-  pub kept : all.ranges ≡ kept f tree
-  pub told : IsTold f b pieces tree all.refused
+  pub retained : all.ranges ≡ retained f tree
+  pub reported : IsReported f b pieces tree all.rejected
   pub is_only : all.is_only ≡ (length pieces == 1)
 
 -- what the first piece and those of what follows its `||` parse to

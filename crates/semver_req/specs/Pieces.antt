@@ -4,7 +4,7 @@ use Rattle.std.specs.Prelude.{◌≡◌, ◌<◌, ◌≤◌, ℕ, List, [], ◌�
 use Rattle.semver_base.specs.Characters.{bar, hyphen_sign}
 use Rattle.semver_base.specs.Comparators.{Comparator, Hyphen}
 use Rattle.semver_base.specs.Grammar.{After, Before, Either, Followed, IsLongest, IsText, Listed, Mapped, Prefixed}
-use Rattle.semver_base.specs.Lexical.{IsBlanks, IsSomeBlanks}
+use Rattle.semver_base.specs.Lexical.{IsWhitespace, IsSomeWhitespace}
 use Rattle.semver_base.specs.declared.partial.Partial.{Partial}
 use Rattle.semver_req.specs.Comparators.{IsComparator}
 use Rattle.semver_req.specs.Partials.{IsPartial}
@@ -13,17 +13,17 @@ use Rattle.semver_req.specs.declared.common.values.Flavour.TheVariants.{Npm, Nor
 
 -- ---- a piece
 
-abbrev pub IsMark : List ℕ → Unit {0} → Type 0
-IsMark = Either (IsText (codes "&&")) (IsText (codes ","))
+abbrev pub IsListOperator : List ℕ → Unit {0} → Type 0
+IsListOperator = Either (IsText (codes "&&")) (IsText (codes ","))
 
 -- between npm's comparators: `&&` or `,` with optional whitespace on both sides, or whitespace alone
 abbrev pub IsNpmSeparator : List ℕ → Unit {0} → Type 0
-IsNpmSeparator = Either (After IsBlanks (After IsMark IsBlanks)) IsSomeBlanks
+IsNpmSeparator = Either (After IsWhitespace (After IsListOperator IsWhitespace)) IsSomeWhitespace
 
 -- between the comparators of a grammar; the strict one has no lists
 abbrev pub IsSeparator : Flavour → List ℕ → Unit {0} → Type 0
 IsSeparator Npm = IsNpmSeparator
-IsSeparator Normal = IsSomeBlanks
+IsSeparator Normal = IsSomeWhitespace
 IsSeparator Specifier = λ text v. ⊥
 
 -- comparators with separators between them, and at most one at the end
@@ -35,11 +35,11 @@ hyphen v = Hyphen v.0 v.1 ∷ []
 
 -- a partial, and the whitespace after it
 abbrev pub IsUpper : List ℕ → Partial → Type 0
-IsUpper = Before (IsPartial Npm) IsBlanks
+IsUpper = Before (IsPartial Npm) IsWhitespace
 
 -- a `-` with whitespace on both sides, and a partial
 abbrev pub IsHyphened : List ℕ → Partial → Type 0
-IsHyphened = After IsSomeBlanks (Prefixed hyphen_sign (After IsSomeBlanks IsUpper))
+IsHyphened = After IsSomeWhitespace (Prefixed hyphen_sign (After IsSomeWhitespace IsUpper))
 
 -- two partials around a `-`
 abbrev pub IsHyphenPair : List ℕ → Partial × Partial → Type 0
@@ -51,7 +51,7 @@ IsHyphen = Mapped hyphen IsHyphenPair
 -- a piece that isn't empty
 abbrev pub IsFilled : Flavour → List ℕ → List Comparator → Type 0
 IsFilled Npm = Either IsHyphen (Listed (IsComparator Npm) IsNpmSeparator)
-IsFilled Normal = Listed (IsComparator Normal) IsSomeBlanks
+IsFilled Normal = Listed (IsComparator Normal) IsSomeWhitespace
 IsFilled Specifier = λ text comparators. ⊥
 
 -- the empty piece, which is everything, or one that isn't empty
@@ -67,7 +67,7 @@ NormalPiecesAreNpms = (text : List ℕ) (cs : List Comparator) → IsPiece Norma
 
 -- the byte m twice, with optional whitespace on both sides
 abbrev pub IsOperator : ℕ → List ℕ → Unit {0} → Type 0
-IsOperator m = After IsBlanks (After (IsText (m ∷ m ∷ [])) IsBlanks)
+IsOperator m = After IsWhitespace (After (IsText (m ∷ m ∷ [])) IsWhitespace)
 
 -- a parser's result at a position in a text, as one on the text from there on
 abbrev pub place_answer : List ℕ → Option ℕ → Option (Unit {0} × List ℕ)
@@ -92,7 +92,7 @@ pub record IsCutAt (text piece rest : List ℕ) : Type 0 where
 
 -- the text is whitespace and then the rest, which doesn't begin with whitespace
 pub record IsTrimmed (text rest : List ℕ) : Type 0 where
-  pub longest : IsLongest IsBlanks text tt rest
+  pub longest : IsLongest IsWhitespace text tt rest
 
 -- the pieces of what follows a `||`: leading whitespace is skipped, and what is then empty isn't a piece
 pub data AreMorePieces : List ℕ → List (List ℕ) → Type 0 where

@@ -10,7 +10,7 @@ use Rattle.semver_base.specs.Meaning.{alternatives, release, set_means, tree_mea
 use Rattle.semver_base.specs.NormalText.{range_text, set_text, AreWritableRanges, IsWritableRange}
 use Rattle.semver_base.specs.Overlap.{starts_before}
 use Rattle.semver_base.specs.PrecedenceLaws.{version_eq}
-use Rattle.semver_base.specs.Shortest.{ending, is_plain, shortest, shortest_tree}
+use Rattle.semver_base.specs.Shortest.{ending, is_release_of, shortest, shortest_tree}
 use Rattle.semver_base.specs.VersionGrammar.{IsVersionOutcome}
 use Rattle.semver_base.specs.declared.range.PreRelease.{PreRelease}
 use Rattle.semver_base.specs.declared.range.RangeBound.{RangeBound}
@@ -20,11 +20,11 @@ use Rattle.semver_base.specs.declared.range.VersionBoundKind.TheVariants as kind
 use Rattle.semver_base.specs.declared.range.VersionRange.{VersionRange}
 use Rattle.semver_base.specs.declared.version.Version.{Version}
 use Rattle.semver_req.specs.Comparators.{fits}
-use Rattle.semver_req.specs.KeptSet.{IsReadSet, kept}
+use Rattle.semver_req.specs.RetainedSet.{IsReadSet, retained}
 use Rattle.semver_req.specs.Outcome.{IsOutcome, Outcome, Ranges, Tag, tree_ranges}
 use Rattle.semver_req.specs.PieceReading.{IsPieceRead}
 use Rattle.semver_req.specs.Pieces.{HasNoBar, IsCutting, IsPiece}
-use Rattle.semver_req.specs.Readers.{IsReadFrom, IsReading, StartsFit}
+use Rattle.semver_req.specs.Parsers.{IsReadFrom, IsReading, StartsFit}
 use Rattle.semver_req.specs.Requirement.{inner_means, wildcard}
 use Rattle.semver_req.specs.declared.common.values.Flavour.{Flavour}
 use Rattle.semver_req.specs.declared.common.values.Flavour.TheVariants.{Normal}
@@ -41,7 +41,7 @@ is_pre_of_zero v = not (length v.pre == 0) && ((v.major == 0) && ((v.minor == 0)
 -- from a version to itself, build included, or to below 0.0.1 or 0.1.0, as `^0.0.0-a` and `~0.0.0-a`
 abbrev pub has_own_form : VersionBoundKind → VersionBoundKind → Version → Version → Bool
 has_own_form kind.Inclusive kind.Inclusive s e = version_eq s e
-has_own_form kind.Inclusive kind.Exclusive s e = is_plain e 0 0 1 || is_plain e 0 1 0
+has_own_form kind.Inclusive kind.Exclusive s e = is_release_of e 0 0 1 || is_release_of e 0 1 0
 has_own_form kind.Exclusive k s e = false
 
 abbrev pub keeps_start : RangeBound → RangeBound → Bool
@@ -87,13 +87,13 @@ abbrev pub KeepsTheSame : List ℕ → List VersionRange → Type 0
 KeepsTheSame text ranges = list_all keeps_meaning ranges ≡ true → (f : Flavour) → IsCutting f
     → (tree : List (List Comparator)) → IsTree f text tree
     → (flag : PreRelease) (v : Version)
-    → tree_means_with flag (alternatives (kept f tree)) v ≡ tree_means_with flag (alternatives ranges) v
+    → tree_means_with flag (alternatives (retained f tree)) v ≡ tree_means_with flag (alternatives ranges) v
 
 -- they are the ranges themselves if these are orderly too
 abbrev pub KeepsEqual : List ℕ → List VersionRange → Type 0
 KeepsEqual text ranges =
     list_all is_orderly ranges ≡ true → list_all keeps_meaning ranges ≡ true → (f : Flavour) → IsCutting f
-    → (tree : List (List Comparator)) → IsTree f text tree → kept f tree ≡ ranges
+    → (tree : List (List Comparator)) → IsTree f text tree → retained f tree ≡ ranges
 
 -- ---- reaching a fixed point
 
@@ -101,16 +101,16 @@ KeepsEqual text ranges =
 pub record IsReadAsItself (f : Flavour) (ranges : List VersionRange) : Type 0 where
   pub tree : List (List Comparator)
   pub is_tree : IsTree f (set_text ranges) tree
-  pub is_kept : kept f tree ≡ ranges
+  pub is_retained : retained f tree ≡ ranges
 
 -- the set is stable: npm's and the normalized parser both do so
-abbrev pub IsSettledSet : List VersionRange → Type 0
-IsSettledSet ranges = (f : Flavour) → IsCutting f → IsReadAsItself f ranges
+abbrev pub IsStableSet : List VersionRange → Type 0
+IsStableSet ranges = (f : Flavour) → IsCutting f → IsReadAsItself f ranges
 
 -- what either parser keeps of the text is stable
-abbrev pub KeepsSettled : List ℕ → List VersionRange → Type 0
-KeepsSettled text ranges =
-    (f : Flavour) → IsCutting f → (tree : List (List Comparator)) → IsTree f text tree → IsSettledSet (kept f tree)
+abbrev pub KeepsStable : List ℕ → List VersionRange → Type 0
+KeepsStable text ranges =
+    (f : Flavour) → IsCutting f → (tree : List (List Comparator)) → IsTree f text tree → IsStableSet (retained f tree)
 
 -- what is said of a version that some text parses to
 abbrev pub OfReadVersion : Version → Type 0 → Type 0
@@ -123,7 +123,7 @@ pub record IsRereading (text : List ℕ) (ranges : List VersionRange) : Type 0 w
   pub forms : IsReadAsForms text ranges
   pub is_trimmed : trim text ≡ text
   pub means : MeansTheSame text ranges
-  pub kept_means : KeepsTheSame text ranges
+  pub retained_means : KeepsTheSame text ranges
   pub equal : KeepsEqual text ranges
 
 abbrev pub NormalTextsKeepTheirMeaning : Type 0
@@ -136,12 +136,12 @@ NormalTextsAreEquivalent = (ranges : List VersionRange) → IsReadSet ranges →
     → AreEquivalent (set_means ranges) (inner_means again)
 
 -- what either parser keeps of the canonical form of a parsed set is stable
-abbrev pub OneRereadingSettles : Type 0
-OneRereadingSettles = (ranges : List VersionRange) → IsReadSet ranges → KeepsSettled (set_text ranges) ranges
+abbrev pub OneRereadingStabilizes : Type 0
+OneRereadingStabilizes = (ranges : List VersionRange) → IsReadSet ranges → KeepsStable (set_text ranges) ranges
 
 -- stable sets are the same exactly if their canonical forms are
-abbrev pub SettledSetsAreTheirTexts : Type 0
-SettledSetsAreTheirTexts = (some others : List VersionRange) → IsSettledSet some → IsSettledSet others
+abbrev pub StableSetsAreTheirTexts : Type 0
+StableSetsAreTheirTexts = (some others : List VersionRange) → IsStableSet some → IsStableSet others
     → (some ≡ others) ↔ (set_text some ≡ set_text others)
 
 -- the text is one piece without `||`, in npm's and in the normalized grammar of these one or two comparators, which fit
@@ -149,7 +149,7 @@ pub record IsOnePiece (text : List ℕ) (comparators : List Comparator) : Type 0
   pub no_bar : HasNoBar text
   pub piece : (f : Flavour) → IsCutting f → IsPiece f text comparators
   pub some : 0 < length comparators
-  pub few : length comparators ≤ 2
+  pub at_most_two : length comparators ≤ 2
   pub fit : list_all fits comparators ≡ true
 
 -- so is the canonical form of each range of a parsed set, and that of the empty set, `<0.0.0`

@@ -9,18 +9,18 @@ ghost use Rattle.semver_base.specs.Characters.{ampersand, bar};
 ghost use Rattle.semver_base.specs.Grammar.{IsAfterOne, IsSeen, Optional, Reads, ReadsAs, answer_of};
 ghost use Rattle.semver_base.specs.Lexical.{IsQualifier};
 ghost use Rattle.semver_req.specs.Comparators.{IsMaybeEqual, IsPrimitive, IsPrimitiveKind, primitive_of, sized_primitive};
-ghost use Rattle.semver_req.specs.Partials.{IsComponent, IsLongestAt, IsPartial, IsPlainPartial, IsSecond, IsThird, ReadsAt, answer_at, assembled, component_of, is_wildcard, second_or_none, sized_component, sized_partial, sized_second, sized_third, strictness_of, third_or_none};
+ghost use Rattle.semver_req.specs.Partials.{IsComponent, IsLongestAt, IsPartial, IsBarePartial, IsSecond, IsThird, ReadsAt, answer_at, assembled, component_of, is_wildcard, second_or_none, sized_component, sized_partial, sized_second, sized_third, strictness_of, third_or_none};
 ghost use Rattle.semver_req.specs.Pieces.{IsOperator, place_answer};
 
 pub mod comparator;
 pub mod hyphen;
-pub(crate) mod plain;
 pub mod separators;
+pub(crate) mod short;
 pub mod values;
 
 use semver_base::lexical;
 use semver_base::lexical::values::{Measured, Qualifier};
-use semver_base::lexical::{after, after_blanks};
+use semver_base::lexical::{after, after_whitespace};
 use semver_base::partial::{Partial, XRange};
 use separators::after_operator;
 use std::alloc::{AllocError, Global};
@@ -194,13 +194,13 @@ fn assemble(major: Measured<XRange>, second: FromMinor) -> Measured<Partial>
 
 // Parses a partial version without a `v` before it.
 #[inline(always)]
-fn plain_partial(
+fn bare_partial(
     alloc: Global,
     text: &str,
     flavour: Flavour,
 ) -> Result<Option<(Measured<Partial>, &str)>, AllocError>
     ensures { IfOk result
-        (λ r. ReadsAs sized_partial (IsPlainPartial flavour) text.now (answer_of r)) }
+        (λ r. ReadsAs sized_partial (IsBarePartial flavour) text.now (answer_of r)) }
 {
     let Some((major, rest)) = component(text, flavour) else {
         return Ok(None);
@@ -216,8 +216,8 @@ fn npm_partial(alloc: Global, text: &str) -> Result<Option<(Measured<Partial>, &
         (λ r. ReadsAs sized_partial (IsPartial Flavour.Npm) text.now (answer_of r)) }
 {
     match after(text, 'v') {
-        Some(rest) => plain_partial(alloc, rest, Flavour::Npm),
-        None => plain_partial(alloc, text, Flavour::Npm),
+        Some(rest) => bare_partial(alloc, rest, Flavour::Npm),
+        None => bare_partial(alloc, text, Flavour::Npm),
     }
 }
 
@@ -234,8 +234,8 @@ pub fn partial_front(
 {
     match flavour {
         Flavour::Npm => npm_partial(alloc, text),
-        Flavour::Normal => plain_partial(alloc, text, Flavour::Normal),
-        Flavour::Specifier => plain_partial(alloc, text, Flavour::Specifier),
+        Flavour::Normal => bare_partial(alloc, text, Flavour::Normal),
+        Flavour::Specifier => bare_partial(alloc, text, Flavour::Specifier),
     }
 }
 
@@ -292,7 +292,7 @@ fn primitive_front(
     let Some((kind, rest)) = primitive_kind_front(text) else {
         return Ok(None);
     };
-    let Some((partial, rest)) = partial_front(alloc, after_blanks(rest), flavour)? else {
+    let Some((partial, rest)) = partial_front(alloc, after_whitespace(rest), flavour)? else {
         return Ok(None);
     };
     Ok(Some((primitive_of(kind, partial), rest)))

@@ -7,11 +7,11 @@
 //! The laws of the grammars are about texts and ranges alone. Their calls do nothing: a caller cites what they ensure.
 
 ghost use Rattle.std.specs.Prelude.{◌≡◌, ◌↔◌, IsTrue};
-ghost use Rattle.semver_req.specs.KeptSet.{KeptSetsMeanTheirTrees};
+ghost use Rattle.semver_req.specs.RetainedSet.{RetainedSetsMeanTheirTrees};
 ghost use Rattle.semver_req.specs.Outcome.{TextsHaveOneOutcome};
 ghost use Rattle.semver_req.specs.Pieces.{NormalPiecesAreNpms};
-ghost use Rattle.semver_req.specs.Readers.{ReadRequirementsAreAnswers};
-ghost use Rattle.semver_req.specs.Rereading.{NormalTextsAreEquivalent, NormalTextsHoldNoSeparator, NormalTextsKeepTheirMeaning, OneRereadingSettles, RangesAreWrittenAsPieces, ReadRangesAreWritable, SettledSetsAreTheirTexts, StarIsAnyVersion, TagsHoldNoSeparator, TagsReadBack};
+ghost use Rattle.semver_req.specs.Parsers.{ReadRequirementsAreAnswers};
+ghost use Rattle.semver_req.specs.Rereading.{NormalTextsAreEquivalent, NormalTextsHoldNoSeparator, NormalTextsKeepTheirMeaning, OneRereadingStabilizes, RangesAreWrittenAsPieces, ReadRangesAreWritable, StableSetsAreTheirTexts, StarIsAnyVersion, TagsHoldNoSeparator, TagsReadBack};
 
 use crate::common::values::Flavour;
 use crate::npm::NpmVersionReqParseError;
@@ -86,8 +86,8 @@ pub fn normalized_pieces_are_npms()
 
 /// What a parser keeps of a text's comparators matches what they match: each alternative folded into one pair of bounds
 /// matches the same versions, and a dropped range matches none.
-pub fn kept_sets_mean_their_trees()
-    ensures { KeptSetsMeanTheirTrees }
+pub fn retained_sets_mean_their_trees()
+    ensures { RetainedSetsMeanTheirTrees }
 {}
 
 /// The canonical form of ranges that a parser returned has one outcome in npm's and in the normalized grammar, the same
@@ -120,9 +120,9 @@ pub fn ranges_are_written_as_pieces()
 /// What either parser keeps of the canonical form of ranges that a parser returned is stable: either parser parses its own
 /// canonical form to comparators, and keeps the same ranges of them. Two stable sets, whoever made them, are the same exactly
 /// if their canonical forms are.
-pub fn one_rereading_settles()
-    ensures settles { OneRereadingSettles }
-    ensures by_text { SettledSetsAreTheirTexts }
+pub fn one_rereading_stabilizes()
+    ensures stabilizes { OneRereadingStabilizes }
+    ensures by_text { StableSetsAreTheirTexts }
 {}
 
 /// A tag that a parser returned parses back: the normalized parser returns the same tag for it. For a tag of the normalized

@@ -1,8 +1,8 @@
 //! Parsing by any of the three grammars.
 
 ghost use Rattle.std.specs.Prelude.{IfErr};
-ghost use Rattle.semver_req.specs.Readers.{IsReaderAnswer};
-ghost use Rattle.semver_req.specs.TextRefusal.{IsTextRefusal};
+ghost use Rattle.semver_req.specs.Parsers.{IsParserAnswer};
+ghost use Rattle.semver_req.specs.TextRejection.{IsTextRejection};
 
 use crate::common::values::Flavour;
 use crate::req::VersionReq;
@@ -14,8 +14,8 @@ impl VersionReq {
     ///
     /// Fails with that grammar's errors, or out of memory.
     pub fn parse(alloc: Global, text: &str, flavour: Flavour) -> Result<VersionReq, ParseFailure>
-        ensures reads { IsReaderAnswer (λ failure. failure) flavour text.now result }
-        ensures refusal { IfErr result (IsTextRefusal flavour text.now) }
+        ensures reads { IsParserAnswer (λ failure. failure) flavour text.now result }
+        ensures rejection { IfErr result (IsTextRejection flavour text.now) }
     {
         match flavour {
             Flavour::Npm => Ok(VersionReq::parse_from_npm(alloc, text)?),

@@ -3,22 +3,22 @@
 ghost use Rattle.std.specs.Prelude.{◌≡◌, ◌⊎◌, IfErr, IfOk, IfSome, None, Some, true, false};
 ghost use Rattle.std.specs.Bool.{OnFalse};
 ghost use Rattle.std.specs.Str.{trim};
-ghost use Rattle.semver_req.specs.Outcome.{IsOutcome, Refused};
-ghost use Rattle.semver_req.specs.PieceReading.{IsCutRefusal, refusal_failure};
-ghost use Rattle.semver_req.specs.PlainComparators.{IsPlainReading};
-ghost use Rattle.semver_req.specs.Readers.{IsReading};
+ghost use Rattle.semver_req.specs.Outcome.{IsOutcome, Rejected};
+ghost use Rattle.semver_req.specs.PieceReading.{IsCutRejection, rejection_failure};
+ghost use Rattle.semver_req.specs.ShortComparators.{IsShortReading};
+ghost use Rattle.semver_req.specs.Parsers.{IsReading};
 ghost use Rattle.semver_req.specs.Requirement.{MatchNoVersion, OverlapAsTags, inner_overlap, inner_text};
 ghost use Rattle.semver_req.specs.Tag.{is_valid_tag};
 ghost use Rattle.semver_req.specs.declared.common.values.Flavour.TheVariants.{Normal, Npm};
 
 mod pieces;
 
-use crate::common::plain::plain_range;
+use crate::common::short::short_range;
 use crate::common::values::Flavour;
 use crate::tag::is_valid_npm_tag;
 use pieces::read_pieces;
 pub use pieces::{FirstPiece, RangeOrInvalid, first_piece, next_piece};
-use semver_base::failure::{ParseFailure, Refusal};
+use semver_base::failure::{ParseFailure, Rejection};
 use semver_base::range::VersionRangeSet;
 use semver_base::string::{
     CowVec, SmallStackString, StringAppendable, StringType, append_displayed,
@@ -38,25 +38,25 @@ pub enum RangeSetOrTag {
     Tag(PackageTag),
 }
 
-// Returns the text as a tag; fails with `refusal` if it isn't a valid one.
-fn tag_or(alloc: Global, text: &str, refusal: Refusal) -> Result<RangeSetOrTag, ParseFailure>
+// Returns the text as a tag; fails with `rejection` if it isn't a valid one.
+fn tag_or(alloc: Global, text: &str, rejection: Rejection) -> Result<RangeSetOrTag, ParseFailure>
     ensures tag { IfOk result
         (λ inner. (inner ≡ RangeSetOrTag.Tag text.now) × (is_valid_tag text.now ≡ true)) }
     ensures no_tag { IfErr result (λ failure. (failure ≡ None)
-        ⊎ ((failure ≡ refusal_failure refusal) × (is_valid_tag text.now ≡ false))) }
+        ⊎ ((failure ≡ rejection_failure rejection) × (is_valid_tag text.now ≡ false))) }
 {
     if is_valid_npm_tag(text) {
         return Ok(RangeSetOrTag::Tag(SmallStackString::from_str(alloc, text)?));
     }
-    Err(ParseFailure::of_refusal(alloc, refusal))
+    Err(ParseFailure::of_rejection(alloc, rejection))
 }
 
 // The range of a plain text, which each parser returns alike. `None` says nothing about the text.
 #[inline(always)]
-fn plain_set(alloc: Global, text: &str) -> Result<Option<RangeSetOrTag>, AllocError>
-    ensures { IfOk result (λ r. IfSome r (IsPlainReading text.now)) }
+fn short_set(alloc: Global, text: &str) -> Result<Option<RangeSetOrTag>, AllocError>
+    ensures { IfOk result (λ r. IfSome r (IsShortReading text.now)) }
 {
-    let Some(range) = plain_range(text) else {
+    let Some(range) = short_range(text) else {
         return Ok(None);
     };
     let ranges = CowVec::of_one(alloc, range.into_range(alloc))?;
@@ -73,11 +73,11 @@ impl RangeSetOrTag {
     /// large." if that is all that is wrong. Also fails out of memory.
     pub fn parse(alloc: Global, text: &str) -> Result<RangeSetOrTag, ParseFailure>
         ensures reading { IfOk result (IsReading Normal text.now) }
-        ensures refused { IfErr result
-            (λ failure. (failure ≡ None) ⊎ IsOutcome Normal text.now Refused) }
-        ensures refusal { IfErr result (IsCutRefusal Normal text.now) }
+        ensures rejected { IfErr result
+            (λ failure. (failure ≡ None) ⊎ IsOutcome Normal text.now Rejected) }
+        ensures rejection { IfErr result (IsCutRejection Normal text.now) }
     {
-        match plain_set(alloc, text)? {
+        match short_set(alloc, text)? {
             Some(inner) => Ok(inner),
             None => RangeSetOrTag::parse_pieces(alloc, text),
         }
@@ -87,16 +87,16 @@ impl RangeSetOrTag {
     #[inline(never)]
     fn parse_pieces(alloc: Global, text: &str) -> Result<RangeSetOrTag, ParseFailure>
         ensures reading { IfOk result (IsReading Normal text.now) }
-        ensures refused { IfErr result
-            (λ failure. (failure ≡ None) ⊎ IsOutcome Normal text.now Refused) }
-        ensures refusal { IfErr result (IsCutRefusal Normal text.now) }
+        ensures rejected { IfErr result
+            (λ failure. (failure ≡ None) ⊎ IsOutcome Normal text.now Rejected) }
+        ensures rejection { IfErr result (IsCutRejection Normal text.now) }
     {
         let first = first_piece(text);
         let all = read_pieces(alloc, first, Flavour::Normal)?;
-        match all.refused {
+        match all.rejected {
             None => Ok(RangeSetOrTag::RangeSet(VersionRangeSet(all.ranges))),
-            Some(refusal) if all.is_only => tag_or(alloc, first.piece.trim(), refusal),
-            Some(refusal) => Err(ParseFailure::of_refusal(alloc, refusal)),
+            Some(rejection) if all.is_only => tag_or(alloc, first.piece.trim(), rejection),
+            Some(rejection) => Err(ParseFailure::of_rejection(alloc, rejection)),
         }
     }
 
@@ -109,11 +109,11 @@ impl RangeSetOrTag {
     /// pieces, the invalid ones are left out. Also fails out of memory.
     pub fn parse_npm(alloc: Global, text: &str) -> Result<RangeSetOrTag, ParseFailure>
         ensures reading { IfOk result (IsReading Npm text.now) }
-        ensures refused { IfErr result
-            (λ failure. (failure ≡ None) ⊎ IsOutcome Npm text.now Refused) }
-        ensures refusal { IfErr result (IsCutRefusal Npm (trim text.now)) }
+        ensures rejected { IfErr result
+            (λ failure. (failure ≡ None) ⊎ IsOutcome Npm text.now Rejected) }
+        ensures rejection { IfErr result (IsCutRejection Npm (trim text.now)) }
     {
-        match plain_set(alloc, text)? {
+        match short_set(alloc, text)? {
             Some(inner) => Ok(inner),
             None => RangeSetOrTag::parse_npm_pieces(alloc, text),
         }
@@ -123,15 +123,15 @@ impl RangeSetOrTag {
     #[inline(never)]
     fn parse_npm_pieces(alloc: Global, text: &str) -> Result<RangeSetOrTag, ParseFailure>
         ensures reading { IfOk result (IsReading Npm text.now) }
-        ensures refused { IfErr result
-            (λ failure. (failure ≡ None) ⊎ IsOutcome Npm text.now Refused) }
-        ensures refusal { IfErr result (IsCutRefusal Npm (trim text.now)) }
+        ensures rejected { IfErr result
+            (λ failure. (failure ≡ None) ⊎ IsOutcome Npm text.now Rejected) }
+        ensures rejection { IfErr result (IsCutRejection Npm (trim text.now)) }
     {
         let first = first_piece(text.trim());
         let all = read_pieces(alloc, first, Flavour::Npm)?;
-        match all.refused {
+        match all.rejected {
             None => Ok(RangeSetOrTag::RangeSet(VersionRangeSet(all.ranges))),
-            Some(refusal) if all.is_only => tag_or(alloc, first.piece.trim(), refusal),
+            Some(rejection) if all.is_only => tag_or(alloc, first.piece.trim(), rejection),
             Some(_) => Ok(RangeSetOrTag::RangeSet(VersionRangeSet(all.ranges))),
         }
     }

@@ -5,9 +5,9 @@ ghost use Rattle.std.specs.Bool.{OnFalse};
 ghost use Rattle.std.specs.Option.{option_copied};
 ghost use Rattle.semver_base.specs.declared.range.PreRelease.TheVariants.{Restricted};
 ghost use Rattle.semver_base.specs.declared.version.Version.{Version};
-ghost use Rattle.semver_req.specs.PieceReading.{IsCutRefusal};
-ghost use Rattle.semver_req.specs.Readers.{IsReadOrTag, IsReaderAnswer};
-ghost use Rattle.semver_req.specs.Rereading.{IsReadAsForms, IsSettledSet, KeepsEqual, KeepsSettled, KeepsTheSame, MeansTheSame, OfReadRanges, OfReadVersion};
+ghost use Rattle.semver_req.specs.PieceReading.{IsCutRejection};
+ghost use Rattle.semver_req.specs.Parsers.{IsReadOrTag, IsParserAnswer};
+ghost use Rattle.semver_req.specs.Rereading.{IsReadAsForms, IsStableSet, KeepsEqual, KeepsStable, KeepsTheSame, MeansTheSame, OfReadRanges, OfReadVersion};
 ghost use Rattle.semver_req.specs.Requirement.{MatchNoVersion, OverlapAsTags, PinsTo, Requirement, inner_means, inner_means_with, inner_overlap, inner_text, pinned, ranges_of, set_of, tag_of, wildcard};
 ghost use Rattle.semver_req.specs.declared.common.values.Flavour.TheVariants.{Normal};
 
@@ -126,8 +126,8 @@ impl VersionReq {
         alloc: Global,
         text: &str,
     ) -> Result<VersionReq, VersionReqNormalizedParseError>
-        ensures reads { IsReaderAnswer (λ e. e.source) Normal text.now result }
-        ensures refusal { IfErr result (λ e. IsCutRefusal Normal text.now e.source) }
+        ensures reads { IsParserAnswer (λ e. e.source) Normal text.now result }
+        ensures rejection { IfErr result (λ e. IsCutRejection Normal text.now e.source) }
     {
         let raw_text = SmallStackString::from_str(alloc, text)?;
         let inner = RangeSetOrTag::parse(alloc, text)?;
@@ -217,12 +217,12 @@ impl VersionReq {
             (λ text. OfReadRanges IsReadAsForms self.now.inner (string_bytes text)) }
         ensures means { IfOk result
             (λ text. OfReadRanges MeansTheSame self.now.inner (string_bytes text)) }
-        ensures kept_means { IfOk result
+        ensures retained_means { IfOk result
             (λ text. OfReadRanges KeepsTheSame self.now.inner (string_bytes text)) }
         ensures equal { IfOk result
             (λ text. OfReadRanges KeepsEqual self.now.inner (string_bytes text)) }
-        ensures settled { IfOk result
-            (λ text. OfReadRanges KeepsSettled self.now.inner (string_bytes text)) }
+        ensures stable { IfOk result
+            (λ text. OfReadRanges KeepsStable self.now.inner (string_bytes text)) }
     {
         normal_text(alloc, self)
     }
@@ -275,8 +275,8 @@ pub trait IntoVersionReq {
         ensures matches { IfOk result (λ req. PinsTo (version self) req.inner) }
         ensures read_set { IfOk result
             (λ req. OfReadVersion (version self) (IsReadOrTag req.inner)) }
-        ensures settled { IfOk result
-            (λ req. OfReadVersion (version self) (IsSettledSet (ranges_of req.inner).0)) };
+        ensures stable { IfOk result
+            (λ req. OfReadVersion (version self) (IsStableSet (ranges_of req.inner).0)) };
 }
 
 // Creates the requirement from the version to itself.

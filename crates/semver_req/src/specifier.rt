@@ -1,19 +1,19 @@
 //! The strict parser, for the requirements in package specifiers.
 
 ghost use Rattle.std.specs.Prelude.{◌≡◌, ◌↔◌, ◌⊎◌, ◌∷◌, [], IfErr, IfOk, IsTrue, None, true};
-ghost use Rattle.semver_base.specs.Lexical.{IsBlanks};
-ghost use Rattle.semver_req.specs.Readers.{IsReaderAnswer, IsReading};
-ghost use Rattle.semver_req.specs.SpecifierRefusals.{IsNoTag, IsSpecifierRefusal, empty_constraint};
+ghost use Rattle.semver_base.specs.Lexical.{IsWhitespace};
+ghost use Rattle.semver_req.specs.Parsers.{IsParserAnswer, IsReading};
+ghost use Rattle.semver_req.specs.SpecifierRejections.{IsNoTag, IsSpecifierRejection, empty_constraint};
 ghost use Rattle.semver_req.specs.Tag.{is_valid_tag};
 
 use crate::common::comparator::{Written, non_primitive_front};
-use crate::common::plain::plain_range;
+use crate::common::short::short_range;
 use crate::common::values::Flavour;
 use crate::range_set_or_tag::RangeSetOrTag;
 use crate::req::VersionReq;
 use crate::tag::is_valid_npm_tag;
-use semver_base::failure::{ParseFailure, Refusal};
-use semver_base::lexical::is_blank;
+use semver_base::failure::{ParseFailure, Rejection};
+use semver_base::lexical::is_all_whitespace;
 use semver_base::lexical::values::Measured;
 use semver_base::range::{VersionRange, VersionRangeSet};
 use semver_base::string::{CowVec, SmallStackString};
@@ -72,23 +72,23 @@ impl From<VersionReqSpecifierParseError> for ParseFailure {
     }
 }
 
-// Returns the whole text as a tag; fails with `refusal` if it isn't a valid one.
+// Returns the whole text as a tag; fails with `rejection` if it isn't a valid one.
 fn whole_text_as_tag(
     alloc: Global,
     text: &str,
-    refusal: Refusal,
+    rejection: Rejection,
 ) -> Result<RangeSetOrTag, ParseFailure>
     ensures tag { IfOk result
         (λ inner. (inner ≡ RangeSetOrTag.Tag text.now) × (is_valid_tag text.now ≡ true)) }
-    ensures no_tag { IfErr result (IsNoTag text.now refusal) }
+    ensures no_tag { IfErr result (IsNoTag text.now rejection) }
 {
     if is_valid_npm_tag(text) {
         return Ok(RangeSetOrTag::Tag(SmallStackString::from_str(alloc, text)?));
     }
-    if is_blank(text) {
-        return Err(ParseFailure::of_refusal(alloc, Refusal::EmptyConstraint));
+    if is_all_whitespace(text) {
+        return Err(ParseFailure::of_rejection(alloc, Rejection::EmptyConstraint));
     }
-    Err(ParseFailure::of_refusal(alloc, refusal))
+    Err(ParseFailure::of_rejection(alloc, rejection))
 }
 
 // Creates the set of one range.
@@ -103,25 +103,25 @@ fn only(alloc: Global, range: VersionRange) -> Result<VersionRangeSet, AllocErro
 #[inline(never)]
 fn read(alloc: Global, text: &str) -> Result<RangeSetOrTag, ParseFailure>
     ensures reading { IfOk result (IsReading Flavour.Specifier text.now) }
-    ensures refusal { IfErr result (IsSpecifierRefusal text.now) }
+    ensures rejection { IfErr result (IsSpecifierRejection text.now) }
 {
     let Some((written, rest)) = non_primitive_front(alloc, text, Flavour::Specifier)? else {
-        return whole_text_as_tag(alloc, text, Refusal::UnexpectedCharacter);
+        return whole_text_as_tag(alloc, text, Rejection::UnexpectedCharacter);
     };
-    let Written { mark, partial } = written;
+    let Written { operator, partial } = written;
     let Measured::Fits(partial) = partial else {
-        return whole_text_as_tag(alloc, text, Refusal::NumberTooLarge);
+        return whole_text_as_tag(alloc, text, Rejection::NumberTooLarge);
     };
-    let range = mark.range(alloc, &partial);
+    let range = operator.range(alloc, &partial);
     drop(partial);
     match range {
         Ok(range) if rest.is_empty() => Ok(RangeSetOrTag::RangeSet(only(alloc, range)?)),
         Ok(range) => {
             drop(range);
-            Err(ParseFailure::of_refusal(alloc, Refusal::UnexpectedCharacter))
+            Err(ParseFailure::of_rejection(alloc, Rejection::UnexpectedCharacter))
         }
         Err(failure) if failure.is_memory() => Err(failure),
-        Err(_) => whole_text_as_tag(alloc, text, Refusal::BoundTooLarge),
+        Err(_) => whole_text_as_tag(alloc, text, Rejection::BoundTooLarge),
     }
 }
 
@@ -137,14 +137,15 @@ pub fn parse_version_req_from_specifier(
     alloc: Global,
     text: &str,
 ) -> Result<VersionReq, VersionReqSpecifierParseError>
-    ensures reads { IsReaderAnswer (λ e. e.source) Flavour.Specifier text.now result }
-    ensures refusal { IfErr result (λ e. IsSpecifierRefusal text.now e.source) }
-    ensures empty { IsBlanks text.now tt
+    ensures reads { IsParserAnswer (λ e. e.source) Flavour.Specifier text.now result }
+    ensures rejection { IfErr result (λ e. IsSpecifierRejection text.now e.source) }
+    ensures empty { IsWhitespace text.now tt
         → IfErr result (λ e. (e.source ≡ None) ⊎ (e.source ≡ empty_constraint)) }
-    ensures empty_only { IfErr result (λ e. e.source ≡ empty_constraint → IsBlanks text.now tt) }
+    ensures empty_only { IfErr result
+        (λ e. e.source ≡ empty_constraint → IsWhitespace text.now tt) }
 {
     let raw_text = SmallStackString::from_str(alloc, text)?;
-    if let Some(range) = plain_range(text) {
+    if let Some(range) = short_range(text) {
         let inner = RangeSetOrTag::RangeSet(only(alloc, range.into_range(alloc))?);
         return Ok(VersionReq::from_raw_text_and_inner(raw_text, inner));
     }
@@ -159,12 +160,12 @@ impl VersionReq {
         alloc: Global,
         text: &str,
     ) -> Result<VersionReq, VersionReqSpecifierParseError>
-        ensures reads { IsReaderAnswer (λ e. e.source) Flavour.Specifier text.now result }
-        ensures refusal { IfErr result (λ e. IsSpecifierRefusal text.now e.source) }
-        ensures empty { IsBlanks text.now tt
+        ensures reads { IsParserAnswer (λ e. e.source) Flavour.Specifier text.now result }
+        ensures rejection { IfErr result (λ e. IsSpecifierRejection text.now e.source) }
+        ensures empty { IsWhitespace text.now tt
             → IfErr result (λ e. (e.source ≡ None) ⊎ (e.source ≡ empty_constraint)) }
         ensures empty_only { IfErr result
-            (λ e. e.source ≡ empty_constraint → IsBlanks text.now tt) }
+            (λ e. e.source ≡ empty_constraint → IsWhitespace text.now tt) }
     {
         parse_version_req_from_specifier(alloc, text)
     }

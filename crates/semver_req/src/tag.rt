@@ -6,7 +6,7 @@ ghost use Rattle.std.specs.Str.{chars};
 ghost use Rattle.unicode.specs.GeneralCategory.{general_category};
 ghost use Rattle.semver_req.specs.Tag.{is_number_category, is_tag_character, is_valid_tag};
 
-use semver_base::lexical::is_blank;
+use semver_base::lexical::is_all_whitespace;
 use unicode::properties::{GeneralCategory, is_alphabetic};
 
 // Whether the character is a decimal number, a letter number or another number.
@@ -40,5 +40,5 @@ fn has_tag_characters_only(text: &str) -> bool
 pub fn is_valid_npm_tag(value: &str) -> bool
     ensures { result ≡ is_valid_tag value.now }
 {
-    !is_blank(value) && has_tag_characters_only(value)
+    !is_all_whitespace(value) && has_tag_characters_only(value)
 }

@@ -11,7 +11,7 @@ use deno_semver::package::{
     PackageNv, PackageReq, PackageReqPartsParseError as PartsError, PackageReqReferenceParseError,
     SpecifierError,
 };
-use deno_semver::{ParseFailure, Refusal, Version, VersionReq};
+use deno_semver::{ParseFailure, Rejection, Version, VersionReq};
 use std::alloc::{AllocError, Global};
 use std::fmt::Display;
 
@@ -21,8 +21,8 @@ pub fn failure(alloc: Global) -> Holds {
     let copy = failure.copy()?;
     let texts = (copy.message(), copy.code_snippet(), other.code_snippet());
     let same = texts == ("the message of a failure", Some("here"), None);
-    let refusal = made(ParseFailure::of_refusal(alloc, Refusal::BoundTooLarge))?;
-    let same = same && displays(alloc, &refusal, "Version bound is too large.")?;
+    let rejection = made(ParseFailure::of_rejection(alloc, Rejection::BoundTooLarge))?;
+    let same = same && displays(alloc, &rejection, "Version bound is too large.")?;
     Ok(same && copy == failure && copy != other && other != ParseFailure::memory())
 }
 

@@ -35,7 +35,7 @@ impl JsonError {
     }
 
     /// The error for a text that doesn't parse, or for running out of memory.
-    pub(crate) fn of_reader(is_memory: bool) -> JsonError
+    pub(crate) fn of_parser(is_memory: bool) -> JsonError
         ensures { IsTrue is_memory ↔ (result ≡ JsonError.Memory) }
     {
         if is_memory {

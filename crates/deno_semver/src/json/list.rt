@@ -3,10 +3,10 @@
 ghost use Rattle.std.specs.Prelude.{◌≡◌, All, IfErr, IfOk, IsSorted, List, MatchResult};
 ghost use Rattle.serde_json.specs.View.{items_view, view};
 ghost use Rattle.deno_semver.specs.Json.{AreItemsOf, IsStringOf, IsTextOfReq};
-ghost use Rattle.deno_semver.specs.JsonAnswers.{IsJsonRefusal};
+ghost use Rattle.deno_semver.specs.JsonAnswers.{IsJsonRejection};
 ghost use Rattle.deno_semver.specs.ReqOrder.{req_cmp};
-ghost use Rattle.deno_semver.specs.Stored.{IsSettledReq};
-ghost use Rattle.deno_semver.specs.StoredList.{AreEqualLists, IsJsonOfReqs, IsNpmReq, IsReadList, IsSortedFrom, IsStoredList, StandsForEqualList, reqs_json};
+ghost use Rattle.deno_semver.specs.Stored.{IsStableReq};
+ghost use Rattle.deno_semver.specs.StoredList.{AreEqualLists, IsJsonOfReqs, IsNpmReq, IsReadList, IsSortedFrom, IsStoredList, ParsesToEqualList, reqs_json};
 
 use super::JsonForm;
 use super::error::JsonError;
@@ -32,8 +32,8 @@ pub fn reqs_to_json(alloc: Global, reqs: &[PackageReq]) -> Result<Value, AllocEr
     ensures value { IfOk result (λ json. view json ≡ reqs_json reqs.now) }
     ensures read_again { IfOk result (λ json. All IsNpmReq reqs.now
         → IsStoredList reqs.now (view json)) }
-    ensures settled { IfOk result (λ json. All IsSettledReq reqs.now
-        → StandsForEqualList (view json) reqs.now) }
+    ensures stable { IfOk result (λ json. All IsStableReq reqs.now
+        → ParsesToEqualList (view json) reqs.now) }
 {
     stored_requirements_are_read_again();
     stored(alloc, reqs)
@@ -42,8 +42,8 @@ pub fn reqs_to_json(alloc: Global, reqs: &[PackageReq]) -> Result<Value, AllocEr
 // The values that the items parse to, in order.
 fn of_items<T: JsonForm>(alloc: Global, items: &[Value]) -> Result<Vec<T>, JsonError>
     ensures read { IfOk result
-        (λ values. AreItemsOf T.stands_for (items_view items.now) values.items) }
-    ensures answer { (values : List T) → AreItemsOf T.stands_for (items_view items.now) values
+        (λ values. AreItemsOf T.parses_to (items_view items.now) values.items) }
+    ensures answer { (values : List T) → AreItemsOf T.parses_to (items_view items.now) values
         → MatchResult result (λ read. read.items ≡ values) (λ e. e ≡ JsonError.Memory) }
 {
     let mut values = Vec::new(alloc);
@@ -71,11 +71,11 @@ fn sorted(mut reqs: Vec<PackageReq>) -> Result<Vec<PackageReq>, AllocError>
 /// with [`JsonError::Memory`] only out of memory. A list stored in ascending order parses to an equal one.
 pub fn reqs_from_json(alloc: Global, value: &Value) -> Result<Vec<PackageReq>, JsonError>
     ensures read { IfOk result (λ reqs. IsReadList (view value.now) reqs.items) }
-    ensures refused { IfErr result (IsJsonRefusal IsJsonOfReqs (view value.now)) }
+    ensures rejected { IfErr result (IsJsonRejection IsJsonOfReqs (view value.now)) }
     ensures answer { (reqs : List PackageReq) → IsJsonOfReqs (view value.now) reqs
         → MatchResult result (λ read. IsSortedFrom reqs read.items) (λ e. e ≡ JsonError.Memory) }
     ensures again { (reqs : List PackageReq) → IsSorted req_cmp reqs
-        → StandsForEqualList (view value.now) reqs
+        → ParsesToEqualList (view value.now) reqs
         → MatchResult result (λ read. AreEqualLists read.items reqs) (λ e. e ≡ JsonError.Memory) }
 {
     match value.as_array() {

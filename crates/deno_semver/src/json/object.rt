@@ -21,8 +21,8 @@ use std::alloc::{AllocError, Global};
 
 // The value that the object's member with this key parses to.
 fn of_member<T: JsonForm>(alloc: Global, value: &Value, key: &str) -> Result<T, JsonError>
-    ensures read { IfOk result (IsMemberOf T.stands_for key.now (view value.now)) }
-    ensures answer { (x : T) → IsMemberOf T.stands_for key.now (view value.now) x
+    ensures read { IfOk result (IsMemberOf T.parses_to key.now (view value.now)) }
+    ensures answer { (x : T) → IsMemberOf T.parses_to key.now (view value.now) x
         → IsJsonAnswer x result }
 {
     match value.get(key) {
@@ -38,10 +38,10 @@ fn of_members<A: JsonForm, B: JsonForm>(
     first: &str,
     second: &str,
 ) -> Result<(A, B), JsonError>
-    ensures read { IfOk result (λ both. IsMemberOf A.stands_for first.now (view value.now) both.0
-        × IsMemberOf B.stands_for second.now (view value.now) both.1) }
-    ensures answer { (a : A) (b : B) → IsMemberOf A.stands_for first.now (view value.now) a
-        → IsMemberOf B.stands_for second.now (view value.now) b → IsJsonAnswer (a, b) result }
+    ensures read { IfOk result (λ both. IsMemberOf A.parses_to first.now (view value.now) both.0
+        × IsMemberOf B.parses_to second.now (view value.now) both.1) }
+    ensures answer { (a : A) (b : B) → IsMemberOf A.parses_to first.now (view value.now) a
+        → IsMemberOf B.parses_to second.now (view value.now) b → IsJsonAnswer (a, b) result }
 {
     let one = of_member(alloc, value, first)?;
     let other = of_member(alloc, value, second)?;
@@ -66,7 +66,7 @@ fn put_json<T: JsonForm>(
 impl JsonForm for VersionBound {
     ghost json = { bound_json };
 
-    ghost stands_for = { IsJsonOfBound };
+    ghost parses_to = { IsJsonOfBound };
 
     fn to_json(&self, alloc: Global) -> Result<Value, AllocError> {
         let mut members = Map::new(alloc);
@@ -121,7 +121,7 @@ fn is_unbounded(value: &Value) -> bool
 impl JsonForm for RangeBound {
     ghost json = { range_bound_json };
 
-    ghost stands_for = { IsJsonOfRangeBound };
+    ghost parses_to = { IsJsonOfRangeBound };
 
     fn to_json(&self, alloc: Global) -> Result<Value, AllocError> {
         match self {
@@ -149,7 +149,7 @@ impl JsonForm for RangeBound {
 impl JsonForm for VersionRange {
     ghost json = { range_json };
 
-    ghost stands_for = { IsJsonOfRange };
+    ghost parses_to = { IsJsonOfRange };
 
     fn to_json(&self, alloc: Global) -> Result<Value, AllocError> {
         let mut members = Map::new(alloc);
@@ -196,7 +196,7 @@ fn of_items(alloc: Global, items: &[Value]) -> Result<CowVec<VersionRange>, Json
 impl JsonForm for VersionRangeSet {
     ghost json = { set_json };
 
-    ghost stands_for = { IsJsonOfSet };
+    ghost parses_to = { IsJsonOfSet };
 
     fn to_json(&self, alloc: Global) -> Result<Value, AllocError> {
         let items = items_json(alloc, self.0.iter().as_slice())?;
@@ -215,7 +215,7 @@ impl JsonForm for VersionRangeSet {
 impl JsonForm for VersionReq {
     ghost json = { version_req_json };
 
-    ghost stands_for = { IsJsonOfVersionReq };
+    ghost parses_to = { IsJsonOfVersionReq };
 
     fn to_json(&self, alloc: Global) -> Result<Value, AllocError> {
         let mut members = Map::new(alloc);

@@ -10,7 +10,7 @@ ghost use Rattle.semver_req.specs.declared.common.values.Flavour.TheVariants.{Np
 ghost use Rattle.deno_semver.specs.DependencyOrder.{normal_dependency_text};
 ghost use Rattle.deno_semver.specs.DependencyOutcome.{IsDependencyOutcome};
 ghost use Rattle.deno_semver.specs.Json.{IsStringOf, IsTextItself, IsTextOfDependency, IsTextOfInner, IsTextOfKind, IsTextOfNv, IsTextOfReference, IsTextOfReq, IsTextOfVersion, kind_text};
-ghost use Rattle.deno_semver.specs.JsonAnswers.{IsJsonAnswer, IsJsonRefusal};
+ghost use Rattle.deno_semver.specs.JsonAnswers.{IsJsonAnswer, IsJsonRejection};
 ghost use Rattle.deno_semver.specs.NameAndVersion.{nv_text};
 ghost use Rattle.deno_semver.specs.NvReference.{nv_reference_text};
 ghost use Rattle.deno_semver.specs.PackageOutcome.{IsPackageOutcome};
@@ -55,7 +55,7 @@ fn string_of<D: fmt::Display>(alloc: Global, value: &D) -> Result<Value, AllocEr
 // Parses the text of a JSON string.
 fn of_string<T: TextForm>(alloc: Global, value: &Value) -> Result<T, JsonError>
     ensures read { IfOk result (IsStringOf T.reads (view value.now)) }
-    ensures refused { IfErr result (IsJsonRefusal (IsStringOf T.reads) (view value.now)) }
+    ensures rejected { IfErr result (IsJsonRejection (IsStringOf T.reads) (view value.now)) }
     ensures answer { (x : T) → IsStringOf T.reads (view value.now) x → IsJsonAnswer x result }
 {
     match value.as_str() {
@@ -95,7 +95,7 @@ impl TextForm for Version {
             Err(error) => {
                 let is_memory = error.is_memory();
                 drop(error);
-                Err(JsonError::of_reader(is_memory))
+                Err(JsonError::of_parser(is_memory))
             }
         }
     }
@@ -110,7 +110,7 @@ impl TextForm for PackageNv {
             Err(error) => {
                 let is_memory = error.is_memory();
                 drop(error);
-                Err(JsonError::of_reader(is_memory))
+                Err(JsonError::of_parser(is_memory))
             }
         }
     }
@@ -125,7 +125,7 @@ impl TextForm for PackageReq {
             Err(error) => {
                 let is_memory = error.is_memory();
                 drop(error);
-                Err(JsonError::of_reader(is_memory))
+                Err(JsonError::of_parser(is_memory))
             }
         }
     }
@@ -140,7 +140,7 @@ impl TextForm for JsrPackageNvReference {
             Err(error) => {
                 let is_memory = error.is_memory();
                 drop(error);
-                Err(JsonError::of_reader(is_memory))
+                Err(JsonError::of_parser(is_memory))
             }
         }
     }
@@ -155,7 +155,7 @@ impl TextForm for NpmPackageNvReference {
             Err(error) => {
                 let is_memory = error.is_memory();
                 drop(error);
-                Err(JsonError::of_reader(is_memory))
+                Err(JsonError::of_parser(is_memory))
             }
         }
     }
@@ -170,7 +170,7 @@ impl TextForm for JsrDepPackageReq {
             Err(error) => {
                 let is_memory = error.is_memory();
                 drop(error);
-                Err(JsonError::of_reader(is_memory))
+                Err(JsonError::of_parser(is_memory))
             }
         }
     }
@@ -186,7 +186,7 @@ impl TextForm for RangeSetOrTag {
             Err(failure) => {
                 let is_memory = failure.is_memory();
                 drop(failure);
-                Err(JsonError::of_reader(is_memory))
+                Err(JsonError::of_parser(is_memory))
             }
         }
     }
@@ -219,7 +219,7 @@ impl TextForm for VersionBoundKind {
 impl JsonForm for SmallStackString {
     ghost json = { string };
 
-    ghost stands_for = { IsStringOf IsTextItself };
+    ghost parses_to = { IsStringOf IsTextItself };
 
     fn to_json(&self, alloc: Global) -> Result<Value, AllocError> {
         string_of(alloc, self)
@@ -234,7 +234,7 @@ impl JsonForm for SmallStackString {
 impl JsonForm for StackString {
     ghost json = { string };
 
-    ghost stands_for = { IsStringOf IsTextItself };
+    ghost parses_to = { IsStringOf IsTextItself };
 
     fn to_json(&self, alloc: Global) -> Result<Value, AllocError> {
         string_of(alloc, self)
@@ -249,7 +249,7 @@ impl JsonForm for StackString {
 impl JsonForm for Version {
     ghost json = { λ version. string (version_text version) };
 
-    ghost stands_for = { IsStringOf IsTextOfVersion };
+    ghost parses_to = { IsStringOf IsTextOfVersion };
 
     fn to_json(&self, alloc: Global) -> Result<Value, AllocError> {
         string_of(alloc, self)
@@ -264,7 +264,7 @@ impl JsonForm for Version {
 impl JsonForm for PackageNv {
     ghost json = { λ nv. string (nv_text nv) };
 
-    ghost stands_for = { IsStringOf IsTextOfNv };
+    ghost parses_to = { IsStringOf IsTextOfNv };
 
     fn to_json(&self, alloc: Global) -> Result<Value, AllocError> {
         string_of(alloc, self)
@@ -291,7 +291,7 @@ fn stored(alloc: Global, req: &PackageReq) -> Result<Value, AllocError>
 impl JsonForm for PackageReq {
     ghost json = { λ req. string (normal_req_text req) };
 
-    ghost stands_for = { IsStringOf IsTextOfReq };
+    ghost parses_to = { IsStringOf IsTextOfReq };
 
     fn to_json(&self, alloc: Global) -> Result<Value, AllocError>
         ensures value { IfOk result (λ json. view json ≡ string (normal_req_text self.now)) }
@@ -311,7 +311,7 @@ impl JsonForm for PackageReq {
 impl JsonForm for JsrPackageNvReference {
     ghost json = { λ reference. string (with_scheme kind.Jsr (nv_reference_text reference)) };
 
-    ghost stands_for = { IsStringOf (IsTextOfReference kind.Jsr) };
+    ghost parses_to = { IsStringOf (IsTextOfReference kind.Jsr) };
 
     fn to_json(&self, alloc: Global) -> Result<Value, AllocError> {
         string_of(alloc, self)
@@ -326,7 +326,7 @@ impl JsonForm for JsrPackageNvReference {
 impl JsonForm for NpmPackageNvReference {
     ghost json = { λ reference. string (with_scheme kind.Npm (nv_reference_text reference)) };
 
-    ghost stands_for = { IsStringOf (IsTextOfReference kind.Npm) };
+    ghost parses_to = { IsStringOf (IsTextOfReference kind.Npm) };
 
     fn to_json(&self, alloc: Global) -> Result<Value, AllocError> {
         string_of(alloc, self)
@@ -345,7 +345,7 @@ impl JsonForm for NpmPackageNvReference {
 impl JsonForm for JsrDepPackageReq {
     ghost json = { λ dependency. string (normal_dependency_text dependency) };
 
-    ghost stands_for = { IsStringOf IsTextOfDependency };
+    ghost parses_to = { IsStringOf IsTextOfDependency };
 
     fn to_json(&self, alloc: Global) -> Result<Value, AllocError>
         ensures value { IfOk result (λ json. view json ≡ string (normal_dependency_text self.now)) }
@@ -366,7 +366,7 @@ impl JsonForm for JsrDepPackageReq {
 impl JsonForm for RangeSetOrTag {
     ghost json = { λ inner. string (inner_text inner) };
 
-    ghost stands_for = { IsStringOf IsTextOfInner };
+    ghost parses_to = { IsStringOf IsTextOfInner };
 
     fn to_json(&self, alloc: Global) -> Result<Value, AllocError> {
         string_of(alloc, self)
@@ -381,7 +381,7 @@ impl JsonForm for RangeSetOrTag {
 impl JsonForm for VersionBoundKind {
     ghost json = { λ kind. string (kind_text kind) };
 
-    ghost stands_for = { IsStringOf IsTextOfKind };
+    ghost parses_to = { IsStringOf IsTextOfKind };
 
     fn to_json(&self, alloc: Global) -> Result<Value, AllocError> {
         Value::try_from_str(alloc, kind_text(*self))

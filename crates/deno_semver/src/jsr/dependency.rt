@@ -4,7 +4,7 @@ ghost use Rattle.std.specs.Prelude.{◌≡◌, ◌↔◌, IfErr, IfOk, IsTrue, O
 ghost use Rattle.std.specs.Ordering.{as_partial_cmp};
 ghost use Rattle.semver_req.specs.declared.common.values.Flavour.TheVariants.{Normal, Npm, Specifier};
 ghost use Rattle.deno_semver.specs.DependencyOrder.{dependency_cmp, dependency_po, dependency_text, dependency_ties, dependency_total, normal_dependency_text};
-ghost use Rattle.deno_semver.specs.DependencyOutcome.{DependencyFault, IsAfterEither, IsDependencyAnswer, IsDependencyOutcome, IsDependencyRefusal, IsOfPackageError, IsSameError, IsToldScheme, told_scheme};
+ghost use Rattle.deno_semver.specs.DependencyOutcome.{DependencyFault, IsAfterEither, IsDependencyAnswer, IsDependencyOutcome, IsDependencyRejection, IsOfPackageError, IsSameError, IsReportedScheme, reported_scheme};
 ghost use Rattle.deno_semver.specs.declared.jsr.dependency.JsrDepPackageReq.{JsrDepPackageReq};
 ghost use Rattle.deno_semver.specs.declared.package.kind.PackageKind.TheVariants as kind;
 
@@ -89,8 +89,8 @@ fn after_either(text: &str) -> Option<(PackageKind, &str)>
 }
 
 // The text before the first `:`, or the whole text.
-fn told_scheme(text: &str) -> &str
-    ensures { result.now ≡ told_scheme text.now }
+fn reported_scheme(text: &str) -> &str
+    ensures { result.now ≡ reported_scheme text.now }
 {
     match text.split_once(':') {
         Some((scheme, _)) => scheme,
@@ -100,9 +100,9 @@ fn told_scheme(text: &str) -> &str
 
 // The error for another scheme, or out of memory.
 fn other_scheme(alloc: Global, text: &str) -> JsrDepPackageReqParseError
-    ensures { IsToldScheme text.now result }
+    ensures { IsReportedScheme text.now result }
 {
-    match String::from_str(alloc, told_scheme(text)) {
+    match String::from_str(alloc, reported_scheme(text)) {
         Ok(scheme) => JsrDepPackageReqParseError::NotExpectedScheme(scheme),
         Err(_) => JsrDepPackageReqParseError::Memory,
     }
@@ -115,7 +115,7 @@ fn read(
     flavour: Flavour,
 ) -> Result<JsrDepPackageReq, JsrDepPackageReqParseError>
     ensures read { IfOk result (λ d. IsDependencyOutcome flavour text.now (Ok d)) }
-    ensures refused { IfErr result (IsDependencyRefusal flavour text.now) }
+    ensures rejected { IfErr result (IsDependencyRejection flavour text.now) }
     ensures answer { (outcome : Result JsrDepPackageReq DependencyFault)
         → IsDependencyOutcome flavour text.now outcome
         → IsDependencyAnswer flavour text.now outcome result }
@@ -158,7 +158,7 @@ impl JsrDepPackageReq {
     /// text. Otherwise fails only out of memory.
     pub fn from_str(alloc: Global, text: &str) -> Result<Self, JsrDepPackageReqParseError>
         ensures read { IfOk result (λ d. IsDependencyOutcome Specifier text.now (Ok d)) }
-        ensures refused { IfErr result (IsDependencyRefusal Specifier text.now) }
+        ensures rejected { IfErr result (IsDependencyRejection Specifier text.now) }
         ensures answer { (outcome : Result JsrDepPackageReq DependencyFault)
             → IsDependencyOutcome Specifier text.now outcome
             → IsDependencyAnswer Specifier text.now outcome result }
@@ -169,7 +169,7 @@ impl JsrDepPackageReq {
     /// Parses like [`JsrDepPackageReq::from_str`], but by [`PackageReq::from_str_loose`].
     pub fn from_str_loose(alloc: Global, text: &str) -> Result<Self, JsrDepPackageReqParseError>
         ensures read { IfOk result (λ d. IsDependencyOutcome Npm text.now (Ok d)) }
-        ensures refused { IfErr result (IsDependencyRefusal Npm text.now) }
+        ensures rejected { IfErr result (IsDependencyRejection Npm text.now) }
         ensures answer { (outcome : Result JsrDepPackageReq DependencyFault)
             → IsDependencyOutcome Npm text.now outcome
             → IsDependencyAnswer Npm text.now outcome result }
@@ -183,7 +183,7 @@ impl JsrDepPackageReq {
         text: &str,
     ) -> Result<Self, JsrDepPackageReqParseError>
         ensures read { IfOk result (λ d. IsDependencyOutcome Normal text.now (Ok d)) }
-        ensures refused { IfErr result (IsDependencyRefusal Normal text.now) }
+        ensures rejected { IfErr result (IsDependencyRejection Normal text.now) }
         ensures answer { (outcome : Result JsrDepPackageReq DependencyFault)
             → IsDependencyOutcome Normal text.now outcome
             → IsDependencyAnswer Normal text.now outcome result }

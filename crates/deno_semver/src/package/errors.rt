@@ -1,7 +1,7 @@
 //! Why the text of a package is rejected.
 
 ghost use Rattle.std.specs.Prelude.{◌≡◌, ◌↔◌, ◌⊎◌, IfOk, IsTrue};
-ghost use Rattle.deno_semver.specs.PackageOutcome.{IsWantOfMemory};
+ghost use Rattle.deno_semver.specs.PackageOutcome.{IsOutOfMemory};
 
 use semver_base::string::StackString;
 use semver_req::npm::NpmVersionReqParseError;
@@ -84,7 +84,7 @@ pub struct PackageReqParseError {
 impl PackageReqParseError {
     /// The error for out of memory.
     pub(crate) fn memory(alloc: Global) -> PackageReqParseError
-        ensures { IsWantOfMemory result }
+        ensures { IsOutOfMemory result }
     {
         PackageReqParseError {
             text: StackString::new(alloc),

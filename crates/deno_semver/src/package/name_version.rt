@@ -5,19 +5,19 @@ ghost use Rattle.std.specs.List.{list_all, take_while};
 ghost use Rattle.semver_base.specs.Characters.{at_sign};
 ghost use Rattle.semver_base.specs.Grammar.{CutsRun};
 ghost use Rattle.semver_base.specs.VersionText.{ReadsBack, version_text};
-ghost use Rattle.semver_base.specs.declared.failure.Refusal.{Refusal};
-ghost use Rattle.semver_base.specs.declared.failure.Refusal.TheVariants.{UnexpectedCharacter};
-ghost use Rattle.semver_req.specs.Readers.{IsReadOrTag};
+ghost use Rattle.semver_base.specs.declared.failure.Rejection.{Rejection};
+ghost use Rattle.semver_base.specs.declared.failure.Rejection.TheVariants.{UnexpectedCharacter};
+ghost use Rattle.semver_req.specs.Parsers.{IsReadOrTag};
 ghost use Rattle.semver_req.specs.Requirement.{PinsTo, pinned, ranges_of};
-ghost use Rattle.semver_req.specs.Rereading.{IsSettledSet, OfReadVersion};
+ghost use Rattle.semver_req.specs.Rereading.{IsStableSet, OfReadVersion};
 ghost use Rattle.deno_semver.specs.Cuts.{is_not};
-ghost use Rattle.deno_semver.specs.NameAndVersion.{IsNoNvText, IsNvAnswer, IsNvFront, IsNvMemory, IsNvOutcome, IsNvRefusal, IsNvText, NvReadsBack, TellsNvFault, is_version_byte};
-ghost use Rattle.deno_semver.specs.NameAndVersionSteps.{IsFrontAnswer, IsFrontRefusal, IsNameCut, TellsFailure, name_len};
+ghost use Rattle.deno_semver.specs.NameAndVersion.{IsNoNvText, IsNvAnswer, IsNvFront, IsNvMemory, IsNvOutcome, IsNvRejection, IsNvText, NvReadsBack, ReportsNvFault, is_version_byte};
+ghost use Rattle.deno_semver.specs.NameAndVersionSteps.{IsFrontAnswer, IsFrontRejection, IsNameCut, ReportsFailure, name_len};
 ghost use Rattle.deno_semver.specs.declared.package.values.PackageNv.{PackageNv};
 
 use super::values::{PackageName, PackageNv, PackageReq};
-use semver_base::failure::Refusal;
-use semver_base::laws::version_texts_are_plain;
+use semver_base::failure::Rejection;
+use semver_base::laws::version_texts_are_bare;
 use semver_base::lexical::after;
 use semver_base::npm::NpmVersionParseError;
 use semver_base::string::{SmallStackString, StackString};
@@ -77,7 +77,7 @@ fn texts(alloc: Global, message: &str, text: &str) -> Result<PackageNvParseError
 }
 
 // The error with these texts, or out of memory.
-fn told(alloc: Global, message: &str, text: &str) -> PackageNvParseError
+fn reported(alloc: Global, message: &str, text: &str) -> PackageNvParseError
     ensures { IsNvMemory result ⊎ ((result.message ≡ message.now) × (result.text ≡ text.now)) }
 {
     match texts(alloc, message, text) {
@@ -161,19 +161,19 @@ fn cut(text: &str) -> Option<Parts<'_>>
 
 // The error for an invalid version.
 fn version_error(alloc: Global, error: &NpmVersionParseError, text: &str) -> PackageNvParseError
-    ensures { IsNvMemory result ⊎ TellsFailure error.now.source text.now result }
+    ensures { IsNvMemory result ⊎ ReportsFailure error.now.source text.now result }
 {
     if error.is_memory() {
         return memory(alloc);
     }
-    told(alloc, error.message(), text)
+    reported(alloc, error.message(), text)
 }
 
 /// The error for any other fault than an invalid version, or out of memory.
 pub(crate) fn unexpected(alloc: Global, whole: &str) -> PackageNvParseError
-    ensures { IsNvMemory result ⊎ TellsNvFault UnexpectedCharacter whole.now result }
+    ensures { IsNvMemory result ⊎ ReportsNvFault UnexpectedCharacter whole.now result }
 {
-    told(alloc, Refusal::UnexpectedCharacter.message(), whole)
+    reported(alloc, Rejection::UnexpectedCharacter.message(), whole)
 }
 
 /// Parses the name and version at the start of a text, and returns what follows it; an error holds the whole text.
@@ -186,20 +186,20 @@ pub(crate) fn nv_at_front<'a>(
     ensures reads_back { IfOk result (λ r. ReadsBack r.0.version) }
     ensures plain { IfOk result
         (λ r. list_all is_version_byte (version_text r.0.version) ≡ true) }
-    ensures refused { IfErr result (IsFrontRefusal text.now whole.now) }
-    ensures answer { (outcome : Result (PackageNv × List ℕ) Refusal) → IsNvFront text.now outcome
+    ensures rejected { IfErr result (IsFrontRejection text.now whole.now) }
+    ensures answer { (outcome : Result (PackageNv × List ℕ) Rejection) → IsNvFront text.now outcome
         → IsFrontAnswer whole.now outcome result }
 {
-    version_texts_are_plain();
+    version_texts_are_bare();
     let Some(parts) = cut(text) else {
         return Err(unexpected(alloc, whole));
     };
     let version = match Version::parse_from_npm(alloc, parts.version) {
         Ok(version) => version,
         Err(error) => {
-            let told = version_error(alloc, &error, whole);
+            let reported = version_error(alloc, &error, whole);
             drop(error);
-            return Err(told);
+            return Err(reported);
         }
     };
     match PackageName::from_str(alloc, parts.name) {
@@ -221,8 +221,8 @@ impl PackageNv {
     pub fn from_str(alloc: Global, text: &str) -> Result<Self, PackageNvParseError>
         ensures read { IfOk result (λ nv. IsNvOutcome text.now (Ok nv)) }
         ensures reads_back { IfOk result NvReadsBack }
-        ensures refused { IfErr result (IsNvRefusal text.now) }
-        ensures answer { (outcome : Result PackageNv Refusal) → IsNvOutcome text.now outcome
+        ensures rejected { IfErr result (IsNvRejection text.now) }
+        ensures answer { (outcome : Result PackageNv Rejection) → IsNvOutcome text.now outcome
             → IsNvAnswer text.now outcome result }
     {
         let (nv, rest) = match nv_at_front(alloc, text, text) {
@@ -244,8 +244,8 @@ impl PackageNv {
         ensures matches { IfOk result (λ req. PinsTo self.version req.version_req.inner) }
         ensures read_set { IfOk result
             (λ req. OfReadVersion self.version (IsReadOrTag req.version_req.inner)) }
-        ensures settled { IfOk result (λ req. OfReadVersion self.version
-            (IsSettledSet (ranges_of req.version_req.inner).0)) }
+        ensures stable { IfOk result (λ req. OfReadVersion self.version
+            (IsStableSet (ranges_of req.version_req.inner).0)) }
     {
         let PackageNv { name, version } = self;
         let version_req = version.into_req(alloc)?;

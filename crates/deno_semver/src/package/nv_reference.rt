@@ -2,8 +2,8 @@
 
 ghost use Rattle.std.specs.Prelude.{◌≡◌, ◌↔◌, [], IfErr, IfOk, IsTrue, Ok, Result, Some, refl};
 ghost use Rattle.std.specs.Ordering.{as_partial_cmp};
-ghost use Rattle.semver_base.specs.declared.failure.Refusal.{Refusal};
-ghost use Rattle.deno_semver.specs.NvReference.{IsNvReferenceAnswer, IsNvReferenceOutcome, IsNvReferenceRefusal, NvReferenceReadsBack, nv_error, nv_reference_text};
+ghost use Rattle.semver_base.specs.declared.failure.Rejection.{Rejection};
+ghost use Rattle.deno_semver.specs.NvReference.{IsNvReferenceAnswer, IsNvReferenceOutcome, IsNvReferenceRejection, NvReferenceReadsBack, nv_error, nv_reference_text};
 ghost use Rattle.deno_semver.specs.NvReferenceOrder.{nv_reference_cmp, nv_reference_po, nv_reference_ties, nv_reference_total};
 ghost use Rattle.deno_semver.specs.NvReferenceReading.{IsWithRest};
 ghost use Rattle.deno_semver.specs.declared.package.nv_reference.PackageNvReference.{PackageNvReference};
@@ -106,8 +106,8 @@ impl PackageNvReference {
     ) -> Result<Self, PackageNvReferenceParseError>
         ensures read { IfOk result (λ r. IsNvReferenceOutcome kind text.now (Ok r)) }
         ensures reads_back { IfOk result (NvReferenceReadsBack kind) }
-        ensures refused { IfErr result (IsNvReferenceRefusal kind text.now) }
-        ensures answer { (outcome : Result PackageNvReference Refusal)
+        ensures rejected { IfErr result (IsNvReferenceRejection kind text.now) }
+        ensures answer { (outcome : Result PackageNvReference Rejection)
             → IsNvReferenceOutcome kind text.now outcome
             → IsNvReferenceAnswer text.now outcome result }
     {

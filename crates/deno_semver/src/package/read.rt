@@ -3,8 +3,8 @@
 ghost use Rattle.std.specs.Prelude.{◌≡◌, ◌⊎◌, IfErr, IfOk, Ok, Result, Some};
 ghost use Rattle.std.specs.Option.{option_copied};
 ghost use Rattle.semver_req.specs.declared.common.values.Flavour.TheVariants.{Normal, Npm, Specifier};
-ghost use Rattle.deno_semver.specs.PackageOutcome.{Fault, IsPackageAnswer, IsPackageOutcome, IsPackageRefusal, IsVersionReq, IsWantOfMemory};
-ghost use Rattle.deno_semver.specs.PackageReading.{IsPartsRefusal, IsPathError, IsReadPackage, IsVersionRefusal, TellsSource, told_source};
+ghost use Rattle.deno_semver.specs.PackageOutcome.{Fault, IsPackageAnswer, IsPackageOutcome, IsPackageRejection, IsVersionReq, IsOutOfMemory};
+ghost use Rattle.deno_semver.specs.PackageReading.{IsPartsRejection, IsPathError, IsReadPackage, IsVersionRejection, ReportsSource, reported_source};
 ghost use Rattle.deno_semver.specs.PackageText.{scoped_name};
 ghost use Rattle.deno_semver.specs.ReferenceReading.{IsFrontError, IsReadWithPath};
 ghost use Rattle.deno_semver.specs.declared.package.values.PackageReq.{PackageReq};
@@ -23,7 +23,7 @@ use std::alloc::{AllocError, Global};
 // Parses a version requirement by the strict grammar.
 fn specifier(alloc: Global, text: &str) -> Result<VersionReq, PackageReqPartsParseError>
     ensures read { IfOk result (IsVersionReq Specifier (Some text.now)) }
-    ensures refused { IfErr result (IsVersionRefusal Specifier text.now) }
+    ensures rejected { IfErr result (IsVersionRejection Specifier text.now) }
 {
     match VersionReq::parse_from_specifier(alloc, text) {
         Ok(req) => Ok(req),
@@ -38,7 +38,7 @@ fn specifier(alloc: Global, text: &str) -> Result<VersionReq, PackageReqPartsPar
 // Parses a version requirement by npm's grammar.
 fn npm(alloc: Global, text: &str) -> Result<VersionReq, PackageReqPartsParseError>
     ensures read { IfOk result (IsVersionReq Npm (Some text.now)) }
-    ensures refused { IfErr result (IsVersionRefusal Npm text.now) }
+    ensures rejected { IfErr result (IsVersionRejection Npm text.now) }
 {
     match VersionReq::parse_from_npm(alloc, text) {
         Ok(req) => Ok(req),
@@ -53,7 +53,7 @@ fn npm(alloc: Global, text: &str) -> Result<VersionReq, PackageReqPartsParseErro
 // Parses a version requirement by the normalized grammar.
 fn normalized(alloc: Global, text: &str) -> Result<VersionReq, PackageReqPartsParseError>
     ensures read { IfOk result (IsVersionReq Normal (Some text.now)) }
-    ensures refused { IfErr result (IsVersionRefusal Normal text.now) }
+    ensures rejected { IfErr result (IsVersionRejection Normal text.now) }
 {
     match VersionReq::parse_from_normalized(alloc, text) {
         Ok(req) => Ok(req),
@@ -72,7 +72,7 @@ fn version_req(
     flavour: Flavour,
 ) -> Result<VersionReq, PackageReqPartsParseError>
     ensures read { IfOk result (IsVersionReq flavour (Some text.now)) }
-    ensures refused { IfErr result (IsVersionRefusal flavour text.now) }
+    ensures rejected { IfErr result (IsVersionRejection flavour text.now) }
 {
     match flavour {
         Flavour::Npm => npm(alloc, text),
@@ -88,7 +88,7 @@ fn version_req_or_any(
     flavour: Flavour,
 ) -> Result<VersionReq, PackageReqPartsParseError>
     ensures read { IfOk result (IsVersionReq flavour (option_copied text.entry)) }
-    ensures refused { IfErr result (IsPartsRefusal flavour (option_copied text.entry)) }
+    ensures rejected { IfErr result (IsPartsRejection flavour (option_copied text.entry)) }
 {
     match text {
         Some(text) => version_req(alloc, text, flavour),
@@ -134,7 +134,7 @@ fn req_of(
         (λ req. req.name ≡ scoped_name (option_copied cut.entry.scope) cut.entry.name.now) }
     ensures version { IfOk result
         (λ req. IsVersionReq flavour (option_copied cut.entry.version) req.version_req) }
-    ensures refused { IfErr result (IsPartsRefusal flavour (option_copied cut.entry.version)) }
+    ensures rejected { IfErr result (IsPartsRejection flavour (option_copied cut.entry.version)) }
 {
     let name = match full_name(alloc, cut.scope, cut.name) {
         Ok(name) => name,
@@ -157,7 +157,7 @@ pub(crate) fn read_with_path(
     flavour: Flavour,
 ) -> Result<(PackageReq, &str, &str), PackageReqPartsParseError>
     ensures read { IfOk result (λ r. IsReadWithPath flavour text.now r.0 r.1.now r.2.now) }
-    ensures refused { IfErr result (IsFrontError flavour text.now) }
+    ensures rejected { IfErr result (IsFrontError flavour text.now) }
 {
     let cut = match parts_of(text) {
         Ok(cut) => cut,
@@ -193,8 +193,8 @@ fn read(
 }
 
 // The source that is reported: a missing `@` goes before any other.
-fn told_source(text: &str, source: PackageReqPartsParseError) -> PackageReqPartsParseError
-    ensures { result ≡ told_source text.now source }
+fn reported_source(text: &str, source: PackageReqPartsParseError) -> PackageReqPartsParseError
+    ensures { result ≡ reported_source text.now source }
 {
     if lacks_at(text) {
         drop(source);
@@ -205,13 +205,13 @@ fn told_source(text: &str, source: PackageReqPartsParseError) -> PackageReqParts
 
 // The error with the whole text, or out of memory.
 fn whole_error(alloc: Global, text: &str, source: PackageReqPartsParseError) -> PackageReqParseError
-    ensures { IsWantOfMemory result ⊎ TellsSource text.now source result }
+    ensures { IsOutOfMemory result ⊎ ReportsSource text.now source result }
 {
     if source.is_memory() {
         drop(source);
         return PackageReqParseError::memory(alloc);
     }
-    let source = told_source(text, source);
+    let source = reported_source(text, source);
     match StackString::from_str(alloc, text) {
         Ok(text) => PackageReqParseError { text, source },
         Err(_) => {
@@ -228,7 +228,7 @@ pub(crate) fn package_req(
     flavour: Flavour,
 ) -> Result<PackageReq, PackageReqParseError>
     ensures read { IfOk result (λ req. IsPackageOutcome flavour text.now (Ok req)) }
-    ensures refused { IfErr result (IsPackageRefusal flavour text.now) }
+    ensures rejected { IfErr result (IsPackageRejection flavour text.now) }
     ensures answer { (outcome : Result PackageReq Fault) → IsPackageOutcome flavour text.now outcome
         → IsPackageAnswer flavour text.now outcome result }
 {

@@ -1,8 +1,8 @@
 //! References to packages: a package requirement and the path of a module in it.
 
 ghost use Rattle.std.specs.Prelude.{◌≡◌, IfErr, IfOk, Ok, Result, Some};
-ghost use Rattle.deno_semver.specs.ReferenceOutcome.{IsReferenceAnswer, IsReferenceOutcome, IsReferenceRefusal, ReferenceFault, ReferenceReadsBack};
-ghost use Rattle.deno_semver.specs.ReferenceReading.{FindsVersion, IsReferenceRead, IsToldInvalid, IsToldVersion};
+ghost use Rattle.deno_semver.specs.ReferenceOutcome.{IsReferenceAnswer, IsReferenceOutcome, IsReferenceRejection, ReferenceFault, ReferenceReadsBack};
+ghost use Rattle.deno_semver.specs.ReferenceReading.{FindsVersion, IsReferenceRead, IsReportedInvalid, IsReportedVersion};
 ghost use Rattle.deno_semver.specs.ReferenceText.{reference_text, sub_path_of, text_with_version};
 ghost use Rattle.deno_semver.specs.declared.package.reference.PackageReqReference.{PackageReqReference};
 
@@ -86,7 +86,7 @@ fn invalid(
     text: &str,
     source: PackageReqPartsParseError,
 ) -> PackageReqReferenceParseError
-    ensures { IsToldInvalid text.now source result }
+    ensures { IsReportedInvalid text.now source result }
 {
     if source.is_memory() {
         drop(source);
@@ -157,14 +157,14 @@ fn texts(
 }
 
 // The error for a version in the path, or out of memory.
-fn told(
+fn reported(
     alloc: Global,
     kind: PackageKind,
     reference: &PackageReqReference,
     before: &str,
     version: &str,
 ) -> PackageReqReferenceParseError
-    ensures { IsToldVersion kind reference.now before.now version.now result }
+    ensures { IsReportedVersion kind reference.now before.now version.now result }
 {
     let Ok(error) = texts(alloc, kind, reference, before, version) else {
         return PackageReqReferenceParseError::Memory;
@@ -184,7 +184,7 @@ impl PackageReqReference {
     ) -> Result<Self, PackageReqReferenceParseError>
         ensures read { IfOk result (λ r. IsReferenceOutcome kind text.now (Ok r)) }
         ensures reads_back { IfOk result (ReferenceReadsBack kind) }
-        ensures refused { IfErr result (IsReferenceRefusal kind text.now) }
+        ensures rejected { IfErr result (IsReferenceRejection kind text.now) }
         ensures answer { (outcome : Result PackageReqReference ReferenceFault)
             → IsReferenceOutcome kind text.now outcome
             → IsReferenceAnswer kind text.now outcome result }
@@ -199,7 +199,7 @@ impl PackageReqReference {
             Err(source) => return Err(invalid(alloc, text, source)),
         };
         if let Some((before, version)) = version_in_path(&reference) {
-            let error = told(alloc, kind, &reference, before, version);
+            let error = reported(alloc, kind, &reference, before, version);
             drop(reference);
             return Err(error);
         }

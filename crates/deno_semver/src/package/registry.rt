@@ -3,10 +3,10 @@
 ghost use Rattle.std.specs.Prelude.{◌≡◌, IfErr, IfOk, Ok, Result, Some, refl};
 ghost use Rattle.std.specs.Option.{option_copied};
 ghost use Rattle.std.specs.Ordering.{as_partial_cmp};
-ghost use Rattle.semver_base.specs.declared.failure.Refusal.{Refusal};
-ghost use Rattle.deno_semver.specs.NvReference.{IsNvReferenceAnswer, IsNvReferenceOutcome, IsNvReferenceRefusal, NvReferenceReadsBack, nv_reference_text};
+ghost use Rattle.semver_base.specs.declared.failure.Rejection.{Rejection};
+ghost use Rattle.deno_semver.specs.NvReference.{IsNvReferenceAnswer, IsNvReferenceOutcome, IsNvReferenceRejection, NvReferenceReadsBack, nv_reference_text};
 ghost use Rattle.deno_semver.specs.NvReferenceOrder.{nv_reference_cmp, nv_reference_po, nv_reference_ties, nv_reference_total};
-ghost use Rattle.deno_semver.specs.ReferenceOutcome.{IsReferenceAnswer, IsReferenceOutcome, IsReferenceRefusal, ReferenceFault, ReferenceReadsBack};
+ghost use Rattle.deno_semver.specs.ReferenceOutcome.{IsReferenceAnswer, IsReferenceOutcome, IsReferenceRejection, ReferenceFault, ReferenceReadsBack};
 ghost use Rattle.deno_semver.specs.ReferenceText.{reference_text, with_scheme};
 ghost use Rattle.deno_semver.specs.Specifier.{IsSpecifier, specifier_text};
 ghost use Rattle.url.specs.Parts.{serialize};
@@ -84,7 +84,7 @@ impl<R: Registry> RegistryReqReference<R> {
     pub fn from_str(alloc: Global, specifier: &str) -> Result<Self, PackageReqReferenceParseError>
         ensures read { IfOk result (λ r. IsReferenceOutcome R.kind specifier.now (Ok r)) }
         ensures reads_back { IfOk result (ReferenceReadsBack R.kind) }
-        ensures refused { IfErr result (IsReferenceRefusal R.kind specifier.now) }
+        ensures rejected { IfErr result (IsReferenceRejection R.kind specifier.now) }
         ensures answer { (outcome : Result PackageReqReference ReferenceFault)
             → IsReferenceOutcome R.kind specifier.now outcome
             → IsReferenceAnswer R.kind specifier.now outcome result }
@@ -103,7 +103,7 @@ impl<R: Registry> RegistryReqReference<R> {
         ensures read { IfOk result
             (λ r. IsReferenceOutcome R.kind (serialize specifier.now) (Ok r)) }
         ensures reads_back { IfOk result (ReferenceReadsBack R.kind) }
-        ensures refused { IfErr result (IsReferenceRefusal R.kind (serialize specifier.now)) }
+        ensures rejected { IfErr result (IsReferenceRejection R.kind (serialize specifier.now)) }
         ensures answer { (outcome : Result PackageReqReference ReferenceFault)
             → IsReferenceOutcome R.kind (serialize specifier.now) outcome
             → IsReferenceAnswer R.kind (serialize specifier.now) outcome result }
@@ -204,8 +204,8 @@ impl<R: Registry> RegistryNvReference<R> {
     pub fn from_str(alloc: Global, nv: &str) -> Result<Self, PackageNvReferenceParseError>
         ensures read { IfOk result (λ r. IsNvReferenceOutcome R.kind nv.now (Ok r)) }
         ensures reads_back { IfOk result (NvReferenceReadsBack R.kind) }
-        ensures refused { IfErr result (IsNvReferenceRefusal R.kind nv.now) }
-        ensures answer { (outcome : Result PackageNvReference Refusal)
+        ensures rejected { IfErr result (IsNvReferenceRejection R.kind nv.now) }
+        ensures answer { (outcome : Result PackageNvReference Rejection)
             → IsNvReferenceOutcome R.kind nv.now outcome
             → IsNvReferenceAnswer nv.now outcome result }
     {
@@ -223,8 +223,8 @@ impl<R: Registry> RegistryNvReference<R> {
         ensures read { IfOk result
             (λ r. IsNvReferenceOutcome R.kind (serialize specifier.now) (Ok r)) }
         ensures reads_back { IfOk result (NvReferenceReadsBack R.kind) }
-        ensures refused { IfErr result (IsNvReferenceRefusal R.kind (serialize specifier.now)) }
-        ensures answer { (outcome : Result PackageNvReference Refusal)
+        ensures rejected { IfErr result (IsNvReferenceRejection R.kind (serialize specifier.now)) }
+        ensures answer { (outcome : Result PackageNvReference Rejection)
             → IsNvReferenceOutcome R.kind (serialize specifier.now) outcome
             → IsNvReferenceAnswer (serialize specifier.now) outcome result }
     {

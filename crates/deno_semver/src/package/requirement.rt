@@ -2,7 +2,7 @@
 
 ghost use Rattle.std.specs.Prelude.{◌≡◌, IfErr, IfOk, Ok, Result, string_bytes};
 ghost use Rattle.semver_req.specs.declared.common.values.Flavour.TheVariants.{Normal, Npm, Specifier};
-ghost use Rattle.deno_semver.specs.PackageOutcome.{Fault, IsPackageAnswer, IsPackageOutcome, IsPackageRefusal};
+ghost use Rattle.deno_semver.specs.PackageOutcome.{Fault, IsPackageAnswer, IsPackageOutcome, IsPackageRejection};
 ghost use Rattle.deno_semver.specs.RequirementText.{normal_req_text};
 ghost use Rattle.deno_semver.specs.declared.package.values.PackageReq.{PackageReq};
 
@@ -36,7 +36,7 @@ impl PackageReq {
     /// doesn't begin with `@`, it fails with `MissingAtSymbol` instead. Otherwise fails only out of memory.
     pub fn from_str(alloc: Global, text: &str) -> Result<PackageReq, PackageReqParseError>
         ensures read { IfOk result (λ req. IsPackageOutcome Specifier text.now (Ok req)) }
-        ensures refused { IfErr result (IsPackageRefusal Specifier text.now) }
+        ensures rejected { IfErr result (IsPackageRejection Specifier text.now) }
         ensures answer { (outcome : Result PackageReq Fault)
             → IsPackageOutcome Specifier text.now outcome
             → IsPackageAnswer Specifier text.now outcome result }
@@ -48,7 +48,7 @@ impl PackageReq {
     /// error it returns as `NpmVersionReq`.
     pub fn from_str_loose(alloc: Global, text: &str) -> Result<PackageReq, PackageReqParseError>
         ensures read { IfOk result (λ req. IsPackageOutcome Npm text.now (Ok req)) }
-        ensures refused { IfErr result (IsPackageRefusal Npm text.now) }
+        ensures rejected { IfErr result (IsPackageRejection Npm text.now) }
         ensures answer { (outcome : Result PackageReq Fault)
             → IsPackageOutcome Npm text.now outcome
             → IsPackageAnswer Npm text.now outcome result }
@@ -63,7 +63,7 @@ impl PackageReq {
         text: &str,
     ) -> Result<PackageReq, PackageReqParseError>
         ensures read { IfOk result (λ req. IsPackageOutcome Normal text.now (Ok req)) }
-        ensures refused { IfErr result (IsPackageRefusal Normal text.now) }
+        ensures rejected { IfErr result (IsPackageRejection Normal text.now) }
         ensures answer { (outcome : Result PackageReq Fault)
             → IsPackageOutcome Normal text.now outcome
             → IsPackageAnswer Normal text.now outcome result }

@@ -1,7 +1,7 @@
 //! References as URLs.
 
 ghost use Rattle.std.specs.Prelude.{◌≡◌, ◌↔◌, IfOk, IsTrue, string_bytes};
-ghost use Rattle.deno_semver.specs.Specifier.{IsSpecifier, specifier_text, told_refusal};
+ghost use Rattle.deno_semver.specs.Specifier.{IsSpecifier, specifier_text, reported_rejection};
 
 use super::kind::PackageKind;
 use super::nv_reference::PackageNvReference;
@@ -43,7 +43,7 @@ fn text(
 
 // The error for a parse error of `url`.
 fn of_url(error: ParseError) -> SpecifierError
-    ensures { result ≡ told_refusal error }
+    ensures { result ≡ reported_rejection error }
 {
     match error {
         ParseError::OutOfMemory | ParseError::Overflow => SpecifierError::Memory,

@@ -1,6 +1,6 @@
-use Rattle.error_places.proofs.Parts.{refused_piece}
+use Rattle.error_places.proofs.Parts.{rejected_piece}
 use Rattle.error_places.proofs.is_piece.Goals as goal
 
 pub returns-in-Invalid-clause-value : goal.returns-in-Invalid-clause-value
 returns-in-Invalid-clause-value c =
-    refused_piece c.args.flavour c.args.is_followed c.args.text.now c.ne.result c.in-Invalid.refusal (λ e. rw e at c.ne.ensures) (λ e. rw e at c.ne.ensures) (λ e. rw e at c.ne.ensures) (rw c.in-Invalid.is at c.in_ok-range.ensures.value)
+    rejected_piece c.args.flavour c.args.is_followed c.args.text.now c.ne.result c.in-Invalid.rejection (λ e. rw e at c.ne.ensures) (λ e. rw e at c.ne.ensures) (λ e. rw e at c.ne.ensures) (rw c.in-Invalid.is at c.in_ok-range.ensures.value)

@@ -1,7 +1,7 @@
 use Rattle.std.proofs.Common.{[], ◌∷◌, arith, refl}
 use Rattle.std.proofs.lemmas.Bool.{both_ways}
 use Rattle.std.proofs.lemmas.Result.{IfOk-weaker}
-use Rattle.error_places.proofs.Parts.{bar_viable, bars_viable, blank_one_text, one_byte_text, piece_viable, sixth, with_viable}
+use Rattle.error_places.proofs.Parts.{bar_viable, bars_viable, whitespace_one_text, one_byte_text, piece_viable, sixth, with_viable}
 use Rattle.error_places.proofs.is_viable_piece.Goals as goal
 
 pub returns-then-branch-clause-value : goal.returns-then-branch-clause-value
@@ -11,7 +11,7 @@ pub returns-then-branch-2-clause-value : goal.returns-then-branch-2-clause-value
 returns-then-branch-2-clause-value c = (λ t. with_viable c.args.flavour c.args.prefix.now (49 ∷ []) (one_byte_text 49 (omega arith)) (c.in_ok-is_piece_with.ensures.value.0 c.if-branch-2.true), λ v. refl)
 
 pub returns-then-branch-3-clause-value : goal.returns-then-branch-3-clause-value
-returns-then-branch-3-clause-value c = (λ t. with_viable c.args.flavour c.args.prefix.now (32 ∷ 49 ∷ []) blank_one_text (c.in_ok-is_piece_with-2.ensures.value.0 c.if-branch-3.true), λ v. refl)
+returns-then-branch-3-clause-value c = (λ t. with_viable c.args.flavour c.args.prefix.now (32 ∷ 49 ∷ []) whitespace_one_text (c.in_ok-is_piece_with-2.ensures.value.0 c.if-branch-3.true), λ v. refl)
 
 pub returns-then-branch-4-clause-value : goal.returns-then-branch-4-clause-value
 returns-then-branch-4-clause-value c = (λ t. with_viable c.args.flavour c.args.prefix.now (38 ∷ []) (one_byte_text 38 (omega arith)) (c.in_ok-is_piece_with-3.ensures.value.0 c.if-branch-4.true), λ v. refl)

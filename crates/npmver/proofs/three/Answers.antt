@@ -1,4 +1,4 @@
-use Rattle.npmver.proofs.Telling.{no_form, three_meet, three_normal, three_others}
+use Rattle.npmver.proofs.Reporting.{no_form, three_meet, three_normal, three_others}
 use Rattle.npmver.proofs.three.Goals as goal
 
 pub returns-in-normal : goal.returns-in-normal

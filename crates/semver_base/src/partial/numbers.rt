@@ -4,11 +4,11 @@
 
 ghost use Rattle.std.specs.Prelude.{◌≡◌, ◌+◌, ◌∷◌, [], IfNone, IfSome, false};
 ghost use Rattle.semver_base.specs.Meaning.{release};
-ghost use Rattle.semver_base.specs.PartialTable.{IsLineRange, all_fit, caret, equal, lower_to_below, lowest, of_few, release_of, release_range, tilde};
+ghost use Rattle.semver_base.specs.PartialTable.{IsLineRange, all_fit, caret, equal, lower_to_below, lowest, of_short, release_of, release_range, tilde};
 
 use crate::partial::{Partial, XRange};
-use crate::plain::{FewNumbers, Numbers};
 use crate::range::{RangeBound, VersionBoundKind, VersionRange};
+use crate::short::{Numbers, ShortNumbers};
 use crate::string::CowVec;
 use crate::version::release;
 use std::alloc::Global;
@@ -39,24 +39,24 @@ impl ReleaseRange {
     }
 }
 
-impl FewNumbers {
+impl ShortNumbers {
     // The three numbers, with missing ones as 0.
     #[inline(always)]
     fn lowest(self) -> Numbers
-        ensures { release_of result ≡ lowest (of_few self) }
+        ensures { release_of result ≡ lowest (of_short self) }
     {
         match self {
-            FewNumbers::One(major) => Numbers {
+            ShortNumbers::One(major) => Numbers {
                 major,
                 minor: 0,
                 patch: 0,
             },
-            FewNumbers::Two(major, minor) => Numbers {
+            ShortNumbers::Two(major, minor) => Numbers {
                 major,
                 minor,
                 patch: 0,
             },
-            FewNumbers::Three(numbers) => numbers,
+            ShortNumbers::Three(numbers) => numbers,
         }
     }
 
@@ -64,7 +64,7 @@ impl FewNumbers {
     #[inline(always)]
     fn to_below(self, major: u64, minor: u64, patch: u64) -> ReleaseRange
         ensures { release_range result
-            ≡ (lower_to_below (of_few self) (release major minor patch) []).range }
+            ≡ (lower_to_below (of_short self) (release major minor patch) []).range }
     {
         ReleaseRange {
             start: self.lowest(),
@@ -81,7 +81,7 @@ impl FewNumbers {
     #[inline(always)]
     fn to_next_major(self, major: u64) -> Option<ReleaseRange>
         ensures range { let end = release (major + 1) 0 0 in IfSome result (λ range.
-            IsLineRange (lower_to_below (of_few self) end ((major + 1) ∷ [])) (release_range range)) }
+            IsLineRange (lower_to_below (of_short self) end ((major + 1) ∷ [])) (release_range range)) }
         ensures too_large { IfNone result (all_fit ((major + 1) ∷ []) ≡ false) }
     {
         Some(self.to_below(major.checked_add(1)?, 0, 0))
@@ -91,7 +91,7 @@ impl FewNumbers {
     #[inline(always)]
     fn to_next_minor(self, major: u64, minor: u64) -> Option<ReleaseRange>
         ensures range { let end = release major (minor + 1) 0 in IfSome result (λ range.
-            IsLineRange (lower_to_below (of_few self) end ((minor + 1) ∷ [])) (release_range range)) }
+            IsLineRange (lower_to_below (of_short self) end ((minor + 1) ∷ [])) (release_range range)) }
         ensures too_large { IfNone result (all_fit ((minor + 1) ∷ []) ≡ false) }
     {
         Some(self.to_below(major, minor.checked_add(1)?, 0))
@@ -102,13 +102,13 @@ impl FewNumbers {
     #[inline(always)]
     pub fn tilde_range(self) -> Option<ReleaseRange>
         ensures range { IfSome result
-            (λ range. IsLineRange (tilde (of_few self)) (release_range range)) }
-        ensures too_large { IfNone result (all_fit (tilde (of_few self)).sums ≡ false) }
+            (λ range. IsLineRange (tilde (of_short self)) (release_range range)) }
+        ensures too_large { IfNone result (all_fit (tilde (of_short self)).sums ≡ false) }
     {
         match self {
-            FewNumbers::One(major) => self.to_next_major(major),
-            FewNumbers::Two(major, minor) => self.to_next_minor(major, minor),
-            FewNumbers::Three(numbers) => self.to_next_minor(numbers.major, numbers.minor),
+            ShortNumbers::One(major) => self.to_next_major(major),
+            ShortNumbers::Two(major, minor) => self.to_next_minor(major, minor),
+            ShortNumbers::Three(numbers) => self.to_next_minor(numbers.major, numbers.minor),
         }
     }
 
@@ -117,16 +117,16 @@ impl FewNumbers {
     #[inline(always)]
     pub fn caret_range(self) -> Option<ReleaseRange>
         ensures range { IfSome result
-            (λ range. IsLineRange (caret (of_few self)) (release_range range)) }
-        ensures too_large { IfNone result (all_fit (caret (of_few self)).sums ≡ false) }
+            (λ range. IsLineRange (caret (of_short self)) (release_range range)) }
+        ensures too_large { IfNone result (all_fit (caret (of_short self)).sums ≡ false) }
     {
         match self {
-            FewNumbers::One(major) => self.to_next_major(major),
-            FewNumbers::Two(0, minor) => self.to_next_minor(0, minor),
-            FewNumbers::Two(major, _) => self.to_next_major(major),
-            FewNumbers::Three(n) if n.major > 0 => self.to_next_major(n.major),
-            FewNumbers::Three(n) if n.minor > 0 => self.to_next_minor(0, n.minor),
-            FewNumbers::Three(n) => Some(self.to_below(0, 0, n.patch.checked_add(1)?)),
+            ShortNumbers::One(major) => self.to_next_major(major),
+            ShortNumbers::Two(0, minor) => self.to_next_minor(0, minor),
+            ShortNumbers::Two(major, _) => self.to_next_major(major),
+            ShortNumbers::Three(n) if n.major > 0 => self.to_next_major(n.major),
+            ShortNumbers::Three(n) if n.minor > 0 => self.to_next_minor(0, n.minor),
+            ShortNumbers::Three(n) => Some(self.to_below(0, 0, n.patch.checked_add(1)?)),
         }
     }
 
@@ -134,13 +134,13 @@ impl FewNumbers {
     #[inline(always)]
     pub fn equal_range(self) -> Option<ReleaseRange>
         ensures range { IfSome result
-            (λ range. IsLineRange (equal (of_few self)) (release_range range)) }
-        ensures too_large { IfNone result (all_fit (equal (of_few self)).sums ≡ false) }
+            (λ range. IsLineRange (equal (of_short self)) (release_range range)) }
+        ensures too_large { IfNone result (all_fit (equal (of_short self)).sums ≡ false) }
     {
         match self {
-            FewNumbers::One(major) => self.to_next_major(major),
-            FewNumbers::Two(major, minor) => self.to_next_minor(major, minor),
-            FewNumbers::Three(numbers) => Some(ReleaseRange {
+            ShortNumbers::One(major) => self.to_next_major(major),
+            ShortNumbers::Two(major, minor) => self.to_next_minor(major, minor),
+            ShortNumbers::Three(numbers) => Some(ReleaseRange {
                 start: numbers,
                 end: numbers,
                 end_kind: VersionBoundKind::Inclusive,
@@ -151,16 +151,16 @@ impl FewNumbers {
     /// The partial version of these numbers.
     #[inline(always)]
     pub fn into_partial(self, alloc: Global) -> Partial
-        ensures { result ≡ of_few self }
+        ensures { result ≡ of_short self }
     {
         match self {
-            FewNumbers::One(major) => {
+            ShortNumbers::One(major) => {
                 of_components(alloc, major, XRange::Wildcard, XRange::Wildcard)
             }
-            FewNumbers::Two(major, minor) => {
+            ShortNumbers::Two(major, minor) => {
                 of_components(alloc, major, XRange::Val(minor), XRange::Wildcard)
             }
-            FewNumbers::Three(
+            ShortNumbers::Three(
                 Numbers {
                     major,
                     minor,

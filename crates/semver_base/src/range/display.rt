@@ -6,7 +6,7 @@ ghost use Rattle.std.specs.List.{flat_map};
 ghost use Rattle.semver_base.specs.Forms.{form_comparators};
 ghost use Rattle.semver_base.specs.NormalText.{comparator_text, comparators_text, range_text, set_text};
 ghost use Rattle.semver_base.specs.PartialTable.{between};
-ghost use Rattle.semver_base.specs.Shortest.{ending, is_plain, shortest_between, starting};
+ghost use Rattle.semver_base.specs.Shortest.{ending, is_release_of, shortest_between, starting};
 ghost use Rattle.semver_base.specs.VersionText.{version_text};
 
 use crate::range::{RangeBound, VersionBound, VersionBoundKind, VersionRange, VersionRangeSet};
@@ -35,8 +35,8 @@ enum Form {
 }
 
 // Whether the version has these numbers, and neither a pre-release nor a build.
-fn is_plain(version: &Version, major: u64, minor: u64, patch: u64) -> bool
-    ensures { result ≡ is_plain version.now major minor patch }
+fn is_release_of(version: &Version, major: u64, minor: u64, patch: u64) -> bool
+    ensures { result ≡ is_release_of version.now major minor patch }
 {
     version.major == major
         && version.minor == minor
@@ -53,14 +53,14 @@ fn is_next(number: u64, next: u64) -> bool
 
 // Whether `end` is the first release of the next major number after that of `start`.
 fn is_next_major(start: &Version, end: &Version) -> bool
-    ensures { result ≡ is_plain end.now (start.now.major + 1) 0 0 }
+    ensures { result ≡ is_release_of end.now (start.now.major + 1) 0 0 }
 {
     is_next(start.major, end.major) && end.minor == 0 && end.patch == 0 && is_unqualified(end)
 }
 
 // Whether `end` is the first release of the next minor number after that of `start`.
 fn is_next_minor(start: &Version, end: &Version) -> bool
-    ensures { result ≡ is_plain end.now start.now.major (start.now.minor + 1) 0 }
+    ensures { result ≡ is_release_of end.now start.now.major (start.now.minor + 1) 0 }
 {
     end.major == start.major
         && is_next(start.minor, end.minor)
@@ -70,7 +70,7 @@ fn is_next_minor(start: &Version, end: &Version) -> bool
 
 // Whether `end` is the release 0.0 with the patch after that of `start`.
 fn is_next_patch(start: &Version, end: &Version) -> bool
-    ensures { result ≡ is_plain end.now 0 0 (start.now.patch + 1) }
+    ensures { result ≡ is_release_of end.now 0 0 (start.now.patch + 1) }
 {
     end.major == 0 && end.minor == 0 && is_next(start.patch, end.patch) && is_unqualified(end)
 }
@@ -85,7 +85,7 @@ fn closed_form(start: &Version, end: &Version) -> Form
     if start == end {
         return Form::Whole;
     }
-    if is_plain(start, 0, 0, 0) {
+    if is_release_of(start, 0, 0, 0) {
         return Form::End;
     }
     Form::Both
@@ -98,10 +98,10 @@ fn half_open_form(start: &Version, end: &Version) -> Form
         ≡ form_comparators result VersionBoundKind.Inclusive VersionBoundKind.Exclusive
         start.now end.now }
 {
-    if is_plain(start, start.major, 0, 0) && is_next_major(start, end) {
+    if is_release_of(start, start.major, 0, 0) && is_next_major(start, end) {
         return Form::Major;
     }
-    if is_plain(start, start.major, start.minor, 0) && is_next_minor(start, end) {
+    if is_release_of(start, start.major, start.minor, 0) && is_next_minor(start, end) {
         return Form::Minor;
     }
     if is_next_minor(start, end) {
@@ -113,7 +113,7 @@ fn half_open_form(start: &Version, end: &Version) -> Form
     if start.major > 0 && is_next_major(start, end) {
         return Form::Caret;
     }
-    if is_plain(start, 0, 0, 0) {
+    if is_release_of(start, 0, 0, 0) {
         return Form::End;
     }
     Form::Both

@@ -8,9 +8,9 @@
 
 ghost use Rattle.std.specs.Prelude.{◌≡◌, ◌∷◌, ◌++◌, ◌&&◌, ◌↔◌, [], IfOk, IfSome, IsTrue, is_some};
 ghost use Rattle.std.specs.List.{list_all, list_any, AllByRecursion};
-ghost use Rattle.semver_base.specs.Candidates.{after, from_ends, from_range, from_set, from_sets, from_start, kept_if, least_free, least_release, least_version, lower_passing, lowest_of, next_release, own_pre, passes, pre_from, with_pre, zero_identifier, zero_of, zero_pre};
-ghost use Rattle.semver_base.specs.Containment.{AreEquivalent, IsWithin, TellsEquivalent, TellsWithin};
-ghost use Rattle.semver_base.specs.LeastVersion.{HasNoBuild, IsLeast, TellsSome, all_mean_with, set_means_alone_with, sets_mean_with};
+ghost use Rattle.semver_base.specs.Candidates.{after, from_ends, from_range, from_set, from_sets, from_start, filtered, lowest_free, lowest_release, lowest_version, lower_passing, lowest_of, next_release, own_pre, passes, pre_from, with_pre, zero_identifier, zero_of, zero_pre};
+ghost use Rattle.semver_base.specs.Containment.{AreEquivalent, IsWithin, ReportsEquivalent, ReportsWithin};
+ghost use Rattle.semver_base.specs.LowestVersion.{HasNoBuild, IsLowestPassing, DecidesSome, all_mean_with, set_means_alone_with, sets_mean_with};
 ghost use Rattle.semver_base.specs.Meaning.{is_pre_match, range_means_with, release, set_means_with};
 ghost use Rattle.semver_base.specs.NormalText.{AreWritableRanges, IsWritableRange};
 ghost use Rattle.semver_base.specs.VersionText.{ReadsBack};
@@ -62,7 +62,7 @@ fn zero_version(alloc: Global, version: &Version) -> Result<Version, AllocError>
 
 // The lowest pre-release of the version's numbers, if there is a version.
 fn zero_of(alloc: Global, version: Option<Version>) -> Result<Option<Version>, AllocError>
-    ensures { IfOk result (λ least. least ≡ zero_of version) }
+    ensures { IfOk result (λ lowest. lowest ≡ zero_of version) }
 {
     match version {
         Some(version) => Ok(Some(zero_version(alloc, &version)?)),
@@ -83,8 +83,8 @@ fn pre_from(alloc: Global, start: &VersionBound) -> Result<Version, AllocError>
 
 impl RangeBound {
     // The lowest release from this start on, if there is one.
-    fn least_release(&self, alloc: Global) -> Option<Version>
-        ensures { result ≡ least_release self.now }
+    fn lowest_release(&self, alloc: Global) -> Option<Version>
+        ensures { result ≡ lowest_release self.now }
     {
         let RangeBound::Version(bound) = self else {
             return Some(release(alloc, 0, 0, 0));
@@ -97,8 +97,8 @@ impl RangeBound {
     }
 
     // The lowest version from this start on, a release or not, if there is one.
-    fn least_version(&self, alloc: Global) -> Result<Option<Version>, AllocError>
-        ensures { IfOk result (λ least. least ≡ least_version self.now) }
+    fn lowest_version(&self, alloc: Global) -> Result<Option<Version>, AllocError>
+        ensures { IfOk result (λ lowest. lowest ≡ lowest_version self.now) }
     {
         let RangeBound::Version(bound) = self else {
             return Ok(Some(zero_version(alloc, &release(alloc, 0, 0, 0))?));
@@ -111,22 +111,22 @@ impl RangeBound {
     }
 
     // The lowest version from this start on that no bound has to admit, if there is one.
-    fn least_free(
+    fn lowest_free(
         &self,
         alloc: Global,
         pre_release: PreRelease,
     ) -> Result<Option<Version>, AllocError>
-        ensures { IfOk result (λ least. least ≡ least_free pre_release self.now) }
+        ensures { IfOk result (λ lowest. lowest ≡ lowest_free pre_release self.now) }
     {
         match pre_release {
-            PreRelease::Restricted => Ok(self.least_release(alloc)),
-            PreRelease::Admitted => self.least_version(alloc),
+            PreRelease::Restricted => Ok(self.lowest_release(alloc)),
+            PreRelease::Admitted => self.lowest_version(alloc),
         }
     }
 
     // The lowest pre-release of this start's numbers from it on, if it is a pre-release.
     fn own_pre(&self, alloc: Global) -> Result<Option<Version>, AllocError>
-        ensures { IfOk result (λ least. least ≡ own_pre self.now) }
+        ensures { IfOk result (λ lowest. lowest ≡ own_pre self.now) }
     {
         match self {
             RangeBound::Version(bound) if !bound.version.pre.is_empty() => {
@@ -138,7 +138,7 @@ impl RangeBound {
 
     // The lowest pre-release of this bound's numbers, if it is a pre-release.
     fn zero_pre(&self, alloc: Global) -> Result<Option<Version>, AllocError>
-        ensures { IfOk result (λ least. least ≡ zero_pre self.now) }
+        ensures { IfOk result (λ lowest. lowest ≡ zero_pre self.now) }
     {
         match self {
             RangeBound::Version(bound) if !bound.version.pre.is_empty() => {
@@ -241,7 +241,7 @@ impl Question<'_> {
             (passes self.now.pre_release self.now.own.now self.now.others.now self.now.without.now)
             found start.now) }
     {
-        let found = self.lower_passing(found, start.least_free(alloc, self.pre_release)?);
+        let found = self.lower_passing(found, start.lowest_free(alloc, self.pre_release)?);
         let found = self.lower_passing(found, start.own_pre(alloc)?);
         Ok(self.lower_passing(found, start.zero_pre(alloc)?))
     }
@@ -306,10 +306,10 @@ impl VersionRange {
         alloc: Global,
         pre_release: PreRelease,
     ) -> Result<Option<Version>, AllocError>
-        ensures least { IfOk result (IsLeast (range_means_with pre_release self.now)) }
-        ensures no_build { IfOk result (λ least. IfSome least HasNoBuild) }
+        ensures lowest { IfOk result (IsLowestPassing (range_means_with pre_release self.now)) }
+        ensures no_build { IfOk result (λ lowest. IfSome lowest HasNoBuild) }
         ensures reads_back { IfOk result
-            (λ least. IsWritableRange self.now → IfSome least ReadsBack) }
+            (λ lowest. IsWritableRange self.now → IfSome lowest ReadsBack) }
     {
         let question = Question {
             own: slice::from_ref(self),
@@ -324,7 +324,7 @@ impl VersionRange {
 impl VersionRange {
     // Whether the candidate is a pre-release of the bound's numbers that matches by npm's rule.
     fn is_pre_match(&self, bound: &RangeBound, candidate: Option<Version>) -> bool
-        ensures { result ≡ is_some (kept_if (is_pre_match self.now bound.now) candidate) }
+        ensures { result ≡ is_some (filtered (is_pre_match self.now bound.now) candidate) }
     {
         match candidate {
             Some(version) => {
@@ -341,7 +341,7 @@ impl VersionRange {
     ///
     /// True means that some version is such a pre-release; false, that no text parses to one. Fails only out of memory.
     pub fn matches_pre_of(&self, alloc: Global, bound: &RangeBound) -> Result<bool, AllocError>
-        ensures { IfOk result (TellsSome (is_pre_match self.now bound.now)) }
+        ensures { IfOk result (DecidesSome (is_pre_match self.now bound.now)) }
     {
         let lowest = self.is_pre_match(bound, bound.zero_pre(alloc)?);
         let own = self.is_pre_match(bound, self.start.own_pre(alloc)?);
@@ -360,10 +360,10 @@ impl VersionRangeSet {
         alloc: Global,
         pre_release: PreRelease,
     ) -> Result<Option<Version>, AllocError>
-        ensures least { IfOk result (IsLeast (set_means_with pre_release self.now.0)) }
-        ensures no_build { IfOk result (λ least. IfSome least HasNoBuild) }
+        ensures lowest { IfOk result (IsLowestPassing (set_means_with pre_release self.now.0)) }
+        ensures no_build { IfOk result (λ lowest. IfSome lowest HasNoBuild) }
         ensures reads_back { IfOk result
-            (λ least. AreWritableRanges self.now.0 → IfSome least ReadsBack) }
+            (λ lowest. AreWritableRanges self.now.0 → IfSome lowest ReadsBack) }
     {
         let question = Question {
             own: self.0.as_slice(),
@@ -388,11 +388,12 @@ impl VersionRangeSet {
         other: &VersionRangeSet,
         pre_release: PreRelease,
     ) -> Result<Option<Version>, AllocError>
-        ensures least { IfOk result (IsLeast (sets_mean_with pre_release self.now.0 other.now.0)) }
-        ensures no_build { IfOk result (λ least. IfSome least HasNoBuild) }
+        ensures lowest { IfOk result
+            (IsLowestPassing (sets_mean_with pre_release self.now.0 other.now.0)) }
+        ensures no_build { IfOk result (λ lowest. IfSome lowest HasNoBuild) }
         ensures reads_back { IfOk result
-            (λ least. AreWritableRanges self.now.0 → AreWritableRanges other.now.0
-            → IfSome least ReadsBack) }
+            (λ lowest. AreWritableRanges self.now.0 → AreWritableRanges other.now.0
+            → IfSome lowest ReadsBack) }
     {
         let question = Question {
             own: self.0.as_slice(),
@@ -416,10 +417,11 @@ impl VersionRangeSet {
         others: &[VersionRangeSet],
         pre_release: PreRelease,
     ) -> Result<Option<Version>, AllocError>
-        ensures least { IfOk result (IsLeast (all_mean_with pre_release self.now.0 others.now)) }
-        ensures no_build { IfOk result (λ least. IfSome least HasNoBuild) }
-        ensures reads_back { IfOk result (λ least. AreWritableRanges self.now.0
-            → AllByRecursion (λ (set : VersionRangeSet). AreWritableRanges set.0) others.now → IfSome least ReadsBack) }
+        ensures lowest { IfOk result
+            (IsLowestPassing (all_mean_with pre_release self.now.0 others.now)) }
+        ensures no_build { IfOk result (λ lowest. IfSome lowest HasNoBuild) }
+        ensures reads_back { IfOk result (λ lowest. AreWritableRanges self.now.0
+            → AllByRecursion (λ (set : VersionRangeSet). AreWritableRanges set.0) others.now → IfSome lowest ReadsBack) }
     {
         let question = Question {
             own: self.0.as_slice(),
@@ -444,12 +446,12 @@ impl VersionRangeSet {
         other: &VersionRangeSet,
         pre_release: PreRelease,
     ) -> Result<Option<Version>, AllocError>
-        ensures least { IfOk result
-            (IsLeast (set_means_alone_with pre_release self.now.0 other.now.0)) }
-        ensures no_build { IfOk result (λ least. IfSome least HasNoBuild) }
+        ensures lowest { IfOk result
+            (IsLowestPassing (set_means_alone_with pre_release self.now.0 other.now.0)) }
+        ensures no_build { IfOk result (λ lowest. IfSome lowest HasNoBuild) }
         ensures reads_back { IfOk result
-            (λ least. AreWritableRanges self.now.0 → AreWritableRanges other.now.0
-            → IfSome least ReadsBack) }
+            (λ lowest. AreWritableRanges self.now.0 → AreWritableRanges other.now.0
+            → IfSome lowest ReadsBack) }
     {
         let question = Question {
             own: self.0.as_slice(),
@@ -475,10 +477,10 @@ impl VersionRangeSet {
         pre_release: PreRelease,
     ) -> Result<bool, AllocError>
         ensures value { let means = set_means_with pre_release in IfOk result
-            (TellsWithin (means self.now.0) (means other.now.0)) }
+            (ReportsWithin (means self.now.0) (means other.now.0)) }
         ensures exact { let means = set_means_with pre_release in IfOk result
-            (λ told. AreWritableRanges self.now.0 → AreWritableRanges other.now.0
-            → (IsTrue told ↔ IsWithin (means self.now.0) (means other.now.0))) }
+            (λ reported. AreWritableRanges self.now.0 → AreWritableRanges other.now.0
+            → (IsTrue reported ↔ IsWithin (means self.now.0) (means other.now.0))) }
     {
         let outside = self.version_outside(alloc, other, pre_release)?;
         Ok(outside.is_none())
@@ -497,10 +499,10 @@ impl VersionRangeSet {
         pre_release: PreRelease,
     ) -> Result<bool, AllocError>
         ensures value { let means = set_means_with pre_release in IfOk result
-            (TellsEquivalent (means self.now.0) (means other.now.0)) }
+            (ReportsEquivalent (means self.now.0) (means other.now.0)) }
         ensures exact { let means = set_means_with pre_release in IfOk result
-            (λ told. AreWritableRanges self.now.0 → AreWritableRanges other.now.0
-            → (IsTrue told ↔ AreEquivalent (means self.now.0) (means other.now.0))) }
+            (λ reported. AreWritableRanges self.now.0 → AreWritableRanges other.now.0
+            → (IsTrue reported ↔ AreEquivalent (means self.now.0) (means other.now.0))) }
     {
         if !self.is_subset(alloc, other, pre_release)? {
             return Ok(false);

@@ -3,25 +3,25 @@
 ghost use Rattle.std.specs.Prelude.{◌≡◌, IfErr, IfOk, OnOk, true};
 ghost use Rattle.semver_base.specs.Comparators.{comparator_line, comparator_range};
 ghost use Rattle.semver_base.specs.Grammar.{IsLongest, ReadsAs, answer_of};
-ghost use Rattle.semver_base.specs.PartialTable.{IsBoundRefusal, all_fit};
+ghost use Rattle.semver_base.specs.PartialTable.{IsBoundRejection, all_fit};
 ghost use Rattle.semver_req.specs.Comparators.{IsComparator, IsEquals, IsLed};
 ghost use Rattle.semver_req.specs.Partials.{sized_partial};
-ghost use Rattle.semver_req.specs.Written.{IsMarkCut, IsNpmFront, IsNpmMarkCut, IsNonPrimitive, ReadsComparator, comparator_of, with_mark};
+ghost use Rattle.semver_req.specs.Written.{IsOperatorCut, IsNpmFront, IsNpmOperatorCut, IsNonPrimitive, ReadsComparator, comparator_of, with_operator};
 ghost use Rattle.semver_req.specs.declared.common.values.Flavour.TheVariants.{Normal, Npm};
 
-use crate::common::separators::after_some_blanks;
+use crate::common::separators::after_some_whitespace;
 use crate::common::values::{Flavour, PrimitiveKind};
-use crate::common::{partial_front, plain_partial, primitive_kind_front};
+use crate::common::{bare_partial, partial_front, primitive_kind_front};
 use semver_base::failure::ParseFailure;
 use semver_base::lexical::values::Measured;
-use semver_base::lexical::{after, after_blanks};
+use semver_base::lexical::{after, after_whitespace};
 use semver_base::partial::Partial;
 use semver_base::range::VersionRange;
 use std::alloc::{AllocError, Global};
 
 /// The operator before the partial version of a comparator.
 #[derive(Clone, Copy, Debug)]
-pub enum Mark {
+pub enum Operator {
     /// `~`
     Tilde,
     /// `^`
@@ -32,7 +32,7 @@ pub enum Mark {
     Absent,
 }
 
-impl Mark {
+impl Operator {
     /// The range of the operator and the partial version after it (node-semver, "Advanced Range Syntax").
     ///
     /// Fails with "Version bound is too large." exactly if a number that the range increments exceeds 18446744073709551615;
@@ -43,14 +43,14 @@ impl Mark {
             (λ range. range ≡ comparator_range (comparator_of self partial.now)) }
         ensures fits { OnOk result
             (all_fit (comparator_line (comparator_of self partial.now)).sums ≡ true) }
-        ensures refused { IfErr result
-            (IsBoundRefusal (comparator_line (comparator_of self partial.now)).sums) }
+        ensures rejected { IfErr result
+            (IsBoundRejection (comparator_line (comparator_of self partial.now)).sums) }
     {
         match self {
-            Mark::Tilde => partial.as_tilde_version_range(alloc),
-            Mark::Caret => partial.as_caret_version_range(alloc),
-            Mark::Primitive(kind) => kind.range(alloc, partial),
-            Mark::Absent => partial.as_equal_range(alloc),
+            Operator::Tilde => partial.as_tilde_version_range(alloc),
+            Operator::Caret => partial.as_caret_version_range(alloc),
+            Operator::Primitive(kind) => kind.range(alloc, partial),
+            Operator::Absent => partial.as_equal_range(alloc),
         }
     }
 }
@@ -58,23 +58,23 @@ impl Mark {
 /// A parsed comparator.
 #[derive(Debug, Drop)]
 pub struct Written {
-    pub mark: Mark,
+    pub operator: Operator,
     /// The partial version after the operator; `Measured::TooLarge` if a number in it exceeds 18446744073709551615.
     pub partial: Measured<Partial>,
 }
 
 /// Splits off a leading operator.
 #[inline(always)]
-pub(crate) fn split_mark(text: &str) -> (Mark, &str)
-    ensures { IsMarkCut text.now result.0 result.1.now }
+pub(crate) fn split_operator(text: &str) -> (Operator, &str)
+    ensures { IsOperatorCut text.now result.0 result.1.now }
 {
     if let Some(rest) = after(text, '~') {
-        return (Mark::Tilde, rest);
+        return (Operator::Tilde, rest);
     }
     if let Some(rest) = after(text, '^') {
-        return (Mark::Caret, rest);
+        return (Operator::Caret, rest);
     }
-    (Mark::Absent, text)
+    (Operator::Absent, text)
 }
 
 /// Parses a leading comparator without a comparison operator: `~`, `^` or nothing, and a partial version (node-semver's range
@@ -87,9 +87,9 @@ pub fn non_primitive_front(
 ) -> Result<Option<(Written, &str)>, AllocError>
     ensures { IfOk result (λ r. ReadsComparator (IsNonPrimitive flavour) text.now (answer_of r)) }
 {
-    let (mark, rest) = split_mark(text);
+    let (operator, rest) = split_operator(text);
     match partial_front(alloc, rest, flavour)? {
-        Some((partial, rest)) => Ok(Some((Written { mark, partial }, rest))),
+        Some((partial, rest)) => Ok(Some((Written { operator, partial }, rest))),
         None => Ok(None),
     }
 }
@@ -101,10 +101,10 @@ pub fn normal_front(alloc: Global, text: &str) -> Result<Option<(Written, &str)>
     let Some((kind, rest)) = primitive_kind_front(text) else {
         return non_primitive_front(alloc, text, Flavour::Normal);
     };
-    match partial_front(alloc, after_blanks(rest), Flavour::Normal)? {
+    match partial_front(alloc, after_whitespace(rest), Flavour::Normal)? {
         Some((partial, rest)) => {
-            let mark = Mark::Primitive(kind);
-            Ok(Some((Written { mark, partial }, rest)))
+            let operator = Operator::Primitive(kind);
+            Ok(Some((Written { operator, partial }, rest)))
         }
         None => Ok(None),
     }
@@ -126,51 +126,51 @@ fn after_every_equals(text: &str) -> &str
 fn led_partial(alloc: Global, text: &str) -> Result<Option<(Measured<Partial>, &str)>, AllocError>
     ensures { IfOk result (λ r. ReadsAs sized_partial IsLed text.now (answer_of r)) }
 {
-    let start = after_blanks(after_every_equals(text));
+    let start = after_whitespace(after_every_equals(text));
     match after(start, 'v') {
-        Some(rest) => partial_front(alloc, after_blanks(rest), Flavour::Npm),
-        None => plain_partial(alloc, start, Flavour::Npm),
+        Some(rest) => partial_front(alloc, after_whitespace(rest), Flavour::Npm),
+        None => bare_partial(alloc, start, Flavour::Npm),
     }
 }
 
 // Splits off npm's leading operator, where `~>` is a `~`.
 #[inline(always)]
-fn split_npm_mark(text: &str) -> (Mark, &str)
-    ensures { IsNpmMarkCut text.now result.0 result.1.now }
+fn split_npm_operator(text: &str) -> (Operator, &str)
+    ensures { IsNpmOperatorCut text.now result.0 result.1.now }
 {
-    let (mark, rest) = split_mark(text);
-    match mark {
-        Mark::Tilde => (mark, after(rest, '>').unwrap_or(rest)),
-        _ => (mark, rest),
+    let (operator, rest) = split_operator(text);
+    match operator {
+        Operator::Tilde => (operator, after(rest, '>').unwrap_or(rest)),
+        _ => (operator, rest),
     }
 }
 
 // The parsed partial version with this operator.
 #[inline(always)]
-fn with_mark<'a>(
-    mark: Mark,
+fn with_operator<'a>(
+    operator: Operator,
     read: Option<(Measured<Partial>, &'a str)>,
 ) -> Option<(Written, &'a str)>
-    ensures { answer_of result ≡ with_mark mark (answer_of read.entry) }
+    ensures { answer_of result ≡ with_operator operator (answer_of read.entry) }
 {
     let (partial, rest) = read?;
-    Some((Written { mark, partial }, rest))
+    Some((Written { operator, partial }, rest))
 }
 
 // Parses a leading npm comparator, with the operator `other` if it begins with neither `~` nor `^`.
 #[inline(always)]
-fn npm_by_mark(
+fn npm_by_operator(
     alloc: Global,
     text: &str,
-    other: Mark,
+    other: Operator,
 ) -> Result<Option<(Written, &str)>, AllocError>
     ensures { IfOk result (λ r. IsNpmFront other text.now (answer_of r)) }
 {
-    let (mark, rest) = split_npm_mark(text);
-    match mark {
-        Mark::Tilde | Mark::Caret => Ok(with_mark(mark, led_partial(alloc, rest)?)),
-        Mark::Primitive(_) | Mark::Absent => {
-            Ok(with_mark(other, partial_front(alloc, rest, Flavour::Npm)?))
+    let (operator, rest) = split_npm_operator(text);
+    match operator {
+        Operator::Tilde | Operator::Caret => Ok(with_operator(operator, led_partial(alloc, rest)?)),
+        Operator::Primitive(_) | Operator::Absent => {
+            Ok(with_operator(other, partial_front(alloc, rest, Flavour::Npm)?))
         }
     }
 }
@@ -182,12 +182,12 @@ pub fn npm_front(alloc: Global, text: &str) -> Result<Option<(Written, &str)>, A
     ensures { IfOk result (λ r. ReadsComparator (IsComparator Npm) text.now (answer_of r)) }
 {
     let Some((kind, rest)) = primitive_kind_front(text) else {
-        return npm_by_mark(alloc, text, Mark::Absent);
+        return npm_by_operator(alloc, text, Operator::Absent);
     };
-    let mark = Mark::Primitive(kind);
-    match after_some_blanks(rest) {
-        Some(start) => npm_by_mark(alloc, start, mark),
-        None => Ok(with_mark(mark, partial_front(alloc, rest, Flavour::Npm)?)),
+    let operator = Operator::Primitive(kind);
+    match after_some_whitespace(rest) {
+        Some(start) => npm_by_operator(alloc, start, operator),
+        None => Ok(with_operator(operator, partial_front(alloc, rest, Flavour::Npm)?)),
     }
 }
 

@@ -7,10 +7,10 @@ ghost use Rattle.semver_req.specs.Pieces.{IsHyphenPair, IsHyphened, IsUpper};
 ghost use Rattle.semver_req.specs.PieceSteps.{sized_hyphen};
 
 use crate::common::partial_front;
-use crate::common::separators::after_some_blanks;
+use crate::common::separators::after_some_whitespace;
 use crate::common::values::Flavour;
 use semver_base::lexical::values::Measured;
-use semver_base::lexical::{after, after_blanks};
+use semver_base::lexical::{after, after_whitespace};
 use semver_base::partial::Partial;
 use std::alloc::{AllocError, Global};
 
@@ -28,7 +28,7 @@ fn upper(alloc: Global, text: &str) -> Result<Option<(Measured<Partial>, &str)>,
     ensures { IfOk result (λ r. ReadsAs sized_partial IsUpper text.now (answer_of r)) }
 {
     match partial_front(alloc, text, Flavour::Npm)? {
-        Some((partial, rest)) => Ok(Some((partial, after_blanks(rest)))),
+        Some((partial, rest)) => Ok(Some((partial, after_whitespace(rest)))),
         None => Ok(None),
     }
 }
@@ -37,13 +37,13 @@ fn upper(alloc: Global, text: &str) -> Result<Option<(Measured<Partial>, &str)>,
 fn hyphened(alloc: Global, text: &str) -> Result<Option<(Measured<Partial>, &str)>, AllocError>
     ensures { IfOk result (λ r. ReadsAs sized_partial IsHyphened text.now (answer_of r)) }
 {
-    let Some(rest) = after_some_blanks(text) else {
+    let Some(rest) = after_some_whitespace(text) else {
         return Ok(None);
     };
     let Some(rest) = after(rest, '-') else {
         return Ok(None);
     };
-    let Some(rest) = after_some_blanks(rest) else {
+    let Some(rest) = after_some_whitespace(rest) else {
         return Ok(None);
     };
     upper(alloc, rest)

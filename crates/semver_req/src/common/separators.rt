@@ -3,47 +3,47 @@
 ghost use Rattle.std.specs.Prelude.{◌≡◌, ◌<◌, ◌∷◌, [], false};
 ghost use Rattle.std.specs.Char.{is_whitespace};
 ghost use Rattle.semver_base.specs.Grammar.{IsText, Reads, rest_answer};
-ghost use Rattle.semver_base.specs.Lexical.{IsSomeBlanks};
-ghost use Rattle.semver_req.specs.Pieces.{IsMark, IsNpmSeparator, IsOperator, IsSeparator};
+ghost use Rattle.semver_base.specs.Lexical.{IsSomeWhitespace};
+ghost use Rattle.semver_req.specs.Pieces.{IsListOperator, IsNpmSeparator, IsOperator, IsSeparator};
 
 use crate::common::values::Flavour;
-use semver_base::lexical::{after, after_blanks};
+use semver_base::lexical::{after, after_whitespace};
 
 /// Strips leading whitespace; `None` if there is none.
-pub fn after_some_blanks(text: &str) -> Option<&str>
-    ensures { Reads IsSomeBlanks text.now (rest_answer result) }
+pub fn after_some_whitespace(text: &str) -> Option<&str>
+    ensures { Reads IsSomeWhitespace text.now (rest_answer result) }
 {
-    let rest = after_blanks(text);
+    let rest = after_whitespace(text);
     if rest.len() == text.len() {
         return None;
     }
     Some(rest)
 }
 
-/// Strips the ASCII character `mark`, twice, from the start.
-pub fn after_twice(text: &str, mark: char) -> Option<&str>
-    requires { mark < 128 }
-    ensures { Reads (IsText (mark ∷ mark ∷ [])) text.now (rest_answer result) }
+/// Strips the ASCII character `operator`, twice, from the start.
+pub fn after_twice(text: &str, operator: char) -> Option<&str>
+    requires { operator < 128 }
+    ensures { Reads (IsText (operator ∷ operator ∷ [])) text.now (rest_answer result) }
 {
-    let rest = after(text, mark)?;
-    after(rest, mark)
+    let rest = after(text, operator)?;
+    after(rest, operator)
 }
 
-/// Strips the ASCII character `mark`, twice, from the start, with the whitespace around it.
-pub fn after_operator(text: &str, mark: char) -> Option<&str>
-    requires ascii { mark < 128 }
-    requires no_blank { is_whitespace mark ≡ false }
-    ensures { Reads (IsOperator mark) text.now (rest_answer result) }
+/// Strips the ASCII character `operator`, twice, from the start, with the whitespace around it.
+pub fn after_operator(text: &str, operator: char) -> Option<&str>
+    requires ascii { operator < 128 }
+    requires not_whitespace { is_whitespace operator ≡ false }
+    ensures { Reads (IsOperator operator) text.now (rest_answer result) }
 {
-    match after_twice(after_blanks(text), mark) {
-        Some(rest) => Some(after_blanks(rest)),
+    match after_twice(after_whitespace(text), operator) {
+        Some(rest) => Some(after_whitespace(rest)),
         None => None,
     }
 }
 
 // Strips a leading `&&` or `,`.
-fn after_mark(text: &str) -> Option<&str>
-    ensures { Reads IsMark text.now (rest_answer result) }
+fn after_list_operator(text: &str) -> Option<&str>
+    ensures { Reads IsListOperator text.now (rest_answer result) }
 {
     if let Some(rest) = after(text, ',') {
         return Some(rest);
@@ -55,9 +55,9 @@ fn after_mark(text: &str) -> Option<&str>
 fn after_npm_separator(text: &str) -> Option<&str>
     ensures { Reads IsNpmSeparator text.now (rest_answer result) }
 {
-    let rest = after_blanks(text);
-    if let Some(more) = after_mark(rest) {
-        return Some(after_blanks(more));
+    let rest = after_whitespace(text);
+    if let Some(more) = after_list_operator(rest) {
+        return Some(after_whitespace(more));
     }
     if rest.len() == text.len() {
         return None;
@@ -72,7 +72,7 @@ pub fn after_separator(text: &str, flavour: Flavour) -> Option<&str>
 {
     match flavour {
         Flavour::Npm => after_npm_separator(text),
-        Flavour::Normal => after_some_blanks(text),
+        Flavour::Normal => after_some_whitespace(text),
         Flavour::Specifier => None,
     }
 }

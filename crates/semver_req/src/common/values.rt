@@ -2,7 +2,7 @@
 
 ghost use Rattle.std.specs.Prelude.{◌≡◌, IfErr, IfOk, OnOk, true};
 ghost use Rattle.semver_base.specs.Comparators.{primitive_line};
-ghost use Rattle.semver_base.specs.PartialTable.{IsBoundRefusal, all_fit};
+ghost use Rattle.semver_base.specs.PartialTable.{IsBoundRejection, all_fit};
 ghost use Rattle.semver_req.specs.Partials.{strictness_of};
 
 use semver_base::failure::ParseFailure;
@@ -63,8 +63,8 @@ impl Primitive {
         ensures range { IfOk result
             (λ range. range ≡ (primitive_line self.kind self.partial).range) }
         ensures fits { OnOk result (all_fit (primitive_line self.kind self.partial).sums ≡ true) }
-        ensures refused { IfErr result
-            (IsBoundRefusal (primitive_line self.kind self.partial).sums) }
+        ensures rejected { IfErr result
+            (IsBoundRejection (primitive_line self.kind self.partial).sums) }
     {
         self.kind.range(alloc, &self.partial)
     }

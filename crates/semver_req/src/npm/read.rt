@@ -2,8 +2,8 @@
 
 ghost use Rattle.std.specs.Prelude.{◌≡◌, ◌↔◌, IfErr, IfOk, IsTrue, None};
 ghost use Rattle.std.specs.Str.{trim};
-ghost use Rattle.semver_req.specs.PieceReading.{IsCutRefusal};
-ghost use Rattle.semver_req.specs.Readers.{IsReaderAnswer};
+ghost use Rattle.semver_req.specs.PieceReading.{IsCutRejection};
+ghost use Rattle.semver_req.specs.Parsers.{IsParserAnswer};
 ghost use Rattle.semver_req.specs.declared.common.values.Flavour.TheVariants.{Npm};
 
 use crate::range_set_or_tag::RangeSetOrTag;
@@ -77,8 +77,8 @@ pub fn parse_npm_version_req(
     alloc: Global,
     text: &str,
 ) -> Result<VersionReq, NpmVersionReqParseError>
-    ensures reads { IsReaderAnswer (λ e. e.source) Npm text.now result }
-    ensures refusal { IfErr result (λ e. IsCutRefusal Npm (trim text.now) e.source) }
+    ensures reads { IsParserAnswer (λ e. e.source) Npm text.now result }
+    ensures rejection { IfErr result (λ e. IsCutRejection Npm (trim text.now) e.source) }
 {
     let raw_text = SmallStackString::from_str(alloc, text.trim())?;
     let inner = RangeSetOrTag::parse_npm(alloc, text)?;
@@ -88,8 +88,8 @@ pub fn parse_npm_version_req(
 impl VersionReq {
     /// Parses a requirement by npm's grammar ([`parse_npm_version_req`], which lists each error).
     pub fn parse_from_npm(alloc: Global, text: &str) -> Result<VersionReq, NpmVersionReqParseError>
-        ensures reads { IsReaderAnswer (λ e. e.source) Npm text.now result }
-        ensures refusal { IfErr result (λ e. IsCutRefusal Npm (trim text.now) e.source) }
+        ensures reads { IsParserAnswer (λ e. e.source) Npm text.now result }
+        ensures rejection { IfErr result (λ e. IsCutRejection Npm (trim text.now) e.source) }
     {
         parse_npm_version_req(alloc, text)
     }

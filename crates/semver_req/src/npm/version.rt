@@ -2,9 +2,9 @@
 
 ghost use Rattle.std.specs.Prelude.{Result, Ok, IfErr, IfOk};
 ghost use Rattle.std.specs.Str.{trim};
-ghost use Rattle.semver_base.specs.VersionGrammar.{IsVersionAnswer, IsVersionOutcome, IsVersionRefusal};
+ghost use Rattle.semver_base.specs.VersionGrammar.{IsVersionAnswer, IsVersionOutcome, IsVersionRejection};
 ghost use Rattle.semver_base.specs.VersionText.{ReadsBack};
-ghost use Rattle.semver_base.specs.declared.failure.Refusal.{Refusal};
+ghost use Rattle.semver_base.specs.declared.failure.Rejection.{Rejection};
 
 use semver_base::npm::NpmVersionParseError;
 use semver_base::version::Version;
@@ -14,8 +14,8 @@ use std::alloc::Global;
 pub fn parse_npm_version(alloc: Global, text: &str) -> Result<Version, NpmVersionParseError>
     ensures read { IfOk result (λ version. IsVersionOutcome (trim text.now) (Ok version)) }
     ensures reads_back { IfOk result ReadsBack }
-    ensures refused { IfErr result (λ error. IsVersionRefusal (trim text.now) error.source) }
-    ensures answer { (outcome : Result Version Refusal) → IsVersionOutcome (trim text.now) outcome
+    ensures rejected { IfErr result (λ error. IsVersionRejection (trim text.now) error.source) }
+    ensures answer { (outcome : Result Version Rejection) → IsVersionOutcome (trim text.now) outcome
         → IsVersionAnswer (λ (error : NpmVersionParseError). error.source) (trim text.now) outcome result }
 {
     Version::parse_from_npm(alloc, text)

@@ -3,11 +3,11 @@
 ghost use Rattle.std.specs.Prelude.{◌≡◌, ◌↔◌, ◌++◌, ◌∷◌, [], IfErr, IfOk, IsTrue, List, MatchOption, None, OnOk};
 ghost use Rattle.semver_base.specs.Comparators.{Comparator};
 ghost use Rattle.semver_base.specs.Grammar.{ReadsAs, answer_of};
-ghost use Rattle.semver_base.specs.declared.failure.Refusal.TheVariants.{BoundTooLarge};
+ghost use Rattle.semver_base.specs.declared.failure.Rejection.TheVariants.{BoundTooLarge};
 ghost use Rattle.semver_base.specs.declared.lexical.values.Measured.TheVariants.{Fits};
 ghost use Rattle.semver_base.specs.declared.partial.Partial.{Partial};
 ghost use Rattle.semver_req.specs.Partials.{sized_partial};
-ghost use Rattle.semver_req.specs.PieceReading.{IsPieceRead, as_kept, joined, kept_of};
+ghost use Rattle.semver_req.specs.PieceReading.{IsPieceRead, as_retained, joined, retained_of};
 ghost use Rattle.semver_req.specs.PieceSteps.{AreAllRead, IsEverything, IsFirstPiece, IsHyphenRead, IsNextPiece, IsOneMore, IsWholeRead, both_now};
 ghost use Rattle.semver_req.specs.Pieces.{HasNoBar, IsComparators, IsCutAt, IsCutting, IsFilled, IsHyphen, hyphen};
 ghost use Rattle.semver_req.specs.Written.{comparator_of};
@@ -15,11 +15,11 @@ ghost use Rattle.semver_req.specs.declared.range_set_or_tag.pieces.RangeOrInvali
 
 use crate::common::comparator::{Written, comparator_front};
 use crate::common::hyphen::{HyphenRange, hyphen_front};
-use crate::common::plain::{few_alone, few_pair};
 use crate::common::separators::after_separator;
+use crate::common::short::{short_alone, short_pair};
 use crate::common::values::Flavour;
-use semver_base::failure::{ParseFailure, Refusal};
-use semver_base::lexical::after_blanks;
+use semver_base::failure::{ParseFailure, Rejection};
+use semver_base::lexical::after_whitespace;
 use semver_base::lexical::values::Measured;
 use semver_base::partial::Partial;
 use semver_base::range::VersionRange;
@@ -32,7 +32,7 @@ pub enum RangeOrInvalid {
     /// The range of its comparators.
     Range(VersionRange),
     /// The piece is invalid: it is outside the grammar, or a number or a bound in it is too large.
-    Invalid(Refusal),
+    Invalid(Rejection),
 }
 
 // Whether a piece is empty, or is whitespace followed by `||`.
@@ -40,7 +40,7 @@ fn is_everything(piece: &str, is_followed: bool) -> bool
     ensures { IsTrue result ↔ IsEverything is_followed piece.now }
 {
     if is_followed {
-        return after_blanks(piece).is_empty();
+        return after_whitespace(piece).is_empty();
     }
     piece.is_empty()
 }
@@ -53,7 +53,7 @@ fn no_range(failure: ParseFailure) -> Result<RangeOrInvalid, ParseFailure>
     if failure.is_memory() {
         return Err(failure);
     }
-    Ok(RangeOrInvalid::Invalid(Refusal::BoundTooLarge))
+    Ok(RangeOrInvalid::Invalid(Rejection::BoundTooLarge))
 }
 
 impl RangeOrInvalid {
@@ -62,14 +62,14 @@ impl RangeOrInvalid {
     #[inline(always)]
     fn of_one(alloc: Global, written: Written) -> Result<RangeOrInvalid, ParseFailure>
         ensures value { (p : Partial) → written.partial ≡ sized_partial p
-            → IfOk result (λ read. read ≡ joined (comparator_of written.mark p ∷ [])) }
+            → IfOk result (λ read. read ≡ joined (comparator_of written.operator p ∷ [])) }
         ensures memory { IfErr result (λ failure. failure ≡ None) }
     {
-        let Written { mark, partial } = written;
+        let Written { operator, partial } = written;
         let Measured::Fits(partial) = partial else {
-            return Ok(RangeOrInvalid::Invalid(Refusal::NumberTooLarge));
+            return Ok(RangeOrInvalid::Invalid(Rejection::NumberTooLarge));
         };
-        let range = mark.range(alloc, &partial);
+        let range = operator.range(alloc, &partial);
         drop(partial);
         match range {
             Ok(range) => Ok(RangeOrInvalid::Range(range.into_stopped()?)),
@@ -81,22 +81,22 @@ impl RangeOrInvalid {
     fn and(self, alloc: Global, written: Written) -> Result<RangeOrInvalid, ParseFailure>
         ensures value { (cs : List Comparator) (p : Partial) → self ≡ joined cs
             → written.partial ≡ sized_partial p
-            → IfOk result (λ read. read ≡ joined (cs ++ comparator_of written.mark p ∷ [])) }
+            → IfOk result (λ read. read ≡ joined (cs ++ comparator_of written.operator p ∷ [])) }
         ensures memory { IfErr result (λ failure. failure ≡ None) }
     {
-        let Written { mark, partial } = written;
+        let Written { operator, partial } = written;
         let Measured::Fits(partial) = partial else {
             drop(self);
-            return Ok(RangeOrInvalid::Invalid(Refusal::NumberTooLarge));
+            return Ok(RangeOrInvalid::Invalid(Rejection::NumberTooLarge));
         };
         let range = match self {
             RangeOrInvalid::Range(range) => range,
-            RangeOrInvalid::Invalid(refusal) => {
+            RangeOrInvalid::Invalid(rejection) => {
                 drop(partial);
-                return Ok(RangeOrInvalid::Invalid(refusal));
+                return Ok(RangeOrInvalid::Invalid(rejection));
             }
         };
-        let next = mark.range(alloc, &partial);
+        let next = operator.range(alloc, &partial);
         drop(partial);
         match next {
             Ok(next) => Ok(RangeOrInvalid::Range(range.clamp_into(next)?)),
@@ -159,7 +159,7 @@ impl RangeOrInvalid {
     ) -> Result<RangeOrInvalid, ParseFailure>
         ensures value { (v : Partial × Partial) → Fits lower.now ≡ sized_partial v.0
             → Fits upper.now ≡ sized_partial v.1
-            → IfOk result (λ read. read ≡ as_kept (hyphen v)) }
+            → IfOk result (λ read. read ≡ as_retained (hyphen v)) }
         ensures memory { IfErr result (λ failure. failure ≡ None) }
     {
         let start = lower.as_lower_bound(alloc)?;
@@ -180,11 +180,11 @@ impl RangeOrInvalid {
         let HyphenRange { lower, upper } = hyphen;
         let Measured::Fits(lower) = lower else {
             drop(upper);
-            return Ok(RangeOrInvalid::Invalid(Refusal::NumberTooLarge));
+            return Ok(RangeOrInvalid::Invalid(Rejection::NumberTooLarge));
         };
         let Measured::Fits(upper) = upper else {
             drop(lower);
-            return Ok(RangeOrInvalid::Invalid(Refusal::NumberTooLarge));
+            return Ok(RangeOrInvalid::Invalid(Rejection::NumberTooLarge));
         };
         let read = RangeOrInvalid::from_to(alloc, &lower, &upper);
         drop(lower);
@@ -220,10 +220,10 @@ impl RangeOrInvalid {
         if flavour == Flavour::Specifier {
             return Ok(None);
         }
-        if let Some(only) = few_alone(alloc, piece) {
+        if let Some(only) = short_alone(alloc, piece) {
             return Ok(Some(RangeOrInvalid::of_one(alloc, only)?));
         }
-        if let Some((first, second)) = few_pair(alloc, piece) {
+        if let Some((first, second)) = short_pair(alloc, piece) {
             let read = RangeOrInvalid::of_one(alloc, first)?;
             return Ok(Some(read.and(alloc, second)?));
         }
@@ -267,14 +267,14 @@ impl RangeOrInvalid {
         }
         match RangeOrInvalid::filled(alloc, piece, flavour)? {
             Some(read) => Ok(read),
-            None => Ok(RangeOrInvalid::Invalid(Refusal::UnexpectedCharacter)),
+            None => Ok(RangeOrInvalid::Invalid(Rejection::UnexpectedCharacter)),
         }
     }
 
     /// The range that a set keeps of the piece: `None` if it is invalid or ends below 0.0.0.
     #[inline(always)]
     pub fn into_range(self) -> Option<VersionRange>
-        ensures { result ≡ kept_of self }
+        ensures { result ≡ retained_of self }
     {
         match self {
             RangeOrInvalid::Range(range) if range.is_none() => None,
@@ -324,7 +324,7 @@ pub fn first_piece(text: &str) -> FirstPiece<'_>
 pub fn next_piece(rest: &str) -> Option<(&str, &str)>
     ensures { IsNextPiece rest.now (both_now result) }
 {
-    let start = after_blanks(rest);
+    let start = after_whitespace(rest);
     if start.is_empty() {
         return None;
     }
@@ -337,7 +337,7 @@ pub(super) struct Alternatives {
     /// The ranges kept of the valid pieces, in order.
     pub(super) ranges: CowVec<VersionRange>,
     /// Why the first invalid piece is invalid.
-    pub(super) refused: Option<Refusal>,
+    pub(super) rejected: Option<Rejection>,
     /// Whether there is only one piece.
     pub(super) is_only: bool,
 }
@@ -348,8 +348,8 @@ impl Alternatives {
     fn add(&mut self, alloc: Global, read: RangeOrInvalid) -> Result<(), AllocError>
         ensures { OnOk result (IsOneMore read self.old self.new) }
     {
-        if let RangeOrInvalid::Invalid(refusal) = &read {
-            self.refused = self.refused.or(Some(*refusal));
+        if let RangeOrInvalid::Invalid(rejection) = &read {
+            self.rejected = self.rejected.or(Some(*rejection));
         }
         if let Some(range) = read.into_range() {
             if self.ranges.is_empty() {
@@ -375,7 +375,7 @@ pub(super) fn read_pieces(
 {
     let mut all = Alternatives {
         ranges: CowVec::new(alloc),
-        refused: None,
+        rejected: None,
         is_only: true,
     };
     let read = RangeOrInvalid::parse(alloc, first.piece, first.is_followed, flavour)?;

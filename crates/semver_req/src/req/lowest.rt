@@ -6,11 +6,11 @@
 //! [`VersionReq::matches_with`] does. The time grows with the square of the number of ranges of all requirements.
 
 ghost use Rattle.std.specs.Prelude.{◌≡◌, ◌↔◌, IfOk, IfSome, IsTrue, None, map, true};
-ghost use Rattle.semver_base.specs.Containment.{AreEquivalent, IsWithin, TellsEquivalent, TellsWithin};
-ghost use Rattle.semver_base.specs.LeastVersion.{HasNoBuild, IsLeast};
+ghost use Rattle.semver_base.specs.Containment.{AreEquivalent, IsWithin, ReportsEquivalent, ReportsWithin};
+ghost use Rattle.semver_base.specs.LowestVersion.{HasNoBuild, IsLowestPassing};
 ghost use Rattle.semver_base.specs.VersionText.{ReadsBack};
 ghost use Rattle.semver_req.specs.AnyOrder.{AllInAnyOrder, BothInAnyOrder, InAnyOrder};
-ghost use Rattle.semver_req.specs.Readers.{AreReadOrTags, IsReadOrTag};
+ghost use Rattle.semver_req.specs.Parsers.{AreReadOrTags, IsReadOrTag};
 ghost use Rattle.semver_req.specs.Requirement.{Requirement, all_inners_mean_with, have_no_tag, inner_means_alone_with, inner_means_with, inners_mean_with, ranges_of, tag_of};
 
 use crate::range_set_or_tag::RangeSetOrTag;
@@ -68,12 +68,13 @@ impl VersionReq {
         pre_release: PreRelease,
     ) -> Result<Option<Version>, AllocError>
         requires { tag_of self.now.inner ≡ None }
-        ensures least { IfOk result (IsLeast (inner_means_with pre_release self.now.inner)) }
-        ensures no_build { IfOk result (λ least. IfSome least HasNoBuild) }
+        ensures lowest { IfOk result
+            (IsLowestPassing (inner_means_with pre_release self.now.inner)) }
+        ensures no_build { IfOk result (λ lowest. IfSome lowest HasNoBuild) }
         ensures reads_back { IfOk result
-            (λ least. IsReadOrTag self.now.inner → IfSome least ReadsBack) }
-        ensures any_order { IfOk result (λ least. IsReadOrTag self.now.inner
-            → InAnyOrder (inner_means_with pre_release) self.now.inner least) }
+            (λ lowest. IsReadOrTag self.now.inner → IfSome lowest ReadsBack) }
+        ensures any_order { IfOk result (λ lowest. IsReadOrTag self.now.inner
+            → InAnyOrder (inner_means_with pre_release) self.now.inner lowest) }
     {
         match &self.inner {
             RangeSetOrTag::RangeSet(set) => set.min_version(alloc, pre_release),
@@ -97,15 +98,15 @@ impl VersionReq {
     ) -> Result<Option<Version>, AllocError>
         requires own_ranges { tag_of self.now.inner ≡ None }
         requires other_ranges { tag_of other.now.inner ≡ None }
-        ensures least { let means = inners_mean_with pre_release in IfOk result
-            (IsLeast (means self.now.inner other.now.inner)) }
-        ensures no_build { IfOk result (λ least. IfSome least HasNoBuild) }
+        ensures lowest { let means = inners_mean_with pre_release in IfOk result
+            (IsLowestPassing (means self.now.inner other.now.inner)) }
+        ensures no_build { IfOk result (λ lowest. IfSome lowest HasNoBuild) }
         ensures reads_back { IfOk result
-            (λ least. IsReadOrTag self.now.inner → IsReadOrTag other.now.inner
-            → IfSome least ReadsBack) }
+            (λ lowest. IsReadOrTag self.now.inner → IsReadOrTag other.now.inner
+            → IfSome lowest ReadsBack) }
         ensures any_order { let means = inners_mean_with pre_release in IfOk result
-            (λ least. IsReadOrTag self.now.inner → IsReadOrTag other.now.inner
-            → BothInAnyOrder means self.now.inner other.now.inner least) }
+            (λ lowest. IsReadOrTag self.now.inner → IsReadOrTag other.now.inner
+            → BothInAnyOrder means self.now.inner other.now.inner lowest) }
     {
         match (&self.inner, &other.inner) {
             (RangeSetOrTag::RangeSet(set), RangeSetOrTag::RangeSet(others)) => {
@@ -130,15 +131,15 @@ impl VersionReq {
     ) -> Result<Option<Version>, AllocError>
         requires own_ranges { tag_of self.now.inner ≡ None }
         requires other_ranges { have_no_tag others.now ≡ true }
-        ensures least { let means = all_inners_mean_with pre_release in IfOk result
-            (IsLeast (means self.now.inner others.now)) }
-        ensures no_build { IfOk result (λ least. IfSome least HasNoBuild) }
+        ensures lowest { let means = all_inners_mean_with pre_release in IfOk result
+            (IsLowestPassing (means self.now.inner others.now)) }
+        ensures no_build { IfOk result (λ lowest. IfSome lowest HasNoBuild) }
         ensures reads_back { IfOk result
-            (λ least. IsReadOrTag self.now.inner → AreReadOrTags others.now
-            → IfSome least ReadsBack) }
+            (λ lowest. IsReadOrTag self.now.inner → AreReadOrTags others.now
+            → IfSome lowest ReadsBack) }
         ensures any_order { IfOk result
-            (λ least. IsReadOrTag self.now.inner → AreReadOrTags others.now
-            → AllInAnyOrder pre_release self.now.inner others.now least) }
+            (λ lowest. IsReadOrTag self.now.inner → AreReadOrTags others.now
+            → AllInAnyOrder pre_release self.now.inner others.now lowest) }
     {
         let own = self.ranges(alloc)?;
         let sets = all_ranges(alloc, others)?;
@@ -161,15 +162,15 @@ impl VersionReq {
     ) -> Result<Option<Version>, AllocError>
         requires own_ranges { tag_of self.now.inner ≡ None }
         requires other_ranges { tag_of other.now.inner ≡ None }
-        ensures least { let means = inner_means_alone_with pre_release in IfOk result
-            (IsLeast (means self.now.inner other.now.inner)) }
-        ensures no_build { IfOk result (λ least. IfSome least HasNoBuild) }
+        ensures lowest { let means = inner_means_alone_with pre_release in IfOk result
+            (IsLowestPassing (means self.now.inner other.now.inner)) }
+        ensures no_build { IfOk result (λ lowest. IfSome lowest HasNoBuild) }
         ensures reads_back { IfOk result
-            (λ least. IsReadOrTag self.now.inner → IsReadOrTag other.now.inner
-            → IfSome least ReadsBack) }
+            (λ lowest. IsReadOrTag self.now.inner → IsReadOrTag other.now.inner
+            → IfSome lowest ReadsBack) }
         ensures any_order { let means = inner_means_alone_with pre_release in IfOk result
-            (λ least. IsReadOrTag self.now.inner → IsReadOrTag other.now.inner
-            → BothInAnyOrder means self.now.inner other.now.inner least) }
+            (λ lowest. IsReadOrTag self.now.inner → IsReadOrTag other.now.inner
+            → BothInAnyOrder means self.now.inner other.now.inner lowest) }
     {
         match (&self.inner, &other.inner) {
             (RangeSetOrTag::RangeSet(set), RangeSetOrTag::RangeSet(others)) => {
@@ -196,10 +197,10 @@ impl VersionReq {
         requires own_ranges { tag_of self.now.inner ≡ None }
         requires other_ranges { tag_of other.now.inner ≡ None }
         ensures value { let means = inner_means_with pre_release in IfOk result
-            (TellsWithin (means self.now.inner) (means other.now.inner)) }
+            (ReportsWithin (means self.now.inner) (means other.now.inner)) }
         ensures exact { let means = inner_means_with pre_release in IfOk result
-            (λ told. IsReadOrTag self.now.inner → IsReadOrTag other.now.inner
-            → (IsTrue told ↔ IsWithin (means self.now.inner) (means other.now.inner))) }
+            (λ reported. IsReadOrTag self.now.inner → IsReadOrTag other.now.inner
+            → (IsTrue reported ↔ IsWithin (means self.now.inner) (means other.now.inner))) }
     {
         let outside = self.version_outside(alloc, other, pre_release)?;
         Ok(outside.is_none())
@@ -222,10 +223,10 @@ impl VersionReq {
         requires own_ranges { tag_of self.now.inner ≡ None }
         requires other_ranges { tag_of other.now.inner ≡ None }
         ensures value { let means = inner_means_with pre_release in IfOk result
-            (TellsEquivalent (means self.now.inner) (means other.now.inner)) }
+            (ReportsEquivalent (means self.now.inner) (means other.now.inner)) }
         ensures exact { let means = inner_means_with pre_release in IfOk result
-            (λ told. IsReadOrTag self.now.inner → IsReadOrTag other.now.inner
-            → (IsTrue told ↔ AreEquivalent (means self.now.inner) (means other.now.inner))) }
+            (λ reported. IsReadOrTag self.now.inner → IsReadOrTag other.now.inner
+            → (IsTrue reported ↔ AreEquivalent (means self.now.inner) (means other.now.inner))) }
     {
         if !self.is_subset(alloc, other, pre_release)? {
             return Ok(false);

@@ -7,4 +7,4 @@ pub returns-clause-npm : goal.returns-clause-npm
 returns-clause-npm c h =
     let reqs = c.args.reqs.now in
     let s = c.in_ok-entry.ensures.read_again h in
-    locks_more (λ read. IsSortedFrom s.again read.items) (λ read. IsLockedList reqs read.items) (λ read sorted. locked_of reqs s.again read.items s.are_kept sorted) c.reqs_from_json.result (c.reqs_from_json.ensures.answer s.again s.stands_for)
+    locks_more (λ read. IsSortedFrom s.again read.items) (λ read. IsLockedList reqs read.items) (λ read sorted. locked_of reqs s.again read.items s.are_stored sorted) c.reqs_from_json.result (c.reqs_from_json.ensures.answer s.again s.parses_to)

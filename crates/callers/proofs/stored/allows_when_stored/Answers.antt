@@ -1,5 +1,5 @@
 use Rattle.std.proofs.Common.{Ok, subst, sym}
-use Rattle.callers.proofs.ReadAgain.{told_of_ranges}
+use Rattle.callers.proofs.ReadAgain.{reported_of_ranges}
 use Rattle.callers.specs.Stored.{AllowsAsBefore, OfRanges}
 use Rattle.semver_req.specs.declared.npm.read.NpmVersionReqParseError.{NpmVersionReqParseError}
 use Rattle.callers.proofs.stored.allows_when_stored.Goals as goal
@@ -7,4 +7,4 @@ use Rattle.callers.proofs.stored.allows_when_stored.Goals as goal
 pub returns-clause-ranges : goal.returns-clause-ranges
 returns-clause-ranges c =
     subst (λ allowance. OfRanges (AllowsAsBefore (λ (e : NpmVersionReqParseError). e.source) c.args.version.now (Ok allowance)) c.args.requirement.now.inner) (sym c.allowance_by.ensures)
-    (told_of_ranges c.args.requirement.now.inner c.in_ok-again.again.inner c.args.version.now c.in_ok-again.ensures.ranges)
+    (reported_of_ranges c.args.requirement.now.inner c.in_ok-again.again.inner c.args.version.now c.in_ok-again.ensures.ranges)

@@ -6,7 +6,7 @@ use Rattle.callers.proofs.stored.read_again_by_npm.Goals as goal
 pub returns-clause-ranges : goal.returns-clause-ranges
 returns-clause-ranges c =
     let s = c.in_ok-stored.ensures in
-    of_text (λ e. e.source) Npm npm c.args.requirement.now.inner _ s.text s.forms s.kept_means s.equal s.settled c.parse_from_npm.result (rw c.as_str.ensures.value at c.parse_from_npm.ensures.reads)
+    of_text (λ e. e.source) Npm npm c.args.requirement.now.inner _ s.text s.forms s.retained_means s.equal s.stable c.parse_from_npm.result (rw c.as_str.ensures.value at c.parse_from_npm.ensures.reads)
 
 pub returns-clause-tag : goal.returns-clause-tag
 returns-clause-tag c = of_tag (λ e. e.source) Npm npm c.args.requirement.now.inner _ c.in_ok-stored.ensures.text c.parse_from_npm.result (rw c.as_str.ensures.value at c.parse_from_npm.ensures.reads)

@@ -5,4 +5,4 @@ pub returns : goal.returns
 returns c text h =
     let r = c.in_ok-requirement in
     let again = c.in_ok-read_again_by_npm in
-    pinned_again c.args.version r.requirement again.field-0.inner r.ensures.value (r.ensures.read_set text h) (r.ensures.settled text h) again.ensures.ranges
+    pinned_again c.args.version r.requirement again.field-0.inner r.ensures.value (r.ensures.read_set text h) (r.ensures.stable text h) again.ensures.ranges

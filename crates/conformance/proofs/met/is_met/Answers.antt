@@ -5,11 +5,11 @@ use Rattle.conformance.proofs.met.is_met.Goals as goal
 pub returns-then-eq : goal.returns-then-eq
 returns-then-eq c = (λ e. inl ((items_equal c.args.expected.now c.args.answer.now).0 (sym c.eq.ensures ∙ e)), λ _. c.if-eq.true)
 
-pub returns-else-is_refused_alone : goal.returns-else-is_refused_alone
-returns-else-is_refused_alone c = (
-  λ e. absurd (cc (sym e ∙ c.if-is_refused_alone.false)),
+pub returns-else-is_rejected_alone : goal.returns-else-is_rejected_alone
+returns-else-is_rejected_alone c = (
+  λ e. absurd (cc (sym e ∙ c.if-is_rejected_alone.false)),
   λ met. elim met [
     | inl same ↦ absurd (cc (sym ((items_equal c.args.expected.now c.args.answer.now).1 same) ∙ (sym c.eq.ensures ∙ c.if-eq.false)))
-    | inr refused ↦ c.is_refused_alone.ensures.1 refused.0
+    | inr rejected ↦ c.is_rejected_alone.ensures.1 rejected.0
   ],
 )

@@ -1,7 +1,7 @@
 use Rattle.std.proofs.Common.{◌≡◌, List, ℕ, ap, refl}
-use Rattle.semver_base.specs.PrecedenceLaws.{version_eq, version_told}
+use Rattle.semver_base.specs.PrecedenceLaws.{version_eq, version_reported}
 use Rattle.semver_base.specs.declared.version.Version.{Version}
-use Rattle.semver_base.proofs.Equality.{both_told, text_eq, text_told, told_as, told_by}
+use Rattle.semver_base.proofs.Equality.{both_reported, text_eq, text_reported, reported_as, reported_by}
 use Rattle.deno_semver.specs.declared.package.values.PackageNv.{PackageNv}
 use Rattle.deno_semver.proofs.laws.same_names_and_versions.Goals as goal
 
@@ -15,5 +15,5 @@ pub returns : goal.returns
 returns c =
     let x = c.args.one.now in
     let y = c.args.other.now in
-    told_by _ _ c.eq.ensures (told_as _ (λ h. same h.0 h.1) (λ e. (ap (λ (nv : PackageNv). nv.name) e, ap (λ (nv : PackageNv). nv.version) e))
-    (both_told (text_eq x.name y.name) (version_eq x.version y.version) (text_told x.name y.name) (version_told x.version y.version)))
+    reported_by _ _ c.eq.ensures (reported_as _ (λ h. same h.0 h.1) (λ e. (ap (λ (nv : PackageNv). nv.name) e, ap (λ (nv : PackageNv). nv.version) e))
+    (both_reported (text_eq x.name y.name) (version_eq x.version y.version) (text_reported x.name y.name) (version_reported x.version y.version)))

@@ -1,5 +1,5 @@
 use Rattle.std.proofs.Common.{ℕ, List, Ok}
-use Rattle.semver_base.specs.LeastVersion.{IsReadable}
+use Rattle.semver_base.specs.LowestVersion.{IsReadable}
 use Rattle.semver_base.specs.VersionGrammar.{IsVersionOutcome, is_version}
 use Rattle.semver_base.specs.declared.version.Version.{Version}
 use Rattle.semver_base.proofs.ReadVersions.{read_writable}

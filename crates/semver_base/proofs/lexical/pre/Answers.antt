@@ -1,6 +1,6 @@
 use Rattle.std.proofs.lemmas.Result.{IfOk-weaker}
 use Rattle.semver_base.specs.Grammar.{answer_of}
-use Rattle.semver_base.proofs.Qualifiers.{pre_prefixed, pre_plain}
+use Rattle.semver_base.proofs.Qualifiers.{pre_prefixed, pre_bare}
 use Rattle.semver_base.proofs.lexical.pre.Goals as goal
 
 pub returns-in-Some : goal.returns-in-Some
@@ -9,4 +9,4 @@ returns-in-Some c = IfOk-weaker c.identifiers.result _ _ (λ r h. pre_prefixed c
 pub returns-in-Loose : goal.returns-in-Loose
 returns-in-Loose c =
     let none = rw c.in_default.is at c.after.ensures in
-    IfOk-weaker c.identifiers-in-Loose.result _ _ (λ r h. pre_plain c.args.strictness c.args.text.now (answer_of r) none (λ e. cc (c.in-Loose.is, e)) h) c.identifiers-in-Loose.ensures
+    IfOk-weaker c.identifiers-in-Loose.result _ _ (λ r h. pre_bare c.args.strictness c.args.text.now (answer_of r) none (λ e. cc (c.in-Loose.is, e)) h) c.identifiers-in-Loose.ensures

@@ -1,7 +1,7 @@
 use Rattle.std.proofs.Common.{◌≡◌, [], arith, refl}
 use Rattle.std.proofs.lemmas.Bool.Decides.{nat_tests}
 use Rattle.std.proofs.lemmas.List.{nil_from_length}
-use Rattle.semver_base.proofs.PlainTexts.{qualified_version}
+use Rattle.semver_base.proofs.ShortTexts.{qualified_version}
 use Rattle.semver_base.proofs.version.read_on.Goals as goal
 
 pub returns-then-is_empty-clause-read : goal.returns-then-is_empty-clause-read
@@ -17,5 +17,5 @@ returns-then-is_empty-clause-read c =
 pub returns-clause-read : goal.returns-clause-read
 returns-clause-read c = rw c.trim.ensures.trim at c.read.ensures.read
 
-pub returns-clause-refused : goal.returns-clause-refused
-returns-clause-refused c = rw c.trim.ensures.trim at c.read.ensures.refused
+pub returns-clause-rejected : goal.returns-clause-rejected
+returns-clause-rejected c = rw c.trim.ensures.trim at c.read.ensures.rejected

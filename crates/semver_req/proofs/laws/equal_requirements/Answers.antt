@@ -1,6 +1,6 @@
-use Rattle.semver_base.proofs.Equality.{told_by}
-use Rattle.semver_req.proofs.Equality.{inner_told}
+use Rattle.semver_base.proofs.Equality.{reported_by}
+use Rattle.semver_req.proofs.Equality.{inner_reported}
 use Rattle.semver_req.proofs.laws.equal_requirements.Goals as goal
 
 pub returns : goal.returns
-returns c = told_by _ _ c.eq.ensures (inner_told c.args.one.now.inner c.args.other.now.inner)
+returns c = reported_by _ _ c.eq.ensures (inner_reported c.args.one.now.inner c.args.other.now.inner)

@@ -1,5 +1,5 @@
-use Rattle.semver_req.specs.Readers.{Failure}
-use Rattle.semver_req.proofs.ReaderAnswers.{answers_read}
+use Rattle.semver_req.specs.Parsers.{Failure}
+use Rattle.semver_req.proofs.ParserAnswers.{answers_read}
 use Rattle.semver_req.proofs.laws.read_requirements_are_answers.Goals as goal
 
 pub returns : goal.returns

@@ -1,28 +1,28 @@
 use Rattle.std.proofs.Common.{◌≡◌, None, ap, inl, refl}
 use Rattle.std.specs.Prelude.{◌⊎◌}
-use Rattle.semver_base.specs.Lexical.{IsBlanks}
-use Rattle.semver_req.specs.SpecifierRefusals.{IsSpecifierRefusal, empty_constraint, memory_wanting}
+use Rattle.semver_base.specs.Lexical.{IsWhitespace}
+use Rattle.semver_req.specs.SpecifierRejections.{IsSpecifierRejection, empty_constraint, is_out_of_memory}
 use Rattle.semver_req.specs.declared.common.values.Flavour.TheVariants.{Specifier}
 use Rattle.semver_req.specs.declared.range_set_or_tag.RangeSetOrTag.TheVariants as inner
-use Rattle.semver_req.proofs.PlainComparators.{specifier_reading}
-use Rattle.semver_req.proofs.ReaderAnswers.{answers_err, answers_read, err_tells}
-use Rattle.semver_req.proofs.SpecifierRanges.{blank_refusal, refusal_blank, refusal_outcome}
+use Rattle.semver_req.proofs.ShortComparators.{specifier_reading}
+use Rattle.semver_req.proofs.ParserAnswers.{answers_err, answers_read, err_reports}
+use Rattle.semver_req.proofs.SpecifierRanges.{whitespace_rejection, rejection_whitespace, rejection_outcome}
 use Rattle.semver_req.proofs.specifier.parse_version_req_from_specifier.Goals as goal
 
 pub returns-in_err-inner-clause-reads : goal.returns-in_err-inner-clause-reads
 returns-in_err-inner-clause-reads c =
-    answers_err Specifier c.args.text.now (λ e. e.source) c.from_residual-in_err-inner.result c.in_err-inner.field-0.0 c.from_residual-in_err-inner.ensures.1 (refusal_outcome c.in_err-inner.ensures.refusal)
+    answers_err Specifier c.args.text.now (λ e. e.source) c.from_residual-in_err-inner.result c.in_err-inner.field-0.0 c.from_residual-in_err-inner.ensures.1 (rejection_outcome c.in_err-inner.ensures.rejection)
 
 pub returns-in_err-inner-clause-empty : goal.returns-in_err-inner-clause-empty
 returns-in_err-inner-clause-empty c =
-    λ b. err_tells (λ e. e.source) c.from_residual-in_err-inner.result c.in_err-inner.field-0.0 (λ f. (f ≡ None) ⊎ (f ≡ empty_constraint)) c.from_residual-in_err-inner.ensures.1 (blank_refusal b c.in_err-inner.ensures.refusal)
+    λ b. err_reports (λ e. e.source) c.from_residual-in_err-inner.result c.in_err-inner.field-0.0 (λ f. (f ≡ None) ⊎ (f ≡ empty_constraint)) c.from_residual-in_err-inner.ensures.1 (whitespace_rejection b c.in_err-inner.ensures.rejection)
 
 pub returns-in_err-inner-clause-empty_only : goal.returns-in_err-inner-clause-empty_only
 returns-in_err-inner-clause-empty_only c =
-    err_tells (λ e. e.source) c.from_residual-in_err-inner.result c.in_err-inner.field-0.0 (λ f. f ≡ empty_constraint → IsBlanks c.args.text.now tt) c.from_residual-in_err-inner.ensures.1 (refusal_blank c.in_err-inner.ensures.refusal)
+    err_reports (λ e. e.source) c.from_residual-in_err-inner.result c.in_err-inner.field-0.0 (λ f. f ≡ empty_constraint → IsWhitespace c.args.text.now tt) c.from_residual-in_err-inner.ensures.1 (rejection_whitespace c.in_err-inner.ensures.rejection)
 
-pub returns-in_err-raw_text-clause-refusal : goal.returns-in_err-raw_text-clause-refusal
-returns-in_err-raw_text-clause-refusal c = err_tells (λ e. e.source) c.from_residual.result None (IsSpecifierRefusal c.args.text.now) c.from_residual.ensures.1 memory_wanting
+pub returns-in_err-raw_text-clause-rejection : goal.returns-in_err-raw_text-clause-rejection
+returns-in_err-raw_text-clause-rejection c = err_reports (λ e. e.source) c.from_residual.result None (IsSpecifierRejection c.args.text.now) c.from_residual.ensures.1 is_out_of_memory
 
 pub returns-in_err-raw_text-clause-reads : goal.returns-in_err-raw_text-clause-reads
 returns-in_err-raw_text-clause-reads c =
@@ -31,9 +31,9 @@ returns-in_err-raw_text-clause-reads c =
 pub returns-clause-reads : goal.returns-clause-reads
 returns-clause-reads c = rw c.from_raw_text_and_inner-2.ensures (answers_read Specifier c.args.text.now (λ e. e.source) (record { raw_text = c.in_ok-raw_text.raw_text; inner = c.in_ok-inner.inner }) c.utf8.text c.in_ok-inner.ensures.reading c.in_ok-raw_text.ensures.value)
 
-pub returns-in_err-only-clause-refusal : goal.returns-in_err-only-clause-refusal
-returns-in_err-only-clause-refusal c =
-    err_tells (λ e. e.source) c.from_residual-in_err-only.result None (IsSpecifierRefusal c.args.text.now) c.from_residual-in_err-only.ensures.1 memory_wanting
+pub returns-in_err-only-clause-rejection : goal.returns-in_err-only-clause-rejection
+returns-in_err-only-clause-rejection c =
+    err_reports (λ e. e.source) c.from_residual-in_err-only.result None (IsSpecifierRejection c.args.text.now) c.from_residual-in_err-only.ensures.1 is_out_of_memory
 
 pub returns-in-Some-clause-reads : goal.returns-in-Some-clause-reads
 returns-in-Some-clause-reads c =

@@ -1,7 +1,7 @@
 use Rattle.std.proofs.Common.{sym, subst}
 use Rattle.std.proofs.lemmas.Result.{IfOk-weaker}
-use Rattle.deno_semver.specs.StoredList.{IsStoredList, StandsForEqualList}
-use Rattle.deno_semver.proofs.StoredLists.{npm_reqs, settled_list}
+use Rattle.deno_semver.specs.StoredList.{IsStoredList, ParsesToEqualList}
+use Rattle.deno_semver.proofs.StoredLists.{npm_reqs, stable_list}
 use Rattle.deno_semver.proofs.json.list.reqs_to_json.Goals as goal
 
 pub returns-clause-read_again : goal.returns-clause-read_again
@@ -9,7 +9,7 @@ returns-clause-read_again c =
     let reqs = c.args.reqs.now in
     IfOk-weaker c.stored.result _ _ (λ json is h. subst (IsStoredList reqs) (sym is) (npm_reqs c.stored_requirements_are_read_again.ensures reqs h)) c.stored.ensures
 
-pub returns-clause-settled : goal.returns-clause-settled
-returns-clause-settled c =
+pub returns-clause-stable : goal.returns-clause-stable
+returns-clause-stable c =
     let reqs = c.args.reqs.now in
-    IfOk-weaker c.stored.result _ _ (λ json is h. subst (λ d. StandsForEqualList d reqs) (sym is) (settled_list reqs h)) c.stored.ensures
+    IfOk-weaker c.stored.result _ _ (λ json is h. subst (λ d. ParsesToEqualList d reqs) (sym is) (stable_list reqs h)) c.stored.ensures

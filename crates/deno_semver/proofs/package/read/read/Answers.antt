@@ -9,7 +9,7 @@ returns-in-Err c = front_error c.args.flavour c.args.text.now (uncut_error c.arg
 
 pub returns-in-Err-req_of : goal.returns-in-Err-req_of
 returns-in-Err-req_of c =
-    front_error c.args.flavour c.args.text.now (version_error c.args.flavour c.args.text.now _ c.in-Ok.ensures.cut.parts c.in-Err-req_of.ensures.refused)
+    front_error c.args.flavour c.args.text.now (version_error c.args.flavour c.args.text.now _ c.in-Ok.ensures.cut.parts c.in-Err-req_of.ensures.rejected)
 
 some_left : (xs : List ℕ) (b : Bool) → b ≡ (length xs == 0) → b ≡ false → 0 < length xs
 some_left xs b e f = grind (arith, nat_tests)

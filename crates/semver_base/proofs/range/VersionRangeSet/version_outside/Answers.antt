@@ -1,24 +1,24 @@
 use Rattle.std.proofs.Common.{[]}
 use Rattle.std.specs.Prelude.{IfSome}
 use Rattle.semver_base.specs.Candidates.{lowest_of}
-use Rattle.semver_base.specs.LeastVersion.{HasNoBuild, IsLeast, set_means_alone_with}
+use Rattle.semver_base.specs.LowestVersion.{HasNoBuild, IsLowestPassing, set_means_alone_with}
 use Rattle.semver_base.specs.NormalText.{AreWritableRanges}
 use Rattle.semver_base.specs.VersionText.{ReadsBack}
-use Rattle.semver_base.proofs.LeastWritten.{lowest_no_build, lowest_reads_back}
-use Rattle.semver_base.proofs.LowestAsked.{answered, outside_least}
+use Rattle.semver_base.proofs.LowestWritten.{lowest_no_build, lowest_reads_back}
+use Rattle.semver_base.proofs.LowestAsked.{answered, outside_lowest}
 use Rattle.semver_base.proofs.range.VersionRangeSet.version_outside.Goals as goal
 
-pub returns-clause-least : goal.returns-clause-least
-returns-clause-least c =
-    answered (IsLeast (set_means_alone_with c.args.pre_release c.args.self.now.0 c.args.other.now.0)) (lowest_of c.args.pre_release c.args.self.now.0 [] c.args.other.now.0) c.lowest.result
-    (outside_least c.args.pre_release c.args.self.now.0 c.args.other.now.0) (rw (c.as_slice.ensures, c.as_slice-2.ensures) at c.lowest.ensures)
+pub returns-clause-lowest : goal.returns-clause-lowest
+returns-clause-lowest c =
+    answered (IsLowestPassing (set_means_alone_with c.args.pre_release c.args.self.now.0 c.args.other.now.0)) (lowest_of c.args.pre_release c.args.self.now.0 [] c.args.other.now.0) c.lowest.result
+    (outside_lowest c.args.pre_release c.args.self.now.0 c.args.other.now.0) (rw (c.as_slice.ensures, c.as_slice-2.ensures) at c.lowest.ensures)
 
 pub returns-clause-no_build : goal.returns-clause-no_build
 returns-clause-no_build c =
-    answered (λ least. IfSome least HasNoBuild) (lowest_of c.args.pre_release c.args.self.now.0 [] c.args.other.now.0) c.lowest.result
+    answered (λ lowest. IfSome lowest HasNoBuild) (lowest_of c.args.pre_release c.args.self.now.0 [] c.args.other.now.0) c.lowest.result
     (lowest_no_build c.args.pre_release c.args.self.now.0 [] c.args.other.now.0) (rw (c.as_slice.ensures, c.as_slice-2.ensures) at c.lowest.ensures)
 
 pub returns-clause-reads_back : goal.returns-clause-reads_back
 returns-clause-reads_back c =
-    answered (λ least. AreWritableRanges c.args.self.now.0 → AreWritableRanges c.args.other.now.0 → IfSome least ReadsBack) (lowest_of c.args.pre_release c.args.self.now.0 [] c.args.other.now.0) c.lowest.result
+    answered (λ lowest. AreWritableRanges c.args.self.now.0 → AreWritableRanges c.args.other.now.0 → IfSome lowest ReadsBack) (lowest_of c.args.pre_release c.args.self.now.0 [] c.args.other.now.0) c.lowest.result
     (λ own other. lowest_reads_back c.args.pre_release c.args.self.now.0 [] c.args.other.now.0 own tt other) (rw (c.as_slice.ensures, c.as_slice-2.ensures) at c.lowest.ensures)

@@ -3,12 +3,12 @@ use Rattle.std.specs.Prelude.{IfErr, IfOk}
 use Rattle.std.specs.Str.{trim}
 use Rattle.std.proofs.lemmas.Bool.Decides.{nat_tests}
 use Rattle.std.proofs.lemmas.List.{nil_from_length}
-use Rattle.semver_base.proofs.PlainTexts.{plain_version}
+use Rattle.semver_base.proofs.ShortTexts.{short_version}
 use Rattle.semver_base.specs.declared.version.VersionParseError.{VersionParseError}
 use Rattle.semver_base.proofs.ReadVersions.{read_back}
-use Rattle.semver_base.proofs.VersionReading.{read_answer, read_outcome, refused_answer}
-use Rattle.semver_base.specs.VersionGrammar.{IsVersionRefusal}
-use Rattle.semver_base.specs.VersionReaderSteps.{IsReadVersion}
+use Rattle.semver_base.proofs.VersionReading.{read_answer, read_outcome, rejected_answer}
+use Rattle.semver_base.specs.VersionGrammar.{IsVersionRejection}
+use Rattle.semver_base.specs.VersionParserSteps.{IsReadVersion}
 use Rattle.semver_base.proofs.version.Version.parse_standard.Goals as goal
 use Rattle.semver_base.proofs.version.Version.parse_standard.Goals.{in-Some-2, in-None}
 
@@ -33,33 +33,33 @@ returns-in-Ok-clause-answer c =
     let version : IsReadVersion (trim c.args.text.now) c.in-Ok.version = rw c.in-Ok.is at read in
     read_answer (λ (error : VersionParseError). error.source) (trim c.args.text.now) c.in-Ok.version version
 
-pub returns-in-Err-clause-refused : goal.returns-in-Err-clause-refused
-returns-in-Err-clause-refused c =
-    let refused : IfErr c.match-split_numbers.read (IsVersionRefusal (trim c.args.text.now)) = elim c.match-split_numbers.branch
-    [ in-Some-2 w ↦ rw w.read-is w.read_on-read.ensures.refused | in-None w ↦ rw w.read-is (rw w.trim.ensures.trim at w.read-read.ensures.refused) ] in
-    rw c.in-Err.is at refused
+pub returns-in-Err-clause-rejected : goal.returns-in-Err-clause-rejected
+returns-in-Err-clause-rejected c =
+    let rejected : IfErr c.match-split_numbers.read (IsVersionRejection (trim c.args.text.now)) = elim c.match-split_numbers.branch
+    [ in-Some-2 w ↦ rw w.read-is w.read_on-read.ensures.rejected | in-None w ↦ rw w.read-is (rw w.trim.ensures.trim at w.read-read.ensures.rejected) ] in
+    rw c.in-Err.is at rejected
 
 pub returns-in-Err-clause-answer : goal.returns-in-Err-clause-answer
 returns-in-Err-clause-answer c =
-    let refused : IfErr c.match-split_numbers.read (IsVersionRefusal (trim c.args.text.now)) = elim c.match-split_numbers.branch
-    [ in-Some-2 w ↦ rw w.read-is w.read_on-read.ensures.refused | in-None w ↦ rw w.read-is (rw w.trim.ensures.trim at w.read-read.ensures.refused) ] in
-    refused_answer (λ (error : VersionParseError). error.source) (trim c.args.text.now) (record { source = c.in-Err.source }) (rw c.in-Err.is at refused)
+    let rejected : IfErr c.match-split_numbers.read (IsVersionRejection (trim c.args.text.now)) = elim c.match-split_numbers.branch
+    [ in-Some-2 w ↦ rw w.read-is w.read_on-read.ensures.rejected | in-None w ↦ rw w.read-is (rw w.trim.ensures.trim at w.read-read.ensures.rejected) ] in
+    rejected_answer (λ (error : VersionParseError). error.source) (trim c.args.text.now) (record { source = c.in-Err.source }) (rw c.in-Err.is at rejected)
 
 -- three numbers alone
 pub returns-in-Some-clause-read : goal.returns-in-Some-clause-read
 returns-in-Some-clause-read c =
     let nil : c.in-Some.rest.now ≡ [] = nil_from_length c.in-Some.rest.now (grind (arith, nat_tests)) in
-    let plain = plain_version {numbers = c.in-Some.numbers} (rw nil at c.in-Some.ensures) in
+    let plain = short_version {numbers = c.in-Some.numbers} (rw nil at c.in-Some.ensures) in
     rw (plain.trimmed, c.release.ensures) (read_outcome plain.version)
 
 pub returns-in-Some-clause-reads_back : goal.returns-in-Some-clause-reads_back
 returns-in-Some-clause-reads_back c =
     let nil : c.in-Some.rest.now ≡ [] = nil_from_length c.in-Some.rest.now (grind (arith, nat_tests)) in
-    let plain = plain_version {numbers = c.in-Some.numbers} (rw nil at c.in-Some.ensures) in
+    let plain = short_version {numbers = c.in-Some.numbers} (rw nil at c.in-Some.ensures) in
     read_back c.args.text.now c.release.result (rw c.release.ensures (read_outcome plain.version))
 
 pub returns-in-Some-clause-answer : goal.returns-in-Some-clause-answer
 returns-in-Some-clause-answer c =
     let nil : c.in-Some.rest.now ≡ [] = nil_from_length c.in-Some.rest.now (grind (arith, nat_tests)) in
-    let plain = plain_version {numbers = c.in-Some.numbers} (rw nil at c.in-Some.ensures) in
+    let plain = short_version {numbers = c.in-Some.numbers} (rw nil at c.in-Some.ensures) in
     rw plain.trimmed (read_answer (λ (error : VersionParseError). error.source) c.args.text.now c.release.result (rw c.release.ensures plain.version))

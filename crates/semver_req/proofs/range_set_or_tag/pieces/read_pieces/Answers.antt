@@ -9,7 +9,7 @@ loop-piece-init c =
       is_text = search rules;
       others = [];
       joins = λ pieces m. m;
-      read = read_first c.requires c.args.first.is_followed c.add.new.self c.args.first.piece.now c.in_ok-read.read c.in_ok-read.ensures.value (rw c.new.ensures at more.ranges) more.refused more.is_only;
+      read = read_first c.requires c.args.first.is_followed c.add.new.self c.args.first.piece.now c.in_ok-read.read c.in_ok-read.ensures.value (rw c.new.ensures at more.ranges) more.rejected more.is_only;
     }
 
 pub loop-piece-preserved : goal.loop-piece-preserved
@@ -21,5 +21,5 @@ loop-piece-preserved c =
       is_text = search rules;
       others = so_far.others ++ c.in-Some.piece.now ∷ [];
       joins = λ pieces m. rw append_assoc (so_far.joins (c.in-Some.piece.now ∷ pieces) (next.0 pieces m));
-      read = read_more c.requires c.args.first.is_followed c.args.first.piece.now so_far.others c.loop-piece.all c.add-in-Some.new.self c.in-Some.piece.now c.in_ok-parse.field-0 so_far.read c.in_ok-parse.ensures.value more.ranges more.refused more.is_only;
+      read = read_more c.requires c.args.first.is_followed c.args.first.piece.now so_far.others c.loop-piece.all c.add-in-Some.new.self c.in-Some.piece.now c.in_ok-parse.field-0 so_far.read c.in_ok-parse.ensures.value more.ranges more.rejected more.is_only;
     }

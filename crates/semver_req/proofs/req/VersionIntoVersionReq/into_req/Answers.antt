@@ -1,5 +1,5 @@
 use Rattle.std.proofs.lemmas.Result.{IfOk-weaker}
-use Rattle.semver_req.proofs.Pinned.{pinned_means, pinned_read, pinned_settled}
+use Rattle.semver_req.proofs.Pinned.{pinned_means, pinned_read, pinned_stable}
 use Rattle.semver_req.proofs.req.VersionIntoVersionReq.into_req.Goals as goal
 
 pub returns-clause-matches : goal.returns-clause-matches
@@ -8,5 +8,5 @@ returns-clause-matches c = IfOk-weaker c.pinned.result _ _ (λ req is. rw is (pi
 pub returns-clause-read_set : goal.returns-clause-read_set
 returns-clause-read_set c = IfOk-weaker c.pinned.result _ _ (λ req is. rw is (pinned_read c.args.self)) c.pinned.ensures
 
-pub returns-clause-settled : goal.returns-clause-settled
-returns-clause-settled c = IfOk-weaker c.pinned.result _ _ (λ req is. rw is (pinned_settled c.args.self)) c.pinned.ensures
+pub returns-clause-stable : goal.returns-clause-stable
+returns-clause-stable c = IfOk-weaker c.pinned.result _ _ (λ req is. rw is (pinned_stable c.args.self)) c.pinned.ensures

@@ -1,7 +1,7 @@
 use Rattle.std.proofs.Common.{◌≡◌, ◌&&◌}
 use Rattle.semver_req.specs.declared.range_set_or_tag.RangeSetOrTag.TheVariants as inner
 use Rattle.semver_req.proofs.AnyOrder.{both_in_any_order}
-use Rattle.semver_req.proofs.LeastRead.{common_back}
+use Rattle.semver_req.proofs.LowestRead.{common_back}
 use Rattle.semver_req.proofs.req.VersionReq.common_version.Goals as goal
 
 pub returns-in-RangeSet-RangeSet-clause-reads_back : goal.returns-in-RangeSet-RangeSet-clause-reads_back
@@ -17,4 +17,4 @@ returns-in-RangeSet-RangeSet-clause-any_order c =
     let is : c.args.self.now.inner ≡ inner.RangeSet arm.set = cc in
     let are : c.args.other.now.inner ≡ inner.RangeSet arm.others = cc in
     let found = c.common_version.ensures in
-    both_in_any_order c.args.pre_release (λ a b. a && b) c.args.self.now.inner c.args.other.now.inner arm.set arm.others c.common_version.result is are found.least found.no_build found.reads_back
+    both_in_any_order c.args.pre_release (λ a b. a && b) c.args.self.now.inner c.args.other.now.inner arm.set arm.others c.common_version.result is are found.lowest found.no_build found.reads_back

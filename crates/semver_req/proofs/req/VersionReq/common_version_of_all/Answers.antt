@@ -1,12 +1,12 @@
 use Rattle.std.proofs.Common.{◌∙◌}
 use Rattle.semver_req.proofs.AnyOrder.{all_in_any_order}
-use Rattle.semver_req.proofs.LeastRead.{all_back, all_least}
+use Rattle.semver_req.proofs.LowestRead.{all_back, all_lowest}
 use Rattle.semver_req.proofs.req.VersionReq.common_version_of_all.Goals as goal
 
-pub returns-clause-least : goal.returns-clause-least
-returns-clause-least c =
-    all_least c.args.pre_release c.args.self.now.inner c.args.others.now c.in_ok-own.own c.as_slice.result.now c.common_version_of_all.result c.in_ok-own.ensures (c.as_slice.ensures.value ∙ c.in_ok-sets.ensures)
-    c.common_version_of_all.ensures.least
+pub returns-clause-lowest : goal.returns-clause-lowest
+returns-clause-lowest c =
+    all_lowest c.args.pre_release c.args.self.now.inner c.args.others.now c.in_ok-own.own c.as_slice.result.now c.common_version_of_all.result c.in_ok-own.ensures (c.as_slice.ensures.value ∙ c.in_ok-sets.ensures)
+    c.common_version_of_all.ensures.lowest
 
 pub returns-clause-reads_back : goal.returns-clause-reads_back
 returns-clause-reads_back c =
@@ -15,4 +15,4 @@ returns-clause-reads_back c =
 
 pub returns-clause-any_order : goal.returns-clause-any_order
 returns-clause-any_order c =
-    all_in_any_order c.args.pre_release c.args.self.now.inner c.args.others.now c.common_version_of_all.result (returns-clause-least c) c.common_version_of_all.ensures.no_build (returns-clause-reads_back c)
+    all_in_any_order c.args.pre_release c.args.self.now.inner c.args.others.now c.common_version_of_all.result (returns-clause-lowest c) c.common_version_of_all.ensures.no_build (returns-clause-reads_back c)

@@ -1,7 +1,7 @@
 use Rattle.std.proofs.Common.{◌≡◌}
 use Rattle.semver_req.specs.declared.range_set_or_tag.RangeSetOrTag.TheVariants as inner
 use Rattle.semver_req.proofs.AnyOrder.{own_in_any_order}
-use Rattle.semver_req.proofs.LeastRead.{own_back}
+use Rattle.semver_req.proofs.LowestRead.{own_back}
 use Rattle.semver_req.proofs.req.VersionReq.min_version.Goals as goal
 
 pub returns-in-RangeSet-clause-reads_back : goal.returns-in-RangeSet-clause-reads_back
@@ -15,4 +15,4 @@ returns-in-RangeSet-clause-any_order c =
     let arm = c.in-RangeSet in
     let is : c.args.self.now.inner ≡ inner.RangeSet arm.set = cc in
     let found = c.min_version.ensures in
-    own_in_any_order c.args.pre_release c.args.self.now.inner arm.set c.min_version.result is found.least found.no_build found.reads_back
+    own_in_any_order c.args.pre_release c.args.self.now.inner arm.set c.min_version.result is found.lowest found.no_build found.reads_back

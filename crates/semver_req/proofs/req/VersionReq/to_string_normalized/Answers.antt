@@ -1,7 +1,7 @@
 use Rattle.std.proofs.lemmas.Result.{IfOk-weaker}
 use Rattle.std.specs.Prelude.{string_bytes}
-use Rattle.semver_req.specs.Rereading.{IsReadAsForms, KeepsEqual, KeepsSettled, KeepsTheSame, MeansTheSame}
-use Rattle.semver_req.proofs.Rereading.{of_text, rereadings, settles}
+use Rattle.semver_req.specs.Rereading.{IsReadAsForms, KeepsEqual, KeepsStable, KeepsTheSame, MeansTheSame}
+use Rattle.semver_req.proofs.Rereading.{of_text, rereadings, stabilizes}
 use Rattle.semver_req.proofs.req.VersionReq.to_string_normalized.Goals as goal
 
 pub returns-clause-forms : goal.returns-clause-forms
@@ -10,11 +10,11 @@ returns-clause-forms c = IfOk-weaker c.normal_text.result _ _ (λ text is. of_te
 pub returns-clause-means : goal.returns-clause-means
 returns-clause-means c = IfOk-weaker c.normal_text.result _ _ (λ text is. of_text MeansTheSame (λ ranges r. (rereadings ranges r).means) c.args.self.now.inner (string_bytes text) is) c.normal_text.ensures
 
-pub returns-clause-kept_means : goal.returns-clause-kept_means
-returns-clause-kept_means c = IfOk-weaker c.normal_text.result _ _ (λ text is. of_text KeepsTheSame (λ ranges r. (rereadings ranges r).kept_means) c.args.self.now.inner (string_bytes text) is) c.normal_text.ensures
+pub returns-clause-retained_means : goal.returns-clause-retained_means
+returns-clause-retained_means c = IfOk-weaker c.normal_text.result _ _ (λ text is. of_text KeepsTheSame (λ ranges r. (rereadings ranges r).retained_means) c.args.self.now.inner (string_bytes text) is) c.normal_text.ensures
 
 pub returns-clause-equal : goal.returns-clause-equal
 returns-clause-equal c = IfOk-weaker c.normal_text.result _ _ (λ text is. of_text KeepsEqual (λ ranges r. (rereadings ranges r).equal) c.args.self.now.inner (string_bytes text) is) c.normal_text.ensures
 
-pub returns-clause-settled : goal.returns-clause-settled
-returns-clause-settled c = IfOk-weaker c.normal_text.result _ _ (λ text is. of_text KeepsSettled settles c.args.self.now.inner (string_bytes text) is) c.normal_text.ensures
+pub returns-clause-stable : goal.returns-clause-stable
+returns-clause-stable c = IfOk-weaker c.normal_text.result _ _ (λ text is. of_text KeepsStable stabilizes c.args.self.now.inner (string_bytes text) is) c.normal_text.ensures

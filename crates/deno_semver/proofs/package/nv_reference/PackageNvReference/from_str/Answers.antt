@@ -1,14 +1,14 @@
-use Rattle.deno_semver.proofs.NvReferences.{front_answer, read_answer, reads, reads_back, refused_front, refused_rest, refused_scheme, rest_answer, scheme_answer}
+use Rattle.deno_semver.proofs.NvReferences.{front_answer, read_answer, reads, reads_back, rejected_front, rejected_rest, rejected_scheme, rest_answer, scheme_answer}
 use Rattle.deno_semver.proofs.package.nv_reference.PackageNvReference.from_str.Goals as goal
 
-pub returns-in_default-clause-refused : goal.returns-in_default-clause-refused
-returns-in_default-clause-refused c = refused_scheme c.in_default.ensures c.unexpected.ensures c.of_nv_error.ensures
+pub returns-in_default-clause-rejected : goal.returns-in_default-clause-rejected
+returns-in_default-clause-rejected c = rejected_scheme c.in_default.ensures c.unexpected.ensures c.of_nv_error.ensures
 
 pub returns-in_default-clause-answer : goal.returns-in_default-clause-answer
 returns-in_default-clause-answer c = scheme_answer c.in_default.ensures c.unexpected.ensures c.of_nv_error.ensures
 
-pub returns-in-Err-clause-refused : goal.returns-in-Err-clause-refused
-returns-in-Err-clause-refused c = refused_front c.in-Some.body.now c.in-Some.ensures (rw c.without_slash.ensures at c.in-Err.ensures.refused) c.of_nv_error-in-Err.ensures
+pub returns-in-Err-clause-rejected : goal.returns-in-Err-clause-rejected
+returns-in-Err-clause-rejected c = rejected_front c.in-Some.body.now c.in-Some.ensures (rw c.without_slash.ensures at c.in-Err.ensures.rejected) c.of_nv_error-in-Err.ensures
 
 pub returns-in-Err-clause-answer : goal.returns-in-Err-clause-answer
 returns-in-Err-clause-answer c = front_answer c.in-Some.body.now c.in-Some.ensures (rw c.without_slash.ensures at c.in-Err.ensures.answer) c.of_nv_error-in-Err.ensures
@@ -23,9 +23,9 @@ pub returns-in-Ok-with_rest-clause-answer : goal.returns-in-Ok-with_rest-clause-
 returns-in-Ok-with_rest-clause-answer c =
     read_answer c.in-Some.body.now c.in-Some.ensures (rw c.without_slash.ensures at c.in-Ok.ensures.answer) c.in-Ok-with_rest.reference c.in-Ok-with_rest.ensures
 
-pub returns-in-Err-with_rest-clause-refused : goal.returns-in-Err-with_rest-clause-refused
-returns-in-Err-with_rest-clause-refused c =
-    refused_rest c.in-Some.body.now c.in-Some.ensures (rw c.without_slash.ensures at c.in-Ok.ensures.read) c.in-Err-with_rest.ensures c.of_nv_error-in-Err-with_rest.ensures
+pub returns-in-Err-with_rest-clause-rejected : goal.returns-in-Err-with_rest-clause-rejected
+returns-in-Err-with_rest-clause-rejected c =
+    rejected_rest c.in-Some.body.now c.in-Some.ensures (rw c.without_slash.ensures at c.in-Ok.ensures.read) c.in-Err-with_rest.ensures c.of_nv_error-in-Err-with_rest.ensures
 
 pub returns-in-Err-with_rest-clause-answer : goal.returns-in-Err-with_rest-clause-answer
 returns-in-Err-with_rest-clause-answer c =

@@ -1,26 +1,26 @@
 use Rattle.std.proofs.Common.{inr, refl}
 use Rattle.deno_semver.specs.ReferenceOutcome.{OtherScheme, is_reference, other_scheme}
-use Rattle.deno_semver.proofs.References.{read_answer, refused_answer, refused_text, refused_version}
+use Rattle.deno_semver.proofs.References.{read_answer, rejected_answer, rejected_text, rejected_version}
 use Rattle.deno_semver.proofs.ReferencesBack.{reads_back}
 use Rattle.deno_semver.proofs.package.reference.PackageReqReference.from_str.Goals as goal
 
-pub returns-in_default-clause-refused : goal.returns-in_default-clause-refused
-returns-in_default-clause-refused c = inr (OtherScheme, other_scheme c.in_default.ensures, refl)
+pub returns-in_default-clause-rejected : goal.returns-in_default-clause-rejected
+returns-in_default-clause-rejected c = inr (OtherScheme, other_scheme c.in_default.ensures, refl)
 
 pub returns-in_default-clause-answer : goal.returns-in_default-clause-answer
-returns-in_default-clause-answer c = refused_answer c.texts_have_one_outcome.ensures (inr (OtherScheme, other_scheme c.in_default.ensures, refl))
+returns-in_default-clause-answer c = rejected_answer c.texts_have_one_outcome.ensures (inr (OtherScheme, other_scheme c.in_default.ensures, refl))
 
-pub returns-in-Err-clause-refused : goal.returns-in-Err-clause-refused
-returns-in-Err-clause-refused c = refused_text c.in-Some.ensures c.in-Err.ensures c.invalid.ensures
+pub returns-in-Err-clause-rejected : goal.returns-in-Err-clause-rejected
+returns-in-Err-clause-rejected c = rejected_text c.in-Some.ensures c.in-Err.ensures c.invalid.ensures
 
 pub returns-in-Err-clause-answer : goal.returns-in-Err-clause-answer
-returns-in-Err-clause-answer c = refused_answer c.texts_have_one_outcome.ensures (refused_text c.in-Some.ensures c.in-Err.ensures c.invalid.ensures)
+returns-in-Err-clause-answer c = rejected_answer c.texts_have_one_outcome.ensures (rejected_text c.in-Some.ensures c.in-Err.ensures c.invalid.ensures)
 
-pub returns-in-Some-version_in_path-clause-refused : goal.returns-in-Some-version_in_path-clause-refused
-returns-in-Some-version_in_path-clause-refused c = refused_version c.in-Some.ensures c.in-Ok.ensures c.in-Some-version_in_path.ensures c.told-error.ensures
+pub returns-in-Some-version_in_path-clause-rejected : goal.returns-in-Some-version_in_path-clause-rejected
+returns-in-Some-version_in_path-clause-rejected c = rejected_version c.in-Some.ensures c.in-Ok.ensures c.in-Some-version_in_path.ensures c.reported-error.ensures
 
 pub returns-in-Some-version_in_path-clause-answer : goal.returns-in-Some-version_in_path-clause-answer
-returns-in-Some-version_in_path-clause-answer c = refused_answer c.texts_have_one_outcome.ensures (refused_version c.in-Some.ensures c.in-Ok.ensures c.in-Some-version_in_path.ensures c.told-error.ensures)
+returns-in-Some-version_in_path-clause-answer c = rejected_answer c.texts_have_one_outcome.ensures (rejected_version c.in-Some.ensures c.in-Ok.ensures c.in-Some-version_in_path.ensures c.reported-error.ensures)
 
 pub returns-clause-read : goal.returns-clause-read
 returns-clause-read c = is_reference c.in-Some.ensures c.in-Ok.ensures c.in_default-version_in_path.ensures

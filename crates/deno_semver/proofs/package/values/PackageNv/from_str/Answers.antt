@@ -1,6 +1,6 @@
 use Rattle.std.proofs.Common.{◌≡◌, ◌<◌, ◌==◌, List, ℕ, Bool, length, true, false, arith}
 use Rattle.std.proofs.lemmas.Bool.Decides.{nat_tests}
-use Rattle.deno_semver.proofs.NameAndVersion.{bad_answer, bad_refusal, followed_answer, followed_refusal, whole_answer, whole_read}
+use Rattle.deno_semver.proofs.NameAndVersion.{bad_answer, bad_rejection, followed_answer, followed_rejection, whole_answer, whole_read}
 use Rattle.deno_semver.proofs.NvText.{reads_back}
 use Rattle.deno_semver.proofs.package.values.PackageNv.from_str.Goals as goal
 
@@ -10,14 +10,14 @@ some_left xs b e f = grind (arith, nat_tests)
 none_left : (xs : List ℕ) (b : Bool) → b ≡ (length xs == 0) → b ≡ true → length xs ≡ 0
 none_left xs b e f = grind (arith, nat_tests)
 
-pub returns-in-Err-clause-refused : goal.returns-in-Err-clause-refused
-returns-in-Err-clause-refused c = bad_refusal c.in-Err.ensures.refused
+pub returns-in-Err-clause-rejected : goal.returns-in-Err-clause-rejected
+returns-in-Err-clause-rejected c = bad_rejection c.in-Err.ensures.rejected
 
 pub returns-in-Err-clause-answer : goal.returns-in-Err-clause-answer
 returns-in-Err-clause-answer c = bad_answer c.in-Err.ensures.answer
 
-pub returns-then-not-is_empty-clause-refused : goal.returns-then-not-is_empty-clause-refused
-returns-then-not-is_empty-clause-refused c = followed_refusal c.in-Ok.ensures.read (some_left _ _ c.is_empty.ensures c.if-not-is_empty.true) c.unexpected.ensures
+pub returns-then-not-is_empty-clause-rejected : goal.returns-then-not-is_empty-clause-rejected
+returns-then-not-is_empty-clause-rejected c = followed_rejection c.in-Ok.ensures.read (some_left _ _ c.is_empty.ensures c.if-not-is_empty.true) c.unexpected.ensures
 
 pub returns-then-not-is_empty-clause-answer : goal.returns-then-not-is_empty-clause-answer
 returns-then-not-is_empty-clause-answer c = followed_answer c.in-Ok.ensures.answer (some_left _ _ c.is_empty.ensures c.if-not-is_empty.true) c.unexpected.ensures

@@ -9,7 +9,7 @@ loop-next-init c =
     let front = rw c.in-Some.is at c.in_ok-first.ensures in
     record {
       is_text = search rules;
-      items = comparator_of c.in-Some.first.mark front.partial ∷ [];
+      items = comparator_of c.in-Some.first.operator front.partial ∷ [];
       so_far = so_far_one (listing c.args.flavour) front.longest;
       read = c.in_ok-read.ensures.value front.partial front.seen;
     }
@@ -19,7 +19,7 @@ loop-next-preserved c =
     let front = rw c.in-Some-2.is at c.in_ok-written.ensures in
     record {
       is_text = search rules;
-      items = c.loop-next.invariant.items ++ comparator_of c.in-Some-2.written.mark front.partial ∷ [];
+      items = c.loop-next.invariant.items ++ comparator_of c.in-Some-2.written.operator front.partial ∷ [];
       so_far = so_far_more (listing c.args.flavour) c.loop-next.invariant.so_far c.in-Some-after_separator.ensures front.longest;
       read = c.in_ok-read-2.ensures.value c.loop-next.invariant.items front.partial c.loop-next.invariant.read front.seen;
     }

@@ -5,8 +5,8 @@ use Rattle.semver_req.proofs.range_set_or_tag.pieces.RangeOrInvalid.of_one.Goals
 
 pub returns-in_ok-into_stopped-in-Ok-clause-value : goal.returns-in_ok-into_stopped-in-Ok-clause-value
 returns-in_ok-into_stopped-in-Ok-clause-value c = λ p seen.
-    and_range c.args.written.mark [] p refl (rw c.in-Fits.is at seen) c.in-Ok.ensures.range c.in-Ok.ensures.fits c.in_ok-into_stopped-in-Ok.ensures
+    and_range c.args.written.operator [] p refl (rw c.in-Fits.is at seen) c.in-Ok.ensures.range c.in-Ok.ensures.fits c.in_ok-into_stopped-in-Ok.ensures
 
 pub returns-in-Err-clause-value : goal.returns-in-Err-clause-value
 returns-in-Err-clause-value c = λ p seen.
-    IfOk-weaker c.no_range.result _ _ (λ read bound. bound.0 ∙ and_bound c.args.written.mark [] p refl (rw c.in-Fits.is at seen) c.in-Err.ensures.refused bound.1) c.no_range.ensures.bound
+    IfOk-weaker c.no_range.result _ _ (λ read bound. bound.0 ∙ and_bound c.args.written.operator [] p refl (rw c.in-Fits.is at seen) c.in-Err.ensures.rejected bound.1) c.no_range.ensures.bound

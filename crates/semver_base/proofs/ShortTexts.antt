@@ -1,0 +1,252 @@
+-- Numbers that are parsed digit by digit, and texts of three of them with dots between.
+use Rattle.std.proofs.Common.{◌≡◌, ◌≤◌, ◌<◌, ◌+◌, ◌*◌, ◌-◌, ◌^◌, ℕ, zero, suc, true, false, List, [], ◌∷◌, ◌++◌, length, take, drop, get_or, refl, sym, ap, subst, ◌∙◌, arith, inl, inr, append-nil, length-append, length-drop, length-take-le, take-append-drop}
+use Rattle.std.specs.Int.{IsInRange}
+use Rattle.std.specs.Prelude.{slice_index}
+use Rattle.std.specs.Char.{digit_value, is_ascii_digit}
+use Rattle.std.specs.List.{list_all}
+use Rattle.std.specs.Prelude.{IsUtf8}
+use Rattle.std.specs.Str.{IsAscii, IsCharBoundary, trim}
+use Rattle.std.proofs.lemmas.Str.{IsCharBoundary-from_take, IsUtf8-from_ascii}
+use Rattle.std.specs.Str.Parse.{digits_value}
+use Rattle.std.proofs.lemmas.Bool.{cases_lt}
+use Rattle.std.proofs.lemmas.Bool.Decides.{nat_tests}
+use Rattle.std.proofs.lemmas.Int.Digits.{digits_value_more}
+use Rattle.std.proofs.lemmas.Str.{digit_value_digit}
+use Rattle.std.proofs.Math.Seq.{drop-append_seam, take-append_seam}
+use Rattle.std.proofs.lemmas.List.{drop_more, get_or_append_left, nil_from_length, take_more}
+use Rattle.semver_base.specs.Characters.{dot}
+use Rattle.semver_base.specs.Grammar.{IsLongest, Stops}
+use Rattle.semver_base.specs.Lexical.{IsLooseNumber, IsStrictNumber}
+use Rattle.semver_base.specs.VersionGrammar.{IsTriple}
+use Rattle.semver_base.specs.Meaning.{release}
+use Rattle.semver_base.specs.ShortTexts.{IsShortNumbers, IsBareNumber, IsBareTriple, IsShort, IsTripleFront, LacksShortNumbers, LacksShortNumber}
+use Rattle.semver_base.specs.VersionParserSteps.{IsFittingNumber, IsFittingTriple, IsBareVersion, IsQualified}
+use Rattle.semver_base.specs.declared.lexical.values.Strictness.TheVariants.{Loose}
+use Rattle.semver_base.specs.declared.short.ShortNumbers.{ShortNumbers}
+use Rattle.semver_base.specs.declared.short.ShortNumbers.TheVariants as short_numbers
+use Rattle.semver_base.specs.declared.short.Numbers.{Numbers}
+use Rattle.semver_base.specs.declared.version.Version.{Version}
+use Rattle.semver_base.proofs.Bytes.{MadeOf, joined_made, joined_some_text, list_all-append, prefixed_made}
+use Rattle.semver_base.proofs.Fronts.{mapped, narrowed, one_front}
+use Rattle.semver_base.proofs.Lists.{run_longest, run_none}
+use Rattle.semver_base.proofs.Numbers.{loose_some}
+use Rattle.semver_base.proofs.Qualifiers.{no_qualifier}
+use Rattle.semver_base.proofs.VersionReading.{all_read, no_lead, triple_read}
+use Rattle.semver_base.proofs.Solid.{all_ascii, ends_solid, is_solid_byte, number_made, qualifier_made, solid_all_ascii, some_text, starts_solid, trim_same}
+
+-- ---- a number, digit by digit
+
+digit_range : (b : ℕ) → is_ascii_digit b ≡ true → IsInRange 48 57 b
+digit_range b h = grind (arith, nat_tests)
+
+pub digit_says : (b : ℕ) → is_ascii_digit b ≡ true → digit_value b ≡ b - 48
+digit_says b h = let range = digit_range b h in omega (arith, digit_value_digit b range)
+
+pub small_digit : (bytes : List ℕ) (n : ℕ) → is_ascii_digit (get_or bytes n 0) ≡ true → get_or bytes n 0 - 48 < 10
+small_digit bytes n digit = let range = digit_range (get_or bytes n 0) digit in omega (arith, range)
+
+pub more_pass : (bytes : List ℕ) (n : ℕ) → n < length bytes → list_all is_ascii_digit (take n bytes) ≡ true → is_ascii_digit (get_or bytes n 0) ≡ true → list_all is_ascii_digit (take (n + 1) bytes) ≡ true
+more_pass bytes n inside pass digit = rw (take_more bytes n 0 inside) (list_all-append is_ascii_digit (take n bytes) (get_or bytes n 0 ∷ []) pass (rw digit refl))
+
+pub more_value : (bytes : List ℕ) (n number : ℕ) → n < length bytes → is_ascii_digit (get_or bytes n 0) ≡ true → number ≡ digits_value 10 (take n bytes) → number * 10 + (get_or bytes n 0 - 48) ≡ digits_value 10 (take (n + 1) bytes)
+more_value bytes n number inside digit is = omega (arith, digits_value_more 10 bytes n inside, digit_says (get_or bytes n 0) digit, is)
+
+stops_past : (bytes : List ℕ) (n : ℕ) → (n < length bytes → is_ascii_digit (get_or bytes n 0) ≡ false) → Stops is_ascii_digit (drop n bytes)
+stops_past bytes n stops = elim (cases_lt n (length bytes)) [
+  | inl inside ↦ rw (drop_more bytes n 0 inside) (stops inside)
+  | inr past ↦ let nil = nil_from_length (drop n bytes) (omega (arith, length-drop n bytes)) in rw nil tt
+]
+
+-- a number without a leading zero is a strict one
+strict_too : {text rest : List ℕ} {n : ℕ} → (slice_index text 0 ≡ 48 → length text ≡ length rest + 1) → IsLongest IsLooseNumber text n rest → IsLongest IsStrictNumber text n rest
+strict_too {text} {rest} no_zero p = narrowed IsStrictNumber (λ a w h. h.digits) p (record { digits = p.stands; no_leading_zero = alone })
+  where
+    first : slice_index text 0 ≡ slice_index p.front 0
+    first = ap (λ t. slice_index t 0) p.text_is ∙ get_or_append_left p.front rest 0 0 p.stands.stands.some
+
+    alone : slice_index p.front 0 ≡ 48 → length p.front ≡ 1
+    alone z = omega (arith, no_zero (first ∙ z), ap length p.text_is, length-append p.front rest)
+
+-- the first n digits, which no digit follows, are the longest number
+pub number_read : (bytes : List ℕ) (n number : ℕ) → 0 < n → (slice_index bytes 0 ≡ 48 → n ≡ 1) → n ≤ length bytes → list_all is_ascii_digit (take n bytes) ≡ true
+    → (n < length bytes → is_ascii_digit (slice_index bytes n) ≡ false) → number ≡ digits_value 10 (take n bytes) → number < 2 ^ 64 → IsBareNumber bytes number (drop n bytes)
+number_read bytes n number some no_zero inside pass stops is fits = record { loose = loose; strict = strict_too (λ z. omega (arith, no_zero z, length-drop n bytes)) loose; fits = fits }
+  where
+    loose : IsLongest IsLooseNumber bytes number (drop n bytes)
+    loose = rw is (rw (take-append-drop n bytes) at (mapped {f = digits_value 10} (run_longest is_ascii_digit (take n bytes) (drop n bytes) (omega (arith, length-take-le n bytes inside)) pass (stops_past bytes n stops))))
+
+-- ---- where the text doesn't begin with a short number
+
+-- leading digits belong to the longest number
+reaches : (bytes : List ℕ) (k : ℕ) {n : ℕ} {rest : List ℕ} → 0 < k → k ≤ length bytes → list_all is_ascii_digit (take k bytes) ≡ true → (p : IsLongest IsLooseNumber bytes n rest) → k ≤ length p.front
+reaches bytes k some inside pass p =
+    let size = length-take-le k bytes inside in
+    let number : IsLooseNumber (take k bytes) (digits_value 10 (take k bytes)) = record { value = take k bytes; stands = record { some = omega (arith, size, some); pass = pass; is = refl }; is = refl } in
+    omega (arith, size, (p.longest (take k bytes) (drop k bytes) (digits_value 10 (take k bytes)) (sym (take-append-drop k bytes)) number).0)
+
+-- more digits don't have a lower value
+grows : (bytes : List ℕ) (k m : ℕ) → m ≤ length bytes → k ≤ m → digits_value 10 (take k bytes) ≤ digits_value 10 (take m bytes)
+grows bytes k zero inside within = let none : k ≡ 0 = omega arith in rw none (omega arith)
+grows bytes k (suc m) inside within = elim (cases_lt k (suc m)) [
+  | inl less ↦ let next : suc m ≡ m + 1 = omega arith in rw next (omega (arith, grows bytes k m (omega arith) (omega arith), digits_value_more 10 bytes m (omega arith)))
+  | inr same ↦ let whole : k ≡ suc m = omega arith in rw whole (omega arith)
+]
+
+-- the value of the longest number
+value_of : {bytes rest : List ℕ} {n : ℕ} (p : IsLongest IsLooseNumber bytes n rest) → n ≡ digits_value 10 (take (length p.front) bytes)
+value_of {bytes} {rest} p = p.stands.is ∙ (ap (digits_value 10) p.stands.stands.is ∙ ap (digits_value 10) front_is)
+  where
+    front_is : p.front ≡ take (length p.front) bytes
+    front_is = sym (ap (take (length p.front)) p.text_is ∙ take-append_seam p.front rest)
+
+-- nineteen digits, and another
+pub too_long : (bytes : List ℕ) (n number : ℕ) → n < length bytes → list_all is_ascii_digit (take n bytes) ≡ true → is_ascii_digit (slice_index bytes n) ≡ true → number ≡ digits_value 10 (take n bytes) → 10 ^ 18 ≤ number → LacksShortNumber bytes
+too_long bytes n number inside pass digit is large m rest p short =
+    let far = reaches bytes (n + 1) (omega arith) (omega arith) (more_pass bytes n inside pass digit) p.loose in
+    let grown = grows bytes (n + 1) (length p.loose.front) (omega (arith, ap length p.loose.text_is, length-append p.loose.front rest)) far in
+    omega (arith, more_value bytes n number inside digit is, grown, value_of p.loose, large, short)
+
+pub no_digit : (bytes : List ℕ) → (0 < length bytes → is_ascii_digit (slice_index bytes 0) ≡ false) → LacksShortNumber bytes
+no_digit bytes stops m rest p short = (run_none is_ascii_digit bytes (stops_past bytes 0 stops)).none p.loose.front rest p.loose.stands.value p.loose.text_is p.loose.stands.stands
+
+pub zero_led : (bytes : List ℕ) (n : ℕ) → 1 < n → n ≤ length bytes → list_all is_ascii_digit (take n bytes) ≡ true → slice_index bytes 0 ≡ 48 → LacksShortNumber bytes
+zero_led bytes n more inside pass zero_first m rest p short =
+    let far = reaches bytes n (omega arith) inside pass p.loose in
+    let same : length p.strict.front ≡ length p.loose.front = omega (arith, ap length p.strict.text_is, ap length p.loose.text_is, length-append p.strict.front rest, length-append p.loose.front rest) in
+    let first : slice_index p.strict.front 0 ≡ 48 = sym (ap (λ t. slice_index t 0) p.strict.text_is ∙ get_or_append_left p.strict.front rest 0 0 p.strict.stands.digits.stands.some) ∙ zero_first in
+    omega (arith, far, more, same, p.strict.stands.no_leading_zero first)
+
+-- ---- three numbers
+
+-- a text may be split after its ASCII prefix
+cut_after : (front rest : List ℕ) → IsAscii front → IsUtf8 (front ++ rest) → IsCharBoundary (front ++ rest) (length (front ++ rest) - length rest)
+cut_after front rest low utf8 =
+    let place : length (front ++ rest) - length rest ≡ length front = omega (arith, length-append front rest) in
+    rw place (IsCharBoundary-from_take (front ++ rest) (length front) utf8 (omega (arith, length-append front rest)) (rw (take-append_seam front rest) (IsUtf8-from_ascii front low)))
+
+drop_after : (front rest : List ℕ) → drop (length (front ++ rest) - length rest) (front ++ rest) ≡ rest
+drop_after front rest =
+    let place : length (front ++ rest) - length rest ≡ length front = omega (arith, length-append front rest) in
+    rw place (drop-append_seam front rest)
+
+numbers_solid : MadeOf IsTriple is_solid_byte
+numbers_solid = joined_made number_made (prefixed_made (joined_made number_made (prefixed_made number_made 46 refl)) 46 refl)
+
+fits : {text rest : List ℕ} {n : ℕ} → IsBareNumber text n rest → IsFittingNumber text n rest
+fits p = record { number = p.loose; fits = p.fits }
+
+front_fits : {text rest : List ℕ} {major minor patch : ℕ} → IsTripleFront text major minor patch rest → IsFittingTriple text (major, (minor, patch)) rest
+front_fits p = triple_read (fits p.major) refl (fits p.minor) refl (fits p.patch)
+
+-- the text isn't empty, and all its bytes are solid
+abbrev pub IsSolid : List ℕ → Type 0
+IsSolid text = (list_all is_solid_byte text ≡ true) × (0 < length text)
+
+-- solid bytes leave nothing to trim
+pub solid_trimmed : (text : List ℕ) → IsSolid text → trim text ≡ text
+solid_trimmed text h = trim_same text (solid_all_ascii text h.0) (starts_solid text h.1 h.0) (ends_solid text h.1 h.0)
+
+solid_some : (b : ℕ) (text : List ℕ) → is_solid_byte b ≡ true → list_all is_solid_byte text ≡ true → IsSolid (b ∷ text)
+solid_some b text h k = (rw (h, k) refl, omega arith)
+
+solid_joined : (a b : List ℕ) → IsSolid a → list_all is_solid_byte b ≡ true → IsSolid (a ++ b)
+solid_joined a b h k = (list_all-append is_solid_byte a b h.0 k, omega (arith, h.1, length-append a b))
+
+numbers_front : {text rest : List ℕ} {numbers : ℕ × (ℕ × ℕ)} (p : IsFittingTriple text numbers rest) → IsSolid p.triple.front
+numbers_front {numbers = numbers} p = (numbers_solid.made p.triple.front numbers p.triple.stands, some_text (joined_some_text loose_some) p.triple.front p.triple.stands)
+
+-- ---- versions with nothing around them
+
+-- three numbers and a qualifier
+pub qualified_version : {text rest : List ℕ} {numbers : Numbers} {v : Version} → IsTripleFront text numbers.major numbers.minor numbers.patch rest → IsQualified numbers rest v → IsBareVersion text v
+qualified_version {text} {rest} {numbers} front q =
+    let triple = front_fits front in
+    let qualifier = q.longest in
+    let front_is : rest ≡ qualifier.front = qualifier.text_is ∙ append-nil qualifier.front in
+    let behind : list_all is_solid_byte rest ≡ true = rw front_is (qualifier_made.made qualifier.front q.qualifier qualifier.stands) in
+    let solid : IsSolid text = rw triple.triple.text_is (solid_joined triple.triple.front rest (numbers_front triple) behind) in
+    record {
+      version = rw q.version_is (all_read (no_lead triple.triple) triple qualifier refl);
+      trimmed = solid_trimmed text solid;
+    }
+
+-- three numbers alone
+pub short_version : {text : List ℕ} {numbers : Numbers} → IsBareTriple text numbers.major numbers.minor numbers.patch → IsBareVersion text (release numbers.major numbers.minor numbers.patch)
+short_version plain = qualified_version plain (record {
+  qualifier = record { pre = []; build = [] };
+  longest = no_qualifier Loose;
+  version_is = refl;
+})
+
+-- a text may be split where the numbers end
+pub numbers_boundary : {text rest : List ℕ} {major minor patch : ℕ} → IsTripleFront text major minor patch rest → IsUtf8 text → IsCharBoundary text (length text - length rest)
+numbers_boundary {text} {rest} front utf8 =
+    let p = front_fits front in
+    let solid = numbers_front p in
+    rw p.triple.text_is (cut_after p.triple.front rest (all_ascii p.triple.front (solid_all_ascii p.triple.front solid.0)) (rw p.triple.text_is at utf8))
+
+-- and continues with the rest
+pub numbers_rest : {text rest : List ℕ} {major minor patch : ℕ} → IsTripleFront text major minor patch rest → drop (length text - length rest) text ≡ rest
+numbers_rest {text} {rest} front =
+    let p = (front_fits front).triple in
+    rw p.text_is (drop_after p.front rest)
+
+-- ---- one to three numbers
+
+number_front_solid : {text rest : List ℕ} {n : ℕ} → IsBareNumber text n rest → list_all is_solid_byte rest ≡ true → IsSolid text
+number_front_solid {text} {rest} {n} p h =
+    let number = p.loose in
+    rw number.text_is (solid_joined number.front rest (number_made.made number.front n number.stands, some_text loose_some number.front number.stands) h)
+
+-- such a text is made of solid bytes
+pub short_solid : (text : List ℕ) (numbers : ShortNumbers) → IsShortNumbers text numbers → IsSolid text
+short_solid text (short_numbers.One m) p = number_front_solid p refl
+short_solid text (short_numbers.Two m n) p = number_front_solid p.major (solid_some 46 p.from_minor refl (number_front_solid p.minor refl).0).0
+short_solid text (short_numbers.Three n) p = number_front_solid p.major (solid_some 46 p.from_minor refl (number_front_solid p.minor (solid_some 46 p.from_patch refl (number_front_solid p.patch refl).0).0).0).0
+
+-- ---- where a text isn't one to three short numbers
+
+-- the text isn't a short number
+abbrev pub LacksOne : List ℕ → Type 0
+LacksOne text = (n : ℕ) → IsBareNumber text n [] → IsShort n → ⊥
+
+-- nor two
+pub record LacksTwo (text : List ℕ) : Type 0 where
+  pub one : LacksOne text
+  pub two : (m n : ℕ) (rest : List ℕ) → IsBareNumber text m (dot ∷ rest) → IsBareNumber rest n [] → IsShort m → IsShort n → ⊥
+
+-- something follows a number, and if that is a dot, then a text that lacks numbers follows it
+pub record IsNoMore (Lacks : List ℕ → Type 0) (rest : List ℕ) : Type 0 where
+  pub some : rest ≡ [] → ⊥
+  pub dotted : (more : List ℕ) → rest ≡ dot ∷ more → Lacks more
+
+pub no_dot : {Lacks : List ℕ → Type 0} {rest : List ℕ} → (rest ≡ [] → ⊥) → ((more : List ℕ) → rest ≡ dot ∷ more → ⊥) → IsNoMore Lacks rest
+no_dot some none = record { some = some; dotted = λ more e. absurd (none more e) }
+
+pub behind_dot : {Lacks : List ℕ → Type 0} {more : List ℕ} → Lacks more → IsNoMore Lacks (dot ∷ more)
+behind_dot {Lacks} {more} lacks = record { some = λ e. absurd (omega (arith, ap length e)); dotted = λ rest e. subst Lacks (ap (drop 1) e) lacks }
+
+pub no_first : {text : List ℕ} → LacksShortNumber text → LacksShortNumbers text
+no_first none (short_numbers.One m) p short = none m [] p short
+no_first none (short_numbers.Two m n) p short = none m (dot ∷ p.from_minor) p.major short.0
+no_first none (short_numbers.Three n) p short = none n.major (dot ∷ p.from_minor) p.major short.0
+
+pub no_second : {text : List ℕ} → LacksShortNumber text → LacksTwo text
+no_second none = record { one = λ n p short. none n [] p short; two = λ m n rest at_m at_n short other. none m (dot ∷ rest) at_m short }
+
+pub no_third : {text : List ℕ} → LacksShortNumber text → LacksOne text
+no_third none n p short = none n [] p short
+
+pub more_than_third : {text rest : List ℕ} {n : ℕ} → IsBareNumber text n rest → (rest ≡ [] → ⊥) → LacksOne text
+more_than_third read some m p short = some (one_front read.loose p.loose).1
+
+pub no_more_than_second : {text rest : List ℕ} {n : ℕ} → IsBareNumber text n rest → IsNoMore LacksOne rest → LacksTwo text
+no_more_than_second read behind = record {
+  one = λ m p short. behind.some (one_front read.loose p.loose).1;
+  two = λ m n rest at_m at_n short other. behind.dotted rest (one_front read.loose at_m.loose).1 n at_n other;
+}
+
+pub no_more_than_first : {text rest : List ℕ} {n : ℕ} → IsBareNumber text n rest → IsNoMore LacksTwo rest → LacksShortNumbers text
+no_more_than_first read behind (short_numbers.One m) p short = behind.some (one_front read.loose p.loose).1
+no_more_than_first read behind (short_numbers.Two m n) p short = (behind.dotted p.from_minor (one_front read.loose p.major.loose).1).one n p.minor short.1
+no_more_than_first read behind (short_numbers.Three n) p short = (behind.dotted p.from_minor (one_front read.loose p.major.loose).1).two n.minor n.patch p.from_patch p.minor p.patch short.1 short.2

@@ -1,0 +1,5 @@
+use Rattle.semver_base.proofs.Whitespace.{whitespace_longest}
+use Rattle.semver_base.proofs.lexical.after_whitespace.Goals as goal
+
+pub returns : goal.returns
+returns c = whitespace_longest c.args.text.now c.trim_start.result.now c.trim_start.ensures.value

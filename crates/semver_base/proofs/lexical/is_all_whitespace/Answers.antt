@@ -1,0 +1,5 @@
+use Rattle.semver_base.proofs.Whitespace.{whitespace_whole}
+use Rattle.semver_base.proofs.lexical.is_all_whitespace.Goals as goal
+
+pub returns : goal.returns
+returns c = whitespace_whole c.args.text.now c.after_whitespace.result.now c.is_empty.result c.is_empty.ensures c.after_whitespace.ensures

@@ -1,0 +1,55 @@
+-- Plain texts: one to three numbers with dots between them and nothing else, which every grammar parses alike.
+use Rattle.std.specs.Prelude.{◌<◌, ◌^◌, ℕ, List, [], ◌∷◌}
+use Rattle.semver_base.specs.Characters.{dot}
+use Rattle.semver_base.specs.Grammar.{IsLongest}
+use Rattle.semver_base.specs.Lexical.{IsLooseNumber, IsStrictNumber}
+use Rattle.semver_base.specs.declared.short.ShortNumbers.{ShortNumbers}
+use Rattle.semver_base.specs.declared.short.ShortNumbers.TheVariants as short_numbers
+
+-- the longest leading number by either grammar, which fits
+pub record IsBareNumber (text : List ℕ) (n : ℕ) (rest : List ℕ) : Type 0 where
+  pub loose : IsLongest IsLooseNumber text n rest
+  pub strict : IsLongest IsStrictNumber text n rest
+  pub fits : n < 2 ^ 64
+
+-- a number of at most 19 digits
+abbrev pub IsShort : ℕ → Type 0
+IsShort n = n < 10 ^ 19
+
+-- the text doesn't begin with such a number
+abbrev pub LacksShortNumber : List ℕ → Type 0
+LacksShortNumber text = (n : ℕ) (rest : List ℕ) → IsBareNumber text n rest → IsShort n → ⊥
+
+-- the text begins with these numbers with dots between them, and rest follows
+pub record IsTripleFront (text : List ℕ) (m n p : ℕ) (rest : List ℕ) : Type 0 where
+  pub from_minor : List ℕ
+  pub from_patch : List ℕ
+  pub major : IsBareNumber text m (dot ∷ from_minor)
+  pub minor : IsBareNumber from_minor n (dot ∷ from_patch)
+  pub patch : IsBareNumber from_patch p rest
+
+-- the whole text is these numbers with dots between them
+abbrev pub IsBareTriple : List ℕ → ℕ → ℕ → ℕ → Type 0
+IsBareTriple text m n p = IsTripleFront text m n p []
+
+-- the whole text is these two numbers with a dot between them
+pub record IsBarePair (text : List ℕ) (m n : ℕ) : Type 0 where
+  pub from_minor : List ℕ
+  pub major : IsBareNumber text m (dot ∷ from_minor)
+  pub minor : IsBareNumber from_minor n []
+
+-- the whole text is these numbers with dots between them
+abbrev pub IsShortNumbers : List ℕ → ShortNumbers → Type 0
+IsShortNumbers text (short_numbers.One m) = IsBareNumber text m []
+IsShortNumbers text (short_numbers.Two m n) = IsBarePair text m n
+IsShortNumbers text (short_numbers.Three n) = IsBareTriple text n.major n.minor n.patch
+
+-- each of the numbers has at most 19 digits
+abbrev pub AreShort : ShortNumbers → Type 0
+AreShort (short_numbers.One m) = IsShort m
+AreShort (short_numbers.Two m n) = IsShort m × IsShort n
+AreShort (short_numbers.Three n) = IsShort n.major × IsShort n.minor × IsShort n.patch
+
+-- the text isn't one to three such numbers
+abbrev pub LacksShortNumbers : List ℕ → Type 0
+LacksShortNumbers text = (numbers : ShortNumbers) → IsShortNumbers text numbers → AreShort numbers → ⊥

@@ -1,0 +1,115 @@
+//! Plain texts: numbers with dots between them and nothing else, parsed in one pass over their bytes.
+//!
+//! Most versions and most requirements are such texts. Each parser tries this fast path first. What it returns is what the
+//! grammar says; on `None` the parser falls back to the full grammar.
+
+ghost use Rattle.std.specs.Prelude.{IfNone, IfSome};
+ghost use Rattle.semver_base.specs.Characters.{dot};
+ghost use Rattle.semver_base.specs.Grammar.{IsAfter};
+ghost use Rattle.semver_base.specs.ShortTexts.{AreShort, IsShortNumbers, IsBareNumber, IsShort, IsTripleFront, LacksShortNumbers, LacksShortNumber};
+
+// A number below this, times ten plus a digit, is a `u64`.
+const LIMIT: u64 = 1_000_000_000_000_000_000;
+
+/// Three numbers.
+#[derive(Clone, Copy, Debug)]
+pub struct Numbers {
+    pub major: u64,
+    pub minor: u64,
+    pub patch: u64,
+}
+
+/// One to three numbers: `M`, `M.m` or `M.m.p`.
+#[derive(Clone, Copy, Debug)]
+pub enum ShortNumbers {
+    One(u64),
+    Two(u64, u64),
+    Three(Numbers),
+}
+
+// Parses a leading number of at most 19 digits without leading zeros, and returns it with the rest.
+#[inline(always)]
+fn number(bytes: &[u8]) -> Option<(u64, &[u8])>
+    ensures number { IfSome result (λ r. IsBareNumber bytes.now r.0 r.1.now) }
+    ensures short { IfSome result (λ r. IsShort r.0) }
+    ensures none { IfNone result (LacksShortNumber bytes.now) }
+{
+    let mut number: u64 = 0;
+    let mut len: usize = 0;
+    while len < bytes.len() && bytes[len].is_ascii_digit() {
+        if number >= LIMIT {
+            return None;
+        }
+        number = number * 10 + u64::from(bytes[len] - b'0');
+        len += 1;
+    }
+    if len == 0 || (bytes[0] == b'0' && len != 1) {
+        return None;
+    }
+    Some((number, &bytes[len..]))
+}
+
+// Returns what follows a leading `.`.
+#[inline(always)]
+fn after_dot(bytes: &[u8]) -> Option<&[u8]>
+    ensures { IsAfter dot bytes.now result }
+{
+    match bytes {
+        [b'.', rest @ ..] => Some(rest),
+        _ => None,
+    }
+}
+
+/// Parses the whole text as one to three numbers; `None` exactly if it isn't such numbers of at most 19 digits each.
+#[inline(always)]
+pub fn short_numbers(text: &[u8]) -> Option<ShortNumbers>
+    ensures numbers { IfSome result (IsShortNumbers text.now) }
+    ensures short { IfSome result AreShort }
+    ensures none { IfNone result (LacksShortNumbers text.now) }
+{
+    let (major, rest) = number(text)?;
+    if rest.is_empty() {
+        return Some(ShortNumbers::One(major));
+    }
+    let (minor, rest) = number(after_dot(rest)?)?;
+    if rest.is_empty() {
+        return Some(ShortNumbers::Two(major, minor));
+    }
+    let (patch, rest) = number(after_dot(rest)?)?;
+    if !rest.is_empty() {
+        return None;
+    }
+    Some(ShortNumbers::Three(Numbers {
+        major,
+        minor,
+        patch,
+    }))
+}
+
+// Parses three leading numbers, and returns them with the rest.
+#[inline(always)]
+fn triple(text: &[u8]) -> Option<(Numbers, &[u8])>
+    ensures { IfSome result
+        (λ r. IsTripleFront text.now r.0.major r.0.minor r.0.patch r.1.now) }
+{
+    let (major, rest) = number(text)?;
+    let (minor, rest) = number(after_dot(rest)?)?;
+    let (patch, rest) = number(after_dot(rest)?)?;
+    let numbers = Numbers {
+        major,
+        minor,
+        patch,
+    };
+    Some((numbers, rest))
+}
+
+/// Parses three leading numbers, and returns them with the rest of the text.
+#[inline(always)]
+pub(crate) fn split_numbers(text: &str) -> Option<(Numbers, &str)>
+    ensures { IfSome result
+        (λ r. IsTripleFront text.now r.0.major r.0.minor r.0.patch r.1.now) }
+{
+    let (numbers, rest) = triple(text.as_bytes())?;
+    let (_, rest) = text.split_at(text.len() - rest.len());
+    Some((numbers, rest))
+}

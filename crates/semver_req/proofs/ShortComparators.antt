@@ -1,0 +1,265 @@
+-- What the grammars make of plain texts.
+use Rattle.std.proofs.Common.{◌≡◌, ◌^◌, ℕ, true, false, List, [], ◌∷◌, ◌++◌, Option, Some, None, refl, sym, ap, ◌∙◌, arith, inl, inr, append-nil}
+use Rattle.std.specs.Char.{is_ascii_digit, is_not_whitespace}
+use Rattle.std.specs.List.{list_all}
+use Rattle.std.proofs.lemmas.Bool.{lt-ltb}
+use Rattle.std.proofs.lemmas.Bool.Decides.{nat_tests}
+use Rattle.std.proofs.lemmas.Str.{NoCharPasses-nil}
+use Rattle.std.proofs.lemmas.Str.Pattern.{IsSplitOnceResult, split_parts}
+use Rattle.std.specs.Borrow.{Bor}
+use Rattle.std.specs.Prelude.{IfSome}
+use Rattle.semver_base.specs.Comparators.{Comparator, primitive_kind_text}
+use Rattle.semver_base.specs.Grammar.{this, that, After, HasNone, IsLongest, IsSeen, Prefixed, closed_item, last_item, more_items}
+use Rattle.semver_base.specs.Overlap.{ends_at_zero}
+use Rattle.semver_base.specs.Lexical.{IsWhitespace, IsLooseNumber, IsNumber}
+use Rattle.semver_base.specs.PartialTable.{of_short}
+use Rattle.semver_base.specs.ShortTexts.{IsShortNumbers, IsBareNumber, IsBareTriple}
+use Rattle.semver_base.specs.declared.lexical.values.Measured.TheVariants.{Fits}
+use Rattle.semver_base.specs.declared.partial.XRange.TheVariants.{Val}
+use Rattle.semver_base.specs.declared.partial.Partial.{Partial}
+use Rattle.semver_base.specs.declared.short.ShortNumbers.{ShortNumbers}
+use Rattle.semver_base.specs.declared.short.ShortNumbers.TheVariants as short_numbers
+use Rattle.semver_base.specs.declared.short.Numbers.{Numbers}
+use Rattle.semver_base.specs.declared.range.VersionRange.{VersionRange}
+use Rattle.semver_base.proofs.Bytes.{list_all-wider, prefixed_some_text}
+use Rattle.semver_base.proofs.Fronts.{prefixed_other}
+use Rattle.semver_base.proofs.Numbers.{loose_begins, loose_some}
+use Rattle.semver_base.proofs.ShortTexts.{short_solid, solid_trimmed, IsSolid}
+use Rattle.semver_base.proofs.Qualifiers.{no_qualifier}
+use Rattle.semver_base.proofs.Solid.{is_solid_byte}
+use Rattle.semver_req.specs.Comparators.{IsComparator, IsPrimitive, fits}
+use Rattle.semver_req.specs.RetainedSet.{retained_range, without_none}
+use Rattle.semver_req.specs.Outcome.{IsCutOutcome, one_good, Ranges}
+use Rattle.semver_req.specs.Partials.{IsComponent, IsPartial, IsBarePartial, second_or_none, sized_component, sized_partial, strictness_of, third_or_none}
+use Rattle.semver_req.specs.Pieces.{HasNoBar, IsComparators, IsFilled, IsPiece, one_piece}
+use Rattle.semver_req.specs.PieceReading.{as_retained, joined, read_as}
+use Rattle.semver_req.specs.PieceSteps.{IsWholeRead}
+use Rattle.semver_req.specs.ShortComparators.{IsShortAlone, IsShortWithOperator, IsShortPair, IsShortComparator, IsShortReading, IsUnclosed, operator_text}
+use Rattle.semver_req.specs.Written.{IsFront, IsOperatorCut, IsNonPrimitive, comparator_of}
+use Rattle.semver_req.specs.declared.common.comparator.Operator.{Operator}
+use Rattle.semver_req.specs.declared.common.comparator.Operator.TheVariants as operator
+use Rattle.semver_req.specs.declared.common.comparator.Written.{Written}
+use Rattle.semver_req.specs.declared.common.values.Flavour.{Flavour}
+use Rattle.semver_req.specs.declared.common.values.Flavour.TheVariants.{Npm, Normal, Specifier}
+use Rattle.semver_req.specs.declared.range_set_or_tag.pieces.RangeOrInvalid.{RangeOrInvalid}
+use Rattle.semver_req.specs.declared.range_set_or_tag.RangeSetOrTag.{RangeSetOrTag}
+use Rattle.semver_req.specs.declared.range_set_or_tag.RangeSetOrTag.TheVariants as inner
+use Rattle.semver_req.specs.Parsers.{IsReading}
+use Rattle.semver_req.proofs.Components.{component_read, third_read, wildcard_no_digit}
+use Rattle.semver_req.proofs.Fitting.{fitting}
+use Rattle.semver_req.proofs.Operators.{non_primitive_some}
+use Rattle.semver_req.proofs.Partials.{not_led, optional_seen, optional_unseen, partial_read, second_read}
+use Rattle.semver_req.proofs.PiecesRead.{list_retained}
+use Rattle.semver_req.proofs.SpecifierRetained.{specifier_ends, specifier_retained}
+use Rattle.semver_req.proofs.SpecifierRanges.{whole_reading}
+use Rattle.semver_req.proofs.Wider.{pieces_wider}
+use Rattle.semver_req.proofs.WrittenSets.{is_no_bar, no_bar, one_whitespace}
+
+-- ---- numbers
+
+first_digit : {text rest : List ℕ} {n : ℕ} → IsLongest IsLooseNumber text n rest → (b : ℕ) (more : List ℕ) → text ≡ b ∷ more → is_ascii_digit b ≡ true
+first_digit {text} {rest} {n} p b more e = go p.front (sym e ∙ p.text_is) p.stands
+  where
+    go : (front : List ℕ) → b ∷ more ≡ front ++ rest → IsLooseNumber front n → is_ascii_digit b ≡ true
+    go [] split h = absurd (loose_some.some n h)
+    go (x ∷ front) split h = let same_byte : b ≡ x = cc split in rw same_byte (loose_begins.begins x (record { more = front; value = n; stands = h }))
+
+by_flavour : (f : Flavour) {text rest : List ℕ} {n : ℕ} → IsBareNumber text n rest → IsLongest (IsNumber (strictness_of f)) text n rest
+by_flavour Npm p = p.loose
+by_flavour Normal p = p.loose
+by_flavour Specifier p = p.strict
+
+number_seen : (f : Flavour) {text rest : List ℕ} {n : ℕ} → IsBareNumber text n rest → IsSeen sized_component (IsComponent f) text (Fits (Val n)) rest
+number_seen f {text} {rest} {n} p = component_read f text (λ b more wild e. wildcard_no_digit f b wild (first_digit p.loose b more e)) rest (Fits n) (record {
+  value = n;
+  longest = by_flavour f p;
+  seen = rw (lt-ltb n (2 ^ 64) p.fits) refl;
+})
+
+-- ---- partial versions
+
+triple_seen : (f : Flavour) {text : List ℕ} (n : Numbers) → IsBareTriple text n.major n.minor n.patch → IsSeen sized_partial (IsBarePartial f) text (Fits (of_short (short_numbers.Three n))) []
+triple_seen f n t =
+    let third = optional_seen third_or_none (λ v. refl) (prefixed_some_text 46) (third_read f refl (number_seen f t.patch) (no_qualifier (strictness_of f))) in
+    let second = optional_seen second_or_none (λ v. refl) (prefixed_some_text 46) (second_read f refl (number_seen f t.minor) third) in
+    partial_read f refl (number_seen f t.major) second
+
+-- nothing continues with a dot
+nothing_more : {V : Type 0} {A : List ℕ → V → Type 0} → HasNone (Prefixed 46 A) []
+nothing_more = prefixed_other (λ rest e. cc e)
+
+short_bare : (f : Flavour) {text : List ℕ} (n : ShortNumbers) → IsShortNumbers text n → IsSeen sized_partial (IsBarePartial f) text (Fits (of_short n)) []
+short_bare f (short_numbers.One m) p = partial_read f refl (number_seen f p) (optional_unseen second_or_none nothing_more)
+short_bare f (short_numbers.Two m n) p =
+    let second = optional_seen second_or_none (λ v. refl) (prefixed_some_text 46) (second_read f refl (number_seen f p.minor) (optional_unseen third_or_none nothing_more)) in
+    partial_read f refl (number_seen f p.major) second
+short_bare f (short_numbers.Three n) t = triple_seen f n t
+
+short_begins : {text : List ℕ} (n : ShortNumbers) → IsShortNumbers text n → (b : ℕ) (more : List ℕ) → text ≡ b ∷ more → is_ascii_digit b ≡ true
+short_begins (short_numbers.One m) p = first_digit p.loose
+short_begins (short_numbers.Two m n) p = first_digit p.major.loose
+short_begins (short_numbers.Three n) t = first_digit t.major.loose
+
+short_seen : (f : Flavour) {text : List ℕ} (n : ShortNumbers) → IsShortNumbers text n → IsSeen sized_partial (IsPartial f) text (Fits (of_short n)) []
+short_seen Npm {text} n t = not_led text (Some (Fits (of_short n), [])) (λ rest e. cc (short_begins n t 118 rest e)) (short_bare Npm n t)
+short_seen Normal n t = short_bare Normal n t
+short_seen Specifier n t = short_bare Specifier n t
+
+-- ---- comparators
+
+pub short_front : (f : Flavour) {text : List ℕ} {range : VersionRange} (p : IsShortComparator text range) → IsFront (IsNonPrimitive f) text (record { operator = p.operator; partial = Fits (of_short p.numbers) }) []
+short_front f p = non_primitive_some f p.operator p.cut (short_seen f p.numbers p.short_numbers)
+
+-- the strict parser's ranges
+pub specifier_reading : {text : List ℕ} {range : VersionRange} (answer : RangeSetOrTag) → IsShortComparator text range → answer ≡ inner.RangeSet (record { 0 = range ∷ [] }) → IsReading Specifier text answer
+specifier_reading {range = range} answer p answered = whole_reading (fitting (short_front Specifier p)) range answer p.line.fits refl p.line.is answered
+
+-- ---- pieces
+
+abbrev comparator : {text : List ℕ} {range : VersionRange} → IsShortComparator text range → Comparator
+comparator p = comparator_of p.operator (of_short p.numbers)
+
+whole_front : {V : Type 0} {A : List ℕ → V → Type 0} {text : List ℕ} {c : V} → IsLongest A text c [] → A text c
+whole_front p = let whole = p.text_is ∙ append-nil p.front in rw whole p.stands
+
+is_normal : (text : List ℕ) (c : Comparator) → IsNonPrimitive Normal text c → IsComparator Normal text c
+is_normal text c (this h) = this h
+is_normal text c (that h) = that (that h)
+
+normal_piece : {text : List ℕ} {range : VersionRange} (p : IsShortComparator text range) → IsPiece Normal text (comparator p ∷ [])
+normal_piece {text} p = last_item (is_normal text (comparator p) (whole_front (fitting (short_front Normal p)).longest))
+
+all_fits : {text : List ℕ} {range : VersionRange} (p : IsShortComparator text range) → list_all fits (comparator p ∷ []) ≡ true
+all_fits p = rw ((fitting (short_front Normal p)).numbers_fit, p.line.fits) refl
+
+solid_by : (m : Operator) (text rest : List ℕ) → IsOperatorCut text m rest → IsSolid rest → IsSolid text
+solid_by operator.Tilde text rest e h = rw e (h.0, omega arith)
+solid_by operator.Caret text rest e h = rw e (h.0, omega arith)
+solid_by (operator.Primitive kind) text rest e h = absurd e
+solid_by operator.Absent text rest e h = rw e.0 at h
+
+text_solid : {text : List ℕ} {range : VersionRange} → IsShortComparator text range → IsSolid text
+text_solid {text} p = solid_by p.operator text p.rest p.cut (short_solid p.rest p.numbers p.short_numbers)
+
+solid_no_bar : (x : ℕ) → is_solid_byte x ≡ true → is_no_bar x ≡ true
+solid_no_bar x h = grind (arith, nat_tests)
+
+text_no_bar : {text : List ℕ} {range : VersionRange} → IsShortComparator text range → HasNoBar text
+text_no_bar {text} p = no_bar text (list_all-wider is_solid_byte is_no_bar solid_no_bar text (text_solid p).0)
+
+-- ---- what is kept
+
+only_retained : (found range : VersionRange) → found ≡ range → ends_at_zero found.end ≡ false → without_none (found ∷ []) ≡ range ∷ []
+only_retained found range e ends = rw ends (ap (λ (r : VersionRange). r ∷ []) e)
+
+retained_alone : {text : List ℕ} {range : VersionRange} (p : IsShortComparator text range) → without_none (retained_range (comparator p ∷ []) ∷ []) ≡ range ∷ []
+retained_alone p =
+    let strict = whole_front (fitting (short_front Specifier p)).longest in
+    only_retained _ _ (specifier_retained strict ∙ sym p.line.is) (specifier_ends strict)
+
+cut_outcome : (f : Flavour) {text : List ℕ} {range : VersionRange} (p : IsShortComparator text range) → IsPiece f text (comparator p ∷ []) → IsCutOutcome f text (Ranges ((comparator p ∷ []) ∷ []))
+cut_outcome f p piece = one_good (one_piece (text_no_bar p)) (inl (piece, all_fits p))
+
+-- each parser's ranges
+pub short_reading : {text : List ℕ} {range : VersionRange} (answer : RangeSetOrTag) → IsShortComparator text range → answer ≡ inner.RangeSet (record { 0 = range ∷ [] }) → IsShortReading text answer
+short_reading answer p answered Specifier = specifier_reading answer p answered
+short_reading answer p answered Normal = record {
+  outcome = Ranges ((comparator p ∷ []) ∷ []);
+  is_outcome = cut_outcome Normal p (normal_piece p);
+  is_read = answered ∙ ap (λ (r : List VersionRange). inner.RangeSet (record { 0 = r })) (sym (retained_alone p));
+}
+short_reading {text} answer p answered Npm = record {
+  outcome = Ranges ((comparator p ∷ []) ∷ []);
+  is_outcome = rw (solid_trimmed text (text_solid p)) (cut_outcome Npm p (pieces_wider text (comparator p ∷ []) (normal_piece p)));
+  is_read = answered ∙ ap (λ (r : List VersionRange). inner.RangeSet (record { 0 = r })) (sym (retained_alone p));
+}
+
+-- ---- comparators of one to three numbers, as pieces
+
+by_operator : (m : Operator) (text rest : List ℕ) (p : Partial) → text ≡ operator_text m ++ rest → IsPartial Normal rest p → IsComparator Normal text (comparator_of m p)
+by_operator operator.Tilde text rest p e h = rw e (this (this (record { value = p; stands = tilde; is = refl })))
+  where
+    tilde : Prefixed 126 (IsPartial Normal) (126 ∷ rest) p
+    tilde = (refl, h)
+by_operator operator.Caret text rest p e h = rw e (this (that (record { value = p; stands = caret; is = refl })))
+  where
+    caret : Prefixed 94 (IsPartial Normal) (94 ∷ rest) p
+    caret = (refl, h)
+by_operator (operator.Primitive kind) text rest p e h = that (this (record { value = (kind, p); stands = both; is = refl }))
+  where
+    unspaced : After IsWhitespace (IsPartial Normal) rest p
+    unspaced = record {
+      value = (tt, p);
+      stands = record { first = []; second = rest; text_is = refl; in_first = NoCharPasses-nil is_not_whitespace; in_second = h; seam = tt };
+      is = refl;
+    }
+
+    both : IsPrimitive Normal text (kind, p)
+    both = record { first = primitive_kind_text kind; second = rest; text_is = e; in_first = refl; in_second = unspaced; seam = tt }
+by_operator operator.Absent text rest p e h = that (that (record { value = p; stands = rw e h; is = refl }))
+
+-- the text is a comparator of the normalized grammar, whose partial version parses to this
+record IsNormal (text : List ℕ) (written : Written) : Type 0 where
+  partial : Partial
+  measured : written.partial ≡ sized_partial partial
+  stands : IsComparator Normal text (comparator_of written.operator partial)
+
+short_normal : {text : List ℕ} {written : Written} → IsShortWithOperator text written → IsNormal text written
+short_normal {text} {written} p =
+    let seen = short_seen Normal p.numbers p.short_numbers in
+    record {
+      partial = seen.value;
+      measured = p.partial_is ∙ seen.seen;
+      stands = by_operator written.operator text p.rest seen.value p.text_is (whole_front seen.longest);
+    }
+
+only_item : {piece : List ℕ} {written : Written} (p : IsShortAlone piece written) (n : IsNormal p.shorter written) → IsComparators Normal piece (comparator_of written.operator n.partial ∷ [])
+only_item {piece} {written} p n = go p.unclosed
+  where
+    go : IsUnclosed piece p.shorter → IsComparators Normal piece (comparator_of written.operator n.partial ∷ [])
+    go (inl e) = rw e (last_item n.stands)
+    go (inr e) = rw e (closed_item n.stands one_whitespace)
+
+-- what comparators of the normalized grammar parse to, in each grammar that splits
+read_as_list : (f : Flavour) → (f ≡ Specifier → ⊥) → {piece : List ℕ} {cs : List Comparator} {answer : RangeOrInvalid} → IsComparators Normal piece cs → IsFilled Npm piece cs → answer ≡ joined cs → IsWholeRead (IsFilled f) piece (Some answer)
+read_as_list f cuts {piece} {cs} {answer} whole filled read = go f cuts
+  where
+    is_retained : answer ≡ as_retained cs
+    is_retained = read ∙ ap (read_as cs) (sym (list_retained Normal whole))
+
+    go : (f : Flavour) → (f ≡ Specifier → ⊥) → IsWholeRead (IsFilled f) piece (Some answer)
+    go Npm other = (cs, filled, is_retained)
+    go Normal other = (cs, whole, is_retained)
+    go Specifier other = absurd (other refl)
+
+-- what one such comparator parses to
+pub short_filled : (f : Flavour) → (f ≡ Specifier → ⊥) → {piece : List ℕ} {only : Written} {answer : RangeOrInvalid} → IsShortAlone piece only
+    → ((p : Partial) → only.partial ≡ sized_partial p → answer ≡ joined (comparator_of only.operator p ∷ [])) → IsWholeRead (IsFilled f) piece (Some answer)
+short_filled f cuts {only = only} p read =
+    let n = short_normal p.operator_form in
+    let whole = only_item p n in
+    read_as_list f cuts whole (pieces_wider _ (comparator_of only.operator n.partial ∷ []) whole) (read n.partial n.measured)
+
+-- what two parse to
+pub pair_filled : (f : Flavour) → (f ≡ Specifier → ⊥) → {piece : List ℕ} {first second : Written} {one answer : RangeOrInvalid} → IsShortPair piece first second
+    → ((p : Partial) → first.partial ≡ sized_partial p → one ≡ joined (comparator_of first.operator p ∷ []))
+    → ((cs : List Comparator) (p : Partial) → one ≡ joined cs → second.partial ≡ sized_partial p → answer ≡ joined (cs ++ comparator_of second.operator p ∷ []))
+    → IsWholeRead (IsFilled f) piece (Some answer)
+pair_filled f cuts {piece} {first} {second} {one} {answer} p read_one read_both = read_as_list f cuts whole (pieces_wider piece (c ∷ comparator_of second.operator b.partial ∷ []) whole) (read_both (c ∷ []) b.partial (read_one a.partial a.measured) b.measured)
+  where
+    a : IsNormal p.front first
+    a = short_normal p.in_front
+
+    b : IsNormal p.in_back.shorter second
+    b = short_normal p.in_back.operator_form
+
+    c : Comparator
+    c = comparator_of first.operator a.partial
+
+    whole : IsComparators Normal piece (c ∷ comparator_of second.operator b.partial ∷ [])
+    whole = rw p.text_is (more_items a.stands one_whitespace (only_item p.in_back b))
+
+-- a text at its first space
+pub parts_at_whitespace : (text : List ℕ) (r : Option (Bor (List ℕ) × Bor (List ℕ))) → IsSplitOnceResult 32 text r → IfSome r (λ p. text ≡ p.0.now ++ 32 ∷ p.1.now)
+parts_at_whitespace text None h = tt
+parts_at_whitespace text (Some p) h = (split_parts 32 text (Some p) h (omega arith)).0

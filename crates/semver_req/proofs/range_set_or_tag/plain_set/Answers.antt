@@ -1,8 +1,0 @@
-use Rattle.std.proofs.Common.{List, ap}
-use Rattle.semver_base.specs.declared.range.VersionRange.{VersionRange}
-use Rattle.semver_req.specs.declared.range_set_or_tag.RangeSetOrTag.TheVariants as inner
-use Rattle.semver_req.proofs.PlainComparators.{plain_reading}
-use Rattle.semver_req.proofs.range_set_or_tag.plain_set.Goals as goal
-
-pub returns : goal.returns
-returns c = plain_reading (inner.RangeSet (record { 0 = c.in_ok-ranges.ranges })) c.in-Some.ensures (ap (λ (r : List VersionRange). inner.RangeSet (record { 0 = r })) (rw c.into_range.ensures at c.in_ok-ranges.ensures))
