@@ -8,10 +8,6 @@
 
 #define BYTES(t) (t).at, (t).len
 #define OUT out, sizeof out, &needed
-#define PROBLEMS                                                                              \
-    [SEMVER_NO_REQUIREMENT] = "invalid requirement", [SEMVER_NO_VERSION] = "invalid version", \
-    [SEMVER_NO_UTF8] = "invalid UTF-8", [SEMVER_NO_MEMORY] = "out of memory", [SEMVER_NO_GRAMMAR] = "unknown grammar"
-
 enum { US = 0x1f, GS = 0x1d, RS = 0x1e, FIELDS = 5, LINES = 16 };
 
 typedef struct {
@@ -19,12 +15,8 @@ typedef struct {
     size_t len;
 } text;
 
-enum { CODES = SEMVER_NO_UTF8 + 1 };
-
-typedef const char *const names[CODES];
-
-static names FIT = {[SEMVER_NO] = "no", [SEMVER_YES] = "yes", [SEMVER_TAG] = "tag", PROBLEMS};
-static names ORDER = {[SEMVER_BEFORE] = "before", [SEMVER_SAME] = "same", [SEMVER_AFTER] = "after", PROBLEMS};
+/* What the codes from 0 on mean in an answer. */
+typedef enum { FIT, ORDER } names;
 
 long heap_alive(void), heap_limit(long allocations); /* of heap.c */
 
@@ -44,6 +36,12 @@ static text before(text t, int mark) {
     return (text){t.at, end ? (size_t)(end - t.at) : t.len};
 }
 
+/* What follows the first separator of fields, or nothing. */
+static text behind(text t) {
+    size_t front = before(t, US).len;
+    return front < t.len ? (text){t.at + front + 1, t.len - front - 1} : (text){t.at + t.len, 0};
+}
+
 /* Cuts the front of a text at a mark, and returns it. */
 static text cut(text *rest, int mark) {
     text front = before(*rest, mark);
@@ -52,32 +50,67 @@ static text cut(text *rest, int mark) {
     return front;
 }
 
+/* The name of a code in the table. */
+static const char *name_of(int32_t code, names of) {
+    switch (code) {
+    case SEMVER_NO: return of == ORDER ? "before" : "no";
+    case SEMVER_YES: return of == ORDER ? "same" : "yes";
+    case SEMVER_AFTER: return of == ORDER ? "after" : "no such code";
+    case SEMVER_TAG: return "tag";
+    case SEMVER_INVALID_RANGE: return "invalid range";
+    case SEMVER_INVALID_VERSION: return "invalid version";
+    case SEMVER_NOT_UTF8: return "invalid UTF-8";
+    case SEMVER_NO_GRAMMAR: return "unknown grammar";
+    case SEMVER_NO_MEMORY: return "out of memory";
+    default: return "no such code";
+    }
+}
+
+static int is_invalid(int32_t code) {
+    return code == SEMVER_INVALID_RANGE || code == SEMVER_INVALID_VERSION;
+}
+
 /* Compares an answer with the expected one: the name of its code, then what the call wrote. Where a call writes nothing, the name
  * alone is compared. */
-static void check(uint32_t code, names of, const void *written, size_t len) {
+static void check(int32_t code, names of, const void *written, size_t len) {
     static char answer[sizeof out + 32];
     if (memory_is_short && code == SEMVER_NO_MEMORY) return;
-    const char *name = code < CODES && of[code] ? of[code] : "no such code";
-    text wanted = written ? expected : before(expected, US);
-    int got = written && len ? sprintf(answer, "%s\x1f%.*s", name, (int)len, (const char *)written) : sprintf(answer, "%s", name);
+    text wanted = expected;
+    if (!written) wanted = before(wanted, US);
+    else if (is_invalid(code)) wanted.len = before(wanted, US).len + 1 + before(behind(wanted), US).len;
+    int got = written && len ? sprintf(answer, "%s\x1f%.*s", name_of(code, of), (int)len, (const char *)written)
+                             : sprintf(answer, "%s", name_of(code, of));
     if ((size_t)got == wanted.len && memcmp(answer, wanted.at, wanted.len) == 0) return;
     printf("%.*s: %s\n", (int)row.len, (const char *)row.at, answer);
     failed = 1;
 }
 
-static void check_text(uint32_t code) {
+/* Compares the place that a call of several arguments wrote: with an invalid one, the third field of the answer; else none is
+ * written, except by `best` and `lowest`. */
+static void check_place(int32_t code, size_t place) {
+    char number[24];
+    size_t len = sprintf(number, "%zu", place);
+    text wanted = behind(behind(expected));
+    if (code == SEMVER_NO_MEMORY && memory_is_short) wanted = (text){(const uint8_t *)"99", 2};
+    else if (!is_invalid(code)) wanted = (text){(const uint8_t *)"99", 2};
+    if (wanted.len == len && memcmp(wanted.at, number, len) == 0) return;
+    printf("%.*s: the place is %s\n", (int)row.len, (const char *)row.at, number);
+    failed = 1;
+}
+
+static void check_text(int32_t code) {
     check(code, FIT, out, needed);
 }
 
-/* Reads a requirement. Where it can't be read, that is the answer, and the handle has no value. */
+/* Parses a range. If it is invalid, that is the answer, and the handle has no value. */
 static int read_req(text t, semver_req *handle) {
-    uint32_t code = semver_req_read(grammar, BYTES(t), handle, OUT);
+    int32_t code = semver_req_read(grammar, BYTES(t), handle, OUT);
     if (code != SEMVER_YES) check_text(code);
     return code == SEMVER_YES;
 }
 
 static int read_version(text t, semver_ver *handle) {
-    uint32_t code = semver_version_read(BYTES(t), handle, OUT);
+    int32_t code = semver_version_read(BYTES(t), handle, OUT);
     if (code != SEMVER_YES) check_text(code);
     return code == SEMVER_YES;
 }
@@ -100,37 +133,130 @@ static size_t item(size_t len, const char *name) {
     return len + sprintf((char *)out + len, len ? "\x1f%s" : "%s", name);
 }
 
-static void filter(const text *t) {
-    uint8_t answers[LINES];
+static int8_t answers[LINES];
+
+static void check_answers(int32_t code) {
     size_t len = 0;
-    uint32_t code = semver_filter(grammar, BYTES(t[0]), BYTES(t[1]), pre_releases, answers, LINES, &needed);
-    for (size_t n = 0; n < needed; n++) len = item(len, FIT[answers[n]]);
+    for (size_t n = 0; n < needed; n++) len = item(len, name_of(answers[n], FIT));
     check(code, FIT, code == SEMVER_YES ? out : NULL, len);
 }
 
+/* The versions of a list that is held. */
+static void filter_list(const text *t) {
+    semver_req r = {0};
+    semver_list list = {0};
+    size_t lines;
+    if (!read_req(t[0], &r)) return;
+    int32_t code = semver_list_read(BYTES(t[1]), &list, &lines);
+    if (code == SEMVER_YES) {
+        check_answers(semver_list_filter(&list, &r, pre_releases, answers, LINES, &needed));
+        semver_list_free(&list);
+    } else {
+        check(code, FIT, NULL, 0);
+    }
+    semver_req_free(&r);
+}
+
+static void filter(const text *t) {
+    check_answers(semver_filter(grammar, BYTES(t[0]), BYTES(t[1]), pre_releases, answers, LINES, &needed));
+    filter_list(t);
+}
+
 static void sort(const text *t) {
-    size_t places[LINES], len = 0;
+    size_t places[LINES], len = 0, place = 99;
     char number[24];
-    uint32_t code = semver_sort(BYTES(t[0]), places, LINES, &needed);
+    int32_t code = semver_sort(BYTES(t[0]), places, LINES, &needed, &place);
     for (size_t n = 0; n < needed; n++) {
         sprintf(number, "%zu", places[n]);
         len = item(len, number);
     }
     check(code, FIT, code == SEMVER_YES ? out : NULL, len);
+    check_place(code, place);
+}
+
+static void check_match(int32_t code, size_t place) {
+    check(code, FIT, code == SEMVER_YES ? out : NULL, sprintf((char *)out, "%zu", place));
+    if (code != SEMVER_YES) check_place(code, place);
 }
 
 static void best(const text *t) {
-    size_t place = 0;
-    uint32_t code = semver_best(grammar, BYTES(t[0]), BYTES(t[1]), pre_releases, &place);
-    check(code, FIT, code == SEMVER_YES ? out : NULL, sprintf((char *)out, "%zu", place));
+    size_t place = 99;
+    int32_t code = semver_best(grammar, BYTES(t[0]), BYTES(t[1]), pre_releases, &place);
+    check_match(code, place);
+}
+
+static void lowest(const text *t) {
+    size_t place = 99;
+    int32_t code = semver_lowest(grammar, BYTES(t[0]), BYTES(t[1]), pre_releases, &place);
+    check_match(code, place);
 }
 
 static void overlap(const text *t) {
-    check(semver_overlap(grammar, BYTES(t[0]), BYTES(t[1])), FIT, NULL, 0);
+    size_t place = 99;
+    int32_t code = semver_overlap(grammar, BYTES(t[0]), BYTES(t[1]), &place);
+    check(code, FIT, NULL, 0);
+    check_place(code, place);
+}
+
+static void equivalent(const text *t) {
+    size_t place = 99;
+    int32_t code = semver_equivalent(grammar, BYTES(t[0]), BYTES(t[1]), pre_releases, &place);
+    check(code, FIT, NULL, 0);
+    check_place(code, place);
 }
 
 static void compare(const text *t) {
-    check(semver_compare(BYTES(t[0]), BYTES(t[1])), ORDER, NULL, 0);
+    size_t place = 99;
+    int32_t code = semver_compare(BYTES(t[0]), BYTES(t[1]), &place);
+    check(code, ORDER, NULL, 0);
+    check_place(code, place);
+}
+
+static void within(const text *t) {
+    size_t place = 99;
+    int32_t code = semver_within(grammar, BYTES(t[0]), BYTES(t[1]), pre_releases, OUT, &place);
+    check_text(code);
+    check_place(code, place);
+}
+
+static void common(const text *t) {
+    size_t place = 99;
+    int32_t code = semver_common(grammar, BYTES(t[0]), BYTES(t[1]), pre_releases, OUT, &place);
+    check_text(code);
+    check_place(code, place);
+}
+
+static void common_all(const text *t) {
+    size_t place = 99;
+    int32_t code = semver_common_all(grammar, BYTES(t[0]), pre_releases, OUT, &place);
+    check_text(code);
+    check_place(code, place);
+}
+
+static void min_version(const text *t) {
+    check_text(semver_min_version(grammar, BYTES(t[0]), pre_releases, OUT));
+}
+
+/* A handle's text is written when it is parsed, too. */
+static void normal(const text *t) {
+    semver_req r = {0};
+    int32_t code = semver_req_read(grammar, BYTES(t[0]), &r, OUT);
+    check_text(code);
+    if (code == SEMVER_YES) semver_req_free(&r);
+}
+
+static void version(const text *t) {
+    semver_ver v = {0};
+    int32_t code = semver_version_read(BYTES(t[0]), &v, OUT);
+    check_text(code);
+    if (code == SEMVER_YES) semver_version_free(&v);
+}
+
+static void is_tag(const text *t) {
+    semver_req r = {0};
+    if (!read_req(t[0], &r)) return;
+    check(semver_req_is_tag(&r), FIT, NULL, 0);
+    semver_req_free(&r);
 }
 
 static void may_be_tag(const text *t) {
@@ -144,55 +270,64 @@ static void package(const text *t) {
 }
 
 /* A question's name; how many of a grammar and pre-releases stand before its texts; and the calls that answer it: of texts, of two
- * values that are kept, of one. */
+ * values that are held, of one. */
 static const struct call {
     const char *name;
     int options;
     void (*ask)(const text *t);
-    uint32_t (*text)(const uint8_t *, size_t, uint8_t *, size_t, size_t *);
-    uint32_t (*req)(uint32_t, const uint8_t *, size_t, uint8_t *, size_t, size_t *);
-    uint32_t (*two)(uint32_t, const uint8_t *, size_t, const uint8_t *, size_t, uint8_t *, size_t, size_t *);
-    uint32_t (*kept_reqs)(semver_req *, semver_req *);
-    uint32_t (*kept_versions)(semver_ver *, semver_ver *);
-    uint32_t (*kept_req)(semver_req *, uint8_t *, size_t, size_t *);
-    uint32_t (*kept_version)(semver_ver *, uint8_t *, size_t, size_t *);
+    int32_t (*text)(const uint8_t *, size_t, uint8_t *, size_t, size_t *);
+    int32_t (*req)(uint32_t, const uint8_t *, size_t, uint8_t *, size_t, size_t *);
+    int32_t (*held_reqs)(semver_req *, semver_req *);
+    int32_t (*held_versions)(semver_ver *, semver_ver *);
+    int32_t (*held_req)(semver_req *, uint8_t *, size_t, size_t *);
+    int32_t (*held_version)(semver_ver *, uint8_t *, size_t, size_t *);
 } CALLS[] = {
     {"fits", 2, .ask = fits},
     {"filter", 2, .ask = filter},
     {"best", 2, .ask = best},
+    {"lowest", 2, .ask = lowest},
     {"sort", 0, .ask = sort},
     {"may_be_tag", 0, .ask = may_be_tag},
     {"package", 1, .ask = package},
     {"reference", 0, .text = semver_reference},
-    {"compare", 0, .ask = compare, .kept_versions = semver_version_compare},
-    {"order", 0, .kept_versions = semver_version_order},
-    {"overlap", 1, .ask = overlap, .kept_reqs = semver_req_overlap},
-    {"equal", 1, .kept_reqs = semver_req_equal},
-    {"within", 1, .two = semver_within},
-    {"common", 1, .two = semver_common},
-    {"least", 1, .req = semver_least},
-    {"normal", 1, .req = semver_normal, .kept_req = semver_req_normal},
-    {"text", 1, .kept_req = semver_req_text},
-    {"version", 0, .text = semver_version, .kept_version = semver_version_text},
+    {"version_parts", 0, .text = semver_version_parts},
+    {"ranges", 1, .req = semver_ranges},
+    {"name_with_version", 0, .text = semver_name_with_version},
+    {"version_reference", 0, .text = semver_version_reference},
+    {"dependency", 1, .req = semver_dependency},
+    {"export_name", 0, .text = semver_export_name},
+    {"compare", 0, .ask = compare, .held_versions = semver_version_compare},
+    {"order", 0, .held_versions = semver_version_order},
+    {"overlap", 1, .ask = overlap, .held_reqs = semver_req_overlap},
+    {"equal", 1, .held_reqs = semver_req_equal},
+    {"is_tag", 1, .ask = is_tag},
+    {"within", 2, .ask = within},
+    {"equivalent", 2, .ask = equivalent},
+    {"common", 2, .ask = common},
+    {"common_all", 2, .ask = common_all},
+    {"min_version", 2, .ask = min_version},
+    {"normal", 1, .ask = normal, .req = semver_normal, .held_req = semver_req_normal},
+    {"text", 1, .held_req = semver_req_text},
+    {"version", 0, .ask = version, .text = semver_version, .held_version = semver_version_text},
 };
 
-static void ask_kept_reqs(const struct call *c, const text *t) {
+static void ask_held_reqs(const struct call *c, const text *t) {
     semver_req r = {0}, s = {0};
     if (!read_req(t[0], &r)) return;
-    if (c->kept_req) check_text(c->kept_req(&r, OUT));
-    if (c->kept_reqs && read_req(t[1], &s)) {
-        check(c->kept_reqs(&r, &s), FIT, NULL, 0);
+    if (c->held_req) check_text(c->held_req(&r, OUT));
+    if (c->held_reqs && read_req(t[1], &s)) {
+        check(c->held_reqs(&r, &s), FIT, NULL, 0);
         semver_req_free(&s);
     }
     semver_req_free(&r);
 }
 
-static void ask_kept_versions(const struct call *c, const text *t) {
+static void ask_held_versions(const struct call *c, const text *t) {
     semver_ver v = {0}, w = {0};
     if (!read_version(t[0], &v)) return;
-    if (c->kept_version) check_text(c->kept_version(&v, OUT));
-    if (c->kept_versions && read_version(t[1], &w)) {
-        check(c->kept_versions(&v, &w), ORDER, NULL, 0);
+    if (c->held_version) check_text(c->held_version(&v, OUT));
+    if (c->held_versions && read_version(t[1], &w)) {
+        check(c->held_versions(&v, &w), ORDER, NULL, 0);
         semver_version_free(&w);
     }
     semver_version_free(&v);
@@ -202,9 +337,8 @@ static void ask(const struct call *c, const text *t) {
     if (c->ask) c->ask(t);
     if (c->text) check_text(c->text(BYTES(t[0]), OUT));
     if (c->req) check_text(c->req(grammar, BYTES(t[0]), OUT));
-    if (c->two) check_text(c->two(grammar, BYTES(t[0]), BYTES(t[1]), OUT));
-    if (c->kept_req || c->kept_reqs) ask_kept_reqs(c, t);
-    if (c->kept_version || c->kept_versions) ask_kept_versions(c, t);
+    if (c->held_req || c->held_reqs) ask_held_reqs(c, t);
+    if (c->held_version || c->held_versions) ask_held_versions(c, t);
 }
 
 /* Asks with ample memory; then with the first allocation and all after it failing, then from the second on, until none fails. */
@@ -232,7 +366,7 @@ static void ask_row(void) {
                                            : 3;
     pre_releases = is(fields[2], "admitted") ? SEMVER_ADMITTED : SEMVER_RESTRICTED;
     if (c < end) ask_with_each_limit(c, fields + 1 + c->options);
-    else check(8, FIT, NULL, 0);
+    else check(99, FIT, NULL, 0);
 }
 
 int main(int count, char **arguments) {

@@ -8,19 +8,25 @@
  * - `malloc`, `realloc` and `free` are those of one allocator, and a block is aligned to each power of two up to 16 that
  *   divides its size.
  *
- * A call returns a code, SEMVER_NO_MEMORY if memory runs out. The grammar's number is checked first, then whether each text is UTF-8, then
- * each text from the left; the first that is invalid decides.
+ * A call returns a code: 0 and above is an answer, and a negative one says why there is none. So `semver_fits(..) > 0` is true
+ * exactly if the version matches. The grammar's number is checked first, then whether each text is UTF-8, then each text from the
+ * left; the first that is invalid decides.
  *
- * A text is written to the front of `out` if it fits, and the rest of `out` stays; if it doesn't, `out` stays as it was. Its length is in
- * `*needed` either way, 0 if there is none. With the codes from SEMVER_NO_REQUIREMENT on the text is an error message. To ask for no text,
- * give a buffer of length 0.
+ * A text is written to the front of `out` if it fits, and the rest of `out` stays; if it doesn't, `out` stays as it was. Its length
+ * is in `*needed` either way, 0 if there is none. With the codes from SEMVER_INVALID_RANGE down the text is an error message. To ask
+ * for no text, give a buffer of length 0.
  *
- * The time of semver_least, semver_common and semver_within grows with the square of the number of alternatives of all ranges: two of
- * 3,200 each take half a second or less. Limit the length of ranges that strangers write. */
+ * A call of several arguments of one kind writes `*place` with SEMVER_INVALID_RANGE and SEMVER_INVALID_VERSION: which of them it is,
+ * the first or the second of two, or the line of a list, counted from 0. For any other code `*place` stays as it was, unless said
+ * otherwise. A line ends at "\n" or "\r\n", and there is none after the last; an empty text has none.
+ *
+ * The time of semver_min_version, semver_common, semver_common_all, semver_within and semver_equivalent grows with the square of the
+ * number of alternatives of all ranges: two of 3,200 each take half a second or less. Limit the length of ranges that strangers write. */
 #ifndef SEMVER_H
 #define SEMVER_H
 
 #define SEMVER_VERSION "0.1.0"
+#define SEMVER_API 1
 
 #include <stddef.h>
 #include <stdint.h>
@@ -39,84 +45,124 @@ enum {
 /* pre-releases: by npm's rule, or every one between the bounds */
 enum { SEMVER_RESTRICTED = 0, SEMVER_ADMITTED = 1 };
 
-/* codes; from 3 on a number that the programs exit with means the same here, and 6, output that can't be written, is theirs alone */
+/* codes */
 enum {
     SEMVER_NO = 0,
     SEMVER_YES = 1,
-    SEMVER_TAG = 2, /* a range is a tag, the name that a registry gives a version */
     SEMVER_BEFORE = 0, SEMVER_SAME = 1, SEMVER_AFTER = 2, /* of two versions */
-    SEMVER_NO_REQUIREMENT = 3, /* a range, package or reference is invalid */
-    SEMVER_NO_GRAMMAR = 4,      /* no grammar has this number */
-    SEMVER_NO_MEMORY = 5,      /* out of memory */
-    SEMVER_NO_VERSION = 7,     /* a version is invalid */
-    SEMVER_NO_UTF8 = 8         /* bytes aren't valid UTF-8 */
+    SEMVER_TAG = -1,             /* a range is a tag, the name that a registry gives a version, so there is no other answer */
+    SEMVER_INVALID_RANGE = -2,   /* a range, a package or a reference is invalid */
+    SEMVER_INVALID_VERSION = -3,
+    SEMVER_NOT_UTF8 = -4,        /* bytes aren't valid UTF-8 */
+    SEMVER_NO_GRAMMAR = -5,      /* no grammar has this number */
+    SEMVER_NO_MEMORY = -6        /* out of memory */
 };
 
-/* Whether the version matches the range: NO, YES or TAG. */
-uint32_t semver_fits(uint32_t grammar, const uint8_t *requirement, size_t requirement_len,
-                     const uint8_t *version, size_t version_len, uint32_t pre_releases,
-                     uint8_t *out, size_t out_len, size_t *needed);
+/* ---- versions and ranges, from texts */
 
-/* Whether each version of a list, one per line, matches the range: YES. `answers[n]` is the code of line n, NO, YES, TAG or
- * NO_VERSION, and `*needed` how many lines there are. Where there are more than `answers_len`, `answers` stays as it was. A line
- * ends at "\n" or "\r\n", and there is none after the last; an empty text has none. */
-uint32_t semver_filter(uint32_t grammar, const uint8_t *requirement, size_t requirement_len,
-                       const uint8_t *versions, size_t versions_len, uint32_t pre_releases,
-                       uint8_t *answers, size_t answers_len, size_t *needed);
+/* Whether the version matches the range: NO, YES or TAG. */
+int32_t semver_fits(uint32_t grammar, const uint8_t *range, size_t range_len,
+                    const uint8_t *version, size_t version_len, uint32_t pre_releases,
+                    uint8_t *out, size_t out_len, size_t *needed);
+
+/* Which versions of a list, one per line, match the range: YES or TAG. With YES `answers[n]` is the answer of line n, NO, YES or
+ * INVALID_VERSION, and `*needed` is the number of lines, else 0. If there are more than `answers_len`, `answers` stays as it was;
+ * it does for any code but YES, too. */
+int32_t semver_filter(uint32_t grammar, const uint8_t *range, size_t range_len,
+                      const uint8_t *versions, size_t versions_len, uint32_t pre_releases,
+                      int8_t *answers, size_t answers_len, size_t *needed);
 
 /* Which of several versions, one per line, is the highest that matches the range, the first of equal ones: YES, and `*place` is its
- * line, counted from 0; NO, where none matches; or TAG. At any code but YES `*place` stays as it was. Each version is read, and the
- * code is NO_VERSION where one is invalid. */
-uint32_t semver_best(uint32_t grammar, const uint8_t *requirement, size_t requirement_len,
-                     const uint8_t *versions, size_t versions_len, uint32_t pre_releases, size_t *place);
+ * line, counted from 0; NO, if none matches; or TAG. With INVALID_VERSION `*place` is the line, with INVALID_RANGE 0. */
+int32_t semver_best(uint32_t grammar, const uint8_t *range, size_t range_len,
+                    const uint8_t *versions, size_t versions_len, uint32_t pre_releases, size_t *place);
 
-/* The places of several versions, a line each, in the order of precedence: YES. `places[0]` is the line of the lowest, counted from 0,
- * and versions that differ in the build alone keep their order; `*needed` is how many lines there are. Where there are more than
- * `places_len`, `places` stays as it was. Each version is read, and the code is NO_VERSION where one is invalid. */
-uint32_t semver_sort(const uint8_t *versions, size_t versions_len, size_t *places, size_t places_len, size_t *needed);
+/* The lowest that matches, the first of equal ones: like semver_best. */
+int32_t semver_lowest(uint32_t grammar, const uint8_t *range, size_t range_len,
+                      const uint8_t *versions, size_t versions_len, uint32_t pre_releases, size_t *place);
 
-/* The order of two versions, in which the build has no part: BEFORE, where the first is before the other, SAME or AFTER. */
-uint32_t semver_compare(const uint8_t *one, size_t one_len, const uint8_t *other, size_t other_len);
+/* The places of several versions, one per line, in the order of precedence: YES. `places[0]` is the line of the lowest, counted from
+ * 0, versions that differ only in the build keep their order, and `*needed` is the number of lines. If there are more than
+ * `places_len`, `places` stays as it was. */
+int32_t semver_sort(const uint8_t *versions, size_t versions_len, size_t *places, size_t places_len, size_t *needed,
+                    size_t *place);
+
+/* The order of two versions, builds aside: BEFORE, if the first is before the other, SAME or AFTER. */
+int32_t semver_compare(const uint8_t *one, size_t one_len, const uint8_t *other, size_t other_len, size_t *place);
 
 /* Whether two ranges overlap by their bounds: NO or YES. Two tags do if they are the same, a tag and versions never. */
-uint32_t semver_overlap(uint32_t grammar, const uint8_t *one, size_t one_len, const uint8_t *other, size_t other_len);
+int32_t semver_overlap(uint32_t grammar, const uint8_t *one, size_t one_len, const uint8_t *other, size_t other_len,
+                       size_t *place);
 
 /* Whether the other range matches each version that the first one matches: YES; NO, with the text of the lowest version that
  * it doesn't; or TAG. */
-uint32_t semver_within(uint32_t grammar, const uint8_t *one, size_t one_len, const uint8_t *other, size_t other_len,
-                       uint8_t *out, size_t out_len, size_t *needed);
+int32_t semver_within(uint32_t grammar, const uint8_t *one, size_t one_len, const uint8_t *other, size_t other_len,
+                      uint32_t pre_releases, uint8_t *out, size_t out_len, size_t *needed, size_t *place);
+
+/* Whether two ranges match the same versions: NO, YES or TAG. */
+int32_t semver_equivalent(uint32_t grammar, const uint8_t *one, size_t one_len, const uint8_t *other, size_t other_len,
+                          uint32_t pre_releases, size_t *place);
 
 /* The lowest version that both ranges match: YES, with its text; NO, if there is none; or TAG. */
-uint32_t semver_common(uint32_t grammar, const uint8_t *one, size_t one_len, const uint8_t *other, size_t other_len,
-                       uint8_t *out, size_t out_len, size_t *needed);
+int32_t semver_common(uint32_t grammar, const uint8_t *one, size_t one_len, const uint8_t *other, size_t other_len,
+                      uint32_t pre_releases, uint8_t *out, size_t out_len, size_t *needed, size_t *place);
+
+/* The lowest version that all ranges match, one per line: like semver_common; NO, if there is no line. */
+int32_t semver_common_all(uint32_t grammar, const uint8_t *ranges, size_t ranges_len, uint32_t pre_releases,
+                          uint8_t *out, size_t out_len, size_t *needed, size_t *place);
 
 /* The lowest version that the range matches: YES, with its text; NO, if there is none; or TAG. */
-uint32_t semver_least(uint32_t grammar, const uint8_t *requirement, size_t requirement_len,
+int32_t semver_min_version(uint32_t grammar, const uint8_t *range, size_t range_len, uint32_t pre_releases,
+                           uint8_t *out, size_t out_len, size_t *needed);
+
+/* The canonical form of the range: YES. That of a tag is the tag. */
+int32_t semver_normal(uint32_t grammar, const uint8_t *range, size_t range_len,
                       uint8_t *out, size_t out_len, size_t *needed);
 
-/* The canonical form of the range: YES. */
-uint32_t semver_normal(uint32_t grammar, const uint8_t *requirement, size_t requirement_len,
-                       uint8_t *out, size_t out_len, size_t *needed);
-
 /* How the version is displayed: YES. */
-uint32_t semver_version(const uint8_t *version, size_t version_len, uint8_t *out, size_t out_len, size_t *needed);
+int32_t semver_version(const uint8_t *version, size_t version_len, uint8_t *out, size_t out_len, size_t *needed);
 
 /* Whether the text may be the tag of a version, by npm's rules: NO or YES. */
-uint32_t semver_may_be_tag(const uint8_t *text, size_t text_len);
+int32_t semver_may_be_tag(const uint8_t *text, size_t text_len);
 
-/* The parts of a package with a range, such as @scope/name@^1.2, as JSON: YES. The text is an object with the members
- * "name", without its scope, "normal", the canonical form of the range, "requirement", the text it was parsed from, and
- * "scope", without its @ or null, without whitespace between these. The grammar is that of the range.
- * Where the text is invalid the code is NO_REQUIREMENT. */
-uint32_t semver_package(uint32_t grammar, const uint8_t *text, size_t text_len, uint8_t *out, size_t out_len, size_t *needed);
+/* The ranges of a range, in the order in which they stand, as JSON: YES or TAG. Each has the members "end" and "start", its bounds: null,
+ * or an object with "inclusive", whether the version itself lies within it, and "version". */
+int32_t semver_ranges(uint32_t grammar, const uint8_t *range, size_t range_len, uint8_t *out, size_t out_len, size_t *needed);
 
-/* The parts of the text of a reference to a package, such as jsr:@scope/name@1/mod.ts, as JSON: YES. The text is an object with the members
- * "export", the export of a package of JSR and else null, "kind", "jsr" or "npm", "package", as of semver_package, and "path", null
- * where there is none. Its grammar is the strict one. Where the text is invalid the code is NO_REQUIREMENT. */
-uint32_t semver_reference(const uint8_t *text, size_t text_len, uint8_t *out, size_t out_len, size_t *needed);
+/* The parts of a version, as JSON: YES. "major", "minor" and "patch" are texts, and "build" and "pre" are arrays of texts. */
+int32_t semver_version_parts(const uint8_t *version, size_t version_len, uint8_t *out, size_t out_len, size_t *needed);
 
-/* Values that are kept across calls. `semver_req r = {0};` has none. Only the calls below write a handle; it is used by one thread
- * at a time, is given to a call as one argument only, and isn't copied while it has a value: a copy would be a second owner. */
+/* ---- packages, from texts: JSON without whitespace between its parts, with the members in the order given here */
+
+/* The parts of a package with a range, such as @scope/name@^1.2: YES. The members are "name", without its scope, "normal", the
+ * canonical form of the range, "requirement", the text it was parsed from, and "scope", without its @ or null. The grammar is that
+ * of the range. */
+int32_t semver_package(uint32_t grammar, const uint8_t *text, size_t text_len, uint8_t *out, size_t out_len, size_t *needed);
+
+/* The parts of a reference to a package, such as jsr:@scope/name@1/mod.ts: YES. The members are "export", the export of a JSR
+ * package and else null, "kind", "jsr" or "npm", "package", as of semver_package, and "path" or null. The grammar of its range is the
+ * strict one. */
+int32_t semver_reference(const uint8_t *text, size_t text_len, uint8_t *out, size_t out_len, size_t *needed);
+
+/* The parts of a name with a version, such as @scope/name@1.2.3: YES. The members are "name", without its scope, "scope", without its
+ * @ or null, and "version". */
+int32_t semver_name_with_version(const uint8_t *text, size_t text_len, uint8_t *out, size_t out_len, size_t *needed);
+
+/* The parts of a reference to one version of a package, such as jsr:@scope/name@1.2.3/mod.ts: YES. The members are "export", "kind" and
+ * "path", as of semver_reference, and "package", as of semver_name_with_version. */
+int32_t semver_version_reference(const uint8_t *text, size_t text_len, uint8_t *out, size_t out_len, size_t *needed);
+
+/* The parts of a dependency, such as jsr:@scope/name@^1.2 or npm:name@1: YES. The members are "kind", "jsr" or "npm", "normal", the
+ * canonical form of the whole text, and "package", as of semver_package. The grammar is that of the range. */
+int32_t semver_dependency(uint32_t grammar, const uint8_t *text, size_t text_len, uint8_t *out, size_t out_len, size_t *needed);
+
+/* The name of the export that the path of a module in a JSR package means, such as ./mod.ts: YES. */
+int32_t semver_export_name(const uint8_t *path, size_t path_len, uint8_t *out, size_t out_len, size_t *needed);
+
+/* ---- values that are held across calls
+ *
+ * `semver_req r = {0};` has none. Only the calls below write a handle. A handle is used by one thread at a time, is given to a call as
+ * one argument only, and isn't copied while it has a value: a copy would be a second owner. */
 typedef struct {
     void *at;
 } semver_req;
@@ -125,44 +171,66 @@ typedef struct {
     void *at;
 } semver_ver;
 
-/* Parses a range into a handle that has none: YES. At any other code it still has none. */
-uint32_t semver_req_read(uint32_t grammar, const uint8_t *text, size_t text_len, semver_req *handle,
-                         uint8_t *out, size_t out_len, size_t *needed);
+/* versions, one per line, that are parsed once and asked of by many ranges */
+typedef struct {
+    void *at;
+} semver_list;
 
-/* Parses a version into a handle that has none: YES. At any other code it still has none. */
-uint32_t semver_version_read(const uint8_t *text, size_t text_len, semver_ver *handle,
-                             uint8_t *out, size_t out_len, size_t *needed);
+/* Parses a range into a handle that has none: YES, with its canonical form, or the tag. For any other code it still has none. */
+int32_t semver_req_read(uint32_t grammar, const uint8_t *text, size_t text_len, semver_req *handle,
+                        uint8_t *out, size_t out_len, size_t *needed);
+
+/* Parses a version into a handle that has none: YES, with its text as displayed. For any other code it still has none. */
+int32_t semver_version_read(const uint8_t *text, size_t text_len, semver_ver *handle,
+                            uint8_t *out, size_t out_len, size_t *needed);
 
 /* Frees the value of a handle that has one; it has none then. */
 void semver_req_free(semver_req *handle);
 void semver_version_free(semver_ver *handle);
 
-/* The handles of the calls below have a value, and keep it. */
+/* The handles of the calls below have a value, which stays. */
+
+/* Whether the range is a tag: NO or YES. */
+int32_t semver_req_is_tag(semver_req *handle);
 
 /* Whether a version from a text matches the range: as semver_fits. */
-uint32_t semver_req_fits(semver_req *requirement, const uint8_t *version, size_t version_len, uint32_t pre_releases);
+int32_t semver_req_fits(semver_req *range, const uint8_t *version, size_t version_len, uint32_t pre_releases);
 
 /* Whether the version matches the range: NO, YES or TAG. */
-uint32_t semver_req_matches(semver_req *requirement, semver_ver *version, uint32_t pre_releases);
+int32_t semver_req_matches(semver_req *range, semver_ver *version, uint32_t pre_releases);
 
 /* Whether two ranges overlap: as semver_overlap. The handles are two. */
-uint32_t semver_req_overlap(semver_req *one, semver_req *other);
-
-/* The order of two versions: as semver_compare. The handles are two. */
-uint32_t semver_version_compare(semver_ver *one, semver_ver *other);
-
-/* The order in which versions that differ in the build alone are ordered by it. The handles are two. */
-uint32_t semver_version_order(semver_ver *one, semver_ver *other);
+int32_t semver_req_overlap(semver_req *one, semver_req *other);
 
 /* Whether two ranges mean the same, whatever texts they were parsed from: NO or YES. The handles are two. */
-uint32_t semver_req_equal(semver_req *one, semver_req *other);
+int32_t semver_req_equal(semver_req *one, semver_req *other);
 
-/* The text that the range was parsed from: YES. Without the whitespace around it, if npm's parser parsed it. */
-uint32_t semver_req_text(semver_req *handle, uint8_t *out, size_t out_len, size_t *needed);
+/* The text that the range was parsed from: YES. Without the whitespace around it, if it was parsed by npm's grammar. */
+int32_t semver_req_text(semver_req *handle, uint8_t *out, size_t out_len, size_t *needed);
 
 /* The canonical form of the range, and how the version is displayed: YES, or NO_MEMORY. */
-uint32_t semver_req_normal(semver_req *handle, uint8_t *out, size_t out_len, size_t *needed);
-uint32_t semver_version_text(semver_ver *handle, uint8_t *out, size_t out_len, size_t *needed);
+int32_t semver_req_normal(semver_req *handle, uint8_t *out, size_t out_len, size_t *needed);
+int32_t semver_version_text(semver_ver *handle, uint8_t *out, size_t out_len, size_t *needed);
+
+/* The order of two versions: as semver_compare. The handles are two. */
+int32_t semver_version_compare(semver_ver *one, semver_ver *other);
+
+/* The order in which versions that differ only in the build are ordered by it. The handles are two. */
+int32_t semver_version_order(semver_ver *one, semver_ver *other);
+
+/* Parses versions, one per line, into a handle that has none: YES, and `*lines` is the number of lines. A line that isn't a version keeps
+ * its place and matches nothing. For any other code, NOT_UTF8 or NO_MEMORY, the handle still has none, and `*lines` stays as it was. */
+int32_t semver_list_read(const uint8_t *versions, size_t versions_len, semver_list *handle, size_t *lines);
+
+/* Frees the versions of a handle that has some; it has none then. */
+void semver_list_free(semver_list *handle);
+
+/* Which versions of the list match the range: as semver_filter. */
+int32_t semver_list_filter(semver_list *list, semver_req *range, uint32_t pre_releases,
+                           int8_t *answers, size_t answers_len, size_t *needed);
+
+/* SEMVER_API of the library: a binding rejects another one when it is loaded. */
+uint32_t semver_api(void);
 
 #ifdef __cplusplus
 }

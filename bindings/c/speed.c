@@ -1,4 +1,4 @@
-/* The time of a call, over 100,000 versions: the least of seven passes, by the thread's processor time. */
+/* The time of a call, over 100,000 versions: the lowest of seven passes, by the thread's processor time. */
 #include "semver.h"
 #include <stdio.h>
 #include <stdlib.h>
@@ -9,8 +9,9 @@ enum { VERSIONS = 100000, PASSES = 7 };
 
 static const uint8_t *starts[VERSIONS];
 static size_t lens[VERSIONS], list_len, needed;
-static uint8_t *list, answers[VERSIONS];
-static semver_ver kept[VERSIONS];
+static uint8_t *list, text[64];
+static int8_t answers[VERSIONS];
+static semver_ver held[VERSIONS];
 
 static double now(void) {
     struct timespec t;
@@ -24,46 +25,46 @@ static void make_versions(void) {
     for (int i = 0; i < VERSIONS; i++) {
         starts[i] = (uint8_t *)at;
         lens[i] = sprintf(at, i % 3 ? "%d.%d.%d" : "%d.%d.%d-rc.%d", i % 7, i % 31, i % 101, i % 5);
-        semver_version_read(starts[i], lens[i], &kept[i], answers, 0, &needed);
+        semver_version_read(starts[i], lens[i], &held[i], text, 0, &needed);
         at += lens[i];
         *at++ = '\n';
     }
     list_len = at - (char *)list;
 }
 
-static unsigned each_text(const char *req) {
-    unsigned sum = 0;
+static int each_text(const char *req) {
+    int sum = 0;
     for (int i = 0; i < VERSIONS; i++)
-        sum += semver_fits(SEMVER_NPM, (const uint8_t *)req, strlen(req), starts[i], lens[i], SEMVER_RESTRICTED, answers, 0, &needed);
+        sum += semver_fits(SEMVER_NPM, (const uint8_t *)req, strlen(req), starts[i], lens[i], SEMVER_RESTRICTED, text, 0, &needed);
     return sum;
 }
 
-static unsigned each_by_handle(const char *req) {
-    unsigned sum = 0;
+static int each_by_handle(const char *req) {
+    int sum = 0;
     semver_req r = {0};
-    semver_req_read(SEMVER_NPM, (const uint8_t *)req, strlen(req), &r, answers, 0, &needed);
+    semver_req_read(SEMVER_NPM, (const uint8_t *)req, strlen(req), &r, text, 0, &needed);
     for (int i = 0; i < VERSIONS; i++) sum += semver_req_fits(&r, starts[i], lens[i], SEMVER_RESTRICTED);
     semver_req_free(&r);
     return sum;
 }
 
-static unsigned both_by_handle(const char *req) {
-    unsigned sum = 0;
+static int both_by_handle(const char *req) {
+    int sum = 0;
     semver_req r = {0};
-    semver_req_read(SEMVER_NPM, (const uint8_t *)req, strlen(req), &r, answers, 0, &needed);
-    for (int i = 0; i < VERSIONS; i++) sum += semver_req_matches(&r, &kept[i], SEMVER_RESTRICTED);
+    semver_req_read(SEMVER_NPM, (const uint8_t *)req, strlen(req), &r, text, 0, &needed);
+    for (int i = 0; i < VERSIONS; i++) sum += semver_req_matches(&r, &held[i], SEMVER_RESTRICTED);
     semver_req_free(&r);
     return sum;
 }
 
-static unsigned one_call(const char *req) {
-    unsigned sum = 0;
+static int one_call(const char *req) {
+    int sum = 0;
     semver_filter(SEMVER_NPM, (const uint8_t *)req, strlen(req), list, list_len, SEMVER_RESTRICTED, answers, VERSIONS, &needed);
     for (int i = 0; i < VERSIONS; i++) sum += answers[i];
     return sum;
 }
 
-static double least(unsigned (*way)(const char *), const char *req, unsigned expected) {
+static double lowest(int (*way)(const char *), const char *req, int expected) {
     double best = 1e18;
     for (int pass = 0; pass < PASSES; pass++) {
         double start = now();
@@ -77,10 +78,10 @@ int main(void) {
     const char *reqs[] = {"^1.2", ">=1.2 <2 || 3.x || ~5.6.7"};
     make_versions();
     for (int r = 0; r < 2; r++) {
-        unsigned sum = each_text(reqs[r]);
-        printf("%-28s texts %.0f ns, requirement kept %.0f ns, both kept %.0f ns, one call %.0f ns a version\n", reqs[r],
-               least(each_text, reqs[r], sum), least(each_by_handle, reqs[r], sum), least(both_by_handle, reqs[r], sum),
-               least(one_call, reqs[r], sum));
+        int sum = each_text(reqs[r]);
+        printf("%-28s texts %.0f ns, range held %.0f ns, both held %.0f ns, one call %.0f ns a version\n", reqs[r],
+               lowest(each_text, reqs[r], sum), lowest(each_by_handle, reqs[r], sum), lowest(both_by_handle, reqs[r], sum),
+               lowest(one_call, reqs[r], sum));
     }
     return 0;
 }

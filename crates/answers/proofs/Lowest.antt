@@ -2,7 +2,7 @@
 use Rattle.std.proofs.Common.{◌≡◌, ℕ, List, [], ◌∷◌, Option, None, Result, Ok, Bool, true, refl, sym, ap, subst, inr, ◌∙◌}
 use Rattle.std.proofs.lemmas.List.Sorted.{IsPermutation-refl}
 use Rattle.std.specs.Prelude.{IfSome, map}
-use Rattle.semver_base.specs.LeastVersion.{HasNoBuild, IsLeast, IsOnlyLeast}
+use Rattle.semver_base.specs.LowestVersion.{HasNoBuild, IsLowestPassing, IsOnlyLowest}
 use Rattle.semver_base.specs.VersionText.{ReadsBack}
 use Rattle.semver_base.specs.declared.range.PreRelease.{PreRelease}
 use Rattle.semver_base.specs.declared.version.Version.{Version}
@@ -19,16 +19,16 @@ abbrev as_lowest : Option Version → Result (Answer (Option Version)) Fault
 as_lowest found = Ok (Value found)
 
 -- a test has one lowest version
-pub lowest_answer : (test : Version → Bool) (found : Option Version) → IsLeast test found → IfSome found HasNoBuild → IfSome found ReadsBack
-    → IsOnlyLeast test found → IsAnswer (LowestOf test) (λ (a : Answer (Option Version)). a) (Ok (Value found))
+pub lowest_answer : (test : Version → Bool) (found : Option Version) → IsLowestPassing test found → IfSome found HasNoBuild → IfSome found ReadsBack
+    → IsOnlyLowest test found → IsAnswer (LowestOf test) (λ (a : Answer (Option Version)). a) (Ok (Value found))
 lowest_answer test found h n r only = record {
-  is = inr (found, record { least = h; no_build = n; reads_back = r }, refl);
-  only = λ o a. inr (ap as_lowest (sym (only a.0 a.1.least a.1.no_build a.1.reads_back)) ∙ sym a.2);
+  is = inr (found, record { lowest = h; no_build = n; reads_back = r }, refl);
+  only = λ o a. inr (ap as_lowest (sym (only a.0 a.1.lowest a.1.no_build a.1.reads_back)) ∙ sym a.2);
 }
 
 -- the result for ranges none of which is a tag
 pub common_answer : (flag : PreRelease) (own : Requirement) (others : List Requirement) → first_tag (own ∷ others) ≡ None → (found : Option Version)
-    → IsLeast (all_inners_mean_with flag own.inner others) found → IfSome found HasNoBuild → IfSome found ReadsBack → IsOnlyLeast (all_inners_mean_with flag own.inner others) found
+    → IsLowestPassing (all_inners_mean_with flag own.inner others) found → IfSome found HasNoBuild → IfSome found ReadsBack → IsOnlyLowest (all_inners_mean_with flag own.inner others) found
     → IsAnswer (CommonOf flag (own ∷ others)) (λ (a : Answer (Option Version)). a) (Ok (Value found))
 common_answer flag own others none found h n r only =
     subst (λ (tag : Option (List ℕ)). IsAnswer (UnlessTag tag (LowestOf (all_inners_mean_with flag own.inner others))) (λ (a : Answer (Option Version)). a) (Ok (Value found))) (sym none)
@@ -44,7 +44,7 @@ each_same : (reads : List RangeSetOrTag) → AreEachReordered reads reads
 each_same [] = tt
 each_same (read ∷ reads) = (same_order read, each_same reads)
 
-pub only_of_all : (flag : PreRelease) (own : RangeSetOrTag) (others : List Requirement) (found : Option Version) → AllInAnyOrder flag own others found → IsOnlyLeast (all_inners_mean_with flag own others) found
+pub only_of_all : (flag : PreRelease) (own : RangeSetOrTag) (others : List Requirement) (found : Option Version) → AllInAnyOrder flag own others found → IsOnlyLowest (all_inners_mean_with flag own others) found
 only_of_all flag own others found h =
     let reads = own ∷ map (λ (req : Requirement). req.inner) others in
     h own others (record { moved = reads; in_order = IsPermutation-refl reads; each = each_same reads })

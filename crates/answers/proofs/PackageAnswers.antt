@@ -1,9 +1,9 @@
 -- The result of a package parser is what the text means.
 use Rattle.std.proofs.Common.{◌≡◌, ℕ, List, Ok, Err, Result, Some, None, refl, ap, inl, inr}
 use Rattle.std.specs.Prelude.{◌⊎◌}
-use Rattle.semver_req.specs.Readers.{Failure}
+use Rattle.semver_req.specs.Parsers.{Failure}
 use Rattle.semver_req.specs.declared.common.values.Flavour.{Flavour}
-use Rattle.deno_semver.specs.PackageOutcome.{Fault as PackageFault, IsPackageAnswer, IsPackageOutcome, IsPackageRefusal}
+use Rattle.deno_semver.specs.PackageOutcome.{Fault as PackageFault, IsPackageAnswer, IsPackageOutcome, IsPackageRejection}
 use Rattle.deno_semver.specs.declared.package.errors.PackageReqPartsParseError.TheVariants as parts
 use Rattle.deno_semver.specs.declared.package.errors.PackageReqParseError.{PackageReqParseError}
 use Rattle.deno_semver.specs.declared.package.values.PackageReq.{PackageReq}
@@ -26,7 +26,7 @@ module _ (f : Flavour) (text : List ℕ) where
       only o (is_package {req = q} k) = ap as_value (answer (Ok q) k)
       only o (is_no_package {fault = fault} k) = absurd (answer (Err fault) k)
 
-  pub was_no_package : (e : PackageReqParseError) (failure : Failure) → IsPackageRefusal f text e
+  pub was_no_package : (e : PackageReqParseError) (failure : Failure) → IsPackageRejection f text e
       → ((o : Result PackageReq PackageFault) → IsPackageOutcome f text o → IsPackageAnswer f text o (Err e)) → (e.source ≡ parts.Memory → failure ≡ None)
       → IsAnswer (IsPackage f text) (λ (r : PackageReq). r) (Err (problem_of kind.Package 0 failure))
   was_no_package e failure h answer none = record { is = is failure none h; only = λ o a. only o a failure none }
@@ -34,7 +34,7 @@ module _ (f : Flavour) (text : List ℕ) where
       given : Failure → Result PackageReq Fault
       given left = as_fault (fault_of (problem_of kind.Package 0 left))
 
-      is : (left : Failure) → (e.source ≡ parts.Memory → left ≡ None) → IsPackageRefusal f text e → (given left ≡ as_fault OutOfMemory) ⊎ IsPackage f text (given left)
+      is : (left : Failure) → (e.source ≡ parts.Memory → left ≡ None) → IsPackageRejection f text e → (given left ≡ as_fault OutOfMemory) ⊎ IsPackage f text (given left)
       is None n r = inl refl
       is (Some texts) n (inl memory) = absurd (cc (n memory.source))
       is (Some texts) n (inr r) = inr (is_no_package r.1)

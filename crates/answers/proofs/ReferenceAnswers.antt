@@ -1,8 +1,8 @@
 -- The result of a reference parser is what the text means.
 use Rattle.std.proofs.Common.{◌≡◌, ℕ, List, Ok, Err, Result, Some, None, refl, ap, subst, inl, inr, ◌∙◌}
 use Rattle.std.specs.Prelude.{◌⊎◌}
-use Rattle.semver_req.specs.Readers.{Failure}
-use Rattle.deno_semver.specs.ReferenceOutcome.{IsReferenceAnswer, IsReferenceOutcome, IsReferenceRefusal, Memory, ReferenceFault, unboxed}
+use Rattle.semver_req.specs.Parsers.{Failure}
+use Rattle.deno_semver.specs.ReferenceOutcome.{IsReferenceAnswer, IsReferenceOutcome, IsReferenceRejection, Memory, ReferenceFault, unboxed}
 use Rattle.deno_semver.specs.declared.package.kind.PackageKind.{PackageKind}
 use Rattle.deno_semver.specs.declared.package.kind.PackageKind.TheVariants.{Jsr, Npm}
 use Rattle.deno_semver.specs.declared.package.reference.PackageReqReference.{PackageReqReference}
@@ -13,7 +13,7 @@ use Rattle.answers.specs.declared.asking.Kind.TheVariants as kinds
 use Rattle.answers.specs.declared.references.Reference.{Reference}
 use Rattle.answers.proofs.Givens.{as_fault, as_value}
 
-one_registry : (text : List ℕ) (k j : PackageKind) → IsRegistryOf text k → IsRegistryOf text j → k ≡ j
+pub one_registry : (text : List ℕ) (k j : PackageKind) → IsRegistryOf text k → IsRegistryOf text j → k ≡ j
 one_registry text Jsr Jsr h g = refl
 one_registry text Jsr Npm h g = absurd (g h.0 h.1)
 one_registry text Npm Jsr h g = absurd (h g.0 g.1)
@@ -35,10 +35,10 @@ module _ (kind : PackageKind) (text : List ℕ) (registry : IsRegistryOf text ki
           ap (λ (x : PackageReqReference). as_value {X = Reference} {P = Fault} (record { kind = j; reference = x })) is
 
       only : (o : Result Reference Fault) → IsReference text o → as_value {X = Reference} {P = Fault} (record { kind = kind; reference = reference }) ≡ o
-      only o (refers {read = told} r k) = same told.kind told.reference (one_registry text kind told.kind registry r) (answer (Ok told.reference) (by_this told.kind (Ok told.reference) r k))
+      only o (refers {read = reported} r k) = same reported.kind reported.reference (one_registry text kind reported.kind registry r) (answer (Ok reported.reference) (by_this reported.kind (Ok reported.reference) r k))
       only o (refers_not {registry = j} {fault = fault} r k) = absurd (answer (Err fault) (by_this j (Err fault) r k))
 
-  pub was_no_reference : (e : PackageReqReferenceParseError) (failure : Failure) → IsReferenceRefusal kind text e
+  pub was_no_reference : (e : PackageReqReferenceParseError) (failure : Failure) → IsReferenceRejection kind text e
       → ((o : Result PackageReqReference ReferenceFault) → IsReferenceOutcome kind text o → IsReferenceAnswer kind text o (Err e)) → (unboxed e ≡ Memory → failure ≡ None)
       → IsAnswer (IsReference text) (λ (read : Reference). read) (Err (problem_of kinds.Reference 0 failure))
   was_no_reference e failure h answer none = record { is = is failure none h; only = λ o a. only o a failure none }
@@ -46,7 +46,7 @@ module _ (kind : PackageKind) (text : List ℕ) (registry : IsRegistryOf text ki
       given : Failure → Result Reference Fault
       given left = as_fault (fault_of (problem_of kinds.Reference 0 left))
 
-      is : (left : Failure) → (unboxed e ≡ Memory → left ≡ None) → IsReferenceRefusal kind text e → (given left ≡ as_fault OutOfMemory) ⊎ IsReference text (given left)
+      is : (left : Failure) → (unboxed e ≡ Memory → left ≡ None) → IsReferenceRejection kind text e → (given left ≡ as_fault OutOfMemory) ⊎ IsReference text (given left)
       is None n r = inl refl
       is (Some texts) n (inl memory) = absurd (cc (n memory))
       is (Some texts) n (inr r) = inr (refers_not registry r.1)

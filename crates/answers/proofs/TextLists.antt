@@ -1,7 +1,7 @@
 -- Parsing arguments one by one from a list of texts.
 use Rattle.std.proofs.Common.{◌≡◌, ◌+◌, ◌<◌, ◌≤◌, ◌++◌, ◌∷◌, ◌∙◌, ℕ, zero, suc, arith, List, [], length, map, take, get_or, slice_get, Ok, Err, Result, Some, refl, sym, ap, subst}
 use Rattle.std.proofs.lemmas.List.{map-append, take_all, take_more}
-use Rattle.semver_req.specs.Readers.{AreReadOrTags, Failure, IsReadOrTag}
+use Rattle.semver_req.specs.Parsers.{AreReadOrTags, Failure, IsReadOrTag}
 use Rattle.semver_req.specs.Requirement.{Requirement}
 use Rattle.answers.specs.Asking.{Each, IsFailureAt, IsOutcomeOf}
 use Rattle.answers.specs.Reading.{IsFailureAmong}

@@ -1,6 +1,6 @@
 -- Questions about texts, and their results.
 use Rattle.std.specs.Prelude.{◌≡◌, ◌⊎◌, ◌+◌, ℕ, List, [], ◌∷◌, Some, None, Result, Ok, Err}
-use Rattle.semver_req.specs.Readers.{Failure}
+use Rattle.semver_req.specs.Parsers.{Failure}
 use Rattle.answers.specs.declared.asking.Kind.{Kind}
 use Rattle.answers.specs.declared.asking.Problem.{Problem}
 use Rattle.answers.specs.declared.asking.Problem.TheVariants as problem

@@ -1,13 +1,13 @@
 -- What a grammar makes of a range's text, alternative by alternative.
 use Rattle.std.specs.Prelude.{◌≡◌, ℕ, List, [], ◌∷◌, Bool, false, string_bytes}
-use Rattle.semver_base.specs.LeastVersion.{IsLowest, TellsSome}
+use Rattle.semver_base.specs.LowestVersion.{IsLowest, DecidesSome}
 use Rattle.semver_base.specs.Meaning.{is_pre_match, range_means_with}
 use Rattle.semver_base.specs.declared.range.PreRelease.{PreRelease}
 use Rattle.semver_base.specs.declared.range.VersionRange.{VersionRange}
 use Rattle.semver_req.specs.Outcome.{worked_on}
 use Rattle.semver_req.specs.PieceReading.{IsPieceRead}
 use Rattle.semver_req.specs.Pieces.{AreMorePieces, ArePieces}
-use Rattle.semver_req.specs.Readers.{IsReading}
+use Rattle.semver_req.specs.Parsers.{IsReading}
 use Rattle.semver_req.specs.Requirement.{inner_text}
 use Rattle.semver_req.specs.declared.common.values.Flavour.{Flavour}
 use Rattle.semver_req.specs.declared.common.values.Flavour.TheVariants.{Npm, Normal, Specifier}
@@ -23,20 +23,20 @@ use Rattle.answers.specs.declared.explained.Piece.{Piece}
 
 -- what the range matches: the lowest version, and whether pre-releases of its start's and its end's numbers match
 pub record AreMatches (flag : PreRelease) (matches : Matches) : Type 0 where
-  pub lowest : IsLowest (range_means_with flag matches.range) matches.least
-  pub of_start : TellsSome (is_pre_match matches.range matches.range.start) matches.pre_of_start
-  pub of_end : TellsSome (is_pre_match matches.range matches.range.end) matches.pre_of_end
+  pub lowest : IsLowest (range_means_with flag matches.range) matches.lowest
+  pub of_start : DecidesSome (is_pre_match matches.range matches.range.start) matches.pre_of_start
+  pub of_end : DecidesSome (is_pre_match matches.range matches.range.end) matches.pre_of_end
 
 -- the range, with what it matches
 abbrev pub IsMeaningOfRange : PreRelease → VersionRange → Meaning → Type 0
 IsMeaningOfRange flag range (meaning.Range matches) = (matches.range ≡ range) × AreMatches flag matches
-IsMeaningOfRange flag range (meaning.LeftOut refusal) = ⊥
+IsMeaningOfRange flag range (meaning.LeftOut rejection) = ⊥
 
 -- what a piece parses to, which is followed by `||` or not
 abbrev pub IsMeaningOf : Flavour → PreRelease → Bool → List ℕ → Meaning → Type 0
 IsMeaningOf f flag followed text (meaning.Range matches) =
     IsPieceRead f followed text (read.Range matches.range) × AreMatches flag matches
-IsMeaningOf f flag followed text (meaning.LeftOut refusal) = IsPieceRead f followed text (read.Invalid refusal)
+IsMeaningOf f flag followed text (meaning.LeftOut rejection) = IsPieceRead f followed text (read.Invalid rejection)
 
 -- the piece as written, with what it parses to
 abbrev pub IsExplainedPiece : Flavour → PreRelease → Bool → List ℕ → Piece → Type 0

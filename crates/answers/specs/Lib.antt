@@ -1,7 +1,10 @@
 pub mod Asking
 pub mod Explained
+pub mod Filtering
 pub mod Packages
+pub mod Parts
 pub mod Questions
 pub mod Reading
 pub mod References
 pub mod Sorting
+pub mod Specifiers

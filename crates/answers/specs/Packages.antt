@@ -4,11 +4,11 @@ use Rattle.std.specs.List.{take_while}
 use Rattle.serde_json.specs.Data.{Data, member, no_members, null, object, string}
 use Rattle.serde_json.specs.Written.{compact_text}
 use Rattle.semver_base.specs.Characters.{at_sign, slash}
-use Rattle.semver_req.specs.Readers.{Failure}
+use Rattle.semver_req.specs.Parsers.{Failure}
 use Rattle.semver_req.specs.Requirement.{inner_text}
 use Rattle.semver_req.specs.declared.common.values.Flavour.{Flavour}
 use Rattle.deno_semver.specs.Cuts.{is_not}
-use Rattle.deno_semver.specs.PackageOutcome.{Fault as PackageFault, IsPackageOutcome, IsPackageRefusal}
+use Rattle.deno_semver.specs.PackageOutcome.{Fault as PackageFault, IsPackageOutcome, IsPackageRejection}
 use Rattle.deno_semver.specs.declared.package.errors.PackageReqParseError.{PackageReqParseError}
 use Rattle.deno_semver.specs.declared.package.errors.PackageReqPartsParseError.{PackageReqPartsParseError}
 use Rattle.deno_semver.specs.declared.package.errors.PackageReqPartsParseError.TheVariants as parts
@@ -70,4 +70,4 @@ parts_failure parts.Memory = None
 -- the failure is that of the text's first fault, or out of memory
 abbrev pub IsPackageFailure : Flavour → List ℕ → Failure → Type 0
 IsPackageFailure f text failure = (failure ≡ None)
-    ⊎ ((error : PackageReqParseError) × IsPackageRefusal f text error × (failure ≡ parts_failure error.source))
+    ⊎ ((error : PackageReqParseError) × IsPackageRejection f text error × (failure ≡ parts_failure error.source))

@@ -1,8 +1,9 @@
 -- Questions about versions and ranges.
-use Rattle.std.specs.Prelude.{◌≡◌, ℕ, List, [], ◌∷◌, Bool, false, Option, None, Some, Result, Ok}
+use Rattle.std.specs.Prelude.{◌≡◌, ◌↔◌, IsTrue, ℕ, List, [], ◌∷◌, Bool, false, Option, None, Some, Result, Ok}
 use Rattle.std.specs.List.{list_any}
 use Rattle.std.specs.declared.cmp.Ordering.{Ordering}
-use Rattle.semver_base.specs.LeastVersion.{IsLowest}
+use Rattle.semver_base.specs.Containment.{AreEquivalent}
+use Rattle.semver_base.specs.LowestVersion.{IsLowest}
 use Rattle.semver_base.specs.Precedence.{precedence_cmp}
 use Rattle.semver_base.specs.VersionText.{version_text}
 use Rattle.semver_base.specs.declared.range.PreRelease.{PreRelease}
@@ -11,12 +12,14 @@ use Rattle.semver_req.specs.Requirement.{Requirement, all_inners_mean_with, inne
 use Rattle.semver_req.specs.declared.common.values.Flavour.{Flavour}
 use Rattle.semver_req.specs.declared.range_set_or_tag.RangeSetOrTag.{RangeSetOrTag}
 use Rattle.semver_req.specs.declared.range_set_or_tag.RangeSetOrTag.TheVariants as inner
-use Rattle.deno_semver.specs.Resolve.{IsBestAt, greater}
+use Rattle.deno_semver.specs.Resolve.{IsBestAt, greater, lower}
 use Rattle.answers.specs.Asking.{Each, Fault, Given, Is}
 use Rattle.answers.specs.Reading.{IsRange, IsVersion}
 use Rattle.answers.specs.declared.asking.Answer.{Answer}
 use Rattle.answers.specs.declared.asking.Answer.TheVariants.{Value, Tag}
 use Rattle.answers.specs.declared.questions.Best.{Best}
+use Rattle.answers.specs.declared.questions.End.{End}
+use Rattle.answers.specs.declared.questions.End.TheVariants.{Highest, Lowest}
 
 -- ---- tags
 
@@ -44,20 +47,33 @@ abbrev pub Matches : PreRelease → Flavour → List ℕ → List ℕ → Result
 Matches flag f range version =
     Given (IsRange f 0 range) (λ req. Given (IsVersion 0 version) (λ v. Is (match_of flag req.inner v)))
 
--- ---- the highest of several versions that matches
+-- ---- the highest or the lowest of several versions that matches
 
--- the highest version that passes a test with its place, of equal ones the first; or that none passes
-abbrev pub IsBest : (Version → Bool) → List Version → Option Best → Type 0
-IsBest test versions (Some best) = IsBestAt greater test versions best.place best.version
-IsBest test versions None = list_any test versions ≡ false
+-- at this end of the order, which of two versions is the better one
+abbrev pub better : End → Version → Version → Bool
+better Highest = greater
+better Lowest = lower
 
-abbrev pub BestOf : PreRelease → RangeSetOrTag → List Version → Result (Answer (Option Best)) Fault → Type 0
-BestOf flag read versions = UnlessTag (tag_of read)
-    (λ outcome. (best : Option Best) × IsBest (inner_means_with flag read) versions best × (outcome ≡ Ok (Value best)))
+-- the best version that passes a test with its place, of equal ones the first; or that none passes
+abbrev pub IsBest : End → (Version → Bool) → List Version → Option Best → Type 0
+IsBest end test versions (Some best) = IsBestAt (better end) test versions best.place best.version
+IsBest end test versions None = list_any test versions ≡ false
 
+abbrev pub BestOf : End → PreRelease → RangeSetOrTag → List Version → Result (Answer (Option Best)) Fault → Type 0
+BestOf end flag read versions = UnlessTag (tag_of read)
+    (λ outcome. (best : Option Best) × IsBest end (inner_means_with flag read) versions best × (outcome ≡ Ok (Value best)))
+
+abbrev pub EndMatch : End → PreRelease → Flavour → List ℕ → List (List ℕ) → Result (Answer (Option Best)) Fault → Type 0
+EndMatch end flag f range versions =
+    Given (IsRange f 0 range) (λ req. Given (Each IsVersion 0 versions) (BestOf end flag req.inner))
+
+-- the highest version that matches
 abbrev pub BestMatch : PreRelease → Flavour → List ℕ → List (List ℕ) → Result (Answer (Option Best)) Fault → Type 0
-BestMatch flag f range versions =
-    Given (IsRange f 0 range) (λ req. Given (Each IsVersion 0 versions) (BestOf flag req.inner))
+BestMatch = EndMatch Highest
+
+-- the lowest one
+abbrev pub LowestMatch : PreRelease → Flavour → List ℕ → List (List ℕ) → Result (Answer (Option Best)) Fault → Type 0
+LowestMatch = EndMatch Lowest
 
 -- ---- do two ranges overlap
 
@@ -85,6 +101,16 @@ OutsideOf flag one other = UnlessTag (first_tag (one ∷ other ∷ [])) (LowestO
 
 abbrev pub Outside : PreRelease → Flavour → List ℕ → List ℕ → Result (Answer (Option Version)) Fault → Type 0
 Outside flag f one other = Given (IsRange f 0 one) (λ req. Given (IsRange f 1 other) (OutsideOf flag req))
+
+-- ---- do two ranges match the same versions
+
+abbrev pub EquivalentOf : PreRelease → Requirement → Requirement → Result (Answer Bool) Fault → Type 0
+EquivalentOf flag one other = UnlessTag (first_tag (one ∷ other ∷ [])) (λ outcome. (same : Bool)
+    × (IsTrue same ↔ AreEquivalent (inner_means_with flag one.inner) (inner_means_with flag other.inner))
+    × (outcome ≡ Ok (Value same)))
+
+abbrev pub Equivalent : PreRelease → Flavour → List ℕ → List ℕ → Result (Answer Bool) Fault → Type 0
+Equivalent flag f one other = Given (IsRange f 0 one) (λ req. Given (IsRange f 1 other) (EquivalentOf flag req))
 
 -- ---- texts
 

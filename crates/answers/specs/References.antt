@@ -2,11 +2,11 @@
 use Rattle.std.specs.Prelude.{◌≡◌, ◌⊎◌, ◌++◌, ℕ, List, Option, None, Some, Result, Ok, Err, codes}
 use Rattle.serde_json.specs.Data.{Data, member, no_members, object, string}
 use Rattle.serde_json.specs.Written.{compact_text}
-use Rattle.semver_req.specs.Readers.{Failure}
+use Rattle.semver_req.specs.Parsers.{Failure}
 use Rattle.deno_semver.specs.ExportName.{export_name}
 use Rattle.deno_semver.specs.Kind.{scheme_of}
 use Rattle.deno_semver.specs.ReferenceOutcome as reference
-use Rattle.deno_semver.specs.ReferenceOutcome.{IsReferenceOutcome, IsReferenceRefusal, ReferenceError, ReferenceFault, unboxed}
+use Rattle.deno_semver.specs.ReferenceOutcome.{IsReferenceOutcome, IsReferenceRejection, ReferenceError, ReferenceFault, unboxed}
 use Rattle.deno_semver.specs.ReferenceText.{LacksScheme}
 use Rattle.deno_semver.specs.declared.package.kind.PackageKind.{PackageKind}
 use Rattle.deno_semver.specs.declared.package.kind.PackageKind.TheVariants.{Jsr, Npm}
@@ -67,4 +67,4 @@ reference_failure reference.Memory = None
 abbrev pub IsReferenceFailure : List ℕ → Failure → Type 0
 IsReferenceFailure text failure = (failure ≡ None)
     ⊎ ((registry : PackageKind) × (error : PackageReqReferenceParseError) × IsRegistryOf text registry
-    × IsReferenceRefusal registry text error × (failure ≡ reference_failure (unboxed error)))
+    × IsReferenceRejection registry text error × (failure ≡ reference_failure (unboxed error)))

@@ -7,12 +7,12 @@ ghost use Rattle.answers.specs.Explained.{AreExplained, AreExplainedFrom, AreAlt
 ghost use Rattle.answers.specs.Asking.{IsFailureAt, OutOfMemory, fault_of};
 ghost use Rattle.answers.specs.Reading.{IsRange};
 ghost use Rattle.answers.specs.declared.asking.Kind.TheVariants as kind;
-ghost use Rattle.semver_req.specs.TextRefusal.{IsTextRefusal};
+ghost use Rattle.semver_req.specs.TextRejection.{IsTextRejection};
 
 use crate::asking::Problem;
 use crate::reading::range;
 use deno_semver::{PackageTag, PreRelease, RangeSetOrTag, Version, VersionRange};
-use semver_base::failure::Refusal;
+use semver_base::failure::Rejection;
 use semver_req::common::values::Flavour;
 use semver_req::laws::read_ranges_are_writable;
 use semver_req::range_set_or_tag::{FirstPiece, RangeOrInvalid, first_piece, next_piece};
@@ -41,7 +41,7 @@ pub enum Meaning {
     /// The range that it means.
     Range(Matches),
     /// The alternative is invalid, so it is left out.
-    LeftOut(Refusal),
+    LeftOut(Rejection),
 }
 
 /// A range, and what it matches.
@@ -49,7 +49,7 @@ pub enum Meaning {
 pub struct Matches {
     pub range: VersionRange,
     /// The lowest version that matches, if there is one.
-    pub least: Option<Version>,
+    pub lowest: Option<Version>,
     /// Whether pre-releases of the numbers of the start match, by npm's rule.
     pub pre_of_start: bool,
     /// Whether pre-releases of the numbers of the end match, by npm's rule.
@@ -66,12 +66,12 @@ impl Meaning {
         requires { IsWritableRange range }
         ensures { IfOk result (IsMeaningOfRange pre_release range) }
     {
-        let least = range.min_version(alloc, pre_release)?;
+        let lowest = range.min_version(alloc, pre_release)?;
         let pre_of_start = range.matches_pre_of(alloc, &range.start)?;
         let pre_of_end = range.matches_pre_of(alloc, &range.end)?;
         Ok(Meaning::Range(Matches {
             range,
-            least,
+            lowest,
             pre_of_start,
             pre_of_end,
         }))
@@ -92,7 +92,7 @@ impl Piece {
         read_ranges_are_writable();
         let meaning = match RangeOrInvalid::parse(alloc, text, is_followed, flavour) {
             Ok(RangeOrInvalid::Range(range)) => Meaning::of(alloc, pre_release, range)?,
-            Ok(RangeOrInvalid::Invalid(refusal)) => Meaning::LeftOut(refusal),
+            Ok(RangeOrInvalid::Invalid(rejection)) => Meaning::LeftOut(rejection),
             Err(_) => return Err(AllocError),
         };
         let text = String::from_str(alloc, text)?;
@@ -199,7 +199,7 @@ pub fn explain(
     ensures invalid { IfErr result
         (λ p. (fault_of p ≡ OutOfMemory) ⊎ IsRange flavour 0 text.now (Err (fault_of p))) }
     ensures failure { IfErr result
-        (IsFailureAt kind.Range 0 (IsTextRefusal flavour text.now)) }
+        (IsFailureAt kind.Range 0 (IsTextRejection flavour text.now)) }
 {
     read_ranges_are_writable();
     let range = range(alloc, flavour, 0, text)?;

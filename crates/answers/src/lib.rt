@@ -3,8 +3,11 @@
 
 pub mod asking;
 pub mod explained;
+pub mod filtering;
 pub mod packages;
+pub mod parts;
 pub mod questions;
 pub mod reading;
 pub mod references;
 pub mod sorting;
+pub mod specifiers;

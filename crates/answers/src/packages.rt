@@ -5,7 +5,7 @@ ghost use Rattle.std.specs.Option.{option_copied};
 ghost use Rattle.serde_json.specs.Data.{string};
 ghost use Rattle.serde_json.specs.View.{view};
 ghost use Rattle.serde_json.specs.Written.{compact_text};
-ghost use Rattle.deno_semver.specs.PackageOutcome.{Fault, IsPackageAnswer, IsPackageOutcome, IsPackageRefusal};
+ghost use Rattle.deno_semver.specs.PackageOutcome.{Fault, IsPackageAnswer, IsPackageOutcome, IsPackageRejection};
 ghost use Rattle.deno_semver.specs.declared.package.values.PackageReq.{PackageReq};
 ghost use Rattle.answers.specs.Asking.{IsAnswer, IsFailureAt};
 ghost use Rattle.answers.specs.Packages.{IsPackage, IsPackageFailure, PackageParts, last_part, package_json, parts_failure, scope_part, text_or_null};
@@ -74,7 +74,7 @@ fn parts_text(alloc: Global, req: &PackageReq) -> Result<String, AllocError>
 // Parses a package.
 fn parse(alloc: Global, flavour: Flavour, text: &str) -> Result<PackageReq, PackageReqParseError>
     ensures read { IfOk result (λ req. IsPackageOutcome flavour text.now (Ok req)) }
-    ensures refused { IfErr result (IsPackageRefusal flavour text.now) }
+    ensures rejected { IfErr result (IsPackageRejection flavour text.now) }
     ensures answer { (outcome : Result PackageReq Fault)
         → IsPackageOutcome flavour text.now outcome
         → IsPackageAnswer flavour text.now outcome result }

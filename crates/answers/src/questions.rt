@@ -3,25 +3,34 @@
 //! The arguments are parsed from left to right, and the first invalid one is the problem. If a range is a tag, the result is
 //! the tag once all arguments are parsed. Any other problem is out of memory.
 
-ghost use Rattle.std.specs.Prelude.{◌≡◌, ◌⊎◌, IfErr, IfOk, string_bytes};
+ghost use Rattle.std.specs.Prelude.{◌≡◌, ◌⊎◌, IfErr, IfOk, None, string_bytes};
 ghost use Rattle.std.specs.Option.{option_copied};
 ghost use Rattle.std.specs.Str.{trim};
-ghost use Rattle.semver_base.specs.VersionGrammar.{IsVersionRefusal};
+ghost use Rattle.semver_base.specs.VersionGrammar.{IsVersionRejection};
 ghost use Rattle.semver_base.specs.VersionText.{version_text};
-ghost use Rattle.semver_req.specs.Readers.{AreReadOrTags, IsReadOrTag};
-ghost use Rattle.semver_req.specs.TextRefusal.{IsTextRefusal};
+ghost use Rattle.semver_req.specs.Parsers.{AreReadOrTags, IsReadOrTag};
+ghost use Rattle.semver_req.specs.Requirement.{inner_means_with, tag_of};
+ghost use Rattle.semver_req.specs.TextRejection.{IsTextRejection};
+ghost use Rattle.deno_semver.specs.Resolve.{IsBestMatch, IsOnlyMatch};
 ghost use Rattle.answers.specs.Asking.{IsAnswer, IsFailureAt};
 ghost use Rattle.answers.specs.declared.asking.Kind.TheVariants as kind;
-ghost use Rattle.answers.specs.Questions.{BestMatch, BestOf, Canonical, Common, CommonOf, Displayed, Matches, Orders, Outside, OutsideOf, Overlaps, first_tag, match_of};
+ghost use Rattle.answers.specs.Questions.{BestMatch, BestOf, Canonical, Common, CommonOf, Displayed, EndMatch, Equivalent, EquivalentOf, LowestMatch, Matches, Orders, Outside, OutsideOf, Overlaps, better, first_tag, match_of};
 ghost use Rattle.answers.specs.Reading.{IsFailureAmong, texts_of};
 
 use crate::asking::{Answer, Problem};
 use crate::reading::{range, ranges, version, versions};
-use deno_semver::resolve::max_satisfying_with;
+use deno_semver::resolve::{max_satisfying_with, min_satisfying_with};
 use deno_semver::{PackageTag, PreRelease, Version, VersionReq};
 use semver_req::common::values::Flavour;
 use std::alloc::{AllocError, Global};
 use std::cmp::Ordering;
+
+/// An end of the order of precedence.
+#[derive(Clone, Copy, Debug, PartialEq, Eq)]
+pub enum End {
+    Highest,
+    Lowest,
+}
 
 /// A version of a list, and its place there.
 #[derive(Debug, Drop)]
@@ -68,34 +77,76 @@ pub fn matches(
     ensures answer { IsAnswer (Matches pre_release flavour range_text.now version_text.now)
         (λ answer. answer) result }
     ensures failure { IfErr result
-        (λ p. IsFailureAt kind.Range 0 (IsTextRefusal flavour range_text.now) p
-        ⊎ IsFailureAt kind.Version 0 (IsVersionRefusal (trim version_text.now)) p) }
+        (λ p. IsFailureAt kind.Range 0 (IsTextRejection flavour range_text.now) p
+        ⊎ IsFailureAt kind.Version 0 (IsVersionRejection (trim version_text.now)) p) }
 {
     let range = range(alloc, flavour, 0, range_text)?;
     let version = version(alloc, 0, version_text)?;
     Ok(match_of(alloc, pre_release, &range, &version)?)
 }
 
-// The highest of the versions that matches the range.
+// The place of the first of the versions at this end of the order that match.
+fn place_of_best(
+    end: End,
+    pre_release: PreRelease,
+    range: &VersionReq,
+    versions: &[Version],
+) -> Option<usize>
+    requires { tag_of range.now.inner ≡ None }
+    ensures best { IsBestMatch (better end)
+        (λ v. inner_means_with pre_release range.now.inner v) versions.now result }
+    ensures only { IsOnlyMatch (better end)
+        (λ v. inner_means_with pre_release range.now.inner v) versions.now result }
+{
+    match end {
+        End::Highest => max_satisfying_with(versions, range, pre_release),
+        End::Lowest => min_satisfying_with(versions, range, pre_release),
+    }
+}
+
+// The version at this end of the order that matches the range.
 fn best_of(
     alloc: Global,
+    end: End,
     pre_release: PreRelease,
     range: &VersionReq,
     mut versions: Vec<Version>,
 ) -> Result<Answer<Option<Best>>, Problem>
-    ensures { IsAnswer (BestOf pre_release range.now.inner versions.items)
+    ensures { IsAnswer (BestOf end pre_release range.now.inner versions.items)
         (λ answer. answer) result }
 {
     if let Some(tag) = range.tag() {
         return Ok(Answer::Tag(PackageTag::from_str(alloc, tag)?));
     }
-    match max_satisfying_with(versions.as_slice(), range, pre_release) {
+    match place_of_best(end, pre_release, range, versions.as_slice()) {
         Some(place) => {
             let version = versions.remove(place);
             Ok(Answer::Value(Some(Best { place, version })))
         }
         None => Ok(Answer::Value(None)),
     }
+}
+
+// Which of the versions at this end of the order matches the range?
+fn end_match(
+    alloc: Global,
+    end: End,
+    flavour: Flavour,
+    pre_release: PreRelease,
+    range_text: &str,
+    version_texts: &[&str],
+) -> Result<Answer<Option<Best>>, Problem>
+    ensures answer { IsAnswer
+        (EndMatch end pre_release flavour range_text.now (texts_of version_texts.now))
+        (λ answer. answer) result }
+    ensures failure { IfErr result
+        (λ p. IsFailureAt kind.Range 0 (IsTextRejection flavour range_text.now) p
+        ⊎ IsFailureAmong kind.Version (λ text. IsVersionRejection (trim text))
+        (texts_of version_texts.now) p) }
+{
+    let range = range(alloc, flavour, 0, range_text)?;
+    let versions = versions(alloc, version_texts)?;
+    best_of(alloc, end, pre_release, &range, versions)
 }
 
 /// Which of the versions is the highest that matches the range? Of those that differ only in the build, the first.
@@ -110,13 +161,32 @@ pub fn best_match(
         (BestMatch pre_release flavour range_text.now (texts_of version_texts.now))
         (λ answer. answer) result }
     ensures failure { IfErr result
-        (λ p. IsFailureAt kind.Range 0 (IsTextRefusal flavour range_text.now) p
-        ⊎ IsFailureAmong kind.Version (λ text. IsVersionRefusal (trim text))
+        (λ p. IsFailureAt kind.Range 0 (IsTextRejection flavour range_text.now) p
+        ⊎ IsFailureAmong kind.Version (λ text. IsVersionRejection (trim text))
         (texts_of version_texts.now) p) }
 {
-    let range = range(alloc, flavour, 0, range_text)?;
-    let versions = versions(alloc, version_texts)?;
-    best_of(alloc, pre_release, &range, versions)
+    let end = End::Highest;
+    end_match(alloc, end, flavour, pre_release, range_text, version_texts)
+}
+
+/// Which of the versions is the lowest that matches the range? Of those that differ only in the build, the first.
+pub fn lowest_match(
+    alloc: Global,
+    flavour: Flavour,
+    pre_release: PreRelease,
+    range_text: &str,
+    version_texts: &[&str],
+) -> Result<Answer<Option<Best>>, Problem>
+    ensures answer { IsAnswer
+        (LowestMatch pre_release flavour range_text.now (texts_of version_texts.now))
+        (λ answer. answer) result }
+    ensures failure { IfErr result
+        (λ p. IsFailureAt kind.Range 0 (IsTextRejection flavour range_text.now) p
+        ⊎ IsFailureAmong kind.Version (λ text. IsVersionRejection (trim text))
+        (texts_of version_texts.now) p) }
+{
+    let end = End::Lowest;
+    end_match(alloc, end, flavour, pre_release, range_text, version_texts)
 }
 
 /// Do the two ranges overlap, by their bounds? Two tags overlap if they are the same, a tag and versions never.
@@ -129,8 +199,8 @@ pub fn overlaps(
     ensures answer { IsAnswer (Overlaps flavour one_text.now other_text.now)
         (λ answer. answer) result }
     ensures failure { IfErr result
-        (λ p. IsFailureAt kind.Range 0 (IsTextRefusal flavour one_text.now) p
-        ⊎ IsFailureAt kind.Range 1 (IsTextRefusal flavour other_text.now) p) }
+        (λ p. IsFailureAt kind.Range 0 (IsTextRejection flavour one_text.now) p
+        ⊎ IsFailureAt kind.Range 1 (IsTextRejection flavour other_text.now) p) }
 {
     let one = range(alloc, flavour, 0, one_text)?;
     let other = range(alloc, flavour, 1, other_text)?;
@@ -166,7 +236,7 @@ pub fn common_version(
     ensures answer { IsAnswer (Common pre_release flavour (texts_of texts.now))
         (λ answer. answer) result }
     ensures failure { IfErr result
-        (IsFailureAmong kind.Range (IsTextRefusal flavour) (texts_of texts.now)) }
+        (IsFailureAmong kind.Range (IsTextRejection flavour) (texts_of texts.now)) }
 {
     let ranges = ranges(alloc, flavour, texts)?;
     common_of(alloc, pre_release, ranges.as_slice())
@@ -202,12 +272,49 @@ pub fn version_outside(
     ensures answer { IsAnswer (Outside pre_release flavour one_text.now other_text.now)
         (λ answer. answer) result }
     ensures failure { IfErr result
-        (λ p. IsFailureAt kind.Range 0 (IsTextRefusal flavour one_text.now) p
-        ⊎ IsFailureAt kind.Range 1 (IsTextRefusal flavour other_text.now) p) }
+        (λ p. IsFailureAt kind.Range 0 (IsTextRejection flavour one_text.now) p
+        ⊎ IsFailureAt kind.Range 1 (IsTextRejection flavour other_text.now) p) }
 {
     let one = range(alloc, flavour, 0, one_text)?;
     let other = range(alloc, flavour, 1, other_text)?;
     outside_of(alloc, pre_release, &one, &other)
+}
+
+// Whether the two ranges match the same versions.
+fn equivalent_of(
+    alloc: Global,
+    pre_release: PreRelease,
+    one: &VersionReq,
+    other: &VersionReq,
+) -> Result<Answer<bool>, Problem>
+    requires one_read { IsReadOrTag one.now.inner }
+    requires other_read { IsReadOrTag other.now.inner }
+    ensures { IsAnswer (EquivalentOf pre_release one.now other.now) (λ answer. answer) result }
+{
+    if let Some(tag) = one.tag().or(other.tag()) {
+        return Ok(Answer::Tag(PackageTag::from_str(alloc, tag)?));
+    }
+    let same = one.is_equivalent(alloc, other, pre_release)?;
+    Ok(Answer::Value(same))
+}
+
+/// Do the two ranges match the same versions?
+pub fn equivalent(
+    alloc: Global,
+    flavour: Flavour,
+    pre_release: PreRelease,
+    one_text: &str,
+    other_text: &str,
+) -> Result<Answer<bool>, Problem>
+    ensures answer { IsAnswer (Equivalent pre_release flavour one_text.now other_text.now)
+        (λ answer. answer) result }
+    ensures failure { IfErr result
+        (λ p. IsFailureAt kind.Range 0 (IsTextRejection flavour one_text.now) p
+        ⊎ IsFailureAt kind.Range 1 (IsTextRejection flavour other_text.now) p) }
+{
+    let one = range(alloc, flavour, 0, one_text)?;
+    let other = range(alloc, flavour, 1, other_text)?;
+    equivalent_of(alloc, pre_release, &one, &other)
 }
 
 /// What is the canonical form of the range? That of a tag is the tag.
@@ -215,7 +322,7 @@ pub fn canonical(alloc: Global, flavour: Flavour, range_text: &str) -> Result<St
     ensures answer { IsAnswer (Canonical flavour range_text.now)
         (λ text. string_bytes text) result }
     ensures failure { IfErr result
-        (IsFailureAt kind.Range 0 (IsTextRefusal flavour range_text.now)) }
+        (IsFailureAt kind.Range 0 (IsTextRejection flavour range_text.now)) }
 {
     let range = range(alloc, flavour, 0, range_text)?;
     Ok(range.to_string_normalized(alloc)?)
@@ -232,7 +339,7 @@ pub fn text_of_version(alloc: Global, version: &Version) -> Result<String, Alloc
 pub fn displayed(alloc: Global, version_text: &str) -> Result<String, Problem>
     ensures answer { IsAnswer (Displayed version_text.now) (λ text. string_bytes text) result }
     ensures failure { IfErr result
-        (IsFailureAt kind.Version 0 (IsVersionRefusal (trim version_text.now))) }
+        (IsFailureAt kind.Version 0 (IsVersionRejection (trim version_text.now))) }
 {
     let version = version(alloc, 0, version_text)?;
     Ok(text_of_version(alloc, &version)?)
@@ -242,8 +349,8 @@ pub fn displayed(alloc: Global, version_text: &str) -> Result<String, Problem>
 pub fn order(alloc: Global, one_text: &str, other_text: &str) -> Result<Ordering, Problem>
     ensures answer { IsAnswer (Orders one_text.now other_text.now) (λ order. order) result }
     ensures failure { IfErr result
-        (λ p. IsFailureAt kind.Version 0 (IsVersionRefusal (trim one_text.now)) p
-        ⊎ IsFailureAt kind.Version 1 (IsVersionRefusal (trim other_text.now)) p) }
+        (λ p. IsFailureAt kind.Version 0 (IsVersionRejection (trim one_text.now)) p
+        ⊎ IsFailureAt kind.Version 1 (IsVersionRejection (trim other_text.now)) p) }
 {
     let one = version(alloc, 0, one_text)?;
     let other = version(alloc, 1, other_text)?;

@@ -2,9 +2,9 @@
 
 ghost use Rattle.std.specs.Prelude.{IfErr, IfOk};
 ghost use Rattle.std.specs.Str.{trim};
-ghost use Rattle.semver_base.specs.VersionGrammar.{IsVersionRefusal};
-ghost use Rattle.semver_req.specs.Readers.{AreReadOrTags, IsReadOrTag};
-ghost use Rattle.semver_req.specs.TextRefusal.{IsTextRefusal};
+ghost use Rattle.semver_base.specs.VersionGrammar.{IsVersionRejection};
+ghost use Rattle.semver_req.specs.Parsers.{AreReadOrTags, IsReadOrTag};
+ghost use Rattle.semver_req.specs.TextRejection.{IsTextRejection};
 ghost use Rattle.answers.specs.Asking.{Each, IsAnswer, IsFailureAt};
 ghost use Rattle.answers.specs.declared.asking.Kind.TheVariants as kind;
 ghost use Rattle.answers.specs.Reading.{IsFailureAmong, IsRange, IsVersion, texts_of};
@@ -24,7 +24,7 @@ pub fn range(
     ensures answer { IsAnswer (IsRange flavour place text.now) (λ req. req) result }
     ensures read { IfOk result (λ req. IsReadOrTag req.inner) }
     ensures failure { IfErr result
-        (IsFailureAt kind.Range place (IsTextRefusal flavour text.now)) }
+        (IsFailureAt kind.Range place (IsTextRejection flavour text.now)) }
 {
     match VersionReq::parse(alloc, text, flavour) {
         Ok(range) => Ok(range),
@@ -38,7 +38,7 @@ pub fn ranges(alloc: Global, flavour: Flavour, texts: &[&str]) -> Result<Vec<Ver
         (λ all. all.items) result }
     ensures read { IfOk result (λ all. AreReadOrTags all.items) }
     ensures failure { IfErr result
-        (IsFailureAmong kind.Range (IsTextRefusal flavour) (texts_of texts.now)) }
+        (IsFailureAmong kind.Range (IsTextRejection flavour) (texts_of texts.now)) }
 {
     let mut all = Vec::new(alloc);
     for text in texts {
@@ -54,7 +54,7 @@ pub fn ranges(alloc: Global, flavour: Flavour, texts: &[&str]) -> Result<Vec<Ver
 pub fn version(alloc: Global, place: usize, text: &str) -> Result<Version, Problem>
     ensures answer { IsAnswer (IsVersion place text.now) (λ version. version) result }
     ensures failure { IfErr result
-        (IsFailureAt kind.Version place (IsVersionRefusal (trim text.now))) }
+        (IsFailureAt kind.Version place (IsVersionRejection (trim text.now))) }
 {
     match Version::parse_standard(alloc, text) {
         Ok(version) => Ok(version),
@@ -66,7 +66,7 @@ pub fn version(alloc: Global, place: usize, text: &str) -> Result<Version, Probl
 pub fn versions(alloc: Global, texts: &[&str]) -> Result<Vec<Version>, Problem>
     ensures answer { IsAnswer (Each IsVersion 0 (texts_of texts.now)) (λ all. all.items) result }
     ensures failure { IfErr result
-        (IsFailureAmong kind.Version (λ text. IsVersionRefusal (trim text)) (texts_of texts.now)) }
+        (IsFailureAmong kind.Version (λ text. IsVersionRejection (trim text)) (texts_of texts.now)) }
 {
     let mut all = Vec::new(alloc);
     for text in texts {

@@ -4,7 +4,7 @@ ghost use Rattle.std.specs.Prelude.{◌≡◌, ◌⊎◌, IfErr, IfOk, None, Ok,
 ghost use Rattle.std.specs.Option.{option_copied};
 ghost use Rattle.serde_json.specs.View.{view};
 ghost use Rattle.serde_json.specs.Written.{compact_text};
-ghost use Rattle.deno_semver.specs.ReferenceOutcome.{IsReferenceAnswer, IsReferenceOutcome, IsReferenceRefusal, ReferenceFault, unboxed};
+ghost use Rattle.deno_semver.specs.ReferenceOutcome.{IsReferenceAnswer, IsReferenceOutcome, IsReferenceRejection, ReferenceFault, unboxed};
 ghost use Rattle.deno_semver.specs.declared.package.reference.PackageReqReference.{PackageReqReference};
 ghost use Rattle.answers.specs.Asking.{IsAnswer, IsFailureAt};
 ghost use Rattle.answers.specs.Packages.{text_or_null};
@@ -42,15 +42,26 @@ impl Reference {
     pub fn registry(&self) -> &'static str
         ensures { result.now ≡ kind_text self.now.kind }
     {
-        match self.kind {
-            PackageKind::Jsr => "jsr",
-            PackageKind::Npm => "npm",
-        }
+        registry_name(self.kind)
     }
 }
 
-// For JSR, the export that the path means.
-fn export_json(alloc: Global, kind: PackageKind, path: Option<&str>) -> Result<Value, AllocError>
+/// The registry's name.
+pub(crate) fn registry_name(kind: PackageKind) -> &'static str
+    ensures { result.now ≡ kind_text kind }
+{
+    match kind {
+        PackageKind::Jsr => "jsr",
+        PackageKind::Npm => "npm",
+    }
+}
+
+/// For JSR, the export that the path means.
+pub(crate) fn export_json(
+    alloc: Global,
+    kind: PackageKind,
+    path: Option<&str>,
+) -> Result<Value, AllocError>
     ensures { IfOk result
         (λ json. view json ≡ text_or_null (export_of kind (option_copied path.entry))) }
 {
@@ -84,8 +95,8 @@ fn parts_text(alloc: Global, read: &Reference) -> Result<String, AllocError>
     json.to_string(alloc)
 }
 
-// The registry whose parser parses the text: JSR if the text begins with its scheme, else npm.
-fn registry_of(text: &str) -> PackageKind
+/// The registry whose parser parses the text: JSR if the text begins with its scheme, else npm.
+pub(crate) fn registry_of(text: &str) -> PackageKind
     ensures { IsRegistryOf text.now result }
 {
     match text.strip_prefix("jsr:") {
@@ -101,7 +112,7 @@ fn parse(
     text: &str,
 ) -> Result<PackageReqReference, PackageReqReferenceParseError>
     ensures read { IfOk result (λ r. IsReferenceOutcome kind text.now (Ok r)) }
-    ensures refused { IfErr result (IsReferenceRefusal kind text.now) }
+    ensures rejected { IfErr result (IsReferenceRejection kind text.now) }
     ensures answer { (outcome : Result PackageReqReference ReferenceFault)
         → IsReferenceOutcome kind text.now outcome
         → IsReferenceAnswer kind text.now outcome result }

@@ -3,7 +3,7 @@
 ghost use Rattle.std.specs.Prelude.{◌≡◌, IfErr, IfOk, map, OnOk};
 ghost use Rattle.std.specs.List.Sorted.{IsPermutation, IsSorted};
 ghost use Rattle.std.specs.Str.{trim};
-ghost use Rattle.semver_base.specs.VersionGrammar.{IsVersionRefusal};
+ghost use Rattle.semver_base.specs.VersionGrammar.{IsVersionRejection};
 ghost use Rattle.answers.specs.Asking.{IsAnswer};
 ghost use Rattle.answers.specs.Reading.{IsFailureAmong, texts_of};
 ghost use Rattle.answers.specs.declared.asking.Kind.TheVariants as kind;
@@ -98,7 +98,7 @@ pub fn sorted_places(
 pub fn sort(alloc: Global, texts: &[&str], order: Order) -> Result<Vec<usize>, Problem>
     ensures answer { IsAnswer (Sorts order (texts_of texts.now)) (λ places. places.items) result }
     ensures failure { IfErr result
-        (IsFailureAmong kind.Version (λ text. IsVersionRefusal (trim text)) (texts_of texts.now)) }
+        (IsFailureAmong kind.Version (λ text. IsVersionRejection (trim text)) (texts_of texts.now)) }
 {
     let versions = versions(alloc, texts)?;
     Ok(sorted_places(alloc, versions, order)?)

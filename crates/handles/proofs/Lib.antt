@@ -1,3 +1,4 @@
 pub mod RequirementHandleValues
 pub mod Values
 pub mod VersionHandleValues
+pub mod VersionListHandleValues

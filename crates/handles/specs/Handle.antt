@@ -6,6 +6,8 @@ use Rattle.semver_base.specs.contracts.version.Version as version
 use Rattle.semver_base.specs.declared.version.Version.{Version}
 use Rattle.semver_req.specs.Requirement.{Requirement}
 use Rattle.semver_req.specs.contracts.req.VersionReq as req
+use Rattle.handles.specs.contracts.version_list.VersionList as list
+use Rattle.handles.specs.declared.version_list.VersionList.{VersionList}
 use base.Fml.{Fml, ftrue}
 use mir.Syntax.{Ty}
 use denote.RawPtr.{Ptr}
@@ -21,6 +23,10 @@ held_requirement p (Some requirement) = box_owns heap_token req.the_row p requir
 abbrev pub held_version : Ptr → Option Version → Fml
 held_version p None = ftrue
 held_version p (Some v) = box_owns heap_token version.the_row p v
+
+abbrev pub held_version_list : Ptr → Option VersionList → Fml
+held_version_list p None = ftrue
+held_version_list p (Some all) = box_owns heap_token list.the_row p all
 
 -- the handle has a value
 abbrev pub Holds : {V : Type 0} → Option V → Type 0

@@ -1,4 +1,4 @@
-//! Values that callers of the C API keep across calls: a range or a version on the heap, behind a struct of one pointer.
+//! Values that callers of the C API keep across calls: a range, a version or several versions on the heap, behind a struct of one pointer.
 //!
 //! C holds such a struct and gives it back; a clause of the handle says what it owns, so each value is freed once.
 #![tactic(auto)]
@@ -6,6 +6,10 @@
 mod loose;
 mod requirement_handle;
 mod version_handle;
+mod version_list;
+mod version_list_handle;
 
 pub use requirement_handle::RequirementHandle;
 pub use version_handle::VersionHandle;
+pub use version_list::VersionList;
+pub use version_list_handle::VersionListHandle;

@@ -1,59 +1,89 @@
 -- What is returned to C, from the results of questions.
-use Rattle.std.proofs.Common.{◌≡◌, ℕ, List, Option, Result, Err, ap, subst, ◌∙◌, inl, inr}
-use Rattle.std.specs.Prelude.{◌⊎◌}
-use Rattle.answers.specs.declared.asking.Answer.{Answer}
-use Rattle.answers.specs.declared.questions.Best.{Best}
-use Rattle.semver_c.specs.Codes.{IsCode, IsPlaceReply, IsReply, IsReported, Reports, ReportsPlace, code_of}
-use Rattle.semver_c.specs.Arguments.{IsAnswer, outcome_of}
+use Rattle.std.proofs.Common.{◌≡◌, ℕ, List, Option, Some, None, Result, Ok, Err, refl, ap, subst, ◌∙◌, inl, inr}
+use Rattle.std.specs.Prelude.{◌⊎◌, ℤ}
+use Rattle.semver_c.specs.Codes.{IsCode, IsPlaceReply, IsReply, IsReported, Reports, code_of, no_memory, no_place, place_after}
+use Rattle.semver_c.specs.Arguments.{CallFault, IsAnswer, memory, outcome_of, problem_place}
+use Rattle.semver_c.specs.Held.{HoldsOutcome, IsHeld}
 use Rattle.semver_c.specs.declared.arguments.Problem.{Problem}
+use Rattle.semver_c.specs.declared.codes.Code.{Code}
 
-module _ {E X : Type 0} (Asked : Result X ℕ → Type 0) (value : E → X) (number : X → ℕ) (answer : Result E Problem) (h : IsAnswer Asked value answer) where
-  pub coded : (code : ℕ) → code ≡ code_of number (outcome_of value answer) → IsCode Asked number code
-  coded code e = record { is = is h.is; only = λ o a. only o (h.only o a) }
+-- a result without a place of its own
+pub unplaced : {E X : Type 0} (value : E → X) (answer : Result E Problem) (old new : ℕ) → new ≡ problem_place answer old → new ≡ place_after no_place (outcome_of value answer) old
+unplaced value (Ok e) old new is = is
+unplaced value (Err p) old new is = is
+
+module _ {E X : Type 0} (Asked : Result X CallFault → Type 0) (value : E → X) (answer : Result E Problem) (h : IsAnswer Asked value answer) where
+  -- ---- codes and texts
+
+  module _ (coded : X → Code) where
+    pub coded_reply : (code : ℤ) → code ≡ code_of coded (outcome_of value answer) → IsCode Asked coded code
+    coded_reply code e = record { is = is h.is; only = λ o a. only o (h.only o a) }
+      where
+        is : (outcome_of value answer ≡ Err memory) ⊎ Asked (outcome_of value answer) → (code ≡ no_memory) ⊎ ((o : Result X CallFault) × Asked o × (code ≡ code_of coded o))
+        is (inl none) = inl (e ∙ ap (code_of coded) none)
+        is (inr a) = inr (outcome_of value answer, a, e)
+
+        only : (o : Result X CallFault) → (outcome_of value answer ≡ Err memory) ⊎ (outcome_of value answer ≡ o) → (code ≡ no_memory) ⊎ (code ≡ code_of coded o)
+        only o (inl none) = inl (e ∙ ap (code_of coded) none)
+        only o (inr is) = inr (e ∙ ap (code_of coded) is)
+
+    module _ {I : Type 0} (shown : X → List I) (old new : List I) (needed : ℕ) (code : ℤ) (t : IsReported coded shown (outcome_of value answer) old new needed code) where
+      memory_reported : outcome_of value answer ≡ Err memory → Reports coded shown (outcome_of value answer) code t.items → code ≡ no_memory
+      memory_reported none (inl short) = short
+      memory_reported none (inr reported) = reported.0 ∙ ap (code_of coded) none
+
+      pub memory_code : outcome_of value answer ≡ Err memory → code ≡ no_memory
+      memory_code none = memory_reported none t.reports
+
+      pub replied : IsReply Asked coded shown old new needed code
+      replied = record { items = t.items; placed_is = t.placed_is; is = is h.is t.reports; only = λ o a. only o (h.only o a) t.reports }
+        where
+          Reported : Result X CallFault → Type 0
+          Reported o = Reports coded shown o code t.items
+
+          is : (outcome_of value answer ≡ Err memory) ⊎ Asked (outcome_of value answer) → Reports coded shown (outcome_of value answer) code t.items
+              → (code ≡ no_memory) ⊎ ((o : Result X CallFault) × Asked o × Reports coded shown o code t.items)
+          is (inl none) reported = inl (memory_reported none reported)
+          is (inr a) reported = inr (outcome_of value answer, a, reported)
+
+          only : (o : Result X CallFault) → (outcome_of value answer ≡ Err memory) ⊎ (outcome_of value answer ≡ o) → Reports coded shown (outcome_of value answer) code t.items
+              → Reports coded shown o code t.items
+          only o (inl none) reported = inl (memory_reported none reported)
+          only o (inr is) reported = subst Reported is reported
+
+  -- ---- places
+
+  module _ (given : X → ℕ → ℕ) (old new : ℕ) (code : ℤ) (out : outcome_of value answer ≡ Err memory → code ≡ no_memory) where
+    pub placed_reply : new ≡ place_after given (outcome_of value answer) old → IsPlaceReply Asked given old new code
+    placed_reply e = record { is = is h.is; only = λ o a. only o (h.only o a) }
+      where
+        none_placed : outcome_of value answer ≡ Err memory → (code ≡ no_memory) × (new ≡ old)
+        none_placed none = (out none, e ∙ ap (λ (o : Result X CallFault). place_after given o old) none)
+
+        is : (outcome_of value answer ≡ Err memory) ⊎ Asked (outcome_of value answer)
+            → ((code ≡ no_memory) × (new ≡ old)) ⊎ ((o : Result X CallFault) × Asked o × (new ≡ place_after given o old))
+        is (inl none) = inl (none_placed none)
+        is (inr a) = inr (outcome_of value answer, a, e)
+
+        only : (o : Result X CallFault) → (outcome_of value answer ≡ Err memory) ⊎ (outcome_of value answer ≡ o)
+            → ((code ≡ no_memory) × (new ≡ old)) ⊎ (new ≡ place_after given o old)
+        only o (inl none) = inl (none_placed none)
+        only o (inr is) = inr (e ∙ ap (λ (p : Result X CallFault). place_after given p old) is)
+
+  -- ---- values that are held
+
+  pub held_reply : (held : Option X) (code : ℤ) → HoldsOutcome (outcome_of value answer) held code → IsHeld Asked held code
+  held_reply held code holds = record { is = is h.is; only = λ o a. only o (h.only o a) }
     where
-      is : (outcome_of value answer ≡ Err 5) ⊎ Asked (outcome_of value answer) → (code ≡ 5) ⊎ ((o : Result X ℕ) × Asked o × (code ≡ code_of number o))
-      is (inl none) = inl (e ∙ ap (code_of number) none)
-      is (inr a) = inr (outcome_of value answer, a, e)
+      none_held : outcome_of value answer ≡ Err memory → (code ≡ no_memory) × (held ≡ None)
+      none_held none = let k = subst (λ (o : Result X CallFault). HoldsOutcome o held code) none holds in (k.1, k.0)
 
-      only : (o : Result X ℕ) → (outcome_of value answer ≡ Err 5) ⊎ (outcome_of value answer ≡ o) → (code ≡ 5) ⊎ (code ≡ code_of number o)
-      only o (inl none) = inl (e ∙ ap (code_of number) none)
-      only o (inr is) = inr (e ∙ ap (code_of number) is)
+      is : (outcome_of value answer ≡ Err memory) ⊎ Asked (outcome_of value answer)
+          → ((code ≡ no_memory) × (held ≡ None)) ⊎ ((o : Result X CallFault) × Asked o × HoldsOutcome o held code)
+      is (inl none) = inl (none_held none)
+      is (inr a) = inr (outcome_of value answer, a, holds)
 
-  pub replied : (words : X → List ℕ) (old new : List ℕ) (needed code : ℕ) → IsReported number words (outcome_of value answer) old new needed code → IsReply Asked number words old new needed code
-  replied words old new needed code t = record { text = t.text; placed_is = t.placed_is; is = is h.is t.reports; only = λ o a. only o (h.only o a) t.reports }
-    where
-      Reported : Result X ℕ → Type 0
-      Reported o = Reports number words o code t.text
-
-      none_reported : outcome_of value answer ≡ Err 5 → Reports number words (outcome_of value answer) code t.text → code ≡ 5
-      none_reported none (inl six) = six
-      none_reported none (inr reported) = reported.0 ∙ ap (code_of number) none
-
-      is : (outcome_of value answer ≡ Err 5) ⊎ Asked (outcome_of value answer) → Reports number words (outcome_of value answer) code t.text
-          → (code ≡ 5) ⊎ ((o : Result X ℕ) × Asked o × Reports number words o code t.text)
-      is (inl none) reported = inl (none_reported none reported)
-      is (inr a) reported = inr (outcome_of value answer, a, reported)
-
-      only : (o : Result X ℕ) → (outcome_of value answer ≡ Err 5) ⊎ (outcome_of value answer ≡ o) → Reports number words (outcome_of value answer) code t.text
-          → Reports number words o code t.text
-      only o (inl none) reported = inl (none_reported none reported)
-      only o (inr is) reported = subst Reported is reported
-
--- the same for a place
-pub placed_reply : (Asked : Result (Answer (Option Best)) ℕ → Type 0) (answer : Result (Answer (Option Best)) Problem) → IsAnswer Asked (λ (b : Answer (Option Best)). b) answer → (old new code : ℕ)
-    → ReportsPlace (outcome_of (λ (b : Answer (Option Best)). b) answer) old new code → IsPlaceReply Asked old new code
-placed_reply Asked answer h old new code reported = record { is = is h.is; only = λ o a. only o (h.only o a) }
-  where
-    given : Result (Answer (Option Best)) ℕ
-    given = outcome_of (λ (b : Answer (Option Best)). b) answer
-
-    none : given ≡ Err 5 → code ≡ 5
-    none e = (subst (λ (o : Result (Answer (Option Best)) ℕ). ReportsPlace o old new code) e reported).0
-
-    is : (given ≡ Err 5) ⊎ Asked given → (code ≡ 5) ⊎ ((o : Result (Answer (Option Best)) ℕ) × Asked o × ReportsPlace o old new code)
-    is (inl e) = inl (none e)
-    is (inr a) = inr (given, a, reported)
-
-    only : (o : Result (Answer (Option Best)) ℕ) → (given ≡ Err 5) ⊎ (given ≡ o) → (code ≡ 5) ⊎ ReportsPlace o old new code
-    only o (inl e) = inl (none e)
-    only o (inr e) = inr (subst (λ (o : Result (Answer (Option Best)) ℕ). ReportsPlace o old new code) e reported)
+      only : (o : Result X CallFault) → (outcome_of value answer ≡ Err memory) ⊎ (outcome_of value answer ≡ o)
+          → ((code ≡ no_memory) × (held ≡ None)) ⊎ HoldsOutcome o held code
+      only o (inl none) = inl (none_held none)
+      only o (inr is) = inr (subst (λ (p : Result X CallFault). HoldsOutcome p held code) is holds)

@@ -1,4 +1,4 @@
--- The arguments of a call, in which a parser is a number and a text is bytes, and the outcomes of calls.
+-- The arguments of a call, in which a grammar is a number and a text is bytes, and why a call has no result.
 use Rattle.std.specs.Prelude.{◌≡◌, ◌==◌, ◌<◌, ℕ, List, Result, Ok, Err, codes, if◌then◌else◌}
 use Rattle.std.specs.Str.{IsUtf8}
 use Rattle.semver_base.specs.Failure.{message_of}
@@ -7,69 +7,78 @@ use Rattle.semver_base.specs.declared.range.PreRelease.TheVariants.{Restricted, 
 use Rattle.semver_req.specs.declared.common.values.Flavour.{Flavour}
 use Rattle.semver_req.specs.declared.common.values.Flavour.TheVariants.{Npm, Normal, Specifier}
 use Rattle.answers.specs.Asking.{Fault, Invalid, IsOutcomeOf, OutOfMemory, failure_of, fault_of}
-use Rattle.answers.specs.declared.asking.Kind.{Kind}
-use Rattle.answers.specs.declared.asking.Kind.TheVariants as kind
 use Rattle.semver_c.specs.declared.arguments.Problem.{Problem}
 use Rattle.semver_c.specs.declared.arguments.Problem.TheVariants as problem
 
--- ---- codes: 3 an invalid range, package or reference, 4 a number that no parser has, 5 out of memory, 7 an invalid
--- version, 8 bytes that aren't UTF-8
+-- ---- outcomes
 
-abbrev pub kind_code : Kind → ℕ
-kind_code kind.Range = 3
-kind_code kind.Version = 7
-kind_code kind.Package = 3
-kind_code kind.Reference = 3
+-- why a call has no result: the question about its texts has none, no grammar has the number, or bytes aren't valid UTF-8
+pub data CallFault : Type 0 where
+  Unanswered : Fault → CallFault
+  NoGrammar : CallFault
+  NotUtf8 : CallFault
 
-abbrev pub fault_code : Fault → ℕ
-fault_code (Invalid k place) = kind_code k
-fault_code OutOfMemory = 5
+abbrev pub memory : CallFault
+memory = Unanswered OutOfMemory
 
-abbrev pub problem_code : Problem → ℕ
-problem_code (problem.Unanswered why) = fault_code (fault_of why)
-problem_code problem.NoParser = 4
-problem_code problem.NotUtf8 = 8
+abbrev pub call_fault : Problem → CallFault
+call_fault (problem.Unanswered why) = Unanswered (fault_of why)
+call_fault problem.NoGrammar = NoGrammar
+call_fault problem.NotUtf8 = NotUtf8
+
+-- the outcome of a result whose value means this
+abbrev pub outcome_of : {E X : Type 0} → (E → X) → Result E Problem → Result X CallFault
+outcome_of value (Ok e) = Ok (value e)
+outcome_of value (Err p) = Err (call_fault p)
+
+-- the result is the outcome of the question, which has no other, or out of memory
+abbrev pub IsAnswer : {E X : Type 0} → (Result X CallFault → Type 0) → (E → X) → Result E Problem → Type 0
+IsAnswer Asked value result = IsOutcomeOf memory Asked (outcome_of value result)
+
+-- the outcome of a question about texts as that of a call
+abbrev pub called_outcome : {X : Type 0} → Result X Fault → Result X CallFault
+called_outcome (Ok x) = Ok x
+called_outcome (Err fault) = Err (Unanswered fault)
+
+pub data Called {X : Type 0} (Asked : Result X Fault → Type 0) : Result X CallFault → Type 0 where
+  called : {outcome : Result X Fault} → Asked outcome → Called Asked (called_outcome outcome)
+
+-- ---- problems
 
 abbrev pub problem_message : Problem → List ℕ
 problem_message (problem.Unanswered why) = message_of (failure_of why)
-problem_message problem.NoParser = codes "No parser has this number."
+problem_message problem.NoGrammar = codes "No grammar has this number."
 problem_message problem.NotUtf8 = codes "The text isn't valid UTF-8."
 
--- ---- outcomes: a value, or the code of the first problem
+-- the place of the argument that is invalid, among those of its kind; without one, the other place
+abbrev pub fault_place : CallFault → ℕ → ℕ
+fault_place (Unanswered (Invalid kind place)) other = place
+fault_place (Unanswered OutOfMemory) other = other
+fault_place NoGrammar other = other
+fault_place NotUtf8 other = other
 
-abbrev pub outcome_of : {E X : Type 0} → (E → X) → Result E Problem → Result X ℕ
-outcome_of value (Ok e) = Ok (value e)
-outcome_of value (Err p) = Err (problem_code p)
-
--- the result is the outcome of the question, which has no other, or out of memory
-abbrev pub IsAnswer : {E X : Type 0} → (Result X ℕ → Type 0) → (E → X) → Result E Problem → Type 0
-IsAnswer Asked value result = IsOutcomeOf 5 Asked (outcome_of value result)
-
--- a question about texts, with its fault as a code
-abbrev pub coded_outcome : {X : Type 0} → Result X Fault → Result X ℕ
-coded_outcome (Ok x) = Ok x
-coded_outcome (Err fault) = Err (fault_code fault)
-
-pub data Coded {X : Type 0} (Asked : Result X Fault → Type 0) : Result X ℕ → Type 0 where
-  coded : {outcome : Result X Fault} → Asked outcome → Coded Asked (coded_outcome outcome)
+-- the place of a result's invalid argument; without one, the other place
+abbrev pub problem_place : {E : Type 0} → Result E Problem → ℕ → ℕ
+problem_place (Ok e) other = other
+problem_place (Err p) other = fault_place (call_fault p) other
 
 -- ---- arguments
 
--- the numbers of parsers: 0 npm's, 1 the normalized one, 2 the strict one
-abbrev pub parser_number : Flavour → ℕ
-parser_number Npm = 0
-parser_number Normal = 1
-parser_number Specifier = 2
+-- the numbers of grammars: 0 npm's, 1 the normalized one, 2 the strict one
+abbrev pub grammar_number : Flavour → ℕ
+grammar_number Npm = 0
+grammar_number Normal = 1
+grammar_number Specifier = 2
 
--- the parser with this number
-pub data IsParser (number : ℕ) : Result Flavour ℕ → Type 0 where
-  parser : {f : Flavour} → number ≡ parser_number f → IsParser number (Ok f)
-  no_parser : 2 < number → IsParser number (Err 4)
+-- the grammar with this number
+pub data IsGrammar (number : ℕ) : Result Flavour CallFault → Type 0 where
+  grammar : {f : Flavour} → number ≡ grammar_number f → IsGrammar number (Ok f)
+  no_grammar : 2 < number → IsGrammar number (Err NoGrammar)
 
 -- bytes that are a text
-pub data IsText (bytes : List ℕ) : Result (List ℕ) ℕ → Type 0 where
+pub data IsText (bytes : List ℕ) : Result (List ℕ) CallFault → Type 0 where
   text : IsUtf8 bytes → IsText bytes (Ok bytes)
-  no_text : (IsUtf8 bytes → ⊥) → IsText bytes (Err 8)
+  no_text : (IsUtf8 bytes → ⊥) → IsText bytes (Err NotUtf8)
 
 -- pre-releases are restricted by npm's rule at 0, and admitted at any other number
 abbrev pub pre_release_of : ℕ → PreRelease

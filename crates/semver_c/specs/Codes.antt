@@ -1,107 +1,191 @@
--- How outcomes are returned to C: as a code, and a text in the caller's buffer.
-use Rattle.std.specs.Prelude.{◌≡◌, ◌⊎◌, ◌++◌, ℕ, List, [], drop, length, Bool, true, false, Option, Some, None, nat_le, Result, Ok, Err, if◌then◌else◌}
+-- How outcomes are returned to C: as a code, with a text in the caller's buffer or a place.
+use Rattle.std.specs.Prelude.{◌≡◌, ◌⊎◌, ◌++◌, ℕ, ℤ, pos, negsuc, List, [], drop, length, map, Bool, true, false, Option, Some, None, nat_le, Result, Ok, Err, if◌then◌else◌}
 use Rattle.std.specs.declared.cmp.Ordering.{Ordering}
 use Rattle.std.specs.declared.cmp.Ordering.TheVariants.{Less, Equal, Greater}
 use Rattle.semver_base.specs.VersionText.{version_text}
 use Rattle.semver_base.specs.declared.version.Version.{Version}
+use Rattle.answers.specs.Asking.{Invalid, OutOfMemory}
 use Rattle.answers.specs.declared.asking.Answer.{Answer}
 use Rattle.answers.specs.declared.asking.Answer.TheVariants.{Value, Tag}
+use Rattle.answers.specs.declared.asking.Kind.{Kind}
+use Rattle.answers.specs.declared.asking.Kind.TheVariants as kind
 use Rattle.answers.specs.declared.questions.Best.{Best}
+use Rattle.semver_c.specs.Arguments.{CallFault, NoGrammar, NotUtf8, Unanswered, fault_place}
+use Rattle.semver_c.specs.declared.codes.Code.{Code}
+use Rattle.semver_c.specs.declared.codes.Code.TheVariants as code
+
+-- ---- numbers: 0 and above for an answer, negative for none
+
+abbrev pub number_of : Code → ℤ
+number_of code.No = pos 0
+number_of code.Yes = pos 1
+number_of code.Before = pos 0
+number_of code.Same = pos 1
+number_of code.After = pos 2
+number_of code.Tag = negsuc 0
+number_of code.InvalidRange = negsuc 1
+number_of code.InvalidVersion = negsuc 2
+number_of code.NotUtf8 = negsuc 3
+number_of code.NoGrammar = negsuc 4
+number_of code.NoMemory = negsuc 5
+
+abbrev pub yes : ℤ
+yes = number_of code.Yes
+
+abbrev pub no_memory : ℤ
+no_memory = number_of code.NoMemory
+
+-- ---- the codes of faults
+
+abbrev pub kind_code : Kind → Code
+kind_code kind.Range = code.InvalidRange
+kind_code kind.Version = code.InvalidVersion
+kind_code kind.Package = code.InvalidRange
+kind_code kind.Reference = code.InvalidRange
+
+abbrev pub fault_code : CallFault → Code
+fault_code (Unanswered (Invalid k place)) = kind_code k
+fault_code (Unanswered OutOfMemory) = code.NoMemory
+fault_code NoGrammar = code.NoGrammar
+fault_code NotUtf8 = code.NotUtf8
 
 -- ---- the codes of values
 
-abbrev pub bool_code : Bool → ℕ
-bool_code false = 0
-bool_code true = 1
+abbrev pub bool_code : Bool → Code
+bool_code false = code.No
+bool_code true = code.Yes
 
-abbrev pub match_code : Answer Bool → ℕ
+abbrev pub match_code : Answer Bool → Code
 match_code (Value matches) = bool_code matches
-match_code (Tag tag) = 2
+match_code (Tag tag) = code.Tag
 
-abbrev pub order_code : Ordering → ℕ
-order_code Less = 0
-order_code Equal = 1
-order_code Greater = 2
+abbrev pub order_code : Ordering → Code
+order_code Less = code.Before
+order_code Equal = code.Same
+order_code Greater = code.After
 
 -- one code if there is a lowest version, another if there is none
-abbrev pub lowest_code : ℕ → ℕ → Answer (Option Version) → ℕ
+abbrev pub lowest_code : Code → Code → Answer (Option Version) → Code
 lowest_code found nothing (Value (Some v)) = found
 lowest_code found nothing (Value None) = nothing
-lowest_code found nothing (Tag tag) = 2
+lowest_code found nothing (Tag tag) = code.Tag
 
 abbrev pub lowest_text : Answer (Option Version) → List ℕ
 lowest_text (Value (Some v)) = version_text v
 lowest_text (Value None) = []
 lowest_text (Tag tag) = []
 
+abbrev pub text_code : Answer (List ℕ) → Code
+text_code (Value text) = code.Yes
+text_code (Tag tag) = code.Tag
+
+-- a tag has no text
+abbrev pub text_of : Answer (List ℕ) → List ℕ
+text_of (Value text) = text
+text_of (Tag tag) = []
+
+abbrev pub best_code : Answer (Option Best) → Code
+best_code (Value (Some best)) = code.Yes
+best_code (Value None) = code.No
+best_code (Tag tag) = code.Tag
+
+abbrev pub best_place : Answer (Option Best) → ℕ → ℕ
+best_place (Value (Some best)) old = best.place
+best_place (Value None) old = old
+best_place (Tag tag) old = old
+
+-- of a line: whether its version matches, or that it is invalid
+abbrev pub line_code : Option Bool → Code
+line_code (Some matches) = bool_code matches
+line_code None = code.InvalidVersion
+
+abbrev pub filter_code : Answer (List (Option Bool)) → Code
+filter_code (Value answers) = code.Yes
+filter_code (Tag tag) = code.Tag
+
+abbrev pub filter_numbers : Answer (List (Option Bool)) → List ℤ
+filter_numbers (Value answers) = map (λ answer. number_of (line_code answer)) answers
+filter_numbers (Tag tag) = []
+
 -- ---- codes
 
-abbrev pub code_of : {X : Type 0} → (X → ℕ) → Result X ℕ → ℕ
-code_of number (Ok x) = number x
-code_of number (Err code) = code
+abbrev pub code_of : {X : Type 0} → (X → Code) → Result X CallFault → ℤ
+code_of coded (Ok x) = number_of (coded x)
+code_of coded (Err fault) = number_of (fault_code fault)
 
--- the code is that of the question's outcome, which has no other code, or 5 for out of memory
-pub record IsCode {X : Type 0} (Asked : Result X ℕ → Type 0) (number : X → ℕ) (code : ℕ) : Type 0 where
-  pub is : (code ≡ 5) ⊎ ((outcome : Result X ℕ) × Asked outcome × (code ≡ code_of number outcome))
-  pub only : (outcome : Result X ℕ) → Asked outcome → (code ≡ 5) ⊎ (code ≡ code_of number outcome)
+-- the code is that of the question's outcome, which has no other code, or memory ran out
+pub record IsCode {X : Type 0} (Asked : Result X CallFault → Type 0) (coded : X → Code) (code : ℤ) : Type 0 where
+  pub is : (code ≡ no_memory) ⊎ ((outcome : Result X CallFault) × Asked outcome × (code ≡ code_of coded outcome))
+  pub only : (outcome : Result X CallFault) → Asked outcome → (code ≡ no_memory) ⊎ (code ≡ code_of coded outcome)
 
--- ---- texts
+-- ---- texts and lists
 
--- a text at the start of the buffer, the rest of which is unchanged; one that doesn't fit leaves the buffer unchanged
-abbrev pub placed : List ℕ → List ℕ → List ℕ
-placed text old = if nat_le (length text) (length old) then text ++ drop (length text) old else old
+-- items at the start of the buffer, the rest of which is unchanged; if they don't fit, the buffer is unchanged
+abbrev pub placed : {I : Type 0} → List I → List I → List I
+placed items old = if nat_le (length items) (length old) then items ++ drop (length items) old else old
 
--- the text is placed, and its length is stored
-pub record IsPlaced (text old new : List ℕ) (needed : ℕ) : Type 0 where
-  pub new_is : new ≡ placed text old
-  pub needed_is : needed ≡ length text
+-- the items are placed, and their number is stored
+pub record IsPlaced {I : Type 0} (items old new : List I) (needed : ℕ) : Type 0 where
+  pub new_is : new ≡ placed items old
+  pub needed_is : needed ≡ length items
 
--- the text of a value; for a problem, its message
-abbrev pub IsTextOf : {X : Type 0} → (X → List ℕ) → Result X ℕ → List ℕ → Type 0
-IsTextOf words (Ok x) text = text ≡ words x
-IsTextOf words (Err code) text = Unit {0}
+-- the items of a value; for a problem of a call that writes a text, its message
+abbrev pub AreItemsOf : {X I : Type 0} → (X → List I) → Result X CallFault → List I → Type 0
+AreItemsOf shown (Ok x) items = items ≡ shown x
+AreItemsOf shown (Err fault) items = Unit {0}
 
--- the code and the text report the outcome, or out of memory
-abbrev pub Reports : {X : Type 0} → (X → ℕ) → (X → List ℕ) → Result X ℕ → ℕ → List ℕ → Type 0
-Reports number words outcome code text = (code ≡ 5) ⊎ ((code ≡ code_of number outcome) × IsTextOf words outcome text)
+-- the code and the items report the outcome, or that memory ran out
+abbrev pub Reports : {X I : Type 0} → (X → Code) → (X → List I) → Result X CallFault → ℤ → List I → Type 0
+Reports coded shown outcome code items =
+    (code ≡ no_memory) ⊎ ((code ≡ code_of coded outcome) × AreItemsOf shown outcome items)
 
--- a text is placed that reports the outcome, together with the code
-pub record IsReported {X : Type 0} (number : X → ℕ) (words : X → List ℕ) (outcome : Result X ℕ) (old new : List ℕ)
-    (needed code : ℕ) : Type 0 where
-  pub text : List ℕ
-  pub placed_is : IsPlaced text old new needed
-  pub reports : Reports number words outcome code text
+-- items are placed that report the outcome, together with the code
+pub record IsReported {X I : Type 0} (coded : X → Code) (shown : X → List I) (outcome : Result X CallFault)
+    (old new : List I) (needed : ℕ) (code : ℤ) : Type 0 where
+  pub items : List I
+  pub placed_is : IsPlaced items old new needed
+  pub reports : Reports coded shown outcome code items
 
--- a text is placed that reports the question's outcome, together with the code, and each of its outcomes is so reported
-pub record IsReply {X : Type 0} (Asked : Result X ℕ → Type 0) (number : X → ℕ) (words : X → List ℕ) (old new : List ℕ)
-    (needed code : ℕ) : Type 0 where
-  pub text : List ℕ
-  pub placed_is : IsPlaced text old new needed
-  pub is : (code ≡ 5) ⊎ ((outcome : Result X ℕ) × Asked outcome × Reports number words outcome code text)
-  pub only : (outcome : Result X ℕ) → Asked outcome → Reports number words outcome code text
+-- items are placed that report the question's outcome, together with the code, and each of its outcomes is so reported
+pub record IsReply {X I : Type 0} (Asked : Result X CallFault → Type 0) (coded : X → Code) (shown : X → List I)
+    (old new : List I) (needed : ℕ) (code : ℤ) : Type 0 where
+  pub items : List I
+  pub placed_is : IsPlaced items old new needed
+  pub is : (code ≡ no_memory)
+      ⊎ ((outcome : Result X CallFault) × Asked outcome × Reports coded shown outcome code items)
+  pub only : (outcome : Result X CallFault) → Asked outcome → Reports coded shown outcome code items
 
 -- for any code but 1 nothing is written, and the length is 0
-abbrev pub IsUntouched : List ℕ → List ℕ → ℕ → ℕ → Type 0
-IsUntouched old new needed code = (code ≡ 1 → ⊥) → (new ≡ old) × (needed ≡ 0)
+abbrev pub IsUntouched : {I : Type 0} → List I → List I → ℕ → ℤ → Type 0
+IsUntouched old new needed code = (code ≡ yes → ⊥) → (new ≡ old) × (needed ≡ 0)
+
+-- the outcome that is a value
+abbrev pub as_value : {X : Type 0} → X → Result X CallFault
+as_value x = Ok x
 
 -- no text
 abbrev pub no_text : {X : Type 0} → X → List ℕ
 no_text x = []
 
--- a text comes with code 1
-abbrev pub one_code : List ℕ → ℕ
-one_code text = 1
+-- a text or a list comes with code 1
+abbrev pub always_yes : {X : Type 0} → X → Code
+always_yes x = code.Yes
 
 -- ---- places
 
--- the code, and the place if there is one; else the place is unchanged
-abbrev pub ReportsPlace : Result (Answer (Option Best)) ℕ → ℕ → ℕ → ℕ → Type 0
-ReportsPlace (Ok (Value (Some best))) old new code = (code ≡ 1) × (new ≡ best.place)
-ReportsPlace (Ok (Value None)) old new code = (code ≡ 0) × (new ≡ old)
-ReportsPlace (Ok (Tag tag)) old new code = (code ≡ 2) × (new ≡ old)
-ReportsPlace (Err problem) old new code = (code ≡ problem) × (new ≡ old)
+-- the place of a value, or of the argument that is invalid; without one, the place is unchanged
+abbrev pub place_after : {X : Type 0} → (X → ℕ → ℕ) → Result X CallFault → ℕ → ℕ
+place_after given (Ok x) old = given x old
+place_after given (Err fault) old = fault_place fault old
 
--- the question's outcome is reported, which has no other, or out of memory
-pub record IsPlaceReply (Asked : Result (Answer (Option Best)) ℕ → Type 0) (old new code : ℕ) : Type 0 where
-  pub is : (code ≡ 5) ⊎ ((outcome : Result (Answer (Option Best)) ℕ) × Asked outcome × ReportsPlace outcome old new code)
-  pub only : (outcome : Result (Answer (Option Best)) ℕ) → Asked outcome → (code ≡ 5) ⊎ ReportsPlace outcome old new code
+-- a value has no place
+abbrev pub no_place : {X : Type 0} → X → ℕ → ℕ
+no_place x old = old
+
+-- the place is that of the question's outcome, which has no other, or memory ran out and it is unchanged
+pub record IsPlaceReply {X : Type 0} (Asked : Result X CallFault → Type 0) (given : X → ℕ → ℕ) (old new : ℕ) (code : ℤ) :
+    Type 0 where
+  pub is : ((code ≡ no_memory) × (new ≡ old))
+      ⊎ ((outcome : Result X CallFault) × Asked outcome × (new ≡ place_after given outcome old))
+  pub only : (outcome : Result X CallFault) → Asked outcome
+      → ((code ≡ no_memory) × (new ≡ old)) ⊎ (new ≡ place_after given outcome old)

@@ -1,4 +1,4 @@
 pub mod Arguments
 pub mod Codes
-pub mod Kept
+pub mod Held
 pub mod Questions

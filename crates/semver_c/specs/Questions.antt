@@ -1,105 +1,130 @@
--- The question of each call: the parser is looked up first, then the texts are checked, then the question about texts is
+-- The question of each call: the grammar is looked up first, then the texts are checked, then the question about texts is
 -- asked.
-use Rattle.std.specs.Prelude.{ℕ, List, [], ◌∷◌, Bool, Option, Result, Ok, Err}
+use Rattle.std.specs.Prelude.{ℕ, List, [], ◌∷◌, Bool, Option, Some, Result}
 use Rattle.std.specs.Str.Lines.{lines}
 use Rattle.std.specs.declared.cmp.Ordering.{Ordering}
-use Rattle.semver_base.specs.declared.range.PreRelease.{PreRelease}
-use Rattle.semver_base.specs.declared.range.PreRelease.TheVariants.{Restricted}
 use Rattle.semver_base.specs.declared.version.Version.{Version}
 use Rattle.semver_req.specs.Requirement.{Requirement}
 use Rattle.semver_req.specs.declared.common.values.Flavour.{Flavour}
-use Rattle.answers.specs.Asking.{Each, Fault, Given, Is}
+use Rattle.deno_semver.specs.ExportName.{export_name}
+use Rattle.answers.specs.Asking.{Fault, Given, Is}
+use Rattle.answers.specs.Filtering.{Filter, VersionLines}
 use Rattle.answers.specs.Packages.{PackageParts}
-use Rattle.answers.specs.Questions.{BestMatch, Canonical, Common, Displayed, Matches, Orders, Outside, Overlaps, match_of}
+use Rattle.answers.specs.Parts.{NameWithVersionParts, RangeParts, VersionParts}
+use Rattle.answers.specs.Questions.{BestMatch, Canonical, Common, Displayed, Equivalent, LowestMatch, Matches, Orders, Outside, Overlaps, match_of}
 use Rattle.answers.specs.Reading.{IsRange, IsVersion}
 use Rattle.answers.specs.References.{ReferenceParts}
 use Rattle.answers.specs.Sorting.{Sorts}
+use Rattle.answers.specs.Specifiers.{DependencyParts, VersionReferenceParts}
 use Rattle.answers.specs.declared.asking.Answer.{Answer}
 use Rattle.answers.specs.declared.questions.Best.{Best}
 use Rattle.answers.specs.declared.sorting.Order.TheVariants.{Ascending}
-use Rattle.semver_c.specs.Arguments.{Coded, IsParser, IsText, pre_release_of}
+use Rattle.semver_c.specs.Arguments.{CallFault, Called, IsGrammar, IsText, pre_release_of}
 use Rattle.semver_c.specs.Codes.{match_code}
+use Rattle.semver_c.specs.declared.codes.Code.{Code}
 
 -- ---- arguments before the question
 
--- a parser and a text
-abbrev pub ByOne : {Y : Type 0} → ℕ → List ℕ → (Flavour → List ℕ → Result Y Fault → Type 0) → Result Y ℕ → Type 0
-ByOne number one Asked = Given (IsParser number) (λ f. Given (IsText one) (λ text. Coded (Asked f text)))
+-- a grammar and a text
+abbrev pub ByOne : {Y : Type 0} → ℕ → List ℕ → (Flavour → List ℕ → Result Y Fault → Type 0) → Result Y CallFault → Type 0
+ByOne number one Asked = Given (IsGrammar number) (λ f. Given (IsText one) (λ text. Called (Asked f text)))
 
--- a parser and two texts
-abbrev pub ByTwo : {Y : Type 0} → ℕ → List ℕ → List ℕ → (Flavour → List ℕ → List ℕ → Result Y Fault → Type 0) → Result Y ℕ → Type 0
-ByTwo number one other Asked = Given (IsParser number)
-    (λ f. Given (IsText one) (λ text. Given (IsText other) (λ more. Coded (Asked f text more))))
+-- a grammar and two texts
+abbrev pub ByTwo : {Y : Type 0} → ℕ → List ℕ → List ℕ → (Flavour → List ℕ → List ℕ → Result Y Fault → Type 0) → Result Y CallFault → Type 0
+ByTwo number one other Asked = Given (IsGrammar number)
+    (λ f. Given (IsText one) (λ text. Given (IsText other) (λ more. Called (Asked f text more))))
 
 -- a text
-abbrev pub OfText : {Y : Type 0} → List ℕ → (List ℕ → Result Y Fault → Type 0) → Result Y ℕ → Type 0
-OfText one Asked = Given (IsText one) (λ text. Coded (Asked text))
+abbrev pub OfText : {Y : Type 0} → List ℕ → (List ℕ → Result Y Fault → Type 0) → Result Y CallFault → Type 0
+OfText one Asked = Given (IsText one) (λ text. Called (Asked text))
 
 -- two texts
-abbrev pub OfTexts : {Y : Type 0} → List ℕ → List ℕ → (List ℕ → List ℕ → Result Y Fault → Type 0) → Result Y ℕ → Type 0
-OfTexts one other Asked = Given (IsText one) (λ text. Given (IsText other) (λ more. Coded (Asked text more)))
-
--- ---- several versions, a line each
-
--- the code of a line: that of its version's match, or 7 if the version is invalid
-pub data LineCode (flag : PreRelease) (req : Requirement) (place : ℕ) (line : List ℕ) : Result ℕ Fault → Type 0 where
-  line_matches : {v : Version} → IsVersion place line (Ok v) → LineCode flag req place line (Ok (match_code (match_of flag req.inner v)))
-  line_invalid : {fault : Fault} → IsVersion place line (Err fault) → LineCode flag req place line (Ok 7)
-
--- the code of each line
-abbrev pub LineCodes : PreRelease → Flavour → List ℕ → List ℕ → Result (List ℕ) Fault → Type 0
-LineCodes flag f range versions = Given (IsRange f 0 range) (λ req. Each (LineCode flag req) 0 (lines versions))
+abbrev pub OfTexts : {Y : Type 0} → List ℕ → List ℕ → (List ℕ → List ℕ → Result Y Fault → Type 0) → Result Y CallFault → Type 0
+OfTexts one other Asked = Given (IsText one) (λ text. Given (IsText other) (λ more. Called (Asked text more)))
 
 -- ---- the calls
 
-abbrev pub Fits : ℕ → ℕ → List ℕ → List ℕ → Result (Answer Bool) ℕ → Type 0
-Fits number reader range version = ByTwo reader range version (λ f r v. Matches (pre_release_of number) f r v)
+abbrev pub Fits : ℕ → ℕ → List ℕ → List ℕ → Result (Answer Bool) CallFault → Type 0
+Fits number g range version = ByTwo g range version (λ f r v. Matches (pre_release_of number) f r v)
 
-abbrev pub Filters : ℕ → ℕ → List ℕ → List ℕ → Result (List ℕ) ℕ → Type 0
-Filters number reader range versions = ByTwo reader range versions (λ f r v. LineCodes (pre_release_of number) f r v)
+abbrev pub Filters : ℕ → ℕ → List ℕ → List ℕ → Result (Answer (List (Option Bool))) CallFault → Type 0
+Filters number g range versions = ByTwo g range versions (λ f r v. Filter (pre_release_of number) f r (lines v))
 
-abbrev pub BestLine : ℕ → ℕ → List ℕ → List ℕ → Result (Answer (Option Best)) ℕ → Type 0
-BestLine number reader range versions = ByTwo reader range versions (λ f r v. BestMatch (pre_release_of number) f r (lines v))
+abbrev pub BestLine : ℕ → ℕ → List ℕ → List ℕ → Result (Answer (Option Best)) CallFault → Type 0
+BestLine number g range versions = ByTwo g range versions (λ f r v. BestMatch (pre_release_of number) f r (lines v))
 
-abbrev pub OverlapsBy : ℕ → List ℕ → List ℕ → Result Bool ℕ → Type 0
-OverlapsBy reader one other = ByTwo reader one other Overlaps
+abbrev pub LowestLine : ℕ → ℕ → List ℕ → List ℕ → Result (Answer (Option Best)) CallFault → Type 0
+LowestLine number g range versions = ByTwo g range versions (λ f r v. LowestMatch (pre_release_of number) f r (lines v))
 
-abbrev pub LowestBy : ℕ → List ℕ → Result (Answer (Option Version)) ℕ → Type 0
-LowestBy reader range = ByOne reader range (λ f r. Common Restricted f (r ∷ []))
+abbrev pub OverlapsBy : ℕ → List ℕ → List ℕ → Result Bool CallFault → Type 0
+OverlapsBy g one other = ByTwo g one other Overlaps
 
-abbrev pub CommonBy : ℕ → List ℕ → List ℕ → Result (Answer (Option Version)) ℕ → Type 0
-CommonBy reader one other = ByTwo reader one other (λ f r s. Common Restricted f (r ∷ s ∷ []))
+abbrev pub EquivalentBy : ℕ → ℕ → List ℕ → List ℕ → Result (Answer Bool) CallFault → Type 0
+EquivalentBy number g one other = ByTwo g one other (λ f r s. Equivalent (pre_release_of number) f r s)
 
-abbrev pub OutsideBy : ℕ → List ℕ → List ℕ → Result (Answer (Option Version)) ℕ → Type 0
-OutsideBy reader one other = ByTwo reader one other (Outside Restricted)
+abbrev pub LowestBy : ℕ → ℕ → List ℕ → Result (Answer (Option Version)) CallFault → Type 0
+LowestBy number g range = ByOne g range (λ f r. Common (pre_release_of number) f (r ∷ []))
 
-abbrev pub CanonicalBy : ℕ → List ℕ → Result (List ℕ) ℕ → Type 0
-CanonicalBy reader range = ByOne reader range Canonical
+abbrev pub CommonBy : ℕ → ℕ → List ℕ → List ℕ → Result (Answer (Option Version)) CallFault → Type 0
+CommonBy number g one other = ByTwo g one other (λ f r s. Common (pre_release_of number) f (r ∷ s ∷ []))
 
-abbrev pub DisplayedOf : List ℕ → Result (List ℕ) ℕ → Type 0
+-- of all the ranges, one per line
+abbrev pub CommonOfAll : ℕ → ℕ → List ℕ → Result (Answer (Option Version)) CallFault → Type 0
+CommonOfAll number g ranges = ByOne g ranges (λ f text. Common (pre_release_of number) f (lines text))
+
+abbrev pub OutsideBy : ℕ → ℕ → List ℕ → List ℕ → Result (Answer (Option Version)) CallFault → Type 0
+OutsideBy number g one other = ByTwo g one other (λ f r s. Outside (pre_release_of number) f r s)
+
+abbrev pub CanonicalBy : ℕ → List ℕ → Result (List ℕ) CallFault → Type 0
+CanonicalBy g range = ByOne g range Canonical
+
+abbrev pub DisplayedOf : List ℕ → Result (List ℕ) CallFault → Type 0
 DisplayedOf version = OfText version Displayed
 
-abbrev pub OrdersOf : List ℕ → List ℕ → Result Ordering ℕ → Type 0
+abbrev pub OrdersOf : List ℕ → List ℕ → Result Ordering CallFault → Type 0
 OrdersOf one other = OfTexts one other Orders
 
-abbrev pub SortsOf : List ℕ → Result (List ℕ) ℕ → Type 0
+abbrev pub SortsOf : List ℕ → Result (List ℕ) CallFault → Type 0
 SortsOf versions = OfText versions (λ text. Sorts Ascending (lines text))
 
-abbrev pub PackageBy : ℕ → List ℕ → Result (List ℕ) ℕ → Type 0
-PackageBy reader text = ByOne reader text PackageParts
+abbrev pub PackageBy : ℕ → List ℕ → Result (List ℕ) CallFault → Type 0
+PackageBy g text = ByOne g text PackageParts
 
-abbrev pub ReferenceOf : List ℕ → Result (List ℕ) ℕ → Type 0
+abbrev pub ReferenceOf : List ℕ → Result (List ℕ) CallFault → Type 0
 ReferenceOf text = OfText text ReferenceParts
 
--- ---- values that are kept across calls
+abbrev pub VersionPartsOf : List ℕ → Result (List ℕ) CallFault → Type 0
+VersionPartsOf version = OfText version VersionParts
 
-abbrev pub RangeBy : ℕ → List ℕ → Result Requirement ℕ → Type 0
-RangeBy reader text = ByOne reader text (λ f t. IsRange f 0 t)
+abbrev pub RangesBy : ℕ → List ℕ → Result (Answer (List ℕ)) CallFault → Type 0
+RangesBy g range = ByOne g range RangeParts
 
-abbrev pub VersionOf : List ℕ → Result Version ℕ → Type 0
+abbrev pub NameWithVersionOf : List ℕ → Result (List ℕ) CallFault → Type 0
+NameWithVersionOf text = OfText text NameWithVersionParts
+
+abbrev pub VersionReferenceOf : List ℕ → Result (List ℕ) CallFault → Type 0
+VersionReferenceOf text = OfText text VersionReferenceParts
+
+abbrev pub DependencyBy : ℕ → List ℕ → Result (List ℕ) CallFault → Type 0
+DependencyBy g text = ByOne g text DependencyParts
+
+-- the name of the export that a path means
+abbrev pub ExportNameOf : List ℕ → Result (List ℕ) CallFault → Type 0
+ExportNameOf path = OfText path (λ text. Is (export_name (Some text)))
+
+-- ---- values that are held across calls
+
+abbrev pub RangeBy : ℕ → List ℕ → Result Requirement CallFault → Type 0
+RangeBy g text = ByOne g text (λ f t. IsRange f 0 t)
+
+abbrev pub VersionOf : List ℕ → Result Version CallFault → Type 0
 VersionOf text = OfText text (IsVersion 0)
 
+-- the versions of the lines; none for a line that isn't a version
+abbrev pub VersionListOf : List ℕ → Result (List (Option Version)) CallFault → Type 0
+VersionListOf versions = OfText versions (λ text. VersionLines (lines text))
+
 -- the code of the match of a text's version
-abbrev pub MatchesKept : ℕ → Requirement → List ℕ → Result ℕ ℕ → Type 0
-MatchesKept number req version =
+abbrev pub MatchesHeld : ℕ → Requirement → List ℕ → Result Code CallFault → Type 0
+MatchesHeld number req version =
     OfText version (λ text. Given (IsVersion 0 text) (λ v. Is (match_code (match_of (pre_release_of number) req.inner v))))

@@ -1,12 +1,14 @@
-//! The arguments of a call: parsers by their numbers, texts by their bytes, and why a call has no result.
+//! The arguments of a call: grammars by their numbers, texts by their bytes, and why a call has no result.
 
 ghost use Rattle.std.specs.Prelude.{◌≡◌, ◌<◌, Err, IfOk, IsUtf8, map, MatchResult};
 ghost use Rattle.std.specs.Str.Lines.{lines};
 ghost use Rattle.answers.specs.declared.asking.Problem.TheVariants as unanswered;
-ghost use Rattle.semver_c.specs.Arguments.{parser_number, pre_release_of, problem_code, problem_message};
+ghost use Rattle.semver_c.specs.Arguments.{call_fault, fault_place, grammar_number, pre_release_of, problem_message};
+ghost use Rattle.semver_c.specs.Codes.{fault_code};
 ghost use Rattle.semver_c.specs.declared.arguments.Problem.TheVariants as problem;
 
-use answers::asking::{Kind, Problem as Unanswered};
+use crate::codes::Code;
+use answers::asking::Problem as Unanswered;
 use deno_semver::PreRelease;
 use semver_req::common::values::Flavour;
 use std::alloc::{AllocError, Global};
@@ -17,8 +19,8 @@ use std::str;
 pub enum Problem {
     /// The question about its texts has no result.
     Unanswered(Unanswered),
-    /// No parser has this number.
-    NoParser,
+    /// No grammar has this number.
+    NoGrammar,
     NotUtf8,
 }
 
@@ -40,17 +42,25 @@ impl From<AllocError> for Problem {
 
 impl Problem {
     /// The code of the problem.
-    pub fn code(&self) -> u32
-        ensures { result ≡ problem_code self.now }
+    pub fn code(&self) -> Code
+        ensures { result ≡ fault_code (call_fault self.now) }
     {
         match self {
-            Problem::Unanswered(Unanswered::Invalid(argument)) => match argument.kind {
-                Kind::Version => 7,
-                Kind::Range | Kind::Package | Kind::Reference => 3,
-            },
-            Problem::Unanswered(Unanswered::OutOfMemory) => 5,
-            Problem::NoParser => 4,
-            Problem::NotUtf8 => 8,
+            Problem::Unanswered(Unanswered::Invalid(argument)) => Code::of_invalid(argument.kind),
+            Problem::Unanswered(Unanswered::OutOfMemory) => Code::NoMemory,
+            Problem::NoGrammar => Code::NoGrammar,
+            Problem::NotUtf8 => Code::NotUtf8,
+        }
+    }
+
+    /// The place of the invalid argument among those of its kind; without one, the other place.
+    pub fn place_or(&self, other: usize) -> usize
+        ensures { result ≡ fault_place (call_fault self.now) other }
+    {
+        match self {
+            Problem::Unanswered(Unanswered::Invalid(argument)) => argument.place,
+            Problem::Unanswered(Unanswered::OutOfMemory) | Problem::NoGrammar | Problem::NotUtf8 =>
+                other,
         }
     }
 
@@ -60,22 +70,22 @@ impl Problem {
     {
         match self {
             Problem::Unanswered(why) => why.message(),
-            Problem::NoParser => "No parser has this number.",
+            Problem::NoGrammar => "No grammar has this number.",
             Problem::NotUtf8 => "The text isn't valid UTF-8.",
         }
     }
 }
 
-/// The parser of this number.
-pub fn parser(number: u32) -> Result<Flavour, Problem>
-    ensures { MatchResult result (λ flavour. number ≡ parser_number flavour)
-        (λ error. (error ≡ problem.NoParser) × (2 < number)) }
+/// The grammar of this number.
+pub fn flavour(number: u32) -> Result<Flavour, Problem>
+    ensures { MatchResult result (λ flavour. number ≡ grammar_number flavour)
+        (λ error. (error ≡ problem.NoGrammar) × (2 < number)) }
 {
     match number {
         0 => Ok(Flavour::Npm),
         1 => Ok(Flavour::Normal),
         2 => Ok(Flavour::Specifier),
-        _ => Err(Problem::NoParser),
+        _ => Err(Problem::NoGrammar),
     }
 }
 

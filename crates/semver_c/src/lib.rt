@@ -1,286 +1,469 @@
-//! The C API: questions as calls over bytes, each a pointer and a length, and values that are kept across calls.
+//! The C API: questions as calls over bytes, each a pointer and a length, and values that are held across calls.
 //!
-//! Each call returns a code. 0, 1 and 2 are results; 3 means an invalid range, package or reference, 4 a number that no
-//! parser has, 5 out of memory, 7 an invalid version, and 8 bytes that aren't UTF-8. As exit statuses of the programs 3, 4
-//! and 5 mean the same, and 6 is theirs alone. The parsers are npm's, 0, the normalized one, 1, and the strict one, 2. A text
-//! is written to the start of the caller's buffer if it fits, and its length is always stored.
+//! Each call returns a code: 0 and above for an answer, negative for none ([`codes`]). The grammars are npm's, 0, the
+//! normalized one, 1, and the strict one, 2. A text is written to the start of the caller's buffer if it fits, and its length
+//! is always stored. A call of several arguments of one kind stores the place of the first that is invalid, counted from 0.
 #![tactic(auto)]
 
-ghost use Rattle.std.specs.Prelude.{◌≡◌, IfSome, IsUtf8, List, None, ℕ};
+ghost use Rattle.std.specs.Prelude.{◌≡◌, IfSome, IsUtf8, List, None, ℕ, is_some, length};
 ghost use Rattle.handles.specs.Handle.{Holds};
 ghost use Rattle.semver_base.specs.Precedence.{precedence_cmp, version_cmp};
 ghost use Rattle.semver_base.specs.VersionText.{version_text};
-ghost use Rattle.semver_req.specs.Requirement.{inner_text};
+ghost use Rattle.semver_req.specs.Requirement.{inner_text, tag_of};
 ghost use Rattle.semver_req.specs.Tag.{is_valid_tag};
 ghost use Rattle.answers.specs.Asking.{Is};
-ghost use Rattle.semver_c.specs.Codes.{IsCode, IsPlaceReply, IsPlaced, IsReply, IsUntouched, bool_code, lowest_code, lowest_text, match_code, no_text, one_code, order_code};
-ghost use Rattle.semver_c.specs.Kept.{IsKept, IsKeptEqual, IsKeptMatch, IsKeptOrder, IsKeptOverlap};
-ghost use Rattle.semver_c.specs.Questions.{BestLine, CanonicalBy, CommonBy, DisplayedOf, Filters, Fits, LowestBy, MatchesKept, OrdersOf, OutsideBy, OverlapsBy, PackageBy, RangeBy, ReferenceOf, SortsOf, VersionOf};
+ghost use Rattle.semver_c.specs.Codes.{IsCode, IsPlaceReply, IsPlaced, IsReply, IsUntouched, always_yes, best_code, best_place, bool_code, filter_code, filter_numbers, lowest_code, lowest_text, match_code, no_place, no_text, number_of, order_code, text_code, text_of, yes};
+ghost use Rattle.semver_c.specs.Held.{IsHeld, IsHeldEqual, IsHeldFilter, IsHeldMatch, IsHeldOrder, IsHeldOverlap, lines_of};
+ghost use Rattle.semver_c.specs.Questions.{BestLine, CanonicalBy, CommonBy, CommonOfAll, DependencyBy, DisplayedOf, EquivalentBy, ExportNameOf, Filters, Fits, LowestBy, LowestLine, MatchesHeld, NameWithVersionOf, OrdersOf, OutsideBy, OverlapsBy, PackageBy, RangeBy, RangesBy, ReferenceOf, SortsOf, VersionListOf, VersionOf, VersionPartsOf, VersionReferenceOf};
+ghost use Rattle.semver_c.specs.declared.codes.Code.TheVariants as code;
 
 mod arguments;
+mod codes;
 mod questions;
 mod reports;
 
 use arguments::pre_release;
+use codes::Code;
 use deno_semver::npm::is_valid_npm_tag;
-use handles::{RequirementHandle, VersionHandle};
+use handles::{RequirementHandle, VersionHandle, VersionListHandle};
 use questions::{
-    best_line, boxed_range, boxed_version, canonical_form, common, displayed_version, filter, fits,
-    kept_canonical, kept_displayed, lowest, match_code, matches_kept, order_of, outside, overlap,
-    package_of, reference_of, sorted_lines,
+    best_line, canonical_form, common, common_of_all, dependency_of, displayed_version,
+    equivalent_ranges, export_name_of, filter, filter_held, fits, held_canonical, held_displayed,
+    lowest, lowest_line, match_code, matches_held, name_with_version_of, order_of, outside,
+    overlap, package_of, ranges_of, read_list, read_range, read_version, reference_of,
+    sorted_lines, version_parts_of, version_reference_of,
 };
 use reports::{
-    code_of_bool, code_of_order, code_or_problem, order_code, put, report_codes, report_lowest,
-    report_match, report_place, report_places, report_problem, report_text,
+    code_of_bool, code_of_match, code_of_order, code_or_problem, put, put_place, report_best,
+    report_filter, report_lowest, report_match, report_places, report_problem, report_text,
+    report_text_or_tag,
 };
 use semver_req::laws::equal_requirements;
 use std::alloc::Global;
 use std::str;
 
-/// Whether the version matches the range: 0 no, 1 yes, 2 the range is a tag. Pre-releases match by npm's rule at 0, and
+/// Whether the version matches the range: yes, no, or that the range is a tag. Pre-releases match by npm's rule at 0, and
 /// wherever they are between the bounds at any other number.
 #[unsafe(no_mangle)]
 pub extern "C" fn semver_fits(
     alloc: Global,
-    reader: u32,
-    requirement: &[u8],
+    grammar: u32,
+    range: &[u8],
     version: &[u8],
     pre_releases: u32,
     out: &mut [u8],
     needed: &mut usize,
-) -> u32
-    ensures { IsReply (Fits pre_releases reader requirement.now version.now) match_code no_text
+) -> i32
+    ensures { IsReply (Fits pre_releases grammar range.now version.now) match_code no_text
         out.old out.new needed.new result }
 {
-    report_match(
-        fits(alloc, reader, requirement, version, pre_releases),
-        out,
-        needed,
-    )
+    let answer = fits(alloc, grammar, range, version, pre_releases);
+    report_match(answer, out, needed)
 }
 
-/// The order of two versions, builds aside: 0 the first is before the other, 1 neither is, 2 it is after.
+/// The order of two versions, builds aside: before, same or after. With an invalid version `place` is which of the two it is.
 #[unsafe(no_mangle)]
-pub extern "C" fn semver_compare(alloc: Global, one: &[u8], other: &[u8]) -> u32
-    ensures { IsCode (OrdersOf one.now other.now) order_code result }
+pub extern "C" fn semver_compare(alloc: Global, one: &[u8], other: &[u8], place: &mut usize) -> i32
+    ensures code { IsCode (OrdersOf one.now other.now) order_code result }
+    ensures place { IsPlaceReply (OrdersOf one.now other.now) no_place place.old place.new result }
 {
-    code_of_order(order_of(alloc, one, other))
+    let answer = order_of(alloc, one, other);
+    put_place(&answer, place);
+    code_of_order(answer)
 }
 
-/// Whether two ranges overlap: 0 no, 1 yes.
+/// Whether two ranges overlap: yes or no. With an invalid range `place` is which of the two it is.
 #[unsafe(no_mangle)]
-pub extern "C" fn semver_overlap(alloc: Global, reader: u32, one: &[u8], other: &[u8]) -> u32
-    ensures { IsCode (OverlapsBy reader one.now other.now) bool_code result }
+pub extern "C" fn semver_overlap(
+    alloc: Global,
+    grammar: u32,
+    one: &[u8],
+    other: &[u8],
+    place: &mut usize,
+) -> i32
+    ensures code { IsCode (OverlapsBy grammar one.now other.now) bool_code result }
+    ensures place { IsPlaceReply (OverlapsBy grammar one.now other.now) no_place
+        place.old place.new result }
 {
-    code_of_bool(overlap(alloc, reader, one, other))
+    let answer = overlap(alloc, grammar, one, other);
+    put_place(&answer, place);
+    code_of_bool(answer)
 }
 
-/// Whether the other range matches each version that the first one matches: 0 no, with the lowest that it doesn't, 1 yes, 2
+/// Whether the other range matches each version that the first one matches: yes; no, with the lowest that it doesn't; or that
 /// one of them is a tag.
 #[unsafe(no_mangle)]
 pub extern "C" fn semver_within(
     alloc: Global,
-    reader: u32,
+    grammar: u32,
     one: &[u8],
     other: &[u8],
+    pre_releases: u32,
     out: &mut [u8],
     needed: &mut usize,
-) -> u32
-    ensures { IsReply (OutsideBy reader one.now other.now) (lowest_code 0 1) lowest_text
+    place: &mut usize,
+) -> i32
+    ensures answer { IsReply (OutsideBy pre_releases grammar one.now other.now)
+        (lowest_code code.No code.Yes) lowest_text
         out.old out.new needed.new result }
+    ensures place { IsPlaceReply (OutsideBy pre_releases grammar one.now other.now) no_place
+        place.old place.new result }
 {
-    report_lowest(alloc, outside(alloc, reader, one, other), 0, 1, out, needed)
+    let answer = outside(alloc, grammar, one, other, pre_releases);
+    put_place(&answer, place);
+    report_lowest(alloc, answer, Code::No, Code::Yes, out, needed)
 }
 
-/// The lowest version that both ranges match: 0 none, 1 with its text, 2 one of them is a tag.
+/// Whether two ranges match the same versions: yes, no, or that one of them is a tag.
+#[unsafe(no_mangle)]
+pub extern "C" fn semver_equivalent(
+    alloc: Global,
+    grammar: u32,
+    one: &[u8],
+    other: &[u8],
+    pre_releases: u32,
+    place: &mut usize,
+) -> i32
+    ensures code { IsCode (EquivalentBy pre_releases grammar one.now other.now) match_code result }
+    ensures place { IsPlaceReply (EquivalentBy pre_releases grammar one.now other.now) no_place
+        place.old place.new result }
+{
+    let answer = equivalent_ranges(alloc, grammar, one, other, pre_releases);
+    put_place(&answer, place);
+    code_of_match(answer)
+}
+
+/// The lowest version that both ranges match: yes, with its text; no, if there is none; or that one of them is a tag.
 #[unsafe(no_mangle)]
 pub extern "C" fn semver_common(
     alloc: Global,
-    reader: u32,
+    grammar: u32,
     one: &[u8],
     other: &[u8],
+    pre_releases: u32,
     out: &mut [u8],
     needed: &mut usize,
-) -> u32
-    ensures { IsReply (CommonBy reader one.now other.now) (lowest_code 1 0) lowest_text
+    place: &mut usize,
+) -> i32
+    ensures answer { IsReply (CommonBy pre_releases grammar one.now other.now)
+        (lowest_code code.Yes code.No) lowest_text
         out.old out.new needed.new result }
+    ensures place { IsPlaceReply (CommonBy pre_releases grammar one.now other.now) no_place
+        place.old place.new result }
 {
-    report_lowest(alloc, common(alloc, reader, one, other), 1, 0, out, needed)
+    let answer = common(alloc, grammar, one, other, pre_releases);
+    put_place(&answer, place);
+    report_lowest(alloc, answer, Code::Yes, Code::No, out, needed)
 }
 
-/// The lowest version that the range matches: 0 none, 1 with its text, 2 it is a tag.
+/// The lowest version that all ranges match, one per line, as `semver_common`; no, if there is no line. With an invalid range
+/// `place` is its line, counted from 0.
 #[unsafe(no_mangle)]
-pub extern "C" fn semver_least(
+pub extern "C" fn semver_common_all(
     alloc: Global,
-    reader: u32,
-    requirement: &[u8],
+    grammar: u32,
+    ranges: &[u8],
+    pre_releases: u32,
     out: &mut [u8],
     needed: &mut usize,
-) -> u32
-    ensures { IsReply (LowestBy reader requirement.now) (lowest_code 1 0) lowest_text
+    place: &mut usize,
+) -> i32
+    ensures answer { IsReply (CommonOfAll pre_releases grammar ranges.now)
+        (lowest_code code.Yes code.No) lowest_text
         out.old out.new needed.new result }
+    ensures place { IsPlaceReply (CommonOfAll pre_releases grammar ranges.now) no_place
+        place.old place.new result }
 {
-    report_lowest(alloc, lowest(alloc, reader, requirement), 1, 0, out, needed)
+    let answer = common_of_all(alloc, grammar, ranges, pre_releases);
+    put_place(&answer, place);
+    report_lowest(alloc, answer, Code::Yes, Code::No, out, needed)
 }
 
-/// The canonical form of the range: 1.
+/// The lowest version that the range matches: yes, with its text; no, if there is none; or that it is a tag.
+#[unsafe(no_mangle)]
+pub extern "C" fn semver_min_version(
+    alloc: Global,
+    grammar: u32,
+    range: &[u8],
+    pre_releases: u32,
+    out: &mut [u8],
+    needed: &mut usize,
+) -> i32
+    ensures { IsReply (LowestBy pre_releases grammar range.now)
+        (lowest_code code.Yes code.No) lowest_text
+        out.old out.new needed.new result }
+{
+    let answer = lowest(alloc, grammar, range, pre_releases);
+    report_lowest(alloc, answer, Code::Yes, Code::No, out, needed)
+}
+
+/// The canonical form of the range: yes.
 #[unsafe(no_mangle)]
 pub extern "C" fn semver_normal(
     alloc: Global,
-    reader: u32,
-    requirement: &[u8],
+    grammar: u32,
+    range: &[u8],
     out: &mut [u8],
     needed: &mut usize,
-) -> u32
-    ensures { IsReply (CanonicalBy reader requirement.now) one_code (λ text. text)
+) -> i32
+    ensures { IsReply (CanonicalBy grammar range.now) always_yes (λ text. text)
         out.old out.new needed.new result }
 {
-    report_text(canonical_form(alloc, reader, requirement), out, needed)
+    report_text(canonical_form(alloc, grammar, range), out, needed)
 }
 
-/// The version as displayed: 1.
+/// The version as displayed: yes.
 #[unsafe(no_mangle)]
 pub extern "C" fn semver_version(
     alloc: Global,
     version: &[u8],
     out: &mut [u8],
     needed: &mut usize,
-) -> u32
-    ensures { IsReply (DisplayedOf version.now) one_code (λ text. text)
+) -> i32
+    ensures { IsReply (DisplayedOf version.now) always_yes (λ text. text)
         out.old out.new needed.new result }
 {
     report_text(displayed_version(alloc, version), out, needed)
 }
 
-/// Whether the text may be the tag of a version: 0 no, 1 yes.
+/// Whether the text may be the tag of a version: yes or no.
 #[unsafe(no_mangle)]
-pub extern "C" fn semver_may_be_tag(text: &[u8]) -> u32
-    ensures tag { IsUtf8 text.now → result ≡ bool_code (is_valid_tag text.now) }
-    ensures not_utf8 { (IsUtf8 text.now → ⊥) → result ≡ 8 }
+pub extern "C" fn semver_may_be_tag(text: &[u8]) -> i32
+    ensures tag { IsUtf8 text.now → result ≡ number_of (bool_code (is_valid_tag text.now)) }
+    ensures not_utf8 { (IsUtf8 text.now → ⊥) → result ≡ number_of code.NotUtf8 }
 {
     match str::from_utf8(text) {
-        Ok(text) => u32::from(is_valid_npm_tag(text)),
-        Err(_) => 8,
+        Ok(text) => Code::of_bool(is_valid_npm_tag(text)).number(),
+        Err(_) => Code::NotUtf8.number(),
     }
 }
 
-/// Whether each version of a list, one per line, matches the range: 1, and answer n is the code of line n: 0 no, 1 yes, 2 the
-/// range is a tag, 7 the version is invalid. `needed` is the number of lines; if there are more than `answers` holds,
-/// `answers` is unchanged.
+/// Which versions of a list, one per line, match the range: yes, and answer n is that of line n: 1 it matches, 0 it doesn't,
+/// -3 the version is invalid; or that the range is a tag. `needed` is the number of lines; if there are more than `answers`
+/// holds, `answers` is unchanged. For any code but 1 it is unchanged too.
 #[unsafe(no_mangle)]
 pub extern "C" fn semver_filter(
     alloc: Global,
-    reader: u32,
-    requirement: &[u8],
+    grammar: u32,
+    range: &[u8],
     versions: &[u8],
     pre_releases: u32,
-    answers: &mut [u8],
+    answers: &mut [i8],
     needed: &mut usize,
-) -> u32
-    ensures answer { IsReply (Filters pre_releases reader requirement.now versions.now)
-        one_code (λ codes. codes) answers.old answers.new needed.new result }
+) -> i32
+    ensures answer { IsReply (Filters pre_releases grammar range.now versions.now)
+        filter_code filter_numbers
+        answers.old answers.new needed.new result }
     ensures no_answers { IsUntouched answers.old answers.new needed.new result }
 {
-    report_codes(
-        filter(alloc, reader, requirement, versions, pre_releases),
-        answers,
-        needed,
-    )
+    let answer = filter(alloc, grammar, range, versions, pre_releases);
+    report_filter(alloc, answer, answers, needed)
 }
 
-/// Which of several versions, one per line, is the highest that matches the range, the first of equal ones: 0 none, 1 the one
-/// at `place`, counted from 0, 2 the range is a tag. For any code but 1 `place` is unchanged.
+/// Which of several versions, one per line, is the highest that matches the range, the first of equal ones: yes, the one at
+/// `place`, counted from 0; no; or that the range is a tag. With an invalid version `place` is its line, with an invalid range
+/// 0; for any other code it is unchanged.
 #[unsafe(no_mangle)]
 pub extern "C" fn semver_best(
     alloc: Global,
-    reader: u32,
-    requirement: &[u8],
+    grammar: u32,
+    range: &[u8],
     versions: &[u8],
     pre_releases: u32,
     place: &mut usize,
-) -> u32
-    ensures answer { IsPlaceReply (BestLine pre_releases reader requirement.now versions.now)
+) -> i32
+    ensures code { IsCode (BestLine pre_releases grammar range.now versions.now) best_code result }
+    ensures place { IsPlaceReply (BestLine pre_releases grammar range.now versions.now) best_place
         place.old place.new result }
-    ensures stays { (result ≡ 1 → ⊥) → place.new ≡ place.old }
 {
-    report_place(
-        best_line(alloc, reader, requirement, versions, pre_releases),
-        place,
-    )
+    let answer = best_line(alloc, grammar, range, versions, pre_releases);
+    report_best(answer, place)
 }
 
-/// The places of several versions, one per line, in the order of precedence: 1. The place of the lowest comes first, places
+/// Which of several versions, one per line, is the lowest that matches the range, the first of equal ones: yes, the one at
+/// `place`, counted from 0; no; or that the range is a tag. With an invalid version `place` is its line, with an invalid range
+/// 0; for any other code it is unchanged.
+#[unsafe(no_mangle)]
+pub extern "C" fn semver_lowest(
+    alloc: Global,
+    grammar: u32,
+    range: &[u8],
+    versions: &[u8],
+    pre_releases: u32,
+    place: &mut usize,
+) -> i32
+    ensures code { IsCode (LowestLine pre_releases grammar range.now versions.now)
+        best_code result }
+    ensures place { IsPlaceReply (LowestLine pre_releases grammar range.now versions.now) best_place
+        place.old place.new result }
+{
+    let answer = lowest_line(alloc, grammar, range, versions, pre_releases);
+    report_best(answer, place)
+}
+
+/// The places of several versions, one per line, in the order of precedence: yes. The place of the lowest comes first, places
 /// are counted from 0, and versions that differ only in the build keep their order. `needed` is the number of lines; if there
-/// are more than places, these stay as they were.
+/// are more than places, these stay as they were. With an invalid version `place` is its line.
 #[unsafe(no_mangle)]
 pub extern "C" fn semver_sort(
     alloc: Global,
     versions: &[u8],
     places: &mut [usize],
     needed: &mut usize,
-) -> u32
-    ensures answer { IsReply (SortsOf versions.now) one_code (λ places. places)
+    place: &mut usize,
+) -> i32
+    ensures answer { IsReply (SortsOf versions.now) always_yes (λ places. places)
         places.old places.new needed.new result }
     ensures no_places { IsUntouched places.old places.new needed.new result }
+    ensures place { IsPlaceReply (SortsOf versions.now) no_place place.old place.new result }
 {
-    report_places(sorted_lines(alloc, versions), places, needed)
+    let answer = sorted_lines(alloc, versions);
+    put_place(&answer, place);
+    report_places(answer, places, needed)
 }
 
-/// The parts of a package, as JSON: 1. The parser parses its range; code 3 means that the text is invalid.
+/// The parts of a package, as JSON: yes. The grammar is that of its range.
 #[unsafe(no_mangle)]
 pub extern "C" fn semver_package(
     alloc: Global,
-    reader: u32,
+    grammar: u32,
     text: &[u8],
     out: &mut [u8],
     needed: &mut usize,
-) -> u32
-    ensures { IsReply (PackageBy reader text.now) one_code (λ text. text)
+) -> i32
+    ensures { IsReply (PackageBy grammar text.now) always_yes (λ text. text)
         out.old out.new needed.new result }
 {
-    report_text(package_of(alloc, reader, text), out, needed)
+    report_text(package_of(alloc, grammar, text), out, needed)
 }
 
-/// The parts of a reference to a JSR or npm package, as JSON: 1. The strict parser parses its range; code 3 means that the
-/// text is invalid.
+/// The parts of a reference to a JSR or npm package, as JSON: yes. The grammar of its range is the strict one.
 #[unsafe(no_mangle)]
 pub extern "C" fn semver_reference(
     alloc: Global,
     text: &[u8],
     out: &mut [u8],
     needed: &mut usize,
-) -> u32
-    ensures { IsReply (ReferenceOf text.now) one_code (λ text. text)
+) -> i32
+    ensures { IsReply (ReferenceOf text.now) always_yes (λ text. text)
         out.old out.new needed.new result }
 {
     report_text(reference_of(alloc, text), out, needed)
 }
 
-/// Parses a range into an empty handle: 1.
+/// The parts of a version, as JSON: yes.
+#[unsafe(no_mangle)]
+pub extern "C" fn semver_version_parts(
+    alloc: Global,
+    version: &[u8],
+    out: &mut [u8],
+    needed: &mut usize,
+) -> i32
+    ensures { IsReply (VersionPartsOf version.now) always_yes (λ text. text)
+        out.old out.new needed.new result }
+{
+    report_text(version_parts_of(alloc, version), out, needed)
+}
+
+/// The ranges of a range, as JSON: yes, or that it is a tag.
+#[unsafe(no_mangle)]
+pub extern "C" fn semver_ranges(
+    alloc: Global,
+    grammar: u32,
+    range: &[u8],
+    out: &mut [u8],
+    needed: &mut usize,
+) -> i32
+    ensures { IsReply (RangesBy grammar range.now) text_code text_of
+        out.old out.new needed.new result }
+{
+    report_text_or_tag(ranges_of(alloc, grammar, range), out, needed)
+}
+
+/// The parts of a name with a version, as JSON: yes.
+#[unsafe(no_mangle)]
+pub extern "C" fn semver_name_with_version(
+    alloc: Global,
+    text: &[u8],
+    out: &mut [u8],
+    needed: &mut usize,
+) -> i32
+    ensures { IsReply (NameWithVersionOf text.now) always_yes (λ text. text)
+        out.old out.new needed.new result }
+{
+    report_text(name_with_version_of(alloc, text), out, needed)
+}
+
+/// The parts of a reference to one version of a JSR or npm package, as JSON: yes.
+#[unsafe(no_mangle)]
+pub extern "C" fn semver_version_reference(
+    alloc: Global,
+    text: &[u8],
+    out: &mut [u8],
+    needed: &mut usize,
+) -> i32
+    ensures { IsReply (VersionReferenceOf text.now) always_yes (λ text. text)
+        out.old out.new needed.new result }
+{
+    report_text(version_reference_of(alloc, text), out, needed)
+}
+
+/// The parts of a dependency, as JSON: yes. The grammar is that of its range.
+#[unsafe(no_mangle)]
+pub extern "C" fn semver_dependency(
+    alloc: Global,
+    grammar: u32,
+    text: &[u8],
+    out: &mut [u8],
+    needed: &mut usize,
+) -> i32
+    ensures { IsReply (DependencyBy grammar text.now) always_yes (λ text. text)
+        out.old out.new needed.new result }
+{
+    report_text(dependency_of(alloc, grammar, text), out, needed)
+}
+
+/// The name of the export that the path of a module in a JSR package means: yes.
+#[unsafe(no_mangle)]
+pub extern "C" fn semver_export_name(
+    alloc: Global,
+    path: &[u8],
+    out: &mut [u8],
+    needed: &mut usize,
+) -> i32
+    ensures { IsReply (ExportNameOf path.now) always_yes (λ text. text)
+        out.old out.new needed.new result }
+{
+    report_text(export_name_of(alloc, path), out, needed)
+}
+
+/// Parses a range into an empty handle: yes, with its canonical form or the tag.
 #[unsafe(no_mangle)]
 pub extern "C" fn semver_req_read(
     alloc: Global,
-    reader: u32,
+    grammar: u32,
     text: &[u8],
     handle: &mut RequirementHandle,
     out: &mut [u8],
     needed: &mut usize,
-) -> u32
+) -> i32
     requires { handle.old.value ≡ None }
-    ensures kept { IsKept (RangeBy reader text.now) handle.new.value result }
-    ensures message { (words : List ℕ) × IsPlaced words out.old out.new needed.new }
+    ensures held { IsHeld (RangeBy grammar text.now) handle.new.value result }
+    ensures text { IfSome handle.new.value
+        (λ req. IsPlaced (inner_text req.inner) out.old out.new needed.new) }
+    ensures message { (text : List ℕ) × IsPlaced text out.old out.new needed.new }
 {
-    match boxed_range(alloc, reader, text) {
-        Ok(requirement) => {
-            *handle = RequirementHandle::keep(requirement);
-            put("", out, needed);
-            1
+    match read_range(alloc, grammar, text) {
+        Ok(read) => {
+            put(read.canonical.as_str(), out, needed);
+            *handle = RequirementHandle::keep(read.range);
+            Code::Yes.number()
         }
         Err(problem) => report_problem(&problem, out, needed),
     }
 }
 
-/// Parses a version into an empty handle: 1.
+/// Parses a version into an empty handle: yes, with its text as displayed.
 #[unsafe(no_mangle)]
 pub extern "C" fn semver_version_read(
     alloc: Global,
@@ -288,16 +471,18 @@ pub extern "C" fn semver_version_read(
     handle: &mut VersionHandle,
     out: &mut [u8],
     needed: &mut usize,
-) -> u32
+) -> i32
     requires { handle.old.value ≡ None }
-    ensures kept { IsKept (VersionOf text.now) handle.new.value result }
-    ensures message { (words : List ℕ) × IsPlaced words out.old out.new needed.new }
+    ensures held { IsHeld (VersionOf text.now) handle.new.value result }
+    ensures text { IfSome handle.new.value
+        (λ version. IsPlaced (version_text version) out.old out.new needed.new) }
+    ensures message { (text : List ℕ) × IsPlaced text out.old out.new needed.new }
 {
-    match boxed_version(alloc, text) {
-        Ok(version) => {
-            *handle = VersionHandle::keep(version);
-            put("", out, needed);
-            1
+    match read_version(alloc, text) {
+        Ok(read) => {
+            put(read.displayed.as_str(), out, needed);
+            *handle = VersionHandle::keep(read.version);
+            Code::Yes.number()
         }
         Err(problem) => report_problem(&problem, out, needed),
     }
@@ -328,14 +513,14 @@ pub extern "C" fn semver_req_fits(
     handle: &mut RequirementHandle,
     version: &[u8],
     pre_releases: u32,
-) -> u32
+) -> i32
     requires { Holds handle.old.value }
-    ensures kept { handle.new.value ≡ handle.old.value }
+    ensures stays { handle.new.value ≡ handle.old.value }
     ensures code { IfSome handle.old.value
-        (λ req. IsCode (MatchesKept pre_releases req version.now) (λ code. code) result) }
+        (λ req. IsCode (MatchesHeld pre_releases req version.now) (λ code. code) result) }
 {
     let requirement = handle.take(alloc);
-    let code = code_or_problem(matches_kept(alloc, &*requirement, version, pre_releases));
+    let code = code_or_problem(matches_held(alloc, &*requirement, version, pre_releases));
     *handle = RequirementHandle::keep(requirement);
     code
 }
@@ -347,18 +532,32 @@ pub extern "C" fn semver_req_matches(
     requirement: &mut RequirementHandle,
     version: &mut VersionHandle,
     pre_releases: u32,
-) -> u32
+) -> i32
     requires requirement { Holds requirement.old.value }
     requires version { Holds version.old.value }
-    ensures kept_requirement { requirement.new.value ≡ requirement.old.value }
-    ensures kept_version { version.new.value ≡ version.old.value }
-    ensures code { IsKeptMatch pre_releases requirement.old.value version.old.value result }
+    ensures stays_requirement { requirement.new.value ≡ requirement.old.value }
+    ensures stays_version { version.new.value ≡ version.old.value }
+    ensures code { IsHeldMatch pre_releases requirement.old.value version.old.value result }
 {
     let (req, v) = (requirement.take(alloc), version.take(alloc));
     let code = match_code(&*req, &*v, pre_release(pre_releases));
     *requirement = RequirementHandle::keep(req);
     *version = VersionHandle::keep(v);
-    u32::from(code)
+    code.number()
+}
+
+/// Whether the range of the handle is a tag: yes or no.
+#[unsafe(no_mangle)]
+pub extern "C" fn semver_req_is_tag(alloc: Global, handle: &mut RequirementHandle) -> i32
+    requires { Holds handle.old.value }
+    ensures stays { handle.new.value ≡ handle.old.value }
+    ensures code { IfSome handle.old.value
+        (λ req. result ≡ number_of (bool_code (is_some (tag_of req.inner)))) }
+{
+    let requirement = handle.take(alloc);
+    let is_tag = requirement.tag().is_some();
+    *handle = RequirementHandle::keep(requirement);
+    Code::of_bool(is_tag).number()
 }
 
 /// Whether the ranges of two handles overlap: 0 no, 1 yes.
@@ -367,18 +566,18 @@ pub extern "C" fn semver_req_overlap(
     alloc: Global,
     one: &mut RequirementHandle,
     other: &mut RequirementHandle,
-) -> u32
+) -> i32
     requires one { Holds one.old.value }
     requires other { Holds other.old.value }
-    ensures kept_one { one.new.value ≡ one.old.value }
-    ensures kept_other { other.new.value ≡ other.old.value }
-    ensures code { IsKeptOverlap one.old.value other.old.value result }
+    ensures stays_one { one.new.value ≡ one.old.value }
+    ensures stays_other { other.new.value ≡ other.old.value }
+    ensures code { IsHeldOverlap one.old.value other.old.value result }
 {
     let (req, other_req) = (one.take(alloc), other.take(alloc));
     let overlap = req.intersects(&*other_req);
     *one = RequirementHandle::keep(req);
     *other = RequirementHandle::keep(other_req);
-    u32::from(overlap)
+    Code::of_bool(overlap).number()
 }
 
 /// The order of the versions of two handles, like `semver_compare`.
@@ -387,18 +586,18 @@ pub extern "C" fn semver_version_compare(
     alloc: Global,
     one: &mut VersionHandle,
     other: &mut VersionHandle,
-) -> u32
+) -> i32
     requires one { Holds one.old.value }
     requires other { Holds other.old.value }
-    ensures kept_one { one.new.value ≡ one.old.value }
-    ensures kept_other { other.new.value ≡ other.old.value }
-    ensures code { IsKeptOrder precedence_cmp one.old.value other.old.value result }
+    ensures stays_one { one.new.value ≡ one.old.value }
+    ensures stays_other { other.new.value ≡ other.old.value }
+    ensures code { IsHeldOrder precedence_cmp one.old.value other.old.value result }
 {
     let (v, w) = (one.take(alloc), other.take(alloc));
     let order = v.cmp_precedence(&*w);
     *one = VersionHandle::keep(v);
     *other = VersionHandle::keep(w);
-    order_code(order)
+    Code::of_order(order).number()
 }
 
 /// The canonical form of the range of the handle: 1.
@@ -408,14 +607,14 @@ pub extern "C" fn semver_req_normal(
     handle: &mut RequirementHandle,
     out: &mut [u8],
     needed: &mut usize,
-) -> u32
+) -> i32
     requires { Holds handle.old.value }
-    ensures kept { handle.new.value ≡ handle.old.value }
+    ensures stays { handle.new.value ≡ handle.old.value }
     ensures text { IfSome handle.old.value (λ req. IsReply (Is (inner_text req.inner))
-        one_code (λ text. text) out.old out.new needed.new result) }
+        always_yes (λ text. text) out.old out.new needed.new result) }
 {
     let requirement = handle.take(alloc);
-    let code = report_text(kept_canonical(alloc, &*requirement), out, needed);
+    let code = report_text(held_canonical(alloc, &*requirement), out, needed);
     *handle = RequirementHandle::keep(requirement);
     code
 }
@@ -427,14 +626,14 @@ pub extern "C" fn semver_version_text(
     handle: &mut VersionHandle,
     out: &mut [u8],
     needed: &mut usize,
-) -> u32
+) -> i32
     requires { Holds handle.old.value }
-    ensures kept { handle.new.value ≡ handle.old.value }
+    ensures stays { handle.new.value ≡ handle.old.value }
     ensures text { IfSome handle.old.value (λ version. IsReply (Is (version_text version))
-        one_code (λ text. text) out.old out.new needed.new result) }
+        always_yes (λ text. text) out.old out.new needed.new result) }
 {
     let version = handle.take(alloc);
-    let code = report_text(kept_displayed(alloc, &*version), out, needed);
+    let code = report_text(held_displayed(alloc, &*version), out, needed);
     *handle = VersionHandle::keep(version);
     code
 }
@@ -446,17 +645,17 @@ pub extern "C" fn semver_req_text(
     handle: &mut RequirementHandle,
     out: &mut [u8],
     needed: &mut usize,
-) -> u32
+) -> i32
     requires { Holds handle.old.value }
-    ensures kept { handle.new.value ≡ handle.old.value }
+    ensures stays { handle.new.value ≡ handle.old.value }
     ensures text { IfSome handle.old.value
         (λ req. IsPlaced req.raw_text out.old out.new needed.new) }
-    ensures code { result ≡ 1 }
+    ensures code { result ≡ yes }
 {
     let requirement = handle.take(alloc);
     put(requirement.version_text(), out, needed);
     *handle = RequirementHandle::keep(requirement);
-    1
+    Code::Yes.number()
 }
 
 /// The order of the versions of two handles; versions that differ only in the build are ordered by it.
@@ -465,18 +664,18 @@ pub extern "C" fn semver_version_order(
     alloc: Global,
     one: &mut VersionHandle,
     other: &mut VersionHandle,
-) -> u32
+) -> i32
     requires one { Holds one.old.value }
     requires other { Holds other.old.value }
-    ensures kept_one { one.new.value ≡ one.old.value }
-    ensures kept_other { other.new.value ≡ other.old.value }
-    ensures code { IsKeptOrder version_cmp one.old.value other.old.value result }
+    ensures stays_one { one.new.value ≡ one.old.value }
+    ensures stays_other { other.new.value ≡ other.old.value }
+    ensures code { IsHeldOrder version_cmp one.old.value other.old.value result }
 {
     let (v, w) = (one.take(alloc), other.take(alloc));
     let order = (*v).cmp(&*w);
     *one = VersionHandle::keep(v);
     *other = VersionHandle::keep(w);
-    order_code(order)
+    Code::of_order(order).number()
 }
 
 /// Whether the ranges of two handles mean the same: 0 no, 1 yes. The texts that they were parsed from don't matter.
@@ -485,16 +684,83 @@ pub extern "C" fn semver_req_equal(
     alloc: Global,
     one: &mut RequirementHandle,
     other: &mut RequirementHandle,
-) -> u32
+) -> i32
     requires one { Holds one.old.value }
     requires other { Holds other.old.value }
-    ensures kept_one { one.new.value ≡ one.old.value }
-    ensures kept_other { other.new.value ≡ other.old.value }
-    ensures code { IsKeptEqual one.old.value other.old.value result }
+    ensures stays_one { one.new.value ≡ one.old.value }
+    ensures stays_other { other.new.value ≡ other.old.value }
+    ensures code { IsHeldEqual one.old.value other.old.value result }
 {
     let (req, other_req) = (one.take(alloc), other.take(alloc));
     let equal = equal_requirements(&*req, &*other_req);
     *one = RequirementHandle::keep(req);
     *other = RequirementHandle::keep(other_req);
-    u32::from(equal)
+    Code::of_bool(equal).number()
+}
+
+/// Parses several versions, one per line, into an empty handle: yes, and `lines` is the number of lines. A line that isn't a
+/// version keeps its place and matches nothing. For any other code `lines` is unchanged.
+#[unsafe(no_mangle)]
+pub extern "C" fn semver_list_read(
+    alloc: Global,
+    versions: &[u8],
+    handle: &mut VersionListHandle,
+    lines: &mut usize,
+) -> i32
+    requires { handle.old.value ≡ None }
+    ensures held { IsHeld (VersionListOf versions.now) (lines_of handle.new.value) result }
+    ensures lines { IfSome (lines_of handle.new.value) (λ list. lines.new ≡ length list) }
+    ensures stays { (result ≡ yes → ⊥) → lines.new ≡ lines.old }
+{
+    match read_list(alloc, versions) {
+        Ok(list) => {
+            *lines = list.lines.len();
+            *handle = VersionListHandle::keep(list);
+            Code::Yes.number()
+        }
+        Err(problem) => problem.code().number(),
+    }
+}
+
+/// Frees the versions of the handle, leaving it empty.
+#[unsafe(no_mangle)]
+pub extern "C" fn semver_list_free(alloc: Global, handle: &mut VersionListHandle)
+    requires { Holds handle.old.value }
+    ensures { handle.new.value ≡ None }
+{
+    let _list = handle.take(alloc);
+}
+
+/// Which versions of the one handle match the range of the other: like `semver_filter`.
+#[unsafe(no_mangle)]
+pub extern "C" fn semver_list_filter(
+    alloc: Global,
+    list: &mut VersionListHandle,
+    range: &mut RequirementHandle,
+    pre_releases: u32,
+    answers: &mut [i8],
+    needed: &mut usize,
+) -> i32
+    requires list { Holds list.old.value }
+    requires range { Holds range.old.value }
+    ensures stays_list { list.new.value ≡ list.old.value }
+    ensures stays_range { range.new.value ≡ range.old.value }
+    ensures answer { IsHeldFilter pre_releases list.old.value range.old.value
+        answers.old answers.new needed.new result }
+    ensures no_answers { IsUntouched answers.old answers.new needed.new result }
+{
+    let (versions, requirement) = (list.take(alloc), range.take(alloc));
+    let answer = filter_held(alloc, &*versions, &*requirement, pre_releases);
+    let code = report_filter(alloc, answer, answers, needed);
+    *list = VersionListHandle::keep(versions);
+    *range = RequirementHandle::keep(requirement);
+    code
+}
+
+/// The version of this API: it changes when a call does.
+#[unsafe(no_mangle)]
+pub extern "C" fn semver_api() -> u32
+    ensures { result ≡ 1 }
+{
+    1
 }

@@ -1,129 +1,118 @@
-//! The question of each call: its parser is looked up, its texts are checked, and the question about texts is asked.
+//! The question of each call: its grammar is looked up, its texts are checked, and the question about texts is asked.
 
-ghost use Rattle.std.specs.Prelude.{◌≡◌, IfOk, string_bytes};
+ghost use Rattle.std.specs.Prelude.{◌≡◌, IfOk, Some, string_bytes};
 ghost use Rattle.semver_base.specs.VersionText.{version_text};
 ghost use Rattle.semver_req.specs.Requirement.{inner_text};
-ghost use Rattle.answers.specs.Asking.{Each, Is, IsAnswer as IsTextAnswer};
+ghost use Rattle.deno_semver.specs.ExportName.{export_name};
+ghost use Rattle.answers.specs.Asking.{Is};
+ghost use Rattle.answers.specs.Filtering.{list_answer, list_matches};
 ghost use Rattle.answers.specs.Questions.{match_of};
-ghost use Rattle.answers.specs.Reading.{texts_of};
-ghost use Rattle.semver_c.specs.Arguments.{IsAnswer};
+ghost use Rattle.semver_c.specs.Arguments.{IsAnswer, pre_release_of};
 ghost use Rattle.semver_c.specs.Codes.{match_code};
-ghost use Rattle.semver_c.specs.Questions.{BestLine, CanonicalBy, CommonBy, DisplayedOf, Filters, Fits, LineCode, LowestBy, MatchesKept, OrdersOf, OutsideBy, OverlapsBy, PackageBy, RangeBy, ReferenceOf, SortsOf, VersionOf};
+ghost use Rattle.semver_c.specs.Held.{list_lines};
+ghost use Rattle.semver_c.specs.Questions.{BestLine, CanonicalBy, CommonBy, CommonOfAll, DependencyBy, DisplayedOf, EquivalentBy, ExportNameOf, Filters, Fits, LowestBy, LowestLine, MatchesHeld, NameWithVersionOf, OrdersOf, OutsideBy, OverlapsBy, PackageBy, RangeBy, RangesBy, ReferenceOf, SortsOf, VersionListOf, VersionOf, VersionPartsOf, VersionReferenceOf};
 
-use crate::arguments::{Problem, line_list, parser, pre_release, text};
-use answers::asking::{Answer, Problem as Unanswered};
+use crate::arguments::{Problem, flavour, line_list, pre_release, text};
+use crate::codes::Code;
+use answers::asking::Answer;
+use answers::filtering::{self, list_matches, version_lines};
 use answers::packages::package_parts;
+use answers::parts::{name_with_version_parts, range_parts, version_parts};
 use answers::questions::{
-    Best, best_match, canonical, common_version, displayed, matches, order, overlaps,
-    text_of_version, version_outside,
+    Best, best_match, canonical, common_version, displayed, equivalent, lowest_match, matches,
+    order, overlaps, text_of_version, version_outside,
 };
 use answers::reading::{range, version};
 use answers::references::reference_parts;
 use answers::sorting::{Order, sort};
+use answers::specifiers::{dependency_parts, version_reference_parts};
+use deno_semver::jsr::normalized_export_name;
 use deno_semver::{PreRelease, Version, VersionReq};
+use handles::VersionList;
 use std::alloc::{AllocError, Global};
 use std::cmp::Ordering;
-
-/// The code of a match: 0 no, 1 yes, 2 the range is a tag.
-pub fn match_code(range: &VersionReq, version: &Version, pre_release: PreRelease) -> u8
-    ensures { result ≡ match_code (match_of pre_release range.now.inner version.now) }
-{
-    match range.tag() {
-        Some(_) => 2,
-        None => u8::from(range.matches_with(version, pre_release)),
-    }
-}
 
 /// Does the version match the range?
 pub fn fits(
     alloc: Global,
-    reader: u32,
-    requirement: &[u8],
+    grammar: u32,
+    range: &[u8],
     version: &[u8],
     pre_releases: u32,
 ) -> Result<Answer<bool>, Problem>
-    ensures { IsAnswer (Fits pre_releases reader requirement.now version.now)
+    ensures { IsAnswer (Fits pre_releases grammar range.now version.now)
         (λ answer. answer) result }
 {
-    let flavour = parser(reader)?;
-    let range = text(requirement)?;
+    let flavour = flavour(grammar)?;
+    let range = text(range)?;
     let version = text(version)?;
     Ok(matches(alloc, flavour, pre_release(pre_releases), range, version)?)
 }
 
-// The code of a line: that of its version's match, or 7 if the version is invalid.
-fn line_code(
-    alloc: Global,
-    requirement: &VersionReq,
-    place: usize,
-    line: &str,
-    pre_release: PreRelease,
-) -> Result<u8, Unanswered>
-    ensures { IsTextAnswer (LineCode pre_release requirement.now place line.now)
-        (λ code. code) result }
-{
-    match version(alloc, place, line) {
-        Ok(version) => Ok(match_code(requirement, &version, pre_release)),
-        Err(Unanswered::Invalid(_)) => Ok(7),
-        Err(Unanswered::OutOfMemory) => Err(Unanswered::OutOfMemory),
-    }
-}
-
-// The code of each line.
-fn line_codes(
-    alloc: Global,
-    requirement: &VersionReq,
-    lines: &[&str],
-    pre_release: PreRelease,
-) -> Result<Vec<u8>, Unanswered>
-    ensures { IsTextAnswer (Each (LineCode pre_release requirement.now) 0 (texts_of lines.now))
-        (λ codes. codes.items) result }
-{
-    let mut codes = Vec::new(alloc);
-    for line in lines {
-        let code = line_code(alloc, requirement, codes.len(), line, pre_release)?;
-        if codes.push(code).is_err() {
-            return Err(Unanswered::OutOfMemory);
-        }
-    }
-    Ok(codes)
-}
-
-/// The code of the version of each line.
+/// Which of the versions, one per line, match the range?
 pub fn filter(
     alloc: Global,
-    reader: u32,
-    requirement: &[u8],
+    grammar: u32,
+    range: &[u8],
     versions: &[u8],
     pre_releases: u32,
-) -> Result<Vec<u8>, Problem>
-    ensures { IsAnswer (Filters pre_releases reader requirement.now versions.now)
-        (λ codes. codes.items) result }
+) -> Result<Answer<Vec<Option<bool>>>, Problem>
+    ensures { IsAnswer (Filters pre_releases grammar range.now versions.now)
+        (λ answer. list_answer (λ list. list.items) answer) result }
 {
-    let flavour = parser(reader)?;
-    let requirement = text(requirement)?;
+    let flavour = flavour(grammar)?;
+    let range = text(range)?;
     let versions = text(versions)?;
-    let range = range(alloc, flavour, 0, requirement)?;
     let lines = line_list(alloc, versions)?;
-    Ok(line_codes(alloc, &range, lines.as_slice(), pre_release(pre_releases))?)
+    Ok(filtering::filter(
+        alloc,
+        flavour,
+        pre_release(pre_releases),
+        range,
+        lines.as_slice(),
+    )?)
 }
 
 /// Which of the versions, one per line, is the highest that matches the range?
 pub fn best_line(
     alloc: Global,
-    reader: u32,
-    requirement: &[u8],
+    grammar: u32,
+    range: &[u8],
     versions: &[u8],
     pre_releases: u32,
 ) -> Result<Answer<Option<Best>>, Problem>
-    ensures { IsAnswer (BestLine pre_releases reader requirement.now versions.now)
+    ensures { IsAnswer (BestLine pre_releases grammar range.now versions.now)
         (λ answer. answer) result }
 {
-    let flavour = parser(reader)?;
-    let range = text(requirement)?;
+    let flavour = flavour(grammar)?;
+    let range = text(range)?;
     let versions = text(versions)?;
     let lines = line_list(alloc, versions)?;
     Ok(best_match(
+        alloc,
+        flavour,
+        pre_release(pre_releases),
+        range,
+        lines.as_slice(),
+    )?)
+}
+
+/// Which of the versions, one per line, is the lowest that matches the range?
+pub fn lowest_line(
+    alloc: Global,
+    grammar: u32,
+    range: &[u8],
+    versions: &[u8],
+    pre_releases: u32,
+) -> Result<Answer<Option<Best>>, Problem>
+    ensures { IsAnswer (LowestLine pre_releases grammar range.now versions.now)
+        (λ answer. answer) result }
+{
+    let flavour = flavour(grammar)?;
+    let range = text(range)?;
+    let versions = text(versions)?;
+    let lines = line_list(alloc, versions)?;
+    Ok(lowest_match(
         alloc,
         flavour,
         pre_release(pre_releases),
@@ -151,64 +140,101 @@ pub fn order_of(alloc: Global, one: &[u8], other: &[u8]) -> Result<Ordering, Pro
 }
 
 /// Do the two ranges overlap?
-pub fn overlap(alloc: Global, reader: u32, one: &[u8], other: &[u8]) -> Result<bool, Problem>
-    ensures { IsAnswer (OverlapsBy reader one.now other.now) (λ answer. answer) result }
+pub fn overlap(alloc: Global, grammar: u32, one: &[u8], other: &[u8]) -> Result<bool, Problem>
+    ensures { IsAnswer (OverlapsBy grammar one.now other.now) (λ answer. answer) result }
 {
-    let flavour = parser(reader)?;
+    let flavour = flavour(grammar)?;
     let one = text(one)?;
     let other = text(other)?;
     Ok(overlaps(alloc, flavour, one, other)?)
 }
 
+/// Do the two ranges match the same versions?
+pub fn equivalent_ranges(
+    alloc: Global,
+    grammar: u32,
+    one: &[u8],
+    other: &[u8],
+    pre_releases: u32,
+) -> Result<Answer<bool>, Problem>
+    ensures { IsAnswer (EquivalentBy pre_releases grammar one.now other.now)
+        (λ answer. answer) result }
+{
+    let flavour = flavour(grammar)?;
+    let one = text(one)?;
+    let other = text(other)?;
+    Ok(equivalent(alloc, flavour, pre_release(pre_releases), one, other)?)
+}
+
 /// What is the lowest version that the range matches?
 pub fn lowest(
     alloc: Global,
-    reader: u32,
-    requirement: &[u8],
+    grammar: u32,
+    range: &[u8],
+    pre_releases: u32,
 ) -> Result<Answer<Option<Version>>, Problem>
-    ensures { IsAnswer (LowestBy reader requirement.now) (λ answer. answer) result }
+    ensures { IsAnswer (LowestBy pre_releases grammar range.now) (λ answer. answer) result }
 {
-    let flavour = parser(reader)?;
-    let range = text(requirement)?;
-    Ok(common_version(alloc, flavour, PreRelease::Restricted, &[range])?)
+    let flavour = flavour(grammar)?;
+    let range = text(range)?;
+    Ok(common_version(alloc, flavour, pre_release(pre_releases), &[range])?)
 }
 
 /// What is the lowest version that both ranges match?
 pub fn common(
     alloc: Global,
-    reader: u32,
+    grammar: u32,
     one: &[u8],
     other: &[u8],
+    pre_releases: u32,
 ) -> Result<Answer<Option<Version>>, Problem>
-    ensures { IsAnswer (CommonBy reader one.now other.now) (λ answer. answer) result }
+    ensures { IsAnswer (CommonBy pre_releases grammar one.now other.now) (λ answer. answer) result }
 {
-    let flavour = parser(reader)?;
+    let flavour = flavour(grammar)?;
     let one = text(one)?;
     let other = text(other)?;
-    Ok(common_version(alloc, flavour, PreRelease::Restricted, &[one, other])?)
+    Ok(common_version(alloc, flavour, pre_release(pre_releases), &[one, other])?)
+}
+
+/// What is the lowest version that all of the ranges match, one per line?
+pub fn common_of_all(
+    alloc: Global,
+    grammar: u32,
+    ranges: &[u8],
+    pre_releases: u32,
+) -> Result<Answer<Option<Version>>, Problem>
+    ensures { IsAnswer (CommonOfAll pre_releases grammar ranges.now)
+        (λ answer. answer) result }
+{
+    let flavour = flavour(grammar)?;
+    let ranges = text(ranges)?;
+    let lines = line_list(alloc, ranges)?;
+    Ok(common_version(alloc, flavour, pre_release(pre_releases), lines.as_slice())?)
 }
 
 /// What is the lowest version that the first range matches and the other doesn't?
 pub fn outside(
     alloc: Global,
-    reader: u32,
+    grammar: u32,
     one: &[u8],
     other: &[u8],
+    pre_releases: u32,
 ) -> Result<Answer<Option<Version>>, Problem>
-    ensures { IsAnswer (OutsideBy reader one.now other.now) (λ answer. answer) result }
+    ensures { IsAnswer (OutsideBy pre_releases grammar one.now other.now)
+        (λ answer. answer) result }
 {
-    let flavour = parser(reader)?;
+    let flavour = flavour(grammar)?;
     let one = text(one)?;
     let other = text(other)?;
-    Ok(version_outside(alloc, flavour, PreRelease::Restricted, one, other)?)
+    Ok(version_outside(alloc, flavour, pre_release(pre_releases), one, other)?)
 }
 
 /// What is the canonical form of the range?
-pub fn canonical_form(alloc: Global, reader: u32, requirement: &[u8]) -> Result<String, Problem>
-    ensures { IsAnswer (CanonicalBy reader requirement.now) (λ text. string_bytes text) result }
+pub fn canonical_form(alloc: Global, grammar: u32, range: &[u8]) -> Result<String, Problem>
+    ensures { IsAnswer (CanonicalBy grammar range.now) (λ text. string_bytes text) result }
 {
-    let flavour = parser(reader)?;
-    let range = text(requirement)?;
+    let flavour = flavour(grammar)?;
+    let range = text(range)?;
     Ok(canonical(alloc, flavour, range)?)
 }
 
@@ -221,10 +247,10 @@ pub fn displayed_version(alloc: Global, version: &[u8]) -> Result<String, Proble
 }
 
 /// What are the parts of the package?
-pub fn package_of(alloc: Global, reader: u32, bytes: &[u8]) -> Result<String, Problem>
-    ensures { IsAnswer (PackageBy reader bytes.now) (λ text. string_bytes text) result }
+pub fn package_of(alloc: Global, grammar: u32, bytes: &[u8]) -> Result<String, Problem>
+    ensures { IsAnswer (PackageBy grammar bytes.now) (λ text. string_bytes text) result }
 {
-    let flavour = parser(reader)?;
+    let flavour = flavour(grammar)?;
     let text = text(bytes)?;
     Ok(package_parts(alloc, flavour, text)?)
 }
@@ -237,56 +263,171 @@ pub fn reference_of(alloc: Global, bytes: &[u8]) -> Result<String, Problem>
     Ok(reference_parts(alloc, text)?)
 }
 
+/// What are the parts of the version?
+pub fn version_parts_of(alloc: Global, bytes: &[u8]) -> Result<String, Problem>
+    ensures { IsAnswer (VersionPartsOf bytes.now) (λ text. string_bytes text) result }
+{
+    let text = text(bytes)?;
+    Ok(version_parts(alloc, text)?)
+}
+
+/// What are the ranges of the range?
+pub fn ranges_of(alloc: Global, grammar: u32, bytes: &[u8]) -> Result<Answer<String>, Problem>
+    ensures { IsAnswer (RangesBy grammar bytes.now)
+        (λ answer. list_answer (λ text. string_bytes text) answer) result }
+{
+    let flavour = flavour(grammar)?;
+    let text = text(bytes)?;
+    Ok(range_parts(alloc, flavour, text)?)
+}
+
+/// What are the parts of the name with a version?
+pub fn name_with_version_of(alloc: Global, bytes: &[u8]) -> Result<String, Problem>
+    ensures { IsAnswer (NameWithVersionOf bytes.now) (λ text. string_bytes text) result }
+{
+    let text = text(bytes)?;
+    Ok(name_with_version_parts(alloc, text)?)
+}
+
+/// What are the parts of the reference to a version?
+pub fn version_reference_of(alloc: Global, bytes: &[u8]) -> Result<String, Problem>
+    ensures { IsAnswer (VersionReferenceOf bytes.now) (λ text. string_bytes text) result }
+{
+    let text = text(bytes)?;
+    Ok(version_reference_parts(alloc, text)?)
+}
+
+/// What are the parts of the dependency?
+pub fn dependency_of(alloc: Global, grammar: u32, bytes: &[u8]) -> Result<String, Problem>
+    ensures { IsAnswer (DependencyBy grammar bytes.now) (λ text. string_bytes text) result }
+{
+    let flavour = flavour(grammar)?;
+    let text = text(bytes)?;
+    Ok(dependency_parts(alloc, flavour, text)?)
+}
+
+// The name of the export that the path of a module in a JSR package means.
+fn export_text(alloc: Global, path: &str) -> Result<String, AllocError>
+    ensures { IfOk result (λ text. string_bytes text ≡ export_name (Some path.now)) }
+{
+    let name = normalized_export_name(alloc, Some(path))?;
+    String::from_str(alloc, name.as_str())
+}
+
+/// What is the name of the export that the path means?
+pub fn export_name_of(alloc: Global, bytes: &[u8]) -> Result<String, Problem>
+    ensures { IsAnswer (ExportNameOf bytes.now) (λ text. string_bytes text) result }
+{
+    let path = text(bytes)?;
+    Ok(export_text(alloc, path)?)
+}
+
 // The value, on the heap.
 fn boxed<T: Drop>(alloc: Global, value: T) -> Result<Box<T>, AllocError>
-    ensures { IfOk result (λ kept. kept.value ≡ value) }
+    ensures { IfOk result (λ held. held.value ≡ value) }
 {
     Ok(Box::new(alloc, value)?)
 }
 
-/// Parses a range onto the heap.
-pub fn boxed_range(alloc: Global, reader: u32, bytes: &[u8]) -> Result<Box<VersionReq>, Problem>
-    ensures { IsAnswer (RangeBy reader bytes.now) (λ kept. kept.value) result }
-{
-    let flavour = parser(reader)?;
-    let text = text(bytes)?;
-    let range = range(alloc, flavour, 0, text)?;
-    Ok(boxed(alloc, range)?)
+/// A range on the heap, with its canonical form.
+#[derive(Drop)]
+pub struct ReadRange {
+    pub range: Box<VersionReq>,
+    pub canonical: String,
 }
 
-/// Parses a version onto the heap.
-pub fn boxed_version(alloc: Global, bytes: &[u8]) -> Result<Box<Version>, Problem>
-    ensures { IsAnswer (VersionOf bytes.now) (λ kept. kept.value) result }
+/// Parses a range.
+pub fn read_range(alloc: Global, grammar: u32, bytes: &[u8]) -> Result<ReadRange, Problem>
+    ensures answer { IsAnswer (RangeBy grammar bytes.now) (λ read. read.range.value) result }
+    ensures canonical { IfOk result
+        (λ read. string_bytes read.canonical ≡ inner_text read.range.value.inner) }
 {
+    let flavour = flavour(grammar)?;
     let text = text(bytes)?;
-    let version = version(alloc, 0, text)?;
-    Ok(boxed(alloc, version)?)
+    let parsed = range(alloc, flavour, 0, text)?;
+    let canonical = parsed.to_string_normalized(alloc)?;
+    let range = boxed(alloc, parsed)?;
+    Ok(ReadRange { range, canonical })
 }
 
-/// The code of the match of the version in the bytes.
-pub fn matches_kept(
+/// A version on the heap, with its text as displayed.
+#[derive(Drop)]
+pub struct ReadVersion {
+    pub version: Box<Version>,
+    pub displayed: String,
+}
+
+/// Parses a version.
+pub fn read_version(alloc: Global, bytes: &[u8]) -> Result<ReadVersion, Problem>
+    ensures answer { IsAnswer (VersionOf bytes.now) (λ read. read.version.value) result }
+    ensures displayed { IfOk result
+        (λ read. string_bytes read.displayed ≡ version_text read.version.value) }
+{
+    let text = text(bytes)?;
+    let parsed = version(alloc, 0, text)?;
+    let displayed = text_of_version(alloc, &parsed)?;
+    let version = boxed(alloc, parsed)?;
+    Ok(ReadVersion { version, displayed })
+}
+
+/// Parses several versions, one per line, onto the heap.
+pub fn read_list(alloc: Global, bytes: &[u8]) -> Result<Box<VersionList>, Problem>
+    ensures { IsAnswer (VersionListOf bytes.now) (λ read. list_lines read.value) result }
+{
+    let text = text(bytes)?;
+    let texts = line_list(alloc, text)?;
+    let lines = version_lines(alloc, texts.as_slice())?;
+    Ok(boxed(alloc, VersionList { lines })?)
+}
+
+/// Which of the versions match the range?
+pub fn filter_held(
     alloc: Global,
-    requirement: &VersionReq,
+    list: &VersionList,
+    range: &VersionReq,
+    pre_releases: u32,
+) -> Result<Answer<Vec<Option<bool>>>, Problem>
+    ensures { IsAnswer
+        (Is (list_matches (pre_release_of pre_releases) range.now.inner (list_lines list.now)))
+        (λ answer. list_answer (λ list. list.items) answer) result }
+{
+    let pre_release = pre_release(pre_releases);
+    Ok(list_matches(alloc, pre_release, range, list.lines.as_slice())?)
+}
+
+/// The code of whether the version matches the range.
+pub fn match_code(range: &VersionReq, version: &Version, pre_release: PreRelease) -> Code
+    ensures { result ≡ match_code (match_of pre_release range.now.inner version.now) }
+{
+    match range.tag() {
+        Some(_) => Code::Tag,
+        None => Code::of_bool(range.matches_with(version, pre_release)),
+    }
+}
+
+/// The code of whether the version in the bytes matches the range.
+pub fn matches_held(
+    alloc: Global,
+    range: &VersionReq,
     bytes: &[u8],
     pre_releases: u32,
-) -> Result<u8, Problem>
-    ensures { IsAnswer (MatchesKept pre_releases requirement.now bytes.now)
-        (λ code. code) result }
+) -> Result<Code, Problem>
+    ensures { IsAnswer (MatchesHeld pre_releases range.now bytes.now) (λ code. code) result }
 {
     let text = text(bytes)?;
     let version = version(alloc, 0, text)?;
-    Ok(match_code(requirement, &version, pre_release(pre_releases)))
+    Ok(match_code(range, &version, pre_release(pre_releases)))
 }
 
 /// The canonical form of the range.
-pub fn kept_canonical(alloc: Global, requirement: &VersionReq) -> Result<String, Problem>
-    ensures { IsAnswer (Is (inner_text requirement.now.inner)) (λ text. string_bytes text) result }
+pub fn held_canonical(alloc: Global, range: &VersionReq) -> Result<String, Problem>
+    ensures { IsAnswer (Is (inner_text range.now.inner)) (λ text. string_bytes text) result }
 {
-    Ok(requirement.to_string_normalized(alloc)?)
+    Ok(range.to_string_normalized(alloc)?)
 }
 
 /// The version as displayed.
-pub fn kept_displayed(alloc: Global, version: &Version) -> Result<String, Problem>
+pub fn held_displayed(alloc: Global, version: &Version) -> Result<String, Problem>
     ensures { IsAnswer (Is (version_text version.now)) (λ text. string_bytes text) result }
 {
     Ok(text_of_version(alloc, version)?)

@@ -1,36 +1,27 @@
-//! How results are returned to C: a code, and a text in the caller's buffer.
+//! How results are returned to C: a code, with a text or a list in the caller's buffer, or a place.
 
-ghost use Rattle.std.specs.Prelude.{◌≡◌, ◌⊎◌, List, ℕ, string_bytes};
+ghost use Rattle.std.specs.Prelude.{◌≡◌, ◌⊎◌, IfOk, List, ℕ, map, string_bytes};
 ghost use Rattle.semver_base.specs.VersionText.{version_text};
-ghost use Rattle.semver_c.specs.Arguments.{outcome_of, problem_code, problem_message};
-ghost use Rattle.semver_c.specs.Codes.{IsPlaced, IsReported, IsUntouched, ReportsPlace, bool_code, code_of, lowest_code, lowest_text, match_code, no_text, one_code, order_code};
+ghost use Rattle.answers.specs.Filtering.{list_answer};
+ghost use Rattle.semver_c.specs.Arguments.{call_fault, outcome_of, problem_message, problem_place};
+ghost use Rattle.semver_c.specs.Codes.{IsPlaced, IsReported, IsUntouched, always_yes, as_value, best_code, best_place, bool_code, code_of, fault_code, filter_code, filter_numbers, line_code, lowest_code, lowest_text, match_code, no_memory, no_text, number_of, order_code, place_after, text_code, text_of};
 
 use crate::arguments::Problem;
+use crate::codes::Code;
 use answers::asking::Answer;
 use answers::questions::{Best, text_of_version};
 use deno_semver::Version;
-use std::alloc::Global;
+use std::alloc::{AllocError, Global};
 use std::cmp::Ordering;
 
-// Writes the bytes to the start of the buffer, if they fit, and stores their number.
-fn put_bytes(bytes: &[u8], out: &mut [u8], needed: &mut usize)
-    ensures { IsPlaced bytes.now out.old out.new needed.new }
+// Writes the items to the start of the buffer, if they fit, and stores their number.
+fn put_items<T: Copy>(items: &[T], out: &mut [T], needed: &mut usize)
+    ensures { IsPlaced items.now out.old out.new needed.new }
 {
-    *needed = bytes.len();
-    if bytes.len() <= out.len() {
-        let (front, _) = out.split_at_mut(bytes.len());
-        front.copy_from_slice(bytes);
-    }
-}
-
-// Writes the places to the start of the list, if they fit, and stores their number.
-fn put_places(places: &[usize], out: &mut [usize], needed: &mut usize)
-    ensures { IsPlaced places.now out.old out.new needed.new }
-{
-    *needed = places.len();
-    if places.len() <= out.len() {
-        let (front, _) = out.split_at_mut(places.len());
-        front.copy_from_slice(places);
+    *needed = items.len();
+    if items.len() <= out.len() {
+        let (front, _) = out.split_at_mut(items.len());
+        front.copy_from_slice(items);
     }
 }
 
@@ -38,57 +29,75 @@ fn put_places(places: &[usize], out: &mut [usize], needed: &mut usize)
 pub fn put(text: &str, out: &mut [u8], needed: &mut usize)
     ensures { IsPlaced text.now out.old out.new needed.new }
 {
-    put_bytes(text.as_bytes(), out, needed);
+    put_items(text.as_bytes(), out, needed);
 }
 
-/// The code of an order.
-pub fn order_code(order: Ordering) -> u32
-    ensures { result ≡ order_code order }
+/// Stores the place of the argument that is invalid, if there is one.
+pub fn put_place<T>(answer: &Result<T, Problem>, place: &mut usize)
+    ensures { place.new ≡ problem_place answer.now place.old }
 {
-    match order {
-        Ordering::Less => 0,
-        Ordering::Equal => 1,
-        Ordering::Greater => 2,
+    if let Err(problem) = answer {
+        *place = problem.place_or(*place);
     }
 }
 
 /// The code of a result or a problem.
-pub fn code_of_order(answer: Result<Ordering, Problem>) -> u32
+pub fn code_of_order(answer: Result<Ordering, Problem>) -> i32
     ensures { result ≡ code_of order_code (outcome_of (λ order. order) answer) }
 {
     match answer {
-        Ok(order) => order_code(order),
-        Err(problem) => problem.code(),
+        Ok(order) => Code::of_order(order).number(),
+        Err(problem) => problem.code().number(),
     }
 }
 
 /// The code of a result or a problem.
-pub fn code_of_bool(answer: Result<bool, Problem>) -> u32
+pub fn code_of_bool(answer: Result<bool, Problem>) -> i32
     ensures { result ≡ code_of bool_code (outcome_of (λ answer. answer) answer) }
 {
     match answer {
-        Ok(answer) => u32::from(answer),
-        Err(problem) => problem.code(),
+        Ok(answer) => Code::of_bool(answer).number(),
+        Err(problem) => problem.code().number(),
+    }
+}
+
+// The code of a match.
+fn match_code(answer: &Answer<bool>) -> Code
+    ensures { result ≡ match_code answer.now }
+{
+    match answer {
+        Answer::Value(matches) => Code::of_bool(*matches),
+        Answer::Tag(_) => Code::Tag,
     }
 }
 
 /// The code, or that of a problem.
-pub fn code_or_problem(answer: Result<u8, Problem>) -> u32
+pub fn code_or_problem(answer: Result<Code, Problem>) -> i32
     ensures { result ≡ code_of (λ code. code) (outcome_of (λ code. code) answer) }
 {
     match answer {
-        Ok(code) => u32::from(code),
-        Err(problem) => problem.code(),
+        Ok(code) => code.number(),
+        Err(problem) => problem.code().number(),
+    }
+}
+
+/// The code of a match or a problem.
+pub fn code_of_match(answer: Result<Answer<bool>, Problem>) -> i32
+    ensures { result ≡ code_of match_code (outcome_of (λ answer. answer) answer) }
+{
+    match answer {
+        Ok(answer) => match_code(&answer).number(),
+        Err(problem) => problem.code().number(),
     }
 }
 
 /// Reports a problem by its code, and its message in the buffer.
-pub fn report_problem(problem: &Problem, out: &mut [u8], needed: &mut usize) -> u32
-    ensures code { result ≡ problem_code problem.now }
+pub fn report_problem(problem: &Problem, out: &mut [u8], needed: &mut usize) -> i32
+    ensures code { result ≡ number_of (fault_code (call_fault problem.now)) }
     ensures message { IsPlaced (problem_message problem.now) out.old out.new needed.new }
 {
     put(problem.message(), out, needed);
-    problem.code()
+    problem.code().number()
 }
 
 /// Reports whether a version matches.
@@ -96,28 +105,51 @@ pub fn report_match(
     answer: Result<Answer<bool>, Problem>,
     out: &mut [u8],
     needed: &mut usize,
-) -> u32
+) -> i32
     ensures { IsReported match_code no_text (outcome_of (λ answer. answer) answer)
         out.old out.new needed.new result }
 {
-    let code = match answer {
-        Ok(Answer::Value(matches)) => u32::from(matches),
-        Ok(Answer::Tag(_)) => 2,
-        Err(problem) => return report_problem(&problem, out, needed),
-    };
-    put("", out, needed);
-    code
+    match answer {
+        Ok(answer) => {
+            put("", out, needed);
+            match_code(&answer).number()
+        }
+        Err(problem) => report_problem(&problem, out, needed),
+    }
 }
 
 /// Reports a text.
-pub fn report_text(answer: Result<String, Problem>, out: &mut [u8], needed: &mut usize) -> u32
-    ensures { IsReported one_code (λ text. text) (outcome_of (λ text. string_bytes text) answer)
+pub fn report_text(answer: Result<String, Problem>, out: &mut [u8], needed: &mut usize) -> i32
+    ensures { IsReported always_yes (λ text. text) (outcome_of (λ text. string_bytes text) answer)
         out.old out.new needed.new result }
 {
     match answer {
         Ok(text) => {
             put(text.as_str(), out, needed);
-            1
+            Code::Yes.number()
+        }
+        Err(problem) => report_problem(&problem, out, needed),
+    }
+}
+
+/// Reports a text, or a tag by its code alone.
+pub fn report_text_or_tag(
+    answer: Result<Answer<String>, Problem>,
+    out: &mut [u8],
+    needed: &mut usize,
+) -> i32
+    ensures { IsReported text_code text_of
+        (outcome_of (λ answer. list_answer (λ text. string_bytes text) answer) answer)
+        out.old out.new needed.new result }
+{
+    match answer {
+        Ok(Answer::Value(text)) => {
+            put(text.as_str(), out, needed);
+            Code::Yes.number()
+        }
+        Ok(Answer::Tag(_tag)) => {
+            put("", out, needed);
+            Code::Tag.number()
         }
         Err(problem) => report_problem(&problem, out, needed),
     }
@@ -127,17 +159,17 @@ pub fn report_text(answer: Result<String, Problem>, out: &mut [u8], needed: &mut
 fn report_version(
     alloc: Global,
     version: &Version,
-    found: u32,
+    found: Code,
     out: &mut [u8],
     needed: &mut usize,
-) -> u32
+) -> i32
     ensures { (text : List ℕ) × IsPlaced text out.old out.new needed.new
-        × ((result ≡ 5) ⊎ ((result ≡ found) × (text ≡ version_text version.now))) }
+        × ((result ≡ no_memory) ⊎ ((result ≡ number_of found) × (text ≡ version_text version.now))) }
 {
     match text_of_version(alloc, version) {
         Ok(text) => {
             put(text.as_str(), out, needed);
-            found
+            found.number()
         }
         Err(error) => report_problem(&Problem::from(error), out, needed),
     }
@@ -147,13 +179,13 @@ fn report_version(
 fn report_found(
     alloc: Global,
     answer: &Answer<Option<Version>>,
-    found: u32,
-    nothing: u32,
+    found: Code,
+    nothing: Code,
     out: &mut [u8],
     needed: &mut usize,
-) -> u32
+) -> i32
     ensures { (text : List ℕ) × IsPlaced text out.old out.new needed.new
-        × ((result ≡ 5) ⊎ ((result ≡ lowest_code found nothing answer.now)
+        × ((result ≡ no_memory) ⊎ ((result ≡ number_of (lowest_code found nothing answer.now))
         × (text ≡ lowest_text answer.now))) }
 {
     let code = match answer {
@@ -161,21 +193,21 @@ fn report_found(
             return report_version(alloc, version, found, out, needed);
         }
         Answer::Value(None) => nothing,
-        Answer::Tag(_) => 2,
+        Answer::Tag(_) => Code::Tag,
     };
     put("", out, needed);
-    code
+    code.number()
 }
 
 /// Reports the lowest version with one code, or that there is none with the other.
 pub fn report_lowest(
     alloc: Global,
     answer: Result<Answer<Option<Version>>, Problem>,
-    found: u32,
-    nothing: u32,
+    found: Code,
+    nothing: Code,
     out: &mut [u8],
     needed: &mut usize,
-) -> u32
+) -> i32
     ensures { IsReported (lowest_code found nothing) lowest_text
         (outcome_of (λ answer. answer) answer) out.old out.new needed.new result }
 {
@@ -185,22 +217,68 @@ pub fn report_lowest(
     }
 }
 
-/// Reports a list of codes; for a problem, its code alone.
-pub fn report_codes(answer: Result<Vec<u8>, Problem>, out: &mut [u8], needed: &mut usize) -> u32
-    ensures reported { IsReported one_code (λ codes. codes)
-        (outcome_of (λ codes. codes.items) answer) out.old out.new needed.new result }
-    ensures untouched { IsUntouched out.old out.new needed.new result }
+// The number of a line: whether its version matches, or that it is invalid.
+fn line_number(answer: Option<bool>) -> i8
+    ensures { result ≡ number_of (line_code answer) }
 {
     match answer {
-        Ok(codes) => {
-            put_bytes(codes.as_slice(), out, needed);
-            1
+        Some(matches) => Code::of_bool(matches).byte(),
+        None => Code::InvalidVersion.byte(),
+    }
+}
+
+// The number of each line.
+fn line_numbers(alloc: Global, answers: &[Option<bool>]) -> Result<Vec<i8>, AllocError>
+    ensures { IfOk result
+        (λ numbers. numbers.items ≡ map (λ answer. number_of (line_code answer)) answers.now) }
+{
+    let mut numbers = Vec::new(alloc);
+    for answer in answers {
+        numbers.push(line_number(*answer))?;
+    }
+    Ok(numbers)
+}
+
+// Reports the number of each line.
+fn report_lines(alloc: Global, answers: &[Option<bool>], out: &mut [i8], needed: &mut usize) -> i32
+    ensures reported { IsReported always_yes
+        (λ answers. map (λ answer. number_of (line_code answer)) answers) (as_value answers.now)
+        out.old out.new needed.new result }
+    ensures untouched { IsUntouched out.old out.new needed.new result }
+{
+    match line_numbers(alloc, answers) {
+        Ok(numbers) => {
+            put_items(numbers.as_slice(), out, needed);
+            Code::Yes.number()
         }
-        Err(problem) => {
-            put("", out, needed);
-            problem.code()
+        Err(_) => {
+            put_items(&[], out, needed);
+            Code::NoMemory.number()
         }
     }
+}
+
+/// Reports which versions match; for a tag or a problem, its code alone.
+pub fn report_filter(
+    alloc: Global,
+    answer: Result<Answer<Vec<Option<bool>>>, Problem>,
+    out: &mut [i8],
+    needed: &mut usize,
+) -> i32
+    ensures reported { IsReported filter_code filter_numbers
+        (outcome_of (λ answer. list_answer (λ list. list.items) answer) answer)
+        out.old out.new needed.new result }
+    ensures untouched { IsUntouched out.old out.new needed.new result }
+{
+    let code = match answer {
+        Ok(Answer::Value(answers)) => {
+            return report_lines(alloc, answers.as_slice(), out, needed);
+        }
+        Ok(Answer::Tag(_tag)) => Code::Tag,
+        Err(problem) => problem.code(),
+    };
+    put_items(&[], out, needed);
+    code.number()
 }
 
 /// Reports a list of places; for a problem, its code alone.
@@ -208,36 +286,39 @@ pub fn report_places(
     answer: Result<Vec<usize>, Problem>,
     out: &mut [usize],
     needed: &mut usize,
-) -> u32
-    ensures reported { IsReported one_code (λ places. places)
+) -> i32
+    ensures reported { IsReported always_yes (λ places. places)
         (outcome_of (λ places. places.items) answer) out.old out.new needed.new result }
     ensures untouched { IsUntouched out.old out.new needed.new result }
 {
     match answer {
         Ok(places) => {
-            put_places(places.as_slice(), out, needed);
-            1
+            put_items(places.as_slice(), out, needed);
+            Code::Yes.number()
         }
         Err(problem) => {
-            put_places(&[], out, needed);
-            problem.code()
+            put_items(&[], out, needed);
+            problem.code().number()
         }
     }
 }
 
 /// Reports the best match by a code, and its place.
-pub fn report_place(answer: Result<Answer<Option<Best>>, Problem>, place: &mut usize) -> u32
-    ensures reported { ReportsPlace (outcome_of (λ answer. answer) answer)
-        place.old place.new result }
-    ensures stays { (result ≡ 1 → ⊥) → place.new ≡ place.old }
+pub fn report_best(answer: Result<Answer<Option<Best>>, Problem>, place: &mut usize) -> i32
+    ensures code { result ≡ code_of best_code (outcome_of (λ answer. answer) answer) }
+    ensures place { place.new ≡ place_after best_place (outcome_of (λ answer. answer) answer)
+        place.old }
 {
     match answer {
         Ok(Answer::Value(Some(best))) => {
             *place = best.place;
-            1
+            Code::Yes.number()
         }
-        Ok(Answer::Value(None)) => 0,
-        Ok(Answer::Tag(_)) => 2,
-        Err(problem) => problem.code(),
+        Ok(Answer::Value(None)) => Code::No.number(),
+        Ok(Answer::Tag(_)) => Code::Tag.number(),
+        Err(problem) => {
+            *place = problem.place_or(*place);
+            problem.code().number()
+        }
     }
 }

@@ -1,5 +1,9 @@
+use Rattle.std.proofs.Common.{SFits, rules, w32}
+use Rattle.std.proofs.lemmas.Int.{to_z-of_z}
 use Rattle.semver_c.proofs.Replies.{replied}
 use Rattle.semver_c.proofs.semver_fits.Goals as goal
 
 pub returns : goal.returns
-returns c = replied _ _ _ c.fits.result c.fits.ensures _ c.args.out.now c.report_match.new.out c.report_match.new.needed c.report_match.result c.report_match.ensures
+returns c =
+    let fits : SFits w32 c.report_match.result = search rules in
+    rw (to_z-of_z w32 c.report_match.result fits) (replied _ _ c.fits-answer.result c.fits-answer.ensures _ _ c.args.out.now c.report_match.new.out c.report_match.new.needed c.report_match.result c.report_match.ensures)

@@ -1,5 +1,15 @@
-use Rattle.semver_c.proofs.Replies.{replied}
+use Rattle.std.proofs.Common.{SFits, rules, w32}
+use Rattle.std.proofs.lemmas.Int.{to_z-of_z}
+use Rattle.semver_c.proofs.Replies.{memory_code, placed_reply, replied, unplaced}
 use Rattle.semver_c.proofs.semver_within.Goals as goal
 
-pub returns : goal.returns
-returns c = replied _ _ _ c.outside.result c.outside.ensures _ c.args.out.now c.report_lowest.new.out c.report_lowest.new.needed c.report_lowest.result c.report_lowest.ensures
+pub returns-clause-answer : goal.returns-clause-answer
+returns-clause-answer c =
+    let fits : SFits w32 c.report_lowest.result = search rules in
+    rw (to_z-of_z w32 c.report_lowest.result fits) (replied _ _ c.outside-answer.result c.outside-answer.ensures _ _ c.args.out.now c.report_lowest.new.out c.report_lowest.new.needed c.report_lowest.result c.report_lowest.ensures)
+
+pub returns-clause-place : goal.returns-clause-place
+returns-clause-place c =
+    let fits : SFits w32 c.report_lowest.result = search rules in
+    rw (to_z-of_z w32 c.report_lowest.result fits) (placed_reply _ _ c.outside-answer.result c.outside-answer.ensures _ c.args.place.now c.put_place.new.place c.report_lowest.result (memory_code _ _ c.outside-answer.result c.outside-answer.ensures _ _ c.args.out.now c.report_lowest.new.out c.report_lowest.new.needed c.report_lowest.result c.report_lowest.ensures)
+    (unplaced _ c.outside-answer.result c.args.place.now c.put_place.new.place c.put_place.ensures))

@@ -1,5 +1,5 @@
 use Rattle.std.proofs.Common.{◌≡◌, ◌∷◌, None, Ok, List, rules, subst, sym}
-use Rattle.semver_req.specs.Readers.{AreReadOrTags}
+use Rattle.semver_req.specs.Parsers.{AreReadOrTags}
 use Rattle.semver_req.specs.Requirement.{Requirement}
 use Rattle.answers.specs.Asking.{IsOutcomeOf, OutOfMemory}
 use Rattle.answers.specs.Questions.{CommonOf, first_tag}
@@ -22,5 +22,5 @@ returns c =
     let is : c.args.ranges.now ≡ first ∷ others = search rules in
     let read : AreReadOrTags (first ∷ others) = subst AreReadOrTags is c.requires in
     subst (λ (reqs : List Requirement). IsOutcomeOf OutOfMemory (CommonOf c.args.pre_release reqs) (Ok (Value c.in_ok-lowest.lowest))) (sym is)
-    (common_answer c.args.pre_release first others (subst (λ reqs. first_tag reqs ≡ None) is none) c.in_ok-lowest.lowest lowest.least lowest.no_build (lowest.reads_back read.0 read.1)
+    (common_answer c.args.pre_release first others (subst (λ reqs. first_tag reqs ≡ None) is none) c.in_ok-lowest.lowest lowest.lowest lowest.no_build (lowest.reads_back read.0 read.1)
     (only_of_all c.args.pre_release first.inner others c.in_ok-lowest.lowest (lowest.any_order read.0 read.1)))

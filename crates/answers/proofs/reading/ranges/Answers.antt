@@ -1,7 +1,7 @@
 use Rattle.std.proofs.Common.{◌≡◌, ◌+◌, ◌++◌, ◌∷◌, ◌∙◌, [], length, rules, subst, sym, take}
 use Rattle.std.proofs.lemmas.Result.{err_from_is_err_and}
-use Rattle.semver_req.specs.Readers.{AreReadOrTags}
-use Rattle.semver_req.specs.TextRefusal.{IsTextRefusal}
+use Rattle.semver_req.specs.Parsers.{AreReadOrTags}
+use Rattle.semver_req.specs.TextRejection.{IsTextRejection}
 use Rattle.answers.specs.Asking.{OutOfMemory, fault_of}
 use Rattle.answers.specs.Reading.{IsRange, texts_of}
 use Rattle.answers.specs.declared.asking.Kind.TheVariants as kind
@@ -32,7 +32,7 @@ returns-in_err-range-clause-failure c =
     let l = c.loop-text in
     let p = err_from_is_err_and c.from_residual.result c.from_residual.ensures.1 in
     let at : c.len.result ≡ length l.all.items = search rules in
-    rw (p.1, p.2) (failed_among (λ text. text.now) kind.Range (IsTextRefusal c.args.flavour) c.args.texts.now l.text-index _ c.len.result c.in_err-range.field-0.0 c.loop-text-test.true
+    rw (p.1, p.2) (failed_among (λ text. text.now) kind.Range (IsTextRejection c.args.flavour) c.args.texts.now l.text-index _ c.len.result c.in_err-range.field-0.0 c.loop-text-test.true
     (at ∙ count_taken (λ text. text.now) OutOfMemory (IsRange c.args.flavour) c.args.texts.now l.text-index l.all.items c.loop-text-test.true l.invariant.values) c.in_err-range.ensures.failure)
 
 pub returns-clause-answer : goal.returns-clause-answer

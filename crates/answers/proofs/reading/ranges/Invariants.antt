@@ -1,5 +1,5 @@
 use Rattle.std.proofs.Common.{take}
-use Rattle.semver_req.specs.Readers.{AreReadOrTags}
+use Rattle.semver_req.specs.Parsers.{AreReadOrTags}
 use Rattle.answers.specs.Asking.{OutOfMemory}
 use Rattle.answers.specs.Reading.{IsRange, texts_of}
 use Rattle.answers.proofs.Givens.{AreValues}

@@ -23,8 +23,8 @@ use Rattle.handles.specs.contracts.requirement_handle.RequirementHandle.none.Key
 use Rattle.handles.proofs.requirement_handle.RequirementHandle.none.Statement.{statement}
 use Rattle.handles.proofs.requirement_handle.RequirementHandle.none.Code as code
 
-abbrev nothing_kept : Option Requirement
-nothing_kept = None
+abbrev nothing_held : Option Requirement
+nothing_held = None
 
 pub none_spec : {M : Type 1} → statement M
 none_spec 𝓤 𝓛 𝓜 𝓡 wired =
@@ -35,6 +35,6 @@ none_spec 𝓤 𝓛 𝓜 𝓡 wired =
     qed 𝓛 ((raw (alive 𝓛 En.signature z.0.0 z.0.1) ⊛ ‵ (owns (types_at En.signature.params z.0.0) z.0.3 z.0.4)) ∷ raw ((c z.0.0 z.0.3).requires z.1) ∷ []) ∵ split ! $
     enter ! 𝓣.C 𝓣.Λ fn [] Post $ alloc_all ! (λ l. pass_all ! refl tt $
     sets ! (agg ! (and_then ! (lit ! tt) (no_more !))) refl (tt, (record { fits = lit< tt }, tt)) $
-    none_in ! $ use0 𝓛 (raw (fact 𝓤 (nothing_kept ≡ nothing_kept))) (fact_i 𝓤 (nothing_kept ≡ nothing_kept) (emp 𝓤) refl) $ nothing ! $
+    none_in ! $ use0 𝓛 (raw (fact 𝓤 (nothing_held ≡ nothing_held))) (fact_i 𝓤 (nothing_held ≡ nothing_held) (emp 𝓤) refl) $ nothing ! $
     returns ! (look_at ! 0 refl) $ free_all ! refl $ keep ! (3 ∷ 0 ∷ 2 ∷ 1 ∷ []) $
     by ! (leaves 𝓛 En hs c z (lone_val (ptr_val null_ptr)) (record { at = null_ptr; value = None }) tt tt)))

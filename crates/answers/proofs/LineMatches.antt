@@ -1,0 +1,62 @@
+-- What is asked of the version of a text, from the version parsed from it.
+use Rattle.std.proofs.Common.{◌≡◌, ℕ, List, Bool, Option, Some, None, Ok, Err, Result, refl, ap, inl, inr}
+use Rattle.std.specs.Prelude.{◌⊎◌}
+use Rattle.semver_base.specs.declared.range.PreRelease.{PreRelease}
+use Rattle.semver_base.specs.declared.version.Version.{Version}
+use Rattle.semver_req.specs.Requirement.{inner_means_with, tag_of}
+use Rattle.semver_req.specs.declared.range_set_or_tag.RangeSetOrTag.{RangeSetOrTag}
+use Rattle.semver_req.specs.declared.range_set_or_tag.RangeSetOrTag.TheVariants as inner
+use Rattle.answers.proofs.Givens.{answered as found, as_fault, as_value, by_value, fault_no_value, same_fault, same_value, value_no_fault}
+use Rattle.answers.specs.Asking.{Each, Fault, Invalid, Is, IsOutcomeOf, OutOfMemory}
+use Rattle.answers.specs.Filtering.{FilterOf, IsLine, LineMatch, of_no_version, of_version}
+use Rattle.answers.specs.Reading.{IsVersion}
+use Rattle.answers.specs.declared.asking.Answer.TheVariants.{Value}
+use Rattle.answers.specs.declared.asking.Kind.{Kind}
+
+pub invalid_proper : (kind : Kind) (place : ℕ) → Invalid kind place ≡ OutOfMemory → ⊥
+invalid_proper kind place e = cc e
+
+abbrev answered : {X : Type 0} → Option X → Result (Option X) Fault
+answered answer = Ok answer
+
+module _ {X : Type 0} (test : Version → X) (place : ℕ) (text : List ℕ) where
+  pub line_of_version : (v : Version) → IsOutcomeOf OutOfMemory (IsVersion place text) (Ok v) → IsOutcomeOf OutOfMemory (IsLine test place text) (Ok (Some (test v)))
+  line_of_version v h = record { is = inr (is h.is); only = λ o a. inr (only o a) }
+    where
+      is : (as_value v ≡ as_fault OutOfMemory) ⊎ IsVersion place text (Ok v) → IsLine test place text (Ok (Some (test v)))
+      is (inl none) = absurd (value_no_fault v OutOfMemory none)
+      is (inr k) = of_version k
+
+      same : (w : Version) → (as_value v ≡ as_fault OutOfMemory) ⊎ (as_value {P = Fault} v ≡ as_value w) → v ≡ w
+      same w (inl none) = absurd (value_no_fault v OutOfMemory none)
+      same w (inr e) = same_value {P = Fault} v w e
+
+      never : (fault : Fault) → (as_value v ≡ as_fault OutOfMemory) ⊎ (as_value v ≡ as_fault fault) → ⊥
+      never fault (inl none) = value_no_fault v OutOfMemory none
+      never fault (inr e) = value_no_fault v fault e
+
+      only : (o : Result (Option X) Fault) → IsLine test place text o → answered (Some (test v)) ≡ o
+      only o (of_version {v = w} k) = ap (λ (x : Version). answered (Some (test x))) (same w (h.only (Ok w) k))
+      only o (of_no_version {fault = fault} k) = absurd (never fault (h.only (Err fault) k))
+
+  pub line_of_fault : (fault : Fault) → IsOutcomeOf OutOfMemory (IsVersion place text) (Err fault) → (fault ≡ OutOfMemory → ⊥) → IsOutcomeOf OutOfMemory (IsLine test place text) (Ok None)
+  line_of_fault fault h proper = record { is = inr (is h.is); only = λ o a. inr (only o a) }
+    where
+      is : (as_fault {X = Version} fault ≡ as_fault OutOfMemory) ⊎ IsVersion place text (Err fault) → IsLine test place text (Ok None)
+      is (inl none) = absurd (proper (same_fault {X = Version} fault OutOfMemory none))
+      is (inr k) = of_no_version k
+
+      never : (w : Version) → (as_fault {X = Version} fault ≡ as_fault OutOfMemory) ⊎ (as_fault {X = Version} fault ≡ as_value w) → ⊥
+      never w (inl none) = proper (same_fault {X = Version} fault OutOfMemory none)
+      never w (inr e) = fault_no_value w fault e
+
+      only : (o : Result (Option X) Fault) → IsLine test place text o → answered {X = X} None ≡ o
+      only o (of_version {v = w} k) = absurd (never w (h.only (Ok w) k))
+      only o (of_no_version k) = refl
+
+-- the matches of all lines are the answer for a range that isn't a tag
+pub filter_answer : (flag : PreRelease) (read : RangeSetOrTag) (texts : List (List ℕ)) → tag_of read ≡ None → (answers : List (Option Bool))
+    → IsOutcomeOf OutOfMemory (Each (LineMatch (inner_means_with flag read)) 0 texts) (Ok answers) → IsOutcomeOf OutOfMemory (FilterOf flag read texts) (Ok (Value answers))
+filter_answer flag (inner.RangeSet set) texts none answers h =
+    by_value OutOfMemory (Each (LineMatch (inner_means_with flag (inner.RangeSet set))) 0 texts) (λ (all : List (Option Bool)). Is (Value all)) answers h (Ok (Value answers)) (found OutOfMemory (Value answers) (Value answers) refl)
+filter_answer flag (inner.Tag tag) texts none answers h = absurd (cc none)

@@ -1,0 +1,11 @@
+use Rattle.std.proofs.lemmas.Result.{err_from_is_err_and}
+use Rattle.answers.proofs.Givens.{by_fault, by_value}
+use Rattle.answers.proofs.filtering.filter.Goals as goal
+
+pub returns-in_err-range-clause-answer : goal.returns-in_err-range-clause-answer
+returns-in_err-range-clause-answer c =
+    let p = err_from_is_err_and c.from_residual.result c.from_residual.ensures.1 in
+    rw (p.1, p.2) (by_fault _ _ _ _ c.in_err-range.ensures.answer)
+
+pub returns-clause-answer : goal.returns-clause-answer
+returns-clause-answer c = by_value _ _ _ _ c.in_ok-range.ensures.answer _ c.filter_of.ensures.answer

@@ -1,0 +1,171 @@
+//! Which of several versions match a range.
+
+ghost use Rattle.std.specs.Prelude.{◌≡◌, IfErr, IfOk, None, map};
+ghost use Rattle.semver_req.specs.Requirement.{inner_means_with, tag_of};
+ghost use Rattle.semver_req.specs.TextRejection.{IsTextRejection};
+ghost use Rattle.answers.specs.Asking.{Each, IsAnswer, IsFailureAt};
+ghost use Rattle.answers.specs.Filtering.{Filter, FilterOf, IsLine, LineMatch, VersionLines, line_answer, list_answer, list_matches};
+ghost use Rattle.answers.specs.Reading.{texts_of};
+ghost use Rattle.answers.specs.declared.asking.Kind.TheVariants as kind;
+ghost use Rattle.answers.specs.declared.asking.Problem.TheVariants as problem;
+
+use crate::asking::{Answer, Problem};
+use crate::reading::{range, version};
+use deno_semver::{PackageTag, PreRelease, Version, VersionReq};
+use semver_req::common::values::Flavour;
+use std::alloc::{AllocError, Global};
+
+// Whether the version of a text matches the range; none if the text isn't a version.
+fn line_match(
+    alloc: Global,
+    pre_release: PreRelease,
+    range: &VersionReq,
+    place: usize,
+    text: &str,
+) -> Result<Option<bool>, Problem>
+    requires { tag_of range.now.inner ≡ None }
+    ensures answer { IsAnswer
+        (LineMatch (λ v. inner_means_with pre_release range.now.inner v) place text.now)
+        (λ answer. answer) result }
+    ensures problem { IfErr result (λ p. p ≡ problem.OutOfMemory) }
+{
+    match version(alloc, place, text) {
+        Ok(version) => Ok(Some(range.matches_with(&version, pre_release))),
+        Err(Problem::Invalid(_)) => Ok(None),
+        Err(Problem::OutOfMemory) => Err(Problem::OutOfMemory),
+    }
+}
+
+// Whether the version of each text matches the range, which isn't a tag.
+fn line_matches(
+    alloc: Global,
+    pre_release: PreRelease,
+    range: &VersionReq,
+    texts: &[&str],
+) -> Result<Vec<Option<bool>>, Problem>
+    requires { tag_of range.now.inner ≡ None }
+    ensures answer { IsAnswer
+        (Each (LineMatch (λ v. inner_means_with pre_release range.now.inner v)) 0
+        (texts_of texts.now)) (λ answers. answers.items) result }
+    ensures problem { IfErr result (λ p. p ≡ problem.OutOfMemory) }
+{
+    let mut answers = Vec::new(alloc);
+    for text in texts {
+        let answer = line_match(alloc, pre_release, range, answers.len(), text)?;
+        if answers.push(answer).is_err() {
+            return Err(Problem::OutOfMemory);
+        }
+    }
+    Ok(answers)
+}
+
+// Whether the version of each text matches the range.
+fn filter_of(
+    alloc: Global,
+    pre_release: PreRelease,
+    range: &VersionReq,
+    texts: &[&str],
+) -> Result<Answer<Vec<Option<bool>>>, Problem>
+    ensures answer { IsAnswer (FilterOf pre_release range.now.inner (texts_of texts.now))
+        (λ answer. list_answer (λ list. list.items) answer) result }
+    ensures problem { IfErr result (λ p. p ≡ problem.OutOfMemory) }
+{
+    if let Some(tag) = range.tag() {
+        return Ok(Answer::Tag(PackageTag::from_str(alloc, tag)?));
+    }
+    let answers = line_matches(alloc, pre_release, range, texts)?;
+    Ok(Answer::Value(answers))
+}
+
+/// Which of the versions match the range? Of each text the answer is whether its version matches, or none if it isn't a
+/// version.
+pub fn filter(
+    alloc: Global,
+    flavour: Flavour,
+    pre_release: PreRelease,
+    range_text: &str,
+    version_texts: &[&str],
+) -> Result<Answer<Vec<Option<bool>>>, Problem>
+    ensures answer { IsAnswer
+        (Filter pre_release flavour range_text.now (texts_of version_texts.now))
+        (λ answer. list_answer (λ list. list.items) answer) result }
+    ensures failure { IfErr result
+        (IsFailureAt kind.Range 0 (IsTextRejection flavour range_text.now)) }
+{
+    let range = range(alloc, flavour, 0, range_text)?;
+    filter_of(alloc, pre_release, &range, version_texts)
+}
+
+// The version of a text; none if the text isn't a version.
+fn version_line(alloc: Global, place: usize, text: &str) -> Result<Option<Version>, Problem>
+    ensures answer { IsAnswer (IsLine (λ v. v) place text.now) (λ line. line) result }
+    ensures problem { IfErr result (λ p. p ≡ problem.OutOfMemory) }
+{
+    match version(alloc, place, text) {
+        Ok(version) => Ok(Some(version)),
+        Err(Problem::Invalid(_)) => Ok(None),
+        Err(Problem::OutOfMemory) => Err(Problem::OutOfMemory),
+    }
+}
+
+/// Parses several versions, which can then be asked of by many ranges; none for a text that isn't a version. Fails only out of
+/// memory.
+pub fn version_lines(alloc: Global, texts: &[&str]) -> Result<Vec<Option<Version>>, Problem>
+    ensures answer { IsAnswer (VersionLines (texts_of texts.now)) (λ lines. lines.items) result }
+    ensures problem { IfErr result (λ p. p ≡ problem.OutOfMemory) }
+{
+    let mut lines = Vec::new(alloc);
+    for text in texts {
+        let line = version_line(alloc, lines.len(), text)?;
+        if lines.push(line).is_err() {
+            return Err(Problem::OutOfMemory);
+        }
+    }
+    Ok(lines)
+}
+
+// Whether the version of a line matches the range, which isn't a tag.
+fn line_answer(pre_release: PreRelease, range: &VersionReq, line: &Option<Version>) -> Option<bool>
+    requires { tag_of range.now.inner ≡ None }
+    ensures { result
+        ≡ line_answer (λ v. inner_means_with pre_release range.now.inner v) line.now }
+{
+    match line {
+        Some(version) => Some(range.matches_with(version, pre_release)),
+        None => None,
+    }
+}
+
+// Whether the version of each line matches the range, which isn't a tag.
+fn line_answers(
+    alloc: Global,
+    pre_release: PreRelease,
+    range: &VersionReq,
+    lines: &[Option<Version>],
+) -> Result<Vec<Option<bool>>, AllocError>
+    requires { tag_of range.now.inner ≡ None }
+    ensures { IfOk result (λ answers. answers.items
+        ≡ map (line_answer (λ v. inner_means_with pre_release range.now.inner v)) lines.now) }
+{
+    let mut answers = Vec::new(alloc);
+    for line in lines {
+        answers.push(line_answer(pre_release, range, line))?;
+    }
+    Ok(answers)
+}
+
+/// Which of the versions that were parsed match the range? Fails only out of memory.
+pub fn list_matches(
+    alloc: Global,
+    pre_release: PreRelease,
+    range: &VersionReq,
+    lines: &[Option<Version>],
+) -> Result<Answer<Vec<Option<bool>>>, AllocError>
+    ensures { IfOk result (λ answer. list_answer (λ list. list.items) answer
+        ≡ list_matches pre_release range.now.inner lines.now) }
+{
+    match range.tag() {
+        Some(tag) => Ok(Answer::Tag(PackageTag::from_str(alloc, tag)?)),
+        None => Ok(Answer::Value(line_answers(alloc, pre_release, range, lines)?)),
+    }
+}

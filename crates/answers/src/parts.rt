@@ -1,0 +1,215 @@
+//! The parts of versions, ranges and names with versions, as JSON.
+
+ghost use Rattle.std.specs.Prelude.{◌≡◌, ◌≢◌, ◌⊎◌, [], IfErr, IfOk, None, Some, string_bytes};
+ghost use Rattle.serde_json.specs.Data.{string};
+ghost use Rattle.serde_json.specs.View.{view};
+ghost use Rattle.serde_json.specs.Written.{compact_text};
+ghost use Rattle.semver_base.specs.VersionGrammar.{IsVersionRejection};
+ghost use Rattle.semver_base.specs.declared.range.RangeBound.TheVariants as bounds;
+ghost use Rattle.semver_req.specs.TextRejection.{IsTextRejection};
+ghost use Rattle.std.specs.Fmt.{decimal};
+ghost use Rattle.std.specs.Str.{trim};
+ghost use Rattle.answers.specs.Asking.{IsAnswer, IsFailureAt};
+ghost use Rattle.answers.specs.Filtering.{list_answer};
+ghost use Rattle.answers.specs.Parts.{IsNameWithVersion, IsNvFailure, NameWithVersionParts, RangeParts, VersionParts, bound_json, is_inclusive, nv_json, range_json, ranges_answer, ranges_json, texts_json, version_json};
+ghost use Rattle.answers.specs.declared.asking.Kind.TheVariants as kind;
+
+use crate::asking::{Answer, Kind, Problem};
+use crate::packages::{scope_and_name, text_json, text_or_null};
+use crate::questions::text_of_version;
+use crate::reading::{range, version};
+use deno_semver::package::{PackageNv, PackageNvParseError};
+use deno_semver::{
+    PackageTag, ParseFailure, RangeBound, RangeSetOrTag, Version, VersionBound, VersionBoundKind,
+    VersionPreOrBuild, VersionRange, VersionReq,
+};
+use semver_req::common::values::Flavour;
+use serde_json::{Value, json};
+use std::alloc::{AllocError, Global};
+
+// The JSON of the parts of a pre-release or a build.
+fn texts_json(alloc: Global, texts: &[VersionPreOrBuild]) -> Result<Value, AllocError>
+    ensures { IfOk result (λ json. view json ≡ texts_json texts.now) }
+{
+    let mut items = Vec::new(alloc);
+    for text in texts {
+        items.push(text_json(alloc, text.as_str())?)?;
+    }
+    Ok(Value::Array(items))
+}
+
+// The JSON of a number of a version: a text, since few programs that read JSON hold each number.
+fn number_json(alloc: Global, number: u64) -> Result<Value, AllocError>
+    ensures { IfOk result (λ json. view json ≡ string (decimal number)) }
+{
+    Ok(Value::String(format!(in alloc; "{number}")?))
+}
+
+/// Returns the parts of a version as JSON: its three numbers as texts, and the parts of its pre-release and its build.
+pub fn version_json(alloc: Global, version: &Version) -> Result<Value, AllocError>
+    ensures { IfOk result (λ json. view json ≡ version_json version.now) }
+{
+    let build = texts_json(alloc, version.build.iter().as_slice())?;
+    let pre = texts_json(alloc, version.pre.iter().as_slice())?;
+    let major = number_json(alloc, version.major)?;
+    let minor = number_json(alloc, version.minor)?;
+    let patch = number_json(alloc, version.patch)?;
+    json!(in alloc; {
+        "build": build, "major": major, "minor": minor, "patch": patch, "pre": pre
+    })
+}
+
+// The parts of a version as a text.
+fn version_parts_text(alloc: Global, version: &Version) -> Result<String, AllocError>
+    ensures { IfOk result (λ text. string_bytes text ≡ compact_text (version_json version.now)) }
+{
+    let json = version_json(alloc, version)?;
+    json.to_string(alloc)
+}
+
+/// Parses a version, and returns its parts as the text of a JSON object.
+pub fn version_parts(alloc: Global, version_text: &str) -> Result<String, Problem>
+    ensures answer { IsAnswer (VersionParts version_text.now) (λ text. string_bytes text) result }
+    ensures failure { IfErr result
+        (IsFailureAt kind.Version 0 (IsVersionRejection (trim version_text.now))) }
+{
+    let version = version(alloc, 0, version_text)?;
+    Ok(version_parts_text(alloc, &version)?)
+}
+
+// Whether the version itself lies within the bound.
+fn is_inclusive(kind: VersionBoundKind) -> bool
+    ensures { result ≡ is_inclusive kind }
+{
+    match kind {
+        VersionBoundKind::Inclusive => true,
+        VersionBoundKind::Exclusive => false,
+    }
+}
+
+// The JSON of a bound that is there.
+fn version_bound_json(alloc: Global, bound: &VersionBound) -> Result<Value, AllocError>
+    ensures { IfOk result (λ json. view json ≡ bound_json (bounds.Version bound.now)) }
+{
+    let version = Value::String(text_of_version(alloc, &bound.version)?);
+    let inclusive = is_inclusive(bound.kind);
+    json!(in alloc; { "inclusive": inclusive, "version": version })
+}
+
+/// Returns a bound as JSON: its version as displayed, and whether that lies within it; null, if there is no bound.
+pub fn bound_json(alloc: Global, bound: &RangeBound) -> Result<Value, AllocError>
+    ensures { IfOk result (λ json. view json ≡ bound_json bound.now) }
+{
+    match bound {
+        RangeBound::Unbounded => Ok(Value::Null),
+        RangeBound::Version(bound) => version_bound_json(alloc, bound),
+    }
+}
+
+// The JSON of a range: its bounds.
+fn range_json(alloc: Global, range: &VersionRange) -> Result<Value, AllocError>
+    ensures { IfOk result (λ json. view json ≡ range_json range.now) }
+{
+    let end = bound_json(alloc, &range.end)?;
+    let start = bound_json(alloc, &range.start)?;
+    json!(in alloc; { "end": end, "start": start })
+}
+
+// The JSON of ranges.
+fn ranges_json(alloc: Global, ranges: &[VersionRange]) -> Result<Value, AllocError>
+    ensures { IfOk result (λ json. view json ≡ ranges_json ranges.now) }
+{
+    let mut items = Vec::new(alloc);
+    for range in ranges {
+        items.push(range_json(alloc, range)?)?;
+    }
+    Ok(Value::Array(items))
+}
+
+// The ranges as a text.
+fn ranges_text(alloc: Global, ranges: &[VersionRange]) -> Result<String, AllocError>
+    ensures { IfOk result (λ text. string_bytes text ≡ compact_text (ranges_json ranges.now)) }
+{
+    let json = ranges_json(alloc, ranges)?;
+    json.to_string(alloc)
+}
+
+// The ranges of a requirement as a text, or the tag.
+fn ranges_of(alloc: Global, range: &VersionReq) -> Result<Answer<String>, AllocError>
+    ensures { IfOk result (λ answer. list_answer (λ text. string_bytes text) answer
+        ≡ ranges_answer range.now.inner) }
+{
+    match range.inner() {
+        RangeSetOrTag::Tag(tag) => Ok(Answer::Tag(PackageTag::from_str(alloc, tag.as_str())?)),
+        RangeSetOrTag::RangeSet(set) => {
+            Ok(Answer::Value(ranges_text(alloc, set.0.iter().as_slice())?))
+        }
+    }
+}
+
+/// Parses a range, and returns its ranges in the order in which they stand, as the text of a JSON array of their bounds.
+pub fn range_parts(
+    alloc: Global,
+    flavour: Flavour,
+    range_text: &str,
+) -> Result<Answer<String>, Problem>
+    ensures answer { IsAnswer (RangeParts flavour range_text.now)
+        (λ answer. list_answer (λ text. string_bytes text) answer) result }
+    ensures failure { IfErr result
+        (IsFailureAt kind.Range 0 (IsTextRejection flavour range_text.now)) }
+{
+    let range = range(alloc, flavour, 0, range_text)?;
+    Ok(ranges_of(alloc, &range)?)
+}
+
+/// Returns the parts of a name with a version as JSON: the name without its scope, the scope or null, and the version.
+pub fn nv_json(alloc: Global, nv: &PackageNv) -> Result<Value, AllocError>
+    ensures { IfOk result (λ json. view json ≡ nv_json nv.now) }
+{
+    let (scope, name) = scope_and_name(nv.name.as_str());
+    let version = Value::String(text_of_version(alloc, &nv.version)?);
+    let scope = text_or_null(alloc, scope)?;
+    json!(in alloc; { "name": name, "scope": scope, "version": version })
+}
+
+// The parts of a name with a version as a text.
+fn nv_text(alloc: Global, nv: &PackageNv) -> Result<String, AllocError>
+    ensures { IfOk result (λ text. string_bytes text ≡ compact_text (nv_json nv.now)) }
+{
+    let json = nv_json(alloc, nv)?;
+    json.to_string(alloc)
+}
+
+// What is wrong with the text of a name with a version.
+fn nv_failure(alloc: Global, error: &PackageNvParseError) -> ParseFailure
+    ensures { (result ≡ None)
+        ⊎ ((error.now.message ≢ []) × (result ≡ Some (error.now.message, None))) }
+{
+    if error.is_memory() {
+        return ParseFailure::memory();
+    }
+    ParseFailure::with_texts(alloc, error.message.as_str(), None)
+}
+
+/// Parses a name with a version, such as `@scope/name@1.2.3`.
+pub fn name_with_version(alloc: Global, text: &str) -> Result<PackageNv, Problem>
+    ensures answer { IsAnswer (IsNameWithVersion text.now) (λ nv. nv) result }
+    ensures failure { IfErr result (IsFailureAt kind.Package 0 (IsNvFailure text.now)) }
+{
+    match PackageNv::from_str(alloc, text) {
+        Ok(nv) => Ok(nv),
+        Err(error) => {
+            let failure = nv_failure(alloc, &error);
+            Err(Problem::of(Kind::Package, 0, failure))
+        }
+    }
+}
+
+/// Parses a name with a version, and returns its parts as the text of a JSON object.
+pub fn name_with_version_parts(alloc: Global, text: &str) -> Result<String, Problem>
+    ensures answer { IsAnswer (NameWithVersionParts text.now) (λ text. string_bytes text) result }
+    ensures failure { IfErr result (IsFailureAt kind.Package 0 (IsNvFailure text.now)) }
+{
+    let nv = name_with_version(alloc, text)?;
+    Ok(nv_text(alloc, &nv)?)
+}

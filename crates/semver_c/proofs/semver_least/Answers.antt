@@ -1,5 +1,0 @@
-use Rattle.semver_c.proofs.Replies.{replied}
-use Rattle.semver_c.proofs.semver_least.Goals as goal
-
-pub returns : goal.returns
-returns c = replied _ _ _ c.lowest.result c.lowest.ensures _ c.args.out.now c.report_lowest.new.out c.report_lowest.new.needed c.report_lowest.result c.report_lowest.ensures

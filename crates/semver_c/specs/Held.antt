@@ -1,0 +1,57 @@
+-- Questions about values that are held across calls.
+use Rattle.std.specs.Prelude.{◌≡◌, ◌⊎◌, ◌↔◌, IsTrue, ℕ, ℤ, List, Bool, Option, Some, None, Result, Ok, Err}
+use Rattle.std.specs.declared.cmp.Ordering.{Ordering}
+use Rattle.semver_base.specs.declared.version.Version.{Version}
+use Rattle.semver_req.specs.Requirement.{Requirement, inner_overlap}
+use Rattle.answers.specs.Asking.{Is}
+use Rattle.answers.specs.Filtering.{list_matches}
+use Rattle.answers.specs.Questions.{match_of}
+use Rattle.handles.specs.declared.version_list.VersionList.{VersionList}
+use Rattle.semver_c.specs.Arguments.{CallFault, pre_release_of}
+use Rattle.semver_c.specs.Codes.{IsReply, bool_code, fault_code, filter_code, filter_numbers, match_code, no_memory, number_of, order_code, yes}
+
+-- the value of the outcome is held, with the code 1; without one nothing is held, and the code is that of the problem
+abbrev pub HoldsOutcome : {X : Type 0} → Result X CallFault → Option X → ℤ → Type 0
+HoldsOutcome (Ok x) held code = (held ≡ Some x) × (code ≡ yes)
+HoldsOutcome (Err fault) held code = (held ≡ None) × (code ≡ number_of (fault_code fault))
+
+-- what is held is the question's outcome, which has no other; or memory ran out, and nothing is held
+pub record IsHeld {X : Type 0} (Asked : Result X CallFault → Type 0) (held : Option X) (code : ℤ) : Type 0 where
+  pub is : ((code ≡ no_memory) × (held ≡ None))
+      ⊎ ((outcome : Result X CallFault) × Asked outcome × HoldsOutcome outcome held code)
+  pub only : (outcome : Result X CallFault) → Asked outcome
+      → ((code ≡ no_memory) × (held ≡ None)) ⊎ HoldsOutcome outcome held code
+
+-- does a version match a range
+abbrev pub IsHeldMatch : ℕ → Option Requirement → Option Version → ℤ → Type 0
+IsHeldMatch number (Some req) (Some v) code = code ≡ number_of (match_code (match_of (pre_release_of number) req.inner v))
+IsHeldMatch number requirement version code = Unit {0}
+
+abbrev pub IsHeldOverlap : Option Requirement → Option Requirement → ℤ → Type 0
+IsHeldOverlap (Some req) (Some other) code = code ≡ number_of (bool_code (inner_overlap req.inner other.inner))
+IsHeldOverlap one other code = Unit {0}
+
+-- by this order
+abbrev pub IsHeldOrder : {X : Type 0} → (X → X → Ordering) → Option X → Option X → ℤ → Type 0
+IsHeldOrder cmp (Some v) (Some w) code = code ≡ number_of (order_code (cmp v w))
+IsHeldOrder cmp one other code = Unit {0}
+
+-- 1 is returned exactly if both mean the same, else 0
+abbrev pub IsHeldEqual : Option Requirement → Option Requirement → ℤ → Type 0
+IsHeldEqual (Some req) (Some other) code =
+    (equal : Bool) × (IsTrue equal ↔ (req.inner ≡ other.inner)) × (code ≡ number_of (bool_code equal))
+IsHeldEqual one other code = Unit {0}
+
+abbrev pub list_lines : VersionList → List (Option Version)
+list_lines list = list.lines.items
+
+-- the lines of a list that is held
+abbrev pub lines_of : Option VersionList → Option (List (Option Version))
+lines_of (Some list) = Some (list_lines list)
+lines_of None = None
+
+-- which of the versions match a range
+abbrev pub IsHeldFilter : ℕ → Option VersionList → Option Requirement → List ℤ → List ℤ → ℕ → ℤ → Type 0
+IsHeldFilter number (Some list) (Some req) old new needed code =
+    IsReply (Is (list_matches (pre_release_of number) req.inner (list_lines list))) filter_code filter_numbers old new needed code
+IsHeldFilter number list requirement old new needed code = Unit {0}

@@ -1,0 +1,79 @@
+//! Codes: what a call returns.
+
+ghost use Rattle.std.specs.Prelude.{◌≡◌};
+ghost use Rattle.semver_c.specs.Codes.{bool_code, kind_code, number_of, order_code};
+
+use answers::asking::Kind;
+use std::cmp::Ordering;
+
+/// What a call returns: its answer, or why there is none.
+#[derive(Clone, Copy, Debug, PartialEq, Eq)]
+pub enum Code {
+    No,
+    Yes,
+    Before,
+    Same,
+    After,
+    /// A range is a tag, so there is no other answer.
+    Tag,
+    /// A range, a package or a reference is invalid.
+    InvalidRange,
+    InvalidVersion,
+    NotUtf8,
+    NoGrammar,
+    NoMemory,
+}
+
+impl Code {
+    /// The number of the code: 0 and above for an answer, negative for none.
+    pub fn byte(self) -> i8
+        ensures { result ≡ number_of self }
+    {
+        match self {
+            Code::No | Code::Before => 0,
+            Code::Yes | Code::Same => 1,
+            Code::After => 2,
+            Code::Tag => -1,
+            Code::InvalidRange => -2,
+            Code::InvalidVersion => -3,
+            Code::NotUtf8 => -4,
+            Code::NoGrammar => -5,
+            Code::NoMemory => -6,
+        }
+    }
+
+    /// The number of the code as C has it.
+    pub fn number(self) -> i32
+        ensures { result ≡ number_of self }
+    {
+        i32::from(self.byte())
+    }
+
+    /// Yes or no.
+    pub fn of_bool(answer: bool) -> Code
+        ensures { result ≡ bool_code answer }
+    {
+        if answer { Code::Yes } else { Code::No }
+    }
+
+    /// The code of an order.
+    pub fn of_order(order: Ordering) -> Code
+        ensures { result ≡ order_code order }
+    {
+        match order {
+            Ordering::Less => Code::Before,
+            Ordering::Equal => Code::Same,
+            Ordering::Greater => Code::After,
+        }
+    }
+
+    /// The code of an invalid argument.
+    pub fn of_invalid(kind: Kind) -> Code
+        ensures { result ≡ kind_code kind }
+    {
+        match kind {
+            Kind::Version => Code::InvalidVersion,
+            Kind::Range | Kind::Package | Kind::Reference => Code::InvalidRange,
+        }
+    }
+}
