@@ -14,7 +14,12 @@ from typing import List, Optional
 
 HERE = pathlib.Path(__file__).resolve().parent
 TOP = HERE.parent
-EXAMPLES = ("ranges explain '>=1.2 <2 || 3.x'", "ranges within '>=1.3' '^1.2'", "git tag | ranges best '^1.2'")
+EXAMPLES = (
+    "ranges check package.json",
+    "ranges explain '>=1.2 <2 || 3.x'",
+    "ranges within '>=1.3' '^1.2'",
+    "git tag | ranges best --tags --skip-invalid '^1.2'",
+)
 PROGRAM = TOP / "crates/ranges/out/ranges"
 
 
@@ -22,6 +27,7 @@ PROGRAM = TOP / "crates/ranges/out/ranges"
 class Option:
     name: str
     help: str
+    short: Optional[str] = None
     value: Optional[str] = None
     choices: List[str] = field(default_factory=list)
 
@@ -33,6 +39,9 @@ class Command:
     usage: str
     arguments: list
     options: List[Option]
+
+    def takes_files(self):
+        return any(term.startswith(("<FILE", "[FILE")) for term, _ in self.arguments)
 
 
 def help_of(*arguments):
@@ -48,9 +57,11 @@ def rows(text, heading):
 def option(term, description):
     choices = re.search(r" ?\[possible values: ([^]]*)\]", description)
     value = re.search(r"<(\w+)>", term)
+    short = re.match(r"-(\w),", term)
     return Option(
         name=re.search(r"--([a-z-]+)", term).group(1),
         help=description.replace(choices.group(), "") if choices else description,
+        short=short and short.group(1),
         value=value and value.group(1),
         choices=choices.group(1).split(", ") if choices else [],
     )
@@ -90,7 +101,8 @@ def manual(description, commands):
         found = having[0][1]
         choices = f" ({', '.join(found.choices)})" if found.choices else ""
         only = "" if len(having) == len(commands) else f" Only for {', '.join(one for one, _ in having)}."
-        lines += [".TP", bold(f"--{name}") + (f" \\fI{found.value}\\fR" if found.value else ""), roff(f"{found.help}{choices}.{only}")]
+        names = f"-{found.short}, --{name}" if found.short else f"--{name}"
+        lines += [".TP", bold(names) + (f" \\fI{found.value}\\fR" if found.value else ""), roff(f"{found.help}{choices}.{only}")]
     lines.append(".SH EXIT STATUS")
     for status, meaning in statuses():
         lines += [".TP", bold(status), roff(meaning) + "."]
@@ -99,9 +111,13 @@ def manual(description, commands):
 
 
 def bash(commands):
-    cases = [f'        {each.name}) options="{" ".join("--" + one.name for one in each.options)}" ;;' for each in commands]
+    def names_of(command):
+        return " ".join(name for one in command.options for name in ([f"-{one.short}"] if one.short else []) + [f"--{one.name}"])
+
+    cases = [f'        {each.name}) options="{names_of(each)}" ;;' for each in commands]
+    with_files = "|".join(each.name for each in commands if each.takes_files())
     choices = {one.name: one.choices for each in commands for one in each.options if one.choices}
-    values = [f'        --{name}) COMPREPLY=($(compgen -W "{" ".join(words)}" -- "$word")); return ;;' for name, words in choices.items()]
+    values = [f'        --{name}) COMPREPLY=($(compgen -W "{" ".join(texts)}" -- "$word")); return ;;' for name, texts in choices.items()]
     names = " ".join(each.name for each in commands)
     return "\n".join([
         "_ranges() {",
@@ -113,7 +129,8 @@ def bash(commands):
         "        return",
         "    fi",
         "    case ${COMP_WORDS[1]} in", *cases, "    esac",
-        '    case $word in -*) COMPREPLY=($(compgen -W "$options" -- "$word")) ;; esac',
+        '    case $word in -*) COMPREPLY=($(compgen -W "$options" -- "$word")); return ;; esac',
+        f'    case ${{COMP_WORDS[1]}} in {with_files}) COMPREPLY=($(compgen -f -- "$word")) ;; esac',
         "}",
         "complete -F _ranges ranges",
         "",
@@ -131,8 +148,9 @@ def zsh(commands):
         lines.append(f"    {each.name}) _arguments \\")
         for one in each.options:
             value = f":{one.value}:({' '.join(one.choices)})" if one.value else ""
-            lines.append(f"        '--{one.name}[{quoted(one.help)}]{value}' \\")
-        lines.append("        '*:argument:' ;;")
+            names = f"'(-{one.short} --{one.name})'{{-{one.short},--{one.name}}}'" if one.short else f"'--{one.name}"
+            lines.append(f"        {names}[{quoted(one.help)}]{value}' \\")
+        lines.append("        '*:file:_files' ;;" if each.takes_files() else "        '*:argument:' ;;")
     return "\n".join([*lines, "esac", ""])
 
 
@@ -145,7 +163,10 @@ def fish(commands):
         lines.append(f"complete -c ranges -n __fish_use_subcommand -a {each.name} -d {quoted(each.help)}")
         for one in each.options:
             value = f" -x -a {quoted(' '.join(one.choices))}" if one.value else ""
-            lines.append(f"complete -c ranges -n '__fish_seen_subcommand_from {each.name}' -l {one.name}{value} -d {quoted(one.help)}")
+            short = f" -s {one.short}" if one.short else ""
+            lines.append(f"complete -c ranges -n '__fish_seen_subcommand_from {each.name}'{short} -l {one.name}{value} -d {quoted(one.help)}")
+        if each.takes_files():
+            lines.append(f"complete -c ranges -n '__fish_seen_subcommand_from {each.name}' -F")
     return "\n".join([*lines, ""])
 
 

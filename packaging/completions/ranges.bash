@@ -2,22 +2,28 @@ _ranges() {
     local word=${COMP_WORDS[COMP_CWORD]} options=""
     COMPREPLY=()
     case ${COMP_WORDS[COMP_CWORD - 1]} in
-        --reader) COMPREPLY=($(compgen -W "npm normal strict" -- "$word")); return ;;
+        --grammar) COMPREPLY=($(compgen -W "npm normal strict" -- "$word")); return ;;
     esac
     if [ "$COMP_CWORD" = 1 ]; then
-        COMPREPLY=($(compgen -W "explain filter best sort common within package reference help --help --version" -- "$word"))
+        COMPREPLY=($(compgen -W "check explain normal min common within overlap filter best outdated sort package reference help --help --version" -- "$word"))
         return
     fi
     case ${COMP_WORDS[1]} in
-        explain) options="--json --reader --pre --help --version" ;;
-        filter) options="--json --reader --pre --help --version" ;;
-        best) options="--json --reader --pre --help --version" ;;
-        sort) options="--json --reader --pre --reverse --help --version" ;;
-        common) options="--json --reader --pre --help --version" ;;
-        within) options="--json --reader --pre --help --version" ;;
-        package) options="--json --reader --pre --help --version" ;;
-        reference) options="--json --reader --pre --help --version" ;;
+        check) options="-j --json --github -c --canonical --strict -q --quiet -h --help -V --version" ;;
+        explain) options="-j --json -g --grammar -p --pre -h --help -V --version" ;;
+        normal) options="-j --json -g --grammar -h --help -V --version" ;;
+        min) options="-j --json -g --grammar -p --pre -h --help -V --version" ;;
+        common) options="-j --json -g --grammar -p --pre -q --quiet -h --help -V --version" ;;
+        within) options="-j --json -g --grammar -p --pre -q --quiet -h --help -V --version" ;;
+        overlap) options="-j --json -g --grammar -q --quiet -h --help -V --version" ;;
+        filter) options="-j --json -g --grammar -p --pre -q --quiet -0 --null --tags --skip-invalid -r --range -h --help -V --version" ;;
+        best) options="-j --json -g --grammar -p --pre -q --quiet -0 --null --tags --skip-invalid -r --range -h --help -V --version" ;;
+        outdated) options="-j --json -g --grammar -p --pre -q --quiet -0 --null --tags --skip-invalid -h --help -V --version" ;;
+        sort) options="-j --json -r --reverse -0 --null --tags --skip-invalid -h --help -V --version" ;;
+        package) options="-j --json -g --grammar -h --help -V --version" ;;
+        reference) options="-j --json -h --help -V --version" ;;
     esac
-    case $word in -*) COMPREPLY=($(compgen -W "$options" -- "$word")) ;; esac
+    case $word in -*) COMPREPLY=($(compgen -W "$options" -- "$word")); return ;; esac
+    case ${COMP_WORDS[1]} in check) COMPREPLY=($(compgen -f -- "$word")) ;; esac
 }
 complete -F _ranges ranges

@@ -6,8 +6,8 @@ which builds them.
     tools/programs/check.py [FOLDER [COMMAND..]]
 
 With a folder only the rows of ranges and npmver are run, of the programs in that folder, each by the command, such as qemu-aarch64.
-A row of PROGRAM.jsonl is a JSON object: the words after the program's name, standard input where there is one, standard output,
-standard error and the status; absent texts are empty. A byte of words or input that isn't valid UTF-8 is written as Python's
+A row of PROGRAM.jsonl is a JSON object: `arguments`, those after the program's name, standard input where there is one, standard output,
+standard error and the status; absent texts are empty. A byte of arguments or input that isn't valid UTF-8 is written as Python's
 surrogateescape has it, `\\udcff` for 255. Each row is run once more where nothing can be written. An example is what stands after
 `$ ` in a console block of a page, where `ranges` is in it, with the lines that it prints. The last line counts; the status is 1
 where something differs."""
@@ -30,11 +30,11 @@ SCARCE = 131_072
 SECONDS = 10
 PIECES = ("1", "-", ".", "a.", "||", "^")
 TAG = '[["requirement","strict","@"],["tag","@","@"]]'
-REFUSED = '[["requirement","strict","@"],["refused"]]'
-TOO_LARGE = '[["version","@"],["refused","Number is too large.",null]]'
-UNEXPECTED = '[["version","@"],["refused","Unexpected character.",null]]'
+REJECTED = '[["requirement","strict","@"],["rejected"]]'
+TOO_LARGE = '[["version","@"],["rejected","Number is too large.",null]]'
+UNEXPECTED = '[["version","@"],["rejected","Unexpected character.",null]]'
 LONG = (
-    *((1_000_000, piece, REFUSED if piece in ("||", "^") else TAG) for piece in PIECES),
+    *((1_000_000, piece, REJECTED if piece in ("||", "^") else TAG) for piece in PIECES),
     *((1_000_000, piece, TOO_LARGE if piece == "1" else UNEXPECTED) for piece in PIECES),
     (20_000, "a.", '[["version","1.2.3-@a+@a"],["read","1.2.3-@a+@a"]]'),
     (20_000, "a.", '[["fits","strict","1.2.3-@+@","1.2.3-@+@"],["yes"]]'),
@@ -48,8 +48,8 @@ def as_bytes(given):
     return given.encode(errors="surrogateescape")
 
 
-def run(program, words, given="", seconds=60):
-    ran = subprocess.run([*COMMAND, str(program), *words], input=as_bytes(given), capture_output=True, timeout=seconds)
+def run(program, arguments, given="", seconds=60):
+    ran = subprocess.run([*COMMAND, str(program), *arguments], input=as_bytes(given), capture_output=True, timeout=seconds)
     return ran.stdout.decode(), ran.stderr.decode(), ran.returncode
 
 
@@ -64,21 +64,21 @@ def rows():
     for name, program in PROGRAMS.items():
         for place, row in rows_of(name):
             wanted = (row.get("stdout", ""), row.get("stderr", ""), row["status"])
-            found = run(program, row["words"], row.get("stdin", ""))
-            yield None if found == wanted else f"{place}: {row['words']}: wanted {wanted}, found {found}"
+            found = run(program, row["arguments"], row.get("stdin", ""))
+            yield None if found == wanted else f"{place}: {row['arguments']}: wanted {wanted}, found {found}"
 
 
 def unwritable():
     """Where nothing can be written, an answer has the status 6, and any other status stays."""
     with open("/dev/full", "wb") as full:
 
-        def status(program, words, given):
-            return subprocess.run([str(program), *words], input=as_bytes(given), stdout=full, stderr=full, timeout=60).returncode
+        def status(program, arguments, given):
+            return subprocess.run([str(program), *arguments], input=as_bytes(given), stdout=full, stderr=full, timeout=60).returncode
 
         for name, program in PROGRAMS.items():
             for place, row in rows_of(name):
                 wanted = 6 if "stdout" in row else row["status"]
-                found = status(program, row["words"], row.get("stdin", ""))
+                found = status(program, row["arguments"], row.get("stdin", ""))
                 yield None if found == wanted else f"{place}, where nothing can be written: wanted {wanted}, found {found}"
         found = status(RANGES, ["filter", "*"], "1.0.0\n" * FEW)
         yield None if found == 6 else f"an answer that is longer than the buffer, where nothing can be written: found {found}"
@@ -88,16 +88,16 @@ def unreadable():
     """Standard input that can't be read, here a folder, is reported where it is needed, and nowhere else."""
     unread = ("", "ranges: standard input can't be read\n", 6)
     asked = (
-        *(("ranges", words, unread) for words in (["filter", "*"], ["best", "*"], ["sort"], ["sort", "--json", "--reverse"])),
+        *(("ranges", arguments, unread) for arguments in (["filter", "*"], ["best", "*"], ["sort"], ["sort", "--json", "--reverse"])),
         ("ranges", ["filter", "*", "1.0.0"], ("1.0.0\n", "", 0)),
         ("ranges", ["best", "latest"], ("tag latest\n", "", 2)),
         ("conformance", [], ("", "", 4)),
     )
     folder = os.open(HERE, os.O_RDONLY)
-    for name, words, wanted in asked:
-        ran = subprocess.run([str(PROGRAMS[name]), *words], stdin=folder, capture_output=True, timeout=60)
+    for name, arguments, wanted in asked:
+        ran = subprocess.run([str(PROGRAMS[name]), *arguments], stdin=folder, capture_output=True, timeout=60)
         found = (ran.stdout.decode(), ran.stderr.decode(), ran.returncode)
-        yield None if found == wanted else f"{name} {words}, where standard input can't be read: wanted {wanted}, found {found}"
+        yield None if found == wanted else f"{name} {arguments}, where standard input can't be read: wanted {wanted}, found {found}"
     os.close(folder)
 
 
@@ -162,14 +162,14 @@ def memory():
 def scarce():
     """A line that memory has no room for ends the program with the status for that."""
     limited = ["bash", "-c", f'ulimit -v {SCARCE} && exec "$0" "$@"', str(RANGES)]
-    for words in (["filter", "*"], ["best", "*"], ["sort"]):
-        ran = subprocess.run([*limited, *words], input=b"1" * (1024 * SCARCE), capture_output=True, timeout=60)
+    for arguments in (["filter", "*"], ["best", "*"], ["sort"]):
+        ran = subprocess.run([*limited, *arguments], input=b"1" * (1024 * SCARCE), capture_output=True, timeout=60)
         found = (ran.stdout.decode(), ran.stderr.decode(), ran.returncode)
-        yield None if found == ("", "ranges: out of memory\n", 5) else f"{words}, where memory is scarce: found {found}"
+        yield None if found == ("", "ranges: out of memory\n", 5) else f"{arguments}, where memory is scarce: found {found}"
 
 
 def closed():
-    """Output through a pipe that closes ends with no word."""
+    """Output through a pipe that closes ends without a message."""
     lines = "1.0.0\n" * MANY
     child = subprocess.Popen([str(RANGES), "filter", "*"], stdin=subprocess.PIPE, stdout=subprocess.PIPE, stderr=subprocess.PIPE)
     child.stdout.close()

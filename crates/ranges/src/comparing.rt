@@ -7,8 +7,9 @@ use crate::object::Object;
 use crate::pointing::{Pointer, errors_of};
 use answers::asking::{Answer, InvalidArgument, Kind, Problem};
 use answers::questions::{common_version, text_of_version, version_outside};
+use answers::reading::{range, ranges};
 use clap::ArgMatches;
-use deno_semver::Version;
+use deno_semver::{Version, VersionReq};
 use serde_json::Value;
 use std::alloc::{AllocError, Global};
 use std::io::Write;
@@ -32,12 +33,12 @@ impl<O: Write, E: Write> Console<O, E> {
         if options.json {
             let json = error_json(self.alloc, argument, invalid, errors.as_slice());
             self.json(json)?;
-            return Ok(Status::Refused);
+            return Ok(Status::Rejected);
         }
-        let status = self.refuse(kind_name(invalid.kind), argument, invalid.failure.message());
+        let status = self.reject_text(kind_name(invalid.kind), argument, invalid.failure.message());
         for error in errors.iter() {
             // What can't be written to standard error is left out.
-            let _ = error.print(&mut self.err, argument);
+            let _ = error.print(&mut self.err, self.err_style, argument);
         }
         Ok(status)
     }
@@ -118,8 +119,8 @@ fn error_json(
         .into_json()
 }
 
-// The JSON of one field.
-fn field_json(alloc: Global, name: &str, text: Option<&str>) -> Result<Value, AllocError> {
+/// The JSON of one field.
+pub fn field_json(alloc: Global, name: &str, text: Option<&str>) -> Result<Value, AllocError> {
     Object::new(alloc).put_text(name, text).into_json()
 }
 
@@ -146,16 +147,16 @@ fn shown(alloc: Global, version: &Option<Version>) -> Result<Option<String>, All
     }
 }
 
-/// `ranges common REQ REQ..`: the lowest version that all match, or `none`.
+/// `ranges common RANGE RANGE..` and `ranges min RANGE`: the lowest version that all match, or `none`.
 pub fn common<O: Write, E: Write>(
     console: &mut Console<O, E>,
     matches: &ArgMatches<'_>,
     options: Options,
 ) -> Result<Status, Stop> {
-    let words = matches.get_strs("REQ").unwrap_or(&[]);
-    match common_version(console.alloc, options.flavour, options.pre_release, words) {
+    let texts = matches.get_strs("RANGE").unwrap_or(&[]);
+    match common_version(console.alloc, options.flavour, options.pre_release, texts) {
         Ok(answer) => print_common(console, options, &answer),
-        Err(problem) => console.reject(options, words, &problem),
+        Err(problem) => console.reject(options, texts, &problem),
     }
 }
 
@@ -205,4 +206,106 @@ fn print_outside<O: Write, E: Write>(
         }
         Answer::Tag(tag) => console.tag(options, tag.as_str()),
     }
+}
+
+// The places of the first two ranges that don't overlap.
+fn first_apart(ranges: &[VersionReq]) -> Option<(usize, usize)> {
+    for (place, range) in ranges.iter().enumerate() {
+        for (other_place, other) in ranges.iter().enumerate() {
+            if place < other_place && !range.intersects(other) {
+                return Some((place, other_place));
+            }
+        }
+    }
+    None
+}
+
+/// `ranges overlap RANGE RANGE..`: `yes` if the bounds of any two ranges overlap, or `no` and the first two that don't.
+pub fn overlap<O: Write, E: Write>(
+    console: &mut Console<O, E>,
+    matches: &ArgMatches<'_>,
+    options: Options,
+) -> Result<Status, Stop> {
+    let texts = matches.get_strs("RANGE").unwrap_or(&[]);
+    match ranges(console.alloc, options.flavour, texts) {
+        Ok(ranges) => {
+            let apart = match first_apart(ranges.as_slice()) {
+                Some((one, other)) => texts.get(one).copied().zip(texts.get(other).copied()),
+                None => None,
+            };
+            print_overlap(console, options, apart)
+        }
+        Err(problem) => console.reject(options, texts, &problem),
+    }
+}
+
+fn overlap_json(alloc: Global, apart: Option<(&str, &str)>) -> Result<Value, AllocError> {
+    let json = Object::new(alloc).put("overlap", Ok(Value::Bool(apart.is_none())));
+    match apart {
+        Some((one, other)) => {
+            let mut items = Vec::new(alloc);
+            items.push(Value::try_from_str(alloc, one)?)?;
+            items.push(Value::try_from_str(alloc, other)?)?;
+            json.put("apart", Ok(Value::Array(items))).into_json()
+        }
+        None => json.into_json(),
+    }
+}
+
+fn print_overlap<O: Write, E: Write>(
+    console: &mut Console<O, E>,
+    options: Options,
+    apart: Option<(&str, &str)>,
+) -> Result<Status, Stop> {
+    if options.json {
+        let json = overlap_json(console.alloc, apart);
+        console.json(json)?;
+    } else {
+        match apart {
+            Some((one, other)) => print_line(
+                &mut console.out,
+                format_args!("no \"{one}\" and \"{other}\""),
+            )?,
+            None => print_line(&mut console.out, "yes")?,
+        }
+    }
+    match apart {
+        Some(_) => Ok(Status::Nothing),
+        None => Ok(Status::Answered),
+    }
+}
+
+/// `ranges normal RANGE..`: the canonical form of each range, or its tag.
+pub fn normal<O: Write, E: Write>(
+    console: &mut Console<O, E>,
+    matches: &ArgMatches<'_>,
+    options: Options,
+) -> Result<Status, Stop> {
+    let mut status = Status::Answered;
+    for text in matches.get_strs("RANGE").unwrap_or(&[]) {
+        status = status.worse(print_normal(console, options, text)?);
+    }
+    Ok(status)
+}
+
+fn print_normal<O: Write, E: Write>(
+    console: &mut Console<O, E>,
+    options: Options,
+    text: &str,
+) -> Result<Status, Stop> {
+    let range = match range(console.alloc, options.flavour, 0, text) {
+        Ok(range) => range,
+        Err(problem) => return console.reject(options, &[text], &problem),
+    };
+    if let Some(tag) = range.tag() {
+        return console.tag(options, tag);
+    }
+    let normal = range.to_string_normalized(console.alloc)?;
+    if options.json {
+        let json = field_json(console.alloc, "normal", Some(normal.as_str()));
+        console.json(json)?;
+    } else {
+        print_line(&mut console.out, normal.as_str())?;
+    }
+    Ok(Status::Answered)
 }

@@ -16,7 +16,7 @@ pub enum Status {
     /// The range is a tag.
     Tag,
     /// An argument or a line is invalid, or an alternative was left out.
-    Refused,
+    Rejected,
     /// The program doesn't know the arguments.
     Usage,
     OutOfMemory,
@@ -30,10 +30,19 @@ impl Status {
             Status::Answered => 0,
             Status::Nothing => 1,
             Status::Tag => 2,
-            Status::Refused => 3,
+            Status::Rejected => 3,
             Status::Usage => 4,
             Status::OutOfMemory => 5,
             Status::Broken => 6,
+        }
+    }
+
+    /// The one of two statuses with the higher code.
+    pub fn worse(self, other: Status) -> Status {
+        if other.code() > self.code() {
+            other
+        } else {
+            self
         }
     }
 }
@@ -59,7 +68,7 @@ impl Stop {
         }
     }
 
-    /// The message to print; none if output can't be written, as when a pipe closes.
+    /// The message to print; none if output can't be written, as when a pipe is closed.
     pub fn message(self) -> Option<&'static str> {
         match self {
             Stop::OutOfMemory => Some("out of memory"),
@@ -70,7 +79,7 @@ impl Stop {
     }
 
     /// Why the arguments can't be read.
-    pub fn of_words(error: io::Error) -> Stop {
+    pub fn of_arguments(error: io::Error) -> Stop {
         match error.kind() {
             ErrorKind::OutOfMemory => Stop::OutOfMemory,
             _ => Stop::NoText,
@@ -117,12 +126,74 @@ pub fn print_line<O: Write, T: Display + Drop>(out: &mut O, line: T) -> Result<(
     Ok(writeln!(out, "{line}")?)
 }
 
+/// Whether a stream shows colours.
+#[derive(Clone, Copy, PartialEq, Eq)]
+pub enum Style {
+    Plain,
+    Colored,
+}
+
+impl Style {
+    fn code(self, code: &'static str) -> &'static str {
+        match self {
+            Style::Plain => "",
+            Style::Colored => code,
+        }
+    }
+
+    pub fn error(self) -> &'static str {
+        self.code("\x1b[1;31m")
+    }
+
+    pub fn warning(self) -> &'static str {
+        self.code("\x1b[1;33m")
+    }
+
+    pub fn caret(self) -> &'static str {
+        self.code("\x1b[1;32m")
+    }
+
+    pub fn bounds(self) -> &'static str {
+        self.code("\x1b[36m")
+    }
+
+    /// What ends a coloured text.
+    pub fn end(self) -> &'static str {
+        self.code("\x1b[0m")
+    }
+}
+
+/// Which streams are a terminal.
+#[derive(Clone, Copy)]
+pub struct Terminal {
+    /// Whether standard input is one, where somebody types.
+    pub reads: bool,
+    pub out: Style,
+    pub err: Style,
+}
+
 /// Where results and errors are written.
 #[derive(Drop)]
 pub struct Console<O, E> {
     pub alloc: Global,
     pub out: O,
     pub err: E,
+    pub out_style: Style,
+    pub err_style: Style,
+    is_typed: bool,
+}
+
+impl<O, E> Console<O, E> {
+    pub fn new(alloc: Global, out: O, err: E, terminal: Terminal) -> Console<O, E> {
+        Console {
+            alloc,
+            out,
+            err,
+            out_style: terminal.out,
+            err_style: terminal.err,
+            is_typed: terminal.reads,
+        }
+    }
 }
 
 impl<O: Write, E: Write> Console<O, E> {
@@ -133,16 +204,32 @@ impl<O: Write, E: Write> Console<O, E> {
     }
 
     /// Reports an invalid argument: its kind, its text, and what is wrong.
-    pub fn refuse(&mut self, kind: &str, word: &str, message: &str) -> Status {
-        let _ = writeln!(self.err, "ranges: {kind} \"{word}\": {message}");
-        Status::Refused
+    pub fn reject_text(&mut self, kind: &str, text: &str, message: &str) -> Status {
+        let (start, end) = (self.err_style.error(), self.err_style.end());
+        let _ = writeln!(self.err, "ranges: {kind} \"{text}\": {start}{message}{end}");
+        Status::Rejected
     }
 
-    /// Reports an invalid line of standard input.
-    pub fn refuse_line(&mut self, number: u64, line: &str, message: &str) {
+    /// Reports an invalid line or item of standard input.
+    pub fn reject_input(&mut self, what: &str, number: u64, text: &str, message: &str) {
+        let (start, end) = (self.err_style.error(), self.err_style.end());
         let _ = writeln!(
             self.err,
-            "ranges: line {number}: version \"{line}\": {message}"
+            "ranges: {what} {number}: version \"{text}\": {start}{message}{end}"
         );
+    }
+
+    /// Says on a terminal that standard input is read.
+    pub fn announce(&mut self, what: &str) {
+        if self.is_typed {
+            let _ = writeln!(self.err, "ranges: reading {what} from standard input");
+        }
+    }
+
+    /// Reports what is wrong with something that isn't a version or a range.
+    pub fn complain(&mut self, subject: &str, message: &str) -> Status {
+        let (start, end) = (self.err_style.error(), self.err_style.end());
+        let _ = writeln!(self.err, "ranges: {subject}: {start}{message}{end}");
+        Status::Rejected
     }
 }

@@ -1,13 +1,13 @@
 //! `ranges explain`: what a range means.
 
 use crate::args::Options;
-use crate::console::{Console, Status, Stop, print_line};
+use crate::console::{Console, Status, Stop, Style, print_line};
 use crate::object::Object;
 use crate::pointing::{Pointer, errors_of};
 use answers::explained::{Explanation, Matches, Meaning, Piece, explain};
 use clap::ArgMatches;
 use deno_semver::{PreRelease, RangeBound, Version, VersionBound, VersionBoundKind, VersionRange};
-use semver_base::failure::Refusal;
+use semver_base::failure::Rejection;
 use serde_json::Value;
 use std::alloc::{AllocError, Global};
 use std::io::Write;
@@ -124,15 +124,19 @@ impl fmt::Display for PreReleases<'_> {
 struct Line<'a> {
     piece: &'a Piece,
     pre_release: PreRelease,
+    style: Style,
 }
 
 impl fmt::Display for Line<'_> {
     fn fmt<W: fmt::Write>(&self, f: &mut fmt::Formatter<W>) -> fmt::Result {
         let text = self.piece.text.as_str().trim();
         write!(f, "\"{text}\": ")?;
+        let (style, end) = (self.style, self.style.end());
         match &self.piece.meaning {
-            Meaning::Range(matches) => what_matches(f, matches, self.pre_release),
-            Meaning::LeftOut(refusal) => write!(f, "left out: {}", refusal.message()),
+            Meaning::Range(matches) => what_matches(f, matches, self.pre_release, style),
+            Meaning::LeftOut(rejection) => {
+                write!(f, "{}left out: {}{end}", style.error(), rejection.message())
+            }
         }
     }
 }
@@ -142,19 +146,21 @@ fn what_matches<W: fmt::Write>(
     f: &mut fmt::Formatter<W>,
     matches: &Matches,
     pre_release: PreRelease,
+    style: Style,
 ) -> fmt::Result {
-    let Some(lowest) = &matches.least else {
+    let (colored, end) = (style.bounds(), style.end());
+    let Some(lowest) = &matches.lowest else {
         return f.write_str("no version matches");
     };
     if let Some(only) = only_version(&matches.range) {
-        return write!(f, "only {only}");
+        return write!(f, "only {colored}{only}{end}");
     }
     let bounds = Bounds(&matches.range);
     let pre_releases = PreReleases {
         matches,
         pre_release,
     };
-    write!(f, "{bounds}, {pre_releases}, lowest {lowest}")
+    write!(f, "{colored}{bounds}{end}, {pre_releases}, lowest {lowest}")
 }
 
 fn bound_json(alloc: Global, bound: &RangeBound) -> Result<Value, AllocError> {
@@ -215,16 +221,16 @@ fn with_range(alloc: Global, json: Object, matches: &Matches, pre_release: PreRe
             "pre-releases",
             pre_releases_json(alloc, matches, pre_release),
         )
-        .put("lowest", lowest_json(alloc, &matches.least))
+        .put("lowest", lowest_json(alloc, &matches.lowest))
 }
 
 // Why an alternative is left out, and where.
 fn error_json(
     alloc: Global,
-    refusal: Refusal,
+    rejection: Rejection,
     error: Option<&Pointer>,
 ) -> Result<Value, AllocError> {
-    let json = Object::new(alloc).put_text("message", Some(refusal.message()));
+    let json = Object::new(alloc).put_text("message", Some(rejection.message()));
     match error {
         Some(error) => error.add_to(alloc, json).into_json(),
         None => json.into_json(),
@@ -240,7 +246,7 @@ fn piece_json(
     let json = Object::new(alloc).put_text("text", Some(piece.text.as_str().trim()));
     let json = match &piece.meaning {
         Meaning::Range(matches) => with_range(alloc, json, matches, pre_release),
-        Meaning::LeftOut(refusal) => json.put("error", error_json(alloc, *refusal, error)),
+        Meaning::LeftOut(rejection) => json.put("error", error_json(alloc, *rejection, error)),
     };
     json.into_json()
 }
@@ -288,7 +294,7 @@ fn pieces_json(
 }
 
 // Prints that a range is a tag.
-fn tell_tag<O: Write, E: Write>(
+fn report_tag<O: Write, E: Write>(
     console: &mut Console<O, E>,
     options: Options,
     tag: &str,
@@ -305,7 +311,7 @@ fn tell_tag<O: Write, E: Write>(
 }
 
 // Prints each alternative on a line, an invalid one with its error, and the canonical form; or all as JSON.
-fn tell_pieces<O: Write, E: Write>(
+fn report_pieces<O: Write, E: Write>(
     console: &mut Console<O, E>,
     options: Options,
     explained: Explained<'_>,
@@ -315,10 +321,10 @@ fn tell_pieces<O: Write, E: Write>(
         let json = pieces_json(console.alloc, explained, pre_release);
         console.json(json)?;
     } else {
-        print_pieces(&mut console.out, explained, pre_release)?;
+        print_pieces(&mut console.out, console.out_style, explained, pre_release)?;
     }
     if explained.pieces.iter().any(is_left_out) {
-        Ok(Status::Refused)
+        Ok(Status::Rejected)
     } else {
         Ok(Status::Answered)
     }
@@ -326,27 +332,33 @@ fn tell_pieces<O: Write, E: Write>(
 
 fn print_pieces<O: Write>(
     out: &mut O,
+    style: Style,
     explained: Explained<'_>,
     pre_release: PreRelease,
 ) -> Result<(), Stop> {
     let mut errors = explained.errors.iter();
     for piece in explained.pieces {
-        print_line(out, Line { piece, pre_release })?;
+        let line = Line {
+            piece,
+            pre_release,
+            style,
+        };
+        print_line(out, line)?;
         if let Some(error) = error_of(&mut errors, piece) {
-            error.print(out, explained.text)?;
+            error.print(out, style, explained.text)?;
         }
     }
     print_line(out, format_args!("canonical form: {}", explained.normal))
 }
 
-fn tell_explanation<O: Write, E: Write>(
+fn report_explanation<O: Write, E: Write>(
     console: &mut Console<O, E>,
     options: Options,
     text: &str,
     explanation: &Explanation,
 ) -> Result<Status, Stop> {
     match explanation {
-        Explanation::Tag(tag) => tell_tag(console, options, tag.as_str()),
+        Explanation::Tag(tag) => report_tag(console, options, tag.as_str()),
         Explanation::Ranges { pieces, normal } => {
             let errors = if pieces.iter().any(is_left_out) {
                 errors_of(console.alloc, text, options.flavour)?
@@ -359,21 +371,32 @@ fn tell_explanation<O: Write, E: Write>(
                 errors: errors.as_slice(),
                 normal: normal.as_str(),
             };
-            tell_pieces(console, options, explained)
+            report_pieces(console, options, explained)
         }
     }
 }
 
-/// `ranges explain REQ`: the tag; or each alternative on a line, and the canonical form. The status is that of invalid
-/// arguments if an alternative is left out.
-pub fn tell<O: Write, E: Write>(
+/// `ranges explain RANGE..`: for each range the tag; or each alternative on a line, and the canonical form. The status is that of
+/// invalid arguments if an alternative is left out.
+pub fn report<O: Write, E: Write>(
     console: &mut Console<O, E>,
     matches: &ArgMatches<'_>,
     options: Options,
 ) -> Result<Status, Stop> {
-    let word = matches.get_str("REQ").unwrap_or("");
-    match explain(console.alloc, options.flavour, options.pre_release, word) {
-        Ok(explanation) => tell_explanation(console, options, word, &explanation),
-        Err(problem) => console.reject(options, &[word], &problem),
+    let mut status = Status::Answered;
+    for text in matches.get_strs("RANGE").unwrap_or(&[]) {
+        status = status.worse(report_one(console, options, text)?);
+    }
+    Ok(status)
+}
+
+fn report_one<O: Write, E: Write>(
+    console: &mut Console<O, E>,
+    options: Options,
+    text: &str,
+) -> Result<Status, Stop> {
+    match explain(console.alloc, options.flavour, options.pre_release, text) {
+        Ok(explanation) => report_explanation(console, options, text, &explanation),
+        Err(problem) => console.reject(options, &[text], &problem),
     }
 }

@@ -15,8 +15,8 @@ const PROTOCOLS: [&str; 11] = [
     "http",
 ];
 
-// Whether a text begins with one of package.json's protocols.
-fn is_protocol(text: &str) -> bool {
+/// Whether a text begins with one of package.json's protocols.
+pub fn is_protocol(text: &str) -> bool {
     PROTOCOLS.iter().any(|protocol| text.starts_with(*protocol))
 }
 

@@ -1,21 +1,24 @@
-//! The commands over lists of versions: `filter`, `best` and `sort`.
+//! The commands over lists of versions: `filter`, `best`, `outdated` and `sort`.
 
 use crate::args::Options;
 use crate::console::{Console, Status, Stop, json_text, print_line};
 use crate::input::{Take, take_all};
-use answers::reading::range;
+use crate::object::Object;
+use answers::reading::ranges;
 use answers::sorting::{Order, sorted_places};
 use clap::ArgMatches;
 use deno_semver::resolve::max_satisfying_with;
 use deno_semver::{ParseFailure, PreRelease, Version, VersionReq};
+use semver_req::common::values::Flavour;
 use serde_json::Value;
 use std::alloc::{AllocError, Global};
 use std::io::Write;
 
-// The number of matching texts printed, and how they are printed.
+// How texts are printed: a line each, or as a JSON array; and whether one was.
 #[derive(Drop)]
 struct Printed {
     json: bool,
+    end: char,
     is_first: bool,
 }
 
@@ -23,6 +26,7 @@ impl Printed {
     fn new(options: Options) -> Printed {
         Printed {
             json: options.json,
+            end: if options.input.null { '\0' } else { '\n' },
             is_first: true,
         }
     }
@@ -34,17 +38,17 @@ impl Printed {
         text: &str,
     ) -> Result<(), Stop> {
         if self.json {
-            let mark = if self.is_first { '[' } else { ',' };
-            print_item(console, mark, text)?;
+            let separator = if self.is_first { '[' } else { ',' };
+            print_item(console, separator, text)?;
         } else {
-            print_line(&mut console.out, text)?;
+            write!(console.out, "{text}{}", self.end)?;
         }
         self.is_first = false;
         Ok(())
     }
 
     // Ends the array.
-    fn end<O: Write, E: Write>(&self, console: &mut Console<O, E>) -> Result<(), Stop> {
+    fn finish<O: Write, E: Write>(&self, console: &mut Console<O, E>) -> Result<(), Stop> {
         if !self.json {
             return Ok(());
         }
@@ -53,20 +57,25 @@ impl Printed {
     }
 }
 
-// Prints an item of an array after this separator.
+// Prints an item of an array behind this separator.
 fn print_item<O: Write, E: Write>(
     console: &mut Console<O, E>,
-    mark: char,
+    separator: char,
     text: &str,
 ) -> Result<(), Stop> {
     let item = json_text(console.alloc, Value::try_from_str(console.alloc, text))?;
-    Ok(write!(console.out, "{mark}{item}")?)
+    Ok(write!(console.out, "{separator}{item}")?)
 }
 
-// Prints each version that matches.
+// Whether each of the ranges matches the version.
+fn all_match(ranges: &[VersionReq], version: &Version, pre_release: PreRelease) -> bool {
+    ranges.iter().all(|range| range.tag().is_none() && range.matches_with(version, pre_release))
+}
+
+// Prints each version that all ranges match.
 #[derive(Drop)]
 struct Filtering<'a> {
-    requirement: &'a VersionReq,
+    ranges: &'a [VersionReq],
     pre_release: PreRelease,
     printed: Printed,
 }
@@ -81,8 +90,7 @@ impl Take for Filtering<'_> {
             Ok(version) => version,
             Err(error) => return Ok(Err(error.source)),
         };
-        let matches = self.requirement.tag().is_none()
-            && self.requirement.matches_with(&version, self.pre_release);
+        let matches = all_match(self.ranges, &version, self.pre_release);
         drop(version);
         if matches {
             self.printed.add(console, text)?;
@@ -91,16 +99,20 @@ impl Take for Filtering<'_> {
     }
 }
 
-// Keeps each version with the text it was parsed from.
+// The versions that all of some ranges match, each with the text it was parsed from.
 #[derive(Drop)]
-struct Kept {
+struct Listed<'a> {
+    ranges: &'a [VersionReq],
+    pre_release: PreRelease,
     texts: Vec<String>,
     versions: Vec<Version>,
 }
 
-impl Kept {
-    fn new(alloc: Global) -> Kept {
-        Kept {
+impl<'a> Listed<'a> {
+    fn new(alloc: Global, ranges: &'a [VersionReq], pre_release: PreRelease) -> Listed<'a> {
+        Listed {
+            ranges,
+            pre_release,
             texts: Vec::new(alloc),
             versions: Vec::new(alloc),
         }
@@ -111,21 +123,35 @@ impl Kept {
         Some(self.texts.get(place?)?.as_str())
     }
 
-    fn keep(&mut self, alloc: Global, text: &str, version: Version) -> Result<(), AllocError> {
-        self.versions.push(version)?;
-        let text = String::from_str(alloc, text)?;
-        Ok(self.texts.push(text)?)
+    fn add(&mut self, alloc: Global, text: &str, version: Version) -> Result<(), AllocError> {
+        if all_match(self.ranges, &version, self.pre_release) {
+            self.versions.push(version)?;
+            let text = String::from_str(alloc, text)?;
+            self.texts.push(text)?;
+        }
+        Ok(())
+    }
+
+    // The text of the highest version that the range matches; a tag matches none.
+    fn highest(&self, range: &VersionReq) -> Option<&str> {
+        match range.tag() {
+            Some(_) => None,
+            None => {
+                let versions = self.versions.as_slice();
+                self.text(max_satisfying_with(versions, range, self.pre_release))
+            }
+        }
     }
 }
 
-impl Take for Kept {
+impl Take for Listed<'_> {
     fn take<O: Write, E: Write>(
         &mut self,
         console: &mut Console<O, E>,
         text: &str,
     ) -> Result<Result<(), ParseFailure>, Stop> {
         match Version::parse_standard(console.alloc, text) {
-            Ok(version) => Ok(Ok(self.keep(console.alloc, text, version)?)),
+            Ok(version) => Ok(Ok(self.add(console.alloc, text, version)?)),
             Err(error) => Ok(Err(error.source)),
         }
     }
@@ -136,41 +162,56 @@ fn ended(all_versions: bool, status: Status) -> Status {
     if all_versions {
         status
     } else {
-        Status::Refused
+        Status::Rejected
     }
 }
 
-/// `ranges filter REQ [VERSION..]`: the versions that match, in the order given.
+// The texts of the ranges: RANGE, and then those of --range.
+fn range_texts<'a>(alloc: Global, matches: &ArgMatches<'a>) -> Result<Vec<&'a str>, AllocError> {
+    let mut texts = Vec::new(alloc);
+    texts.push(matches.get_str("RANGE").unwrap_or(""))?;
+    for text in matches.get_strs("range").unwrap_or(&[]) {
+        texts.push(*text)?;
+    }
+    Ok(texts)
+}
+
+// Parses the ranges, and runs a command on them; an invalid one, or a tag, is reported.
+fn on_ranges<O: Write, E: Write>(
+    console: &mut Console<O, E>,
+    matches: &ArgMatches<'_>,
+    options: Options,
+) -> Result<Result<Vec<VersionReq>, Status>, Stop> {
+    let texts = range_texts(console.alloc, matches)?;
+    let parsed = ranges(console.alloc, options.flavour, texts.as_slice());
+    match parsed {
+        Ok(parsed) => match parsed.iter().find_map(|range| range.tag()) {
+            Some(tag) => Ok(Err(console.tag(options, tag)?)),
+            None => Ok(Ok(parsed)),
+        },
+        Err(problem) => Ok(Err(console.reject(options, texts.as_slice(), &problem)?)),
+    }
+}
+
+/// `ranges filter RANGE [VERSION..]`: the versions that match, in the order given.
 pub fn filter<R: Input, O: Write, E: Write>(
     rt: &R,
     console: &mut Console<O, E>,
     matches: &ArgMatches<'_>,
     options: Options,
 ) -> Result<Status, Stop> {
-    let word = matches.get_str("REQ").unwrap_or("");
-    match range(console.alloc, options.flavour, 0, word) {
-        Ok(requirement) => filter_by(rt, console, matches, options, &requirement),
-        Err(problem) => console.reject(options, &[word], &problem),
-    }
-}
-
-fn filter_by<R: Input, O: Write, E: Write>(
-    rt: &R,
-    console: &mut Console<O, E>,
-    matches: &ArgMatches<'_>,
-    options: Options,
-    requirement: &VersionReq,
-) -> Result<Status, Stop> {
-    if let Some(tag) = requirement.tag() {
-        return console.tag(options, tag);
-    }
+    let ranges = match on_ranges(console, matches, options)? {
+        Ok(ranges) => ranges,
+        Err(status) => return Ok(status),
+    };
     let mut filter = Filtering {
-        requirement,
+        ranges: ranges.as_slice(),
         pre_release: options.pre_release,
         printed: Printed::new(options),
     };
-    let all = take_all(rt, console, matches.get_strs("VERSION"), &mut filter)?;
-    filter.printed.end(console)?;
+    let versions = matches.get_strs("VERSION");
+    let all = take_all(rt, console, options.input, versions, &mut filter)?;
+    filter.printed.finish(console)?;
     let status = if filter.printed.is_first {
         Status::Nothing
     } else {
@@ -179,17 +220,16 @@ fn filter_by<R: Input, O: Write, E: Write>(
     Ok(ended(all, status))
 }
 
-/// `ranges best REQ [VERSION..]`: the highest version that matches, or `none`.
+/// `ranges best RANGE [VERSION..]`: the highest version that matches, or `none`.
 pub fn best<R: Input, O: Write, E: Write>(
     rt: &R,
     console: &mut Console<O, E>,
     matches: &ArgMatches<'_>,
     options: Options,
 ) -> Result<Status, Stop> {
-    let word = matches.get_str("REQ").unwrap_or("");
-    match range(console.alloc, options.flavour, 0, word) {
-        Ok(requirement) => best_by(rt, console, matches, options, &requirement),
-        Err(problem) => console.reject(options, &[word], &problem),
+    match on_ranges(console, matches, options)? {
+        Ok(ranges) => best_by(rt, console, matches, options, ranges.as_slice()),
+        Err(status) => Ok(status),
     }
 }
 
@@ -198,17 +238,80 @@ fn best_by<R: Input, O: Write, E: Write>(
     console: &mut Console<O, E>,
     matches: &ArgMatches<'_>,
     options: Options,
-    requirement: &VersionReq,
+    ranges: &[VersionReq],
 ) -> Result<Status, Stop> {
-    if let Some(tag) = requirement.tag() {
-        return console.tag(options, tag);
+    let Some((first, others)) = ranges.split_first() else {
+        return Ok(Status::Usage);
+    };
+    let mut listed = Listed::new(console.alloc, others, options.pre_release);
+    let versions = matches.get_strs("VERSION");
+    let all = take_all(rt, console, options.input, versions, &mut listed)?;
+    let status = console.version(options, listed.highest(first))?;
+    Ok(ended(all, status))
+}
+
+/// `ranges outdated RANGE [VERSION..]`: the highest version that matches, and the highest of all.
+pub fn outdated<R: Input, O: Write, E: Write>(
+    rt: &R,
+    console: &mut Console<O, E>,
+    matches: &ArgMatches<'_>,
+    options: Options,
+) -> Result<Status, Stop> {
+    match on_ranges(console, matches, options)? {
+        Ok(ranges) => outdated_by(rt, console, matches, options, ranges.as_slice()),
+        Err(status) => Ok(status),
     }
-    let mut kept = Kept::new(console.alloc);
-    let all = take_all(rt, console, matches.get_strs("VERSION"), &mut kept)?;
-    let place = max_satisfying_with(kept.versions.as_slice(), requirement, options.pre_release);
-    let told = console.version(options, kept.text(place));
-    drop(kept);
-    Ok(ended(all, told?))
+}
+
+fn outdated_by<R: Input, O: Write, E: Write>(
+    rt: &R,
+    console: &mut Console<O, E>,
+    matches: &ArgMatches<'_>,
+    options: Options,
+    ranges: &[VersionReq],
+) -> Result<Status, Stop> {
+    let [range, ..] = ranges else {
+        return Ok(Status::Usage);
+    };
+    let any = match answers::reading::range(console.alloc, Flavour::Npm, 0, "*") {
+        Ok(any) => any,
+        Err(_) => return Err(Stop::OutOfMemory),
+    };
+    let mut listed = Listed::new(console.alloc, &[], options.pre_release);
+    let versions = matches.get_strs("VERSION");
+    let all = take_all(rt, console, options.input, versions, &mut listed)?;
+    let status = print_outdated(
+        console,
+        options,
+        listed.highest(range),
+        listed.highest(&any),
+    )?;
+    Ok(ended(all, status))
+}
+
+// Prints both versions; the status is 1 if they differ.
+fn print_outdated<O: Write, E: Write>(
+    console: &mut Console<O, E>,
+    options: Options,
+    matching: Option<&str>,
+    highest: Option<&str>,
+) -> Result<Status, Stop> {
+    if options.json {
+        let json = Object::new(console.alloc)
+            .put_text("highest", highest)
+            .put_text("matching", matching)
+            .into_json();
+        console.json(json)?;
+    } else {
+        let matching = matching.unwrap_or("none");
+        let highest = highest.unwrap_or("none");
+        print_line(&mut console.out, format_args!("{matching} {highest}"))?;
+    }
+    if matching == highest {
+        Ok(Status::Answered)
+    } else {
+        Ok(Status::Nothing)
+    }
 }
 
 /// `ranges sort [VERSION..]`: the versions in the order of precedence; equal ones keep theirs.
@@ -218,23 +321,28 @@ pub fn sort<R: Input, O: Write, E: Write>(
     matches: &ArgMatches<'_>,
     options: Options,
 ) -> Result<Status, Stop> {
-    let mut kept = Kept::new(console.alloc);
-    let all = take_all(rt, console, matches.get_strs("VERSION"), &mut kept)?;
-    print_sorted(console, options, kept)?;
+    let mut listed = Listed::new(console.alloc, &[], options.pre_release);
+    let versions = matches.get_strs("VERSION");
+    let all = take_all(rt, console, options.input, versions, &mut listed)?;
+    print_sorted(console, options, listed)?;
     Ok(ended(all, Status::Answered))
 }
 
 fn print_sorted<O: Write, E: Write>(
     console: &mut Console<O, E>,
     options: Options,
-    kept: Kept,
+    listed: Listed<'_>,
 ) -> Result<(), Stop> {
     let order = if options.reverse {
         Order::Descending
     } else {
         Order::Ascending
     };
-    let Kept { texts, versions } = kept;
+    let Listed {
+        texts,
+        versions,
+        ..
+    } = listed;
     let places = sorted_places(console.alloc, versions, order)?;
     let mut printed = Printed::new(options);
     for place in places.iter() {
@@ -242,5 +350,5 @@ fn print_sorted<O: Write, E: Write>(
             printed.add(console, text.as_str())?;
         }
     }
-    printed.end(console)
+    printed.finish(console)
 }

@@ -1,20 +1,22 @@
 //! `ranges` explains version ranges and finds the versions that match them, at a terminal and in scripts.
 //!
-//! Its commands are `explain`, `filter`, `best`, `sort`, `common`, `within`, `package` and `reference`; `ranges --help` and
-//! `ranges COMMAND --help` list the arguments of each, and `docs/RANGES.md` what each prints.
+//! `ranges --help` lists its commands, `ranges COMMAND --help` the arguments of each, and `docs/RANGES.md` what each prints.
 //!
 //! The status is 0 for `yes` and for a printed result, 1 for `no` and `none` and if no version matches, 2 for a tag, 3 if an
 //! argument or a line is invalid, 4 for arguments that the program doesn't know, 5 out of memory, and 6 if standard input
 //! can't be read or standard output can't be written.
 #![tactic(auto)]
 
+mod advice;
 mod args;
+mod checking;
 mod comparing;
 mod console;
 mod explaining;
 mod hints;
 mod input;
 mod listed;
+mod manifest;
 mod object;
 mod packaged;
 mod pointing;
@@ -22,15 +24,15 @@ mod pointing;
 use args::{Options, program};
 use clap::error::ErrorKind as Mistake;
 use clap::{ArgMatches, Error};
-use console::{Console, Status, Stop};
+use console::{Console, Status, Stop, Style, Terminal};
 use std::env::Env;
-use std::io::{BufWriter, Write};
+use std::io::{BufWriter, IsTerminal, Write};
 use std::process::ExitCode;
-use std::rt::Runtime;
+use std::rt::{Files, Runtime};
 use std::{env, io};
 
 // Runs the given command.
-fn answer<R: Input, O: Write, E: Write>(
+fn answer<R: Input + Files + AllocGlobal, O: Write, E: Write>(
     rt: &R,
     console: &mut Console<O, E>,
     matches: &ArgMatches<'_>,
@@ -40,14 +42,30 @@ fn answer<R: Input, O: Write, E: Write>(
     };
     let options = Options::of(matches);
     match name {
-        "explain" => explaining::tell(console, matches, options),
+        "check" => checking::check(rt, console, matches, options),
         "filter" => listed::filter(rt, console, matches, options),
         "best" => listed::best(rt, console, matches, options),
+        "outdated" => listed::outdated(rt, console, matches, options),
         "sort" => listed::sort(rt, console, matches, options),
-        "common" => comparing::common(console, matches, options),
+        name => answer_texts(console, name, matches, options),
+    }
+}
+
+// Runs a command whose arguments are texts alone.
+fn answer_texts<O: Write, E: Write>(
+    console: &mut Console<O, E>,
+    name: &str,
+    matches: &ArgMatches<'_>,
+    options: Options,
+) -> Result<Status, Stop> {
+    match name {
+        "explain" => explaining::report(console, matches, options),
+        "normal" => comparing::normal(console, matches, options),
+        "common" | "min" => comparing::common(console, matches, options),
         "within" => comparing::within(console, matches, options),
-        "package" => packaged::tell_package(console, matches, options),
-        "reference" => packaged::tell_reference(console, matches, options),
+        "overlap" => comparing::overlap(console, matches, options),
+        "package" => packaged::report_package(console, matches, options),
+        "reference" => packaged::report_reference(console, matches, options),
         _ => Ok(Status::Usage),
     }
 }
@@ -66,16 +84,16 @@ fn print_mistake<R: Print + Eprint>(rt: &R, mistake: &Error) -> Status {
     }
 }
 
-fn words<R: Env + AllocGlobal>(rt: &R) -> io::Result<Vec<String>> {
-    let mut words = Vec::new(rt.alloc());
-    for word in env::args(rt)? {
-        words.push(word)?;
+fn arguments<R: Env + AllocGlobal>(rt: &R) -> io::Result<Vec<String>> {
+    let mut arguments = Vec::new(rt.alloc());
+    for argument in env::args(rt)? {
+        arguments.push(argument)?;
     }
-    Ok(words)
+    Ok(arguments)
 }
 
 // Runs the given command, and flushes its output.
-fn flushed_answer<R: Input, O: Write, E: Write>(
+fn flushed_answer<R: Input + Files + AllocGlobal, O: Write, E: Write>(
     rt: &R,
     console: &mut Console<O, E>,
     matches: &ArgMatches<'_>,
@@ -85,26 +103,41 @@ fn flushed_answer<R: Input, O: Write, E: Write>(
     Ok(status)
 }
 
+// Whether the command is to print no result.
+fn is_quiet(matches: &ArgMatches<'_>) -> bool {
+    match matches.subcommand() {
+        Some((_, matches)) => matches.get_flag("quiet"),
+        None => false,
+    }
+}
+
 // Runs the given command with a buffered console.
 fn write_answer<R: Runtime + AllocGlobal, E: Write + Drop>(
     rt: &R,
     err: E,
+    terminal: Terminal,
     matches: &ArgMatches<'_>,
 ) -> Result<Status, Stop> {
     let alloc = rt.alloc();
+    if is_quiet(matches) {
+        let mut console = Console::new(alloc, io::sink(), err, terminal);
+        return flushed_answer(rt, &mut console, matches);
+    }
     let out = BufWriter::new(alloc, io::writer(rt))?;
-    flushed_answer(rt, &mut Console { alloc, out, err }, matches)
+    let mut console = Console::new(alloc, out, err, terminal);
+    flushed_answer(rt, &mut console, matches)
 }
 
 // Parses the arguments and runs their command.
 fn run<R: Runtime + AllocGlobal, E: Write + Drop>(
     rt: &R,
     err: E,
-    words: &[String],
+    terminal: Terminal,
+    arguments: &[String],
 ) -> Result<Status, Stop> {
-    match program(rt.alloc())?.try_get_matches_from(words) {
+    match program(rt.alloc())?.try_get_matches_from(arguments) {
         Ok(matches) => {
-            let status = write_answer(rt, err, &matches);
+            let status = write_answer(rt, err, terminal, &matches);
             drop(matches);
             status
         }
@@ -124,10 +157,32 @@ fn stopped<E: Write>(err: &mut E, stop: Stop) -> Status {
     stop.status()
 }
 
+// Whether the environment asks for no colours.
+fn has_no_color<R: Env + AllocGlobal>(rt: &R) -> bool {
+    match env::var(rt, "NO_COLOR") {
+        Ok(value) => !value.is_empty(),
+        Err(_) => false,
+    }
+}
+
+fn style(is_terminal: bool, has_no_color: bool) -> Style {
+    if is_terminal && !has_no_color {
+        Style::Colored
+    } else {
+        Style::Plain
+    }
+}
+
 fn main(rt: HostRuntime) -> ExitCode {
-    let outcome = match words(&rt) {
-        Ok(words) => run(&rt, rt.stderr(), words.as_slice()),
-        Err(error) => Err(Stop::of_words(error)),
+    let no_color = has_no_color(&rt);
+    let terminal = Terminal {
+        reads: rt.stdin().is_terminal(),
+        out: style(rt.stdout().is_terminal(), no_color),
+        err: style(rt.stderr().is_terminal(), no_color),
+    };
+    let outcome = match arguments(&rt) {
+        Ok(arguments) => run(&rt, rt.stderr(), terminal, arguments.as_slice()),
+        Err(error) => Err(Stop::of_arguments(error)),
     };
     let status = match outcome {
         Ok(status) => status,

@@ -73,27 +73,27 @@ fn answer_reference<O: Write, E: Write>(
 }
 
 /// `ranges package TEXT`: the parts of a package requirement.
-pub fn tell_package<O: Write, E: Write>(
+pub fn report_package<O: Write, E: Write>(
     console: &mut Console<O, E>,
     matches: &ArgMatches<'_>,
     options: Options,
 ) -> Result<Status, Stop> {
-    let word = matches.get_str("TEXT").unwrap_or("");
-    match read_package(console.alloc, options.flavour, word) {
+    let text = matches.get_str("TEXT").unwrap_or("");
+    match read_package(console.alloc, options.flavour, text) {
         Ok(req) => answer_package(console, options, &req),
-        Err(problem) => console.reject(options, &[word], &problem),
+        Err(problem) => console.reject(options, &[text], &problem),
     }
 }
 
 /// `ranges reference TEXT`: the parts of a reference to a package.
-pub fn tell_reference<O: Write, E: Write>(
+pub fn report_reference<O: Write, E: Write>(
     console: &mut Console<O, E>,
     matches: &ArgMatches<'_>,
     options: Options,
 ) -> Result<Status, Stop> {
-    let word = matches.get_str("TEXT").unwrap_or("");
-    match read_reference(console.alloc, word) {
+    let text = matches.get_str("TEXT").unwrap_or("");
+    match read_reference(console.alloc, text) {
         Ok(read) => answer_reference(console, options, &read),
-        Err(problem) => console.reject(options, &[word], &problem),
+        Err(problem) => console.reject(options, &[text], &problem),
     }
 }

@@ -1,6 +1,6 @@
 //! Where an invalid range leaves its grammar, and what could stand there.
 
-use crate::console::Stop;
+use crate::console::{Stop, Style};
 use crate::hints::hint;
 use crate::object::Object;
 use deno_semver::npm::is_valid_npm_tag;
@@ -169,12 +169,14 @@ impl Pointer {
 
     /// Prints the text with a caret under the place, what is expected there, and a hint if there is one. A text with control
     /// characters isn't shown.
-    pub fn print<O: Write>(&self, out: &mut O, text: &str) -> Result<(), Stop> {
+    pub fn print<O: Write>(&self, out: &mut O, style: Style, text: &str) -> Result<(), Stop> {
         if !text.chars().any(|c| c.is_control() && c != '\t') {
             let (start, end) = self.window(text);
             let before = part(text, start, self.place);
             writeln!(out, "  | {before}{}", part(text, self.place, end))?;
-            writeln!(out, "  | {}^ {}", Padding(before), Expectation(self, text))?;
+            let (caret, end) = (style.caret(), style.end());
+            let expectation = Expectation(self, text);
+            writeln!(out, "  | {}{caret}^ {expectation}{end}", Padding(before))?;
         }
         let piece = part(text, self.start, self.end);
         match hint(piece, self.place.saturating_sub(self.start)) {

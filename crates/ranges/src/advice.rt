@@ -1,0 +1,114 @@
+//! What is legal in a range, and surely not meant.
+
+use answers::asking::{Answer, Problem};
+use answers::explained::{Matches, Meaning, Piece};
+use answers::questions::version_outside;
+use deno_semver::{PreRelease, RangeBound, VersionRange};
+use semver_req::common::values::Flavour;
+use std::alloc::{AllocError, Global};
+
+/// More alternatives than these aren't compared with one another.
+const MANY: usize = 32;
+
+/// A warning about a range.
+pub type Warnings = Vec<String>;
+
+// Whether the range is one version.
+fn is_one_version(range: &VersionRange) -> bool {
+    match (&range.start, &range.end) {
+        (RangeBound::Version(start), RangeBound::Version(end)) => start.version == end.version,
+        _ => false,
+    }
+}
+
+// What is odd about an alternative that is a range.
+fn of_range(alloc: Global, text: &str, matches: &Matches) -> Result<Option<String>, AllocError> {
+    if matches.lowest.is_none() {
+        return Ok(Some(format!(in alloc; "`{text}` matches no version")?));
+    }
+    if matches!(text, "^0" | "^0.x" | "^0.*") {
+        let hint = "matches every 0.x, though each may break: name its minor version";
+        return Ok(Some(format!(in alloc; "`{text}` {hint}")?));
+    }
+    let RangeBound::Version(start) = &matches.range.start else {
+        return Ok(None);
+    };
+    if start.version.pre.is_empty() || !matches.pre_of_start || is_one_version(&matches.range) {
+        return Ok(None);
+    }
+    let (major, minor, patch) = (
+        start.version.major,
+        start.version.minor,
+        start.version.patch,
+    );
+    let which = format!(in alloc; "{major}.{minor}.{patch}")?;
+    Ok(Some(format!(in alloc; "of pre-releases, `{text}` matches only those of {which}")?))
+}
+
+// What is odd about one of several alternatives, or the only one.
+fn of_piece(alloc: Global, piece: &Piece, is_only: bool) -> Result<Option<String>, AllocError> {
+    let text = piece.text.as_str().trim();
+    match &piece.meaning {
+        Meaning::LeftOut(_) => Ok(None),
+        Meaning::Range(_) if text.is_empty() => {
+            let what = if is_only { "range" } else { "alternative" };
+            Ok(Some(format!(in alloc; "an empty {what} matches every version")?))
+        }
+        Meaning::Range(matches) => of_range(alloc, text, matches),
+    }
+}
+
+// Whether each match of one alternative is one of the other.
+fn is_contained(alloc: Global, one: &Piece, other: &Piece) -> Result<bool, AllocError> {
+    let (one, other) = (one.text.as_str(), other.text.as_str());
+    match version_outside(alloc, Flavour::Npm, PreRelease::Restricted, one, other) {
+        Ok(Answer::Value(outside)) => Ok(outside.is_none()),
+        Ok(Answer::Tag(_)) | Err(Problem::Invalid(_)) => Ok(false),
+        Err(Problem::OutOfMemory) => Err(AllocError),
+    }
+}
+
+// Whether the alternative is a range, not empty, that some version matches.
+fn has_match(piece: &Piece) -> bool {
+    match &piece.meaning {
+        Meaning::Range(matches) => matches.lowest.is_some()
+            && !piece.text.as_str().trim().is_empty(),
+        Meaning::LeftOut(_) => false,
+    }
+}
+
+// Adds a warning for each alternative that another one contains; of two that match the same, for the second.
+fn add_contained(
+    alloc: Global,
+    warnings: &mut Warnings,
+    pieces: &[Piece],
+) -> Result<(), AllocError> {
+    for (place, piece) in pieces.iter().enumerate() {
+        for (other_place, other) in pieces.iter().enumerate() {
+            if place == other_place || !has_match(piece) || !has_match(other) {
+                continue;
+            }
+            let is_needless = is_contained(alloc, piece, other)?
+                && (other_place < place || !is_contained(alloc, other, piece)?);
+            if is_needless {
+                let (text, whole) = (piece.text.as_str().trim(), other.text.as_str().trim());
+                warnings.push(format!(in alloc; "`{whole}` contains `{text}`")?)?;
+            }
+        }
+    }
+    Ok(())
+}
+
+/// The warnings about a range, given its alternatives.
+pub fn warnings(alloc: Global, pieces: &[Piece]) -> Result<Warnings, AllocError> {
+    let mut warnings = Vec::new(alloc);
+    for piece in pieces {
+        if let Some(warning) = of_piece(alloc, piece, pieces.len() == 1)? {
+            warnings.push(warning)?;
+        }
+    }
+    if pieces.len() <= MANY {
+        add_contained(alloc, &mut warnings, pieces)?;
+    }
+    Ok(warnings)
+}

@@ -1,0 +1,479 @@
+//! `ranges check`: the ranges of package.json, deno.json, import maps and lists of ranges.
+
+use crate::advice::warnings;
+use crate::args::Options;
+use crate::console::{Console, Status, Stop, print_line};
+use crate::hints::{is_protocol, question};
+use crate::manifest::{Entry, Kind, Unreadable, entries};
+use crate::object::Object;
+use crate::pointing::{Pointer, errors_of};
+use answers::asking::Problem;
+use answers::explained::{Explanation, Meaning, Piece, explain};
+use answers::references::read_reference;
+use clap::ArgMatches;
+use deno_semver::PreRelease;
+use semver_req::common::values::Flavour;
+use serde_json::Value;
+use std::alloc::{AllocError, Global};
+use std::io::{BufRead, ErrorKind, Read, Write};
+use std::rt::Files;
+use std::{fs, io};
+
+// How findings are printed.
+#[derive(Clone, Copy, PartialEq, Eq)]
+enum Format {
+    Lines,
+    Json,
+    GitHub,
+}
+
+#[derive(Clone, Copy, PartialEq, Eq)]
+enum Level {
+    Error,
+    Warning,
+    /// A range that is as it should be.
+    Fine,
+}
+
+impl Level {
+    fn name(self) -> &'static str {
+        match self {
+            Level::Error => "error",
+            Level::Warning => "warning",
+            Level::Fine => "notice",
+        }
+    }
+
+    // What the message is, in JSON.
+    fn key(self) -> &'static str {
+        match self {
+            Level::Error | Level::Warning => "message",
+            Level::Fine => "normal",
+        }
+    }
+}
+
+// What was found in an entry.
+#[derive(Clone, Copy)]
+struct Finding<'f> {
+    level: Level,
+    message: &'f str,
+    /// Where the text is wrong.
+    errors: &'f [Pointer],
+}
+
+// A place in a file: the line and the column, counted from 1.
+#[derive(Clone, Copy)]
+struct Position {
+    index: usize,
+    line: usize,
+    column: usize,
+}
+
+impl Position {
+    // The position of a later index of the file.
+    fn at(self, file: &str, index: usize) -> Position {
+        let mut found = Position { index, ..self };
+        for c in file.get(self.index..index).unwrap_or("").chars() {
+            if c == '\n' {
+                found.line = found.line.saturating_add(1);
+                found.column = 1;
+            } else {
+                found.column = found.column.saturating_add(1);
+            }
+        }
+        found
+    }
+}
+
+// The findings so far.
+#[derive(Clone, Copy)]
+struct Report<'r> {
+    format: Format,
+    /// Whether each range is printed with its canonical form.
+    canonical: bool,
+    file: &'r str,
+    position: Position,
+    is_first: bool,
+    status: Status,
+    /// The status of a warning.
+    warning: Status,
+}
+
+// Percent signs and line ends as GitHub reads them.
+fn escaped(alloc: Global, text: &str) -> Result<String, AllocError> {
+    let mut all = String::new(alloc);
+    for c in text.chars() {
+        match c {
+            '%' => all.push_str("%25")?,
+            '\r' => all.push_str("%0D")?,
+            '\n' => all.push_str("%0A")?,
+            c => all.push(c)?,
+        }
+    }
+    Ok(all)
+}
+
+// The name of an entry and its text.
+fn subject(alloc: Global, entry: &Entry) -> Result<String, AllocError> {
+    let (name, text) = (entry.name.as_str(), entry.text.as_str());
+    if name.is_empty() {
+        format!(in alloc; "\"{text}\"")
+    } else {
+        format!(in alloc; "{name}: \"{text}\"")
+    }
+}
+
+impl Report<'_> {
+    // Counts a finding.
+    fn count(&mut self, level: Level) {
+        let status = match level {
+            Level::Error => Status::Rejected,
+            Level::Warning => self.warning,
+            Level::Fine => Status::Answered,
+        };
+        self.status = self.status.worse(status);
+    }
+
+    fn json(
+        &self,
+        alloc: Global,
+        entry: &Entry,
+        finding: Finding<'_>,
+    ) -> Result<Value, AllocError> {
+        let mut json = Object::new(alloc)
+            .put("column", Ok(Value::from(self.position.column)))
+            .put_text("file", Some(self.file))
+            .put_text("level", Some(finding.level.name()))
+            .put("line", Ok(Value::from(self.position.line)))
+            .put_text(finding.level.key(), Some(finding.message))
+            .put_text("name", Some(entry.name.as_str()))
+            .put_text("text", Some(entry.text.as_str()));
+        if let [first, ..] = finding.errors {
+            json = first.add_to(alloc, json);
+        }
+        json.into_json()
+    }
+
+    // Prints a finding.
+    fn add<O: Write, E: Write>(
+        &mut self,
+        console: &mut Console<O, E>,
+        entry: &Entry,
+        finding: Finding<'_>,
+    ) -> Result<(), Stop> {
+        self.count(finding.level);
+        match self.format {
+            Format::Json => {
+                let json = self
+                    .json(console.alloc, entry, finding)?
+                    .to_string(console.alloc)?;
+                let separator = if self.is_first { '[' } else { ',' };
+                write!(console.out, "{separator}{json}")?;
+            }
+            Format::GitHub => self.annotate(console, entry, finding)?,
+            Format::Lines => self.print(console, entry, finding)?,
+        }
+        self.is_first = false;
+        Ok(())
+    }
+
+    // Prints a finding as GitHub's annotation.
+    fn annotate<O: Write, E: Write>(
+        &self,
+        console: &mut Console<O, E>,
+        entry: &Entry,
+        finding: Finding<'_>,
+    ) -> Result<(), Stop> {
+        let subject = subject(console.alloc, entry)?;
+        let message = format!(in console.alloc; "{subject}: {}", finding.message)?;
+        let message = escaped(console.alloc, message.as_str())?;
+        let (level, file) = (finding.level.name(), self.file);
+        let Position { line, column, .. } = self.position;
+        print_line(
+            &mut console.out,
+            format_args!("::{level} file={file},line={line},col={column}::{message}"),
+        )
+    }
+
+    // Prints a finding as a line, and where the text is wrong.
+    fn print<O: Write, E: Write>(
+        &self,
+        console: &mut Console<O, E>,
+        entry: &Entry,
+        finding: Finding<'_>,
+    ) -> Result<(), Stop> {
+        let subject = subject(console.alloc, entry)?;
+        let style = console.out_style;
+        let start = match finding.level {
+            Level::Error => style.error(),
+            Level::Warning => style.warning(),
+            Level::Fine => style.caret(),
+        };
+        let (file, end) = (self.file, style.end());
+        let Position { line, column, .. } = self.position;
+        let (level, message) = (finding.level.name(), finding.message);
+        write!(console.out, "{file}:{line}:{column}: ")?;
+        if finding.level == Level::Fine {
+            writeln!(console.out, "{subject}: {message}")?;
+        } else {
+            writeln!(console.out, "{start}{level}{end}: {subject}: {message}")?;
+        }
+        for error in finding.errors {
+            error.print(&mut console.out, style, entry.text.as_str())?;
+        }
+        Ok(())
+    }
+}
+
+fn warn<O: Write, E: Write>(
+    console: &mut Console<O, E>,
+    report: &mut Report<'_>,
+    entry: &Entry,
+    message: &str,
+) -> Result<(), Stop> {
+    let finding = Finding {
+        level: Level::Warning,
+        message,
+        errors: &[],
+    };
+    report.add(console, entry, finding)
+}
+
+// Whether an alternative is left out.
+fn is_left_out(piece: &Piece) -> bool {
+    matches!(piece.meaning, Meaning::LeftOut(_))
+}
+
+// Reports that npm leaves alternatives out, and where each is wrong.
+fn check_left_out<O: Write, E: Write>(
+    console: &mut Console<O, E>,
+    report: &mut Report<'_>,
+    entry: &Entry,
+    pieces: &[Piece],
+) -> Result<(), Stop> {
+    if !pieces.iter().any(is_left_out) {
+        return Ok(());
+    }
+    let errors = errors_of(console.alloc, entry.text.as_str(), Flavour::Npm)?;
+    let finding = Finding {
+        level: Level::Warning,
+        message: "npm leaves out an alternative that isn't a range",
+        errors: errors.as_slice(),
+    };
+    report.add(console, entry, finding)
+}
+
+// Reports what is odd about a range, or its canonical form.
+fn check_pieces<O: Write, E: Write>(
+    console: &mut Console<O, E>,
+    report: &mut Report<'_>,
+    entry: &Entry,
+    pieces: &[Piece],
+    normal: &str,
+) -> Result<(), Stop> {
+    check_left_out(console, report, entry, pieces)?;
+    let warnings = warnings(console.alloc, pieces)?;
+    for warning in warnings.iter() {
+        warn(console, report, entry, warning.as_str())?;
+    }
+    if report.canonical {
+        let finding = Finding {
+            level: Level::Fine,
+            message: normal,
+            errors: &[],
+        };
+        report.add(console, entry, finding)?;
+    }
+    Ok(())
+}
+
+// The text of a range: what follows the name in `npm:name@range`, or the whole text; none if it is another protocol.
+fn range_of(text: &str) -> Option<&str> {
+    if let Some(alias) = text.strip_prefix("npm:") {
+        return match alias.get(1..).unwrap_or("").rsplit_once('@') {
+            Some((_, range)) => Some(range),
+            None => None,
+        };
+    }
+    let is_path = text.starts_with(['.', '/', '$'].as_slice());
+    let is_repository = text.contains('/') && !text.contains(' ');
+    if is_path || is_repository || is_protocol(text) {
+        None
+    } else {
+        Some(text)
+    }
+}
+
+// Checks a range by npm's grammar.
+fn check_range<O: Write, E: Write>(
+    console: &mut Console<O, E>,
+    report: &mut Report<'_>,
+    entry: &Entry,
+) -> Result<(), Stop> {
+    let Some(range) = range_of(entry.text.as_str()) else {
+        return Ok(());
+    };
+    match explain(console.alloc, Flavour::Npm, PreRelease::Restricted, range) {
+        Ok(Explanation::Tag(tag)) => match question(tag.as_str()) {
+            Some(question) => warn(console, report, entry, question),
+            None => Ok(()),
+        },
+        Ok(Explanation::Ranges { pieces, normal }) => {
+            check_pieces(console, report, entry, pieces.as_slice(), normal.as_str())
+        }
+        Err(Problem::Invalid(_)) => {
+            let errors = errors_of(console.alloc, range, Flavour::Npm)?;
+            let is_whole = range.len() == entry.text.len();
+            let finding = Finding {
+                level: Level::Error,
+                message: "not a version range",
+                errors: if is_whole { errors.as_slice() } else { &[] },
+            };
+            report.add(console, entry, finding)
+        }
+        Err(Problem::OutOfMemory) => Err(Stop::OutOfMemory),
+    }
+}
+
+// Checks a specifier; one that isn't of npm or JSR is passed over.
+fn check_specifier<O: Write, E: Write>(
+    console: &mut Console<O, E>,
+    report: &mut Report<'_>,
+    entry: &Entry,
+) -> Result<(), Stop> {
+    let text = entry.text.as_str();
+    if !text.starts_with("npm:") && !text.starts_with("jsr:") {
+        return Ok(());
+    }
+    match read_reference(console.alloc, text) {
+        Ok(reference) => {
+            let normal = reference
+                .reference
+                .req
+                .version_req
+                .to_string_normalized(console.alloc)?;
+            check_pieces(console, report, entry, &[], normal.as_str())
+        }
+        Err(Problem::Invalid(invalid)) => {
+            let finding = Finding {
+                level: Level::Error,
+                message: invalid.failure.message(),
+                errors: &[],
+            };
+            report.add(console, entry, finding)
+        }
+        Err(Problem::OutOfMemory) => Err(Stop::OutOfMemory),
+    }
+}
+
+// Checks the entries of a file.
+fn check_entries<O: Write, E: Write>(
+    console: &mut Console<O, E>,
+    report: &mut Report<'_>,
+    text: &str,
+    entries: &[Entry],
+) -> Result<(), Stop> {
+    for entry in entries {
+        report.position = report.position.at(text, entry.start);
+        match entry.kind {
+            Kind::Range => check_range(console, report, entry)?,
+            Kind::Specifier => check_specifier(console, report, entry)?,
+        }
+    }
+    Ok(())
+}
+
+// Why a file can't be read.
+fn reason(error: &io::Error) -> &'static str {
+    match error.kind() {
+        ErrorKind::NotFound => "no such file",
+        ErrorKind::PermissionDenied => "permission denied",
+        ErrorKind::InvalidData => "it isn't valid UTF-8",
+        _ => "it can't be read",
+    }
+}
+
+// The text of a file, or of standard input for `-`.
+fn read<R: Input + Files + AllocGlobal>(rt: &R, alloc: Global, path: &str) -> io::Result<String> {
+    if path != "-" {
+        return fs::read_to_string(rt, path);
+    }
+    let mut text = String::new(alloc);
+    let _ = rt.reader().read_to_string(&mut text)?;
+    Ok(text)
+}
+
+// Checks a file; what is wrong with the file itself is reported on standard error.
+fn check_file<R: Input + Files + AllocGlobal, O: Write, E: Write>(
+    rt: &R,
+    console: &mut Console<O, E>,
+    report: &mut Report<'_>,
+) -> Result<(), Stop> {
+    let file = report.file;
+    let text = match read(rt, console.alloc, file) {
+        Ok(text) => text,
+        Err(error) if error.kind() == ErrorKind::OutOfMemory => return Err(Stop::OutOfMemory),
+        Err(error) => {
+            report.status = report.status.worse(console.complain(file, reason(&error)));
+            return Ok(());
+        }
+    };
+    match entries(console.alloc, file, text.as_str()) {
+        Ok(entries) => check_entries(console, report, text.as_str(), entries.as_slice()),
+        Err(Unreadable::OutOfMemory) => Err(Stop::OutOfMemory),
+        Err(Unreadable::NoJson(line)) => {
+            let message = format!(in console.alloc; "line {line} isn't valid JSON")?;
+            report.status = report
+                .status
+                .worse(console.complain(file, message.as_str()));
+            Ok(())
+        }
+    }
+}
+
+fn format_of(matches: &ArgMatches<'_>, options: Options) -> Format {
+    if options.json {
+        Format::Json
+    } else if matches.get_flag("github") {
+        Format::GitHub
+    } else {
+        Format::Lines
+    }
+}
+
+/// `ranges check [FILE..]`: the ranges of each file that are invalid, or legal and surely not meant.
+pub fn check<R: Input + Files + AllocGlobal, O: Write, E: Write>(
+    rt: &R,
+    console: &mut Console<O, E>,
+    matches: &ArgMatches<'_>,
+    options: Options,
+) -> Result<Status, Stop> {
+    let start = Position {
+        index: 0,
+        line: 1,
+        column: 1,
+    };
+    let mut report = Report {
+        format: format_of(matches, options),
+        canonical: matches.get_flag("canonical"),
+        file: "-",
+        position: start,
+        is_first: true,
+        status: Status::Answered,
+        warning: if matches.get_flag("strict") {
+            Status::Nothing
+        } else {
+            Status::Answered
+        },
+    };
+    for file in matches.get_strs("FILE").unwrap_or(&["-"]) {
+        report.file = *file;
+        report.position = start;
+        check_file(rt, console, &mut report)?;
+    }
+    if report.format == Format::Json {
+        print_line(&mut console.out, if report.is_first { "[]" } else { "]" })?;
+    }
+    Ok(report.status)
+}
