@@ -1,148 +1,247 @@
-"""Asks each question of a table by every call that it concerns. python3 questions.py LIBRARY TABLE
+"""Asks each question of a table by every function that it concerns. python3 questions.py TABLE
 
-The status is 1 where an answer differs or a block of the library is still alive at the end."""
+DENO_SEMVER_LIBRARY is the shared library over the heap of bindings/heap.c. The status is 1 if an answer differs, or a block of the library
+is alive at the end."""
 
 import copy
 import ctypes
 import gc
 import json
+import os
+import pickle
 import sys
-from functools import partial
 
-import semver
+import deno_semver as semver
 
-GRAMMARS = {"npm": semver.NPM, "normalized": semver.NORMALIZED, "strict": semver.STRICT, "unknown": 3}
-FLAGS = {"restricted": False, "admitted": True}
-DEFAULTS = {"grammar": semver.NPM, "pre_releases": False}
-CODES = {semver.NO: "no", semver.YES: "yes", semver.TAG: "tag", semver.NO_VERSION: "invalid version"}
-PROBLEMS = {"requirement": "invalid requirement", "version": "invalid version", "text": "invalid UTF-8", "grammar": "unknown grammar"}
-QUIET = {"filter", "best", "sort", "compare", "overlap", "may_be_tag", "value.fits of a text"}  # without the library's message
-ONLY_ELSEWHERE = {"order", "equal", "text"}
-
-s = semver.Library(sys.argv[1])
-
-
-def fit(answer):
-    return [{False: "no", True: "yes", None: "tag"}[answer]]
-
-
-def order(answer):
-    return [{-1: "before", 0: "same", 1: "after"}[answer]]
-
-
-def lowest(found, nothing):
-    return lambda answer: [nothing] if answer is None else [found, answer]
-
-
-def written(answer):
-    return ["yes", answer]
-
-
-def parts(answer):
-    return written(json.dumps(answer, ensure_ascii=False, separators=(",", ":"), sort_keys=True))
-
-
-# Each call, how many options stand before its texts in the table, and how its answer is written there.
-CALLS = {
-    "fits": (s.fits, 2, fit),
-    "filter": (s.filter, 2, lambda codes: ["yes", *(CODES[code] for code in codes)]),
-    "best": (s.best, 2, lambda place: ["no"] if place is None else ["yes", str(place)]),
-    "sort": (s.sort, 0, lambda places: ["yes", *map(str, places)]),
-    "compare": (s.compare, 0, order),
-    "overlap": (s.overlap, 1, fit),
-    "within": (s.outside, 1, lowest("no", "yes")),
-    "common": (s.common, 1, lowest("yes", "no")),
-    "least": (s.lowest, 1, lowest("yes", "no")),
-    "normal": (s.normal, 1, written),
-    "version": (s.displayed, 0, written),
-    "may_be_tag": (s.may_be_tag, 0, fit),
-    "package": (s.package, 1, parts),
-    "reference": (s.reference, 0, parts),
+PRE = {"restricted": False, "admitted": True}
+# How many options, a grammar and which pre-releases match, stand before the texts of a call.
+OPTIONS = {
+    **dict.fromkeys(("fits", "filter", "best", "lowest", "within", "equivalent", "common", "common_all", "min_version"), 2),
+    **dict.fromkeys(("overlap", "normal", "package", "equal", "is_tag", "ranges", "dependency"), 1),
+    **dict.fromkeys(("sort", "compare", "order", "version", "may_be_tag", "reference"), 0),
+    **dict.fromkeys(("version_parts", "name_with_version", "version_reference", "export_name"), 0),
 }
 
 
-def argument(field):
-    """The field as a text, or as bytes where it isn't valid UTF-8."""
-    encoded = field.encode("utf-8", "surrogateescape")
-    return field if encoded.decode("utf-8", "replace") == field else encoded
+def yes_or_no(answer):
+    return ["yes" if answer else "no"]
 
 
-def value_ways(name, texts, options, again):
-    """The ways to ask parsed values, or what is made of them again."""
+def order(sign):
+    return [("same", "after", "before")[sign]]
+
+
+def found(version, code="yes", none="no"):
+    return [none] if version is None else [code, version]
+
+
+def package_json(package):
+    return {"name": package.name, "normal": package.canonical, "requirement": package.requirement, "scope": package.scope}
+
+
+def reference_json(reference):
+    package = package_json(reference.package)
+    return {"export": reference.export, "kind": reference.kind, "package": package, "path": reference.path}
+
+
+def bound_json(bound):
+    return None if bound is None else {"inclusive": bound.inclusive, "version": bound.version}
+
+
+def version_json(version):
+    numbers = {name: str(getattr(version, name)) for name in ("major", "minor", "patch")}
+    return {**numbers, "pre": list(version.pre), "build": list(version.build)}
+
+
+def version_reference_json(reference):
+    return {"export": reference.export, "kind": reference.kind, "package": reference.package._asdict(), "path": reference.path}
+
+
+def dependency_json(dependency):
+    return {"kind": dependency.kind, "normal": dependency.canonical, "package": package_json(dependency.package)}
+
+
+def parts(value):
+    return ["yes", json.dumps(value, ensure_ascii=False, separators=(",", ":"), sort_keys=True)]
+
+
+def listed(versions):
+    return versions.replace("\r\n", "\n").removesuffix("\n").split("\n") if versions else []
+
+
+def each_answer(range, lines, options):
+    """The answer for each line, of which some may be invalid."""
+    matching = semver.filter(range, lines, skip_invalid=True, **options)
+    answers, rest = [], list(matching)
+    for line in lines:
+        try:
+            semver.Version(line)
+        except semver.InvalidVersion:
+            answers.append("invalid version")
+            continue
+        is_next = bool(rest) and rest[0] == line
+        answers.append("yes" if is_next else "no")
+        rest = rest[1:] if is_next else rest
+    return ["yes", *answers]
+
+
+def place(range, lines, call, options):
+    version = call(range, lines, **options)
+    return ["no"] if version is None else ["yes", str(next(n for n, line in enumerate(lines) if line is version))]
+
+
+def places(lines):
+    left = list(enumerate(lines))
+    answer = ["yes"]
+    for version in semver.sort(lines):
+        index = next(n for n, (_, line) in enumerate(left) if line is version)
+        answer.append(str(left.pop(index)[0]))
+    return answer
+
+
+def unique(lines):
+    """The same texts, no two of which are one object."""
+    return ["".join(list(line)) if len(line) > 1 else line for line in lines]
+
+
+def of_texts(name, texts, options):
+    if name == "fits":
+        return yes_or_no(semver.matches(*texts, **options))
+    if name == "filter":
+        return each_answer(texts[0], unique(listed(texts[1])), options)
+    if name in ("best", "lowest"):
+        return place(texts[0], unique(listed(texts[1])), getattr(semver, name), options)
+    if name == "sort":
+        return places(unique(listed(texts[0])))
+    if name == "compare":
+        return order(semver.compare(*texts))
+    if name == "overlap":
+        return yes_or_no(semver.overlaps(*texts, **options))
+    if name == "within":
+        return found(semver.outside(*texts, **options), "no", "yes")
+    if name == "equivalent":
+        return yes_or_no(semver.is_equivalent(*texts, **options))
+    if name in ("common", "common_all"):
+        ranges = texts if name == "common" else listed(texts[0])
+        return found(semver.common(*ranges, **options)) if ranges else ["no"]
+    if name == "min_version":
+        return found(semver.min_version(*texts, **options))
+    if name == "normal":
+        return ["yes", semver.canonical(*texts, **options)]
+    if name == "version":
+        return ["yes", str(semver.Version(*texts))]
+    if name == "may_be_tag":
+        return yes_or_no(semver.may_be_tag(*texts))
+    if name == "package":
+        return parts(package_json(semver.parse_package(*texts, **options)))
+    if name == "reference":
+        return parts(reference_json(semver.parse_reference(*texts)))
+    return of_parts(name, texts, options)
+
+
+def of_parts(name, texts, options):
+    if name == "version_parts":
+        return parts(version_json(semver.Version(*texts)))
+    if name == "ranges":
+        return parts([{"end": bound_json(it.end), "start": bound_json(it.start)} for it in semver.bounds(*texts, **options)])
+    if name == "name_with_version":
+        return parts(semver.parse_name_with_version(*texts)._asdict())
+    if name == "version_reference":
+        return parts(version_reference_json(semver.parse_version_reference(*texts)))
+    if name == "dependency":
+        return parts(dependency_json(semver.parse_dependency(*texts, **options)))
+    if name == "export_name":
+        return ["yes", semver.export_name(*texts)]
+    return None
+
+
+def of_values(name, texts, options, again):
+    """The answer of values that are parsed once, or of what is made of them again."""
     flag = {key: value for key, value in options.items() if key == "pre_releases"}
-    grammar = {key: value for key, value in options.items() if key == "grammar"}
 
-    def requirement(n):
-        return again(s.requirement(texts[n], **grammar))
+    def range_of(n):
+        return again(semver.Range(texts[n], options.get("grammar", "npm")))
 
-    def version(n):
-        return again(s.version(texts[n]))
-
-    def itself(value, method):
-        return getattr(value, method)(value)
+    def version_of(n):
+        return again(semver.Version(texts[n]))
 
     if name == "fits":
-        yield "value.fits", lambda: requirement(0).fits(version(1), **flag)
-        yield "value.fits of a text", lambda: requirement(0).fits(texts[1], **flag)
-    elif name == "overlap":
-        yield "value.overlaps", lambda: requirement(0).overlaps(requirement(1))
-    elif name == "compare":
-        yield "value.compare", lambda: version(0).compare(version(1))
-    elif name == "normal":
-        yield "value.normal", lambda: requirement(0).normal()
-    elif name == "version":
-        yield "value.str", lambda: str(version(0))
-    if name == "overlap" and texts[0] == texts[1]:
-        yield "value.overlaps with itself", lambda: itself(requirement(0), "overlaps")
-    if name == "compare" and texts[0] == texts[1]:
-        yield "value.compare with itself", lambda: itself(version(0), "compare")
+        return yes_or_no(range_of(0).matches(version_of(1), **flag))
+    if name == "overlap":
+        return yes_or_no(range_of(0).overlaps(range_of(1)))
+    if name == "equal":
+        return yes_or_no(range_of(0) == range_of(1))
+    if name == "normal":
+        return ["yes", range_of(0).canonical]
+    if name == "is_tag":
+        return yes_or_no(range_of(0).is_tag)
+    if name == "compare":
+        one, other = version_of(0), version_of(1)
+        return order(int(other.precedes(one)) - int(one.precedes(other)))
+    if name == "order":
+        one, other = version_of(0), version_of(1)
+        return order(int(one > other) - int(one < other))
+    if name == "version":
+        return ["yes", str(version_of(0))]
+    return None
 
 
-def ways(name, texts, options):
-    """The ways to ask: options in their places, only those that aren't defaults, and of parsed values and their copies."""
-    call = CALLS[name][0]
-    others = {key: value for key, value in options.items() if value != DEFAULTS[key]}
-    yield name, partial(call, *texts, *options.values())
-    yield name, partial(call, *texts, **others)
-    yield from value_ways(name, texts, others, lambda it: it)
-    yield from value_ways(name, texts, others, copy.copy)
-
-
-def answer(ask, form):
+def answer(ask, *arguments):
     try:
-        return form(ask())
-    except semver.InvalidArgument as error:
-        return [PROBLEMS[error.argument], str(error)]
+        return ask(*arguments)
     except semver.TagError:
         return ["tag"]
-    except Exception as error:  # an answer that differs, whatever it is
-        return [repr(error)]
+    except semver.InvalidVersion as error:
+        return ["invalid version", error.message, error.index]
+    except (semver.InvalidRange, semver.InvalidPackage) as error:
+        return ["invalid range", error.message, error.index]
+
+
+WAYS = (
+    ("of texts", of_texts),
+    ("of values", lambda *asked: of_values(*asked, lambda it: it)),
+    ("of copies", lambda *asked: of_values(*asked, copy.copy)),
+    ("of pickles", lambda *asked: of_values(*asked, lambda it: pickle.loads(pickle.dumps(it)))),
+)
+
+
+def is_same(name, got, wanted):
+    if not got[0].startswith("invalid"):
+        # What is behind the JSON of a package is for other languages.
+        return got == (wanted[:2] if name == "package" else wanted)
+    # A value knows no place among arguments.
+    code, message, index = got
+    return wanted[:2] == [code, message] and (index is None or wanted[2:] == [str(index)])
 
 
 def differing(question, wanted):
     """How many ways to ask have another answer."""
     name, *fields = question
-    _, count, form = CALLS[name]
-    options = {key: named[field] for key, named, field in zip(DEFAULTS, (GRAMMARS, FLAGS), fields[:count])}
-    texts = [argument(field) for field in fields[count:]]
-    wanted = wanted[:2] if name == "package" else wanted  # the parts behind the JSON are for Rust
+    count = OPTIONS[name]
+    options = dict(zip(("grammar", "pre_releases"), fields[:count]))
+    if "pre_releases" in options:
+        options["pre_releases"] = PRE[options["pre_releases"]]
     differ = 0
-    for way, ask in ways(name, texts, options):
-        got = answer(ask, form)
-        quiet = got[0] in PROBLEMS.values() and (way in QUIET or got[0] == "unknown grammar")
-        if (got[:1] != wanted[:1]) if quiet else (got != wanted):
-            print(f"{question}: {way}: {got}")
+    for way, ask in WAYS:
+        got = answer(ask, name, fields[count:], options)
+        if got is not None and not is_same(name, got, wanted):
+            print(f"{question} {way}: {got}, and not {wanted}")
             differ += 1
     return differ
 
 
+def is_ours(question, wanted):
+    """Whether the package has a function for the question, whose texts are valid."""
+    return question[0] in OPTIONS and wanted[0] not in ("invalid UTF-8", "unknown grammar")
+
+
 def main():
-    with open(sys.argv[2], encoding="utf-8") as table:
+    with open(sys.argv[1], encoding="utf-8") as table:
         rows = [json.loads(line) for line in table]
-    asked = [row for row in rows if row[0][0] not in ONLY_ELSEWHERE]
+    asked = [row for row in rows if is_ours(*row)]
     differ = sum(differing(*row) for row in asked)
     gc.collect()
-    alive = ctypes.CDLL(sys.argv[1]).heap_alive()
+    alive = ctypes.CDLL(os.environ["DENO_SEMVER_LIBRARY"]).heap_alive()
     print(f"{len(asked)} questions; {alive} blocks are still alive")
     return int(differ > 0 or not asked or alive != 0)
 

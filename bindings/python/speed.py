@@ -1,29 +1,33 @@
-"""The time of 100,000 versions from Python. python3 speed.py LIBRARY"""
+"""The time of 100,000 versions from Python. DENO_SEMVER_LIBRARY is the shared library."""
 
-import sys
 import time
 
-import semver
+import deno_semver as semver
 
-s = semver.Library(sys.argv[1])
-VERSIONS = [f"{n % 7}.{n % 31}.{n % 101}" + ("-rc.%d" % (n % 5) if n % 3 == 0 else "") for n in range(100_000)]
-LINES = ("\n".join(VERSIONS) + "\n").encode()
+TEXTS = [f"{n % 7}.{n % 31}.{n % 101}" + (f"-rc.{n % 5}" if n % 3 == 0 else "") for n in range(100_000)]
 
 
-def lowest(way, passes):
-    """The lowest processor time of so many passes, in milliseconds, and what they answer."""
+def fastest(ask, passes):
+    """The lowest processor time of so many passes, in milliseconds, and what they return."""
     times = []
     for _ in range(passes):
         start = time.thread_time()
-        answer = way()
+        answer = ask()
         times.append(time.thread_time() - start)
     return min(times) * 1e3, answer
 
 
-for requirement in ["^1.2", ">=1.2 <2 || 3.x || ~5.6.7"]:
-    held_range = s.requirement(requirement)
-    once, codes = lowest(lambda: s.filter(requirement, LINES), 7)
-    held, again = lowest(lambda: bytes(held_range.fits(v) for v in VERSIONS), 3)
-    each, last = lowest(lambda: bytes(s.fits(requirement, v) for v in VERSIONS), 1)
-    assert codes == again == last
-    print(f"{requirement}: one call {once:.1f} ms, requirement parsed once {held:.0f} ms, texts {each:.0f} ms")
+def main():
+    versions = [semver.Version(text) for text in TEXTS]
+    for text in ("^1.2", ">=1.2 <2 || 3.x || ~5.6.7"):
+        held = semver.Range(text)
+        once, found = fastest(lambda: semver.filter(text, TEXTS), 5)
+        of_texts, again = fastest(lambda: [version for version in TEXTS if held.matches(version)], 3)
+        of_values, values = fastest(lambda: [version for version in versions if held.matches(version)], 3)
+        each, last = fastest(lambda: [version for version in TEXTS if semver.matches(text, version)], 1)
+        assert found == again == last == [str(version) for version in values]
+        print(f"{text}: filter {once:.0f} ms, Range.matches {of_texts:.0f} ms, of a Version {of_values:.0f} ms, matches {each:.0f} ms")
+    print(f"sort {fastest(lambda: semver.sort(TEXTS), 5)[0]:.0f} ms, Version {fastest(lambda: [semver.Version(text) for text in TEXTS], 1)[0]:.0f} ms")
+
+
+main()

@@ -1,0 +1,89 @@
+"""Versions and version ranges of npm and JSR packages, as Deno parses, matches and compares them.
+
+>>> matches(">=1.2 <2 || 3", "1.3.0")
+True
+>>> best("^1.2", ["1.2.0", "1.10.0", "2.0.0"])
+'1.10.0'
+>>> outside("^1", "^1.2")
+'1.0.0'
+
+A range or a version is a text, a `Range` or a `Version`. An invalid text raises `InvalidRange` or `InvalidVersion`, a range that is
+a tag `TagError`, an argument of another type `TypeError`, and running out of memory `MemoryError`.
+
+`grammar` is that of ranges: "npm" by default; "normalized", comparators separated by whitespace, alternatives by `||`; or "strict",
+that of package specifiers. With `pre_releases` every pre-release between the bounds matches; without it, by npm's rule, one matches if
+a bound is a pre-release of its three numbers.
+"""
+
+from ._errors import InvalidPackage, InvalidRange, InvalidVersion, SemverError, TagError
+from ._functions import (
+    Bound,
+    Bounds,
+    Dependency,
+    NameWithVersion,
+    Package,
+    Reference,
+    VersionReference,
+    best,
+    bounds,
+    canonical,
+    common,
+    compare,
+    export_name,
+    filter,
+    is_equivalent,
+    is_subset,
+    lowest,
+    matches,
+    may_be_tag,
+    min_version,
+    outside,
+    overlaps,
+    parse_dependency,
+    parse_name_with_version,
+    parse_package,
+    parse_reference,
+    parse_version_reference,
+    sort,
+)
+from ._values import Range, Version
+
+__version__ = "0.1.0"
+
+__all__ = [
+    "Bound",
+    "Bounds",
+    "Dependency",
+    "InvalidPackage",
+    "InvalidRange",
+    "InvalidVersion",
+    "NameWithVersion",
+    "Package",
+    "Range",
+    "Reference",
+    "SemverError",
+    "TagError",
+    "Version",
+    "VersionReference",
+    "best",
+    "bounds",
+    "canonical",
+    "common",
+    "compare",
+    "export_name",
+    "filter",
+    "is_equivalent",
+    "is_subset",
+    "lowest",
+    "matches",
+    "may_be_tag",
+    "min_version",
+    "outside",
+    "overlaps",
+    "parse_dependency",
+    "parse_name_with_version",
+    "parse_package",
+    "parse_reference",
+    "parse_version_reference",
+    "sort",
+]

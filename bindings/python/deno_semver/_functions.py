@@ -1,0 +1,445 @@
+"""Questions about texts, ranges and versions."""
+
+from __future__ import annotations
+
+import json
+from ctypes import byref, c_int8, c_size_t
+from typing import Any, Dict, Iterable, List, NamedTuple, Optional, Tuple, TypeVar, Union
+
+from ._calls import (
+    CALLS,
+    INVALID_RANGE,
+    INVALID_VERSION,
+    NO,
+    NO_MEMORY,
+    YES,
+    encoded,
+    fail,
+    grammar_number,
+    pre_number,
+    range_message,
+    read,
+    version_message,
+)
+from ._errors import InvalidPackage, InvalidRange, InvalidVersion, TagError
+from ._values import Range, Version, range_text
+
+AnyRange = Union[str, Range]
+AnyVersion = Union[str, Version]
+V = TypeVar("V", str, Version)
+
+
+def _version_text(version: AnyVersion, name: str, index: Optional[int] = None) -> bytes:
+    if isinstance(version, Version):
+        return str(version).encode()
+    return encoded(version, name, InvalidVersion, index)
+
+
+def _lines(texts: Iterable[bytes]) -> bytes:
+    """Texts as lines. A line end in a version or a range is whitespace, and written as a space here."""
+    return b"".join(text.replace(b"\n", b" ").replace(b"\r", b" ") + b"\n" for text in texts)
+
+
+def _versions(versions: Iterable[V]) -> Tuple[List[V], bytes]:
+    if isinstance(versions, (str, Version)):
+        raise TypeError(f"versions must be an iterable of versions, not {type(versions).__name__}")
+    listed = list(versions)
+    return listed, _lines(_version_text(version, f"versions[{index}]", index) for index, version in enumerate(listed))
+
+
+def _fail_range(code: int, text: str, source: bytes, number: int, index: Optional[int] = None) -> Any:
+    message = "" if code == NO_MEMORY else range_message(number, source)
+    return fail(code, InvalidRange, text, message, index)
+
+
+def _fail_version(code: int, version: AnyVersion, index: Optional[int] = None) -> Any:
+    message = "" if code == NO_MEMORY else version_message(_version_text(version, "version"))
+    return fail(code, InvalidVersion, str(version), message, index)
+
+
+def matches(range: AnyRange, version: AnyVersion, *, grammar: Optional[str] = None, pre_releases: bool = False) -> bool:
+    """Whether the version matches the range.
+
+    >>> matches("^1.2", "1.3.0")
+    True
+    >>> matches("latest", "1.3.0")
+    Traceback (most recent call last):
+    deno_semver._errors.TagError: 'latest': The range is a tag.
+    """
+    source, text, number = range_text(range, "range", grammar)
+    other = _version_text(version, "version")
+    code, message = read("fits", number, source, len(source), other, len(other), pre_number(pre_releases))
+    if code >= 0:
+        return code == YES
+    if code == INVALID_VERSION:
+        return fail(code, InvalidVersion, str(version), message)
+    return fail(code, InvalidRange, text, message)
+
+
+def filter(
+    range: AnyRange,
+    versions: Iterable[V],
+    *,
+    grammar: Optional[str] = None,
+    pre_releases: bool = False,
+    skip_invalid: bool = False,
+) -> List[V]:
+    """The versions that match, in their order.
+
+    >>> filter("^1.2 || 3", ["1.1.9", "1.2.0", "2.0.0", "3.4.5"])
+    ['1.2.0', '3.4.5']
+    >>> filter("*", ["1.0.0", "nightly"], skip_invalid=True)
+    ['1.0.0']
+    """
+    source, text, number = range_text(range, "range", grammar)
+    listed, lines = _versions(versions)
+    answers, needed = (c_int8 * max(len(listed), 1))(), c_size_t()
+    code = CALLS["filter"](
+        number, source, len(source), lines, len(lines), pre_number(pre_releases), answers, len(answers), byref(needed)
+    )
+    if code != YES:
+        return _fail_range(code, text, source, number)
+    found = []
+    for index, version in enumerate(listed):
+        if answers[index] == YES:
+            found.append(version)
+        elif answers[index] < 0 and not skip_invalid:
+            _fail_version(answers[index], version, index)
+    return found
+
+
+def _best(call: str, range: AnyRange, versions: Iterable[V], grammar: Optional[str], pre_releases: bool) -> Optional[V]:
+    source, text, number = range_text(range, "range", grammar)
+    listed, lines = _versions(versions)
+    place = c_size_t()
+    code = CALLS[call](number, source, len(source), lines, len(lines), pre_number(pre_releases), byref(place))
+    if code >= 0:
+        return listed[place.value] if code == YES else None
+    if code == INVALID_VERSION:
+        return _fail_version(code, listed[place.value], place.value)
+    return _fail_range(code, text, source, number)
+
+
+def best(range: AnyRange, versions: Iterable[V], *, grammar: Optional[str] = None, pre_releases: bool = False) -> Optional[V]:
+    """The highest of the versions that matches, the first of equal ones, or None.
+
+    >>> best("^1.2", ["1.2.0", "1.10.0", "2.0.0"])
+    '1.10.0'
+    """
+    return _best("best", range, versions, grammar, pre_releases)
+
+
+def lowest(range: AnyRange, versions: Iterable[V], *, grammar: Optional[str] = None, pre_releases: bool = False) -> Optional[V]:
+    """The lowest of the versions that matches, the first of equal ones, or None.
+
+    >>> lowest("^1.2", ["1.10.0", "1.2.0", "1.0.0"])
+    '1.2.0'
+    """
+    return _best("lowest", range, versions, grammar, pre_releases)
+
+
+def sort(versions: Iterable[V], *, reverse: bool = False) -> List[V]:
+    """The versions by precedence; those that differ only in the build keep their order.
+
+    >>> sort(["1.10.0", "1.9.0", "1.9.0-rc.1"])
+    ['1.9.0-rc.1', '1.9.0', '1.10.0']
+    """
+    listed, lines = _versions(versions)
+    if reverse:
+        listed.reverse()
+        lines = _lines(_version_text(version, "versions") for version in listed)
+    places, needed, place = (c_size_t * max(len(listed), 1))(), c_size_t(), c_size_t()
+    code = CALLS["sort"](lines, len(lines), places, len(places), byref(needed), byref(place))
+    if code != YES:
+        index = len(listed) - 1 - place.value if reverse else place.value
+        return _fail_version(code, listed[place.value], index)
+    ordered = [listed[place] for place in places[: needed.value]]
+    return ordered[::-1] if reverse else ordered
+
+
+def compare(one: AnyVersion, other: AnyVersion) -> int:
+    """-1, 0 or 1: the order of two versions by precedence, which ignores builds.
+
+    >>> compare("1.2.0", "1.10.0")
+    -1
+    """
+    texts, place = (_version_text(one, "one"), _version_text(other, "other")), c_size_t()
+    code = CALLS["compare"](texts[0], len(texts[0]), texts[1], len(texts[1]), byref(place))
+    if code >= 0:
+        return int(code) - 1
+    return _fail_version(code, other if place.value else one, place.value)
+
+
+def _two(one: AnyRange, other: AnyRange, grammar: Optional[str]) -> Tuple[Tuple[bytes, str], Tuple[bytes, str], int]:
+    """Two ranges, and the number of their grammar."""
+    if grammar is None:
+        for range in (one, other):
+            if isinstance(range, Range):
+                grammar = range.grammar
+    first, first_text, number = range_text(one, "one", grammar)
+    second, second_text, _ = range_text(other, "other", grammar)
+    return (first, first_text), (second, second_text), number
+
+
+def _fail_two(code: int, ranges: Tuple[Tuple[bytes, str], ...], number: int, place: int) -> Any:
+    source, text = ranges[place if code == INVALID_RANGE else 0]
+    return _fail_range(code, text, source, number, place if code == INVALID_RANGE else None)
+
+
+def overlaps(one: AnyRange, other: AnyRange, *, grammar: Optional[str] = None) -> bool:
+    """Whether the bounds of two ranges overlap; `common` knows whether a version lies there. Two tags overlap if they are the same.
+
+    >>> overlaps(">1.0.0", "<1.0.1")
+    True
+    """
+    first, second, number = _two(one, other, grammar)
+    place = c_size_t()
+    code = CALLS["overlap"](number, first[0], len(first[0]), second[0], len(second[0]), byref(place))
+    if code >= 0:
+        return code == YES
+    return _fail_two(code, (first, second), number, place.value)
+
+
+def outside(one: AnyRange, other: AnyRange, *, grammar: Optional[str] = None, pre_releases: bool = False) -> Optional[str]:
+    """The lowest version that the first range matches and the other doesn't; None if the other contains the first.
+
+    >>> outside(">=1.3", "^1.2")
+    '2.0.0'
+    """
+    first, second, number = _two(one, other, grammar)
+    place = c_size_t()
+    arguments = (number, first[0], len(first[0]), second[0], len(second[0]), pre_number(pre_releases))
+    code, text = read("within", *arguments, after=(byref(place),))
+    if code >= 0:
+        return text if code == NO else None
+    return _fail_two(code, (first, second), number, place.value)
+
+
+def is_subset(one: AnyRange, other: AnyRange, *, grammar: Optional[str] = None, pre_releases: bool = False) -> bool:
+    """Whether the other range matches each version that the first one matches; `outside` gives a version that it doesn't.
+
+    >>> is_subset("^1.3", "^1.2")
+    True
+    """
+    return outside(one, other, grammar=grammar, pre_releases=pre_releases) is None
+
+
+def is_equivalent(one: AnyRange, other: AnyRange, *, grammar: Optional[str] = None, pre_releases: bool = False) -> bool:
+    """Whether two ranges match the same versions.
+
+    >>> is_equivalent("^1", "1.x || 1.2")
+    True
+    """
+    first, second, number = _two(one, other, grammar)
+    place = c_size_t()
+    arguments = (number, first[0], len(first[0]), second[0], len(second[0]), pre_number(pre_releases))
+    code = CALLS["equivalent"](*arguments, byref(place))
+    if code >= 0:
+        return code == YES
+    return _fail_two(code, (first, second), number, place.value)
+
+
+def common(*ranges: AnyRange, grammar: Optional[str] = None, pre_releases: bool = False) -> Optional[str]:
+    """The lowest version that all ranges match, or None.
+
+    >>> common("^1.2", "~1.4 || ^2")
+    '1.4.0'
+    >>> common(">1.0.0", "<1.0.1") is None
+    True
+    """
+    parsed = [range_text(range, f"ranges[{index}]", grammar) for index, range in enumerate(ranges)]
+    if not parsed:
+        raise TypeError("common takes one range or more")
+    numbers = {number for _, _, number in parsed}
+    if len(numbers) > 1:
+        raise ValueError("the ranges have different grammars")
+    lines, number, place = _lines(source for source, _, _ in parsed), numbers.pop(), c_size_t()
+    arguments = (number, lines, len(lines), pre_number(pre_releases))
+    code, text = read("common_all", *arguments, after=(byref(place),))
+    if code >= 0:
+        return text if code == YES else None
+    source, range, _ = parsed[place.value if code == INVALID_RANGE else 0]
+    return _fail_range(code, range, source, number, place.value if code == INVALID_RANGE else None)
+
+
+def min_version(range: AnyRange, *, grammar: Optional[str] = None, pre_releases: bool = False) -> Optional[str]:
+    """The lowest version that the range matches, or None.
+
+    >>> min_version(">1.2.3")
+    '1.2.4'
+    """
+    source, text, number = range_text(range, "range", grammar)
+    code, written = read("min_version", number, source, len(source), pre_number(pre_releases))
+    if code >= 0:
+        return written if code == YES else None
+    return fail(code, InvalidRange, text, written)
+
+
+def canonical(range: AnyRange, *, grammar: Optional[str] = None) -> str:
+    """The canonical form of the range, for lockfiles and keys; of a tag, the tag.
+
+    >>> canonical(">=1.2 <2 || 3.x")
+    '^1.2.0 || 3'
+    """
+    source, text, number = range_text(range, "range", grammar)
+    code, written = read("normal", number, source, len(source))
+    return written if code == YES else fail(code, InvalidRange, text, written)
+
+
+class Bound(NamedTuple):
+    """Where a range starts or ends."""
+
+    version: str
+    inclusive: bool
+
+
+class Bounds(NamedTuple):
+    """The bounds of an alternative of a range; None where it has none."""
+
+    start: Optional[Bound]
+    end: Optional[Bound]
+
+
+def _bound(parts: Optional[Dict[str, Any]]) -> Optional[Bound]:
+    return None if parts is None else Bound(parts["version"], parts["inclusive"])
+
+
+def bounds(range: AnyRange, *, grammar: Optional[str] = None) -> List[Bounds]:
+    """The bounds of each alternative of the range, but for those that no version can match.
+
+    >>> bounds("^1.2 || >=3")[0]
+    Bounds(start=Bound(version='1.2.0', inclusive=True), end=Bound(version='2.0.0', inclusive=False))
+    """
+    source, text, number = range_text(range, "range", grammar)
+    code, written = read("ranges", number, source, len(source))
+    if code != YES:
+        return fail(code, InvalidRange, text, written)
+    return [Bounds(_bound(parts["start"]), _bound(parts["end"])) for parts in json.loads(written)]
+
+
+def may_be_tag(text: str) -> bool:
+    """Whether the text can be a tag, by npm's rules.
+
+    >>> may_be_tag("latest"), may_be_tag("a b")
+    (True, False)
+    """
+    source = encoded(text, "text", TagError)
+    return CALLS["may_be_tag"](source, len(source)) == YES
+
+
+class Package(NamedTuple):
+    """A package with a range."""
+
+    scope: Optional[str]
+    name: str
+    requirement: str
+    canonical: str
+
+
+class Reference(NamedTuple):
+    """A reference to a package of npm or JSR."""
+
+    kind: str
+    package: Package
+    path: Optional[str]
+    export: Optional[str]
+
+
+def _package(parts: Dict[str, Any]) -> Package:
+    return Package(parts["scope"], parts["name"], parts["requirement"], parts["normal"])
+
+
+def parse_package(text: str, *, grammar: str = "npm") -> Package:
+    """The parts of a package with a range.
+
+    >>> parse_package("@scope/name@^1.2")
+    Package(scope='scope', name='name', requirement='^1.2', canonical='^1.2.0')
+    """
+    return _package(_parts("package", text, grammar_number(grammar)))
+
+
+def parse_reference(text: str) -> Reference:
+    """The parts of a reference, such as `jsr:@scope/name@1/mod.ts`.
+
+    >>> reference = parse_reference("jsr:@scope/name@1/mod.ts")
+    >>> reference.kind, reference.path, reference.export
+    ('jsr', 'mod.ts', './mod.ts')
+    """
+    parts = _parts("reference", text)
+    return Reference(parts["kind"], _package(parts["package"]), parts["path"], parts["export"])
+
+
+class NameWithVersion(NamedTuple):
+    """A package with one version."""
+
+    scope: Optional[str]
+    name: str
+    version: str
+
+
+class VersionReference(NamedTuple):
+    """A reference to one version of a package."""
+
+    kind: str
+    package: NameWithVersion
+    path: Optional[str]
+    export: Optional[str]
+
+
+class Dependency(NamedTuple):
+    """A dependency on a package of npm or JSR."""
+
+    kind: str
+    package: Package
+    canonical: str
+
+
+def _parts(call: str, text: str, *options: int) -> Dict[str, Any]:
+    source = encoded(text, "text", InvalidPackage)
+    code, written = read(call, *options, source, len(source))
+    parts: Dict[str, Any] = json.loads(written) if code == YES else fail(code, InvalidPackage, text, written)
+    return parts
+
+
+def _name_with_version(parts: Dict[str, Any]) -> NameWithVersion:
+    return NameWithVersion(parts["scope"], parts["name"], parts["version"])
+
+
+def parse_name_with_version(text: str) -> NameWithVersion:
+    """The parts of a package with one version.
+
+    >>> parse_name_with_version("@scope/name@1.2.3")
+    NameWithVersion(scope='scope', name='name', version='1.2.3')
+    """
+    return _name_with_version(_parts("name_with_version", text))
+
+
+def parse_version_reference(text: str) -> VersionReference:
+    """The parts of a reference to one version of a package.
+
+    >>> parse_version_reference("jsr:@scope/name@1.2.3/mod.ts").export
+    './mod.ts'
+    """
+    parts = _parts("version_reference", text)
+    return VersionReference(parts["kind"], _name_with_version(parts["package"]), parts["path"], parts["export"])
+
+
+def parse_dependency(text: str, *, grammar: str = "npm") -> Dependency:
+    """The parts of a dependency, such as `jsr:@scope/name@^1.2` or `npm:name@1`.
+
+    >>> parse_dependency("jsr:@scope/name@1.x").canonical
+    'jsr:@scope/name@1'
+    """
+    parts = _parts("dependency", text, grammar_number(grammar))
+    return Dependency(parts["kind"], _package(parts["package"]), parts["normal"])
+
+
+def export_name(path: str) -> str:
+    """The name of the export that the path of a module in a JSR package means.
+
+    >>> export_name("mod.ts")
+    './mod.ts'
+    """
+    source = encoded(path, "path", InvalidPackage)
+    code, written = read("export_name", source, len(source))
+    return written if code == YES else fail(code, InvalidPackage, path, written)

@@ -1,0 +1,261 @@
+"""Versions and ranges that are parsed once."""
+
+from __future__ import annotations
+
+import re
+from ctypes import byref
+from functools import total_ordering
+from typing import Any, Callable, Optional, Tuple, Union
+
+from ._calls import (
+    CALLS,
+    GRAMMARS,
+    NO_MEMORY,
+    YES,
+    Handle,
+    encoded,
+    fail,
+    grammar_number,
+    hold,
+    pre_number,
+    read,
+    version_message,
+    wrong_type,
+)
+from ._errors import InvalidRange, InvalidVersion, TagError
+
+_PARTS = re.compile(r"(\d+)\.(\d+)\.(\d+)(?:-([^+]*))?(?:\+(.*))?")
+
+
+class _Held:
+    """A handle that has a value, which is freed with it."""
+
+    __slots__ = ("_handle", "_free")
+
+    def __init__(self, handle: Handle, free: Callable[[Any], None]) -> None:
+        self._handle, self._free = handle, free
+
+    def __del__(self) -> None:
+        handle = getattr(self, "_handle", None)
+        if handle is not None and handle.at is not None:
+            self._free(byref(handle))
+
+    def lent(self) -> Any:
+        """The handle, for one call."""
+        if self._handle.at is None:
+            raise ValueError("the value was freed")
+        return byref(self._handle)
+
+
+@total_ordering
+class Version:
+    """A version.
+
+    >>> version = Version("v1.2.3-beta.4+build")
+    >>> version
+    Version('1.2.3-beta.4+build')
+    >>> version.major, version.pre, version.build
+    (1, ('beta', '4'), ('build',))
+    >>> Version("1.10.0") > Version("1.9.0")
+    True
+
+    Versions that differ only in the build are different, and ordered by it. `precedes` ignores builds, as SemVer does.
+    """
+
+    __slots__ = ("_held", "_text", "__weakref__")
+
+    _held: _Held
+    _text: str
+
+    def __new__(cls, text: str) -> Version:
+        source = encoded(text, "text", InvalidVersion)
+        code, written, handle = hold("version_read", source, len(source))
+        if code != YES:
+            fail(code, InvalidVersion, text, written)
+        self = super().__new__(cls)
+        self._held = _Held(handle, CALLS["version_free"])
+        self._text = written or read("version", source, len(source))[1]
+        return self
+
+    def _part(self, number: int) -> str:
+        parts = _PARTS.fullmatch(self._text)
+        assert parts is not None
+        return parts.group(number) or ""
+
+    @property
+    def major(self) -> int:
+        return int(self._part(1))
+
+    @property
+    def minor(self) -> int:
+        return int(self._part(2))
+
+    @property
+    def patch(self) -> int:
+        return int(self._part(3))
+
+    @property
+    def pre(self) -> Tuple[str, ...]:
+        """The identifiers of the pre-release."""
+        pre = self._part(4)
+        return tuple(pre.split(".")) if pre else ()
+
+    @property
+    def build(self) -> Tuple[str, ...]:
+        """The identifiers of the build."""
+        build = self._part(5)
+        return tuple(build.split(".")) if build else ()
+
+    def __str__(self) -> str:
+        return self._text
+
+    def __repr__(self) -> str:
+        return f"Version({self._text!r})"
+
+    def __eq__(self, other: object) -> bool:
+        if not isinstance(other, Version):
+            return NotImplemented
+        return self._text == other._text
+
+    def __hash__(self) -> int:
+        return hash(self._text)
+
+    def __lt__(self, other: object) -> bool:
+        if not isinstance(other, Version):
+            return NotImplemented
+        return self is not other and CALLS["version_order"](self._held.lent(), other._held.lent()) == 0
+
+    def __reduce__(self) -> Tuple[Any, ...]:
+        return Version, (self._text,)
+
+    def precedes(self, other: Version) -> bool:
+        """Whether this version comes before the other by precedence, which ignores builds.
+
+        >>> Version("1.0.0-rc.1").precedes(Version("1.0.0"))
+        True
+        >>> Version("1.0.0+a").precedes(Version("1.0.0+b"))
+        False
+        """
+        if not isinstance(other, Version):
+            wrong_type(other, "other", "Version")
+        return self is not other and CALLS["version_compare"](self._held.lent(), other._held.lent()) == 0
+
+
+class Range:
+    """A version range, or a tag.
+
+    >>> range = Range(">=1.2 <2 || 3.x")
+    >>> range
+    Range('>=1.2 <2 || 3.x')
+    >>> range.canonical
+    '^1.2.0 || 3'
+    >>> "1.5.0" in range, "2.0.0" in range
+    (True, False)
+
+    Ranges are equal if they mean the same, whatever texts they were parsed from. `grammar` is "npm", "normalized" (comparators
+    separated by whitespace, alternatives by `||`) or "strict" (that of package specifiers).
+    """
+
+    __slots__ = ("_held", "_text", "_grammar", "_canonical", "_is_tag", "__weakref__")
+
+    _held: _Held
+    _text: str
+    _grammar: str
+    _canonical: str
+    _is_tag: bool
+
+    def __new__(cls, text: str, grammar: str = "npm") -> Range:
+        source, number = encoded(text, "text", InvalidRange), grammar_number(grammar)
+        code, written, handle = hold("req_read", number, source, len(source))
+        if code != YES:
+            fail(code, InvalidRange, text, written)
+        self = super().__new__(cls)
+        self._held = _Held(handle, CALLS["req_free"])
+        self._text, self._grammar = text, grammar
+        self._canonical = written or read("normal", number, source, len(source))[1]
+        self._is_tag = CALLS["req_is_tag"](self._held.lent()) == YES
+        return self
+
+    @property
+    def text(self) -> str:
+        """The text that the range was parsed from."""
+        return self._text
+
+    @property
+    def grammar(self) -> str:
+        return self._grammar
+
+    @property
+    def canonical(self) -> str:
+        """The canonical form, for lockfiles and keys; of a tag, the tag."""
+        return self._canonical
+
+    @property
+    def is_tag(self) -> bool:
+        """Whether this is a tag, the name that a registry gives a version."""
+        return self._is_tag
+
+    def __str__(self) -> str:
+        return self.text
+
+    def __repr__(self) -> str:
+        grammar = "" if self.grammar == "npm" else f", {self.grammar!r}"
+        return f"Range({self.text!r}{grammar})"
+
+    def __eq__(self, other: object) -> bool:
+        if not isinstance(other, Range):
+            return NotImplemented
+        return self is other or CALLS["req_equal"](self._held.lent(), other._held.lent()) == YES
+
+    def __hash__(self) -> int:
+        return hash(self.canonical)
+
+    def __reduce__(self) -> Tuple[Any, ...]:
+        return Range, (self.text, self.grammar)
+
+    def matches(self, version: Union[str, Version], *, pre_releases: bool = False) -> bool:
+        """Whether the version matches. With `pre_releases` every pre-release between the bounds does.
+
+        >>> Range("^1.2").matches("1.3.0-rc.1")
+        False
+        >>> Range("^1.2").matches("1.3.0-rc.1", pre_releases=True)
+        True
+        """
+        flag = pre_number(pre_releases)
+        if isinstance(version, Version):
+            return self._answer(CALLS["req_matches"](self._held.lent(), version._held.lent(), flag), str(version))
+        source = encoded(version, "version", InvalidVersion)
+        return self._answer(CALLS["req_fits"](self._held.lent(), source, len(source), flag), version)
+
+    def _answer(self, code: int, version: str) -> bool:
+        if code >= 0:
+            return code == YES
+        if code == -1:
+            raise TagError("The range is a tag.", self.text)
+        message = "" if code == NO_MEMORY else version_message(version.encode())
+        fail(code, InvalidVersion, version, message)
+
+    def __contains__(self, version: Union[str, Version]) -> bool:
+        return self.matches(version)
+
+    def overlaps(self, other: Range) -> bool:
+        """Whether the bounds of both ranges overlap; two tags do if they are the same.
+
+        >>> Range("^1.2").overlaps(Range(">=1.5 <3"))
+        True
+        """
+        if not isinstance(other, Range):
+            wrong_type(other, "other", "Range")
+        if self is other:
+            other = Range(self.text, self.grammar)
+        return CALLS["req_overlap"](self._held.lent(), other._held.lent()) == YES
+
+
+def range_text(value: Any, name: str, grammar: Optional[str]) -> Tuple[bytes, str, int]:
+    """The bytes of a range, its text, and the number of its grammar, which is that of a `Range`, or npm's by default."""
+    if isinstance(value, Range):
+        if grammar is not None and grammar != value.grammar:
+            raise ValueError(f"grammar is {grammar!r}, and that of {name} {value.grammar!r}")
+        return value.text.encode(), value.text, GRAMMARS[value.grammar]
+    number = 0 if grammar is None else grammar_number(grammar)
+    return encoded(value, name, InvalidRange), value, number

@@ -1,0 +1,243 @@
+"""What the table of questions doesn't ask: values, types of arguments, errors, lifetimes and threads. DENO_SEMVER_LIBRARY is the shared
+library over the heap of bindings/heap.c."""
+
+import copy
+import ctypes
+import doctest
+import gc
+import inspect
+import os
+import pickle
+import sys
+import threading
+import unittest
+
+import deno_semver as semver
+from deno_semver import Range, Version, _functions, _values
+
+heap = ctypes.CDLL(os.environ["DENO_SEMVER_LIBRARY"])
+
+
+def load_tests(loader, tests, ignore):
+    for module in (semver, _functions, _values):
+        tests.addTests(doctest.DocTestSuite(module, optionflags=doctest.IGNORE_EXCEPTION_DETAIL))
+    return tests
+
+
+class Values(unittest.TestCase):
+    def test_versions(self):
+        version = Version(" v1.2.3-beta.4+b.1 ")
+        self.assertEqual((version.major, version.minor, version.patch), (1, 2, 3))
+        self.assertEqual((version.pre, version.build), (("beta", "4"), ("b", "1")))
+        self.assertEqual((str(version), repr(version)), ("1.2.3-beta.4+b.1", "Version('1.2.3-beta.4+b.1')"))
+        self.assertEqual(Version("18446744073709551615.0.0").major, 2**64 - 1)
+
+    def test_order(self):
+        texts = ["1.0.0-alpha", "1.0.0-alpha.1", "1.0.0-alpha.beta", "1.0.0-beta", "1.0.0-beta.2", "1.0.0-beta.11", "1.0.0-rc.1", "1.0.0"]
+        versions = [Version(text) for text in texts]
+        self.assertEqual(sorted(reversed(versions)), versions)
+        self.assertEqual(semver.sort(reversed(texts)), texts)
+        self.assertEqual(semver.sort(versions, reverse=True), versions[::-1])
+        self.assertLess(Version("1.0.0+a"), Version("1.0.0+b"))
+        self.assertFalse(Version("1.0.0+a").precedes(Version("1.0.0+b")))
+        self.assertEqual({Version("1.0.0"), Version("v1.0.0")}, {Version("1.0.0")})
+        self.assertNotEqual(Version("1.0.0"), "1.0.0")
+        with self.assertRaises(TypeError):
+            Version("1.0.0") < "1.0.1"
+
+    def test_ranges(self):
+        self.assertEqual(Range("^1.2"), Range(">=1.2 <2"))
+        self.assertEqual(hash(Range("^1.2")), hash(Range(">=1.2 <2")))
+        self.assertNotEqual(Range("^1.2"), Range("^1.3"))
+        self.assertIn("1.3.0", Range("^1.2"))
+        self.assertTrue(Range("latest").is_tag)
+        self.assertEqual(repr(Range("1", "strict")), "Range('1', 'strict')")
+        self.assertTrue(semver.matches(Range(" 1", "npm"), Version("1.5.0")))
+
+    def test_frozen(self):
+        for value, name in ((Version("1.0.0"), "major"), (Range("1"), "text")):
+            with self.assertRaises(AttributeError):
+                setattr(value, name, 2)
+            with self.assertRaises(AttributeError):
+                delattr(value, name)
+
+    def test_lists(self):
+        versions = [Version("1.0.0"), Version("1.2.0"), Version("2.0.0")]
+        self.assertIs(semver.best("1", versions), versions[1])
+        self.assertIs(semver.lowest("1", iter(versions)), versions[0])
+        self.assertEqual(semver.filter("1", (text for text in ("1.0.0", "2.0.0"))), ["1.0.0"])
+        self.assertEqual(semver.filter("1", []), [])
+        self.assertEqual(semver.sort([]), [])
+        self.assertIsNone(semver.best("1", []))
+        self.assertEqual(semver.filter("*", ["\n1.0.0\n", "1.1.0"]), ["\n1.0.0\n", "1.1.0"])
+        self.assertEqual(semver.common("1 ||\n2", "2\n"), "2.0.0")
+
+    def test_many(self):
+        versions = [f"{n % 7}.{n % 11}.{n}" for n in range(100_000)]
+        self.assertEqual(len(semver.filter("^1.2 || 3", versions)), sum(n % 7 == 1 and n % 11 >= 2 or n % 7 == 3 for n in range(100_000)))
+
+
+class Errors(unittest.TestCase):
+    def test_texts(self):
+        with self.assertRaises(semver.InvalidRange) as caught:
+            semver.matches("^1.2.3.4", "1.0.0")
+        for error in (caught.exception, pickle.loads(pickle.dumps(caught.exception)), copy.copy(caught.exception)):
+            self.assertEqual((error.text, error.message, error.index), ("^1.2.3.4", "Unexpected character.", None))
+            self.assertIsInstance(error, ValueError)
+            self.assertEqual(str(error), "'^1.2.3.4': Unexpected character.")
+        with self.assertRaises(semver.InvalidVersion) as caught:
+            semver.sort(["1.0.0", "1.x", "foo"])
+        self.assertEqual((caught.exception.text, caught.exception.index), ("1.x", 1))
+        with self.assertRaises(semver.InvalidVersion) as caught:
+            semver.sort(["1.0.0", "1.x", "2.0.0"], reverse=True)
+        self.assertEqual((caught.exception.text, caught.exception.index), ("1.x", 1))
+        with self.assertRaises(semver.InvalidVersion) as caught:
+            semver.filter("1", ["1.0.0", "1.x"])
+        self.assertEqual(caught.exception.index, 1)
+        with self.assertRaises(semver.InvalidRange) as caught:
+            semver.common("1", "2", "3 4 <")
+        self.assertEqual(caught.exception.index, 2)
+        with self.assertRaises(semver.InvalidPackage):
+            semver.parse_package("@a")
+
+    def test_tags(self):
+        for ask in (
+            lambda: semver.matches("latest", "1.0.0"),
+            lambda: semver.filter("latest", ["1.0.0"]),
+            lambda: semver.best("latest", []),
+            lambda: semver.common("1", "latest"),
+            lambda: semver.min_version("latest"),
+            lambda: semver.is_subset("1", "latest"),
+            lambda: semver.is_equivalent("1", "latest"),
+            lambda: Range("latest").matches("1.0.0"),
+            lambda: "1.0.0" in Range("latest"),
+        ):
+            self.assertRaises(semver.TagError, ask)
+        self.assertEqual(semver.canonical("latest"), "latest")
+
+    def test_surrogates(self):
+        self.assertRaises(semver.InvalidVersion, Version, "1.0.0-\ud800")
+        self.assertRaises(semver.InvalidRange, Range, "\udcff")
+        with self.assertRaises(semver.InvalidVersion) as caught:
+            semver.filter("1", ["1.0.0", "\ud800"])
+        self.assertEqual(caught.exception.index, 1)
+
+    def test_grammars(self):
+        self.assertRaises(ValueError, Range, "1", "loose")
+        self.assertRaises(ValueError, semver.matches, Range("1", "strict"), "1.0.0", grammar="npm")
+        self.assertRaises(ValueError, semver.common, Range("1", "strict"), Range("1"))
+        self.assertFalse(semver.matches("1 || 2", "3.0.0", grammar="normalized"))
+
+
+class Arguments(unittest.TestCase):
+    GOOD = {"grammar": "npm", "pre_releases": False, "skip_invalid": False, "reverse": False, "versions": ["1.0.0"], "text": "npm:a@1.0.0"}
+
+    def test_each_parameter(self):
+        functions = [getattr(semver, name) for name in semver.__all__ if inspect.isfunction(getattr(semver, name))]
+        for function in functions:
+            for name, parameter in inspect.signature(function).parameters.items():
+                if parameter.kind == parameter.VAR_POSITIONAL or name in ("skip_invalid", "reverse"):
+                    continue
+                good = {key: self.GOOD.get(key, "1.0.0") for key in inspect.signature(function).parameters}
+                good.pop("ranges", None)
+                wrong = (1, "yes", 1.0) if name == "pre_releases" else (3, b"1", 1.0, ["1"], object())
+                for value in wrong if name != "versions" else (3, "1.0.0", None):
+                    with self.subTest(function=function.__name__, parameter=name, value=value):
+                        with self.assertRaises(TypeError):
+                            function(**{**good, name: value})
+
+    def test_values(self):
+        for wrong in (3, b"1", None, 2**100, ["1"]):
+            self.assertRaises(TypeError, Version, wrong)
+            self.assertRaises(TypeError, Range, wrong)
+            self.assertRaises(TypeError, Range("1").matches, wrong)
+            self.assertRaises(TypeError, Range("1").overlaps, wrong)
+            self.assertRaises(TypeError, Version("1.0.0").precedes, wrong)
+            self.assertRaises(TypeError, Range, "1", wrong)
+        self.assertRaises(TypeError, semver.common)
+
+
+class Lifetimes(unittest.TestCase):
+    def setUp(self):
+        self.reports = []
+        hook, sys.unraisablehook = sys.unraisablehook, self.reports.append
+        self.addCleanup(setattr, sys, "unraisablehook", hook)
+
+    def tearDown(self):
+        heap.heap_limit(ctypes.c_long(-1))
+        gc.collect()
+        self.assertEqual((self.reports, heap.heap_alive()), ([], 0))
+
+    def test_copies(self):
+        for make in (copy.copy, copy.deepcopy, lambda it: pickle.loads(pickle.dumps(it))):
+            version, range_ = Version("v1.3.0-a"), Range(" 1.x", "normalized")
+            copied, again = make(version), make(range_)
+            del version, range_
+            self.assertEqual((str(copied), again.text, again.grammar), ("1.3.0-a", " 1.x", "normalized"))
+
+    def test_values_that_were_never_made(self):
+        for kind in (Version, Range):
+            self.assertRaises(TypeError, kind.__new__, kind)
+            empty = object.__new__(kind)
+            self.assertRaises(AttributeError, str, empty)
+            self.assertRaises(AttributeError, hash, empty)
+        for wrong in ("x", "\ud800", 3, None):
+            self.assertRaises((TypeError, ValueError), Version, wrong)
+        self.assertRaises((TypeError, ValueError), Range, "1", "x")
+
+    def test_deletion_by_hand(self):
+        version, other = Version("1.0.0"), Version("2.0.0")
+        version._held.__del__()
+        self.assertRaises(ValueError, version.precedes, other)
+        self.assertRaises(ValueError, other.precedes, version)
+        version._held.__del__()
+
+    def test_made_twice(self):
+        version = Version("1.0.0")
+        version.__init__("2.0.0")
+        self.assertEqual((str(version), version < Version("2.0.0")), ("1.0.0", True))
+
+    def test_long_texts(self):
+        text = "1.2.3-" + "a" * 100_000
+        self.assertEqual(str(Version(text)), text)
+        self.assertEqual(Range(text).canonical, text)
+
+    def test_out_of_memory(self):
+        version, range_ = Version("1.3.0"), Range("^1")
+        long = "1.0.0-" + "a." * 50 + "b"
+        for ask in (
+            lambda: semver.matches("1", long),
+            lambda: semver.sort([long]),
+            lambda: semver.filter("1 || 2", [long]),
+            lambda: semver.best("1", [long]),
+            lambda: Version(long),
+            lambda: Range("1 || 2 || 3"),
+            lambda: range_.matches(long),
+            lambda: semver.common("1 || 2", "2 || 3"),
+            lambda: semver.parse_package("a@1 || 2", grammar="npm"),
+        ):
+            heap.heap_limit(ctypes.c_long(0))
+            self.assertRaises(MemoryError, ask)
+            heap.heap_limit(ctypes.c_long(-1))
+        self.assertTrue(range_.matches(version))
+
+    def test_threads(self):
+        range_, versions = Range("^1.2 || 3"), [Version(f"1.{n}.0") for n in range(50)]
+        wrong = []
+
+        def ask():
+            for _ in range(20):
+                found = [version for version in versions if range_.matches(version)]
+                if len(found) != 48 or semver.sort(versions) != versions:
+                    wrong.append(found)
+
+        threads = [threading.Thread(target=ask) for _ in range(8)]
+        for thread in threads:
+            thread.start()
+        for thread in threads:
+            thread.join()
+        self.assertEqual(wrong, [])
+
+
+if __name__ == "__main__":
+    unittest.main()
