@@ -1,38 +1,128 @@
-//! The time of a match by handles, over 10,000 versions: the lowest of 25 passes. A number asks for so many passes, and no time.
+//! The time of each call in nanoseconds: the lowest of 15 passes over lists of 1,000. It uses only what the crate `deno_semver` has too, so
+//! that `speed.py` can build it over both.
 
+use deno_semver_proved::jsr::{normalized_export_name, JsrDepPackageReq};
+use deno_semver_proved::npm::{NpmPackageNvReference, NpmPackageReqReference};
+use deno_semver_proved::package::{PackageNv, PackageReq};
 use deno_semver_proved::{Version, VersionReq};
+use std::hint::black_box;
 use std::time::Instant;
 
-const VERSIONS: usize = 10_000;
+const COUNT: usize = 1_000;
 
-fn versions() -> Vec<Version> {
-    (0..VERSIONS)
-        .map(|n| {
-            let pre = if n % 3 == 0 { format!("-rc.{}", n % 5) } else { String::new() };
-            Version::parse_standard(&format!("{}.{}.{}{pre}", n % 7, n % 31, n % 101)).unwrap()
-        })
-        .collect()
+/// The lowest time of a pass, for each of so many calls.
+fn time(name: &str, count: usize, mut pass: impl FnMut()) {
+    let mut once = || {
+        let start = Instant::now();
+        pass();
+        start.elapsed().as_nanos()
+    };
+    let lowest = (0..15).map(|_| once()).min().unwrap_or_default();
+    println!("{name}\t{:.1}", lowest as f64 / count as f64);
 }
 
-fn matching(req: &VersionReq, versions: &[Version]) -> usize {
-    versions.iter().filter(|version| req.matches(version)).count()
+/// The time of a call with each value.
+fn each<T, R>(name: &str, values: &[T], call: impl Fn(&T) -> R) {
+    time(name, values.len(), || {
+        for value in values {
+            black_box(call(black_box(value)));
+        }
+    });
+}
+
+/// A thousand texts, the same ones on every run; 1 of 7 versions is a pre-release.
+fn texts(text: impl Fn(usize, String) -> String) -> Vec<String> {
+    let version = |n: usize| {
+        let pre = if n % 7 == 0 { format!("-beta.{}", n % 5) } else { String::new() };
+        format!("{}.{}.{}{pre}", n % 11, n % 31, n % 101)
+    };
+    (0..COUNT).map(|n| text(n, version(n.wrapping_mul(7919)))).collect()
+}
+
+fn range(n: usize, version: String) -> String {
+    match n % 10 {
+        0 => format!("~{version}"),
+        1 => version,
+        2 => format!(">={version} <{}.0.0", n % 11 + 12),
+        3 => format!("^{version} || ^{}.0.0", n % 11 + 12),
+        4 => format!("{}.x", n % 11),
+        _ => format!("^{version}"),
+    }
+}
+
+fn strict(n: usize, version: String) -> String {
+    match n % 5 {
+        0 => version,
+        1 => format!("~{version}"),
+        2 => format!("{}", n % 11),
+        _ => format!("^{version}"),
+    }
+}
+
+fn name(n: usize) -> String {
+    let name = ["lodash", "chalk", "typescript-eslint", "react-dom", "left-pad"][n % 5];
+    if n % 3 == 0 {
+        format!("@scope{}/{name}", n % 4)
+    } else {
+        name.to_string()
+    }
+}
+
+fn versions() {
+    let texts = texts(|_, version| version);
+    let versions: Vec<Version> = texts.iter().map(|text| Version::parse_standard(text).unwrap()).collect();
+    let req = VersionReq::parse_from_npm("^1.2").unwrap();
+    each("parse a version", &texts, |text| Version::parse_standard(text));
+    each("parse a version and match it once", &texts, |text| req.matches(&Version::parse_standard(text).unwrap()));
+    each("match, both parsed, one range", &versions, |version| req.matches(version));
+    let alternatives = VersionReq::parse_from_npm(">=1.2 <2 || 3.x || ~5.6.7").unwrap();
+    each("match, both parsed, three alternatives", &versions, |version| alternatives.matches(version));
+    each("display a version", &versions, Version::to_string);
+    each("copy a version", &versions, Version::clone);
+    let pairs: Vec<&[Version]> = versions.windows(2).collect();
+    each("compare two versions", &pairs, |pair| pair[0].cmp(&pair[1]));
+    time("sort 1,000 versions, per version", COUNT, || {
+        let mut list = versions.clone();
+        list.sort();
+        black_box(list);
+    });
+}
+
+fn requirements() {
+    let texts = texts(range);
+    let reqs: Vec<VersionReq> = texts.iter().map(|text| VersionReq::parse_from_npm(text).unwrap()).collect();
+    each("parse an npm range", &texts, |text| VersionReq::parse_from_npm(text));
+    let normalized: Vec<String> = reqs.iter().map(VersionReq::to_string_normalized).collect();
+    each("parse a normalized range", &normalized, |text| VersionReq::parse_from_normalized(text));
+    let specifiers = self::texts(strict);
+    each("parse a strict range", &specifiers, |text| VersionReq::parse_from_specifier(text));
+    each("canonical form of a range", &reqs, VersionReq::to_string_normalized);
+    let pairs: Vec<&[VersionReq]> = reqs.windows(2).collect();
+    each("whether two ranges overlap", &pairs, |pair| pair[0].intersects(&pair[1]));
+    each("whether two ranges are equal", &pairs, |pair| pair[0] == pair[1]);
+    each("copy a range", &reqs, VersionReq::clone);
+}
+
+fn packages() {
+    let loose = texts(|n, version| format!("{}@{}", name(n), range(n, version)));
+    each("parse a package, npm's grammar", &loose, |text| PackageReq::from_str_loose(text));
+    let stored: Vec<PackageReq> = loose.iter().map(|text| PackageReq::from_str_loose(text).unwrap()).collect();
+    each("canonical form of a package", &stored, PackageReq::to_string_normalized);
+    let pairs: Vec<&[PackageReq]> = stored.windows(2).collect();
+    each("order of two packages", &pairs, |pair| pair[0].cmp(&pair[1]));
+    let dependencies = texts(|n, version| format!("npm:{}@{}", name(n), strict(n, version)));
+    each("parse a dependency", &dependencies, |text| JsrDepPackageReq::from_str(text));
+    let references = texts(|n, version| format!("npm:{}@{}/mod.ts", name(n), strict(n, version)));
+    each("parse a reference", &references, |text| NpmPackageReqReference::from_str(text));
+    let names = texts(|n, version| format!("{}@{version}", name(n)));
+    each("parse a name with a version", &names, |text| PackageNv::from_str(text));
+    let pinned = texts(|n, version| format!("npm:{}@{version}/mod.ts", name(n)));
+    each("parse a reference to a version", &pinned, |text| NpmPackageNvReference::from_str(text));
+    each("name of an export", &["mod.ts", "./mod.ts", "/a/b/", "."], |path| normalized_export_name(Some(path)).len());
 }
 
 fn main() {
-    let passes = std::env::args().nth(1).map(|text| text.parse::<usize>().unwrap());
-    let versions = versions();
-    for text in ["^1.2", ">=1.2 <2 || 3.x || ~5.6.7"] {
-        let req = VersionReq::parse_from_npm(text).unwrap();
-        if let Some(passes) = passes {
-            (0..passes).for_each(|_| assert!(matching(&req, &versions) > 0));
-            continue;
-        }
-        let pass = |_| {
-            let start = Instant::now();
-            let count = matching(&req, &versions);
-            (start.elapsed().as_nanos(), count)
-        };
-        let (lowest, count) = (0..25).map(pass).min().unwrap();
-        println!("{text}: {} match, {:.0} ns a match", count, lowest as f64 / VERSIONS as f64);
-    }
+    versions();
+    requirements();
+    packages();
 }

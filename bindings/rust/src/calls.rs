@@ -1,8 +1,8 @@
-//! The C calls, each wrapped in a safe function: pointers and lengths are those of slices borrowed for the call, which are never
-//! null, and a handle is passed to one call at a time.
+//! The C calls, each wrapped in a safe function. Pointers and lengths are those of slices borrowed for the call, which are never null, and
+//! a handle is borrowed by `&mut`, so that a call has it alone.
 
+use crate::string::StackString;
 use std::alloc::{handle_alloc_error, Layout};
-use std::cell::UnsafeCell;
 use std::cmp::Ordering;
 use std::ffi::c_void;
 use std::ptr;
@@ -12,95 +12,109 @@ struct Raw {
     at: *mut c_void,
 }
 
-extern "C" {
-    fn semver_filter(
-        grammar: u32,
-        requirement: *const u8,
-        requirement_len: usize,
-        versions: *const u8,
-        versions_len: usize,
-        pre_releases: u32,
-        answers: *mut u8,
-        answers_len: usize,
-        needed: *mut usize,
-    ) -> u32;
-    fn semver_best(
-        grammar: u32,
-        requirement: *const u8,
-        requirement_len: usize,
-        versions: *const u8,
-        versions_len: usize,
-        pre_releases: u32,
-        place: *mut usize,
-    ) -> u32;
-    fn semver_sort(versions: *const u8, versions_len: usize, places: *mut usize, places_len: usize, needed: *mut usize) -> u32;
-    fn semver_package(grammar: u32, text: *const u8, text_len: usize, out: *mut u8, out_len: usize, needed: *mut usize) -> u32;
-    fn semver_reference(text: *const u8, text_len: usize, out: *mut u8, out_len: usize, needed: *mut usize) -> u32;
-    fn semver_may_be_tag(text: *const u8, text_len: usize) -> u32;
-    fn semver_overlap(grammar: u32, one: *const u8, one_len: usize, other: *const u8, other_len: usize) -> u32;
-    fn semver_least(grammar: u32, text: *const u8, text_len: usize, out: *mut u8, out_len: usize, needed: *mut usize) -> u32;
-    fn semver_common(
-        grammar: u32,
-        one: *const u8,
-        one_len: usize,
-        other: *const u8,
-        other_len: usize,
-        out: *mut u8,
-        out_len: usize,
-        needed: *mut usize,
-    ) -> u32;
-    fn semver_within(
-        grammar: u32,
-        one: *const u8,
-        one_len: usize,
-        other: *const u8,
-        other_len: usize,
-        out: *mut u8,
-        out_len: usize,
-        needed: *mut usize,
-    ) -> u32;
-    fn semver_req_read(
-        grammar: u32,
-        text: *const u8,
-        text_len: usize,
-        handle: *mut Raw,
-        out: *mut u8,
-        out_len: usize,
-        needed: *mut usize,
-    ) -> u32;
-    fn semver_version_read(
-        text: *const u8,
-        text_len: usize,
-        handle: *mut Raw,
-        out: *mut u8,
-        out_len: usize,
-        needed: *mut usize,
-    ) -> u32;
-    fn semver_req_free(handle: *mut Raw);
-    fn semver_version_free(handle: *mut Raw);
-    fn semver_req_matches(requirement: *mut Raw, version: *mut Raw, pre_releases: u32) -> u32;
-    fn semver_req_fits(requirement: *mut Raw, version: *const u8, version_len: usize, pre_releases: u32) -> u32;
-    fn semver_req_overlap(one: *mut Raw, other: *mut Raw) -> u32;
-    fn semver_req_equal(one: *mut Raw, other: *mut Raw) -> u32;
-    fn semver_req_normal(handle: *mut Raw, out: *mut u8, out_len: usize, needed: *mut usize) -> u32;
-    fn semver_req_text(handle: *mut Raw, out: *mut u8, out_len: usize, needed: *mut usize) -> u32;
-    fn semver_version_order(one: *mut Raw, other: *mut Raw) -> u32;
-    fn semver_version_compare(one: *mut Raw, other: *mut Raw) -> u32;
-    fn semver_version_text(handle: *mut Raw, out: *mut u8, out_len: usize, needed: *mut usize) -> u32;
+impl Raw {
+    fn none() -> Raw {
+        Raw { at: ptr::null_mut() }
+    }
 }
 
-const YES: u32 = 1;
-const TAG: u32 = 2;
-const NO_REQUIREMENT: u32 = 3;
-const NO_MEMORY: u32 = 5;
-const NO_VERSION: u32 = 7;
+type In = *const u8;
+type Out = *mut u8;
+type Size = *mut usize;
+
+extern "C" {
+    fn semver_fits(
+        grammar: u32,
+        range: In,
+        range_len: usize,
+        version: In,
+        version_len: usize,
+        pre: u32,
+        out: Out,
+        out_len: usize,
+        needed: Size,
+    ) -> i32;
+    fn semver_filter(
+        grammar: u32,
+        range: In,
+        range_len: usize,
+        versions: In,
+        versions_len: usize,
+        pre: u32,
+        answers: *mut i8,
+        answers_len: usize,
+        needed: Size,
+    ) -> i32;
+    fn semver_best(grammar: u32, range: In, range_len: usize, versions: In, versions_len: usize, pre: u32, place: Size) -> i32;
+    fn semver_lowest(grammar: u32, range: In, range_len: usize, versions: In, versions_len: usize, pre: u32, place: Size) -> i32;
+    fn semver_sort(versions: In, versions_len: usize, places: Size, places_len: usize, needed: Size, place: Size) -> i32;
+    fn semver_within(
+        grammar: u32,
+        one: In,
+        one_len: usize,
+        other: In,
+        other_len: usize,
+        pre: u32,
+        out: Out,
+        out_len: usize,
+        needed: Size,
+        place: Size,
+    ) -> i32;
+    fn semver_equivalent(grammar: u32, one: In, one_len: usize, other: In, other_len: usize, pre: u32, place: Size) -> i32;
+    fn semver_common_all(
+        grammar: u32,
+        ranges: In,
+        ranges_len: usize,
+        pre: u32,
+        out: Out,
+        out_len: usize,
+        needed: Size,
+        place: Size,
+    ) -> i32;
+    fn semver_min_version(grammar: u32, range: In, range_len: usize, pre: u32, out: Out, out_len: usize, needed: Size) -> i32;
+    fn semver_normal(grammar: u32, range: In, range_len: usize, out: Out, out_len: usize, needed: Size) -> i32;
+    fn semver_version(version: In, version_len: usize, out: Out, out_len: usize, needed: Size) -> i32;
+    fn semver_may_be_tag(text: In, len: usize) -> i32;
+    fn semver_ranges(grammar: u32, range: In, range_len: usize, out: Out, out_len: usize, needed: Size) -> i32;
+    fn semver_package(grammar: u32, text: In, len: usize, out: Out, out_len: usize, needed: Size) -> i32;
+    fn semver_reference(text: In, len: usize, out: Out, out_len: usize, needed: Size) -> i32;
+    fn semver_name_with_version(text: In, len: usize, out: Out, out_len: usize, needed: Size) -> i32;
+    fn semver_version_reference(text: In, len: usize, out: Out, out_len: usize, needed: Size) -> i32;
+    fn semver_dependency(grammar: u32, text: In, len: usize, out: Out, out_len: usize, needed: Size) -> i32;
+    fn semver_export_name(path: In, len: usize, out: Out, out_len: usize, needed: Size) -> i32;
+    fn semver_req_read(grammar: u32, text: In, len: usize, handle: *mut Raw, out: Out, out_len: usize, needed: Size) -> i32;
+    fn semver_req_free(handle: *mut Raw);
+    fn semver_req_fits(range: *mut Raw, version: In, version_len: usize, pre: u32) -> i32;
+    fn semver_req_matches(range: *mut Raw, version: *mut Raw, pre: u32) -> i32;
+    fn semver_req_overlap(one: *mut Raw, other: *mut Raw) -> i32;
+    fn semver_req_equal(one: *mut Raw, other: *mut Raw) -> i32;
+    fn semver_req_normal(handle: *mut Raw, out: Out, out_len: usize, needed: Size) -> i32;
+    fn semver_version_read(text: In, len: usize, handle: *mut Raw, out: Out, out_len: usize, needed: Size) -> i32;
+    fn semver_version_free(handle: *mut Raw);
+    fn semver_version_order(one: *mut Raw, other: *mut Raw) -> i32;
+    fn semver_version_compare(one: *mut Raw, other: *mut Raw) -> i32;
+    fn semver_version_text(handle: *mut Raw, out: Out, out_len: usize, needed: Size) -> i32;
+    fn semver_list_read(versions: In, versions_len: usize, handle: *mut Raw, lines: Size) -> i32;
+    fn semver_list_free(handle: *mut Raw);
+    fn semver_list_filter(list: *mut Raw, range: *mut Raw, pre: u32, answers: *mut i8, answers_len: usize, needed: Size) -> i32;
+}
+
+const NO: i32 = 0;
+const YES: i32 = 1;
+const TAG: i32 = -1;
+const INVALID_RANGE: i32 = -2;
+const INVALID_VERSION: i32 = -3;
+const NO_MEMORY: i32 = -6;
 
 /// A grammar of ranges.
 #[derive(Clone, Copy, Debug, PartialEq, Eq)]
 #[repr(u32)]
-pub(crate) enum Grammar {
+pub enum Grammar {
+    /// npm's ranges.
     Npm = 0,
+    /// Comparators separated by whitespace, alternatives by `||`.
     Normalized = 1,
+    /// The grammar of package specifiers: `~`, `^` or nothing before one partial version.
     Strict = 2,
 }
 
@@ -108,163 +122,224 @@ pub(crate) enum Grammar {
 #[derive(Clone, Copy, Debug, PartialEq, Eq)]
 #[repr(u32)]
 pub enum PreRelease {
+    /// npm's rule: only next to a bound that is a pre-release of the same version.
     Restricted = 0,
+    /// Every one between the bounds.
     Admitted = 1,
 }
 
 /// Whether a version matches a range.
 #[derive(Clone, Copy, Debug, PartialEq, Eq)]
 pub enum Fit {
+    /// It doesn't.
     No,
+    /// It does.
     Yes,
+    /// The range is a tag.
     Tag,
     /// The version is invalid.
     Invalid,
 }
 
-fn fit(code: u32) -> Fit {
+fn fit(code: i32) -> Fit {
     match code {
-        0 => Fit::No,
+        NO => Fit::No,
         YES => Fit::Yes,
         TAG => Fit::Tag,
-        NO_VERSION => Fit::Invalid,
+        INVALID_VERSION => Fit::Invalid,
         _ => failed(code),
     }
 }
 
 // Text is UTF-8 and every `Grammar` exists, so no other code is possible.
-fn failed(code: u32) -> ! {
+#[cold]
+fn failed(code: i32) -> ! {
     match code {
         NO_MEMORY => handle_alloc_error(Layout::new::<usize>()),
         _ => unreachable!("code {code}"),
     }
 }
 
-// The code of a call that writes a text, and the text.
-fn text_of(mut call: impl FnMut(*mut u8, usize, *mut usize) -> u32) -> (u32, String) {
-    let mut out = vec![0u8; 64];
-    loop {
-        let mut needed = 0;
-        let code = call(out.as_mut_ptr(), out.len(), &mut needed);
-        if code == NO_MEMORY {
-            failed(code);
-        }
-        if needed <= out.len() {
-            out.truncate(needed);
-            return (code, String::from_utf8(out).expect("the library's texts are UTF-8"));
-        }
-        out.resize(needed, 0);
+/// What `take` makes of the code and the text of a call that writes a text. The call is repeated if the text is long.
+fn with_text<T>(mut call: impl FnMut(Out, usize, Size) -> i32, take: impl FnOnce(i32, &str) -> T) -> T {
+    let (mut near, mut needed) = ([0u8; 128], 0);
+    let code = call(near.as_mut_ptr(), near.len(), &mut needed);
+    if code == NO_MEMORY {
+        failed(code);
     }
+    if needed <= near.len() {
+        return take(code, utf8(&near[..needed]));
+    }
+    let mut far = vec![0u8; needed];
+    let code = call(far.as_mut_ptr(), far.len(), &mut needed);
+    if code == NO_MEMORY {
+        failed(code);
+    }
+    take(code, utf8(&far[..needed]))
 }
 
-/// The answer for each line, or the error message of the range.
-pub(crate) fn filter(grammar: Grammar, requirement: &str, versions: &str, pre_release: PreRelease) -> Result<Vec<Fit>, String> {
-    let mut answers = vec![0u8; versions.lines().count()];
-    let mut needed = 0;
-    let code = unsafe {
-        semver_filter(
-            grammar as u32,
-            requirement.as_ptr(),
-            requirement.len(),
-            versions.as_ptr(),
-            versions.len(),
-            pre_release as u32,
-            answers.as_mut_ptr(),
-            answers.len(),
-            &mut needed,
-        )
+fn utf8(bytes: &[u8]) -> &str {
+    std::str::from_utf8(bytes).expect("the library's texts are UTF-8")
+}
+
+/// The text of a call that writes one or an error message.
+fn text_or_message(call: impl FnMut(Out, usize, Size) -> i32) -> Result<String, String> {
+    with_text(call, |code, text| match code {
+        YES => Ok(text.to_owned()),
+        INVALID_RANGE | INVALID_VERSION => Err(text.to_owned()),
+        _ => failed(code),
+    })
+}
+
+/// Whether the text is a range that is a tag, or the error message.
+pub(crate) fn check_range(grammar: Grammar, text: &str) -> Result<bool, String> {
+    let any = "0.0.0";
+    let call = |out, len, needed| unsafe {
+        semver_fits(grammar as u32, text.as_ptr(), text.len(), any.as_ptr(), any.len(), 0, out, len, needed)
     };
-    match code {
-        YES => Ok(answers[..needed].iter().map(|code| fit(u32::from(*code))).collect()),
-        NO_REQUIREMENT => Err(Requirement::read(grammar, requirement).err().unwrap_or_default()),
+    with_text(call, |code, message| match code {
+        NO | YES => Ok(false),
+        TAG => Ok(true),
+        INVALID_RANGE => Err(message.to_owned()),
         _ => failed(code),
-    }
+    })
 }
 
-/// The best match of a list of versions.
-#[derive(Clone, Copy, Debug, PartialEq, Eq)]
-pub enum Best {
-    /// None matches.
-    Nothing,
-    /// The version on this line, counted from 0.
-    At(usize),
-    Tag,
-    /// A version is invalid.
-    Invalid,
+/// The canonical form of a range, or the error message.
+pub(crate) fn normal(grammar: Grammar, text: &str) -> Result<String, String> {
+    text_or_message(|out, len, needed| unsafe { semver_normal(grammar as u32, text.as_ptr(), text.len(), out, len, needed) })
 }
 
-pub(crate) fn best(grammar: Grammar, requirement: &str, versions: &str, pre_release: PreRelease) -> Result<Best, String> {
-    let mut place = 0;
-    let code = unsafe {
-        semver_best(
-            grammar as u32,
-            requirement.as_ptr(),
-            requirement.len(),
-            versions.as_ptr(),
-            versions.len(),
-            pre_release as u32,
-            &mut place,
-        )
-    };
-    match fit_or_invalid(code) {
-        Some(Fit::No) => Ok(Best::Nothing),
-        Some(Fit::Yes) => Ok(Best::At(place)),
-        Some(Fit::Tag) => Ok(Best::Tag),
-        Some(Fit::Invalid) => Ok(Best::Invalid),
-        None => Err(Requirement::read(grammar, requirement).err().unwrap_or_default()),
-    }
+/// How a version is displayed, or the error message.
+pub(crate) fn displayed(text: &str) -> Result<String, String> {
+    text_or_message(|out, len, needed| unsafe { semver_version(text.as_ptr(), text.len(), out, len, needed) })
 }
 
-// None if the range is invalid.
-fn fit_or_invalid(code: u32) -> Option<Fit> {
-    (code != NO_REQUIREMENT).then(|| fit(code))
+/// The bounds of a range that isn't a tag, as JSON.
+pub(crate) fn ranges(grammar: Grammar, text: &str) -> String {
+    with_text(
+        |out, len, needed| unsafe { semver_ranges(grammar as u32, text.as_ptr(), text.len(), out, len, needed) },
+        |_, json| json.to_owned(),
+    )
 }
 
-/// The lines of the versions by precedence; none if a version is invalid.
-pub(crate) fn sort(versions: &str) -> Option<Vec<usize>> {
-    let mut places = vec![0; versions.lines().count()];
-    let mut needed = 0;
-    let code = unsafe { semver_sort(versions.as_ptr(), versions.len(), places.as_mut_ptr(), places.len(), &mut needed) };
-    match code {
-        YES => {
-            assert_eq!(needed, places.len());
-            Some(places)
-        }
-        NO_VERSION => None,
-        _ => failed(code),
-    }
-}
-
-// The parts, or the error message.
-fn parts_of((code, text): (u32, String)) -> Result<String, String> {
-    match code {
-        YES => Ok(text),
-        NO_REQUIREMENT => Err(text),
-        _ => failed(code),
-    }
-}
-
-/// The parts of a package with a range, as JSON.
+/// The parts of a package with a range, as JSON, or the error message.
 pub(crate) fn package(grammar: Grammar, text: &str) -> Result<String, String> {
-    parts_of(text_of(|out, len, needed| unsafe { semver_package(grammar as u32, text.as_ptr(), text.len(), out, len, needed) }))
+    text_or_message(|out, len, needed| unsafe { semver_package(grammar as u32, text.as_ptr(), text.len(), out, len, needed) })
 }
 
-/// The parts of a reference to a package, as JSON.
+/// The parts of a reference to a package, as JSON, or the error message.
 pub(crate) fn reference(text: &str) -> Result<String, String> {
-    parts_of(text_of(|out, len, needed| unsafe { semver_reference(text.as_ptr(), text.len(), out, len, needed) }))
+    text_or_message(|out, len, needed| unsafe { semver_reference(text.as_ptr(), text.len(), out, len, needed) })
+}
+
+/// The parts of a name with a version, as JSON, or the error message.
+pub(crate) fn name_with_version(text: &str) -> Result<String, String> {
+    text_or_message(|out, len, needed| unsafe { semver_name_with_version(text.as_ptr(), text.len(), out, len, needed) })
+}
+
+/// The parts of a reference to one version of a package, as JSON, or the error message.
+pub(crate) fn version_reference(text: &str) -> Result<String, String> {
+    text_or_message(|out, len, needed| unsafe { semver_version_reference(text.as_ptr(), text.len(), out, len, needed) })
+}
+
+/// The parts of a dependency, as JSON, or the error message.
+pub(crate) fn dependency(grammar: Grammar, text: &str) -> Result<String, String> {
+    text_or_message(|out, len, needed| unsafe { semver_dependency(grammar as u32, text.as_ptr(), text.len(), out, len, needed) })
+}
+
+/// The name of the export that a path means, as `take` makes it.
+pub(crate) fn export_name<T>(path: &str, take: impl FnOnce(&str) -> T) -> T {
+    with_text(|out, len, needed| unsafe { semver_export_name(path.as_ptr(), path.len(), out, len, needed) }, |_, name| take(name))
 }
 
 pub(crate) fn may_be_tag(text: &str) -> bool {
     unsafe { semver_may_be_tag(text.as_ptr(), text.len()) == YES }
 }
 
-/// Whether two ranges overlap; none if one is invalid.
-pub(crate) fn overlap(grammar: Grammar, one: &str, other: &str) -> Option<bool> {
-    match unsafe { semver_overlap(grammar as u32, one.as_ptr(), one.len(), other.as_ptr(), other.len()) } {
-        0 => Some(false),
-        YES => Some(true),
-        NO_REQUIREMENT => None,
+/// An argument that is invalid: which of several it is, counted from 0.
+pub(crate) struct Invalid {
+    pub(crate) place: usize,
+    pub(crate) message: String,
+}
+
+impl Invalid {
+    /// The error of a call that writes no message: that of the range by itself.
+    fn range(grammar: Grammar, text: &str, place: usize) -> Invalid {
+        Invalid { place, message: check_range(grammar, text).err().unwrap_or_default() }
+    }
+}
+
+/// The answer for each line.
+pub(crate) fn filter(grammar: Grammar, range: &str, versions: &str, pre: PreRelease) -> Result<Vec<Fit>, Invalid> {
+    let mut answers = vec![0i8; versions.lines().count()];
+    let mut needed = 0;
+    let (list, list_len) = (versions.as_ptr(), versions.len());
+    let (out, len) = (answers.as_mut_ptr(), answers.len());
+    let code =
+        unsafe { semver_filter(grammar as u32, range.as_ptr(), range.len(), list, list_len, pre as u32, out, len, &mut needed) };
+    match code {
+        INVALID_RANGE => Err(Invalid::range(grammar, range, 0)),
+        _ => Ok(fits(code, answers)),
+    }
+}
+
+// The answers of a filter, whose array has one for each line.
+fn fits(code: i32, answers: Vec<i8>) -> Vec<Fit> {
+    match code {
+        YES => answers.into_iter().map(|code| fit(i32::from(code))).collect(),
+        TAG => vec![Fit::Tag; answers.len()],
+        _ => failed(code),
+    }
+}
+
+/// Which version of a list was chosen.
+#[derive(Clone, Copy, Debug, PartialEq, Eq)]
+pub enum Best {
+    /// None matches.
+    Nothing,
+    /// The version on this line, counted from 0.
+    At(usize),
+    /// The range is a tag.
+    Tag,
+    /// The version on this line is invalid.
+    Invalid(usize),
+}
+
+/// Which end of a list is asked for.
+#[derive(Clone, Copy)]
+pub(crate) enum End {
+    Highest,
+    Lowest,
+}
+
+pub(crate) fn best(end: End, grammar: Grammar, range: &str, versions: &str, pre: PreRelease) -> Result<Best, Invalid> {
+    let mut place = 0;
+    let call = match end {
+        End::Highest => semver_best,
+        End::Lowest => semver_lowest,
+    };
+    let (list, list_len) = (versions.as_ptr(), versions.len());
+    match unsafe { call(grammar as u32, range.as_ptr(), range.len(), list, list_len, pre as u32, &mut place) } {
+        NO => Ok(Best::Nothing),
+        YES => Ok(Best::At(place)),
+        TAG => Ok(Best::Tag),
+        INVALID_VERSION => Ok(Best::Invalid(place)),
+        INVALID_RANGE => Err(Invalid::range(grammar, range, 0)),
         code => failed(code),
+    }
+}
+
+/// The lines of the versions by precedence, or that of the first invalid one.
+pub(crate) fn sort(versions: &str) -> Result<Vec<usize>, usize> {
+    let mut places = vec![0; versions.lines().count()];
+    let (mut needed, mut place) = (0, 0);
+    let code =
+        unsafe { semver_sort(versions.as_ptr(), versions.len(), places.as_mut_ptr(), places.len(), &mut needed, &mut place) };
+    match code {
+        YES => Ok(places),
+        INVALID_VERSION => Err(place),
+        _ => failed(code),
     }
 }
 
@@ -273,95 +348,114 @@ pub(crate) fn overlap(grammar: Grammar, one: &str, other: &str) -> Option<bool> 
 pub enum Lowest {
     /// No version has it.
     Nothing,
+    /// The version, as displayed.
     Version(String),
     /// A range is a tag.
     Tag,
 }
 
-// `found` is the code that comes with a version.
-fn lowest_of((code, text): (u32, String), found: u32) -> Result<Lowest, String> {
+// What a call found: `found` is the code that comes with a version.
+fn lowest(found: i32, call: impl Fn(Out, usize, Size, Size) -> i32) -> Result<Lowest, Invalid> {
+    let mut place = 0;
+    let at = ptr::from_mut(&mut place);
+    let (code, text) = with_text(|out, len, needed| call(out, len, needed, at), |code, text| (code, text.to_owned()));
     match code {
         TAG => Ok(Lowest::Tag),
-        NO_REQUIREMENT => Err(text),
-        0 | YES if code == found => Ok(Lowest::Version(text)),
-        0 | YES => Ok(Lowest::Nothing),
+        INVALID_RANGE => Err(Invalid { place, message: text }),
+        NO | YES if code == found => Ok(Lowest::Version(text)),
+        NO | YES => Ok(Lowest::Nothing),
         _ => failed(code),
     }
 }
 
-pub(crate) fn lowest(grammar: Grammar, text: &str) -> Result<Lowest, String> {
-    let reply = text_of(|out, len, needed| unsafe { semver_least(grammar as u32, text.as_ptr(), text.len(), out, len, needed) });
-    lowest_of(reply, YES)
+/// The lowest version that a range matches.
+pub(crate) fn min_version(grammar: Grammar, range: &str, pre: PreRelease) -> Result<Lowest, Invalid> {
+    lowest(YES, |out, len, needed, _| unsafe {
+        semver_min_version(grammar as u32, range.as_ptr(), range.len(), pre as u32, out, len, needed)
+    })
 }
 
-pub(crate) fn common(grammar: Grammar, one: &str, other: &str) -> Result<Lowest, String> {
-    let reply = text_of(|out, len, needed| unsafe {
-        semver_common(grammar as u32, one.as_ptr(), one.len(), other.as_ptr(), other.len(), out, len, needed)
-    });
-    lowest_of(reply, YES)
+/// The lowest version that all ranges match, one per line.
+pub(crate) fn common(grammar: Grammar, ranges: &str, pre: PreRelease) -> Result<Lowest, Invalid> {
+    lowest(YES, |out, len, needed, place| unsafe {
+        semver_common_all(grammar as u32, ranges.as_ptr(), ranges.len(), pre as u32, out, len, needed, place)
+    })
 }
 
-pub(crate) fn outside(grammar: Grammar, one: &str, other: &str) -> Result<Lowest, String> {
-    let reply = text_of(|out, len, needed| unsafe {
-        semver_within(grammar as u32, one.as_ptr(), one.len(), other.as_ptr(), other.len(), out, len, needed)
-    });
-    lowest_of(reply, 0)
+/// The lowest version that the first range matches and the other doesn't.
+pub(crate) fn outside(grammar: Grammar, one: &str, other: &str, pre: PreRelease) -> Result<Lowest, Invalid> {
+    lowest(NO, |out, len, needed, place| unsafe {
+        semver_within(grammar as u32, one.as_ptr(), one.len(), other.as_ptr(), other.len(), pre as u32, out, len, needed, place)
+    })
 }
 
-/// A parsed range or tag. The type isn't `Sync` and no call calls back, so one call at a time has the handle.
-pub(crate) struct Requirement(UnsafeCell<Raw>);
+/// Whether two ranges match the same versions; none if one is a tag.
+pub(crate) fn equivalent(grammar: Grammar, one: &str, other: &str, pre: PreRelease) -> Result<Option<bool>, Invalid> {
+    let mut place = 0;
+    let code = unsafe {
+        semver_equivalent(grammar as u32, one.as_ptr(), one.len(), other.as_ptr(), other.len(), pre as u32, &mut place)
+    };
+    match code {
+        NO | YES => Ok(Some(code == YES)),
+        TAG => Ok(None),
+        INVALID_RANGE => Err(Invalid::range(grammar, if place == 0 { one } else { other }, place)),
+        _ => failed(code),
+    }
+}
 
-// The value is plain memory of `malloc`, which any thread may use and free.
+/// A parsed range or tag.
+pub(crate) struct Requirement(Raw);
+
+// Safety: the value is plain memory of `malloc`, which any thread may use and free.
 unsafe impl Send for Requirement {}
 
 impl Requirement {
-    pub(crate) fn read(grammar: Grammar, text: &str) -> Result<Requirement, String> {
-        let mut raw = Raw { at: ptr::null_mut() };
-        let (code, message) = text_of(|out, len, needed| unsafe {
-            semver_req_read(grammar as u32, text.as_ptr(), text.len(), &mut raw, out, len, needed)
-        });
-        match code {
-            YES => Ok(Requirement(UnsafeCell::new(raw))),
-            NO_REQUIREMENT => Err(message),
-            _ => failed(code),
+    /// Parses a text that was parsed before: the handle, and the canonical form or the tag.
+    pub(crate) fn parse(grammar: Grammar, text: &str) -> (Requirement, StackString) {
+        let mut raw = Raw::none();
+        let (mut near, mut needed) = ([0u8; 128], 0);
+        let (out, len) = (near.as_mut_ptr(), near.len());
+        let code = unsafe { semver_req_read(grammar as u32, text.as_ptr(), text.len(), &mut raw, out, len, &mut needed) };
+        if code != YES {
+            failed(code);
         }
+        let mut handle = Requirement(raw);
+        let normal = match near.get(..needed) {
+            Some(near) => utf8(near).into(),
+            None => handle.normal_text(),
+        };
+        (handle, normal)
     }
 
-    pub(crate) fn matches(&self, version: &VersionHandle, pre_release: PreRelease) -> Fit {
-        fit(unsafe { semver_req_matches(self.0.get(), version.0.get(), pre_release as u32) })
+    #[inline]
+    pub(crate) fn matches(&mut self, version: &mut VersionHandle, pre: PreRelease) -> Fit {
+        fit(unsafe { semver_req_matches(&mut self.0, &mut version.0, pre as u32) })
     }
 
-    pub(crate) fn is_tag(&self) -> bool {
-        let version = "0.0.0";
-        fit(unsafe { semver_req_fits(self.0.get(), version.as_ptr(), version.len(), 0) }) == Fit::Tag
+    pub(crate) fn fits(&mut self, version: &str, pre: PreRelease) -> Fit {
+        fit(unsafe { semver_req_fits(&mut self.0, version.as_ptr(), version.len(), pre as u32) })
     }
 
-    /// Whether both overlap. They must be two values.
-    pub(crate) fn overlaps(&self, other: &Requirement) -> bool {
-        assert!(!ptr::eq(self, other));
-        unsafe { semver_req_overlap(self.0.get(), other.0.get()) == YES }
+    pub(crate) fn overlaps(&mut self, other: &mut Requirement) -> bool {
+        unsafe { semver_req_overlap(&mut self.0, &mut other.0) == YES }
     }
 
-    pub(crate) fn equals(&self, other: &Requirement) -> bool {
-        ptr::eq(self, other) || unsafe { semver_req_equal(self.0.get(), other.0.get()) == YES }
+    pub(crate) fn equals(&mut self, other: &mut Requirement) -> bool {
+        unsafe { semver_req_equal(&mut self.0, &mut other.0) == YES }
     }
 
-    pub(crate) fn normal_text(&self) -> String {
-        text_of(|out, len, needed| unsafe { semver_req_normal(self.0.get(), out, len, needed) }).1
-    }
-
-    pub(crate) fn text(&self) -> String {
-        text_of(|out, len, needed| unsafe { semver_req_text(self.0.get(), out, len, needed) }).1
+    fn normal_text(&mut self) -> StackString {
+        with_text(|out, len, needed| unsafe { semver_req_normal(&mut self.0, out, len, needed) }, |_, text| text.into())
     }
 }
 
 impl Drop for Requirement {
     fn drop(&mut self) {
-        unsafe { semver_req_free(self.0.get()) }
+        unsafe { semver_req_free(&mut self.0) }
     }
 }
 
-fn ordering(code: u32) -> Ordering {
+fn ordering(code: i32) -> Ordering {
     match code {
         0 => Ordering::Less,
         1 => Ordering::Equal,
@@ -370,44 +464,80 @@ fn ordering(code: u32) -> Ordering {
 }
 
 /// A parsed version.
-pub(crate) struct VersionHandle(UnsafeCell<Raw>);
+pub(crate) struct VersionHandle(Raw);
 
+// Safety: as of `Requirement`.
 unsafe impl Send for VersionHandle {}
 
 impl VersionHandle {
-    pub(crate) fn read(text: &str) -> Result<VersionHandle, String> {
-        let mut raw = Raw { at: ptr::null_mut() };
-        let (code, message) = text_of(|out, len, needed| unsafe {
-            semver_version_read(text.as_ptr(), text.len(), &mut raw, out, len, needed)
-        });
-        match code {
-            YES => Ok(VersionHandle(UnsafeCell::new(raw))),
-            NO_VERSION => Err(message),
-            _ => failed(code),
+    /// Parses a text that was parsed before: the handle, and how the version is displayed.
+    pub(crate) fn parse(text: &str) -> (VersionHandle, StackString) {
+        let mut raw = Raw::none();
+        let (mut near, mut needed) = ([0u8; 128], 0);
+        let code =
+            unsafe { semver_version_read(text.as_ptr(), text.len(), &mut raw, near.as_mut_ptr(), near.len(), &mut needed) };
+        if code != YES {
+            failed(code);
         }
+        let mut handle = VersionHandle(raw);
+        let displayed = match near.get(..needed) {
+            Some(near) => utf8(near).into(),
+            None => handle.text(),
+        };
+        (handle, displayed)
     }
 
-    pub(crate) fn text(&self) -> String {
-        text_of(|out, len, needed| unsafe { semver_version_text(self.0.get(), out, len, needed) }).1
+    fn text(&mut self) -> StackString {
+        with_text(|out, len, needed| unsafe { semver_version_text(&mut self.0, out, len, needed) }, |_, text| text.into())
     }
 
-    pub(crate) fn order(&self, other: &VersionHandle) -> Ordering {
-        if ptr::eq(self, other) {
-            return Ordering::Equal;
-        }
-        ordering(unsafe { semver_version_order(self.0.get(), other.0.get()) })
+    /// The order with builds.
+    #[inline]
+    pub(crate) fn order(&mut self, other: &mut VersionHandle) -> Ordering {
+        ordering(unsafe { semver_version_order(&mut self.0, &mut other.0) })
     }
 
-    pub(crate) fn precedence(&self, other: &VersionHandle) -> Ordering {
-        if ptr::eq(self, other) {
-            return Ordering::Equal;
-        }
-        ordering(unsafe { semver_version_compare(self.0.get(), other.0.get()) })
+    /// The order without builds.
+    #[inline]
+    pub(crate) fn precedence(&mut self, other: &mut VersionHandle) -> Ordering {
+        ordering(unsafe { semver_version_compare(&mut self.0, &mut other.0) })
     }
 }
 
 impl Drop for VersionHandle {
     fn drop(&mut self) {
-        unsafe { semver_version_free(self.0.get()) }
+        unsafe { semver_version_free(&mut self.0) }
+    }
+}
+
+/// Parsed versions, one per line.
+pub(crate) struct Versions {
+    raw: Raw,
+    pub(crate) lines: usize,
+}
+
+// Safety: as of `Requirement`.
+unsafe impl Send for Versions {}
+
+impl Versions {
+    pub(crate) fn parse(versions: &str) -> Versions {
+        let (mut raw, mut lines) = (Raw::none(), 0);
+        match unsafe { semver_list_read(versions.as_ptr(), versions.len(), &mut raw, &mut lines) } {
+            YES => Versions { raw, lines },
+            code => failed(code),
+        }
+    }
+
+    pub(crate) fn filter(&mut self, range: &mut Requirement, pre: PreRelease) -> Vec<Fit> {
+        let (mut answers, mut needed) = (vec![0i8; self.lines], 0);
+        let (out, len) = (answers.as_mut_ptr(), answers.len());
+        let code = unsafe { semver_list_filter(&mut self.raw, &mut range.0, pre as u32, out, len, &mut needed) };
+        fits(code, answers)
+    }
+}
+
+impl Drop for Versions {
+    fn drop(&mut self) {
+        unsafe { semver_list_free(&mut self.raw) }
     }
 }

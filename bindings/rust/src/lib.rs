@@ -1,14 +1,79 @@
-//! The proved `deno_semver` from Rust: `Version`, `VersionReq` and `PackageReq` under the names of the crate `deno_semver`.
+//! Versions and version requirements of npm and JSR packages, at the paths of the crate `deno_semver`, over verified code.
 //!
-//! Running out of memory ends the program, as elsewhere in Rust. Values are `Send` and not `Sync`.
+//! ```
+//! use deno_semver_proved::{Version, VersionReq};
+//!
+//! let req = VersionReq::parse_from_npm(">=1.2 <2 || 3")?;
+//! assert!(req.matches(&Version::parse_standard("1.3.0")?));
+//! assert_eq!(req.to_string_normalized(), "^1.2.0 || 3");
+//! # Ok::<(), Box<dyn std::error::Error>>(())
+//! ```
+//!
+//! Running out of memory ends the program, as elsewhere in Rust. The features `serde` and `url` add what needs these crates.
+
+#![warn(missing_docs)]
 
 mod calls;
-pub mod lowest;
+mod error;
+mod handle;
+mod json;
+pub mod jsr;
+mod lazy;
 pub mod lists;
+pub mod lowest;
 pub mod npm;
 pub mod package;
+mod partial;
+mod range;
+#[cfg(feature = "serde")]
+mod serde;
+mod string;
 mod version;
 mod version_req;
 
-pub use version::{Version, VersionParseError};
+pub use calls::{Grammar, PreRelease};
+pub use error::ParseErrorFailureError;
+pub use partial::{Partial, XRange};
+pub use range::{PackageTag, RangeBound, RangeSetOrTag, VersionBound, VersionBoundKind, VersionRange, VersionRangeSet};
+pub use string::{SmallStackString, StackString};
+pub use version::{Version, VersionParseError, VersionParts, VersionPreOrBuild};
 pub use version_req::{VersionReq, VersionReqNormalizedParseError, VersionReqSpecifierParseError};
+
+use std::error::Error;
+use std::fmt;
+use std::sync::LazyLock;
+
+/// A list of identifiers or ranges.
+pub type CowVec<T> = Vec<T>;
+
+/// The requirement `*`, which matches every release.
+pub static WILDCARD_VERSION_REQ: LazyLock<VersionReq> =
+    LazyLock::new(|| VersionReq::parse_from_specifier("*").expect("`*` is a range"));
+
+/// Which of several ranges is invalid, and why.
+#[derive(Clone, Debug, PartialEq, Eq)]
+pub struct InvalidRange {
+    /// Which range it is, counted from 0.
+    pub place: usize,
+    /// What is wrong, in one line.
+    pub message: String,
+}
+
+impl From<calls::Invalid> for InvalidRange {
+    fn from(invalid: calls::Invalid) -> InvalidRange {
+        InvalidRange { place: invalid.place, message: invalid.message }
+    }
+}
+
+impl fmt::Display for InvalidRange {
+    fn fmt(&self, f: &mut fmt::Formatter<'_>) -> fmt::Result {
+        write!(f, "Invalid range {}: {}", self.place + 1, self.message)
+    }
+}
+
+impl Error for InvalidRange {}
+
+/// The examples of the README.
+#[cfg(doctest)]
+#[doc = include_str!("../README.md")]
+struct Readme;

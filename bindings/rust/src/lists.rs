@@ -1,21 +1,63 @@
 //! Questions about lists of versions, one per line.
 
-pub use crate::calls::{Best, Fit, PreRelease};
+pub use crate::calls::{Best, Fit};
 
-use crate::calls::{best, filter, sort, Grammar};
-use crate::npm::NpmVersionReqParseError;
+use crate::calls::{self, End, Versions};
+use crate::handle::Held;
+use crate::version_req::VersionReq;
+use crate::{Grammar, InvalidRange, PreRelease};
+use std::sync::Arc;
 
-/// Whether each version matches the range, parsed by npm's grammar.
-pub fn filter_by_npm(requirement: &str, versions: &str, pre_release: PreRelease) -> Result<Vec<Fit>, NpmVersionReqParseError> {
-    filter(Grammar::Npm, requirement, versions, pre_release).map_err(NpmVersionReqParseError::new)
+/// Whether each version matches the range.
+pub fn filter(grammar: Grammar, range: &str, versions: &str, pre_release: PreRelease) -> Result<Vec<Fit>, InvalidRange> {
+    calls::filter(grammar, range, versions, pre_release).map_err(InvalidRange::from)
 }
 
-/// Which version is the highest that matches the range, parsed by npm's grammar; the first of equal ones.
-pub fn best_by_npm(requirement: &str, versions: &str, pre_release: PreRelease) -> Result<Best, NpmVersionReqParseError> {
-    best(Grammar::Npm, requirement, versions, pre_release).map_err(NpmVersionReqParseError::new)
+/// Which version is the highest that matches the range; the first of equal ones.
+pub fn best(grammar: Grammar, range: &str, versions: &str, pre_release: PreRelease) -> Result<Best, InvalidRange> {
+    calls::best(End::Highest, grammar, range, versions, pre_release).map_err(InvalidRange::from)
 }
 
-/// The lines of the versions by precedence; versions that differ in the build alone keep their order. None if a version is invalid.
-pub fn sort_versions(versions: &str) -> Option<Vec<usize>> {
-    sort(versions)
+/// Which version is the lowest that matches the range; the first of equal ones.
+pub fn lowest(grammar: Grammar, range: &str, versions: &str, pre_release: PreRelease) -> Result<Best, InvalidRange> {
+    calls::best(End::Lowest, grammar, range, versions, pre_release).map_err(InvalidRange::from)
+}
+
+/// The lines of the versions by precedence; versions that differ in the build alone keep their order. If a version is invalid, its line
+/// is the error.
+pub fn sort(versions: &str) -> Result<Vec<usize>, usize> {
+    calls::sort(versions)
+}
+
+/// Versions that are parsed once and asked of by many ranges.
+#[derive(Clone)]
+pub struct VersionList {
+    text: Arc<str>,
+    held: Arc<Held<Versions>>,
+}
+
+impl VersionList {
+    /// Parses versions, one per line. A line that isn't a version keeps its place and matches nothing.
+    pub fn parse(versions: &str) -> VersionList {
+        VersionList { text: versions.into(), held: Arc::new(Held::new(Versions::parse(versions))) }
+    }
+
+    /// Whether each version matches the requirement.
+    pub fn filter(&self, req: &VersionReq, pre_release: PreRelease) -> Vec<Fit> {
+        self.ask(|versions| req.ask(|req| versions.filter(req, pre_release)))
+    }
+
+    fn ask<R>(&self, question: impl FnOnce(&mut Versions) -> R) -> R {
+        self.held.ask(|| Versions::parse(&self.text), question)
+    }
+
+    /// How many lines there are.
+    pub fn len(&self) -> usize {
+        self.ask(|versions| versions.lines)
+    }
+
+    /// Whether there is no line.
+    pub fn is_empty(&self) -> bool {
+        self.len() == 0
+    }
 }

@@ -1,15 +1,17 @@
-//! npm's grammars.
+//! npm's grammars, and references to npm packages.
 
 use crate::calls::may_be_tag;
+use crate::error::parse_error;
+use crate::package::references;
 use crate::version::Version;
 use crate::version_req::VersionReq;
-use std::error::Error;
-use std::fmt;
 
+/// Parses a version as npm does.
 pub fn parse_npm_version(text: &str) -> Result<Version, NpmVersionParseError> {
     Version::parse_from_npm(text)
 }
 
+/// Parses a requirement as npm does.
 pub fn parse_npm_version_req(text: &str) -> Result<VersionReq, NpmVersionReqParseError> {
     VersionReq::parse_from_npm(text)
 }
@@ -19,50 +21,21 @@ pub fn is_valid_npm_tag(value: &str) -> bool {
     may_be_tag(value)
 }
 
-/// Why a text isn't a version for npm.
-#[derive(Clone, Debug, PartialEq, Eq)]
-pub struct NpmVersionParseError {
-    message: String,
-}
+parse_error!(
+    /// Why a text isn't a version for npm.
+    NpmVersionParseError,
+    "Invalid npm version"
+);
+parse_error!(
+    /// Why a text isn't a requirement for npm.
+    NpmVersionReqParseError,
+    "Invalid version requirement"
+);
 
-impl NpmVersionParseError {
-    pub(crate) fn new(message: String) -> NpmVersionParseError {
-        NpmVersionParseError { message }
-    }
-
-    pub fn message(&self) -> &str {
-        &self.message
-    }
-}
-
-impl fmt::Display for NpmVersionParseError {
-    fn fmt(&self, f: &mut fmt::Formatter<'_>) -> fmt::Result {
-        write!(f, "Invalid npm version: {}", self.message)
-    }
-}
-
-impl Error for NpmVersionParseError {}
-
-/// Why a text isn't a range for npm.
-#[derive(Clone, Debug, PartialEq, Eq)]
-pub struct NpmVersionReqParseError {
-    message: String,
-}
-
-impl NpmVersionReqParseError {
-    pub(crate) fn new(message: String) -> NpmVersionReqParseError {
-        NpmVersionReqParseError { message }
-    }
-
-    pub fn message(&self) -> &str {
-        &self.message
-    }
-}
-
-impl fmt::Display for NpmVersionReqParseError {
-    fn fmt(&self, f: &mut fmt::Formatter<'_>) -> fmt::Result {
-        write!(f, "Invalid version requirement: {}", self.message)
-    }
-}
-
-impl Error for NpmVersionReqParseError {}
+references!(
+    /// A reference to an npm package, such as `npm:name@^1.2/path`.
+    NpmPackageReqReference,
+    /// A reference to one version of an npm package, such as `npm:name@1.2.3/path`.
+    NpmPackageNvReference,
+    Npm
+);

@@ -1,48 +1,126 @@
-//! Packages with a range, and the parts of references.
+//! Packages with a requirement or a version, and references to them.
+//!
+//! The name and the path are split off here, in Rust; the requirement and the version are parsed by the proved library, whose own calls
+//! for whole packages ([`json`]) give the same parts as JSON.
 
-use crate::calls::{package, reference, Grammar};
-use crate::version_req::VersionReq;
+use crate::calls::{self, Grammar};
+use crate::npm::NpmVersionReqParseError;
+use crate::range::{RangeBound, RangeSetOrTag, VersionBound, VersionRange};
+use crate::string::{SmallStackString, StackString};
+use crate::version::Version;
+use crate::version_req::{VersionReq, VersionReqNormalizedParseError, VersionReqSpecifierParseError};
+use crate::WILDCARD_VERSION_REQ;
+use std::cmp::Ordering;
 use std::error::Error;
 use std::fmt;
 
-/// A package and a range of its versions. The name includes the scope.
+/// The name of a package, its scope included.
+pub type PackageName = StackString;
+
+/// The path behind a package.
+pub type PackageSubPath = SmallStackString;
+
+/// The registry of a package.
+#[derive(Clone, Copy, Debug, PartialEq, Eq, PartialOrd, Ord, Hash)]
+pub enum PackageKind {
+    /// JSR.
+    Jsr,
+    /// npm.
+    Npm,
+}
+
+impl PackageKind {
+    /// `jsr:` or `npm:`.
+    pub fn scheme_with_colon(self) -> &'static str {
+        match self {
+            PackageKind::Jsr => "jsr:",
+            PackageKind::Npm => "npm:",
+        }
+    }
+}
+
+/// A package and a requirement of its version. The name includes the scope.
+///
+/// The order is by name, then a tag before ranges, and then so that a requirement that leaves fewer versions comes first: it has the higher
+/// start, and then the lower end.
 #[derive(Clone, Debug, PartialEq, Eq, Hash)]
 pub struct PackageReq {
-    pub name: String,
+    /// The name, such as `@scope/name`.
+    pub name: PackageName,
+    /// What its version has to be.
     pub version_req: VersionReq,
 }
 
-impl PackageReq {
-    pub fn from_str(text: &str) -> Result<PackageReq, PackageReqParseError> {
-        PackageReq::read(Grammar::Strict, text)
-    }
+/// The parts of a package with a requirement: a name, an optional requirement behind `@`, and a path behind `/`.
+struct Parts<'a> {
+    name: &'a str,
+    requirement: Option<&'a str>,
+    path: &'a str,
+}
 
-    pub fn from_str_normalized(text: &str) -> Result<PackageReq, PackageReqParseError> {
-        PackageReq::read(Grammar::Normalized, text)
-    }
-
-    pub fn from_str_loose(text: &str) -> Result<PackageReq, PackageReqParseError> {
-        PackageReq::read(Grammar::Npm, text)
-    }
-
-    fn read(grammar: Grammar, text: &str) -> Result<PackageReq, PackageReqParseError> {
-        let json = package(grammar, text).map_err(|message| PackageReqParseError::new(text, message))?;
-        let [name, _, requirement, scope] = parts(&json);
-        let name = name.expect("a package has a name");
-        let requirement = requirement.expect("a package has a requirement");
-        Ok(PackageReq {
-            name: scope.map_or(name.clone(), |scope| format!("@{scope}/{name}")),
-            version_req: VersionReq::read(grammar, &requirement).expect("the range of a package parses again"),
-        })
-    }
-
-    /// `name@range`, with the canonical form of the range.
-    pub fn to_string_normalized(&self) -> String {
-        format!("{}@{}", self.name, self.version_req.to_string_normalized())
+impl Parts<'_> {
+    fn of(text: &str) -> Result<Parts<'_>, PackageReqPartsParseError> {
+        let text = text.strip_prefix('/').unwrap_or(text);
+        let scope = match text.starts_with('@') {
+            true => text.find('/').ok_or(PackageReqPartsParseError::InvalidPackageName)? + 1,
+            false => 0,
+        };
+        let (last, path) = text[scope..].split_once('/').unwrap_or((&text[scope..], ""));
+        match (last.rsplit_once('@'), scope) {
+            _ if last.is_empty() && scope > 0 => Err(PackageReqPartsParseError::InvalidPackageName),
+            _ if last.is_empty() => Err(PackageReqPartsParseError::NoPackageName),
+            (Some((name, requirement)), _) => {
+                Ok(Parts { name: &text[..scope + name.len()], requirement: Some(requirement), path })
+            }
+            (None, _) => Ok(Parts { name: &text[..scope + last.len()], requirement: None, path }),
+        }
     }
 }
 
-// `name@range`, or the name alone if the range is `*`.
+impl PackageReq {
+    /// Parses a package with a requirement of the strict grammar.
+    #[allow(clippy::should_implement_trait)]
+    pub fn from_str(text: &str) -> Result<PackageReq, PackageReqParseError> {
+        PackageReq::parse(Grammar::Strict, text)
+    }
+
+    /// Parses a package with a requirement of npm's grammar.
+    pub fn from_str_loose(text: &str) -> Result<PackageReq, PackageReqParseError> {
+        PackageReq::parse(Grammar::Npm, text)
+    }
+
+    /// Parses a package with a requirement of the normalized grammar.
+    pub fn from_str_normalized(text: &str) -> Result<PackageReq, PackageReqParseError> {
+        PackageReq::parse(Grammar::Normalized, text)
+    }
+
+    fn parse(grammar: Grammar, text: &str) -> Result<PackageReq, PackageReqParseError> {
+        let source = match PackageReq::parse_with_path(grammar, text) {
+            Ok((req, "")) => return Ok(req),
+            _ if !text.starts_with('@') && text.contains('/') => PackageReqPartsParseError::MissingAtSymbol,
+            Ok((_, path)) => PackageReqPartsParseError::path(path),
+            Err(error) => error,
+        };
+        Err(PackageReqParseError { text: text.to_owned(), source })
+    }
+
+    fn parse_with_path(grammar: Grammar, text: &str) -> Result<(PackageReq, &str), PackageReqPartsParseError> {
+        let parts = Parts::of(text)?;
+        let version_req = match parts.requirement {
+            Some(text) => VersionReq::parse(grammar, text)
+                .map_err(|message| PackageReqPartsParseError::requirement(grammar, message, text))?,
+            None => WILDCARD_VERSION_REQ.clone(),
+        };
+        Ok((PackageReq { name: parts.name.into(), version_req }, parts.path))
+    }
+
+    /// `name@requirement`, with the canonical form of the requirement, as it is stored.
+    pub fn to_string_normalized(&self) -> StackString {
+        StackString::concat(&[&self.name, "@", self.version_req.normalized()])
+    }
+}
+
+// `name@requirement`, or the name alone if the requirement is `*`.
 impl fmt::Display for PackageReq {
     fn fmt(&self, f: &mut fmt::Formatter<'_>) -> fmt::Result {
         match self.version_req.version_text() {
@@ -52,58 +130,246 @@ impl fmt::Display for PackageReq {
     }
 }
 
-// The values of an object of four members, in their order, each a string or null.
-fn parts(json: &str) -> [Option<String>; 4] {
-    let mut rest = json;
-    std::array::from_fn(|_| {
-        let value = rest.find("\":").map(|colon| &rest[colon + 2..]).expect("the library's objects have four members");
-        match value.strip_prefix('"') {
-            Some(quoted) => {
-                let (text, after) = unquoted(quoted);
-                rest = after;
-                Some(text)
-            }
-            None => {
-                rest = &value["null".len()..];
-                None
-            }
+impl PartialOrd for PackageReq {
+    fn partial_cmp(&self, other: &PackageReq) -> Option<Ordering> {
+        Some(self.cmp(other))
+    }
+}
+
+impl Ord for PackageReq {
+    fn cmp(&self, other: &PackageReq) -> Ordering {
+        self.name.cmp(&other.name).then_with(|| cmp_inner(self.version_req.inner(), other.version_req.inner()))
+    }
+}
+
+fn cmp_inner(one: &RangeSetOrTag, other: &RangeSetOrTag) -> Ordering {
+    match (one, other) {
+        (RangeSetOrTag::Tag(one), RangeSetOrTag::Tag(other)) => other.cmp(one),
+        (RangeSetOrTag::Tag(_), RangeSetOrTag::RangeSet(_)) => Ordering::Less,
+        (RangeSetOrTag::RangeSet(_), RangeSetOrTag::Tag(_)) => Ordering::Greater,
+        (RangeSetOrTag::RangeSet(one), RangeSetOrTag::RangeSet(other)) => {
+            let ranges = || one.0.iter().zip(&other.0);
+            let bounds = ranges().map(|(one, other)| cmp_range(one, other)).find(|order| order.is_ne());
+            let builds = || ranges().map(|(one, other)| builds(one).cmp(&builds(other))).find(|order| order.is_ne());
+            bounds.unwrap_or_else(|| one.0.len().cmp(&other.0.len()).then_with(|| builds().unwrap_or(Ordering::Equal)))
         }
+    }
+}
+
+// Starts from the highest to none, then ends from the lowest to none; of bounds with one version, the narrower first.
+fn cmp_range(one: &VersionRange, other: &VersionRange) -> Ordering {
+    let starts = cmp_bound(&one.start, &other.start, |one, other| {
+        other.version.cmp_precedence(&one.version).then(is_inclusive(one).cmp(&is_inclusive(other)))
+    });
+    starts.then_with(|| {
+        cmp_bound(&one.end, &other.end, |one, other| {
+            one.version.cmp_precedence(&other.version).then(is_inclusive(one).cmp(&is_inclusive(other)))
+        })
     })
 }
 
-// The string that a quotation mark ends, and what follows that.
-fn unquoted(quoted: &str) -> (String, &str) {
-    let mut text = String::new();
-    let mut characters = quoted.char_indices();
-    while let Some((at, c)) = characters.next() {
-        match c {
-            '"' => return (text, &quoted[at + 1..]),
-            '\\' => text.push(escaped(&mut characters)),
-            c => text.push(c),
-        }
-    }
-    unreachable!("a string has an end")
+fn is_inclusive(bound: &VersionBound) -> bool {
+    bound.kind == crate::VersionBoundKind::Inclusive
 }
 
-// The character of an escape; the library escapes control characters and no surrogates.
-fn escaped(characters: &mut std::str::CharIndices<'_>) -> char {
-    match characters.next().map(|(_, c)| c) {
-        Some('b') => '\u{8}',
-        Some('f') => '\u{c}',
-        Some('n') => '\n',
-        Some('r') => '\r',
-        Some('t') => '\t',
-        Some('u') => {
-            let digits = characters.take(4).fold(0, |code, (_, c)| code * 16 + c.to_digit(16).expect("a hexadecimal digit"));
-            char::from_u32(digits).expect("a control character")
-        }
-        other => other.expect("an escape has a character"),
+fn cmp_bound(one: &RangeBound, other: &RangeBound, order: impl Fn(&VersionBound, &VersionBound) -> Ordering) -> Ordering {
+    match (one, other) {
+        (RangeBound::Version(one), RangeBound::Version(other)) => order(one, other),
+        (one, other) => (*one == RangeBound::Unbounded).cmp(&(*other == RangeBound::Unbounded)),
     }
 }
 
-/// The parts of a reference to a JSR or npm package, as JSON, or the error message.
-pub fn reference_json(text: &str) -> Result<String, String> {
-    reference(text)
+fn builds(range: &VersionRange) -> [&[StackString]; 2] {
+    [&range.start, &range.end].map(|bound| match bound {
+        RangeBound::Version(bound) => bound.version.build.as_slice(),
+        RangeBound::Unbounded => &[],
+    })
+}
+
+/// A package with a requirement, and a path in it.
+#[derive(Clone, Debug, PartialEq, Eq, Hash)]
+pub struct PackageReqReference {
+    /// The package.
+    pub req: PackageReq,
+    /// The path behind it.
+    pub sub_path: Option<PackageSubPath>,
+}
+
+impl PackageReqReference {
+    pub(crate) fn parse(specifier: &str, kind: PackageKind) -> Result<PackageReqReference, PackageReqReferenceParseError> {
+        let Some(text) = specifier.strip_prefix(kind.scheme_with_colon()) else {
+            return Err(PackageReqReferenceParseError::NotExpectedScheme(kind));
+        };
+        let (req, path) = PackageReq::parse_with_path(Grammar::Strict, text).map_err(|source| {
+            let specifier = specifier.to_owned();
+            PackageReqReferenceParseError::Invalid(Box::new(PackageReqReferenceInvalidParseError { specifier, source }))
+        })?;
+        if path.is_empty() || path == "/" {
+            return Ok(PackageReqReference { req, sub_path: None });
+        }
+        if req.version_req.version_text() == "*" {
+            if let Some((before, version)) = path.rsplit_once('@') {
+                let (current, suggested) = (format!("{req}/{path}"), format!("{req}@{version}/{before}"));
+                let error = PackageReqReferenceInvalidWithVersionParseError { kind, current, suggested };
+                return Err(PackageReqReferenceParseError::InvalidPathWithVersion(Box::new(error)));
+            }
+        }
+        Ok(PackageReqReference { req, sub_path: Some(path.into()) })
+    }
+}
+
+impl fmt::Display for PackageReqReference {
+    fn fmt(&self, f: &mut fmt::Formatter<'_>) -> fmt::Result {
+        write_with_path(&self.req, &self.sub_path, f)
+    }
+}
+
+fn write_with_path(package: &impl fmt::Display, path: &Option<PackageSubPath>, f: &mut fmt::Formatter<'_>) -> fmt::Result {
+    match path {
+        Some(path) => write!(f, "{package}/{path}"),
+        None => package.fmt(f),
+    }
+}
+
+/// A package with a version. The name includes the scope.
+#[derive(Clone, PartialEq, Eq, PartialOrd, Ord, Hash)]
+pub struct PackageNv {
+    /// The name, such as `@scope/name`.
+    pub name: PackageName,
+    /// The version.
+    pub version: Version,
+}
+
+/// The parts of a package with a version: a name, a version up to `/` or `_`, and what follows.
+struct VersionParts<'a> {
+    name: &'a str,
+    version: &'a str,
+    rest: &'a str,
+}
+
+impl VersionParts<'_> {
+    fn of(text: &str) -> Option<VersionParts<'_>> {
+        let after_first = text.chars().next()?.len_utf8();
+        let at = after_first + text[after_first..].find('@')?;
+        let version = &text[at + 1..];
+        let end = version.find(['/', '_']).unwrap_or(version.len());
+        Some(VersionParts { name: &text[..at], version: &version[..end], rest: &version[end..] })
+    }
+}
+
+impl PackageNv {
+    /// Parses a package with a version, such as `@scope/name@1.2.3`.
+    #[allow(clippy::should_implement_trait)]
+    pub fn from_str(text: &str) -> Result<PackageNv, PackageNvParseError> {
+        match PackageNv::parse(text) {
+            Some((nv, "")) => Ok(nv),
+            _ => Err(PackageNvParseError { message: message(calls::name_with_version(text)), text: text.to_owned() }),
+        }
+    }
+
+    fn parse(text: &str) -> Option<(PackageNv, &str)> {
+        let VersionParts { name, version, rest } = VersionParts::of(text)?;
+        let version = Version::parse_standard(version).ok()?;
+        Some((PackageNv { name: name.into(), version }, rest))
+    }
+
+    /// The scope with its `@`, if the name has one.
+    pub fn scope(&self) -> Option<&str> {
+        self.name.starts_with('@').then(|| self.name.split_once('/').map_or(self.name.as_str(), |(scope, _)| scope))
+    }
+
+    /// The package with the requirement that matches this version alone.
+    pub fn into_req(self) -> PackageReq {
+        PackageReq { name: self.name, version_req: self.version.into_req() }
+    }
+}
+
+// The message of the library for a text that it rejects.
+fn message(parts: Result<String, String>) -> String {
+    parts.err().unwrap_or_else(|| "Unexpected character.".to_owned())
+}
+
+impl fmt::Display for PackageNv {
+    fn fmt(&self, f: &mut fmt::Formatter<'_>) -> fmt::Result {
+        write!(f, "{}@{}", self.name, self.version)
+    }
+}
+
+impl fmt::Debug for PackageNv {
+    fn fmt(&self, f: &mut fmt::Formatter<'_>) -> fmt::Result {
+        fmt::Display::fmt(self, f)
+    }
+}
+
+/// A package with a version, and a path in it.
+#[derive(Clone, Debug, PartialEq, Eq, PartialOrd, Ord, Hash)]
+pub struct PackageNvReference {
+    /// The package.
+    pub nv: PackageNv,
+    /// The path behind it.
+    pub sub_path: Option<PackageSubPath>,
+}
+
+impl PackageNvReference {
+    pub(crate) fn parse(specifier: &str, kind: PackageKind) -> Result<PackageNvReference, PackageNvReferenceParseError> {
+        PackageNvReference::parse_parts(specifier, kind).ok_or_else(|| {
+            let message = message(calls::version_reference(specifier));
+            PackageNvReferenceParseError { message, text: specifier.to_owned() }
+        })
+    }
+
+    fn parse_parts(specifier: &str, kind: PackageKind) -> Option<PackageNvReference> {
+        let text = specifier.strip_prefix(kind.scheme_with_colon())?;
+        let (nv, rest) = PackageNv::parse(text.strip_prefix('/').unwrap_or(text))?;
+        let sub_path = match rest {
+            "" => None,
+            rest => Some(rest.strip_prefix('/')?.into()),
+        };
+        Some(PackageNvReference { nv, sub_path })
+    }
+
+    #[cfg(feature = "url")]
+    pub(crate) fn as_specifier(&self, kind: PackageKind) -> url::Url {
+        let text = format!("{}/{self}", kind.scheme_with_colon());
+        url::Url::parse(&text).expect("a scheme and a path are a URL")
+    }
+}
+
+impl fmt::Display for PackageNvReference {
+    fn fmt(&self, f: &mut fmt::Formatter<'_>) -> fmt::Result {
+        write_with_path(&self.nv, &self.sub_path, f)
+    }
+}
+
+/// The proved calls for whole packages, which return the parts as JSON or an error message. They are slower than the types.
+pub mod json {
+    use crate::calls;
+    use crate::Grammar;
+
+    /// A package with a requirement: "name", "normal", "requirement", "scope".
+    pub fn package(grammar: Grammar, text: &str) -> Result<String, String> {
+        calls::package(grammar, text)
+    }
+
+    /// A reference to a package: "export", "kind", "package", "path".
+    pub fn reference(text: &str) -> Result<String, String> {
+        calls::reference(text)
+    }
+
+    /// A package with a version: "name", "scope", "version".
+    pub fn name_with_version(text: &str) -> Result<String, String> {
+        calls::name_with_version(text)
+    }
+
+    /// A reference to one version of a package: "export", "kind", "package", "path".
+    pub fn version_reference(text: &str) -> Result<String, String> {
+        calls::version_reference(text)
+    }
+
+    /// A dependency: "kind", "normal", "package".
+    pub fn dependency(grammar: Grammar, text: &str) -> Result<String, String> {
+        calls::dependency(grammar, text)
+    }
 }
 
 /// What is wrong with the text of a package.
@@ -115,38 +381,291 @@ pub enum PackageReqPartsParseError {
     InvalidPackageName,
     /// There is a `/`, and the text doesn't begin with `@`.
     MissingAtSymbol,
-    /// The range is invalid, or a path follows it.
-    VersionReq,
+    /// The requirement is invalid, by the strict grammar, or a path follows it.
+    SpecifierVersionReq(VersionReqSpecifierParseError),
+    /// The requirement is invalid, by npm's grammar.
+    NpmVersionReq(NpmVersionReqParseError),
+    /// The requirement is invalid, by the normalized grammar.
+    NormalizedVersionReq(VersionReqNormalizedParseError),
 }
 
-/// Why a text isn't a package with a range.
+impl PackageReqPartsParseError {
+    fn requirement(grammar: Grammar, message: String, text: &str) -> PackageReqPartsParseError {
+        match grammar {
+            Grammar::Strict => Self::SpecifierVersionReq(VersionReqSpecifierParseError::new(message, text)),
+            Grammar::Npm => Self::NpmVersionReq(NpmVersionReqParseError::new(message, text)),
+            Grammar::Normalized => Self::NormalizedVersionReq(VersionReqNormalizedParseError::new(message, text)),
+        }
+    }
+
+    fn path(path: &str) -> PackageReqPartsParseError {
+        let mut error = VersionReqSpecifierParseError::new("Unexpected character '/'".to_owned(), path);
+        error.source.code_snippet = Some(format!("/{path}"));
+        Self::SpecifierVersionReq(error)
+    }
+
+    /// What is wrong, in one line.
+    pub fn message(&self) -> &str {
+        match self {
+            Self::NoPackageName => "Did not contain a package name.",
+            Self::InvalidPackageName => "Did not contain a valid package name.",
+            Self::MissingAtSymbol => "Packages in the format <scope>/<name> must start with an '@' symbol.",
+            Self::SpecifierVersionReq(error) => error.message(),
+            Self::NpmVersionReq(error) => error.message(),
+            Self::NormalizedVersionReq(error) => error.message(),
+        }
+    }
+}
+
+impl fmt::Display for PackageReqPartsParseError {
+    fn fmt(&self, f: &mut fmt::Formatter<'_>) -> fmt::Result {
+        match self {
+            Self::SpecifierVersionReq(error) => error.fmt(f),
+            Self::NpmVersionReq(error) => error.fmt(f),
+            Self::NormalizedVersionReq(error) => error.fmt(f),
+            _ => f.write_str(self.message()),
+        }
+    }
+}
+
+impl Error for PackageReqPartsParseError {
+    fn source(&self) -> Option<&(dyn Error + 'static)> {
+        match self {
+            Self::SpecifierVersionReq(error) => error.source(),
+            Self::NpmVersionReq(error) => error.source(),
+            Self::NormalizedVersionReq(error) => error.source(),
+            _ => None,
+        }
+    }
+}
+
+/// Why a text isn't a package with a requirement.
 #[derive(Clone, Debug, PartialEq, Eq)]
 pub struct PackageReqParseError {
+    /// The text.
     pub text: String,
+    /// What is wrong with it.
     pub source: PackageReqPartsParseError,
-    message: String,
 }
 
 impl PackageReqParseError {
-    fn new(text: &str, message: String) -> PackageReqParseError {
-        let source = match message.as_str() {
-            "Did not contain a package name." => PackageReqPartsParseError::NoPackageName,
-            "Did not contain a valid package name." => PackageReqPartsParseError::InvalidPackageName,
-            "Packages in the format <scope>/<name> must start with an '@' symbol." => PackageReqPartsParseError::MissingAtSymbol,
-            _ => PackageReqPartsParseError::VersionReq,
-        };
-        PackageReqParseError { text: text.to_string(), source, message }
-    }
-
+    /// What is wrong, in one line.
     pub fn message(&self) -> &str {
-        &self.message
+        self.source.message()
     }
 }
 
 impl fmt::Display for PackageReqParseError {
     fn fmt(&self, f: &mut fmt::Formatter<'_>) -> fmt::Result {
-        write!(f, "Invalid package requirement '{}': {}", self.text, self.message)
+        write!(f, "Invalid package requirement '{}'", self.text)
     }
 }
 
-impl Error for PackageReqParseError {}
+impl Error for PackageReqParseError {
+    fn source(&self) -> Option<&(dyn Error + 'static)> {
+        Some(&self.source)
+    }
+}
+
+/// Why a text isn't a reference to a package.
+#[derive(Clone, Debug, PartialEq, Eq)]
+pub enum PackageReqReferenceParseError {
+    /// The text doesn't begin with this scheme.
+    NotExpectedScheme(PackageKind),
+    /// The package is invalid.
+    Invalid(Box<PackageReqReferenceInvalidParseError>),
+    /// The path has a version, and the package has none.
+    InvalidPathWithVersion(Box<PackageReqReferenceInvalidWithVersionParseError>),
+}
+
+impl fmt::Display for PackageReqReferenceParseError {
+    fn fmt(&self, f: &mut fmt::Formatter<'_>) -> fmt::Result {
+        match self {
+            Self::NotExpectedScheme(kind) => write!(f, "Not {} specifier", kind.scheme_with_colon()),
+            Self::Invalid(error) => error.fmt(f),
+            Self::InvalidPathWithVersion(error) => error.fmt(f),
+        }
+    }
+}
+
+impl Error for PackageReqReferenceParseError {
+    fn source(&self) -> Option<&(dyn Error + 'static)> {
+        match self {
+            Self::Invalid(error) => error.source(),
+            _ => None,
+        }
+    }
+}
+
+/// A reference whose package is invalid.
+#[derive(Clone, Debug, PartialEq, Eq)]
+pub struct PackageReqReferenceInvalidParseError {
+    /// The text.
+    pub specifier: String,
+    /// What is wrong with it.
+    pub source: PackageReqPartsParseError,
+}
+
+impl fmt::Display for PackageReqReferenceInvalidParseError {
+    fn fmt(&self, f: &mut fmt::Formatter<'_>) -> fmt::Result {
+        write!(f, "Invalid package specifier '{}'", self.specifier)
+    }
+}
+
+impl Error for PackageReqReferenceInvalidParseError {
+    fn source(&self) -> Option<&(dyn Error + 'static)> {
+        Some(&self.source)
+    }
+}
+
+/// A reference whose version is in its path.
+#[derive(Clone, Debug, PartialEq, Eq)]
+pub struct PackageReqReferenceInvalidWithVersionParseError {
+    /// The registry.
+    pub kind: PackageKind,
+    /// What is written, without the scheme.
+    pub current: String,
+    /// What may be meant.
+    pub suggested: String,
+}
+
+impl fmt::Display for PackageReqReferenceInvalidWithVersionParseError {
+    fn fmt(&self, f: &mut fmt::Formatter<'_>) -> fmt::Result {
+        let scheme = self.kind.scheme_with_colon();
+        write!(f, "The version stands in the path of '{scheme}{}'; write '{scheme}{}', ", self.current, self.suggested)?;
+        f.write_str("or add a version requirement to the package.")
+    }
+}
+
+impl Error for PackageReqReferenceInvalidWithVersionParseError {}
+
+macro_rules! version_error {
+    ($(#[$doc:meta])* $name:ident, $line:literal) => {
+        $(#[$doc])*
+        #[derive(Clone, Debug, PartialEq, Eq)]
+        pub struct $name {
+            /// What is wrong, in one line.
+            pub message: String,
+            /// The text.
+            pub text: String,
+        }
+
+        impl fmt::Display for $name {
+            fn fmt(&self, f: &mut fmt::Formatter<'_>) -> fmt::Result {
+                write!(f, "{} '{}'. {}", $line, self.text, self.message)
+            }
+        }
+
+        impl Error for $name {}
+    };
+}
+
+version_error!(
+    /// Why a text isn't a package with a version.
+    PackageNvParseError,
+    "Invalid package name and version"
+);
+version_error!(
+    /// Why a text isn't a reference to a package with a version.
+    PackageNvReferenceParseError,
+    "Invalid package name and version reference"
+);
+
+/// Defines the two references of a registry.
+macro_rules! references {
+    ($(#[$req_doc:meta])* $req:ident, $(#[$nv_doc:meta])* $nv:ident, $kind:ident) => {
+        $(#[$req_doc])*
+        #[derive(Clone, Debug, PartialEq, Eq, Hash)]
+        pub struct $req(pub $crate::package::PackageReqReference);
+
+        impl $req {
+            /// The reference of these parts.
+            pub fn new(inner: $crate::package::PackageReqReference) -> $req {
+                $req(inner)
+            }
+
+            /// Parses the reference that is a URL, such as a `url::Url`.
+            pub fn from_specifier(specifier: &impl AsRef<str>) -> Result<$req, $crate::package::PackageReqReferenceParseError> {
+                $req::from_str(specifier.as_ref())
+            }
+
+            /// Parses a reference, whose requirement is of the strict grammar.
+            #[allow(clippy::should_implement_trait)]
+            pub fn from_str(specifier: &str) -> Result<$req, $crate::package::PackageReqReferenceParseError> {
+                $crate::package::PackageReqReference::parse(specifier, $crate::package::PackageKind::$kind).map($req)
+            }
+
+            /// The package with its requirement.
+            pub fn req(&self) -> &$crate::package::PackageReq {
+                &self.0.req
+            }
+
+            /// The path behind the package.
+            pub fn sub_path(&self) -> Option<&str> {
+                self.0.sub_path.as_deref()
+            }
+
+            /// The parts.
+            pub fn into_inner(self) -> $crate::package::PackageReqReference {
+                self.0
+            }
+        }
+
+        impl std::fmt::Display for $req {
+            fn fmt(&self, f: &mut std::fmt::Formatter<'_>) -> std::fmt::Result {
+                write!(f, "{}{}", $crate::package::PackageKind::$kind.scheme_with_colon(), self.0)
+            }
+        }
+
+        $(#[$nv_doc])*
+        #[derive(Clone, Debug, PartialEq, Eq, PartialOrd, Ord, Hash)]
+        pub struct $nv(pub $crate::package::PackageNvReference);
+
+        impl $nv {
+            /// The reference of these parts.
+            pub fn new(inner: $crate::package::PackageNvReference) -> $nv {
+                $nv(inner)
+            }
+
+            /// Parses the reference that is a URL, such as a `url::Url`.
+            pub fn from_specifier(specifier: &impl AsRef<str>) -> Result<$nv, $crate::package::PackageNvReferenceParseError> {
+                $nv::from_str(specifier.as_ref())
+            }
+
+            /// Parses a reference.
+            #[allow(clippy::should_implement_trait)]
+            pub fn from_str(specifier: &str) -> Result<$nv, $crate::package::PackageNvReferenceParseError> {
+                $crate::package::PackageNvReference::parse(specifier, $crate::package::PackageKind::$kind).map($nv)
+            }
+
+            /// The reference as a URL.
+            #[cfg(feature = "url")]
+            pub fn as_specifier(&self) -> url::Url {
+                self.0.as_specifier($crate::package::PackageKind::$kind)
+            }
+
+            /// The package with its version.
+            pub fn nv(&self) -> &$crate::package::PackageNv {
+                &self.0.nv
+            }
+
+            /// The path behind the package.
+            pub fn sub_path(&self) -> Option<&str> {
+                self.0.sub_path.as_deref()
+            }
+
+            /// The parts.
+            pub fn into_inner(self) -> $crate::package::PackageNvReference {
+                self.0
+            }
+        }
+
+        impl std::fmt::Display for $nv {
+            fn fmt(&self, f: &mut std::fmt::Formatter<'_>) -> std::fmt::Result {
+                write!(f, "{}{}", $crate::package::PackageKind::$kind.scheme_with_colon(), self.0)
+            }
+        }
+    };
+}
+
+pub(crate) use references;

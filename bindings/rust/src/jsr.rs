@@ -1,0 +1,136 @@
+//! References to JSR packages, and the dependencies of one.
+
+use crate::calls;
+use crate::package::{references, PackageKind, PackageReq, PackageReqParseError};
+use crate::string::StackString;
+use std::borrow::Cow;
+use std::error::Error;
+use std::fmt;
+
+references!(
+    /// A reference to a JSR package, such as `jsr:@scope/name@^1.2/mod.ts`.
+    JsrPackageReqReference,
+    /// A reference to one version of a JSR package, such as `jsr:@scope/name@1.2.3/mod.ts`.
+    JsrPackageNvReference,
+    Jsr
+);
+
+impl JsrPackageReqReference {
+    /// The name of the export that the path means.
+    pub fn export_name(&self) -> Cow<'_, str> {
+        normalized_export_name(self.sub_path())
+    }
+}
+
+impl JsrPackageNvReference {
+    /// The name of the export that the path means.
+    pub fn export_name(&self) -> Cow<'_, str> {
+        normalized_export_name(self.sub_path())
+    }
+}
+
+/// The name of the export that a path in a JSR package means, such as `./mod.ts`; without a path, `.`.
+pub fn normalized_export_name(sub_path: Option<&str>) -> Cow<'_, str> {
+    let Some(path) = sub_path else {
+        return Cow::Borrowed(".");
+    };
+    calls::export_name(path, |name| match path.get(..name.len()) {
+        Some(front) if front == name => Cow::Borrowed(front),
+        _ if name == "." => Cow::Borrowed("."),
+        _ => Cow::Owned(name.to_owned()),
+    })
+}
+
+/// A dependency of a JSR package: a package of JSR or npm with a requirement, such as `npm:name@1`.
+#[derive(Clone, Debug, PartialEq, Eq, PartialOrd, Ord, Hash)]
+pub struct JsrDepPackageReq {
+    /// The registry.
+    pub kind: PackageKind,
+    /// The package.
+    pub req: PackageReq,
+}
+
+impl JsrDepPackageReq {
+    /// A dependency on a package of JSR.
+    pub fn jsr(req: PackageReq) -> JsrDepPackageReq {
+        JsrDepPackageReq { kind: PackageKind::Jsr, req }
+    }
+
+    /// A dependency on a package of npm.
+    pub fn npm(req: PackageReq) -> JsrDepPackageReq {
+        JsrDepPackageReq { kind: PackageKind::Npm, req }
+    }
+
+    /// Parses a dependency with a requirement of the strict grammar.
+    #[allow(clippy::should_implement_trait)]
+    pub fn from_str(text: &str) -> Result<JsrDepPackageReq, JsrDepPackageReqParseError> {
+        JsrDepPackageReq::parse(text, PackageReq::from_str)
+    }
+
+    /// Parses a dependency with a requirement of npm's grammar.
+    pub fn from_str_loose(text: &str) -> Result<JsrDepPackageReq, JsrDepPackageReqParseError> {
+        JsrDepPackageReq::parse(text, PackageReq::from_str_loose)
+    }
+
+    /// Parses a dependency with a requirement of the normalized grammar.
+    pub fn from_str_normalized(text: &str) -> Result<JsrDepPackageReq, JsrDepPackageReqParseError> {
+        JsrDepPackageReq::parse(text, PackageReq::from_str_normalized)
+    }
+
+    fn parse(
+        text: &str,
+        parse_req: fn(&str) -> Result<PackageReq, PackageReqParseError>,
+    ) -> Result<JsrDepPackageReq, JsrDepPackageReqParseError> {
+        for kind in [PackageKind::Jsr, PackageKind::Npm] {
+            if let Some(package) = text.strip_prefix(kind.scheme_with_colon()) {
+                return Ok(JsrDepPackageReq { kind, req: parse_req(package)? });
+            }
+        }
+        let scheme = text.split_once(':').map_or(text, |(scheme, _)| scheme);
+        Err(JsrDepPackageReqParseError::NotExpectedScheme(scheme.to_owned()))
+    }
+
+    /// The canonical form of the whole text, as it is stored. It isn't a URL.
+    pub fn to_string_normalized(&self) -> StackString {
+        StackString::concat(&[self.kind.scheme_with_colon(), &self.req.name, "@", self.req.version_req.normalized()])
+    }
+}
+
+impl fmt::Display for JsrDepPackageReq {
+    fn fmt(&self, f: &mut fmt::Formatter<'_>) -> fmt::Result {
+        write!(f, "{}{}", self.kind.scheme_with_colon(), self.req)
+    }
+}
+
+/// Why a text isn't a dependency.
+#[derive(Clone, Debug, PartialEq, Eq)]
+pub enum JsrDepPackageReqParseError {
+    /// The text begins with this scheme, or has none and is this.
+    NotExpectedScheme(String),
+    /// The package is invalid.
+    PackageReqParse(PackageReqParseError),
+}
+
+impl fmt::Display for JsrDepPackageReqParseError {
+    fn fmt(&self, f: &mut fmt::Formatter<'_>) -> fmt::Result {
+        match self {
+            Self::NotExpectedScheme(scheme) => write!(f, "A dependency begins with 'npm:' or 'jsr:', and not with '{scheme}'"),
+            Self::PackageReqParse(error) => error.fmt(f),
+        }
+    }
+}
+
+impl Error for JsrDepPackageReqParseError {
+    fn source(&self) -> Option<&(dyn Error + 'static)> {
+        match self {
+            Self::NotExpectedScheme(_) => None,
+            Self::PackageReqParse(error) => error.source(),
+        }
+    }
+}
+
+impl From<PackageReqParseError> for JsrDepPackageReqParseError {
+    fn from(error: PackageReqParseError) -> JsrDepPackageReqParseError {
+        JsrDepPackageReqParseError::PackageReqParse(error)
+    }
+}

@@ -1,0 +1,108 @@
+//! Partial versions, such as `1.2.*`, and the ranges that they mean in a requirement. Each is the range of a text that the proved library
+//! parses.
+
+use crate::calls::Grammar;
+use crate::range::{RangeBound, VersionBoundKind, VersionRange};
+use crate::version::{write_identifiers, VersionPreOrBuild};
+use crate::version_req::VersionReq;
+use crate::CowVec;
+use std::fmt;
+
+/// A number of a partial version, or any.
+#[derive(Clone, Copy, Debug, PartialEq, Eq)]
+pub enum XRange {
+    /// Any number.
+    Wildcard,
+    /// This number.
+    Val(u64),
+}
+
+impl fmt::Display for XRange {
+    fn fmt(&self, f: &mut fmt::Formatter<'_>) -> fmt::Result {
+        match self {
+            XRange::Wildcard => f.write_str("*"),
+            XRange::Val(number) => number.fmt(f),
+        }
+    }
+}
+
+/// A version of which numbers may be left open. Its methods panic if a number of a bound is larger than a `u64`.
+#[derive(Clone, Debug, PartialEq, Eq)]
+pub struct Partial {
+    /// The first number.
+    pub major: XRange,
+    /// The second number.
+    pub minor: XRange,
+    /// The third number.
+    pub patch: XRange,
+    /// The identifiers of the pre-release.
+    pub pre: CowVec<VersionPreOrBuild>,
+    /// The identifiers of the build.
+    pub build: CowVec<VersionPreOrBuild>,
+}
+
+impl fmt::Display for Partial {
+    fn fmt(&self, f: &mut fmt::Formatter<'_>) -> fmt::Result {
+        write!(f, "{}.{}.{}", self.major, self.minor, self.patch)?;
+        write_identifiers(&self.pre, &self.build, f)
+    }
+}
+
+/// The only range of a text.
+fn range(grammar: Grammar, text: &str) -> VersionRange {
+    let req = VersionReq::parse(grammar, text).unwrap_or_else(|message| panic!("{text}: {message}"));
+    match req.range() {
+        // A range that ends below 0.0.0 is dropped.
+        Some(ranges) => ranges.0.first().cloned().unwrap_or_else(VersionRange::none),
+        None => panic!("{text}: Version bound is too large."),
+    }
+}
+
+impl Partial {
+    /// The range of `~` before this.
+    pub fn as_tilde_version_range(&self) -> VersionRange {
+        range(Grammar::Strict, &format!("~{self}"))
+    }
+
+    /// The range of `^` before this.
+    pub fn as_caret_version_range(&self) -> VersionRange {
+        range(Grammar::Strict, &format!("^{self}"))
+    }
+
+    /// The range of this alone.
+    pub fn as_equal_range(&self) -> VersionRange {
+        range(Grammar::Strict, &self.to_string())
+    }
+
+    /// The range of `>=` before this, or of `>`.
+    pub fn as_greater_than(&self, start_kind: VersionBoundKind) -> VersionRange {
+        let equals = if start_kind == VersionBoundKind::Inclusive { "=" } else { "" };
+        range(Grammar::Normalized, &format!(">{equals}{self}"))
+    }
+
+    /// The range of `<=` before this, or of `<`.
+    pub fn as_less_than(&self, end_kind: VersionBoundKind) -> VersionRange {
+        let equals = if end_kind == VersionBoundKind::Inclusive { "=" } else { "" };
+        range(Grammar::Normalized, &format!("<{equals}{self}"))
+    }
+
+    /// The range of this alone without its pre-release and build. If its start is exclusive, so is its end.
+    pub fn as_greater_range(&self, start_kind: VersionBoundKind) -> VersionRange {
+        let range = Partial { pre: CowVec::new(), build: CowVec::new(), ..*self }.as_equal_range();
+        let of_kind = |bound: RangeBound| match bound {
+            RangeBound::Version(bound) if start_kind == VersionBoundKind::Exclusive => RangeBound::exclusive(bound.version),
+            bound => bound,
+        };
+        VersionRange { start: of_kind(range.start), end: of_kind(range.end) }
+    }
+
+    /// Where the range from this starts.
+    pub fn as_lower_bound(&self) -> RangeBound {
+        range(Grammar::Npm, &format!("{self} - *")).start
+    }
+
+    /// Where the range up to this ends.
+    pub fn as_upper_bound(&self) -> RangeBound {
+        range(Grammar::Npm, &format!("* - {self}")).end
+    }
+}

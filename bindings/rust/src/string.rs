@@ -1,0 +1,197 @@
+//! Strings that need no memory of their own while they are short.
+
+use std::borrow::{Borrow, Cow};
+use std::cmp::Ordering;
+use std::fmt;
+use std::hash::{Hash, Hasher};
+use std::ops::Deref;
+use std::path::Path;
+use std::sync::Arc;
+
+const SHORT: usize = 22;
+
+#[derive(Clone)]
+enum Text {
+    // The first `len` bytes are UTF-8.
+    Short { len: u8, bytes: [u8; SHORT] },
+    Long(Arc<str>),
+}
+
+/// A string of 24 bytes that holds up to 22 bytes of text itself; copies of a longer one share their text.
+#[derive(Clone)]
+pub struct StackString(Text);
+
+/// The other name that the crate `deno_semver` has for such a string.
+pub type SmallStackString = StackString;
+
+impl StackString {
+    /// An empty string. The capacity isn't used.
+    pub fn with_capacity(_size: usize) -> StackString {
+        StackString::default()
+    }
+
+    /// The string of a text that lives as long as the program.
+    pub fn from_static(text: &'static str) -> StackString {
+        StackString::from_str(text)
+    }
+
+    /// The string of a text.
+    #[allow(clippy::should_implement_trait)]
+    #[inline]
+    pub fn from_str(text: &str) -> StackString {
+        if text.len() > SHORT {
+            return StackString(Text::Long(text.into()));
+        }
+        let mut bytes = [0; SHORT];
+        bytes[..text.len()].copy_from_slice(text.as_bytes());
+        StackString(Text::Short { len: text.len() as u8, bytes })
+    }
+
+    pub(crate) fn concat(parts: &[&str]) -> StackString {
+        let len = parts.iter().map(|part| part.len()).sum::<usize>();
+        if len > SHORT {
+            return StackString::from_string(parts.concat());
+        }
+        let (mut bytes, mut end) = ([0; SHORT], 0);
+        for part in parts {
+            bytes[end..end + part.len()].copy_from_slice(part.as_bytes());
+            end += part.len();
+        }
+        StackString(Text::Short { len: len as u8, bytes })
+    }
+
+    /// The string of an owned text.
+    pub fn from_string(text: String) -> StackString {
+        StackString::from_str(&text)
+    }
+
+    /// The string of a text that is owned or borrowed.
+    pub fn from_cow(text: Cow<'_, str>) -> StackString {
+        StackString::from_str(&text)
+    }
+
+    /// The text.
+    #[inline]
+    pub fn as_str(&self) -> &str {
+        match &self.0 {
+            // Safety: the bytes were copied from a `str` of this length.
+            Text::Short { len, bytes } => unsafe { std::str::from_utf8_unchecked(&bytes[..usize::from(*len)]) },
+            Text::Long(text) => text,
+        }
+    }
+
+    /// Appends a character.
+    pub fn push(&mut self, c: char) {
+        self.push_str(c.encode_utf8(&mut [0; 4]));
+    }
+
+    /// Appends a text.
+    pub fn push_str(&mut self, text: &str) {
+        *self = StackString::from_string([self.as_str(), text].concat());
+    }
+
+    /// The string with each occurrence of a text replaced by another.
+    pub fn replace(&self, from: &str, to: &str) -> StackString {
+        StackString::from_string(self.as_str().replace(from, to))
+    }
+
+    /// The text as an owned one.
+    pub fn into_string(self) -> String {
+        self.as_str().to_owned()
+    }
+}
+
+impl Default for StackString {
+    fn default() -> StackString {
+        StackString(Text::Short { len: 0, bytes: [0; SHORT] })
+    }
+}
+
+impl Deref for StackString {
+    type Target = str;
+
+    fn deref(&self) -> &str {
+        self.as_str()
+    }
+}
+
+impl Borrow<str> for StackString {
+    fn borrow(&self) -> &str {
+        self.as_str()
+    }
+}
+
+impl AsRef<Path> for StackString {
+    fn as_ref(&self) -> &Path {
+        Path::new(self.as_str())
+    }
+}
+
+impl From<&str> for StackString {
+    fn from(text: &str) -> StackString {
+        StackString::from_str(text)
+    }
+}
+
+impl fmt::Display for StackString {
+    fn fmt(&self, f: &mut fmt::Formatter<'_>) -> fmt::Result {
+        self.as_str().fmt(f)
+    }
+}
+
+impl fmt::Debug for StackString {
+    fn fmt(&self, f: &mut fmt::Formatter<'_>) -> fmt::Result {
+        fmt::Debug::fmt(self.as_str(), f)
+    }
+}
+
+impl PartialEq for StackString {
+    fn eq(&self, other: &StackString) -> bool {
+        self.as_str() == other.as_str()
+    }
+}
+
+impl Eq for StackString {}
+
+impl PartialOrd for StackString {
+    fn partial_cmp(&self, other: &StackString) -> Option<Ordering> {
+        Some(self.cmp(other))
+    }
+}
+
+impl Ord for StackString {
+    fn cmp(&self, other: &StackString) -> Ordering {
+        self.as_str().cmp(other.as_str())
+    }
+}
+
+// As that of `str`, so that a map of these strings can be asked by a `&str`.
+impl Hash for StackString {
+    fn hash<H: Hasher>(&self, state: &mut H) {
+        self.as_str().hash(state);
+    }
+}
+
+macro_rules! equals {
+    ($($other:ty),*) => {$(
+        impl PartialEq<$other> for StackString {
+            fn eq(&self, other: &$other) -> bool {
+                self.as_str() == &other[..]
+            }
+        }
+
+        impl PartialEq<StackString> for $other {
+            fn eq(&self, other: &StackString) -> bool {
+                &self[..] == other.as_str()
+            }
+        }
+    )*};
+}
+
+equals!(str, &str, String, &String);
+
+impl PartialEq<&StackString> for String {
+    fn eq(&self, other: &&StackString) -> bool {
+        self == other.as_str()
+    }
+}

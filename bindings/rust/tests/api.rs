@@ -1,0 +1,311 @@
+//! What the table of questions can't ask: errors, packages and references, ranges that a caller builds, copies and threads.
+
+use deno_semver_proved::jsr::{JsrDepPackageReq, JsrDepPackageReqParseError, JsrPackageNvReference, JsrPackageReqReference};
+use deno_semver_proved::lists::{self, Fit, VersionList};
+use deno_semver_proved::lowest::{self, Lowest};
+use deno_semver_proved::npm::{parse_npm_version, parse_npm_version_req, NpmPackageNvReference, NpmPackageReqReference};
+use deno_semver_proved::package::{
+    json, PackageKind, PackageNv, PackageReq, PackageReqPartsParseError, PackageReqReferenceParseError,
+};
+use deno_semver_proved::{
+    Grammar, PreRelease, RangeBound, RangeSetOrTag, StackString, Version, VersionBoundKind, VersionParts, VersionRange,
+    VersionRangeSet, VersionReq, WILDCARD_VERSION_REQ,
+};
+use std::collections::{BTreeSet, HashMap, HashSet};
+use std::error::Error;
+use std::panic::{RefUnwindSafe, UnwindSafe};
+use std::sync::{Arc, LazyLock};
+use std::thread;
+
+fn version(text: &str) -> Version {
+    Version::parse_standard(text).unwrap()
+}
+
+fn npm(text: &str) -> VersionReq {
+    VersionReq::parse_from_npm(text).unwrap()
+}
+
+#[allow(clippy::mutable_key_type)]
+#[test]
+fn requirements() {
+    let req = npm(" >=1.2 <2 || 3 ");
+    let rc = version("1.3.0-rc.1");
+    assert!(!req.matches(&rc) && req.matches_with(&rc, PreRelease::Admitted));
+    assert_eq!((req.version_text(), req.to_string_normalized().as_str()), (">=1.2 <2 || 3", "^1.2.0 || 3"));
+    assert_eq!((format!("{req:?}"), format!("{rc:?}")), ("VersionReq(>=1.2 <2 || 3)".into(), "Version(1.3.0-rc.1)".into()));
+    assert_eq!(req.min_version(PreRelease::Restricted), Lowest::Version("1.2.0".into()));
+    assert_eq!(HashSet::from([req.clone(), req, npm("^1.2.0 || 3.x")]).len(), 1);
+}
+
+#[test]
+fn tags() {
+    let tag = VersionReq::parse_from_specifier("latest").unwrap();
+    assert_eq!((tag.tag(), tag.range(), npm("1").tag()), (Some("latest"), None, None));
+    assert_eq!(tag.inner(), &RangeSetOrTag::Tag("latest".into()));
+    // A tag that reads as a range stays a tag.
+    let one = VersionReq::from_raw_text_and_inner("one".into(), RangeSetOrTag::Tag("1".into()));
+    assert_eq!((one.tag(), one.version_text(), one == npm("1")), (Some("1"), "one", false));
+}
+
+#[test]
+#[should_panic(expected = "the tag latest")]
+fn tags_match_nothing() {
+    npm("latest").matches(&version("1.0.0"));
+}
+
+#[test]
+#[should_panic(expected = "a valid tag: a b")]
+fn tags_are_valid() {
+    VersionReq::from_raw_text_and_inner("".into(), RangeSetOrTag::Tag("a b".into()));
+}
+
+// The order of versions is that of their texts, which don't change.
+#[allow(clippy::mutable_key_type)]
+#[test]
+fn versions() {
+    let v = version(" = v1.2.3-pre.4+build.5");
+    assert_eq!((v.major, v.minor, v.patch), (1, 2, 3));
+    assert_eq!((v.pre.join("."), v.build.join(".")), ("pre.4".into(), "build.5".into()));
+    assert_eq!(v.clone().into_req(), npm("1.2.3-pre.4+build.5"));
+    assert_eq!(Version::default(), version("0.0.0"));
+    let long = format!("1.2.3-{}", "a.".repeat(200) + "b");
+    assert_eq!((version(&long).to_string(), version(&long).pre.len()), (long.clone(), 201));
+    let parts = VersionParts { major: 1, pre: vec!["a.b".into()], ..VersionParts::default() };
+    assert_eq!(Version::from_parts(parts).unwrap_err().to_string(), "Invalid version");
+    let sorted: BTreeSet<Version> = ["1.0.0", "1.0.0-a", "0.1.0"].map(version).into();
+    assert_eq!(sorted.iter().map(Version::to_string).collect::<Vec<_>>(), ["0.1.0", "1.0.0-a", "1.0.0"]);
+}
+
+/// The displays of an error and of its causes.
+fn chain(error: &dyn Error) -> Vec<String> {
+    std::iter::successors(Some(error), |error| (*error).source()).map(ToString::to_string).collect()
+}
+
+#[test]
+fn errors() {
+    let error = parse_npm_version("1.0").unwrap_err();
+    let message = "Missing patch version. Versions must be in the form MAJOR.MINOR.PATCH (ex. 1.0.0).";
+    assert_eq!((error.message(), error.source.code_snippet.as_deref()), (message, Some("1.0")));
+    assert_eq!(chain(&error), ["Invalid npm version".to_string(), format!("{message}\n  1.0\n  ~")]);
+    let error = parse_npm_version_req(">=^1").unwrap_err();
+    assert_eq!(chain(&error), ["Invalid version requirement", "Unexpected character."]);
+    let error = PackageReq::from_str("name@").unwrap_err();
+    let line = "Invalid specifier version requirement";
+    assert_eq!(chain(&error), ["Invalid package requirement 'name@'", line, "Empty version constraint."]);
+    assert_eq!(error.message(), "Empty version constraint.");
+    let error = JsrDepPackageReq::from_str("other:a@1").unwrap_err();
+    assert_eq!(error, JsrDepPackageReqParseError::NotExpectedScheme("other".into()));
+    let error = PackageNv::from_str("name@1").unwrap_err();
+    assert_eq!(error.message, "Missing minor version. Versions must be in the form MAJOR.MINOR.PATCH (ex. 1.0.0).");
+    assert_eq!(lists::filter(Grammar::Npm, "!", "", PreRelease::Restricted).unwrap_err().place, 0);
+}
+
+#[test]
+fn packages() {
+    let req = PackageReq::from_str_loose("@scope/name@1.x").unwrap();
+    assert_eq!((req.to_string(), req.to_string_normalized().as_str()), ("@scope/name@1.x".into(), "@scope/name@1"));
+    for (text, is_right) in [
+        ("", (|error| *error == PackageReqPartsParseError::NoPackageName) as fn(&PackageReqPartsParseError) -> bool),
+        ("@scope", |error| *error == PackageReqPartsParseError::InvalidPackageName),
+        ("scope/name", |error| *error == PackageReqPartsParseError::MissingAtSymbol),
+        ("name@", |error| matches!(error, PackageReqPartsParseError::SpecifierVersionReq(_))),
+        ("@scope/name@1/path", |error| error.message() == "Unexpected character '/'"),
+    ] {
+        assert!(is_right(&PackageReq::from_str(text).unwrap_err().source), "{text}");
+    }
+    let nv = PackageNv::from_str("@scope/name@1.2.3").unwrap();
+    assert_eq!((nv.scope(), format!("{nv:?}")), (Some("@scope"), "@scope/name@1.2.3".to_string()));
+    assert_eq!(nv.into_req(), PackageReq::from_str("@scope/name@1.2.3").unwrap());
+}
+
+#[test]
+fn packages_are_ordered() {
+    let texts = ["a@tag-2", "a@tag-1", "a@>3.0.0", "a@3.0.0", "a@3.0.0+b", "a@3", "a@>=3.0.0", "a@>=3 || 5.x", "a@1", "a", "b"];
+    let reqs = texts.map(|text| PackageReq::from_str_loose(text).unwrap());
+    assert!(reqs.is_sorted_by(|one, other| one < other));
+}
+
+#[test]
+fn references() {
+    let reference = JsrPackageReqReference::from_str("jsr:/@scope/name@^1/mod.ts").unwrap();
+    assert_eq!((reference.sub_path(), reference.export_name().as_ref()), (Some("mod.ts"), "./mod.ts"));
+    assert_eq!((reference.to_string(), &*reference.req().name), ("jsr:@scope/name@^1/mod.ts".into(), "@scope/name"));
+    let not_npm = NpmPackageReqReference::from_specifier(&"jsr:a").unwrap_err();
+    assert_eq!(not_npm, PackageReqReferenceParseError::NotExpectedScheme(PackageKind::Npm));
+    let PackageReqReferenceParseError::InvalidPathWithVersion(error) =
+        JsrPackageReqReference::from_str("jsr:@a/b/c@1").unwrap_err()
+    else {
+        panic!("the version is in the path");
+    };
+    assert_eq!((error.current.as_str(), error.suggested.as_str()), ("@a/b/c@1", "@a/b@1/c"));
+    let pinned = NpmPackageNvReference::from_str("npm:name@1.2.3/path").unwrap();
+    assert_eq!((pinned.to_string(), pinned.nv().to_string()), ("npm:name@1.2.3/path".into(), "name@1.2.3".into()));
+    assert_eq!(JsrPackageNvReference::from_str("npm:name@1.2.3").unwrap_err().message, "Unexpected character.");
+}
+
+// The parts as the library's JSON has them.
+fn package_json(req: &PackageReq) -> String {
+    let (scope, name) = match req.name.strip_prefix('@').map(|name| name.split_once('/').unwrap()) {
+        Some((scope, name)) => (format!("\"{scope}\""), name),
+        None => ("null".to_string(), req.name.as_str()),
+    };
+    let (normal, requirement) = (req.version_req.to_string_normalized(), req.version_req.version_text());
+    format!(r#"{{"name":"{name}","normal":"{normal}","requirement":"{requirement}","scope":{scope}}}"#)
+}
+
+fn reference_json(export: &str, kind: &str, package: &str, path: Option<&str>) -> String {
+    let path = path.map_or("null".to_string(), |path| format!("\"{path}\""));
+    format!(r#"{{"export":{export},"kind":"{kind}","package":{package},"path":{path}}}"#)
+}
+
+fn nv_json(nv: &PackageNv) -> String {
+    let scope = nv.scope().map_or("null".to_string(), |scope| format!("\"{}\"", &scope[1..]));
+    let rest = &nv.name[nv.scope().map_or(0, str::len)..];
+    let name = rest.strip_prefix('/').filter(|_| nv.scope().is_some()).unwrap_or(rest);
+    format!(r#"{{"name":"{name}","scope":{scope},"version":"{}"}}"#, nv.version)
+}
+
+/// A text of pieces of packages, another one for each seed.
+fn text(seed: u32) -> String {
+    let pieces = ["@", "@", "/", "/", "a", "b", "1", "1.2.3", "^1", "-", "_", ".", " ", "é", "x", "latest", "||"];
+    let mut state = seed.wrapping_mul(2_654_435_761);
+    let mut next = |below: usize| {
+        state = state.wrapping_mul(1_664_525).wrapping_add(1_013_904_223);
+        (state >> 16) as usize % below
+    };
+    (0..next(8)).map(|_| pieces[next(pieces.len())]).collect()
+}
+
+// The types split names and paths off themselves. The proved calls for whole packages must find the same parts.
+#[test]
+fn packages_are_those_of_the_library() {
+    for text in (0..60_000).map(text) {
+        for (grammar, read) in [
+            (Grammar::Strict, PackageReq::from_str(&text)),
+            (Grammar::Npm, PackageReq::from_str_loose(&text)),
+            (Grammar::Normalized, PackageReq::from_str_normalized(&text)),
+        ] {
+            let ours = read.as_ref().map(package_json).map_err(|error| error.message().to_string());
+            assert_eq!(ours, json::package(grammar, &text), "{text:?}");
+        }
+        let ours = PackageNv::from_str(&text).map(|nv| nv_json(&nv)).map_err(|error| error.message);
+        assert_eq!(ours, json::name_with_version(&text), "{text:?}");
+    }
+}
+
+#[test]
+fn references_are_those_of_the_library() {
+    for text in (0..60_000).map(text) {
+        let (jsr, npm) = (format!("jsr:{text}"), format!("npm:{text}"));
+        let ours = JsrPackageReqReference::from_str(&jsr).ok().map(|reference| {
+            let export = format!("{:?}", reference.export_name());
+            reference_json(&export, "jsr", &package_json(reference.req()), reference.sub_path())
+        });
+        assert_eq!(ours, json::reference(&jsr).ok(), "{jsr:?}");
+        let ours = NpmPackageReqReference::from_str(&npm).ok();
+        let ours = ours.map(|reference| reference_json("null", "npm", &package_json(reference.req()), reference.sub_path()));
+        assert_eq!(ours, json::reference(&npm).ok(), "{npm:?}");
+        let ours = JsrPackageNvReference::from_str(&jsr).map_err(|error| error.message).map(|reference| {
+            let export = format!("{:?}", reference.export_name());
+            reference_json(&export, "jsr", &nv_json(reference.nv()), reference.sub_path())
+        });
+        assert_eq!(ours, json::version_reference(&jsr), "{jsr:?}");
+        let ours = JsrDepPackageReq::from_str(&npm).ok().map(|dependency| {
+            let package = package_json(&dependency.req);
+            format!(r#"{{"kind":"npm","normal":"{}","package":{package}}}"#, dependency.to_string_normalized())
+        });
+        assert_eq!(ours, json::dependency(Grammar::Strict, &npm).ok(), "{npm:?}");
+    }
+}
+
+#[test]
+fn ranges() {
+    let from = |start: &str, kind, end: &str| VersionRange {
+        start: RangeBound::inclusive(version(start)),
+        end: RangeBound::version(kind, version(end)),
+    };
+    let caret = from("1.2.3", VersionBoundKind::Exclusive, "2.0.0");
+    assert_eq!(npm("^1.2.3").range(), Some(&VersionRangeSet(vec![caret.clone()])));
+    assert!(caret.satisfies(&version("1.3.0")) && !caret.satisfies(&version("1.3.0-a")));
+    assert!(caret.intersects_range(&VersionRange::all()) && VersionRange::none().is_none());
+    assert_eq!(caret.clamp(&from("1.0.0", VersionBoundKind::Inclusive, "1.5.0")).to_string(), ">=1.2.3 <=1.5.0");
+    assert_eq!(VersionRangeSet(Vec::new()).to_string(), "<0.0.0");
+    let req = VersionReq::from_raw_text_and_inner("mine".into(), RangeSetOrTag::RangeSet(VersionRangeSet(vec![caret])));
+    assert_eq!((req == npm("^1.2.3"), req.to_string()), (true, "mine".to_string()));
+}
+
+#[test]
+fn beyond_the_original() {
+    let common = lowest::common_version(Grammar::Npm, ">1.0.0\n<1.0.1", PreRelease::Restricted);
+    assert_eq!(common, Ok(Lowest::Nothing));
+    let outside = lowest::outside(Grammar::Npm, ">=1.3", "^1.2", PreRelease::Restricted);
+    assert_eq!(outside, Ok(Lowest::Version("2.0.0".into())));
+    assert_eq!(lowest::equivalent(Grammar::Npm, "1.x", "^1.0.0", PreRelease::Restricted), Ok(Some(true)));
+    let list = VersionList::parse("1.2.0\n2.0.0\r\nfoo\n1.9.9\n");
+    assert_eq!(list.filter(&npm("^1.2"), PreRelease::Restricted), [Fit::Yes, Fit::No, Fit::Invalid, Fit::Yes]);
+    assert_eq!(lists::sort("2.0.0\n1.0.0"), Ok(vec![1, 0]));
+}
+
+#[test]
+fn strings() {
+    let long = "a text that is longer than what fits into the string itself";
+    for text in ["", "short", "exactly 22 bytes long.", "23 bytes need the heap.", long] {
+        let mut string = StackString::from(text);
+        assert_eq!((string.as_str(), string.len(), &string.clone()), (text, text.len(), &string));
+        string.push('é');
+        assert_eq!(string, format!("{text}é"));
+    }
+    let map = HashMap::from([(StackString::from("key"), 1)]);
+    assert_eq!((map.get("key"), StackString::from("a.b").replace(".", "")), (Some(&1), "ab".into()));
+    assert_eq!(size_of::<StackString>(), 24);
+}
+
+// What callers may do with each type, as with those of `deno_semver`.
+#[test]
+fn types_are_plain() {
+    fn is_plain<T: Clone + Send + Sync + Unpin + UnwindSafe + RefUnwindSafe + 'static>() {}
+    is_plain::<Version>();
+    is_plain::<VersionReq>();
+    is_plain::<PackageReq>();
+    is_plain::<NpmPackageNvReference>();
+    is_plain::<VersionList>();
+    is_plain::<StackString>();
+}
+
+static SHARED: LazyLock<VersionReq> = LazyLock::new(|| npm("^1.2 || >=3"));
+
+// Threads ask of the same values at once, which were made by one of them or by another thread, and in both orders.
+#[test]
+fn values_are_shared() {
+    let versions: Arc<Vec<Version>> = Arc::new(["1.3.0", "2.0.0", "3.0.0-a", "3.0.0"].map(version).into());
+    assert!(WILDCARD_VERSION_REQ.matches(&versions[0]) && versions[0] < versions[1]);
+    let ask = |n: usize| {
+        let (versions, reversed) = (versions.clone(), n % 2 == 0);
+        move || {
+            for _ in 0..2_000 {
+                assert_eq!(
+                    versions.iter().map(|version| SHARED.matches(version)).collect::<Vec<_>>(),
+                    [true, false, false, true]
+                );
+                let mut list = versions.to_vec();
+                if reversed {
+                    list.reverse();
+                }
+                list.sort();
+                assert_eq!((&list, SHARED.intersects(&WILDCARD_VERSION_REQ)), (&*versions, true));
+                assert!(!WILDCARD_VERSION_REQ.eq(&SHARED) && SHARED.intersects(&SHARED.clone()));
+            }
+        }
+    };
+    let threads: Vec<_> = (0..4).map(|n| thread::spawn(ask(n))).collect();
+    threads.into_iter().for_each(|thread| thread.join().unwrap());
+}
+
+#[test]
+fn values_are_sent() {
+    let (req, copy) = (npm("^1.2 || >=3"), npm("1"));
+    let matching = thread::spawn(move || (req.matches(&version("v1.3.0")), req)).join().unwrap();
+    assert!(matching.0 && matching.1.intersects(&copy));
+    let made_elsewhere = thread::spawn(|| (npm("^1"), version("1.0.0"))).join().unwrap();
+    assert!(made_elsewhere.0.matches(&made_elsewhere.1) && made_elsewhere.0.clone().matches(&made_elsewhere.1.clone()));
+}
