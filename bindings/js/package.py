@@ -1,0 +1,81 @@
+"""Makes the npm package, which has the sources, the module as base64, the same as CommonJS, and types for both; and the page."""
+import base64
+import pathlib
+import re
+import shutil
+
+HERE = pathlib.Path(__file__).resolve().parent
+FOLDER = HERE / "out/package"
+PAGE = HERE / "out/page/index.html"
+ENTRANCES = ("index", "compat")
+MODULES_OF_PAGE = ("wasm", "calls", "places", "errors", "held", "versions", "lists", "ranges", "explain", "index")
+IMPORT = re.compile(r"^import \{([^}]*)\} from '(\./[^']+)\.js';\n", re.M)
+IMPORT_OF_PAGE = re.compile(r"^import \{[^}]*\} from '[^']+';\n", re.M)
+EXPORT_FROM = re.compile(r"^export \{([^}]*)\} from '(\./[^']+)\.js';\n", re.M)
+EXPORT = re.compile(r"^export (?=(?:function|class|const|let) (\w+))", re.M)
+DEFAULT = re.compile(r"^export default ", re.M)
+
+
+def names(listed):
+    return ", ".join(name.strip() for name in listed.split(",") if name.strip())
+
+
+def as_commonjs(source):
+    """An ES module of this package as CommonJS. It knows the forms of import and export that the sources have, and no others."""
+    exported = EXPORT.findall(source)
+    source = IMPORT.sub(lambda it: f"const {{ {names(it[1])} }} = require('{it[2]}.cjs');\n", source)
+    for listed, module in EXPORT_FROM.findall(source):
+        exported += [f"{name}: require('{module}.cjs').{name}" for name in names(listed).split(", ")]
+    if DEFAULT.search(source):
+        exported.append("default: all")
+    source = DEFAULT.sub("const all = ", EXPORT.sub("", EXPORT_FROM.sub("", source)))
+    if left := re.search(r"^(import|export)\b.*", source, re.M):
+        raise ValueError(f"package.py: {left.group()}")
+    members = "".join(f"  {name},\n" for name in exported)
+    return f"'use strict';\n{source}\nmodule.exports = {{\n{members}}};\n"
+
+
+def wasm_module(wasm):
+    text = base64.b64encode(wasm.read_bytes()).decode()
+    return f"// semver.wasm, as base64.\nexport const base64 =\n  '{text}';\n"
+
+
+def without_links(page):
+    """A page of the repository for the package, which has NODE_SEMVER.md beside it and no other page."""
+    page = page.replace("](../../docs/NODE_SEMVER.md)", "](NODE_SEMVER.md)")
+    return re.sub(r"\[([^\]]*)\]\((?!NODE_SEMVER)[^)]*\)", r"\1", page)
+
+
+def make_page(sources):
+    """Makes the page as one file, out/page/index.html, so that a browser opens it from a disk too. In one script, no two modules may have
+    the same name."""
+    modules = [sources[f"{name}.js"] for name in MODULES_OF_PAGE]
+    modules += [(HERE / f"page/{name}.js").read_text() for name in ("number-line", "page")]
+    script = "\n".join(EXPORT.sub("", EXPORT_FROM.sub("", IMPORT_OF_PAGE.sub("", module))) for module in modules)
+    style = (HERE / "page/style.css").read_text()
+    page = (HERE / "page/index.html").read_text()
+    page = page.replace('<link rel="stylesheet" href="style.css">', f"<style>\n{style}</style>")
+    page = page.replace('<script type="module" src="page.js"></script>', f'<script type="module">\n{script}</script>')
+    PAGE.parent.mkdir(parents=True, exist_ok=True)
+    PAGE.write_text(page)
+
+
+def make(wasm):
+    """Makes the package of this module of WebAssembly in out/package, and the page."""
+    shutil.rmtree(FOLDER, ignore_errors=True)
+    FOLDER.mkdir(parents=True)
+    sources = {path.name: path.read_text() for path in (HERE / "src").glob("*.js")}
+    sources["wasm.js"] = wasm_module(wasm)
+    for name, source in sources.items():
+        (FOLDER / name).write_text(source)
+        (FOLDER / name).with_suffix(".cjs").write_text(as_commonjs(source))
+    for name in ENTRANCES:
+        types = (HERE / f"src/{name}.d.ts").read_text()
+        (FOLDER / f"{name}.d.ts").write_text(types)
+        (FOLDER / f"{name}.d.cts").write_text(types.replace(".js'", ".cjs'"))
+    top = HERE.parents[1]
+    for path in (HERE / "package.json", top / "LICENSE"):
+        shutil.copy(path, FOLDER)
+    for path in (HERE / "README.md", top / "docs/NODE_SEMVER.md"):
+        (FOLDER / path.name).write_text(without_links(path.read_text()))
+    make_page(sources)

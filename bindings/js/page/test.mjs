@@ -1,0 +1,134 @@
+// Types into the page in a browser, and reads it: node test.mjs
+//
+// It writes screenshots to out/page.
+
+import assert from 'node:assert/strict';
+import { fileURLToPath } from 'node:url';
+import { Browser } from './browser.mjs';
+
+const folder = new URL('../out/page/', import.meta.url);
+const browser = await Browser.open(new URL('index.html', folder).href);
+const shot = (name) => browser.screenshot(fileURLToPath(new URL(name, folder)));
+
+/** Replaces the text of a field as someone who types does. */
+async function type(id, text) {
+  await browser.evaluate(`document.getElementById('${id}').select(), document.getElementById('${id}').focus()`);
+  if (text === '') await browser.evaluate(`document.execCommand('delete')`);
+  else await browser.type(text);
+}
+
+/** The terms and values of a list. */
+const pairs = (id) => browser.evaluate(`Object.fromEntries([...document.querySelectorAll('#${id} dt')].map((it) =>
+  [it.textContent, it.nextElementSibling.textContent]))`);
+const cells = () => browser.evaluate(`[...document.querySelectorAll('#alternatives tr')].map((row) =>
+  [...row.children].map((cell) => cell.textContent))`);
+const text = (selector) => browser.evaluate(`document.querySelector('${selector}')?.textContent ?? ''`);
+const count = (selector) => browser.evaluate(`document.querySelectorAll('${selector}').length`);
+const isHidden = (id) => browser.evaluate(`document.getElementById('${id}').hidden`);
+
+async function meaning() {
+  assert.deepEqual(await pairs('summary'), { 'Canonical form': '^1.2.0 || 3', 'Lowest version': '1.2.0' });
+  assert.deepEqual(await cells(), [
+    ['>=1.2 <2', '>=1.2.0 <2.0.0', 'none', '1.2.0'],
+    ['3.x', '>=3.0.0 <4.0.0', 'none', '3.0.0'],
+  ]);
+  assert.equal(await count('svg circle'), 4);
+  await type('range', '>1.2.3-beta.1 <=2.0.0 || <1 || 5.0.0');
+  assert.deepEqual(await cells(), [
+    ['>1.2.3-beta.1 <=2.0.0', '>1.2.3-beta.1 <=2.0.0', 'of 1.2.3', '1.2.3-beta.1.0'],
+    ['<1', '>=0.0.0 <1.0.0', 'none', '0.0.0'],
+    ['5.0.0', 'only 5.0.0', 'none', '5.0.0'],
+  ]);
+  assert.equal(await count('svg .pre-releases'), 1);
+  await type('range', '>1.0.0 <1.0.1');
+  assert.equal(await count('svg .nothing'), 1);
+  assert.deepEqual(await pairs('summary'), { 'Canonical form': '>1.0.0 <1.0.1', 'Lowest version': 'no version matches' });
+  await type('range', 'latest');
+  assert.deepEqual(await pairs('summary'), { Tag: 'latest' });
+  assert.equal(await count('svg'), 0);
+}
+
+async function mistakes() {
+  await type('range', '^1.2.3.4');
+  assert.match(await text('#range-problem'), /Unexpected character/);
+  assert.match(await text('#range-problem pre'), /^\^1\.2\.3\.4\n {6}\^$/);
+  assert.equal(await browser.evaluate(`document.getElementById('range').getAttribute('aria-invalid')`), 'true');
+  await type('range', '1 || foo bar');
+  assert.match(await text('tr.left-out'), /foo bar.*left out/);
+  assert.equal(await text('svg .left-out'), 'foo bar');
+  assert.match(await text('#range-problem pre'), /\n {8}\^$/);
+  await shot('mistake.png');
+}
+
+async function comparison() {
+  await type('range', '>=1.3');
+  assert.equal(await isHidden('comparison'), true);
+  await type('other', '^1.2');
+  assert.deepEqual(await pairs('answers'), {
+    'Canonical form': '^1.2.0',
+    'Lowest common version': '1.3.0',
+    'Bounds overlap': 'yes',
+    'First within second': 'no: 2.0.0',
+    'Second within first': 'no: 1.2.0',
+    'Same versions': 'no',
+  });
+  assert.equal(await count('svg .second'), 1);
+  await type('other', '>=1.3.0 <2 || >=2');
+  assert.equal((await pairs('answers'))['Second within first'], 'yes');
+}
+
+async function options() {
+  await type('other', '');
+  await type('range', '>1.0.0 <1.0.1');
+  await browser.evaluate(`document.getElementById('pre-releases').focus()`);
+  await browser.press(' ', 'Space');
+  assert.equal((await pairs('summary'))['Lowest version'], '1.0.1-0');
+  assert.equal((await cells())[0][2], 'all between the bounds');
+  await browser.press(' ', 'Space');
+}
+
+/** The fields come in order by the Tab key, and a screen reader is given their labels, the picture's text and the table. */
+async function accessibility() {
+  await type('range', '~1.2.3-beta || 2 || 3.x.y');
+  await type('other', '^1');
+  await browser.evaluate(`document.getElementById('range').focus()`);
+  const visited = [];
+  for (let i = 0; i < 4; i++) {
+    visited.push(await browser.evaluate('document.activeElement.id'));
+    await browser.press('Tab');
+  }
+  assert.deepEqual(visited, ['range', 'other', 'grammar', 'pre-releases']);
+  const nodes = await browser.accessible();
+  const has = (role, name) => assert.ok(nodes.some((it) => it[0] === role && name.test(it[1])), `${role} ${name}`);
+  has('textbox', /^Range$/);
+  has('textbox', /^Compare with$/);
+  has('combobox', /^Grammar$/);
+  has('checkbox', /^every pre-release/);
+  has('image', /~1\.2\.3-beta: >=1\.2\.3-beta <1\.3\.0; 2: >=2\.0\.0 <3\.0\.0/);
+  has('columnheader', /^Bounds$/);
+  const range = nodes.find(([role, name]) => role === 'textbox' && name === 'Range');
+  assert.match(range[2], /Unexpected character/);
+}
+
+async function pictures() {
+  await type('range', '>=1.2 <2 || ~3.1.0-rc.1 || >5.0.0 || foo bar');
+  await type('other', '^1.4 || <=3.1.0');
+  await shot('light.png');
+  await browser.colors('dark');
+  await shot('dark.png');
+  await browser.colors('light');
+  await browser.size(380, 900);
+  const isNarrow = await browser.evaluate('document.documentElement.scrollWidth <= innerWidth');
+  await shot('narrow.png');
+  assert.ok(isNarrow, 'the page is wider than a phone');
+}
+
+try {
+  assert.deepEqual(browser.errors, []);
+  for (const part of [meaning, mistakes, comparison, options, accessibility, pictures]) await part();
+  assert.deepEqual(browser.errors, []);
+  assert.deepEqual(browser.requests.filter((url) => !url.startsWith('file:') && !url.startsWith('data:')), []);
+  console.log('The page answers in a browser, without a request to the network');
+} finally {
+  await browser.close();
+}

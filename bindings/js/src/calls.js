@@ -1,0 +1,137 @@
+// The calls of semver.wasm: texts in, a code out, and then what the call wrote.
+
+import { base64 } from './wasm.js';
+
+/** The codes of the C API: answers are 0 and above, the others are negative. */
+export const NO = 0;
+export const YES = 1;
+export const TAG = -1;
+export const INVALID_RANGE = -2;
+export const INVALID_VERSION = -3;
+export const NOT_UTF8 = -4;
+export const NO_MEMORY = -6;
+
+const bytes = Uint8Array.from(atob(base64), (character) => character.charCodeAt(0));
+
+/** The exports of the module. */
+export const wasm = new WebAssembly.Instance(new WebAssembly.Module(bytes)).exports;
+
+const encoder = new TextEncoder();
+const decoder = new TextDecoder();
+const SHORT = 48; // up to this length a loop over the characters is faster than TextEncoder and TextDecoder
+const NOT_ENCODABLE = 0xff; // a byte that is in no UTF-8, so that a text with it is rejected
+
+let memory = new Uint8Array(wasm.memory.buffer);
+let input = 0;
+let room = 0;
+
+/** The memory of the module. When it grows, the view of before has no length. */
+function view() {
+  if (memory.length === 0) memory = new Uint8Array(wasm.memory.buffer);
+  return memory;
+}
+
+/** Makes room for texts with so many UTF-16 units, each of which has three bytes at most. */
+function reserve(units) {
+  const size = 3 * units + 1;
+  if (size <= room) return;
+  const start = wasm.input(size) >>> 0; // exports return signed numbers
+  if (start === 0) throw outOfMemory();
+  input = start;
+  room = size;
+}
+
+/** Whether the text has no lone surrogate. */
+export function isWellFormed(text) {
+  return text.isWellFormed ? text.isWellFormed() : !/\p{Surrogate}/u.test(text);
+}
+
+/** Writes a text `offset` bytes behind the start of the input, and returns how many bytes it has. */
+function put(text, offset) {
+  const target = view();
+  const start = input + offset;
+  const { length } = text;
+  if (length <= SHORT) {
+    let i = 0;
+    for (; i < length; i++) {
+      const unit = text.charCodeAt(i);
+      if (unit > 127) break;
+      target[start + i] = unit;
+    }
+    if (i === length) return length;
+  }
+  const { written } = encoder.encodeInto(text, target.subarray(start));
+  if (written === length || isWellFormed(text)) return written;
+  target[start] = NOT_ENCODABLE;
+  return 1;
+}
+
+/** Writes a text to the input, and returns its length there. */
+export function write(text) {
+  reserve(text.length);
+  return put(text, 0);
+}
+
+/** Calls with the lengths of two texts behind the grammar: `call(grammar, a, b, last)`. */
+export function ask2(call, grammar, one, other, last) {
+  reserve(one.length + other.length);
+  const a = put(one, 0);
+  return call(grammar, a, put(other, a), last);
+}
+
+/** Calls with the length of one text behind the grammar: `call(grammar, a, last)`. */
+export function ask1(call, grammar, text, last) {
+  return call(grammar, write(text), last);
+}
+
+/** Compares two texts of versions. */
+export function askCompare(one, other) {
+  reserve(one.length + other.length);
+  const a = put(one, 0);
+  return wasm.compare(a, put(other, a));
+}
+
+/** The bytes that the last call wrote; they change with the next call. */
+function written() {
+  const start = wasm.output() >>> 0;
+  return view().subarray(start, start + wasm.output_len());
+}
+
+/** The text that the last call wrote. */
+export function text() {
+  const start = wasm.output() >>> 0;
+  const end = start + wasm.output_len();
+  const source = view();
+  if (end - start <= SHORT) {
+    let short = '';
+    let i = start;
+    for (; i < end && source[i] < 128; i++) short += String.fromCharCode(source[i]);
+    if (i === end) return short;
+  }
+  return decoder.decode(source.subarray(start, end));
+}
+
+/** The value of the JSON that the last call wrote. */
+export function json() {
+  return JSON.parse(text());
+}
+
+/** The address of the value that the last call made. */
+export function handle() {
+  return wasm.handle() >>> 0;
+}
+
+/** The codes of lines that the last call wrote. */
+export function codes() {
+  return new Int8Array(new Uint8Array(written()).buffer);
+}
+
+/** The places that the last call wrote. */
+export function places() {
+  return new Uint32Array(new Uint8Array(written()).buffer);
+}
+
+/** The error that the library has run out of memory. */
+export function outOfMemory() {
+  return new RangeError('out of memory');
+}

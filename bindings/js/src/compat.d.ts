@@ -1,0 +1,189 @@
+/**
+ * node-semver's functions over the verified library. NODE_SEMVER.md, which is in the package, says where their answers differ.
+ *
+ * Where node-semver answers null or false for an invalid text, so does this module. What it leaves out throws
+ * {@link UnsupportedError}.
+ *
+ * @packageDocumentation
+ */
+
+/** The options of a call. */
+export interface Options {
+  /** Has no effect: texts are read leniently in any case. */
+  readonly loose?: boolean | undefined;
+  /** Isn't supported: `true` throws {@link UnsupportedError}. */
+  readonly includePrerelease?: false | undefined;
+}
+
+type Loose = boolean | Options;
+
+/** Which operator {@link cmp} applies. */
+export type Operator = '===' | '!==' | '' | '=' | '==' | '!=' | '>' | '>=' | '<' | '<=';
+
+/** What node-semver has and this module doesn't. */
+export class UnsupportedError extends Error {}
+
+/** A version. */
+export class SemVer {
+  /**
+   * Parses a version.
+   * @throws TypeError where it's invalid
+   */
+  constructor(version: string | SemVer, options?: Loose);
+  /** The text it was parsed from. */
+  raw: string;
+  /** The version without its build. */
+  version: string;
+  /** The first number. */
+  major: number;
+  /** The second number. */
+  minor: number;
+  /** The third number. */
+  patch: number;
+  /** The identifiers of the pre-release, numeric ones as numbers. */
+  prerelease: (string | number)[];
+  /** The identifiers of the build. */
+  build: string[];
+  /** The options given. */
+  options: Options;
+  /** Whether `loose` was given. */
+  loose: boolean;
+  /** Always false. */
+  includePrerelease: boolean;
+  /** -1, 0 or 1, by precedence. */
+  compare(other: string | SemVer): -1 | 0 | 1;
+  /** -1, 0 or 1, by the three numbers. */
+  compareMain(other: string | SemVer): -1 | 0 | 1;
+  /** -1, 0 or 1, by the pre-release. */
+  comparePre(other: string | SemVer): -1 | 0 | 1;
+  /** -1, 0 or 1, by the build. */
+  compareBuild(other: string | SemVer): -1 | 0 | 1;
+  /** Left out: throws {@link UnsupportedError}. */
+  inc(...arguments_: unknown[]): never;
+  /** The version without its build. */
+  format(): string;
+  /** The version without its build. */
+  toString(): string;
+}
+
+/** A range. */
+export class Range {
+  /**
+   * Parses a range.
+   * @throws TypeError where it's invalid
+   */
+  constructor(range: string | Range, options?: Loose);
+  /** The text it was parsed from. */
+  raw: string;
+  /** The options given. */
+  options: Options;
+  /** Whether `loose` was given. */
+  loose: boolean;
+  /** Always false. */
+  includePrerelease: boolean;
+  /** The canonical form, where node-semver has comparators. */
+  get range(): string;
+  /** Left out: throws {@link UnsupportedError}. */
+  get set(): never;
+  /** Whether the version matches; false where it's invalid. */
+  test(version: string | SemVer): boolean;
+  /** Whether a version matches both ranges. */
+  intersects(range: string | Range, options?: Loose): boolean;
+  /** The canonical form. */
+  format(): string;
+  /** The canonical form. */
+  toString(): string;
+}
+
+/** The version of SemVer's specification. */
+export const SEMVER_SPEC_VERSION: '2.0.0';
+
+/** The kinds of releases. */
+export const RELEASE_TYPES: readonly string[];
+
+/** The version; null where it's invalid. With `throwErrors` an invalid one throws `TypeError`. */
+export function parse(version: string | SemVer | null | undefined, options?: Loose, throwErrors?: boolean): SemVer | null;
+/** The version without its build; null where it's invalid. */
+export function valid(version: string | SemVer | null | undefined, options?: Loose): string | null;
+/** The same, where `=` and `v` may stand before the version. */
+export function clean(version: string, options?: Loose): string | null;
+/** The first number. */
+export function major(version: string | SemVer, options?: Loose): number;
+/** The second number. */
+export function minor(version: string | SemVer, options?: Loose): number;
+/** The third number. */
+export function patch(version: string | SemVer, options?: Loose): number;
+/** The identifiers of the pre-release; null where there are none, or the version is invalid. */
+export function prerelease(version: string | SemVer, options?: Loose): (string | number)[] | null;
+
+/** -1, 0 or 1, by precedence. */
+export function compare(one: string | SemVer, other: string | SemVer, options?: Loose): -1 | 0 | 1;
+/** The opposite of {@link compare}. */
+export function rcompare(one: string | SemVer, other: string | SemVer, options?: Loose): -1 | 0 | 1;
+/** The same as {@link compare}. */
+export function compareLoose(one: string | SemVer, other: string | SemVer): -1 | 0 | 1;
+/** -1, 0 or 1, by precedence and then by the build. */
+export function compareBuild(one: string | SemVer, other: string | SemVer, options?: Loose): -1 | 0 | 1;
+/** -1, 0 or 1: numeric identifiers by value, before others. */
+export function compareIdentifiers(one: string | number, other: string | number): -1 | 0 | 1;
+/** The opposite of {@link compareIdentifiers}. */
+export function rcompareIdentifiers(one: string | number, other: string | number): -1 | 0 | 1;
+/** Whether the first version is above the other. */
+export function gt(one: string | SemVer, other: string | SemVer, options?: Loose): boolean;
+/** Whether the first version is below the other. */
+export function lt(one: string | SemVer, other: string | SemVer, options?: Loose): boolean;
+/** Whether both versions have the same precedence. */
+export function eq(one: string | SemVer, other: string | SemVer, options?: Loose): boolean;
+/** Whether two versions differ in precedence. */
+export function neq(one: string | SemVer, other: string | SemVer, options?: Loose): boolean;
+/** Whether the first version isn't below the other. */
+export function gte(one: string | SemVer, other: string | SemVer, options?: Loose): boolean;
+/** Whether the first version isn't above the other. */
+export function lte(one: string | SemVer, other: string | SemVer, options?: Loose): boolean;
+/** The comparison that the operator names; `===` and `!==` compare texts. */
+export function cmp(one: string | SemVer, operator: Operator, other: string | SemVer, options?: Loose): boolean;
+
+/** Sorts the list in place, the lowest first, by precedence and then by the build. */
+export function sort<T extends string | SemVer>(list: T[], options?: Loose): T[];
+/** Sorts the list in place, the highest first, by precedence and then by the build. */
+export function rsort<T extends string | SemVer>(list: T[], options?: Loose): T[];
+
+/** Whether the version matches; false where either is invalid. */
+export function satisfies(version: string | SemVer | null | undefined, range: string | Range, options?: Loose): boolean;
+/** The highest version that matches; null where none does, or the range is invalid. */
+export function maxSatisfying<T extends string | SemVer>(versions: readonly T[], range: string | Range, options?: Loose): T | null;
+/** The lowest version that matches; null where none does, or the range is invalid. */
+export function minSatisfying<T extends string | SemVer>(versions: readonly T[], range: string | Range, options?: Loose): T | null;
+/** The lowest version that the range matches; null where no version does. */
+export function minVersion(range: string | Range, options?: Loose): SemVer | null;
+/** The canonical form, where node-semver returns comparators; null where the range is invalid. */
+export function validRange(range: string | Range | null | undefined, options?: Loose): string | null;
+/** Whether a version matches both ranges. */
+export function intersects(one: string | Range, other: string | Range, options?: Loose): boolean;
+/** Whether `dom` matches each version that `sub` matches. */
+export function subset(sub: string | Range, dom: string | Range, options?: Loose): boolean;
+
+/** Left out: throws {@link UnsupportedError}. */
+export function inc(...arguments_: unknown[]): never;
+/** Left out: throws {@link UnsupportedError}. */
+export function diff(...arguments_: unknown[]): never;
+/** Left out: throws {@link UnsupportedError}. */
+export function coerce(...arguments_: unknown[]): never;
+/** Left out: throws {@link UnsupportedError}. */
+export function outside(...arguments_: unknown[]): never;
+/** Left out: throws {@link UnsupportedError}. */
+export function gtr(...arguments_: unknown[]): never;
+/** Left out: throws {@link UnsupportedError}. */
+export function ltr(...arguments_: unknown[]): never;
+/** Left out: throws {@link UnsupportedError}. */
+export function simplifyRange(...arguments_: unknown[]): never;
+/** Left out: throws {@link UnsupportedError}. */
+export function toComparators(...arguments_: unknown[]): never;
+/** Left out: throws {@link UnsupportedError}. */
+export class Comparator {
+  private constructor();
+}
+
+/** All of it, for `import semver from 'deno-semver/compat'`. */
+declare const all: Omit<typeof import('./compat.js'), 'default'>;
+export default all;

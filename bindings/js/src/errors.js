@@ -1,0 +1,109 @@
+// Errors, and the checks of arguments.
+
+import {
+  INVALID_RANGE, INVALID_VERSION, NOT_UTF8, NO_MEMORY, TAG, YES, isWellFormed, outOfMemory, text, wasm, write,
+} from './calls.js';
+import { isTag, placeInRange } from './places.js';
+
+const GRAMMARS = new Map([['npm', 0], ['normalized', 1], ['strict', 2]]);
+
+class InvalidTextError extends SyntaxError {
+  constructor(text, { message, start, end, expected }, index) {
+    super(message);
+    this.text = text;
+    this.start = start;
+    this.end = end;
+    this.expected = expected;
+    this.index = index;
+  }
+}
+
+export class RangeSyntaxError extends InvalidTextError {}
+export class VersionSyntaxError extends InvalidTextError {}
+export class PackageSyntaxError extends InvalidTextError {}
+
+export class TagError extends Error {
+  constructor(tag) {
+    super(`"${tag}" is a tag, the name that a registry gives a version`);
+    this.tag = tag;
+  }
+}
+
+// Names that a bundler doesn't shorten.
+for (const [name, kind] of Object.entries({ RangeSyntaxError, VersionSyntaxError, PackageSyntaxError, TagError })) {
+  Object.defineProperty(kind.prototype, 'name', { value: name, configurable: true, writable: true });
+}
+
+// What a text is meant to be: the error of an invalid one, and the call that parses it, and writes a message where it's invalid.
+export const VERSION = { Problem: VersionSyntaxError, parse: (grammar, source) => wasm.version(write(source)) };
+export const RANGE = { Problem: RangeSyntaxError, parse: (grammar, source) => wasm.normal(grammar, write(source)) };
+export const PACKAGE = { Problem: PackageSyntaxError, parse: (grammar, source) => wasm.package(grammar, write(source)) };
+export const REFERENCE = { Problem: PackageSyntaxError, parse: (grammar, source) => wasm.reference(write(source)) };
+export const NAME_WITH_VERSION = { Problem: PackageSyntaxError, parse: (grammar, source) => wasm.name_with_version(write(source)) };
+export const VERSION_REFERENCE = { Problem: PackageSyntaxError, parse: (grammar, source) => wasm.version_reference(write(source)) };
+export const DEPENDENCY = { Problem: PackageSyntaxError, parse: (grammar, source) => wasm.dependency(grammar, write(source)) };
+
+/** Why a text of a kind is invalid, or null where it's valid. */
+export function reasonOf(kind, grammar, source) {
+  if (!isWellFormed(source)) return { message: 'The text has a lone surrogate.', expected: [] };
+  const code = kind.parse(grammar, source);
+  if (code === NO_MEMORY) throw outOfMemory();
+  if (code === YES) return null;
+  const message = text();
+  return { message, expected: [], ...(kind === RANGE && placeInRange(grammar, source, message)) };
+}
+
+/** The error that a text of a kind is invalid; `index` is its place in a list. */
+export function invalid(kind, grammar, source, index) {
+  const reason = reasonOf(kind, grammar, source) ?? { message: 'The text is invalid.', expected: [] };
+  return new kind.Problem(source, reason, index);
+}
+
+/** The error of a call that was asked of these texts and returned a code that is no answer. */
+export function errorOf(code, grammar, ranges, versions = [], place = 0, isList = false) {
+  switch (code) {
+    case INVALID_RANGE:
+      return invalid(RANGE, grammar, ranges[place]);
+    case INVALID_VERSION:
+      return invalid(VERSION, grammar, versions[place], isList ? place : undefined);
+    case TAG:
+      return new TagError(ranges.find((range) => isTag(grammar, range)));
+    case NOT_UTF8:
+      return notEncodable(grammar, ranges, versions, isList);
+    default:
+      return outOfMemory();
+  }
+}
+
+function notEncodable(grammar, ranges, versions, isList) {
+  const range = ranges.find((text) => !isWellFormed(text));
+  if (range !== undefined) return invalid(RANGE, grammar, range);
+  const place = versions.findIndex((text) => !isWellFormed(text));
+  return invalid(VERSION, grammar, versions[place], isList ? place : undefined);
+}
+
+/** Throws where the value isn't a string. */
+export function expectString(value, name) {
+  if (typeof value !== 'string') throw new TypeError(`${name} must be a string, not ${kindOf(value)}`);
+  return value;
+}
+
+export function kindOf(value) {
+  if (value === null) return 'null';
+  return Array.isArray(value) ? 'an array' : typeof value;
+}
+
+/** The numbers of the options. */
+export function optionsOf(options) {
+  if (options === undefined) return NPM;
+  if (options === null || typeof options !== 'object') throw new TypeError(`options must be an object, not ${kindOf(options)}`);
+  for (const name of Object.keys(options)) {
+    if (name !== 'grammar' && name !== 'preReleases') throw new TypeError(`options has no "${name}"`);
+  }
+  const { grammar = 'npm', preReleases = false } = options;
+  if (!GRAMMARS.has(grammar)) throw new TypeError('options.grammar must be "npm", "normalized" or "strict"');
+  if (typeof preReleases !== 'boolean') throw new TypeError(`options.preReleases must be a boolean, not ${kindOf(preReleases)}`);
+  return { grammar: GRAMMARS.get(grammar), name: grammar, pre: preReleases ? 1 : 0 };
+}
+
+const NPM = { grammar: 0, name: 'npm', pre: 0 };

@@ -1,0 +1,327 @@
+/**
+ * Versions and version ranges of npm and JSR.
+ *
+ * A text of another type throws `TypeError` with the parameter's name, an invalid text a {@link RangeSyntaxError} or a
+ * {@link VersionSyntaxError}, a range that is a tag a {@link TagError}, and running out of memory a `RangeError`.
+ *
+ * @packageDocumentation
+ */
+
+declare global {
+  interface SymbolConstructor {
+    /** The method that a `using` declaration calls; hosts that are older than 2023 have none. */
+    readonly dispose: unique symbol;
+  }
+}
+
+/**
+ * A grammar of ranges: npm's, which is the default; `normalized`, comparators separated by whitespace, with alternatives separated by
+ * `||`; or `strict`, that of package specifiers: `~`, `^` or nothing before one partial version.
+ */
+export type Grammar = 'npm' | 'normalized' | 'strict';
+
+/** How a range is parsed. */
+export interface GrammarOptions {
+  /** The grammar, `npm` by default. */
+  readonly grammar?: Grammar;
+}
+
+/** How a range is parsed, and which pre-releases it matches. */
+export interface Options extends GrammarOptions {
+  /**
+   * Whether every pre-release between the bounds matches. By default one matches by npm's rule: if it's between the bounds, and a bound
+   * is a pre-release with the same three numbers.
+   */
+  readonly preReleases?: boolean;
+}
+
+/** Why a text is invalid. */
+export interface Diagnosis {
+  /** What is wrong. */
+  readonly message: string;
+  /** The index at which the text leaves the grammar, if it's known. */
+  readonly start?: number;
+  /** The index behind the invalid part, if it's known. */
+  readonly end?: number;
+  /** What could be at `start`: `digit`, `letter`, `whitespace`, `end`, or a text such as `.`. */
+  readonly expected: readonly string[];
+}
+
+/** An invalid text. */
+declare class InvalidTextError extends SyntaxError implements Diagnosis {
+  /** The text. */
+  readonly text: string;
+  readonly start?: number;
+  readonly end?: number;
+  readonly expected: readonly string[];
+  /** The index of the text, if it's an item of a list. */
+  readonly index?: number;
+}
+
+/** A range is invalid. */
+export class RangeSyntaxError extends InvalidTextError {}
+
+/** A version is invalid. */
+export class VersionSyntaxError extends InvalidTextError {}
+
+/** A package or a reference is invalid. */
+export class PackageSyntaxError extends InvalidTextError {}
+
+/** A range is a tag, such as `latest`: the name that a registry gives a version. Only the registry knows what it matches. */
+export class TagError extends Error {
+  /** The tag. */
+  readonly tag: string;
+}
+
+/** A version. */
+export class Version {
+  /**
+   * Parses a version.
+   * @throws {@link VersionSyntaxError}
+   */
+  constructor(version: string);
+  /** The first number; `RangeError` where it's above `Number.MAX_SAFE_INTEGER`. */
+  get major(): number;
+  /** The second number; `RangeError` where it's above `Number.MAX_SAFE_INTEGER`. */
+  get minor(): number;
+  /** The third number; `RangeError` where it's above `Number.MAX_SAFE_INTEGER`. */
+  get patch(): number;
+  /** The identifiers of the pre-release; none for a release. */
+  get preRelease(): string[];
+  /** The identifiers of the build. */
+  get build(): string[];
+  /** -1, 0 or 1: the order by precedence, which ignores the build. */
+  compare(other: string | Version): -1 | 0 | 1;
+  /** The version as MAJOR.MINOR.PATCH, with its pre-release and build. */
+  toString(): string;
+  /** The same as {@link Version.toString}. */
+  toJSON(): string;
+}
+
+/**
+ * A range, or a tag, that is parsed once. The library holds it until `free()`, or the end of the block of a `using` declaration, or until
+ * the object is collected.
+ */
+export class Range {
+  /**
+   * Parses a range.
+   * @throws {@link RangeSyntaxError}
+   */
+  constructor(range: string, options?: Options);
+  /** The text. */
+  get text(): string;
+  /** The canonical form: the shortest usual form, meant to be stored. */
+  get canonical(): string;
+  /** The tag, if the text is one. */
+  get tag(): string | undefined;
+  /**
+   * Whether the version matches.
+   * @throws {@link VersionSyntaxError}, {@link TagError}
+   */
+  matches(version: string | Version): boolean;
+  /** Whether both ranges overlap by their bounds. Two tags do if they are the same. */
+  overlaps(other: Range): boolean;
+  /** Whether both ranges have the same bounds, or are the same tag, whatever their texts. */
+  equals(other: Range): boolean;
+  /** The text. */
+  toString(): string;
+  /** The text. */
+  toJSON(): string;
+  /** Frees the range. Its methods throw `TypeError` then. */
+  free(): void;
+  /** The same as {@link Range.free}, for `using`. */
+  [Symbol.dispose](): void;
+}
+
+/** The versions of a package, parsed once and filtered by many ranges. An invalid one keeps its place and matches nothing. */
+export class VersionList<T extends string | Version = string> {
+  /** Parses versions. */
+  constructor(versions: readonly T[]);
+  /** How many versions there are, with the invalid ones. */
+  get length(): number;
+  /**
+   * The versions that match, in the order of the list.
+   * @throws {@link TagError}
+   */
+  filter(range: Range): T[];
+  /** Frees the list. Its methods throw `TypeError` then. */
+  free(): void;
+  /** The same as {@link VersionList.free}, for `using`. */
+  [Symbol.dispose](): void;
+}
+
+/**
+ * Whether the version matches the range.
+ * @example
+ * ```js
+ * matches('>=1.2 <2 || 3', '1.3.0') // true
+ * ```
+ */
+export function matches(range: string, version: string | Version, options?: Options): boolean;
+
+/** The versions of the list that match, in its order. */
+export function filter<T extends string | Version>(range: string, versions: readonly T[], options?: Options): T[];
+
+/** The highest version of the list that matches, the first of equal ones; undefined where none does. */
+export function best<T extends string | Version>(range: string, versions: readonly T[], options?: Options): T | undefined;
+
+/** The lowest version of the list that matches, the first of equal ones; undefined where none does. */
+export function lowest<T extends string | Version>(range: string, versions: readonly T[], options?: Options): T | undefined;
+
+/** A new list of the versions by precedence, the lowest first; equal ones stay in their order. */
+export function sort<T extends string | Version>(versions: readonly T[]): T[];
+
+/** -1, 0 or 1: the order of two versions by precedence, which ignores the build. */
+export function compare(one: string | Version, other: string | Version): -1 | 0 | 1;
+
+/** Whether `other` matches each version that `one` matches. */
+export function isSubset(one: string, other: string, options?: Options): boolean;
+
+/** The lowest version that `one` matches and `other` doesn't; undefined where there is none. */
+export function counterexample(one: string, other: string, options?: Options): string | undefined;
+
+/** Whether both ranges match the same versions. */
+export function isEquivalent(one: string, other: string, options?: Options): boolean;
+
+/** Whether two ranges overlap by their bounds, between which there may be no version: {@link common} is exact. */
+export function overlaps(one: string, other: string, options?: GrammarOptions): boolean;
+
+/** The lowest version that all ranges match; undefined where there is none, and where there are no ranges. */
+export function common(ranges: readonly string[], options?: Options): string | undefined;
+
+/** The lowest version that the range matches; undefined where no version does. */
+export function minVersion(range: string, options?: Options): string | undefined;
+
+/** The canonical form of the range, or its tag: the shortest usual form, meant to be stored. */
+export function canonical(range: string, options?: GrammarOptions): string;
+
+/** A bound of an alternative. */
+export interface Bound {
+  /** The version. */
+  readonly version: string;
+  /** Whether the version itself is within the bound. */
+  readonly inclusive: boolean;
+}
+
+/** An alternative of a range. */
+export interface ValidAlternative {
+  /** Its text. */
+  readonly text: string;
+  /** Where it starts; null where it has no lower bound. */
+  readonly start: Bound | null;
+  /** Where it ends; null where it has no upper bound. */
+  readonly end: Bound | null;
+  /** The three numbers of which pre-releases match, such as `1.2.3`; `all` if each between the bounds does. */
+  readonly preReleases: readonly string[] | 'all';
+  /** The lowest version that matches; null where none does. */
+  readonly lowest: string | null;
+  readonly error?: undefined;
+}
+
+/** An alternative that isn't valid, which npm's grammar leaves out. */
+export interface InvalidAlternative {
+  /** Its text. */
+  readonly text: string;
+  /** Why it's invalid. The indexes are of the whole range. */
+  readonly error: Diagnosis;
+}
+
+/** What a range means: its alternatives and its canonical form; or the tag that it is. */
+export type Explanation =
+  | { readonly alternatives: readonly (ValidAlternative | InvalidAlternative)[]; readonly canonical: string; readonly tag?: undefined }
+  | { readonly tag: string };
+
+/** What a range means, alternative by alternative. */
+export function explain(range: string, options?: Options): Explanation;
+
+/** Why a range is invalid; undefined where it's valid. */
+export function diagnose(range: string, options?: GrammarOptions): Diagnosis | undefined;
+
+/** The parts of a package with a range, such as `@scope/name@^1.2`. */
+export interface PackageParts {
+  /** The scope without its `@`; null where there is none. */
+  readonly scope: string | null;
+  /** The name without its scope. */
+  readonly name: string;
+  /** The text of the range, `*` where there is none. */
+  readonly range: string;
+  /** The canonical form of the range. */
+  readonly canonical: string;
+}
+
+/** The parts of a reference to a package, such as `jsr:@scope/name@1/mod.ts`. */
+export interface ReferenceParts {
+  /** The registry. */
+  readonly kind: 'jsr' | 'npm';
+  /** The package. */
+  readonly package: PackageParts;
+  /** The path within it; null where there is none. */
+  readonly path: string | null;
+  /** The export of a package of JSR; null for npm. */
+  readonly export: string | null;
+}
+
+/**
+ * The parts of a package with a range.
+ * @throws {@link PackageSyntaxError}
+ */
+export function parsePackage(specifier: string, options?: GrammarOptions): PackageParts;
+
+/**
+ * The parts of a reference that begins with `jsr:` or `npm:`. Its grammar is the strict one.
+ * @throws {@link PackageSyntaxError}
+ */
+export function parseReference(specifier: string): ReferenceParts;
+
+/** The parts of a name with a version, such as `@scope/name@1.2.3`. */
+export interface NameWithVersionParts {
+  /** The scope without its `@`; null where there is none. */
+  readonly scope: string | null;
+  /** The name without its scope. */
+  readonly name: string;
+  /** The version. */
+  readonly version: string;
+}
+
+/** The parts of a reference to one version of a package, such as `jsr:@scope/name@1.2.3/mod.ts`. */
+export interface VersionReferenceParts {
+  /** The registry. */
+  readonly kind: 'jsr' | 'npm';
+  /** The package and its version. */
+  readonly package: NameWithVersionParts;
+  /** The path within it; null where there is none. */
+  readonly path: string | null;
+  /** The export of a package of JSR; null for npm. */
+  readonly export: string | null;
+}
+
+/** The parts of a dependency, such as `jsr:@scope/name@^1.2` or `npm:name@1`. */
+export interface DependencyParts {
+  /** The registry. */
+  readonly kind: 'jsr' | 'npm';
+  /** The package. */
+  readonly package: PackageParts;
+  /** The canonical form of the whole text. */
+  readonly canonical: string;
+}
+
+/**
+ * The parts of a name with a version.
+ * @throws {@link PackageSyntaxError}
+ */
+export function parseNameWithVersion(specifier: string): NameWithVersionParts;
+
+/**
+ * The parts of a reference to one version of a package.
+ * @throws {@link PackageSyntaxError}
+ */
+export function parseVersionReference(specifier: string): VersionReferenceParts;
+
+/**
+ * The parts of a dependency of a package.
+ * @throws {@link PackageSyntaxError}
+ */
+export function parseDependency(specifier: string, options?: GrammarOptions): DependencyParts;
+
+/** Whether npm's rules allow the name as a tag. */
+export function mayBeTag(name: string): boolean;

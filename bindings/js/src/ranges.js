@@ -1,0 +1,147 @@
+// Ranges, and lists of versions, that the library holds between calls.
+
+import { YES, ask2, codes, handle, isWellFormed, outOfMemory, text, wasm, write } from './calls.js';
+import { errorOf, expectString, kindOf, optionsOf } from './errors.js';
+import { parse } from './held.js';
+import { linesOf, textsOf } from './lists.js';
+import { versionText } from './versions.js';
+
+const collected = new FinalizationRegistry(({ address, free }) => free(address));
+
+/** A value that the library holds until `free()`, or until this object is collected. */
+class Held {
+  #address;
+  #free;
+
+  constructor(address, free) {
+    this.#address = address;
+    this.#free = free;
+    collected.register(this, { address, free }, this);
+  }
+
+  get address() {
+    if (this.#address === 0) throw new TypeError('the value was freed');
+    return this.#address;
+  }
+
+  free() {
+    if (this.#address === 0) return;
+    collected.unregister(this);
+    this.#free(this.#address);
+    this.#address = 0;
+  }
+}
+
+/** Parses a range, which the library then holds. */
+function hold(grammar, range) {
+  const address = parse(grammar, range);
+  if (address < 0) throw errorOf(address, grammar, [range]);
+  return new Held(address, wasm.range_free);
+}
+
+// What the library holds of a `Range`, which is private to it, and its options.
+let heldBy;
+
+export class Range {
+  #held;
+  #text;
+  #options;
+
+  static {
+    heldBy = (range) => ({ address: range.#held.address, options: range.#options });
+  }
+
+  constructor(range, options) {
+    this.#text = expectString(range, 'range');
+    this.#options = optionsOf(options);
+    this.#held = hold(this.#options.grammar, range);
+  }
+
+  get text() {
+    return this.#text;
+  }
+
+  get canonical() {
+    if (wasm.range_normal(this.#held.address) !== YES) throw outOfMemory();
+    return text();
+  }
+
+  get tag() {
+    return wasm.range_is_tag(this.#held.address) === YES ? this.canonical : undefined;
+  }
+
+  matches(version) {
+    const tested = versionText(version, 'version');
+    const code = wasm.range_fits(this.#held.address, write(tested), this.#options.pre);
+    if (code >= 0) return code === YES;
+    throw errorOf(code, this.#options.grammar, [this.#text], [tested]);
+  }
+
+  overlaps(other) {
+    const { grammar } = this.#options;
+    // The two ranges of a call on held ones are different objects.
+    if (other === this) return ask2(wasm.overlap, grammar, this.#text, this.#text) === YES;
+    return wasm.range_overlap(this.#held.address, expectRange(other, 'other').#held.address) === YES;
+  }
+
+  equals(other) {
+    return other === this || wasm.range_equal(this.#held.address, expectRange(other, 'other').#held.address) === YES;
+  }
+
+  toString() {
+    return this.#text;
+  }
+
+  toJSON() {
+    return this.#text;
+  }
+
+  free() {
+    this.#held.free();
+  }
+}
+
+function expectRange(range, name) {
+  if (!(range instanceof Range)) throw new TypeError(`${name} must be a Range, not ${kindOf(range)}`);
+  return range;
+}
+
+/** Parses versions, which the library then holds. */
+function holdList(versions) {
+  const texts = textsOf(versions).map((text) => (isWellFormed(text) ? text : ''));
+  if (wasm.list_read(write(linesOf(texts))) !== YES) throw outOfMemory();
+  return new Held(handle(), wasm.list_free);
+}
+
+export class VersionList {
+  #held;
+  #versions;
+
+  constructor(versions) {
+    this.#held = holdList(versions);
+    this.#versions = [...versions];
+  }
+
+  get length() {
+    return this.#versions.length;
+  }
+
+  filter(range) {
+    const { address, options } = heldBy(expectRange(range, 'range'));
+    const code = wasm.list_filter(this.#held.address, address, options.pre);
+    if (code !== YES) throw errorOf(code, options.grammar, [range.text]);
+    const answers = codes();
+    return this.#versions.filter((_, index) => answers[index] === YES);
+  }
+
+  free() {
+    this.#held.free();
+  }
+}
+
+// `using` frees a value at the end of its block, where the host has it.
+if (Symbol.dispose) {
+  for (const kind of [Range, VersionList]) {
+    Object.defineProperty(kind.prototype, Symbol.dispose, { value: kind.prototype.free, configurable: true, writable: true });
+  }
+}

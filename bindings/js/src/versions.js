@@ -1,0 +1,80 @@
+// Versions.
+
+import { NO_MEMORY, YES, askCompare, json, outOfMemory, text, wasm, write } from './calls.js';
+import { VERSION, expectString, invalid, kindOf } from './errors.js';
+
+export class Version {
+  #text;
+  #parts;
+
+  constructor(version) {
+    const code = wasm.version(write(expectString(version, 'version')));
+    if (code === NO_MEMORY) throw outOfMemory();
+    if (code !== YES) throw invalid(VERSION, 0, version);
+    this.#text = text();
+  }
+
+  get #fields() {
+    return (this.#parts ??= partsOf(this.#text));
+  }
+
+  get major() {
+    return exactly(this.#fields.major);
+  }
+
+  get minor() {
+    return exactly(this.#fields.minor);
+  }
+
+  get patch() {
+    return exactly(this.#fields.patch);
+  }
+
+  get preRelease() {
+    return [...this.#fields.pre];
+  }
+
+  get build() {
+    return [...this.#fields.build];
+  }
+
+  compare(other) {
+    return compareTexts(this.#text, versionText(other, 'other'));
+  }
+
+  toString() {
+    return this.#text;
+  }
+
+  toJSON() {
+    return this.#text;
+  }
+}
+
+/** The parts of a version, its numbers as texts; undefined where it's invalid. */
+export function partsOf(version) {
+  const code = wasm.version_parts(write(version));
+  if (code === NO_MEMORY) throw outOfMemory();
+  return code === YES ? json() : undefined;
+}
+
+function exactly(number) {
+  const value = Number(number);
+  if (!Number.isSafeInteger(value)) throw new RangeError(`${number} is above Number.MAX_SAFE_INTEGER; toString() has it`);
+  return value;
+}
+
+/** The text of a version that is a text or a `Version`. */
+export function versionText(version, name) {
+  if (typeof version === 'string') return version;
+  if (version instanceof Version) return version.toString();
+  throw new TypeError(`${name} must be a string or a Version, not ${kindOf(version)}`);
+}
+
+/** The order of two versions by precedence: -1, 0 or 1. */
+export function compareTexts(one, other) {
+  const code = askCompare(one, other);
+  if (code >= 0) return code - 1;
+  if (code === NO_MEMORY) throw outOfMemory();
+  throw invalid(VERSION, 0, wasm.version(write(one)) === YES ? other : one);
+}

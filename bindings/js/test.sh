@@ -1,0 +1,64 @@
+#!/bin/sh
+# Builds the npm package and tests it: its own API, memory, the examples of docs/NODE_SEMVER.md, semver.wasm beside the static library, the
+# packed package from CommonJS, ES modules and TypeScript, node-semver beside it, and the page in a browser. It prints a line for what it
+# leaves out, since the machine lacks it, and stops at the first failure.
+#
+# usage: test.sh [speed]; with speed it prints the times of calls, beside node-semver's where that is installed.
+set -e
+here=$(cd "$(dirname "$0")" && pwd)
+out=$here/out
+bindings=$here/..
+debian=/usr/share/nodejs/semver
+npm=$(command -v npm >/dev/null && echo "$(npm root -g 2>/dev/null)/npm/node_modules/semver" || true)
+export NODE_PATH=/usr/share/nodejs NODE_SEMVERS="$debian:$npm" PYTHONDONTWRITEBYTECODE=1
+
+has() {
+    command -v "$1" >/dev/null
+}
+
+# The static library under the C code of semver.wasm.
+native() {
+    renamed="-Dmalloc=heap_malloc -Drealloc=heap_realloc -Dfree=heap_free"
+    ${CC:-cc} -O2 -Wall -Wextra -Werror -c $renamed -o "$out/heap_native.o" "$bindings/../packaging/arm64/heap.c"
+    ${CC:-cc} -O2 -Wall -Wextra -Werror -I"$bindings/c" -o "$out/native" "$here/tests/native.c" "$bindings/heap.c" \
+        "$out/heap_native.o" "$bindings/../crates/semver_c/out/libsemver_c.a"
+    node "$here/tests/native.mjs" "$out/native" 100000
+}
+
+# Compares the package with the node-semver in this folder, by so many questions a call.
+compare() {
+    log=$out/compared-$2.log
+    if [ ! -f "$1/package.json" ]; then
+        echo "JavaScript: no node-semver in $1, so the package isn't compared with it"
+    elif node "$here/compare.mjs" "$1" "$2" >"$log"; then
+        echo "$(head -1 "$log"): each difference is explained"
+    else
+        cat "$log"
+        return 1
+    fi
+}
+
+speed() {
+    for folder in "$npm" "$debian"; do
+        [ -f "$folder/package.json" ] && { node "$here/speed.mjs" "$folder"; return; }
+    done
+    node "$here/speed.mjs"
+}
+
+for tool in node wasm-opt; do
+    has $tool || { echo "JavaScript: left out, since there is no $tool"; exit 0; }
+done
+mkdir -p "$out"
+"$here/build.py" >"$out/build.log" 2>&1 || { cat "$out/build.log" >&2; exit 1; }
+if [ "$1" = speed ]; then
+    speed
+    exit
+fi
+compare "$debian" 50000 & first=$!
+compare "$npm" 10000 & second=$!
+native
+node --expose-gc --test --test-reporter=dot "$here"/tests/*.test.mjs
+"$here/tests/packed.sh" "$out"
+wait $first
+wait $second
+if has chromium; then node "$here/page/test.mjs"; else echo "JavaScript: no chromium, so the page isn't tried"; fi

@@ -1,0 +1,188 @@
+// The package's own API, as ES modules and as CommonJS.
+
+import assert from 'node:assert/strict';
+import { createRequire } from 'node:module';
+import { test } from 'node:test';
+import * as modules from '../out/package/index.js';
+
+const common = createRequire(import.meta.url)('../out/package/index.cjs');
+
+for (const [kind, semver] of [['ES modules', modules], ['CommonJS', common]]) {
+  const {
+    PackageSyntaxError, Range, RangeSyntaxError, TagError, Version, VersionList, VersionSyntaxError,
+  } = semver;
+
+  test(`${kind}: a version matches a range`, () => {
+    assert.equal(semver.matches('>=1.2 <2 || 3', '1.3.0'), true);
+    assert.equal(semver.matches('>=1.2 <2 || 3', '2.0.0'), false);
+    assert.equal(semver.matches('^1.2', new Version('v1.3.0')), true);
+    assert.equal(semver.matches('^1.0.0', '1.2.0-rc.1'), false);
+    assert.equal(semver.matches('^1.0.0', '1.2.0-rc.1', { preReleases: true }), true);
+    assert.equal(semver.matches('1', '1.5.0', { grammar: 'strict' }), true);
+  });
+
+  test(`${kind}: lists`, () => {
+    assert.deepEqual(semver.filter('^1.2', ['1.2.0', '2.0.0', 'v1.10.0']), ['1.2.0', 'v1.10.0']);
+    assert.deepEqual(semver.filter('^1.2', []), []);
+    assert.equal(semver.best('^1', ['1.2.0', '1.10.0', '2.0.0', '1.10.0+b']), '1.10.0');
+    assert.equal(semver.lowest('^1', ['1.2.0', '1.10.0', '0.1.0']), '1.2.0');
+    assert.equal(semver.best('^3', ['1.2.0']), undefined);
+    assert.deepEqual(semver.sort(['1.10.0', '1.9.0', '1.9.0-rc.1', '1.9.0+b']), ['1.9.0-rc.1', '1.9.0', '1.9.0+b', '1.10.0']);
+    const version = new Version('1.2.3');
+    assert.equal(semver.best('*', [version]), version);
+  });
+
+  test(`${kind}: a line break in a version is whitespace`, () => {
+    const texts = ['1.2.0\n', '\r\n1.3.0', '1.2.\n0', ''];
+    const isValid = (text) => semver.diagnose('*') === undefined && attempt(() => new Version(text)) === undefined;
+    assert.deepEqual(texts.map(isValid), [true, true, false, false]);
+    assert.deepEqual(semver.filter('*', texts.slice(0, 2)), texts.slice(0, 2));
+    for (const index of [2, 3]) assert.ok(attempt(() => semver.filter('*', [texts[index]])) instanceof VersionSyntaxError);
+  });
+
+  test(`${kind}: two ranges`, () => {
+    assert.equal(semver.isSubset('^1.3', '^1.2'), true);
+    assert.equal(semver.counterexample('^1.3', '^1.2'), undefined);
+    assert.equal(semver.counterexample('>=1.3', '^1.2'), '2.0.0');
+    assert.equal(semver.isEquivalent('1.x', '^1'), true);
+    assert.equal(semver.isEquivalent('1.x', '^1.1'), false);
+    assert.equal(semver.overlaps('>1.0.0', '<1.0.1'), true);
+    assert.equal(semver.common(['^1.2', '~1.4 || ^2', '>1.4.0']), '1.4.1');
+    assert.equal(semver.common(['>1.0.0', '<1.0.1']), undefined);
+    assert.equal(semver.common(['>1.0.0', '<1.0.1'], { preReleases: true }), '1.0.1-0');
+    assert.equal(semver.common([]), undefined);
+    assert.equal(semver.minVersion('>1.0.0'), '1.0.1');
+    assert.equal(semver.minVersion('>1.0.0 <1.0.1'), undefined);
+    assert.equal(semver.canonical('>=1.2 <2 || 3.x'), '^1.2.0 || 3');
+    assert.equal(semver.compare('1.0.0-a', '1.0.0'), -1);
+  });
+
+  test(`${kind}: packages and references`, () => {
+    assert.deepEqual(semver.parsePackage('@scope/name@1.x'), { scope: 'scope', name: 'name', range: '1.x', canonical: '1' });
+    const preact = { scope: null, name: 'preact', range: '*', canonical: '*' };
+    assert.deepEqual(semver.parseReference('npm:preact'), { kind: 'npm', package: preact, path: null, export: null });
+    assert.ok(attempt(() => semver.parsePackage('@')) instanceof PackageSyntaxError);
+    assert.ok(attempt(() => semver.parseReference('preact')) instanceof PackageSyntaxError);
+    const named = { scope: 'scope', name: 'name', version: '1.2.3' };
+    assert.deepEqual(semver.parseNameWithVersion('@scope/name@1.2.3'), named);
+    const reference = { kind: 'jsr', package: named, path: 'mod.ts', export: './mod.ts' };
+    assert.deepEqual(semver.parseVersionReference('jsr:@scope/name@1.2.3/mod.ts'), reference);
+    const dependency = { kind: 'npm', package: { scope: null, name: 'a', range: '1.x', canonical: '1' }, canonical: 'npm:a@1' };
+    assert.deepEqual(semver.parseDependency('npm:a@1.x', { grammar: 'npm' }), dependency);
+    assert.ok(attempt(() => semver.parseNameWithVersion('name@1')) instanceof PackageSyntaxError);
+    assert.ok(attempt(() => semver.parseVersionReference('jsr:a')) instanceof PackageSyntaxError);
+    assert.ok(attempt(() => semver.parseDependency('a@1')) instanceof PackageSyntaxError);
+    assert.equal(semver.mayBeTag('latest'), true);
+    assert.equal(semver.mayBeTag('a b'), false);
+  });
+
+  test(`${kind}: what a range means`, () => {
+    const { alternatives, canonical } = semver.explain('>=1.2.3-beta <2 || foo bar || 1.2.3 || *');
+    assert.equal(canonical, '^1.2.3-beta || 1.2.3 || *');
+    const [first, second, third, any] = alternatives;
+    assert.deepEqual(first.start, { version: '1.2.3-beta', inclusive: true });
+    assert.deepEqual(first.end, { version: '2.0.0', inclusive: false });
+    assert.deepEqual(first.preReleases, ['1.2.3']);
+    assert.equal(first.lowest, '1.2.3-beta');
+    assert.equal(second.text, 'foo bar');
+    assert.equal(second.error.message, 'Unexpected character.');
+    assert.deepEqual(third.start, third.end);
+    assert.equal(any.start ?? any.end, null);
+    assert.deepEqual(semver.explain('latest'), { tag: 'latest' });
+    assert.deepEqual(semver.explain('1 ||').alternatives.map(({ text }) => text), ['1']);
+  });
+
+  test(`${kind}: invalid texts`, () => {
+    const error = attempt(() => semver.matches('^1.2.3.4', '1.0.0'));
+    assert.ok(error instanceof RangeSyntaxError && error instanceof SyntaxError);
+    assert.equal(error.name, 'RangeSyntaxError');
+    assert.equal(error.text, '^1.2.3.4');
+    assert.equal(error.message, 'Unexpected character.');
+    assert.equal(attempt(() => semver.isSubset('1', '^1.2.3.4')).text, '^1.2.3.4');
+    assert.equal(attempt(() => semver.common(['1', '2', '^1.2.3.4'])).text, '^1.2.3.4');
+    assert.deepEqual([error.start, error.end], [6, 8]);
+    assert.deepEqual(error.expected, ['digit', 'x', 'v', 'letter', '-', '+', 'whitespace', ',', '&&', '||', 'end']);
+    assert.equal(attempt(() => semver.compare('1.0.0', '1')).text, '1');
+    const item = attempt(() => semver.sort(['1.0.0', '1.x']));
+    assert.deepEqual([item.name, item.text, item.index], ['VersionSyntaxError', '1.x', 1]);
+    assert.ok(attempt(() => new Version('1.0.0-\ud800')) instanceof VersionSyntaxError);
+    assert.ok(attempt(() => semver.filter('1\ud800', ['1.0.0'])) instanceof RangeSyntaxError);
+    assert.equal(attempt(() => semver.filter('1', ['1.0.0', '\ud800'])).index, 1);
+    assert.equal(attempt(() => semver.matches('latest', '1.0.0')).tag, 'latest');
+    assert.ok(attempt(() => semver.isSubset('1', 'latest')) instanceof TagError);
+  });
+
+  test(`${kind}: arguments of another type`, () => {
+    const calls = [
+      [() => semver.matches(1, '1.0.0'), 'range must be a string, not number'],
+      [() => semver.matches('1', null), 'version must be a string or a Version, not null'],
+      [() => semver.filter('1', '1.0.0'), 'versions must be an array, not string'],
+      [() => semver.filter('1', ['1.0.0', 2]), 'versions[1] must be a string or a Version, not number'],
+      [() => semver.matches('1', '1.0.0', 'npm'), 'options must be an object, not string'],
+      [() => semver.matches('1', '1.0.0', { includePrerelease: true }), 'options has no "includePrerelease"'],
+      [() => semver.matches('1', '1.0.0', { grammar: 'toString' }), 'options.grammar must be "npm", "normalized" or "strict"'],
+      [() => new Range([]), 'range must be a string, not an array'],
+      [() => new Range('1').overlaps('1'), 'other must be a Range, not string'],
+      [() => semver.parsePackage(undefined), 'specifier must be a string, not undefined'],
+    ];
+    for (const [call, message] of calls) {
+      const error = attempt(call);
+      assert.deepEqual([error?.name, error?.message], ['TypeError', message]);
+    }
+  });
+
+  test(`${kind}: values`, () => {
+    const range = new Range('>=1.2 <2');
+    assert.equal(range.canonical, '^1.2.0');
+    assert.equal(range.tag, undefined);
+    assert.equal(new Range('latest').tag, 'latest');
+    assert.equal(range.matches('1.3.0'), true);
+    assert.equal(range.equals(new Range('^1.2')), true);
+    assert.equal(range.equals(range) && range.overlaps(range), true);
+    assert.equal(JSON.stringify({ range }), '{"range":">=1.2 <2"}');
+    range.free();
+    range.free();
+    assert.equal(attempt(() => range.matches('1.3.0')).message, 'the value was freed');
+    const version = new Version('v1.2.3-beta.1+b.2');
+    assert.deepEqual([version.major, version.minor, version.patch], [1, 2, 3]);
+    assert.deepEqual([version.preRelease, version.build], [['beta', '1'], ['b', '2']]);
+    assert.equal(`${version}`, '1.2.3-beta.1+b.2');
+    assert.ok(attempt(() => new Version('9007199254740993.0.0').major) instanceof RangeError);
+  });
+
+  test(`${kind}: a list of versions`, () => {
+    const list = new VersionList(['1.2.0', 'x', '2.0.0', '1.10.0\n', '1.\n', '\ud800', '']);
+    assert.equal(list.length, 7);
+    assert.deepEqual(list.filter(new Range('^1')), ['1.2.0', '1.10.0\n']);
+    assert.deepEqual(list.filter(new Range('>=2')), ['2.0.0']);
+    assert.deepEqual(new VersionList([]).filter(new Range('*')), []);
+    assert.deepEqual(new VersionList(['1.2.0-a']).filter(new Range('1', { preReleases: true })), ['1.2.0-a']);
+    assert.equal(attempt(() => list.filter('1')).message, 'range must be a Range, not string');
+    assert.equal(attempt(() => list.filter(new Range('latest'))).tag, 'latest');
+    list.free();
+    assert.equal(attempt(() => list.filter(new Range('1'))).message, 'the value was freed');
+  });
+
+  test(`${kind}: using frees a value`, { skip: !Symbol.dispose && 'the host has no using' }, () => {
+    for (const value of [new Range('1'), new VersionList(['1.0.0'])]) {
+      value[Symbol.dispose]();
+      assert.throws(() => (value.tag, value.filter(new Range('1'))), { message: 'the value was freed' });
+    }
+  });
+
+  test(`${kind}: long texts`, () => {
+    const long = `${'1.2.3 || '.repeat(20_000)}^7`;
+    assert.equal(semver.matches(long, '7.1.0'), true);
+    assert.equal(semver.canonical('é'.repeat(500), { grammar: 'npm' }), 'é'.repeat(500));
+    assert.equal(semver.compare(`1.0.0-${'a.'.repeat(50_000)}a`, `1.0.0-${'a.'.repeat(50_000)}b`), -1);
+  });
+}
+
+function attempt(call) {
+  try {
+    call();
+    return undefined;
+  } catch (error) {
+    return error;
+  }
+}

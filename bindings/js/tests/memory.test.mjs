@@ -1,0 +1,85 @@
+// Memory: that short calls hold none, that values are freed, and what happens when it runs out.
+
+import assert from 'node:assert/strict';
+import { test } from 'node:test';
+import { setTimeout } from 'node:timers/promises';
+import compat from '../out/package/compat.js';
+import * as semver from '../out/package/index.js';
+import { wasm } from '../out/package/calls.js';
+
+const pages = () => wasm.memory.buffer.byteLength;
+
+/** Calls a million times, and returns by how many blocks and bytes the library's heap grows after the first calls. */
+function growth(call) {
+  for (let i = 0; i < 2000; i++) call(i);
+  const before = [wasm.heap_blocks(), pages()];
+  for (let i = 0; i < 1_000_000; i++) call(i);
+  return [wasm.heap_blocks() - before[0], pages() - before[1]];
+}
+
+test('a million short calls in one loop hold no memory', () => {
+  assert.deepEqual(growth((i) => semver.matches('^1.2', `1.${i % 100}.0`)), [0, 0]);
+  assert.deepEqual(growth((i) => compat.satisfies('1.2.3', `^1.${i % 3000}.0`)), [0, 0]);
+  assert.deepEqual(growth((i) => new compat.Range(`^1.${i % 3000}.0`)), [0, 0]);
+  assert.deepEqual(growth((i) => new semver.Version(`1.${i % 100}.0`)), [0, 0]);
+});
+
+test('freed values leave no block', () => {
+  assert.deepEqual(growth((i) => new semver.VersionList([`1.${i % 100}.0`, 'x']).free()), [0, 0]);
+  assert.deepEqual(growth((i) => new semver.Range(`^1.${i % 100}.0`).free()), [0, 0]);
+});
+
+test('ranges that are collected leave no block', { skip: typeof gc === 'undefined' && 'no --expose-gc' }, async () => {
+  const before = wasm.heap_blocks();
+  for (let i = 0; i < 10_000; i++) new semver.Range(`^1.${i}.0`);
+  for (let i = 0; i < 20 && wasm.heap_blocks() > before; i++) {
+    gc();
+    await setTimeout(10);
+  }
+  assert.equal(wasm.heap_blocks(), before);
+});
+
+/** Calls with each allocation failing in turn, until none does, and returns the results. */
+function withEachLimit(call) {
+  const results = [];
+  for (let allowed = 0; allowed < 1000; allowed++) {
+    wasm.heap_allow(allowed);
+    try {
+      results.push(call());
+      return results;
+    } catch (error) {
+      results.push(error.message);
+    } finally {
+      wasm.heap_allow(-1);
+    }
+  }
+  throw new Error('memory always runs out');
+}
+
+test('where memory runs out, each call throws, and answers as ever afterwards', () => {
+  const list = Array.from({ length: 50 }, (_, i) => `1.${i}.0-pre.${i}`);
+  const calls = [
+    () => semver.matches('^1.2 || 3', '1.3.0-a.b'),
+    () => semver.filter('^1.2 || 3', list).length,
+    () => semver.sort(list).length,
+    () => semver.counterexample('^1.3 || 4', '^1.2'),
+    () => semver.canonical('>=1.2 <2 || 3'),
+    () => semver.parsePackage('@scope/name@1 || 2').name,
+    () => compat.maxSatisfying(list, '>=1.0.0-0 <2'),
+    () => compat.minVersion('^1.2 || 3').version,
+    () => compat.satisfies('1.2.3', `>=${Math.random()}.1`.replace('0.', '')),
+  ];
+  for (const call of calls) {
+    const before = wasm.heap_blocks();
+    const results = withEachLimit(call);
+    assert.ok(results.slice(0, -1).every((message) => message === 'out of memory'), results.slice(0, -1).join());
+    assert.deepEqual(results.at(-1), call());
+    assert.ok(wasm.heap_blocks() - before <= 3, `${wasm.heap_blocks() - before} blocks`);
+  }
+});
+
+test('a text that is larger than memory throws', () => {
+  const large = '1'.repeat(2 ** 28);
+  assert.throws(() => semver.filter('1', Array.from({ length: 3 }, () => large)), RangeError);
+  assert.equal(semver.matches('1', '1.0.0'), true);
+});

@@ -1,0 +1,47 @@
+// What the package is made of: it imports nothing but itself, so that it runs in every host, and both kinds of modules have one API.
+
+import assert from 'node:assert/strict';
+import { readFileSync, readdirSync } from 'node:fs';
+import { createRequire } from 'node:module';
+import { test } from 'node:test';
+import * as compat from '../out/package/compat.js';
+import * as index from '../out/package/index.js';
+
+const require = createRequire(import.meta.url);
+const folder = new URL('../out/package/', import.meta.url);
+const read = (name) => readFileSync(new URL(name, folder), 'utf8');
+const withoutComments = (source) => source.replace(/\/\*[^]*?\*\/|\/\/.*/g, '');
+const names = readdirSync(folder).filter((name) => /\.c?js$/.test(name) && !name.startsWith('wasm.'));
+
+for (const name of names) {
+  test(`${name} imports nothing of Node`, () => {
+    const source = withoutComments(read(name));
+    for (const [, module] of source.matchAll(/(?:from|require\(|import\()\s*'([^']*)'/g)) assert.match(module, /^\.\//);
+    assert.doesNotMatch(source, /\b(process|Buffer|global|__dirname|__filename)\b|node:/);
+  });
+}
+
+test('semver.wasm imports nothing', () => {
+  const { base64 } = require('../out/package/wasm.cjs');
+  assert.deepEqual(WebAssembly.Module.imports(new WebAssembly.Module(Buffer.from(base64, 'base64'))), []);
+});
+
+for (const [name, modules] of [['index', index], ['compat', compat]]) {
+  test(`${name} has the same names as CommonJS, and types for each`, () => {
+    assert.deepEqual(Object.keys(require(`../out/package/${name}.cjs`)).sort(), Object.keys(modules).sort());
+    const types = read(`${name}.d.ts`);
+    for (const exported of Object.keys(modules)) {
+      const declared = new RegExp(`export (function|class|const|default) ${exported === 'default' ? 'all' : exported}\\b`);
+      assert.match(types, declared, exported);
+    }
+  });
+}
+
+test('each exported declaration has a comment', () => {
+  for (const name of ['index', 'compat']) {
+    const lines = read(`${name}.d.ts`).split('\n');
+    const bare = lines.filter((line, at) => /^export |^ {2}(readonly |get |[a-z]+[(:?])/.test(line) && !/^export (default|\{)/.test(line)
+      && !/\*\/$/.test(lines[at - 1]) && !/^ {2}readonly (start|end|expected|error)\?|^ {2}readonly expected:/.test(line));
+    assert.deepEqual(bare, [], name);
+  }
+});

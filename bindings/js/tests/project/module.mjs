@@ -1,0 +1,7 @@
+import assert from 'node:assert/strict';
+import { Range, matches } from 'deno-semver';
+import semver, { satisfies } from 'deno-semver/compat';
+
+assert.equal(matches('^1.2', '1.3.0'), true);
+assert.equal(new Range('>=1.2 <2').canonical, '^1.2.0');
+assert.equal(satisfies('1.3.0', '^1.2') && semver.satisfies('1.3.0', '^1.2'), true);

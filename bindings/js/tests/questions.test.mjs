@@ -1,0 +1,144 @@
+// The table of questions that each binding answers alike: bindings/questions.jsonl.
+
+import assert from 'node:assert/strict';
+import { readFileSync } from 'node:fs';
+import { test } from 'node:test';
+import * as semver from '../out/package/index.js';
+
+const { Range, Version } = semver;
+const rows = readFileSync(new URL('../../questions.jsonl', import.meta.url), 'utf8').trim().split('\n').map((line) => JSON.parse(line));
+
+/** The lines of a text, as the library has them. */
+function linesOf(text) {
+  return text === '' ? [] : (text.endsWith('\n') ? text.slice(0, -1) : text).split(/\r?\n/);
+}
+
+const isEncodable = (text) => !/\p{Surrogate}/u.test(text);
+const yesIf = (is) => [is ? 'yes' : 'no'];
+const textOr = (text) => (text === undefined ? ['no'] : ['yes', text]);
+const placeOr = (list, item) => (item === undefined ? ['no'] : ['yes', String(list.indexOf(item))]);
+const orderOf = (order) => [{ '-1': 'before', 0: 'same', 1: 'after' }[order]];
+
+/** The JSON of the C API, from the parts that this package returns. */
+function packageJson({ scope, name, range, canonical }) {
+  return { name, normal: canonical, requirement: range, scope };
+}
+
+function sortedJson(parts) {
+  return JSON.stringify(Object.fromEntries(Object.entries(parts).sort(([a], [b]) => (a < b ? -1 : 1))));
+}
+
+const referenceJson = (parts) => sortedJson({ ...parts, package: packageJson(parts.package) });
+const nameJson = ({ name, scope, version }) => ({ name, scope, version });
+
+/** How the calls that name a grammar answer. */
+const WITH_GRAMMAR = {
+  fits: (o, range, version) => yesIf(semver.matches(range, version, o)),
+  filter: (o, range, text) => {
+    const lines = linesOf(text);
+    const invalid = lines.map((line) => isEncodable(line) && thrown(() => new Version(line)) !== undefined);
+    const matching = new Set(semver.filter(range, lines.filter((_, at) => !invalid[at]), o));
+    return ['yes', ...lines.map((line, at) => (invalid[at] ? 'invalid version' : yesIf(matching.has(line))[0]))];
+  },
+  best: (o, range, text) => placeOr(linesOf(text), semver.best(range, linesOf(text), o)),
+  lowest: (o, range, text) => placeOr(linesOf(text), semver.lowest(range, linesOf(text), o)),
+  overlap: (o, one, other) => yesIf(semver.overlaps(one, other, o)),
+  within: (o, one, other) => {
+    const version = semver.counterexample(one, other, o);
+    return version === undefined ? ['yes'] : ['no', version];
+  },
+  equivalent: (o, one, other) => yesIf(semver.isEquivalent(one, other, o)),
+  common: (o, one, other) => textOr(semver.common([one, other], o)),
+  common_all: (o, text) => textOr(semver.common(linesOf(text), o)),
+  min_version: (o, range) => textOr(semver.minVersion(range, o)),
+  normal: (o, range) => ['yes', semver.canonical(range, o)],
+  equal: (o, one, other) => yesIf(new Range(one, o).equals(new Range(other, o))),
+  is_tag: (o, range) => yesIf(new Range(range, o).tag !== undefined),
+  package: (o, text) => {
+    const parts = packageJson(semver.parsePackage(text, o));
+    const name = parts.scope === null ? parts.name : `@${parts.scope}/${parts.name}`;
+    return ['yes', sortedJson(parts), name, parts.requirement, parts.normal];
+  },
+  dependency: (o, text) => {
+    const { kind, canonical, package: its } = semver.parseDependency(text, o);
+    return ['yes', sortedJson({ kind, normal: canonical, package: packageJson(its) })];
+  },
+};
+
+const CALLS = {
+  sort: (text) => {
+    const lines = linesOf(text);
+    const versions = lines.map((line, at) => ({ line, at }));
+    const sorted = semver.sort(lines);
+    return ['yes', ...sorted.map((line) => String(take(versions, line)))];
+  },
+  compare: (one, other) => orderOf(new Version(one).compare(other)),
+  version: (text) => ['yes', String(new Version(text))],
+  may_be_tag: (text) => yesIf(semver.mayBeTag(text)),
+  reference: (text) => ['yes', referenceJson(semver.parseReference(text))],
+  name_with_version: (text) => ['yes', sortedJson(nameJson(semver.parseNameWithVersion(text)))],
+  version_reference: (text) => {
+    const parts = semver.parseVersionReference(text);
+    return ['yes', sortedJson({ ...parts, package: nameJson(parts.package) })];
+  },
+  version_parts: (text) => {
+    const { build, major, minor, patch, preRelease } = new Version(text);
+    return ['yes', JSON.stringify({ build, major: String(major), minor: String(minor), patch: String(patch), pre: preRelease })];
+  },
+};
+
+/** The place of the first version with this text, which is taken from the list. */
+function take(versions, line) {
+  return versions.splice(versions.findIndex((it) => it.line === line), 1)[0].at;
+}
+
+function thrown(call) {
+  try {
+    call();
+    return undefined;
+  } catch (error) {
+    return error;
+  }
+}
+
+/** What the table has for this error. */
+function problem(error, texts) {
+  if (error.name === 'TagError') return ['tag'];
+  if (error.name === 'TypeError') return ['unknown grammar'];
+  if (/lone surrogate/.test(error.message)) return ['invalid UTF-8'];
+  const name = error.name === 'VersionSyntaxError' ? 'invalid version' : 'invalid range';
+  return [name, error.message, String(error.index ?? texts.indexOf(error.text))];
+}
+
+let count = 0;
+for (const [[name, ...given], expected] of rows) {
+  const call = WITH_GRAMMAR[name] ?? CALLS[name];
+  // A text that has no UTF-8 isn't a tag, and numbers that a number of JavaScript doesn't hold are RangeErrors.
+  const isOther = (name === 'may_be_tag' && !isEncodable(given[0])) || (name === 'version_parts' && /\d{16}/.test(given[0]));
+  if (!call || isOther) continue;
+  count++;
+  test(JSON.stringify([name, ...given]), () => {
+    const { texts, asked } = argumentsOf(name, given);
+    let answer;
+    try {
+      answer = call(...asked);
+    } catch (error) {
+      answer = problem(error, name === 'common_all' ? linesOf(texts[0]) : texts);
+    }
+    const isShort = answer[0] === 'unknown grammar' || answer[0] === 'invalid UTF-8';
+    if (isShort) assert.equal(answer[0], expected[0]);
+    else assert.deepEqual(answer.slice(0, expected.length), expected);
+  });
+}
+
+/** The texts of a question, and the arguments of its call. */
+function argumentsOf(name, given) {
+  if (!WITH_GRAMMAR[name]) return { texts: given, asked: given };
+  const [grammar, ...rest] = given;
+  const hasPreReleases = rest[0] === 'restricted' || rest[0] === 'admitted';
+  const texts = hasPreReleases ? rest.slice(1) : rest;
+  const options = { grammar, ...(hasPreReleases && { preReleases: rest[0] === 'admitted' }) };
+  return { texts, asked: [options, ...texts] };
+}
+
+test('the table has such questions', () => assert.ok(count > 200, `${count} questions`));
