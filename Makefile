@@ -33,7 +33,7 @@ help:
 	@echo 'make            prove and build the programs and libraries'
 	@echo 'make try        one answer within a minute, without the proof'
 	@echo 'make test       the whole gate: every proof and every test'
-	@echo 'make dist       a release in out/dist: tarballs for x86-64 and arm64, a Debian package, checksums'
+	@echo 'make dist       a release in out/dist: tarballs, a Debian package, a wheel, a crate, an npm package, checksums'
 	@echo 'make install    install below PREFIX (/usr/local), within DESTDIR if it is set'
 	@echo 'make uninstall  remove what make install put there'
 	@echo 'make clean      remove what make put into out/'

@@ -1,9 +1,10 @@
 #!/bin/sh
 # Builds the library of the calls where a source is newer, and tests the bindings over it: C's, also under the address checker,
-# Python's, and Rust's where cargo is there. Each answers the questions of questions.jsonl and runs its examples, over the heap of
-# heap.c, which counts what is alive. It stops at the first failure.
+# Python's, and Rust's where cargo is there, with serde and url where Debian's packages are. Each answers the questions of
+# questions.jsonl and runs its examples, over the heap of heap.c, which counts what is alive. Then the npm package over the same
+# library (js/test.sh). It stops at the first failure.
 #
-# usage: test.sh [c] [python] [rust] [speed]; by default all but speed, which prints the times of calls.
+# usage: test.sh [c] [python] [rust] [js] [speed]; by default all but speed, which prints the times of calls.
 # OUT is a folder for what is built, by default bindings/out; CC is the C compiler.
 set -e
 here=$(cd "$(dirname "$0")" && pwd)
@@ -33,9 +34,11 @@ program() {
     compile "$@" -I"$here/c" -o "$out/$name" "$here/c/$name.c" "$lib/libsemver_c.a" "$heap/liblibc_c.a"
 }
 
-# Builds the shared library of this name over the heap in this folder.
+# Builds the shared library of this name over the heap in this folder: its name, the folder, and further options.
 shared() {
-    compile -shared -o "$out/$1" -Wl,--whole-archive "$lib/libsemver_c.a" "$2/liblibc_c.a" -Wl,--no-whole-archive
+    name=$1 heap=$2
+    shift 2
+    compile -shared "$@" -o "$out/$name" -Wl,--whole-archive "$lib/libsemver_c.a" "$heap/liblibc_c.a" -Wl,--no-whole-archive
 }
 
 c() {
@@ -48,11 +51,48 @@ c() {
     done
 }
 
+# The package from its sources over the counting heap, and as a wheel, which pip installs into an empty environment.
 python() {
     echo "Python"
     shared libsemver_tested.so "$out/heap"
-    python3 "$here/python/questions.py" "$out/libsemver_tested.so" "$here/questions.jsonl"
-    python3 "$here/python/examples.py" "$out/libsemver_tested.so"
+    export PYTHONPATH="$here/python" DENO_SEMVER_LIBRARY="$out/libsemver_tested.so"
+    python3 "$here/python/questions.py" "$here/questions.jsonl"
+    python3 "$here/python/tests/test_deno_semver.py" 2>"$out/python.log" || { cat "$out/python.log" >&2; exit 1; }
+    grep '^Ran' "$out/python.log"
+    checker=$(${CC:-cc} -print-file-name=libasan.so)
+    if [ -e "$checker" ]; then
+        LD_PRELOAD=$checker ASAN_OPTIONS=detect_leaks=0 python3 "$here/python/tests/test_deno_semver.py" 2>"$out/python.log" ||
+            { cat "$out/python.log" >&2; exit 1; }
+        echo "and under the address checker"
+    fi
+    python3 -m doctest "$here/python/README.md"
+    unset PYTHONPATH DENO_SEMVER_LIBRARY
+    shared libdeno_semver.so.0 "$kit" -s
+    rm -rf "$out/wheel" "$out/environment"
+    mkdir "$out/wheel"
+    "$here/python/make_wheel.py" "$out/libdeno_semver.so.0" "$out/wheel" >/dev/null
+    python3 -m venv "$out/environment"
+    "$out/environment/bin/pip" install --quiet --no-index --disable-pip-version-check "$out"/wheel/*.whl
+    (cd "$out" && environment/bin/python -m doctest "$here/python/README.md")
+    echo "the wheel has $(cat "$out"/wheel/*.whl | wc -c) bytes, and is installed"
+}
+
+# Makes the folder that cargo takes the crates from that the Rust crate may use: of empty ones, if they aren't installed.
+empty_crates() {
+    for crate in serde-1.0.0 serde_json-1.0.0 url-2.0.0; do
+        mkdir -p "$out/registry/$crate/src"
+        printf '[package]\nname = "%s"\nversion = "%s"\n[features]\nderive = []\n' "${crate%-*}" "${crate#*-}" \
+            >"$out/registry/$crate/Cargo.toml"
+        touch "$out/registry/$crate/src/lib.rs"
+        echo '{"files": {}}' >"$out/registry/$crate/.cargo-checksum.json"
+    done
+}
+
+# Runs cargo in the crate, without a registry: $registry is the folder of other crates.
+offline() {
+    rm -f "$here/rust/Cargo.lock"
+    (cd "$here/rust" && CARGO_TARGET_DIR=$out/target cargo "$@" --offline --release --quiet \
+        --config 'source.crates-io.replace-with="folder"' --config "source.folder.directory=\"$registry\"")
 }
 
 rust() {
@@ -60,25 +100,38 @@ rust() {
         echo "Rust: left out, since there is no cargo"
         return
     fi
-    echo "Rust"
-    (cd "$here/rust" && SEMVER_LIB=$lib RATTLE_C=$out/heap QUESTIONS=$out/questions.flat CARGO_TARGET_DIR=$out/target \
-        cargo test --offline --release --quiet)
+    registry=/usr/share/cargo/registry features=counting-heap,serde,url
+    if ls -d "$registry"/serde_json-1* "$registry"/serde_derive-1* "$registry"/url-2* >/dev/null 2>&1; then
+        echo "Rust"
+    else
+        echo "Rust, without serde and url: apt-get install librust-serde-dev librust-serde-derive-dev librust-serde-json-dev librust-url-dev"
+        registry=$out/registry features=counting-heap
+        empty_crates
+    fi
+    SEMVER_LIB=$lib RATTLE_C=$out/heap QUESTIONS=$out/questions.flat offline test --features $features
+}
+
+js() {
+    echo "JavaScript"
+    "$here/js/test.sh"
 }
 
 speed() {
     program speed "$kit"
     "$out/speed"
-    shared libsemver.so "$kit"
-    python3 "$here/python/speed.py" "$out/libsemver.so"
+    shared libdeno_semver.so.0 "$kit" -s
+    PYTHONPATH="$here/python" DENO_SEMVER_LIBRARY="$out/libdeno_semver.so.0" python3 "$here/python/speed.py"
     if command -v cargo >/dev/null; then
-        (cd "$here/rust" && SEMVER_LIB=$lib RATTLE_C=$kit CARGO_TARGET_DIR=$out/target \
-            cargo run --offline --release --quiet --example speed)
+        registry=$out/registry
+        empty_crates
+        SEMVER_LIB=$lib RATTLE_C=$kit offline run --example speed
     fi
+    "$here/js/test.sh" speed
 }
 
-[ $# -gt 0 ] || set -- c python rust
+[ $# -gt 0 ] || set -- c python rust js
 for part; do
-    case $part in c | python | rust | speed) ;; *) echo "usage: test.sh [c] [python] [rust] [speed]" >&2; exit 2 ;; esac
+    case $part in c | python | rust | js | speed) ;; *) echo "usage: test.sh [c] [python] [rust] [js] [speed]" >&2; exit 2 ;; esac
 done
 mkdir -p "$out"
 "$here/library.py" >"$out/library.log" 2>&1 || { cat "$out/library.log" >&2; exit 1; }

@@ -100,6 +100,30 @@ debian() {
     dpkg-deb --root-owner-group -Zgzip --build "$root" "$made/deno-semver_${VERSION}_amd64.deb" >/dev/null
 }
 
+# The crate for Rust, with its library.
+rust_crate() {
+    name=deno_semver_proved-$VERSION
+    mkdir -p "$work/$name/lib/x86_64-unknown-linux-gnu"
+    cp -r bindings/rust/src bindings/rust/examples bindings/rust/build.rs bindings/rust/Cargo.toml bindings/rust/README.md LICENSE "$work/$name"
+    cp "$calls" "$heap" "$work/$name/lib/x86_64-unknown-linux-gnu"
+    same_times "$work/$name"
+    tar -C "$work" --sort=name --owner=0 --group=0 --numeric-owner --format=gnu -cf "$work/$name.tar" "$name"
+    gzip -9n <"$work/$name.tar" >"$made/$name-x86_64-linux.tar.gz"
+}
+
+# The packages of other languages, for x86-64: the wheel for Python, the crate for Rust, and for JavaScript the package that bindings/js
+# built, where it did.
+packages() {
+    bindings/python/make_wheel.py out/x86_64/libdeno_semver.so.0 "$made" >/dev/null
+    parts x86_64
+    calls=crates/semver_c/out/libsemver_c.a
+    if [ -n "$STATIC" ]; then calls=out/x86_64/libsemver_c.a; fi
+    rust_crate
+    if [ -d bindings/js/out/package ] && command -v npm >/dev/null; then
+        (cd bindings/js/out/package && npm pack --offline --silent --pack-destination "$made" >/dev/null)
+    fi
+}
+
 release() {
     echo "deno_semver $VERSION for Linux on $(echo "$ARCHES" | sed 's/ / and /')"
     echo
@@ -134,8 +158,7 @@ for arch in $ARCHES; do
     link "$arch"
     tarball "$arch"
 done
-case $ARCHES in *x86_64*) debian ;; esac
-# The wheel for Python, the package for npm and the crate for Rust will come here, each written into $made.
+case $ARCHES in *x86_64*) debian; packages ;; esac
 release >"$made/RELEASE"
 (cd "$made" && sha256sum -- * >"$work/SHA256SUMS")
 rm -rf "$DIST"

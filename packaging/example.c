@@ -8,7 +8,7 @@
 int main(void) {
     uint8_t out[64];
     size_t needed;
-    uint32_t code = semver_fits(SEMVER_NPM, TEXT("^1.2"), TEXT("1.3.0"), SEMVER_RESTRICTED, out, sizeof out, &needed);
+    int32_t code = semver_fits(SEMVER_NPM, TEXT("^1.2"), TEXT("1.3.0"), SEMVER_RESTRICTED, out, sizeof out, &needed);
     puts(code == SEMVER_YES ? "yes" : "no");
     return code != SEMVER_YES;
 }

@@ -25,7 +25,7 @@ expect() { # WANTED COMMAND.. with a clean environment
     [ "$got" = "$wanted" ] || fail "$*: $got, and not $wanted"
 }
 
-# The programs and the manual pages below a folder; further words run the programs.
+# The programs and the manual pages below a folder; further arguments run the programs.
 try_programs() { # FOLDER COMMAND..
     folder=$1
     shift
@@ -38,7 +38,7 @@ try_programs() { # FOLDER COMMAND..
     fi
 }
 
-# packaging/example.c over the library below a folder, by a C compiler; further words run it. PKG_CONFIG_SYSROOT_DIR is for DESTDIR.
+# packaging/example.c over the library below a folder, by a C compiler; further arguments run it. PKG_CONFIG_SYSROOT_DIR is for DESTDIR.
 try_c() { # FOLDER COMPILER COMMAND..
     folder=$1 compiler=$2
     shift 2
@@ -51,7 +51,7 @@ try_c() { # FOLDER COMPILER COMMAND..
     rm "$root/shared" "$root/static"
 }
 
-rejects() { # WHY WORD.. by make install
+rejects() { # WHY ARGUMENT.. by make install
     why=$1
     shift
     if make -s install DESTDIR="$root/none" "$@" 2>/dev/null; then fail "$why is accepted"; fi
@@ -112,6 +112,26 @@ try_debian() {
     [ ! -e "$system/usr" ] || fail 'dpkg -r leaves files'
 }
 
+# Installs the wheel into an empty environment, builds a program over the crate, and installs the npm package, each from the release.
+try_packages() {
+    python3 -m venv "$root/environment"
+    "$root/environment/bin/pip" install --quiet --no-index --disable-pip-version-check "$root"/first/*.whl
+    expect 1.2.0 "$root/environment/bin/python" -c 'import deno_semver; print(deno_semver.best("^1", ["1.0.0", "1.2.0", "2.0.0"]))'
+    if has cargo; then
+        tar -C "$root" -xzf "$root/first/deno_semver_proved-0.1.0-x86_64-linux.tar.gz"
+        mkdir -p "$root/user/src"
+        printf '[package]\nname = "user"\nversion = "0.1.0"\nedition = "2021"\n[dependencies]\ndeno_semver_proved = { path = "../deno_semver_proved-0.1.0" }\n' >"$root/user/Cargo.toml"
+        printf 'fn main() { println!("{}", deno_semver_proved::npm::parse_npm_version_req(">=1.2 <2 || 3").unwrap().to_string_normalized()) }\n' >"$root/user/src/main.rs"
+        (cd "$root/user" && cargo build --offline --quiet)
+        expect '^1.2.0 || 3' "$root/user/target/debug/user"
+    fi
+    if has npm && ls "$root"/first/*.tgz >/dev/null 2>&1; then
+        mkdir "$root/project"
+        (cd "$root/project" && npm install --offline --silent --no-audit --no-fund "$root"/first/*.tgz >/dev/null)
+        (cd "$root/project" && expect true "$(command -v node)" -p 'require("deno-semver").matches("^1.2", "1.3.0")')
+    fi
+}
+
 # C's questions and examples over arm64's heap, which counts blocks and runs out of memory as bindings/test.sh has it.
 try_questions() { # COMMAND..
     aarch64-linux-gnu-gcc -O2 -c -o "$root/counting.o" bindings/heap.c
@@ -145,6 +165,7 @@ else
 fi
 release_twice
 try_tarball x86_64 "${CC:-cc}"
+try_packages
 if [ "$(id -u)" = 0 ]; then try_debian; else echo 'packaging: not root, so the Debian package is not installed'; fi
 if [ "$arches" != x86_64 ]; then
     try_tarball aarch64 aarch64-linux-gnu-gcc qemu-aarch64 -L /usr/aarch64-linux-gnu

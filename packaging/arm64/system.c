@@ -10,19 +10,19 @@ int32_t rattle_errno(void);
 void rattle_set_errno(int32_t error);
 
 static size_t count;
-static char **words;
+static char **arguments;
 
 /* glibc passes it the arguments of main, before main. */
 __attribute__((constructor)) static void keep(int argc, char **argv) {
     count = argc > 0 ? (size_t)argc : 0;
-    words = argv;
+    arguments = argv;
 }
 
 /* Copies an argument and returns its length, or -1 if there is none, or -2 if it's too long, and then its beginning is copied. */
 ssize_t rattle_arg(size_t place, uint8_t *out, size_t room) {
-    if (place >= count || words[place] == NULL) return -1;
-    size_t length = strlen(words[place]);
-    memcpy(out, words[place], length <= room ? length : room);
+    if (place >= count || arguments[place] == NULL) return -1;
+    size_t length = strlen(arguments[place]);
+    memcpy(out, arguments[place], length <= room ? length : room);
     return length <= room ? (ssize_t)length : -2;
 }
 
