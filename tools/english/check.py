@@ -31,6 +31,8 @@ SOURCES = (
     ("crates/*/proofs/**/*.antt", "--"),
     ("bindings/rust/*/*.rs", "//"),
     ("bindings/**/*.py", "#"),
+    ("bindings/js/*.mjs", "//"),
+    ("bindings/js/[!o]*/*.*js", "//"),
 )
 
 
@@ -72,14 +74,19 @@ def of_header(text):
             yield number, line[line.index("/*") :]
 
 
+def matching(pattern):
+    """The files of a pattern, but those that a build left."""
+    return (path for path in TOP.glob(pattern) if "out" not in path.relative_to(TOP).parts)
+
+
 def files():
     for pattern in PAGES:
-        for path in TOP.glob(pattern):
+        for path in matching(pattern):
             yield path, of_page(path.read_text())
     for pattern, mark in SOURCES:
-        for path in TOP.glob(pattern):
+        for path in matching(pattern):
             yield path, of_source(path.read_text(), mark)
-    for path in TOP.glob("bindings/**/*.py"):
+    for path in matching("bindings/**/*.py"):
         yield path, of_docstrings(path.read_text())
     yield TOP / "bindings/c/semver.h", of_header((TOP / "bindings/c/semver.h").read_text())
 

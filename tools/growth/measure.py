@@ -2,7 +2,7 @@
 """Measures how the time of a call grows with texts that are made long on purpose, through conformance as rt ci (or rt run in
 its crate) built it. Run at the top of the project, by hand: the gate doesn't.
 
-    tools/growth/measure.py [WORD]    WORD: only the texts whose name holds it
+    tools/growth/measure.py [TEXT]    TEXT: only the texts whose name holds it
 
 For each text, in sizes of which each doubles the one before: the bytes of the largest, and the processor time of each, the shortest
 of three runs, less that of a short text; what takes more than a second is run once. The time includes reading the row. The status
@@ -56,7 +56,7 @@ def nested(major, qualifier=""):
     return lambda size: " || ".join(f">={major}.{size - at}.0{qualifier} <{major}.{size + at}.0" for at in range(1, size + 1)) + " || ^9"
 
 
-# What ought to be linear: the text's name, its readers, what makes it, and its sizes.
+# What ought to be linear: the text's name, its grammars, what makes it, and its sizes.
 LINEAR = (
     ("pieces `1`", BOTH, joined("1", " || "), COUNTS),
     ("pieces `foo`", BOTH, joined("foo", " || "), COUNTS),
@@ -96,7 +96,7 @@ KINDS = (("releases", ""), ("pre-releases", "-a"))
 def seconds(row):
     """The processor time of the row, of which only the question matters."""
     with tempfile.TemporaryFile() as table:
-        table.write(json.dumps([row, ["refused"]]).encode() + b"\n")
+        table.write(json.dumps([row, ["rejected"]]).encode() + b"\n")
         found = []
         for _ in range(RUNS):
             table.seek(0)
@@ -131,26 +131,26 @@ def lowest_versions():
     yield "common-of-all, requirements", [["common-of-all", "npm", "restricted", *[f">=1.{at}.0" for at in range(size)]] for size in REQUIREMENTS]
 
 
-def main(word=""):
+def main(part=""):
     if not PROGRAM.is_file():
         sys.exit(f"{PROGRAM} isn't built: run rt ci first")
     rows = [
-        (f"{name}, {reader}", [["fits", reader, make(size), "1.0.0"] for size in sizes])
-        for name, readers, make, sizes in LINEAR
-        for reader in readers
+        (f"{name}, {grammar}", [["fits", grammar, make(size), "1.0.0"] for size in sizes])
+        for name, grammars, make, sizes in LINEAR
+        for grammar in grammars
     ]
     rows += [(f"place of an error, {name}, {grammar}", [["error-place", grammar, make(size)] for size in MEGABYTE]) for name, make in INVALID for grammar in BOTH]
-    for words, more in (["normal", "normal"], []), (["normal", "npm"], []), (["written", "inner"], [""]):
-        rows.append((" ".join(["pieces `1`,", *words]), [[*words, joined("1", " || ")(size), *more] for size in COUNTS]))
+    for arguments, more in (["normal", "normal"], []), (["normal", "npm"], []), (["written", "inner"], [""]):
+        rows.append((" ".join(["pieces `1`,", *arguments]), [[*arguments, joined("1", " || ")(size), *more] for size in COUNTS]))
     grown = []
     for name, asked in rows:
-        if word in name:
-            least = seconds([*asked[0][:2], "1", *asked[0][3:]])
-            times = [seconds(row) - least for row in asked]
+        if part in name:
+            shortest = seconds([*asked[0][:2], "1", *asked[0][3:]])
+            times = [seconds(row) - shortest for row in asked]
             report(name, times, len(asked[-1][2].encode()))
             grown += [name] * (not grows_by_at_most(MOST, times))
     for name, asked in lowest_versions():
-        if word in name:
+        if part in name:
             times = [seconds(row) for row in asked]
             report(name, times, sum(len(it) for it in asked[-1][3:]))
             grown += [name] * (not grows_by_at_most(MOST_SQUARED, times))

@@ -164,8 +164,8 @@ def asked_of_ranges(texts):
     for given in texts:
         if "||" in given or place(GRAMMARS["normal"], given) == 0:
             continue
-        words = [RANGES, "explain", "--reader", "normal", "--json", "--", given]
-        error = json.loads(subprocess.run(words, capture_output=True, timeout=60).stdout).get("error")
+        arguments = [RANGES, "explain", "--grammar", "normal", "--json", "--", given]
+        error = json.loads(subprocess.run(arguments, capture_output=True, timeout=60).stdout).get("error")
         if error and error["start"] != place(GRAMMARS["normal"], given):
             yield f"{given!r}: wanted {place(GRAMMARS['normal'], given)}, found {error}"
 
