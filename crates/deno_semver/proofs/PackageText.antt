@@ -1,7 +1,10 @@
 -- How the text of a package splits, in one way.
-use Rattle.std.proofs.Common.{◌≡◌, ◌<◌, ◌==◌, ◌≢◌, ℕ, true, List, [], ◌∷◌, ◌++◌, length, take, drop, get_or, Option, Some, None, refl, sym, ap, ◌∙◌, arith, length-append}
+use Rattle.std.proofs.Common.{◌≡◌, ◌<◌, ◌≤◌, ◌+◌, ◌==◌, ◌≢◌, ℕ, true, List, [], ◌∷◌, ◌++◌, length, take, drop, get_or, Option, Some, None, refl, sym, ap, ◌∙◌, arith, append_assoc, length-append}
 use Rattle.std.specs.List.{list_all}
-use Rattle.std.specs.Str.{NoCharPasses}
+use Rattle.std.specs.Prelude.{IsUtf8}
+use Rattle.std.specs.Str.{IsCharBoundary, NoCharPasses}
+use Rattle.std.proofs.Math.Seq.{take-append_seam}
+use Rattle.std.proofs.lemmas.Str.{IsCharBoundary-from_take, IsUtf8-append, IsUtf8-from_ascii}
 use Rattle.std.specs.Str.Pattern.{FindsChar, MatchBeginsAt, RFindsChar, SplitsAroundMatch}
 use Rattle.std.proofs.lemmas.Bool.{and_parts}
 use Rattle.std.proofs.lemmas.Bool.Decides.{nat_tests}
@@ -10,6 +13,7 @@ use Rattle.std.proofs.lemmas.List.Elements.{All-from_get_or}
 use Rattle.std.proofs.lemmas.List.Sums.{list_all-from_AllPass}
 use Rattle.std.proofs.lemmas.Str.Pattern.{NoCharPasses-char, drop_at_char}
 use Rattle.semver_base.specs.Grammar.{CutsRun}
+use Rattle.semver_base.proofs.Solid.{all_ascii}
 use Rattle.deno_semver.specs.Cuts.{is_not}
 use Rattle.deno_semver.specs.PackageSteps.{IsCut}
 use Rattle.deno_semver.specs.PackageText.{IsAfterScope, IsNamePart, IsPackageText, IsPathPart, IsScope, IsScopeAlone, LacksLast, LacksPart, PackageParts, starts_with_at, without_slash}
@@ -160,22 +164,51 @@ module _ (text : List ℕ) {body first tail path last more : List ℕ} (is_body 
       go [] h = absurd (omega (arith, ap length (sym h ∙ part.text_is), length-append last more, some))
       go (b ∷ rest) h = rw (h.0, h.1) refl
 
-  pub scoped_cut : (some : 0 < length last) (name : List ℕ) (version : Option (List ℕ)) (path' : List ℕ) → IsNamePart last name version → IsPathPart more path'
-      → IsCut text (Some first) name version more path'
-  scoped_cut some name version path' named is_path = record {
-    parts = record {
-      rest = path;
-      scope = (is_scope, sym is_body ∙ (run.text_is ∙ ap (λ t. first ++ t) (tail_is some)));
-      last = last;
-      tail = more;
-      rest_is = part.text_is;
-      last_some = some;
-      last_is = part.pass;
-      named = named;
-      path = is_path;
-    };
-    path_is = is_path;
-  }
+  -- the name with its scope, and what follows it
+  module _ (some : 0 < length last) (name : List ℕ) (version : Option (List ℕ)) (named : IsNamePart last name version) where
+    abbrev front : List ℕ
+    front = first ++ (47 ∷ name)
+
+    abbrev name_ends : (version : Option (List ℕ)) → IsNamePart last name version → (after : List ℕ) × (last ≡ name ++ after)
+    name_ends None h = ([], h.0 ∙ sym (append-nil name))
+    name_ends (Some v) h = (64 ∷ v, h.0)
+
+    body_is : body ≡ front ++ ((name_ends version named).0 ++ more)
+    body_is =
+        let end = name_ends version named in
+        let behind : path ≡ name ++ (end.0 ++ more) = part.text_is ∙ (ap (λ t. t ++ more) end.1 ∙ append_assoc name end.0 more) in
+        run.text_is ∙ (ap (λ t. first ++ t) (tail_is some ∙ ap (λ t. 47 ∷ t) behind) ∙ sym (append_assoc first (47 ∷ name) (end.0 ++ more)))
+
+    size : length first + 1 + length name ≡ length front
+    size = omega (arith, length-append first (47 ∷ name))
+
+    front_is : take (length first + 1 + length name) body ≡ front
+    front_is = rw (size, body_is) (take-append_seam front ((name_ends version named).0 ++ more))
+
+    pub front_boundary : IsUtf8 body → IsUtf8 first → IsUtf8 name → IsCharBoundary body (length first + 1 + length name)
+    front_boundary utf8 scope_utf8 name_utf8 =
+        let inside : length front ≤ length body = omega (arith, ap length body_is, length-append front ((name_ends version named).0 ++ more)) in
+        let slash_name : IsUtf8 (47 ∷ name) = IsUtf8-append (47 ∷ []) name (IsUtf8-from_ascii (47 ∷ []) (all_ascii (47 ∷ []) refl)) name_utf8 in
+        IsCharBoundary-from_take body (length first + 1 + length name) utf8 (omega (arith, size, inside)) (rw front_is (IsUtf8-append first (47 ∷ name) scope_utf8 slash_name))
+
+    pub scoped_cut : {whole path' : List ℕ} → whole ≡ take (length first + 1 + length name) body → IsPathPart more path' → IsCut text whole version more path'
+    scoped_cut whole_is is_path = record {
+      scope = Some first;
+      last = name;
+      parts = record {
+        rest = path;
+        scope = (is_scope, sym is_body ∙ (run.text_is ∙ ap (λ t. first ++ t) (tail_is some)));
+        last = last;
+        tail = more;
+        rest_is = part.text_is;
+        last_some = some;
+        last_is = part.pass;
+        named = named;
+        path = is_path;
+      };
+      name_is = whole_is ∙ front_is;
+      path_is = is_path;
+    }
 
   pub scope_alone : length last ≡ 0 → IsScopeAlone (without_slash text)
   scope_alone nil = record { scope = first; tail = tail; body_is = sym is_body ∙ run.text_is; is_scope = is_scope; lacks = go tail goes_on }

@@ -1,13 +1,15 @@
 -- The steps of parsing packages.
 use Rattle.std.specs.Prelude.{◌≡◌, ◌⊎◌, ℕ, List, Option}
-use Rattle.deno_semver.specs.PackageText.{IsPackageText, IsPathPart, IsScopeAlone, LacksPart, without_slash}
+use Rattle.deno_semver.specs.PackageText.{IsPackageText, IsPathPart, IsScopeAlone, LacksPart, scoped_name, without_slash}
 use Rattle.deno_semver.specs.declared.package.errors.PackageReqPartsParseError.{PackageReqPartsParseError}
 use Rattle.deno_semver.specs.declared.package.errors.PackageReqPartsParseError.TheVariants.{NoPackageName, InvalidPackageName}
 
--- the parts of a text, and the path with its `/`
-pub record IsCut (text : List ℕ) (scope : Option (List ℕ)) (name : List ℕ) (version : Option (List ℕ))
-    (tail path : List ℕ) : Type 0 where
-  pub parts : IsPackageText text (record { scope = scope; name = name; version = version; path = path })
+-- the parts of a text, its name preceded by the scope and `/`, and the path with its `/`
+pub record IsCut (text name : List ℕ) (version : Option (List ℕ)) (tail path : List ℕ) : Type 0 where
+  pub scope : Option (List ℕ)
+  pub last : List ℕ
+  pub parts : IsPackageText text (record { scope = scope; name = last; version = version; path = path })
+  pub name_is : name ≡ scoped_name scope last
   pub path_is : IsPathPart tail path
 
 -- the part that is missing

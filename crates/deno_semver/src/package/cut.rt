@@ -15,8 +15,7 @@ use semver_base::lexical::after;
 /// The parts of a package's text.
 #[derive(Clone, Copy)]
 pub(crate) struct Cut<'a> {
-    pub(crate) scope: Option<&'a str>,
-    // The last part of the name.
+    // The name, preceded by the scope and `/` if there is one.
     pub(crate) name: &'a str,
     pub(crate) version: Option<&'a str>,
     // What follows the name and version: nothing, or a `/` and the path.
@@ -75,18 +74,18 @@ fn starts_with_at(text: &str) -> bool
 
 /// The parts of a package's text, or which part is missing.
 pub(crate) fn parts_of(text: &str) -> Result<Cut<'_>, PackageReqPartsParseError>
-    ensures cut { IfOk result (λ c. IsCut text.now (option_copied c.scope) c.name.now
-        (option_copied c.version) c.tail.now c.path.now) }
+    ensures cut { IfOk result (λ c. IsCut text.now c.name.now (option_copied c.version)
+        c.tail.now c.path.now) }
     ensures uncut { IfErr result (IsUncut text.now) }
 {
-    let (first, tail) = segment_and_rest(without_slash(text));
+    let body = without_slash(text);
+    let (first, tail) = segment_and_rest(body);
     if first.is_empty() {
         return Err(PackageReqPartsParseError::NoPackageName);
     }
     if !starts_with_at(first) {
         let (name, version) = name_and_version(first);
         return Ok(Cut {
-            scope: None,
             name,
             version,
             tail,
@@ -98,8 +97,8 @@ pub(crate) fn parts_of(text: &str) -> Result<Cut<'_>, PackageReqPartsParseError>
         return Err(PackageReqPartsParseError::InvalidPackageName);
     }
     let (name, version) = name_and_version(last);
+    let (name, _) = body.split_at(first.len() + 1 + name.len());
     Ok(Cut {
-        scope: Some(first),
         name,
         version,
         tail,

@@ -5,7 +5,6 @@ ghost use Rattle.std.specs.Option.{option_copied};
 ghost use Rattle.semver_req.specs.declared.common.values.Flavour.TheVariants.{Normal, Npm, Specifier};
 ghost use Rattle.deno_semver.specs.PackageOutcome.{Fault, IsPackageAnswer, IsPackageOutcome, IsPackageRejection, IsVersionReq, IsOutOfMemory};
 ghost use Rattle.deno_semver.specs.PackageReading.{IsPartsRejection, IsPathError, IsReadPackage, IsVersionRejection, ReportsSource, reported_source};
-ghost use Rattle.deno_semver.specs.PackageText.{scoped_name};
 ghost use Rattle.deno_semver.specs.ReferenceReading.{IsFrontError, IsReadWithPath};
 ghost use Rattle.deno_semver.specs.declared.package.values.PackageReq.{PackageReq};
 
@@ -18,7 +17,7 @@ use semver_req::common::values::Flavour;
 use semver_req::laws::texts_have_one_outcome;
 use semver_req::req::{VersionReq, wildcard_version_req};
 use semver_req::specifier::VersionReqSpecifierParseError;
-use std::alloc::{AllocError, Global};
+use std::alloc::Global;
 
 // Parses a version requirement by the strict grammar.
 fn specifier(alloc: Global, text: &str) -> Result<VersionReq, PackageReqPartsParseError>
@@ -99,19 +98,6 @@ fn version_req_or_any(
     }
 }
 
-// The name, preceded by the scope and `/` if there is one.
-fn full_name(alloc: Global, scope: Option<&str>, name: &str) -> Result<PackageName, AllocError>
-    ensures { IfOk result (λ full. full ≡ scoped_name (option_copied scope.entry) name.now) }
-{
-    let Some(scope) = scope else {
-        return PackageName::from_str(alloc, name);
-    };
-    let mut full = PackageName::from_str(alloc, scope)?;
-    full.push_str("/")?;
-    full.push_str(name)?;
-    Ok(full)
-}
-
 // The error for a path, shown with its leading `/`.
 fn path_error(alloc: Global, tail: &str) -> PackageReqPartsParseError
     ensures { IsPathError tail.now result }
@@ -130,13 +116,12 @@ fn req_of(
     cut: Cut<'_>,
     flavour: Flavour,
 ) -> Result<PackageReq, PackageReqPartsParseError>
-    ensures name { IfOk result
-        (λ req. req.name ≡ scoped_name (option_copied cut.entry.scope) cut.entry.name.now) }
+    ensures name { IfOk result (λ req. req.name ≡ cut.entry.name.now) }
     ensures version { IfOk result
         (λ req. IsVersionReq flavour (option_copied cut.entry.version) req.version_req) }
     ensures rejected { IfErr result (IsPartsRejection flavour (option_copied cut.entry.version)) }
 {
-    let name = match full_name(alloc, cut.scope, cut.name) {
+    let name = match PackageName::from_str(alloc, cut.name) {
         Ok(name) => name,
         Err(_) => return Err(PackageReqPartsParseError::Memory),
     };

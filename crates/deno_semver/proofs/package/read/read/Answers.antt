@@ -1,4 +1,4 @@
-use Rattle.std.proofs.Common.{◌≡◌, ◌<◌, ◌==◌, List, ℕ, Bool, length, true, false, refl, arith}
+use Rattle.std.proofs.Common.{◌≡◌, ◌<◌, ◌==◌, ◌∙◌, List, ℕ, Bool, length, true, false, refl, arith}
 use Rattle.std.proofs.lemmas.Bool.Decides.{nat_tests}
 use Rattle.deno_semver.specs.ReferenceReading.{IsReadWithPath}
 use Rattle.deno_semver.proofs.PackageFaults.{front_error, no_path, path_fault, uncut_error, version_error}
@@ -19,10 +19,10 @@ none_left xs b e f = grind (arith, nat_tests)
 
 pub returns-then-not-is_empty : goal.returns-then-not-is_empty
 returns-then-not-is_empty c =
-    let read : IsReadWithPath c.args.flavour c.args.text.now _ _ _ = record { cut = _; is_cut = c.in-Ok.ensures.cut.parts; name = c.in-Ok-req_of.ensures.name; version_req = c.in-Ok-req_of.ensures.version; path_is = refl; tail_is = c.in-Ok.ensures.cut.path_is } in
+    let read : IsReadWithPath c.args.flavour c.args.text.now _ _ _ = record { cut = _; is_cut = c.in-Ok.ensures.cut.parts; name = c.in-Ok-req_of.ensures.name ∙ c.in-Ok.ensures.cut.name_is; version_req = c.in-Ok-req_of.ensures.version; path_is = refl; tail_is = c.in-Ok.ensures.cut.path_is } in
     path_fault c.args.flavour c.args.text.now read (some_left _ _ c.is_empty.ensures c.if-not-is_empty.true) c.path_error.ensures
 
 pub returns : goal.returns
 returns c =
-    let read : IsReadWithPath c.args.flavour c.args.text.now _ _ _ = record { cut = _; is_cut = c.in-Ok.ensures.cut.parts; name = c.in-Ok-req_of.ensures.name; version_req = c.in-Ok-req_of.ensures.version; path_is = refl; tail_is = c.in-Ok.ensures.cut.path_is } in
+    let read : IsReadWithPath c.args.flavour c.args.text.now _ _ _ = record { cut = _; is_cut = c.in-Ok.ensures.cut.parts; name = c.in-Ok-req_of.ensures.name ∙ c.in-Ok.ensures.cut.name_is; version_req = c.in-Ok-req_of.ensures.version; path_is = refl; tail_is = c.in-Ok.ensures.cut.path_is } in
     no_path c.args.flavour c.args.text.now read (none_left _ _ c.is_empty.ensures c.if-not-is_empty.false)
