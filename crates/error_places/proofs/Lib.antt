@@ -8,3 +8,6 @@ pub mod AlikeWords
 pub mod AlikeParts
 pub mod InvalidPieces
 pub mod KindTexts
+pub mod Trimmed
+pub mod VersionEndings
+pub mod VersionTexts

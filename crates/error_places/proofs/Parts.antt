@@ -37,7 +37,7 @@ bars_text = IsUtf8-append (124 ∷ []) (124 ∷ []) (one_byte_text 124 (omega ar
 pub whitespace_one_text : IsUtf8 (32 ∷ 49 ∷ [])
 whitespace_one_text = IsUtf8-append (32 ∷ []) (49 ∷ []) (one_byte_text 32 (omega arith)) (one_byte_text 49 (omega arith))
 
-starts_text : (m : List ℕ) → IsUtf8 m → Starts m
+pub starts_text : (m : List ℕ) → IsUtf8 m → Starts m
 starts_text [] u = tt
 starts_text (x ∷ m) u = (IsCharBoundary-start (x ∷ m) u).1 (omega arith)
 
@@ -214,14 +214,10 @@ module _ (f : Flavour) (cuts : IsCutting f) (front : List ℕ) (no_piece : HasPi
 
 -- ---- the empty prefix
 
-pub empty_viable : (f : Flavour) → IsViablePrefix (IsPart f) []
-empty_viable Npm = record { more = []; value = []; is_text = IsUtf8-nil; stands = alone refl }
-empty_viable Normal = record { more = []; value = []; is_text = IsUtf8-nil; stands = alone refl }
-empty_viable Specifier = record { more = one_digit; value = Bare one ∷ []; is_text = one_byte_text 49 (omega arith); stands = record { value = Bare one; stands = one_bare; is = refl } }
-
-pub text_some : (f : Flavour) (text : List ℕ) → (IsViablePrefix (IsPart f) text → ⊥) → 0 < length text
-text_some f [] never = absurd (never (empty_viable f))
-text_some f (x ∷ text) never = omega arith
+pub empty_part : (f : Flavour) → IsViablePrefix (IsPart f) []
+empty_part Npm = record { more = []; value = []; is_text = IsUtf8-nil; stands = alone refl }
+empty_part Normal = record { more = []; value = []; is_text = IsUtf8-nil; stands = alone refl }
+empty_part Specifier = record { more = one_digit; value = Bare one ∷ []; is_text = one_byte_text 49 (omega arith); stands = record { value = Bare one; stands = one_bare; is = refl } }
 
 -- ---- what the definition says
 

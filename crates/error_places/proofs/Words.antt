@@ -24,7 +24,7 @@ white_scalar c h = grind (arith, nat_tests)
 pub one_whitespace : (c : ℕ) (p : List ℕ) → is_not_whitespace c ≡ false → encode_utf8 c ≡ p → NoCharPasses is_not_whitespace p
 one_whitespace c p n e = (c ∷ [], append-nil (encode_utf8 c) ∙ e, (n, tt))
 
-get_or-append-here : (p : List ℕ) (x : ℕ) (m : List ℕ) → get_or (p ++ (x ∷ m)) (length p) 0 ≡ x
+pub get_or-append-here : (p : List ℕ) (x : ℕ) (m : List ℕ) → get_or (p ++ (x ∷ m)) (length p) 0 ≡ x
 get_or-append-here [] x m = refl
 get_or-append-here (y ∷ p) x m = get_or-append-here p x m
 

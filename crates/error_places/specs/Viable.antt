@@ -1,13 +1,17 @@
--- Where a text leaves a grammar; the textbook's viable prefixes. Sizes of numbers don't matter to a grammar.
-use Rattle.std.specs.Prelude.{◌≡◌, ◌⊎◌, ℕ, List, [], ◌∷◌, ◌++◌, ◌≤◌, Bool, true, take, codes, IsUtf8}
-use Rattle.std.specs.Str.{IsCharBoundary}
+-- Where a text leaves a grammar; the textbook's viable prefixes. Numbers of versions must fit; sizes of numbers don't matter to ranges.
+use Rattle.std.specs.Prelude.{◌≡◌, ◌⊎◌, ℕ, List, [], ◌∷◌, ◌++◌, ◌≤◌, Bool, true, take, codes, IsUtf8, Ok}
+use Rattle.std.specs.Str.{IsCharBoundary, trim}
 use Rattle.semver_base.specs.Comparators.{Comparator}
 use Rattle.semver_base.specs.Grammar.{Mapped}
 use Rattle.semver_base.specs.Lexical.{IsWhitespace}
+use Rattle.semver_base.specs.VersionGrammar.{IsVersionOutcome}
+use Rattle.semver_base.specs.declared.version.Version.{Version}
 use Rattle.semver_req.specs.Outcome.{IsSpecifierRange}
 use Rattle.semver_req.specs.Pieces.{IsPiece}
 use Rattle.semver_req.specs.declared.common.values.Flavour.{Flavour}
 use Rattle.semver_req.specs.declared.common.values.Flavour.TheVariants.{Npm, Normal, Specifier}
+use Rattle.error_places.specs.declared.Grammar.{Grammar}
+use Rattle.error_places.specs.declared.Grammar.TheVariants.{Ranges, Versions}
 
 -- ---- of any grammar
 
@@ -43,3 +47,20 @@ abbrev pub IsPart : Flavour → List ℕ → List Comparator → Type 0
 IsPart Npm = IsPieceOrCut Npm
 IsPart Normal = IsPieceOrCut Normal
 IsPart Specifier = Mapped (λ c. c ∷ []) IsSpecifierRange
+
+-- ---- of versions
+
+-- a version whose numbers fit in 64 bits, with whitespace around it or not
+abbrev pub IsVersionText : List ℕ → Version → Type 0
+IsVersionText text v = IsVersionOutcome (trim text) (Ok v)
+
+-- ---- of every grammar
+
+-- what a text of the grammar is parsed to
+abbrev pub ValueOf : Grammar → Type 0
+ValueOf (Ranges f) = List Comparator
+ValueOf Versions = Version
+
+abbrev pub IsTextOf : (g : Grammar) → List ℕ → ValueOf g → Type 0
+IsTextOf (Ranges f) = IsPart f
+IsTextOf Versions = IsVersionText

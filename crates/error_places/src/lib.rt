@@ -6,17 +6,27 @@
 ghost use Rattle.std.specs.Prelude.{◌≡◌, ◌↔◌, ◌++◌, IfErr, IfOk, IsTrue, List, ℕ, false, true, None};
 ghost use Rattle.semver_base.specs.Comparators.{Comparator};
 ghost use Rattle.semver_req.specs.Outcome.{IsSpecifierRange};
-ghost use Rattle.error_places.specs.Viable.{HasPiece, IsErrorPlace, IsPart, IsPieceOrCut, IsViablePrefix};
+ghost use Rattle.error_places.specs.Viable.{HasPiece, IsErrorPlace, IsPart, IsPieceOrCut, IsTextOf, IsViablePrefix};
 ghost use Rattle.semver_req.specs.Pieces.{IsCutting};
 
 pub mod expected;
 pub mod pieces;
+pub mod versions;
 
 use semver_base::failure::{ParseFailure, Rejection};
 use semver_req::common::comparator::non_primitive_front;
 use semver_req::common::values::Flavour;
 use semver_req::range_set_or_tag::RangeOrInvalid;
 use std::alloc::Global;
+
+// The grammars in which places are found.
+#[derive(Clone, Copy)]
+pub(crate) enum Grammar {
+    // Alternatives, or ranges of the strict grammar.
+    Ranges(Flavour),
+    // Versions whose numbers fit in 64 bits.
+    Versions,
+}
 
 // Whether the text, which is followed by `||` or not, is an alternative of the grammar.
 fn is_piece(
@@ -119,8 +129,8 @@ fn is_viable_range(alloc: Global, prefix: &str) -> Result<bool, ParseFailure>
     is_range(alloc, &text)
 }
 
-// Whether some text of the grammar begins with the prefix.
-fn is_viable(alloc: Global, prefix: &str, flavour: Flavour) -> Result<bool, ParseFailure>
+// Whether some alternative, or some range of the strict grammar, begins with the prefix.
+fn is_viable_part(alloc: Global, prefix: &str, flavour: Flavour) -> Result<bool, ParseFailure>
     ensures value { IfOk result (λ yes. IsTrue yes ↔ IsViablePrefix (IsPart flavour) prefix.now) }
     ensures memory { IfErr result (λ failure. failure ≡ None) }
 {
@@ -129,6 +139,59 @@ fn is_viable(alloc: Global, prefix: &str, flavour: Flavour) -> Result<bool, Pars
         Flavour::Normal => is_viable_piece(alloc, prefix, Flavour::Normal),
         Flavour::Specifier => is_viable_range(alloc, prefix),
     }
+}
+
+// Whether some text of the grammar begins with the prefix.
+fn is_viable(alloc: Global, prefix: &str, grammar: Grammar) -> Result<bool, ParseFailure>
+    ensures value { IfOk result
+        (λ yes. IsTrue yes ↔ IsViablePrefix (IsTextOf grammar) prefix.now) }
+    ensures memory { IfErr result (λ failure. failure ≡ None) }
+{
+    match grammar {
+        Grammar::Ranges(flavour) => is_viable_part(alloc, prefix, flavour),
+        Grammar::Versions => versions::is_viable_version(alloc, prefix),
+    }
+}
+
+// The end of the longest prefix of the text with which some text of the grammar begins, by bisection: each shorter prefix is one too.
+pub(crate) fn longest_viable(
+    alloc: Global,
+    text: &str,
+    grammar: Grammar,
+) -> Result<usize, ParseFailure>
+    ensures place { IfOk result (IsErrorPlace (IsTextOf grammar) text.now) }
+    ensures memory { IfErr result (λ failure. failure ≡ None) }
+{
+    if is_viable(alloc, text, grammar)? {
+        return Ok(text.len());
+    }
+    let mut low: usize = 0;
+    let mut high = text.len();
+    while high - low > 1 {
+        let middle = low + (high - low) / 2;
+        let prefix = text.floor_char_boundary(middle);
+        if is_viable(alloc, &text[..prefix], grammar)? {
+            low = middle;
+        } else {
+            high = middle;
+        }
+    }
+    Ok(text.floor_char_boundary(low))
+}
+
+// Whether some text of the grammar begins with the prefix and then `next`.
+pub(crate) fn is_viable_with(
+    alloc: Global,
+    prefix: &str,
+    next: &str,
+    grammar: Grammar,
+) -> Result<bool, ParseFailure>
+    ensures value { IfOk result
+        (λ yes. IsTrue yes ↔ IsViablePrefix (IsTextOf grammar) (prefix.now ++ next.now)) }
+    ensures memory { IfErr result (λ failure. failure ≡ None) }
+{
+    let text = format!(in alloc; "{prefix}{next}")?;
+    is_viable(alloc, &text, grammar)
 }
 
 /// The index in the text at which it leaves the grammar: the end of the longest prefix with which some text of the grammar begins. Texts of
@@ -140,21 +203,7 @@ pub fn error_place(alloc: Global, text: &str, flavour: Flavour) -> Result<usize,
     ensures place { IfOk result (IsErrorPlace (IsPart flavour) text.now) }
     ensures memory { IfErr result (λ failure. failure ≡ None) }
 {
-    if is_viable(alloc, text, flavour)? {
-        return Ok(text.len());
-    }
-    let mut low: usize = 0;
-    let mut high = text.len();
-    while high - low > 1 {
-        let middle = low + (high - low) / 2;
-        let prefix = text.floor_char_boundary(middle);
-        if is_viable(alloc, &text[..prefix], flavour)? {
-            low = middle;
-        } else {
-            high = middle;
-        }
-    }
-    Ok(text.floor_char_boundary(low))
+    longest_viable(alloc, text, Grammar::Ranges(flavour))
 }
 
 /// Whether some text of the grammar begins with the prefix and then `next`. What could have followed at an [`error_place`] is asked with
@@ -171,6 +220,5 @@ pub fn may_follow(
         (λ yes. IsTrue yes ↔ IsViablePrefix (IsPart flavour) (prefix.now ++ next.now)) }
     ensures memory { IfErr result (λ failure. failure ≡ None) }
 {
-    let text = format!(in alloc; "{prefix}{next}")?;
-    is_viable(alloc, &text, flavour)
+    is_viable_with(alloc, prefix, next, Grammar::Ranges(flavour))
 }

@@ -1,15 +1,15 @@
 -- The bisection: what ends at or before low goes on, and nothing that ends at or behind high does.
 use Rattle.std.proofs.Common.{◌≤◌, ◌<◌, ◌-◌, ℕ, length, take}
 use Rattle.std.specs.Str.{IsCharBoundary}
-use Rattle.error_places.specs.Viable.{IsPart, IsViablePrefix}
-use Rattle.error_places.proofs.error_place.Given as goal
+use Rattle.error_places.specs.Viable.{IsTextOf, IsViablePrefix}
+use Rattle.error_places.proofs.longest_viable.Given as goal
 
 abbrev pub invariant-loop-high : goal.invariant-loop-high
 invariant-loop-high l = record {
   order : l.low < l.high;
   within : l.high ≤ length l.text;
-  below : (n : ℕ) → IsCharBoundary l.text n → n ≤ l.low → IsViablePrefix (IsPart l.flavour) (take n l.text);
-  above : (n : ℕ) → IsCharBoundary l.text n → l.high ≤ n → IsViablePrefix (IsPart l.flavour) (take n l.text) → ⊥;
+  below : (n : ℕ) → IsCharBoundary l.text n → n ≤ l.low → IsViablePrefix (IsTextOf l.grammar) (take n l.text);
+  above : (n : ℕ) → IsCharBoundary l.text n → l.high ≤ n → IsViablePrefix (IsTextOf l.grammar) (take n l.text) → ⊥;
 }
 
 abbrev pub decreases-loop-high : goal.decreases-loop-high

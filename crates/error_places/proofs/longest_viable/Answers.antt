@@ -1,16 +1,17 @@
 use Rattle.std.proofs.Common.{◌∙◌, arith}
 use Rattle.std.proofs.lemmas.Bool.{both_ways}
-use Rattle.error_places.specs.Viable.{IsPart, IsViablePrefix}
-use Rattle.error_places.proofs.Parts.{empty_viable, none_viable, shorter_viable, slice_front, text_some, up_to, whole_viable}
-use Rattle.error_places.proofs.error_place.Goals as goal
+use Rattle.error_places.specs.Viable.{IsTextOf, IsViablePrefix}
+use Rattle.error_places.proofs.Parts.{none_viable, shorter_viable, slice_front, up_to, whole_viable}
+use Rattle.error_places.proofs.VersionTexts.{empty_viable, text_some}
+use Rattle.error_places.proofs.longest_viable.Goals as goal
 
 pub loop-high-init : goal.loop-high-init
 loop-high-init c =
-    let never : IsViablePrefix (IsPart c.args.flavour) c.args.text.now → ⊥ = λ v. both_ways c.in_ok-is_viable.field-0 c.if-branch.false (c.in_ok-is_viable.ensures.value.1 v) in
+    let never : IsViablePrefix (IsTextOf c.args.grammar) c.args.text.now → ⊥ = λ v. both_ways c.in_ok-is_viable.field-0 c.if-branch.false (c.in_ok-is_viable.ensures.value.1 v) in
     record {
-      order = text_some c.args.flavour c.args.text.now never;
+      order = text_some c.args.grammar c.args.text.now never;
       within = omega arith;
-      below = λ n b le. none_viable c.args.text.now n le (empty_viable c.args.flavour);
+      below = λ n b le. none_viable c.args.text.now n le (empty_viable c.args.grammar);
       above = λ n b le v. never (whole_viable c.args.text.now n le v);
     }
 
