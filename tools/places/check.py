@@ -2,7 +2,7 @@
 """Compares the places of errors in random texts with an automaton of each grammar, written here from the grammars alone. Run at
 the top of the project, after rt ci (or after rt run in crates/conformance and crates/ranges).
 
-    tools/places/check.py [COUNT] [SEED]    COUNT: so many texts, 100,000 if it isn't given
+    tools/places/check.py [COUNT] [SEED]    COUNT: so many texts, 100,000 if it isn't given; and a fifth as many of versions
 
 A grammar is a regular expression. Its derivative by a character is what may follow that character; a prefix is viable until no
 derivative is left. Each text is asked of the program conformance by each grammar, and some are asked of ranges, which says the
@@ -145,18 +145,62 @@ GRAMMARS = {
     "strict": seq(optional(chars("~^")), partial("*xX", STRICT, False)),
 }
 
+# ---- the grammar of versions, whose numbers fit in 64 bits
+def up_to(count):
+    """One digit or more, and at most so many."""
+    return seq(chars(DIGITS), optional(up_to(count - 1))) if count > 1 else chars(DIGITS)
+
+
+def at_most(most):
+    """Numbers up to this one, with leading zeros or without: one with as many digits is lower at the first digit that differs."""
+    digits = str(most)
+    lower = [
+        seq(text(digits[:at]), chars(DIGITS[: int(digits[at])]), *[chars(DIGITS)] * (len(digits) - at - 1))
+        for at in range(len(digits))
+        if digits[at] != "0"
+    ]
+    return seq(star(chars("0")), alt(up_to(len(digits) - 1), text(digits), *lower))
+
+
+FITTING = at_most(2**64 - 1)
+LEAD = seq(optional(chars("=")), SPACES, optional(seq(chars("v"), SPACES)))
+NUMBERS = seq(FITTING, chars("."), FITTING, chars("."), FITTING)
+VERSION = seq(SPACES, LEAD, NUMBERS, qualifier(LETTERS), SPACES)
+
 # ---- the texts
 PIECES = (*"01239xX*va-.+~^><= &,|", "é", "\u3000", "||", " - ", ">=", "1.2.3", "0.0", "-rc.1", "~>", "&&", "== v")
+
+
+NUMBER_TEXTS = ("0", "1", "42", "007", "18446744073709551615", "18446744073709551616", "9" * 19, "1" + "0" * 19, "0" * 30 + "1")
+# Texts of each part of a version, of which one is exchanged, so that most errors stand behind some text of the grammar.
+PARTS = (
+    ("", " ", "\u3000", "="),
+    ("", "v", "v ", " ", "=", "=v\u00a0"),
+    *(NUMBER_TEXTS, (".", ".", ".", "", ". ")) * 2,
+    NUMBER_TEXTS,
+    ("", "-", "-a", "a.b.", "-0.01", "-a..b", "-\u00e9", ".1"),
+    ("", "+", "+1.-", "+b.", "+b+c"),
+    ("", " ", "\u3000 ", "\u00a0-", " 1"),
+)
 
 
 def random_text(source):
     return "".join(source.choices(PIECES, k=source.randint(0, 12)))
 
 
-def rows(texts):
+def random_version(source):
+    parts = [source.choice(each) for each in PARTS]
+    if source.random() < 0.5:
+        parts[source.randrange(len(parts))] = source.choice(PIECES)
+    return "".join(parts)
+
+
+def rows(texts, versions):
     for given in texts:
         for name, grammar in GRAMMARS.items():
             yield json.dumps([["error-place", name, given], [str(place(grammar, given))]])
+    for given in versions:
+        yield json.dumps([["version-error-place", given], [str(place(VERSION, given))]])
 
 
 def asked_of_ranges(texts):
@@ -175,11 +219,12 @@ def main():
     seed = int(sys.argv[2]) if len(sys.argv) > 2 else 1
     source = random.Random(seed)
     texts = [random_text(source) for _ in range(count)]
-    ran = subprocess.run([CONFORMANCE], input="\n".join(rows(texts)).encode(), capture_output=True)
+    versions = [random_version(source) for _ in range(count // 5)]
+    ran = subprocess.run([CONFORMANCE], input="\n".join(rows(texts, versions)).encode(), capture_output=True)
     differing = list(asked_of_ranges(texts[:SHOWN]))
     print(*differing[:10], sep="\n", end="")
     print(ran.stdout.decode(), end="")
-    print(f"{3 * count} places, {min(count, SHOWN)} texts shown, {len(differing)} of these differ")
+    print(f"{3 * count} places in ranges, {count // 5} in versions, {min(count, SHOWN)} texts shown, {len(differing)} of these differ")
     return 1 if differing or ran.returncode else 0
 
 

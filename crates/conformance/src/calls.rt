@@ -17,10 +17,6 @@ pub fn ask(call: &str, arguments: &[Item], answer: &mut Answer) -> Reported {
         "same-requirement" | "overlap" => requirements::of_two(call, arguments, answer),
         "fits" => requirements::fits(arguments, answer),
         "reread" => requirements::reread(arguments, answer),
-        "error-place" => requirements::place_of_error(arguments, answer),
-        "invalid-pieces" => requirements::pieces_of_error(arguments, answer),
-        "expected" => requirements::expected(arguments, answer),
-        "may-follow" => requirements::follows(arguments, answer),
         "min-version"
         | "common-version"
         | "common-of-all"
@@ -57,6 +53,19 @@ fn of_ranges(call: &str, arguments: &[Item], answer: &mut Answer) -> Reported {
         "intersects-set" => ranges::intersects_set(arguments, answer),
         "set-is-subset" | "set-is-equivalent" => ranges::contains(call, arguments, answer),
         "partial" => ranges::partial(arguments, answer),
+        _ => of_places(call, arguments, answer),
+    }
+}
+
+// The calls on where a text leaves a grammar.
+fn of_places(call: &str, arguments: &[Item], answer: &mut Answer) -> Reported {
+    match call {
+        "error-place" => requirements::place_of_error(arguments, answer),
+        "invalid-pieces" => requirements::pieces_of_error(arguments, answer),
+        "expected" => requirements::expected(arguments, answer),
+        "may-follow" => requirements::follows(arguments, answer),
+        "version-error-place" => versions::place_of_error(arguments, answer),
+        "version-may-follow" => versions::follows(arguments, answer),
         _ => Err(Fault::NoCall),
     }
 }

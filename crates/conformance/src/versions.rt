@@ -5,6 +5,7 @@ use crate::arguments::{Rule, both, only, pair, pre_release, requirement, version
 use crate::parse::Parse;
 use deno_semver::npm::parse_npm_version;
 use deno_semver::{ParseFailure, Version, VersionPreOrBuild, VersionReq, resolve};
+use error_places::versions::{version_error_place, version_may_follow};
 use std::alloc::Global;
 
 /// `version`: `read` and the version that a text parses to, as displayed.
@@ -24,6 +25,19 @@ fn read(version: OrFault<Version>, answer: &mut Answer) -> Reported {
     let version = version?;
     answer.text("read")?;
     answer.displayed(&version)
+}
+
+/// `version-error-place`: the index at which a text stops being a version.
+pub fn place_of_error(arguments: &[Item], answer: &mut Answer) -> Reported {
+    let place = version_error_place(answer.alloc(), only(arguments)?)?;
+    answer.displayed(&place)
+}
+
+/// `version-may-follow`: whether some version's text begins with the one text and then the other.
+pub fn follows(arguments: &[Item], answer: &mut Answer) -> Reported {
+    let (prefix, next) = pair(arguments)?;
+    let follows = version_may_follow(answer.alloc(), prefix, next)?;
+    answer.yes_or_no(follows)
 }
 
 /// `precedence`: how one version compares to another by precedence. `identifiers`: the same for 0.0.0 with two identifiers.

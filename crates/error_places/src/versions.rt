@@ -41,9 +41,9 @@ pub(crate) fn is_viable_version(alloc: Global, prefix: &str) -> Result<bool, Par
     Ok(false)
 }
 
-/// The index in the text at which it stops being a version: the end of the longest prefix with which some version's text begins. There
-/// may be whitespace around a version. A number that doesn't fit in 64 bits ends before the digit at which it no longer does. A
-/// version's text, and one that only stops too early, has its length as that index.
+/// The index in the text at which it stops being a version: the end of the longest prefix with which some version's text begins, with
+/// whitespace around it or not. In a number that doesn't fit in 64 bits that is the digit at which it no longer does. A version's
+/// text, and one that only stops too early, has its length as that index.
 ///
 /// Takes time that grows as n log n. Fails only out of memory.
 pub fn version_error_place(alloc: Global, text: &str) -> Result<usize, ParseFailure>
