@@ -10,7 +10,7 @@ use crate::parse::Parse;
 use deno_semver::npm::is_valid_npm_tag;
 use deno_semver::package::PackageReq;
 use deno_semver::{IntoVersionReq, PreRelease, RangeSetOrTag, Version, VersionReq};
-use error_places::expected::{KINDS, is_expected, may_end};
+use error_places::expected::{Expected, expected_after};
 use error_places::pieces::{InvalidPiece, invalid_pieces};
 use error_places::{error_place, may_follow};
 use std::alloc::{AllocError, Global};
@@ -98,7 +98,7 @@ pub fn place_of_error(arguments: &[Item], answer: &mut Answer) -> Reported {
     answer.displayed(&place)
 }
 
-/// `invalid-pieces`: of each invalid alternative, its start, its end and the place of its error.
+/// `invalid-pieces`: of each invalid alternative, its start, its end, where it is wrong, and why the parser rejects it.
 pub fn pieces_of_error(arguments: &[Item], answer: &mut Answer) -> Reported {
     let (grammar, text) = pair(arguments)?;
     let pieces = invalid_pieces(answer.alloc(), text, flavour(grammar)?)?;
@@ -112,6 +112,7 @@ fn report_pieces(pieces: &[InvalidPiece], answer: &mut Answer) -> Reported {
         answer.displayed(&piece.start)?;
         answer.displayed(&piece.end)?;
         answer.displayed(&piece.place)?;
+        answer.text(piece.cause.rejection().message())?;
     }
     Ok(())
 }
@@ -126,13 +127,17 @@ pub fn follows(arguments: &[Item], answer: &mut Answer) -> Reported {
 /// `expected`: a text of each kind that may follow a prefix, and `end` if a text may end behind it.
 pub fn expected(arguments: &[Item], answer: &mut Answer) -> Reported {
     let (grammar, prefix) = pair(arguments)?;
-    let (alloc, flavour) = (answer.alloc(), flavour(grammar)?);
-    for kind in &KINDS {
-        if is_expected(alloc, prefix, *kind, flavour)? {
-            answer.text(kind.text())?;
-        }
+    let expected = expected_after(answer.alloc(), prefix, flavour(grammar)?)?;
+    let reported = report_expected(&expected, answer);
+    drop(expected);
+    reported
+}
+
+fn report_expected(expected: &Expected, answer: &mut Answer) -> Reported {
+    for kind in expected.kinds.iter() {
+        answer.text(kind.text())?;
     }
-    if may_end(alloc, prefix, flavour)? {
+    if expected.may_end {
         answer.text("end")?;
     }
     Ok(())

@@ -8,6 +8,7 @@ pub mod AlikeWords
 pub mod AlikeParts
 pub mod InvalidPieces
 pub mod KindTexts
+mod ErrorCauses
 pub mod Trimmed
 pub mod VersionEndings
 pub mod VersionTexts

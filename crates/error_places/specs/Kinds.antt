@@ -1,11 +1,12 @@
 -- What may stand at a place of a text, by kinds whose texts may all follow the same prefixes.
-use Rattle.std.specs.Prelude.{◌≡◌, ◌==◌, ◌||◌, ◌&&◌, ℕ, Bool, true, IsTrue, List, [], ◌∷◌, ◌++◌, codes, false, nat_le}
+use Rattle.std.specs.Prelude.{◌≡◌, ◌↔◌, ◌==◌, ◌||◌, ◌&&◌, ℕ, Bool, true, IsTrue, List, [], ◌∷◌, ◌++◌, codes, false, nat_le}
 use Rattle.std.specs.Char.{is_ascii_digit}
 use Rattle.semver_base.specs.Comparators.{Comparator}
 use Rattle.semver_req.specs.Outcome.{IsSpecifierRange}
 use Rattle.semver_req.specs.declared.common.values.Flavour.{Flavour}
 use Rattle.semver_req.specs.declared.common.values.Flavour.TheVariants.{Npm, Normal, Specifier}
 use Rattle.error_places.specs.Viable.{HasPiece, IsPart, IsViablePrefix}
+use Rattle.error_places.specs.declared.expected.Expected.{Expected}
 use Rattle.error_places.specs.declared.expected.Kind.{Kind}
 use Rattle.error_places.specs.declared.expected.Kind.TheVariants.{Digit, X, V, Letter, Star, Dot, Hyphen, Plus, Tilde, Caret, Less, Greater, Equals, Space, Comma, And, Bar}
 
@@ -50,3 +51,19 @@ abbrev pub IsWhole : Flavour → List ℕ → Type 0
 IsWhole Npm text = HasPiece Npm false text
 IsWhole Normal text = HasPiece Normal false text
 IsWhole Specifier text = (c : Comparator) × IsSpecifierRange text c
+
+-- those of these kinds whose texts may follow, in their order
+pub data AreExpected (f : Flavour) (prefix : List ℕ) : List Kind → List Kind → Type 0 where
+  no_kind : AreExpected f prefix [] []
+  may_follow : {kind : Kind} {kinds found : List Kind} → IsExpected f prefix kind true → AreExpected f prefix kinds found
+      → AreExpected f prefix (kind ∷ kinds) (kind ∷ found)
+  may_not : {kind : Kind} {kinds found : List Kind} → IsExpected f prefix kind false → AreExpected f prefix kinds found
+      → AreExpected f prefix (kind ∷ kinds) found
+
+abbrev pub all_kinds : List Kind
+all_kinds = Digit ∷ X ∷ V ∷ Letter ∷ Star ∷ Dot ∷ Hyphen ∷ Plus ∷ Tilde ∷ Caret ∷ Less ∷ Greater ∷ Equals ∷ Space ∷ Comma ∷ And ∷ Bar ∷ []
+
+-- what may stand behind a prefix: the kinds that may follow it, and whether a text may end there
+pub record IsExpectation (f : Flavour) (prefix : List ℕ) (e : Expected) : Type 0 where
+  pub kinds : AreExpected f prefix all_kinds e.kinds.items
+  pub ends : IsTrue e.may_end ↔ IsWhole f prefix

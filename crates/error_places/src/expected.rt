@@ -1,7 +1,7 @@
 //! What may stand at a place of a text.
 
 ghost use Rattle.std.specs.Prelude.{◌≡◌, ◌↔◌, IfErr, IfOk, IsTrue, None};
-ghost use Rattle.error_places.specs.Kinds.{IsExpected, IsWhole, kind_text};
+ghost use Rattle.error_places.specs.Kinds.{AreExpected, IsExpectation, IsExpected, IsWhole, kind_text};
 
 use crate::{is_piece, is_range, may_follow};
 use semver_base::failure::ParseFailure;
@@ -47,8 +47,8 @@ pub enum Kind {
     Bar,
 }
 
-/// Every kind.
-pub const KINDS: [Kind; 17] = [
+// Every kind.
+const KINDS: [Kind; 17] = [
     Kind::Digit,
     Kind::X,
     Kind::V,
@@ -95,10 +95,17 @@ impl Kind {
     }
 }
 
-/// Whether the texts of a kind may follow the prefix: all of them may, or none.
-///
-/// Fails only out of memory.
-pub fn is_expected(
+/// What may stand behind a prefix.
+#[derive(Debug, Drop)]
+pub struct Expected {
+    /// The kinds whose texts may follow, in the order in which [`Kind`] has them.
+    pub kinds: Vec<Kind>,
+    /// Whether a text may end there.
+    pub may_end: bool,
+}
+
+// Whether the texts of a kind may follow the prefix: all of them may, or none.
+fn is_expected(
     alloc: Global,
     prefix: &str,
     kind: Kind,
@@ -110,10 +117,31 @@ pub fn is_expected(
     may_follow(alloc, prefix, kind.text(), flavour)
 }
 
-/// Whether a text may end behind the prefix, which is then an alternative of the grammar.
-///
-/// Fails only out of memory.
-pub fn may_end(alloc: Global, prefix: &str, flavour: Flavour) -> Result<bool, ParseFailure>
+// Which of these kinds may follow the prefix.
+fn expected_among(
+    alloc: Global,
+    prefix: &str,
+    kinds: &[Kind],
+    flavour: Flavour,
+) -> Result<Vec<Kind>, ParseFailure>
+    ensures value { IfOk result
+        (λ found. AreExpected flavour prefix.now kinds.now found.items) }
+    ensures memory { IfErr result (λ failure. failure ≡ None) }
+{
+    let mut found = Vec::new(alloc);
+    for kind in kinds {
+        if !is_expected(alloc, prefix, *kind, flavour)? {
+            continue;
+        }
+        if found.push(*kind).is_err() {
+            return Err(ParseFailure::memory());
+        }
+    }
+    Ok(found)
+}
+
+// Whether a text may end behind the prefix, which is then an alternative of the grammar.
+fn may_end(alloc: Global, prefix: &str, flavour: Flavour) -> Result<bool, ParseFailure>
     ensures ends { IfOk result (λ yes. IsTrue yes ↔ IsWhole flavour prefix.now) }
     ensures memory { IfErr result (λ failure. failure ≡ None) }
 {
@@ -122,4 +150,21 @@ pub fn may_end(alloc: Global, prefix: &str, flavour: Flavour) -> Result<bool, Pa
         Flavour::Normal => is_piece(alloc, prefix, false, Flavour::Normal),
         Flavour::Specifier => is_range(alloc, prefix),
     }
+}
+
+/// Returns what may stand behind a prefix: which kinds may follow it, and whether a text may end there. If one text of a kind may
+/// follow, each may.
+///
+/// Fails only out of memory.
+pub fn expected_after(
+    alloc: Global,
+    prefix: &str,
+    flavour: Flavour,
+) -> Result<Expected, ParseFailure>
+    ensures value { IfOk result (IsExpectation flavour prefix.now) }
+    ensures memory { IfErr result (λ failure. failure ≡ None) }
+{
+    let may_end = may_end(alloc, prefix, flavour)?;
+    let kinds = expected_among(alloc, prefix, &KINDS, flavour)?;
+    Ok(Expected { kinds, may_end })
 }

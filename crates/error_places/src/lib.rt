@@ -9,6 +9,7 @@ ghost use Rattle.semver_req.specs.Outcome.{IsSpecifierRange};
 ghost use Rattle.error_places.specs.Viable.{HasPiece, IsErrorPlace, IsPart, IsPieceOrCut, IsTextOf, IsViablePrefix};
 ghost use Rattle.semver_req.specs.Pieces.{IsCutting};
 
+pub mod causes;
 pub mod expected;
 pub mod pieces;
 pub mod versions;

@@ -1,44 +1,51 @@
 //! The invalid alternatives of a text.
 
 ghost use Rattle.std.specs.Prelude.{◌≡◌, ◌++◌, ◌+◌, ◌<◌, ◌^◌, ◌∷◌, [], IfErr, IfOk, List, MatchOption, None, OnErr, OnOk, length};
+ghost use Rattle.error_places.specs.Causes.{IsRejected};
 ghost use Rattle.error_places.specs.InvalidPieces.{AreErrorsOf, AreInvalidPieces, IsErrorAt, IsErrorOf, IsStrictError};
 ghost use Rattle.error_places.specs.declared.pieces.InvalidPiece.{InvalidPiece};
 ghost use Rattle.semver_req.specs.Pieces.{HasNoBar, IsCutAt, IsCutting};
 
-use crate::{error_place, is_range};
-use semver_base::failure::ParseFailure;
+use crate::causes::{Cause, cause_of};
+use crate::is_range;
+use semver_base::failure::{ParseFailure, Rejection};
 use semver_base::lexical::after_whitespace;
 use semver_req::common::values::Flavour;
 use semver_req::range_set_or_tag::RangeOrInvalid;
 use std::alloc::{AllocError, Global};
 
 /// An invalid alternative, by indexes into its text.
-#[derive(Clone, Copy, Debug, PartialEq, Eq)]
+#[derive(Debug, Drop)]
 pub struct InvalidPiece {
     /// Where the alternative starts.
     pub start: usize,
     /// Where it ends.
     pub end: usize,
-    /// Where it leaves the grammar: its end if it only stops too early, or if a number or a bound in it is too large.
+    /// Where it is wrong: at its end, if it only stops too early.
     pub place: usize,
+    /// What is wrong there.
+    pub cause: Cause,
 }
 
-// The place of the error of an alternative that starts here.
+// The error of an alternative that starts here.
 fn error_of(
     alloc: Global,
     start: usize,
     piece: &str,
+    rejection: Rejection,
     flavour: Flavour,
 ) -> Result<InvalidPiece, ParseFailure>
-    requires { start + length piece.now < 2 ^ 64 }
+    requires in_memory { start + length piece.now < 2 ^ 64 }
+    requires rejected { IsRejected flavour piece.now rejection }
     ensures value { IfOk result (IsErrorOf flavour start piece.now) }
     ensures memory { IfErr result (λ failure. failure ≡ None) }
 {
-    let place = error_place(alloc, piece, flavour)?;
+    let found = cause_of(alloc, piece, rejection, flavour)?;
     Ok(InvalidPiece {
         start,
         end: start + piece.len(),
-        place: start + place,
+        place: start + found.place,
+        cause: found.cause,
     })
 }
 
@@ -61,7 +68,8 @@ fn add_error(
     is_followed: bool,
     flavour: Flavour,
 ) -> Result<(), ParseFailure>
-    requires { start + length piece.now < 2 ^ 64 }
+    requires in_memory { start + length piece.now < 2 ^ 64 }
+    requires cuts { IsCutting flavour }
     ensures value { OnOk result ((found : List InvalidPiece)
         × (errors.new.items ≡ errors.old.items ++ found)
         × IsErrorAt flavour is_followed start piece.now found) }
@@ -72,7 +80,10 @@ fn add_error(
             drop(range);
             Ok(())
         }
-        RangeOrInvalid::Invalid(_) => push(errors, error_of(alloc, start, piece, flavour)?),
+        RangeOrInvalid::Invalid(rejection) => {
+            let error = error_of(alloc, start, piece, rejection, flavour)?;
+            push(errors, error)
+        }
     }
 }
 
@@ -83,24 +94,30 @@ fn cut(text: &str) -> Option<(&str, &str)>
     text.split_once("||")
 }
 
-// The errors of the alternatives of a text that is split at each `||`.
-fn errors_of(alloc: Global, text: &str, flavour: Flavour) -> Result<Vec<InvalidPiece>, ParseFailure>
-    requires { IsCutting flavour }
-    ensures value { IfOk result (λ errors. AreErrorsOf flavour text.now errors.items) }
+// The errors of the alternatives of a text that is split at each `||`, with so many bytes before it.
+fn errors_of(
+    alloc: Global,
+    before: usize,
+    text: &str,
+    flavour: Flavour,
+) -> Result<Vec<InvalidPiece>, ParseFailure>
+    requires in_memory { before + length text.now < 2 ^ 64 }
+    requires cuts { IsCutting flavour }
+    ensures value { IfOk result (λ errors. AreErrorsOf flavour before text.now errors.items) }
     ensures memory { IfErr result (λ failure. failure ≡ None) }
 {
     let mut errors = Vec::new(alloc);
     let Some((first, mut rest)) = cut(text) else {
-        add_error(alloc, &mut errors, 0, text, false, flavour)?;
+        add_error(alloc, &mut errors, before, text, false, flavour)?;
         return Ok(errors);
     };
-    add_error(alloc, &mut errors, 0, first, true, flavour)?;
+    add_error(alloc, &mut errors, before, first, true, flavour)?;
     loop {
         let from = after_whitespace(rest);
         if from.is_empty() {
             return Ok(errors);
         }
-        let start = text.len() - from.len();
+        let start = before + (text.len() - from.len());
         let Some((piece, more)) = cut(from) else {
             add_error(alloc, &mut errors, start, from, false, flavour)?;
             return Ok(errors);
@@ -119,13 +136,15 @@ fn strict_errors(alloc: Global, text: &str) -> Result<Vec<InvalidPiece>, ParseFa
     if is_range(alloc, text)? {
         return Ok(errors);
     }
-    let error = error_of(alloc, 0, text, Flavour::Specifier)?;
+    let rejection = Rejection::UnexpectedCharacter;
+    let error = error_of(alloc, 0, text, rejection, Flavour::Specifier)?;
     push(&mut errors, error)?;
     Ok(errors)
 }
 
-/// The alternatives of a text that are invalid, in their order: none if the text is valid. In the strict grammar, which has no
-/// alternatives, the whole text is meant. npm's parser trims a text before it splits it; so should the caller.
+/// The alternatives of a text that are invalid, in their order, with what is wrong in each and where: none if the text is valid.
+/// npm's parser trims a text before it splits it. In the strict grammar, which has no alternatives, the whole text is meant, and
+/// sizes of numbers don't matter.
 ///
 /// Takes time that grows as n log n. Fails only out of memory.
 pub fn invalid_pieces(
@@ -137,8 +156,12 @@ pub fn invalid_pieces(
     ensures memory { IfErr result (λ failure. failure ≡ None) }
 {
     match flavour {
-        Flavour::Npm => errors_of(alloc, text, Flavour::Npm),
-        Flavour::Normal => errors_of(alloc, text, Flavour::Normal),
+        Flavour::Npm => {
+            let rest = after_whitespace(text);
+            let before = text.len() - rest.len();
+            errors_of(alloc, before, text.trim(), Flavour::Npm)
+        }
+        Flavour::Normal => errors_of(alloc, 0, text, Flavour::Normal),
         Flavour::Specifier => strict_errors(alloc, text),
     }
 }

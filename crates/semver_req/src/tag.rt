@@ -21,7 +21,8 @@ fn is_number(c: char) -> bool
     )
 }
 
-fn is_tag_character(c: char) -> bool
+/// Whether a tag may have the character: a letter or a number, by the tables of `unicode`, or one of `-`, `_`, `.` and `~`.
+pub fn is_tag_character(c: char) -> bool
     ensures { result ≡ is_tag_character c }
 {
     is_alphabetic(c) || is_number(c) || matches!(c, '-' | '_' | '.' | '~')

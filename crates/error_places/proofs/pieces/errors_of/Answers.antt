@@ -5,7 +5,7 @@ use Rattle.error_places.proofs.pieces.errors_of.Goals as goal
 pub returns-in_default-clause-value : goal.returns-in_default-clause-value
 returns-in_default-clause-value c =
     let added = c.in_ok-add_error.ensures.value in
-    only_piece c.args.flavour c.args.text.now c.add_error.new.errors.items added.0 (rw c.in_default.is at c.cut.ensures) (rw c.new-errors.ensures.items at added.1) added.2
+    only_piece c.args.flavour c.args.before c.args.text.now c.add_error.new.errors.items added.0 (rw c.in_default.is at c.cut.ensures) (rw c.new-errors.ensures.items at added.1) added.2
 
 pub loop-from-init : goal.loop-from-init
 loop-from-init c =
@@ -15,13 +15,13 @@ loop-from-init c =
       is_text = search rules;
       front = c.in-Some.first.now ++ (124 ∷ 124 ∷ []);
       text_is = cut.text_is ∙ sym (append_assoc c.in-Some.first.now (124 ∷ 124 ∷ []) c.in-Some.rest.now);
-      so_far = first_piece c.args.flavour c.args.text.now c.in-Some.first.now c.in-Some.rest.now c.add_error-2.new.errors.items added.0 cut (rw c.new-errors.ensures.items at added.1) added.2;
+      so_far = first_piece c.args.flavour c.args.before c.args.text.now c.in-Some.first.now c.in-Some.rest.now c.add_error-2.new.errors.items added.0 cut (rw c.new-errors.ensures.items at added.1) added.2;
     }
 
 pub returns-then-is_empty-clause-value : goal.returns-then-is_empty-clause-value
 returns-then-is_empty-clause-value c =
     let i = c.loop-from.invariant in
-    none_more c.args.flavour c.args.text.now i.front c.loop-from.rest.now c.after_whitespace-from.result.now c.loop-from.errors.items i.text_is i.so_far c.after_whitespace-from.ensures (sym c.if-is_empty.ensures)
+    none_more c.args.flavour c.args.before c.args.text.now i.front c.loop-from.rest.now c.after_whitespace-from.result.now c.loop-from.errors.items i.text_is i.so_far c.after_whitespace-from.ensures (sym c.if-is_empty.ensures)
 
 pub overflow_sub-start : goal.overflow_sub-start
 overflow_sub-start c =
@@ -33,7 +33,7 @@ pub returns-in_default-cut-clause-value : goal.returns-in_default-cut-clause-val
 returns-in_default-cut-clause-value c =
     let i = c.loop-from.invariant in
     let added = c.in_ok-add_error-3.ensures.value in
-    last_one c.args.flavour c.args.text.now i.front c.loop-from.rest.now c.after_whitespace-from.result.now c.loop-from.errors.items i.text_is i.so_far c.after_whitespace-from.ensures _ c.add_error-in_default-cut.new.errors.items added.0 refl (sym c.if-is_empty.ensures) (rw c.in_default-cut.is at c.cut-in-loop-from.ensures) added.1 added.2
+    last_one c.args.flavour c.args.before c.args.text.now i.front c.loop-from.rest.now c.after_whitespace-from.result.now c.loop-from.errors.items i.text_is i.so_far c.after_whitespace-from.ensures _ c.add_error-in_default-cut.new.errors.items added.0 refl (sym c.if-is_empty.ensures) (rw c.in_default-cut.is at c.cut-in-loop-from.ensures) added.1 added.2
 
 pub loop-from-smaller : goal.loop-from-smaller
 loop-from-smaller c =
@@ -48,6 +48,6 @@ loop-from-preserved c =
     record {
       is_text = search rules;
       front = (i.front ++ c.after_whitespace-from.ensures.front) ++ (c.in-Some-cut.piece.now ++ (124 ∷ 124 ∷ []));
-      text_is = further c.args.flavour c.args.text.now i.front c.loop-from.rest.now c.after_whitespace-from.result.now c.loop-from.errors.items i.text_is i.so_far c.after_whitespace-from.ensures c.in-Some-cut.piece.now c.in-Some-cut.more.now c.in-Some-cut.ensures;
-      so_far = next_one c.args.flavour c.args.text.now i.front c.loop-from.rest.now c.after_whitespace-from.result.now c.loop-from.errors.items i.text_is i.so_far c.after_whitespace-from.ensures _ c.in-Some-cut.piece.now c.in-Some-cut.more.now c.add_error-in-loop-from.new.errors.items added.0 refl c.in-Some-cut.ensures added.1 added.2;
+      text_is = further c.args.flavour c.args.before c.args.text.now i.front c.loop-from.rest.now c.after_whitespace-from.result.now c.loop-from.errors.items i.text_is i.so_far c.after_whitespace-from.ensures c.in-Some-cut.piece.now c.in-Some-cut.more.now c.in-Some-cut.ensures;
+      so_far = next_one c.args.flavour c.args.before c.args.text.now i.front c.loop-from.rest.now c.after_whitespace-from.result.now c.loop-from.errors.items i.text_is i.so_far c.after_whitespace-from.ensures _ c.in-Some-cut.piece.now c.in-Some-cut.more.now c.add_error-in-loop-from.new.errors.items added.0 refl c.in-Some-cut.ensures added.1 added.2;
     }

@@ -10,7 +10,7 @@ invariant-loop-from l = record {
   is_text : shadow (Utf8 l.rest);
   front : List ℕ;
   text_is : l.text ≡ front ++ l.rest;
-  so_far : Completes l.flavour l.text l.rest l.errors.items;
+  so_far : Completes l.flavour l.before l.text l.rest l.errors.items;
 }
 
 abbrev pub decreases-loop-from : goal.decreases-loop-from

@@ -5,4 +5,4 @@ pub returns-then-branch-clause-value : goal.returns-then-branch-clause-value
 returns-then-branch-clause-value c = no_error c.new-errors.ensures.items (c.in_ok-is_range.ensures.value.0 c.if-branch.true)
 
 pub returns-clause-value : goal.returns-clause-value
-returns-clause-value c = strict_error c.new-errors.ensures.items c.in_ok-push.ensures.value c.if-branch.false c.in_ok-is_range.ensures.value c.in_ok-error.ensures.value
+returns-clause-value c = strict_error c.new-errors.ensures.items c.in_ok-push.ensures.value c.in_ok-error.ensures.value

@@ -1,0 +1,53 @@
+-- What is wrong with an invalid alternative, and where.
+use Rattle.std.specs.Prelude.{◌≡◌, ◌⊎◌, ◌<◌, ◌≤◌, ℕ, List, length, take, Bool, not, Option, Some, None, IfSome}
+use Rattle.std.specs.Str.{NoCharPasses}
+use Rattle.std.specs.Str.Pattern.{HasPassingCharAt}
+use Rattle.semver_base.specs.Comparators.{Comparator}
+use Rattle.semver_base.specs.declared.failure.Rejection.{Rejection}
+use Rattle.semver_base.specs.declared.failure.Rejection.TheVariants as rejection
+use Rattle.semver_req.specs.Outcome.{IsSpecifierRange}
+use Rattle.semver_req.specs.PieceReading.{IsPieceRejection}
+use Rattle.semver_req.specs.Tag.{is_tag_character}
+use Rattle.semver_req.specs.declared.common.values.Flavour.{Flavour}
+use Rattle.semver_req.specs.declared.common.values.Flavour.TheVariants.{Npm, Normal, Specifier}
+use Rattle.error_places.specs.Kinds.{IsExpectation}
+use Rattle.error_places.specs.Viable.{IsErrorPlace, IsPart}
+use Rattle.error_places.specs.declared.causes.Cause.{Cause}
+use Rattle.error_places.specs.declared.causes.Cause.TheVariants.{Unexpected, NoTag, NumberTooLarge, BoundTooLarge}
+use Rattle.error_places.specs.declared.expected.Expected.{Expected}
+
+-- ---- why
+
+abbrev pub rejection_of : Cause → Rejection
+rejection_of (Unexpected expected) = rejection.UnexpectedCharacter
+rejection_of NoTag = rejection.UnexpectedCharacter
+rejection_of NumberTooLarge = rejection.NumberTooLarge
+rejection_of BoundTooLarge = rejection.BoundTooLarge
+
+-- why the parser rejects an alternative; the strict grammar, whose only alternative is the whole text, rejects what isn't a range
+abbrev pub IsRejected : Flavour → List ℕ → Rejection → Type 0
+IsRejected Npm piece why = IsPieceRejection Npm piece why
+IsRejected Normal piece why = IsPieceRejection Normal piece why
+IsRejected Specifier piece why = ((c : Comparator) → IsSpecifierRange piece c → ⊥) × (why ≡ rejection.UnexpectedCharacter)
+
+-- ---- where
+
+abbrev pub is_outside_tag : ℕ → Bool
+is_outside_tag c = not (is_tag_character c)
+
+-- where the first character is that no tag has, if there is one
+abbrev pub IsFirstOutsideTag : List ℕ → Option ℕ → Type 0
+IsFirstOutsideTag text None = NoCharPasses is_outside_tag text
+IsFirstOutsideTag text (Some place) =
+    NoCharPasses is_outside_tag (take place text) × ((end : ℕ) × HasPassingCharAt is_outside_tag text place end)
+
+-- where an alternative is wrong: at the place at which it leaves the grammar; but if that is its start, and tags begin like it, at the
+-- first character that no tag has. A number that is too large is somewhere in it, and a bound is the whole of it.
+pub data IsCauseAt (f : Flavour) (piece : List ℕ) (outside : Option ℕ) : Cause → ℕ → Type 0 where
+  unexpected : {place : ℕ} {expected : Expected} → IsErrorPlace (IsPart f) piece place
+      → (0 < place) ⊎ IfSome outside (λ n. n ≡ 0) → IsExpectation f (take place piece) expected
+      → IsCauseAt f piece outside (Unexpected expected) place
+  no_tag : {place : ℕ} → IsErrorPlace (IsPart f) piece 0 → outside ≡ Some place → 0 < place
+      → IsCauseAt f piece outside NoTag place
+  large_number : {place : ℕ} → place ≤ length piece → IsCauseAt f piece outside NumberTooLarge place
+  large_bound : IsCauseAt f piece outside BoundTooLarge 0
