@@ -1,5 +1,7 @@
 -- JSON without floats, whose text is the compact one.
-use Rattle.std.proofs.Common.{◌≡◌, ◌∙◌, ◌||◌, ℕ, List, [], ◌∷◌, false, map, refl, ap}
+use Rattle.std.proofs.Common.{◌≡◌, ◌∙◌, ◌||◌, ℕ, List, [], ◌∷◌, false, map, refl, ap, Option, Some, None}
+use Rattle.std.specs.Prelude.{string_bytes}
+use Rattle.std.specs.Str.{trim}
 use Rattle.serde_json.specs.Data.{string}
 use Rattle.serde_json.specs.View.{items_of}
 use Rattle.serde_json.specs.Written.{has_float, items_have_float}
@@ -7,6 +9,15 @@ use Rattle.semver_base.specs.declared.range.RangeBound.{RangeBound}
 use Rattle.semver_base.specs.declared.range.RangeBound.TheVariants as bound
 use Rattle.semver_base.specs.declared.range.VersionRange.{VersionRange}
 use Rattle.semver_base.specs.declared.version.Version.{Version}
+use Rattle.semver_base.specs.declared.range.PreRelease.{PreRelease}
+use Rattle.semver_base.specs.declared.range.PreRelease.TheVariants as pre_release
+use Rattle.error_places.specs.declared.pieces.InvalidPiece.{InvalidPiece}
+use Rattle.answers.specs.Errors.{error_json, errors_json, expected_texts}
+use Rattle.answers.specs.ExplainedJson.{alternatives_json, error_for, error_or_null, errors_behind, lowest_json, matches_json, meaning_json, numbers_text, pre_releases, pre_releases_json, ranges_explained}
+use Rattle.answers.specs.declared.explained.Matches.{Matches}
+use Rattle.answers.specs.declared.explained.Meaning.{Meaning}
+use Rattle.answers.specs.declared.explained.Meaning.TheVariants as meaning
+use Rattle.answers.specs.declared.explained.Piece.{Piece}
 use Rattle.answers.specs.Parts.{bound_json, range_json, ranges_json, version_json}
 
 texts_no_float : (texts : List (List ℕ)) → items_have_float (items_of (map string texts)) ≡ false
@@ -29,3 +40,48 @@ all_no_float (r ∷ rs) = ap (λ b. b || items_have_float (items_of (map range_j
 
 pub ranges_no_float : (ranges : List VersionRange) → has_float (ranges_json ranges) ≡ false
 ranges_no_float ranges = all_no_float ranges
+
+-- ---- errors
+
+error_no_float : (e : InvalidPiece) → has_float (error_json e) ≡ false
+error_no_float e = ap (λ b. b || false) (texts_no_float (expected_texts e.cause))
+
+each_no_float : (errors : List InvalidPiece) → items_have_float (items_of (map error_json errors)) ≡ false
+each_no_float [] = refl
+each_no_float (e ∷ es) = ap (λ b. b || items_have_float (items_of (map error_json es))) (error_no_float e) ∙ each_no_float es
+
+pub errors_no_float : (errors : List InvalidPiece) → has_float (errors_json errors) ≡ false
+errors_no_float errors = each_no_float errors
+
+-- ---- explanations
+
+lowest_no_float : (lowest : Option Version) → has_float (lowest_json lowest) ≡ false
+lowest_no_float (Some v) = refl
+lowest_no_float None = refl
+
+pre_releases_no_float : (flag : PreRelease) (m : Matches) → has_float (pre_releases_json flag m) ≡ false
+pre_releases_no_float pre_release.Restricted m = texts_no_float (map numbers_text (pre_releases m))
+pre_releases_no_float pre_release.Admitted m = refl
+
+matches_no_float : (flag : PreRelease) (text : List ℕ) (m : Matches) → has_float (matches_json flag text m) ≡ false
+matches_no_float flag text m = ap (λ b. b || (has_float (lowest_json m.lowest) || (has_float (pre_releases_json flag m) || (has_float (bound_json m.range.start) || false)))) (bound_no_float m.range.end)
+    ∙ ap (λ b. b || (has_float (pre_releases_json flag m) || (has_float (bound_json m.range.start) || false))) (lowest_no_float m.lowest)
+    ∙ ap (λ b. b || (has_float (bound_json m.range.start) || false)) (pre_releases_no_float flag m)
+    ∙ ap (λ b. b || false) (bound_no_float m.range.start)
+
+error_or_no_float : (error : Option InvalidPiece) → has_float (error_or_null error) ≡ false
+error_or_no_float (Some e) = error_no_float e
+error_or_no_float None = refl
+
+meaning_no_float : (flag : PreRelease) (text : List ℕ) (m : Meaning) (error : Option InvalidPiece) → has_float (meaning_json flag text m error) ≡ false
+meaning_no_float flag text (meaning.Range m) error = matches_no_float flag text m
+meaning_no_float flag text (meaning.LeftOut why) error = ap (λ b. b || false) (error_or_no_float error)
+
+alternatives_no_float : (flag : PreRelease) (pieces : List Piece) (errors : List InvalidPiece) → items_have_float (items_of (alternatives_json flag pieces errors)) ≡ false
+alternatives_no_float flag [] errors = refl
+alternatives_no_float flag (p ∷ ps) errors =
+    ap (λ b. b || items_have_float (items_of (alternatives_json flag ps (errors_behind p.meaning errors)))) (meaning_no_float flag (trim (string_bytes p.text)) p.meaning (error_for p.meaning errors))
+    ∙ alternatives_no_float flag ps (errors_behind p.meaning errors)
+
+pub explained_no_float : (flag : PreRelease) (pieces : List Piece) (errors : List InvalidPiece) (normal : List ℕ) → has_float (ranges_explained flag pieces errors normal) ≡ false
+explained_no_float flag pieces errors normal = ap (λ b. b || false) (alternatives_no_float flag pieces errors)

@@ -11,3 +11,4 @@ pub mod ReferenceAnswers
 pub mod Sorted
 pub mod SpecifierAnswers
 pub mod TextLists
+mod ErrorJson

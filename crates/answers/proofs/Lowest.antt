@@ -6,7 +6,7 @@ use Rattle.semver_base.specs.LowestVersion.{HasNoBuild, IsLowestPassing, IsOnlyL
 use Rattle.semver_base.specs.VersionText.{ReadsBack}
 use Rattle.semver_base.specs.declared.range.PreRelease.{PreRelease}
 use Rattle.semver_base.specs.declared.version.Version.{Version}
-use Rattle.semver_req.specs.AnyOrder.{AllInAnyOrder, AreEachReordered, BothInAnyOrder, IsReordered}
+use Rattle.semver_req.specs.AnyOrder.{AllInAnyOrder, AreEachReordered, IsReordered}
 use Rattle.semver_req.specs.Requirement.{Requirement, all_inners_mean_with, have_no_tag}
 use Rattle.semver_req.specs.declared.range_set_or_tag.RangeSetOrTag.{RangeSetOrTag}
 use Rattle.semver_req.specs.declared.range_set_or_tag.RangeSetOrTag.TheVariants as inner

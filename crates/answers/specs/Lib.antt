@@ -8,3 +8,5 @@ pub mod Reading
 pub mod References
 pub mod Sorting
 pub mod Specifiers
+pub mod Errors
+pub mod ExplainedJson

@@ -2,7 +2,9 @@
 #![tactic(auto)]
 
 pub mod asking;
+pub mod errors;
 pub mod explained;
+pub mod explained_json;
 pub mod filtering;
 pub mod packages;
 pub mod parts;

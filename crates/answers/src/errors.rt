@@ -1,0 +1,134 @@
+//! What is wrong with a range, and where, as JSON.
+
+ghost use Rattle.std.specs.Prelude.{◌≡◌, IfOk, map, string_bytes};
+ghost use Rattle.serde_json.specs.Data.{string};
+ghost use Rattle.serde_json.specs.View.{view};
+ghost use Rattle.serde_json.specs.Written.{compact_text};
+ghost use Rattle.error_places.specs.InvalidPieces.{AreInvalidPieces};
+ghost use Rattle.error_places.specs.Viable.{IsErrorPlace, IsVersionText};
+ghost use Rattle.answers.specs.Errors.{IsErrorsText, error_json, errors_json, expected_json, expected_names, kind_name};
+
+use crate::packages::text_json;
+use error_places::causes::Cause;
+use error_places::expected::{Expected, Kind};
+use error_places::pieces::{InvalidPiece, invalid_pieces};
+use error_places::versions::version_error_place;
+use semver_req::common::values::Flavour;
+use serde_json::{Value, json};
+use std::alloc::{AllocError, Global};
+
+/// The name of a kind of text in JSON.
+pub fn kind_name(kind: Kind) -> &'static str
+    ensures { result.now ≡ kind_name kind }
+{
+    match kind {
+        Kind::Digit => "digit",
+        Kind::Letter => "letter",
+        Kind::Space => "whitespace",
+        kind => kind.text(),
+    }
+}
+
+// The names of the kinds.
+fn kind_names(alloc: Global, kinds: &[Kind]) -> Result<Vec<Value>, AllocError>
+    ensures { IfOk result
+        (λ names. map view names.items ≡ map (λ kind. string (kind_name kind)) kinds.now) }
+{
+    let mut names = Vec::new(alloc);
+    for kind in kinds {
+        names.push(text_json(alloc, kind_name(*kind))?)?;
+    }
+    Ok(names)
+}
+
+// The names of what is expected.
+fn expected_names(alloc: Global, expected: &Expected) -> Result<Vec<Value>, AllocError>
+    ensures { IfOk result
+        (λ names. map view names.items ≡ map string (expected_names expected.now)) }
+{
+    let mut names = kind_names(alloc, expected.kinds.as_slice())?;
+    if !expected.may_end {
+        return Ok(names);
+    }
+    names.push(text_json(alloc, "end")?)?;
+    Ok(names)
+}
+
+/// Returns what is expected at the place of an error, as JSON: the names of kinds of text, and `end` if the text may end there. Nothing
+/// is if the alternative is wrong in another way.
+pub fn expected_json(alloc: Global, cause: &Cause) -> Result<Value, AllocError>
+    ensures { IfOk result (λ json. view json ≡ expected_json cause.now) }
+{
+    match cause {
+        Cause::Unexpected(expected) => Ok(Value::Array(expected_names(alloc, expected)?)),
+        _ => Ok(Value::Array(Vec::new(alloc))),
+    }
+}
+
+/// Returns an error as JSON: where it is, where its alternative ends, why that is invalid, and what is expected in its place.
+pub fn error_json(alloc: Global, error: &InvalidPiece) -> Result<Value, AllocError>
+    ensures { IfOk result (λ json. view json ≡ error_json error.now) }
+{
+    let expected = expected_json(alloc, &error.cause)?;
+    let message = error.cause.rejection().message();
+    let (start, end) = (error.place, error.end);
+    json!(in alloc; { "end": end, "expected": expected, "message": message, "start": start })
+}
+
+// The JSON of errors.
+fn errors_json(alloc: Global, errors: &[InvalidPiece]) -> Result<Value, AllocError>
+    ensures { IfOk result (λ json. view json ≡ errors_json errors.now) }
+{
+    let mut items = Vec::new(alloc);
+    for error in errors {
+        items.push(error_json(alloc, error)?)?;
+    }
+    Ok(Value::Array(items))
+}
+
+// The errors as a text.
+fn errors_text(alloc: Global, errors: &[InvalidPiece]) -> Result<String, AllocError>
+    ensures { IfOk result (λ text. string_bytes text ≡ compact_text (errors_json errors.now)) }
+{
+    let json = errors_json(alloc, errors)?;
+    json.to_string(alloc)
+}
+
+/// The invalid alternatives of the text of a range, in their order, with what is wrong in each and where. A tag isn't a range, so it is
+/// one, too.
+pub fn errors(
+    alloc: Global,
+    flavour: Flavour,
+    range_text: &str,
+) -> Result<Vec<InvalidPiece>, AllocError>
+    ensures { IfOk result (λ errors. AreInvalidPieces flavour range_text.now errors.items) }
+{
+    match invalid_pieces(alloc, range_text, flavour) {
+        Ok(errors) => Ok(errors),
+        // Only out of memory.
+        Err(_) => Err(AllocError),
+    }
+}
+
+/// The index in a text at which it stops being a version; its length, if it only stops too early.
+pub fn version_error(alloc: Global, version_text: &str) -> Result<usize, AllocError>
+    ensures { IfOk result (IsErrorPlace IsVersionText version_text.now) }
+{
+    match version_error_place(alloc, version_text) {
+        Ok(place) => Ok(place),
+        // Only out of memory.
+        Err(_) => Err(AllocError),
+    }
+}
+
+/// Returns the errors of the text of a range as the text of a JSON array.
+pub fn errors_of_range(
+    alloc: Global,
+    flavour: Flavour,
+    range_text: &str,
+) -> Result<String, AllocError>
+    ensures { IfOk result (λ text. IsErrorsText flavour range_text.now (string_bytes text)) }
+{
+    let errors = errors(alloc, flavour, range_text)?;
+    errors_text(alloc, errors.as_slice())
+}

@@ -1,0 +1,258 @@
+//! Explanations as JSON.
+
+ghost use Rattle.std.specs.Prelude.{◌≡◌, ◌++◌, IfErr, IfOk, OnOk, map, string_bytes};
+ghost use Rattle.std.specs.Option.{option_copied};
+ghost use Rattle.serde_json.specs.Data.{string};
+ghost use Rattle.serde_json.specs.View.{view};
+ghost use Rattle.serde_json.specs.Written.{compact_text};
+ghost use Rattle.semver_req.specs.TextRejection.{IsTextRejection};
+ghost use Rattle.answers.specs.Asking.{IsFailureAt, IsOneAnswer};
+ghost use Rattle.answers.specs.ExplainedJson.{Explains, alternative_json, alternatives_json, distinct, error_for, error_or_null, errors_behind, have_same_numbers, left_out_json, lowest_json, matches_json, numbers_text, option_list, pre_release_of, pre_releases, pre_releases_json, ranges_explained};
+ghost use Rattle.answers.specs.Filtering.{list_answer};
+ghost use Rattle.answers.specs.declared.asking.Kind.TheVariants as kind;
+
+use crate::asking::{Answer, Problem};
+use crate::errors::{error_json, errors};
+use crate::explained::{Explanation, Matches, Meaning, Piece, explain};
+use crate::packages::text_json;
+use crate::parts::bound_json;
+use crate::questions::text_of_version;
+use deno_semver::{PreRelease, RangeBound, Version};
+use error_places::pieces::InvalidPiece;
+use semver_req::common::values::Flavour;
+use serde_json::{Value, json};
+use std::alloc::{AllocError, Global};
+
+// The version of a bound that is a pre-release, if pre-releases of its numbers match.
+fn pre_release_of(bound: &RangeBound, matches: bool) -> Option<&Version>
+    ensures { option_copied result ≡ pre_release_of bound.now matches }
+{
+    match bound {
+        RangeBound::Version(bound) if matches && !bound.version.pre.is_empty() => {
+            Some(&bound.version)
+        }
+        _ => None,
+    }
+}
+
+fn have_same_numbers(one: &Version, other: &Version) -> bool
+    ensures { result ≡ have_same_numbers one.now other.now }
+{
+    one.major == other.major && one.minor == other.minor && one.patch == other.patch
+}
+
+impl Matches {
+    /// Returns versions of whose three numbers pre-releases match by npm's rule: bounds that are pre-releases, but not two with the same
+    /// numbers.
+    pub fn pre_releases(&self) -> (Option<&Version>, Option<&Version>)
+        ensures { option_list (option_copied result.0) ++ option_list (option_copied result.1)
+            ≡ pre_releases self.now }
+    {
+        let first = pre_release_of(&self.range.start, self.pre_of_start);
+        let second = pre_release_of(&self.range.end, self.pre_of_end);
+        match (first, second) {
+            (Some(one), Some(other)) if have_same_numbers(one, other) => (first, None),
+            both => both,
+        }
+    }
+}
+
+// The three numbers of a version.
+fn numbers_json(alloc: Global, version: &Version) -> Result<Value, AllocError>
+    ensures { IfOk result (λ json. view json ≡ string (numbers_text version.now)) }
+{
+    let (major, minor, patch) = (version.major, version.minor, version.patch);
+    Ok(Value::String(format!(in alloc; "{major}.{minor}.{patch}")?))
+}
+
+// Adds the numbers of a version, if there is one.
+fn push_numbers(
+    alloc: Global,
+    items: &mut Vec<Value>,
+    version: Option<&Version>,
+) -> Result<(), AllocError>
+    ensures { OnOk result (map view items.new.items ≡ map view items.old.items
+        ++ map string (map numbers_text (option_list (option_copied version.entry)))) }
+{
+    if let Some(version) = version {
+        items.push(numbers_json(alloc, version)?)?;
+    }
+    Ok(())
+}
+
+// The numbers of which pre-releases match, or that all do.
+fn pre_releases_json(
+    alloc: Global,
+    pre_release: PreRelease,
+    matches: &Matches,
+) -> Result<Value, AllocError>
+    ensures { IfOk result (λ json. view json ≡ pre_releases_json pre_release matches.now) }
+{
+    if pre_release == PreRelease::Admitted {
+        return text_json(alloc, "all");
+    }
+    let (first, second) = matches.pre_releases();
+    let mut items = Vec::new(alloc);
+    push_numbers(alloc, &mut items, first)?;
+    push_numbers(alloc, &mut items, second)?;
+    Ok(Value::Array(items))
+}
+
+// The version as displayed, or null.
+fn lowest_json(alloc: Global, lowest: &Option<Version>) -> Result<Value, AllocError>
+    ensures { IfOk result (λ json. view json ≡ lowest_json lowest.now) }
+{
+    match lowest {
+        Some(version) => Ok(Value::String(text_of_version(alloc, version)?)),
+        None => Ok(Value::Null),
+    }
+}
+
+// An alternative that is a range.
+fn matches_json(
+    alloc: Global,
+    pre_release: PreRelease,
+    text: &str,
+    matches: &Matches,
+) -> Result<Value, AllocError>
+    ensures { IfOk result (λ json. view json ≡ matches_json pre_release text.now matches.now) }
+{
+    let end = bound_json(alloc, &matches.range.end)?;
+    let start = bound_json(alloc, &matches.range.start)?;
+    let lowest = lowest_json(alloc, &matches.lowest)?;
+    let pre_releases = pre_releases_json(alloc, pre_release, matches)?;
+    json!(in alloc; {
+        "end": end, "lowest": lowest, "pre-releases": pre_releases, "start": start, "text": text
+    })
+}
+
+fn error_or_null(alloc: Global, error: Option<&InvalidPiece>) -> Result<Value, AllocError>
+    ensures { IfOk result (λ json. view json ≡ error_or_null (option_copied error.entry)) }
+{
+    match error {
+        Some(error) => error_json(alloc, error),
+        None => Ok(Value::Null),
+    }
+}
+
+// An alternative that is left out.
+fn left_out_json(
+    alloc: Global,
+    text: &str,
+    error: Option<&InvalidPiece>,
+) -> Result<Value, AllocError>
+    ensures { IfOk result
+        (λ json. view json ≡ left_out_json text.now (option_copied error.entry)) }
+{
+    let error = error_or_null(alloc, error)?;
+    json!(in alloc; { "error": error, "text": text })
+}
+
+fn alternative_json(
+    alloc: Global,
+    pre_release: PreRelease,
+    piece: &Piece,
+    error: Option<&InvalidPiece>,
+) -> Result<Value, AllocError>
+    ensures { IfOk result (λ json. view json
+        ≡ alternative_json pre_release piece.now (option_copied error.entry)) }
+{
+    let text = piece.text.as_str().trim();
+    match &piece.meaning {
+        Meaning::Range(matches) => matches_json(alloc, pre_release, text, matches),
+        Meaning::LeftOut(_) => left_out_json(alloc, text, error),
+    }
+}
+
+/// Returns the error of an alternative, if it is left out and these are the errors from there on; and the errors of the alternatives behind
+/// it.
+pub fn next_error<'e>(
+    meaning: &Meaning,
+    errors: &'e [InvalidPiece],
+) -> (Option<&'e InvalidPiece>, &'e [InvalidPiece])
+    ensures error { option_copied result.0 ≡ error_for meaning.now errors.now }
+    ensures behind { result.1.now ≡ errors_behind meaning.now errors.now }
+{
+    match (meaning, errors) {
+        (Meaning::LeftOut(_), [error, rest @ ..]) => (Some(error), rest),
+        _ => (None, errors),
+    }
+}
+
+// The alternatives, those that are left out with these errors.
+fn alternatives_json(
+    alloc: Global,
+    pre_release: PreRelease,
+    pieces: &[Piece],
+    errors: &[InvalidPiece],
+) -> Result<Vec<Value>, AllocError>
+    ensures { IfOk result (λ items. map view items.items
+        ≡ alternatives_json pre_release pieces.now errors.now) }
+{
+    let mut items = Vec::new(alloc);
+    let mut rest = errors;
+    for piece in pieces {
+        let (error, behind) = next_error(&piece.meaning, rest);
+        items.push(alternative_json(alloc, pre_release, piece, error)?)?;
+        rest = behind;
+    }
+    Ok(items)
+}
+
+/// Returns the alternatives of a text as JSON, with the errors of the invalid ones, and its canonical form.
+pub fn ranges_explained(
+    alloc: Global,
+    pre_release: PreRelease,
+    pieces: &[Piece],
+    errors: &[InvalidPiece],
+    normal: &str,
+) -> Result<Value, AllocError>
+    ensures { IfOk result (λ json. view json
+        ≡ ranges_explained pre_release pieces.now errors.now normal.now) }
+{
+    let alternatives = Value::Array(alternatives_json(alloc, pre_release, pieces, errors)?);
+    json!(in alloc; { "alternatives": alternatives, "normal": normal })
+}
+
+// The same as a text.
+fn explained_text(
+    alloc: Global,
+    pre_release: PreRelease,
+    pieces: &[Piece],
+    errors: &[InvalidPiece],
+    normal: &str,
+) -> Result<String, AllocError>
+    ensures { IfOk result (λ text. string_bytes text
+        ≡ compact_text (ranges_explained pre_release pieces.now errors.now normal.now)) }
+{
+    let json = ranges_explained(alloc, pre_release, pieces, errors, normal)?;
+    json.to_string(alloc)
+}
+
+/// Returns what a grammar makes of a range's text, as the text of a JSON object; or the tag.
+pub fn explain_as_json(
+    alloc: Global,
+    flavour: Flavour,
+    pre_release: PreRelease,
+    text: &str,
+) -> Result<Answer<String>, Problem>
+    ensures answer { IsOneAnswer (Explains pre_release flavour text.now)
+        (λ answer. list_answer (λ text. string_bytes text) answer) result }
+    ensures failure { IfErr result
+        (IsFailureAt kind.Range 0 (IsTextRejection flavour text.now)) }
+{
+    match explain(alloc, flavour, pre_release, text)? {
+        Explanation::Tag(tag) => Ok(Answer::Tag(tag)),
+        Explanation::Ranges { pieces, normal } => {
+            let errors = errors(alloc, flavour, text)?;
+            let text = explained_text(
+                alloc,
+                pre_release,
+                pieces.as_slice(),
+                errors.as_slice(),
+                normal.as_str(),
+            )?;
+            Ok(Answer::Value(text))
+        }
+    }
+}
