@@ -237,6 +237,16 @@ static void min_version(const text *t) {
     check_text(semver_min_version(grammar, BYTES(t[0]), pre_releases, OUT));
 }
 
+static void explain(const text *t) {
+    check_text(semver_explain(grammar, BYTES(t[0]), pre_releases, OUT));
+}
+
+static void version_error(const text *t) {
+    size_t place = 99;
+    int32_t code = semver_version_error(BYTES(t[0]), &place);
+    check_match(code, place);
+}
+
 /* A handle's text is written when it is parsed, too. */
 static void normal(const text *t) {
     semver_req r = {0};
@@ -292,6 +302,9 @@ static const struct call {
     {"reference", 0, .text = semver_reference},
     {"version_parts", 0, .text = semver_version_parts},
     {"ranges", 1, .req = semver_ranges},
+    {"explain", 2, .ask = explain},
+    {"errors", 1, .req = semver_errors},
+    {"version_error", 0, .ask = version_error},
     {"name_with_version", 0, .text = semver_name_with_version},
     {"version_reference", 0, .text = semver_version_reference},
     {"dependency", 1, .req = semver_dependency},

@@ -129,6 +129,23 @@ int32_t semver_may_be_tag(const uint8_t *text, size_t text_len);
  * or an object with "inclusive", whether the version itself lies within it, and "version". */
 int32_t semver_ranges(uint32_t grammar, const uint8_t *range, size_t range_len, uint8_t *out, size_t out_len, size_t *needed);
 
+/* What a range means, as JSON: YES or TAG. The members are "alternatives", in the order in which they stand, and "normal", the canonical
+ * form. An alternative has "text", without the whitespace around it. If it is invalid, and so left out, it has "error", as of
+ * semver_errors; else "end" and "start", as of semver_ranges, "lowest", the lowest version that it matches or null, and "pre-releases",
+ * an array of the three numbers of which pre-releases match, or "all". */
+int32_t semver_explain(uint32_t grammar, const uint8_t *range, size_t range_len, uint32_t pre_releases,
+                       uint8_t *out, size_t out_len, size_t *needed);
+
+/* What is wrong with a range, as JSON: YES, with an array of its invalid alternatives, in the order in which they stand. Each has "message",
+ * "start", the index of the byte at which it goes wrong, "end", where it ends, and "expected", what could be at "start": "digit",
+ * "letter", "whitespace", "end", or a text such as ".". A tag isn't a range, so it is one, too. By the strict grammar the one alternative is
+ * the text, and the size of its numbers doesn't matter. */
+int32_t semver_errors(uint32_t grammar, const uint8_t *range, size_t range_len, uint8_t *out, size_t out_len, size_t *needed);
+
+/* Where a text stops being a version: YES, and `*place` is the index of the byte at which no version goes on like this. For a version,
+ * and for a text that only stops too early, that is its length. */
+int32_t semver_version_error(const uint8_t *version, size_t version_len, size_t *place);
+
 /* The parts of a version, as JSON: YES. "major", "minor" and "patch" are texts, and "build" and "pre" are arrays of texts. */
 int32_t semver_version_parts(const uint8_t *version, size_t version_len, uint8_t *out, size_t out_len, size_t *needed);
 

@@ -5,11 +5,12 @@ use Rattle.std.specs.Result.{IsErrAnd}
 use Rattle.std.specs.Str.{IsUtf8}
 use Rattle.semver_req.specs.declared.common.values.Flavour.{Flavour}
 use Rattle.semver_req.specs.declared.common.values.Flavour.TheVariants.{Npm, Normal, Specifier}
+use Rattle.error_places.specs.Viable.{IsErrorPlace, IsVersionText}
 use Rattle.answers.proofs.Givens.{by_fault, by_value, out_of_memory}
-use Rattle.answers.specs.Asking.{Fault, Given, IsOutcomeOf, OutOfMemory, fault_of}
+use Rattle.answers.specs.Asking.{Fault, Given, IsOutcomeOf, OutOfMemory, fault_of, invalid, valid}
 use Rattle.answers.specs.declared.asking.Problem.{Problem as Unanswered}
 use Rattle.answers.specs.declared.asking.Problem.TheVariants as unanswered
-use Rattle.semver_c.specs.Arguments.{CallFault, Called, IsAnswer, IsGrammar, IsText, NoGrammar, NotUtf8, call_fault, called, called_outcome, grammar, grammar_number, memory, no_grammar, no_text, outcome_of, text}
+use Rattle.semver_c.specs.Arguments.{CallFault, Called, IsAnswer, IsGrammar, IsOneAnswer, IsText, NoGrammar, NotUtf8, call_fault, called, called_outcome, grammar, grammar_number, memory, no_grammar, no_text, outcome_of, text}
 use Rattle.semver_c.specs.declared.arguments.Problem.{Problem}
 use Rattle.semver_c.specs.declared.arguments.Problem.TheVariants as problem
 
@@ -121,3 +122,41 @@ module _ {E Y : Type 0} (value : E → Y) where
     -- memory ran out before the result
     pub by_memory : (r : Result E Problem) (p : Problem) → IsErrAnd r (λ e. e ≡ p) → p ≡ problem.Unanswered unanswered.OutOfMemory → IsAnswer (Called Asked) value r
     by_memory r p is e = by_problem unanswered.OutOfMemory (out_of_memory OutOfMemory Asked) r p is e
+
+-- ---- questions that may have several outcomes
+
+module _ {E Y : Type 0} (value : E → Y) where
+  module _ (number : ℕ) (Asked : Flavour → Result Y CallFault → Type 0) where
+    pub one_by_grammar : (f : Flavour) → number ≡ grammar_number f → (r : Result E Problem) → IsOneAnswer (Asked f) value r → IsOneAnswer (Given (IsGrammar number) Asked) value r
+    one_by_grammar f e r (inl none) = inl none
+    one_by_grammar f e r (inr a) = inr (valid (grammar e) a)
+
+    pub one_by_no_grammar : (r : Result E Problem) (p : Problem) → IsErrAnd r (λ e. e ≡ p) → (p ≡ problem.NoGrammar) × (2 < number) → IsOneAnswer (Given (IsGrammar number) Asked) value r
+    one_by_no_grammar r p is h = inr (subst (Given (IsGrammar number) Asked) (sym (exit value r p is ∙ ap (λ (q : Problem). Err (call_fault q)) h.0)) (invalid (no_grammar h.1)))
+
+  module _ (bytes : List ℕ) (Asked : List ℕ → Result Y CallFault → Type 0) where
+    pub one_by_text : (t : List ℕ) → IsRead bytes t → (r : Result E Problem) → IsOneAnswer (Asked t) value r → IsOneAnswer (Given (IsText bytes) Asked) value r
+    one_by_text t h r (inl none) = inl none
+    one_by_text t h r (inr a) = inr (valid (text h.1) (subst (λ (u : List ℕ). Asked u (outcome_of value r)) h.0 a))
+
+    pub one_by_no_text : (r : Result E Problem) (p : Problem) → IsErrAnd r (λ e. e ≡ p) → (p ≡ problem.NotUtf8) × (IsUtf8 bytes → ⊥) → IsOneAnswer (Given (IsText bytes) Asked) value r
+    one_by_no_text r p is h = inr (subst (Given (IsText bytes) Asked) (sym (exit value r p is ∙ ap (λ (q : Problem). Err (call_fault q)) h.0)) (invalid (no_text h.1)))
+
+  module _ (Asked : Result Y Fault → Type 0) where
+    pub one_by_answer : (o : Result Y Fault) → (o ≡ Err OutOfMemory) ⊎ Asked o → (r : Result E Problem) → outcome_of value r ≡ called_outcome o → IsOneAnswer (Called Asked) value r
+    one_by_answer o (inl none) r e = inl (e ∙ ap called_outcome none)
+    one_by_answer o (inr a) r e = inr (subst (Called Asked) (sym e) (called a))
+
+    pub one_by_problem : (why : Unanswered) → (o : Result Y Fault) → o ≡ Err (fault_of why) → (o ≡ Err OutOfMemory) ⊎ Asked o → (r : Result E Problem) (p : Problem) → IsErrAnd r (λ e. e ≡ p) → p ≡ problem.Unanswered why
+        → IsOneAnswer (Called Asked) value r
+    one_by_problem why o k h r p is e = one_by_answer o h r (exit value r p is ∙ ap (λ (q : Problem). Err (call_fault q)) e ∙ ap called_outcome (sym k))
+
+  -- memory ran out
+  pub one_by_memory : (Asked : Result Y CallFault → Type 0) (r : Result E Problem) (p : Problem) → IsErrAnd r (λ e. e ≡ p) → p ≡ problem.Unanswered unanswered.OutOfMemory → IsOneAnswer Asked value r
+  one_by_memory Asked r p is e = inl (exit value r p is ∙ ap (λ (q : Problem). Err (call_fault q)) e)
+
+-- ---- places
+
+-- no text stops being a version at two places
+pub place_found : (t : List ℕ) (place : ℕ) → IsErrorPlace IsVersionText t place → IsOutcomeOf OutOfMemory (λ outcome. (p : ℕ) × IsErrorPlace IsVersionText t p × (outcome ≡ Ok p)) (Ok place)
+place_found t place h = record { is = inr (place, h, refl); only = λ o a. inr (ap Ok (omega (arith, h.longest a.0 a.1.boundary a.1.viable, a.1.longest place h.boundary h.viable)) ∙ sym a.2) }

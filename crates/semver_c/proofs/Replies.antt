@@ -1,8 +1,8 @@
 -- What is returned to C, from the results of questions.
-use Rattle.std.proofs.Common.{◌≡◌, ℕ, List, Option, Some, None, Result, Ok, Err, refl, ap, subst, ◌∙◌, inl, inr}
+use Rattle.std.proofs.Common.{◌≡◌, ℕ, List, Option, None, Result, Ok, Err, ap, subst, ◌∙◌, inl, inr}
 use Rattle.std.specs.Prelude.{◌⊎◌, ℤ}
-use Rattle.semver_c.specs.Codes.{IsCode, IsPlaceReply, IsReply, IsReported, Reports, code_of, no_memory, no_place, place_after}
-use Rattle.semver_c.specs.Arguments.{CallFault, IsAnswer, memory, outcome_of, problem_place}
+use Rattle.semver_c.specs.Codes.{IsCode, IsOneReply, IsPlaceReply, IsReply, IsReported, Reports, code_of, no_memory, no_place, place_after}
+use Rattle.semver_c.specs.Arguments.{CallFault, IsAnswer, IsOneAnswer, memory, outcome_of, problem_place}
 use Rattle.semver_c.specs.Held.{HoldsOutcome, IsHeld}
 use Rattle.semver_c.specs.declared.arguments.Problem.{Problem}
 use Rattle.semver_c.specs.declared.codes.Code.{Code}
@@ -87,3 +87,14 @@ module _ {E X : Type 0} (Asked : Result X CallFault → Type 0) (value : E → X
           → ((code ≡ no_memory) × (held ≡ None)) ⊎ HoldsOutcome o held code
       only o (inl none) = inl (none_held none)
       only o (inr is) = inr (subst (λ (p : Result X CallFault). HoldsOutcome p held code) is holds)
+
+-- ---- questions that may have several outcomes
+
+pub one_replied : {E X I : Type 0} (Asked : Result X CallFault → Type 0) (value : E → X) (answer : Result E Problem) → IsOneAnswer Asked value answer → (coded : X → Code) (shown : X → List I) (old new : List I) (needed : ℕ) (code : ℤ)
+    → IsReported coded shown (outcome_of value answer) old new needed code → IsOneReply Asked coded shown old new needed code
+one_replied {X = X} {I = I} Asked value answer h coded shown old new needed code t = record { items = t.items; placed_is = t.placed_is; is = is h t.reports }
+  where
+    is : IsOneAnswer Asked value answer → Reports coded shown (outcome_of value answer) code t.items → (code ≡ no_memory) ⊎ ((o : Result X CallFault) × Asked o × Reports coded shown o code t.items)
+    is (inl none) (inl short) = inl short
+    is (inl none) (inr reported) = inl (reported.0 ∙ ap (code_of coded) none)
+    is (inr a) reported = inr (outcome_of value answer, a, reported)

@@ -1,5 +1,5 @@
 -- The arguments of a call, in which a grammar is a number and a text is bytes, and why a call has no result.
-use Rattle.std.specs.Prelude.{◌≡◌, ◌==◌, ◌<◌, ℕ, List, Result, Ok, Err, codes, if◌then◌else◌}
+use Rattle.std.specs.Prelude.{◌≡◌, ◌⊎◌, ◌==◌, ◌<◌, ℕ, List, Result, Ok, Err, codes, if◌then◌else◌}
 use Rattle.std.specs.Str.{IsUtf8}
 use Rattle.semver_base.specs.Failure.{message_of}
 use Rattle.semver_base.specs.declared.range.PreRelease.{PreRelease}
@@ -34,6 +34,10 @@ outcome_of value (Err p) = Err (call_fault p)
 -- the result is the outcome of the question, which has no other, or out of memory
 abbrev pub IsAnswer : {E X : Type 0} → (Result X CallFault → Type 0) → (E → X) → Result E Problem → Type 0
 IsAnswer Asked value result = IsOutcomeOf memory Asked (outcome_of value result)
+
+-- the result is an outcome of the question, or out of memory
+abbrev pub IsOneAnswer : {E X : Type 0} → (Result X CallFault → Type 0) → (E → X) → Result E Problem → Type 0
+IsOneAnswer Asked value result = (outcome_of value result ≡ Err memory) ⊎ Asked (outcome_of value result)
 
 -- the outcome of a question about texts as that of a call
 abbrev pub called_outcome : {X : Type 0} → Result X Fault → Result X CallFault

@@ -1,13 +1,16 @@
 -- The question of each call: the grammar is looked up first, then the texts are checked, then the question about texts is
 -- asked.
-use Rattle.std.specs.Prelude.{ℕ, List, [], ◌∷◌, Bool, Option, Some, Result}
+use Rattle.std.specs.Prelude.{◌≡◌, ℕ, List, [], ◌∷◌, Bool, Option, Some, Result, Ok}
 use Rattle.std.specs.Str.Lines.{lines}
 use Rattle.std.specs.declared.cmp.Ordering.{Ordering}
 use Rattle.semver_base.specs.declared.version.Version.{Version}
 use Rattle.semver_req.specs.Requirement.{Requirement}
 use Rattle.semver_req.specs.declared.common.values.Flavour.{Flavour}
 use Rattle.deno_semver.specs.ExportName.{export_name}
+use Rattle.error_places.specs.Viable.{IsErrorPlace, IsVersionText}
 use Rattle.answers.specs.Asking.{Fault, Given, Is}
+use Rattle.answers.specs.Errors.{IsErrorsText}
+use Rattle.answers.specs.ExplainedJson.{Explains}
 use Rattle.answers.specs.Filtering.{Filter, VersionLines}
 use Rattle.answers.specs.Packages.{PackageParts}
 use Rattle.answers.specs.Parts.{NameWithVersionParts, RangeParts, VersionParts}
@@ -98,6 +101,18 @@ VersionPartsOf version = OfText version VersionParts
 
 abbrev pub RangesBy : ℕ → List ℕ → Result (Answer (List ℕ)) CallFault → Type 0
 RangesBy g range = ByOne g range RangeParts
+
+-- what a range means
+abbrev pub ExplainsBy : ℕ → ℕ → List ℕ → Result (Answer (List ℕ)) CallFault → Type 0
+ExplainsBy number g range = ByOne g range (λ f text. Explains (pre_release_of number) f text)
+
+-- what is wrong with a range, and where
+abbrev pub ErrorsBy : ℕ → List ℕ → Result (List ℕ) CallFault → Type 0
+ErrorsBy g range = ByOne g range (λ f text outcome. (json : List ℕ) × IsErrorsText f text json × (outcome ≡ Ok json))
+
+-- where a text stops being a version
+abbrev pub VersionErrorOf : List ℕ → Result ℕ CallFault → Type 0
+VersionErrorOf version = OfText version (λ text outcome. (place : ℕ) × IsErrorPlace IsVersionText text place × (outcome ≡ Ok place))
 
 abbrev pub NameWithVersionOf : List ℕ → Result (List ℕ) CallFault → Type 0
 NameWithVersionOf text = OfText text NameWithVersionParts

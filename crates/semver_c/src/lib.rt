@@ -12,9 +12,9 @@ ghost use Rattle.semver_base.specs.VersionText.{version_text};
 ghost use Rattle.semver_req.specs.Requirement.{inner_text, tag_of};
 ghost use Rattle.semver_req.specs.Tag.{is_valid_tag};
 ghost use Rattle.answers.specs.Asking.{Is};
-ghost use Rattle.semver_c.specs.Codes.{IsCode, IsPlaceReply, IsPlaced, IsReply, IsUntouched, always_yes, best_code, best_place, bool_code, filter_code, filter_numbers, lowest_code, lowest_text, match_code, no_place, no_text, number_of, order_code, text_code, text_of, yes};
+ghost use Rattle.semver_c.specs.Codes.{IsCode, IsOneReply, IsPlaceReply, IsPlaced, IsReply, IsUntouched, always_yes, as_place, best_code, best_place, bool_code, filter_code, filter_numbers, lowest_code, lowest_text, match_code, no_place, no_text, number_of, order_code, text_code, text_of, yes};
 ghost use Rattle.semver_c.specs.Held.{IsHeld, IsHeldEqual, IsHeldFilter, IsHeldMatch, IsHeldOrder, IsHeldOverlap, lines_of};
-ghost use Rattle.semver_c.specs.Questions.{BestLine, CanonicalBy, CommonBy, CommonOfAll, DependencyBy, DisplayedOf, EquivalentBy, ExportNameOf, Filters, Fits, LowestBy, LowestLine, MatchesHeld, NameWithVersionOf, OrdersOf, OutsideBy, OverlapsBy, PackageBy, RangeBy, RangesBy, ReferenceOf, SortsOf, VersionListOf, VersionOf, VersionPartsOf, VersionReferenceOf};
+ghost use Rattle.semver_c.specs.Questions.{BestLine, CanonicalBy, CommonBy, CommonOfAll, DependencyBy, DisplayedOf, EquivalentBy, ErrorsBy, ExplainsBy, ExportNameOf, Filters, Fits, LowestBy, LowestLine, MatchesHeld, NameWithVersionOf, OrdersOf, OutsideBy, OverlapsBy, PackageBy, RangeBy, RangesBy, ReferenceOf, SortsOf, VersionErrorOf, VersionListOf, VersionOf, VersionPartsOf, VersionReferenceOf};
 ghost use Rattle.semver_c.specs.declared.codes.Code.TheVariants as code;
 
 mod arguments;
@@ -28,15 +28,16 @@ use deno_semver::npm::is_valid_npm_tag;
 use handles::{RequirementHandle, VersionHandle, VersionListHandle};
 use questions::{
     best_line, canonical_form, common, common_of_all, dependency_of, displayed_version,
-    equivalent_ranges, export_name_of, filter, filter_held, fits, held_canonical, held_displayed,
-    lowest, lowest_line, match_code, matches_held, name_with_version_of, order_of, outside,
-    overlap, package_of, ranges_of, read_list, read_range, read_version, reference_of,
-    sorted_lines, version_parts_of, version_reference_of,
+    equivalent_ranges, errors_of, explanation_of, export_name_of, filter, filter_held, fits,
+    held_canonical, held_displayed, lowest, lowest_line, match_code, matches_held,
+    name_with_version_of, order_of, outside, overlap, package_of, ranges_of, read_list, read_range,
+    read_version, reference_of, sorted_lines, version_error_of, version_parts_of,
+    version_reference_of,
 };
 use reports::{
     code_of_bool, code_of_match, code_of_order, code_or_problem, put, put_place, report_best,
-    report_filter, report_lowest, report_match, report_places, report_problem, report_text,
-    report_text_or_tag,
+    report_filter, report_lowest, report_match, report_place, report_places, report_problem,
+    report_text, report_text_or_tag,
 };
 use semver_req::laws::equal_requirements;
 use std::alloc::Global;
@@ -378,6 +379,48 @@ pub extern "C" fn semver_ranges(
         out.old out.new needed.new result }
 {
     report_text_or_tag(ranges_of(alloc, grammar, range), out, needed)
+}
+
+/// What the range means, as JSON: yes, with its alternatives and its canonical form; or that it is a tag.
+#[unsafe(no_mangle)]
+pub extern "C" fn semver_explain(
+    alloc: Global,
+    grammar: u32,
+    range: &[u8],
+    pre_releases: u32,
+    out: &mut [u8],
+    needed: &mut usize,
+) -> i32
+    ensures { IsOneReply (ExplainsBy pre_releases grammar range.now) text_code text_of
+        out.old out.new needed.new result }
+{
+    let answer = explanation_of(alloc, grammar, range, pre_releases);
+    report_text_or_tag(answer, out, needed)
+}
+
+/// The invalid alternatives of a range, with what is wrong in each and where, as JSON: yes. A tag isn't a range, so it is one, too.
+#[unsafe(no_mangle)]
+pub extern "C" fn semver_errors(
+    alloc: Global,
+    grammar: u32,
+    range: &[u8],
+    out: &mut [u8],
+    needed: &mut usize,
+) -> i32
+    ensures { IsOneReply (ErrorsBy grammar range.now) always_yes (λ text. text)
+        out.old out.new needed.new result }
+{
+    report_text(errors_of(alloc, grammar, range), out, needed)
+}
+
+/// Where the text stops being a version: yes, and `place` is the index of its first byte that no version has there; its length, if it is
+/// a version or only stops too early.
+#[unsafe(no_mangle)]
+pub extern "C" fn semver_version_error(alloc: Global, version: &[u8], place: &mut usize) -> i32
+    ensures code { IsCode (VersionErrorOf version.now) always_yes result }
+    ensures place { IsPlaceReply (VersionErrorOf version.now) as_place place.old place.new result }
+{
+    report_place(version_error_of(alloc, version), place)
 }
 
 /// The parts of a name with a version, as JSON: yes.

@@ -7,14 +7,16 @@ ghost use Rattle.deno_semver.specs.ExportName.{export_name};
 ghost use Rattle.answers.specs.Asking.{Is};
 ghost use Rattle.answers.specs.Filtering.{list_answer, list_matches};
 ghost use Rattle.answers.specs.Questions.{match_of};
-ghost use Rattle.semver_c.specs.Arguments.{IsAnswer, pre_release_of};
+ghost use Rattle.semver_c.specs.Arguments.{IsAnswer, IsOneAnswer, pre_release_of};
 ghost use Rattle.semver_c.specs.Codes.{match_code};
 ghost use Rattle.semver_c.specs.Held.{list_lines};
-ghost use Rattle.semver_c.specs.Questions.{BestLine, CanonicalBy, CommonBy, CommonOfAll, DependencyBy, DisplayedOf, EquivalentBy, ExportNameOf, Filters, Fits, LowestBy, LowestLine, MatchesHeld, NameWithVersionOf, OrdersOf, OutsideBy, OverlapsBy, PackageBy, RangeBy, RangesBy, ReferenceOf, SortsOf, VersionListOf, VersionOf, VersionPartsOf, VersionReferenceOf};
+ghost use Rattle.semver_c.specs.Questions.{BestLine, CanonicalBy, CommonBy, CommonOfAll, DependencyBy, DisplayedOf, EquivalentBy, ErrorsBy, ExplainsBy, ExportNameOf, Filters, Fits, LowestBy, LowestLine, MatchesHeld, NameWithVersionOf, OrdersOf, OutsideBy, OverlapsBy, PackageBy, RangeBy, RangesBy, ReferenceOf, SortsOf, VersionErrorOf, VersionListOf, VersionOf, VersionPartsOf, VersionReferenceOf};
 
 use crate::arguments::{Problem, flavour, line_list, pre_release, text};
 use crate::codes::Code;
 use answers::asking::Answer;
+use answers::errors::{errors_of_range, version_error};
+use answers::explained_json::explain_as_json;
 use answers::filtering::{self, list_matches, version_lines};
 use answers::packages::package_parts;
 use answers::parts::{name_with_version_parts, range_parts, version_parts};
@@ -31,6 +33,38 @@ use deno_semver::{PreRelease, Version, VersionReq};
 use handles::VersionList;
 use std::alloc::{AllocError, Global};
 use std::cmp::Ordering;
+
+/// What does the range mean?
+pub fn explanation_of(
+    alloc: Global,
+    grammar: u32,
+    range: &[u8],
+    pre_releases: u32,
+) -> Result<Answer<String>, Problem>
+    ensures { IsOneAnswer (ExplainsBy pre_releases grammar range.now)
+        (λ answer. list_answer (λ text. string_bytes text) answer) result }
+{
+    let flavour = flavour(grammar)?;
+    let range = text(range)?;
+    Ok(explain_as_json(alloc, flavour, pre_release(pre_releases), range)?)
+}
+
+/// What is wrong with the range, and where?
+pub fn errors_of(alloc: Global, grammar: u32, range: &[u8]) -> Result<String, Problem>
+    ensures { IsOneAnswer (ErrorsBy grammar range.now) (λ text. string_bytes text) result }
+{
+    let flavour = flavour(grammar)?;
+    let range = text(range)?;
+    Ok(errors_of_range(alloc, flavour, range)?)
+}
+
+/// Where does the text stop being a version?
+pub fn version_error_of(alloc: Global, version: &[u8]) -> Result<usize, Problem>
+    ensures { IsAnswer (VersionErrorOf version.now) (λ place. place) result }
+{
+    let version = text(version)?;
+    Ok(version_error(alloc, version)?)
+}
 
 /// Does the version match the range?
 pub fn fits(

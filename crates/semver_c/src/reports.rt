@@ -4,7 +4,7 @@ ghost use Rattle.std.specs.Prelude.{◌≡◌, ◌⊎◌, IfOk, List, ℕ, map, 
 ghost use Rattle.semver_base.specs.VersionText.{version_text};
 ghost use Rattle.answers.specs.Filtering.{list_answer};
 ghost use Rattle.semver_c.specs.Arguments.{call_fault, outcome_of, problem_message, problem_place};
-ghost use Rattle.semver_c.specs.Codes.{IsPlaced, IsReported, IsUntouched, always_yes, as_value, best_code, best_place, bool_code, code_of, fault_code, filter_code, filter_numbers, line_code, lowest_code, lowest_text, match_code, no_memory, no_text, number_of, order_code, place_after, text_code, text_of};
+ghost use Rattle.semver_c.specs.Codes.{IsPlaced, IsReported, IsUntouched, always_yes, as_place, as_value, best_code, best_place, bool_code, code_of, fault_code, filter_code, filter_numbers, line_code, lowest_code, lowest_text, match_code, no_memory, no_text, number_of, order_code, place_after, text_code, text_of};
 
 use crate::arguments::Problem;
 use crate::codes::Code;
@@ -298,6 +298,23 @@ pub fn report_places(
         }
         Err(problem) => {
             put_items(&[], out, needed);
+            problem.code().number()
+        }
+    }
+}
+
+/// Reports a place.
+pub fn report_place(answer: Result<usize, Problem>, place: &mut usize) -> i32
+    ensures code { result ≡ code_of always_yes (outcome_of (λ found. found) answer) }
+    ensures place { place.new ≡ place_after as_place (outcome_of (λ found. found) answer) place.old }
+{
+    match answer {
+        Ok(found) => {
+            *place = found;
+            Code::Yes.number()
+        }
+        Err(problem) => {
+            *place = problem.place_or(*place);
             problem.code().number()
         }
     }

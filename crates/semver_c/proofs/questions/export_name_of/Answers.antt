@@ -1,4 +1,4 @@
-use Rattle.std.proofs.Common.{Ok, ap, refl, string_bytes}
+use Rattle.std.proofs.Common.{Ok, refl, string_bytes}
 use Rattle.answers.proofs.Givens as given
 use Rattle.semver_c.proofs.Asking.{by_answer, by_memory, by_no_text, by_text}
 use Rattle.semver_c.proofs.questions.export_name_of.Goals as goal
