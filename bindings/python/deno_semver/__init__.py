@@ -17,9 +17,11 @@ a bound is a pre-release of its three numbers.
 
 from ._errors import InvalidPackage, InvalidRange, InvalidVersion, SemverError, TagError
 from ._functions import (
+    Alternative,
     Bound,
     Bounds,
     Dependency,
+    Explanation,
     NameWithVersion,
     Package,
     Reference,
@@ -29,6 +31,7 @@ from ._functions import (
     canonical,
     common,
     compare,
+    explain,
     export_name,
     filter,
     is_equivalent,
@@ -51,9 +54,11 @@ from ._values import Range, Version
 __version__ = "0.1.0"
 
 __all__ = [
+    "Alternative",
     "Bound",
     "Bounds",
     "Dependency",
+    "Explanation",
     "InvalidPackage",
     "InvalidRange",
     "InvalidVersion",
@@ -70,6 +75,7 @@ __all__ = [
     "canonical",
     "common",
     "compare",
+    "explain",
     "export_name",
     "filter",
     "is_equivalent",

@@ -3,12 +3,13 @@
 from __future__ import annotations
 
 import ctypes
+import json
 import os
 from ctypes import POINTER, byref, c_char_p, c_int8, c_int32, c_size_t, c_uint32, c_void_p
 from pathlib import Path
 from typing import Any, Callable, Dict, NoReturn, Optional, Tuple, Type
 
-from ._errors import SemverError, TagError
+from ._errors import InvalidPackage, InvalidRange, InvalidVersion, SemverError, TagError
 
 NO, YES = 0, 1
 TAG, INVALID_RANGE, INVALID_VERSION, NOT_UTF8, NO_GRAMMAR, NO_MEMORY = -1, -2, -3, -4, -5, -6
@@ -48,6 +49,9 @@ _OF_TEXTS: Dict[str, Tuple[Any, ...]] = {
     "package": (c_uint32, *_TEXT, *_OUT),
     "reference": (*_TEXT, *_OUT),
     "ranges": (c_uint32, *_TEXT, *_OUT),
+    "explain": (c_uint32, *_TEXT, c_uint32, *_OUT),
+    "errors": (c_uint32, *_TEXT, *_OUT),
+    "version_error": (*_TEXT, _PLACE),
     "name_with_version": (*_TEXT, *_OUT),
     "version_reference": (*_TEXT, *_OUT),
     "dependency": (c_uint32, *_TEXT, *_OUT),
@@ -112,8 +116,8 @@ def encoded(text: Any, name: str, error: Type[SemverError], index: Optional[int]
         wrong_type(text, name, "str")
     try:
         return text.encode()
-    except UnicodeEncodeError:
-        raise error("The text has a lone surrogate.", text, index) from None
+    except UnicodeEncodeError as invalid:
+        raise error("The text has a lone surrogate.", text, index, invalid.start, invalid.end) from None
 
 
 def grammar_number(grammar: Any) -> int:
@@ -157,24 +161,49 @@ def hold(name: str, *arguments: Any) -> Tuple[int, str, Handle]:
         size = needed.value
 
 
-def message_of(name: str, *arguments: Any) -> str:
-    """What is wrong with the arguments of a call that writes a text."""
-    return read(name, *arguments)[1]
+def _written(name: str, *arguments: Any) -> str:
+    """What a call writes about an invalid text."""
+    code, written = read(name, *arguments)
+    if code == NO_MEMORY:
+        raise MemoryError
+    return written
 
 
-def fail(code: int, error: Type[SemverError], text: str, message: str, index: Optional[int] = None) -> NoReturn:
-    """Raises what a code other than that of an answer means."""
+def _fail_unless_invalid(code: int, text: str, index: Optional[int] = None) -> None:
+    """Raises what a code means that isn't about an invalid text."""
     if code == NO_MEMORY:
         raise MemoryError
     if code == TAG:
         raise TagError("The range is a tag.", text, index)
-    raise error(message, text, index)
 
 
-def range_message(grammar: int, text: bytes) -> str:
-    return message_of("normal", grammar, text, len(text))
+def invalid_range(text: str, message: str, parts: Dict[str, Any], index: Optional[int] = None) -> InvalidRange:
+    """The error of a range with these parts, whose indexes are those of bytes."""
+    source = text.encode()
+    start, end = (len(source[: parts[name]].decode()) for name in ("start", "end"))
+    return InvalidRange(message, text, index, start, end, tuple(parts["expected"]))
 
 
-def version_message(text: bytes) -> str:
-    return message_of("version", text, len(text))
+def fail_range(code: int, text: str, grammar: int, index: Optional[int] = None) -> NoReturn:
+    """Raises what a code other than that of an answer means for a range."""
+    _fail_unless_invalid(code, text, index)
+    source = text.encode()
+    message = _written("normal", grammar, source, len(source))
+    errors = json.loads(_written("errors", grammar, source, len(source)))
+    # By the strict grammar the place of a number that is too large isn't known.
+    raise invalid_range(text, message, errors[0], index) if errors else InvalidRange(message, text, index)
 
+
+def fail_version(code: int, text: str, index: Optional[int] = None) -> NoReturn:
+    """Raises what a code other than that of an answer means for a version."""
+    _fail_unless_invalid(code, text, index)
+    source, place = text.encode(), c_size_t()
+    message = _written("version", source, len(source))
+    _fail_unless_invalid(CALLS["version_error"](source, len(source), byref(place)), text)
+    raise InvalidVersion(message, text, index, len(source[: place.value].decode()), len(text))
+
+
+def fail_package(code: int, text: str, message: str) -> NoReturn:
+    """Raises what a code other than that of an answer means for a package."""
+    _fail_unless_invalid(code, text)
+    raise InvalidPackage(message, text)

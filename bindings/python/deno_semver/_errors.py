@@ -9,20 +9,45 @@ class SemverError(ValueError):
     """A text is invalid.
 
     `text` is the text, and `message` what is wrong with it. `index` is its index in a list, or among the arguments of its kind.
+
+    `start` is the index of the character at which the text goes wrong, and `end` that at which the invalid part ends: an alternative of a
+    range, or the whole version. Both are None if they aren't known. `expected` is what could be at `start`: "digit", "letter",
+    "whitespace", "end", or a text such as "."; it is empty if that isn't known.
+
+    >>> from deno_semver import Range
+    >>> try:
+    ...     Range("^1.2.3.4")
+    ... except InvalidRange as error:
+    ...     print(error)
+    ...     print(error.start, error.text[error.start : error.end], error.expected[:4])
+    '^1.2.3.4': Unexpected character. (at index 6)
+    6 .4 ('digit', 'x', 'v', 'letter')
     """
 
-    def __init__(self, message: str, text: str = "", index: Optional[int] = None) -> None:
-        super().__init__(message, text, index)
+    def __init__(
+        self,
+        message: str,
+        text: str = "",
+        index: Optional[int] = None,
+        start: Optional[int] = None,
+        end: Optional[int] = None,
+        expected: Tuple[str, ...] = (),
+    ) -> None:
+        super().__init__(message, text, index, start, end, expected)
         self.message = message
         self.text = text
         self.index = index
+        self.start = start
+        self.end = end
+        self.expected = expected
 
     def __str__(self) -> str:
-        place = "" if self.index is None else f" (item {self.index})"
-        return f"{self.text!r}{place}: {self.message}"
+        item = "" if self.index is None else f" (item {self.index})"
+        place = "" if self.start is None else f" (at index {self.start})"
+        return f"{self.text!r}{item}: {self.message}{place}"
 
     def __reduce__(self) -> Tuple[Any, ...]:
-        return type(self), (self.message, self.text, self.index)
+        return type(self), (self.message, self.text, self.index, self.start, self.end, self.expected)
 
 
 class InvalidRange(SemverError):

@@ -4,22 +4,22 @@ from __future__ import annotations
 
 import json
 from ctypes import byref, c_int8, c_size_t
-from typing import Any, Dict, Iterable, List, NamedTuple, Optional, Tuple, TypeVar, Union
+from typing import Any, Dict, Iterable, List, Literal, NamedTuple, NoReturn, Optional, Tuple, TypeVar, Union
 
 from ._calls import (
     CALLS,
     INVALID_RANGE,
     INVALID_VERSION,
     NO,
-    NO_MEMORY,
     YES,
     encoded,
-    fail,
+    fail_package,
+    fail_range,
+    fail_version,
     grammar_number,
+    invalid_range,
     pre_number,
-    range_message,
     read,
-    version_message,
 )
 from ._errors import InvalidPackage, InvalidRange, InvalidVersion, TagError
 from ._values import Range, Version, range_text
@@ -47,16 +47,6 @@ def _versions(versions: Iterable[V]) -> Tuple[List[V], bytes]:
     return listed, _lines(_version_text(version, f"versions[{index}]", index) for index, version in enumerate(listed))
 
 
-def _fail_range(code: int, text: str, source: bytes, number: int, index: Optional[int] = None) -> Any:
-    message = "" if code == NO_MEMORY else range_message(number, source)
-    return fail(code, InvalidRange, text, message, index)
-
-
-def _fail_version(code: int, version: AnyVersion, index: Optional[int] = None) -> Any:
-    message = "" if code == NO_MEMORY else version_message(_version_text(version, "version"))
-    return fail(code, InvalidVersion, str(version), message, index)
-
-
 def matches(range: AnyRange, version: AnyVersion, *, grammar: Optional[str] = None, pre_releases: bool = False) -> bool:
     """Whether the version matches the range.
 
@@ -68,12 +58,12 @@ def matches(range: AnyRange, version: AnyVersion, *, grammar: Optional[str] = No
     """
     source, text, number = range_text(range, "range", grammar)
     other = _version_text(version, "version")
-    code, message = read("fits", number, source, len(source), other, len(other), pre_number(pre_releases))
+    code, _ = read("fits", number, source, len(source), other, len(other), pre_number(pre_releases))
     if code >= 0:
         return code == YES
     if code == INVALID_VERSION:
-        return fail(code, InvalidVersion, str(version), message)
-    return fail(code, InvalidRange, text, message)
+        return fail_version(code, str(version))
+    return fail_range(code, text, number)
 
 
 def filter(
@@ -98,13 +88,13 @@ def filter(
         number, source, len(source), lines, len(lines), pre_number(pre_releases), answers, len(answers), byref(needed)
     )
     if code != YES:
-        return _fail_range(code, text, source, number)
+        return fail_range(code, text, number)
     found = []
     for index, version in enumerate(listed):
         if answers[index] == YES:
             found.append(version)
         elif answers[index] < 0 and not skip_invalid:
-            _fail_version(answers[index], version, index)
+            fail_version(answers[index], str(version), index)
     return found
 
 
@@ -116,8 +106,8 @@ def _best(call: str, range: AnyRange, versions: Iterable[V], grammar: Optional[s
     if code >= 0:
         return listed[place.value] if code == YES else None
     if code == INVALID_VERSION:
-        return _fail_version(code, listed[place.value], place.value)
-    return _fail_range(code, text, source, number)
+        return fail_version(code, str(listed[place.value]), place.value)
+    return fail_range(code, text, number)
 
 
 def best(range: AnyRange, versions: Iterable[V], *, grammar: Optional[str] = None, pre_releases: bool = False) -> Optional[V]:
@@ -152,7 +142,7 @@ def sort(versions: Iterable[V], *, reverse: bool = False) -> List[V]:
     code = CALLS["sort"](lines, len(lines), places, len(places), byref(needed), byref(place))
     if code != YES:
         index = len(listed) - 1 - place.value if reverse else place.value
-        return _fail_version(code, listed[place.value], index)
+        return fail_version(code, str(listed[place.value]), index)
     ordered = [listed[place] for place in places[: needed.value]]
     return ordered[::-1] if reverse else ordered
 
@@ -167,7 +157,7 @@ def compare(one: AnyVersion, other: AnyVersion) -> int:
     code = CALLS["compare"](texts[0], len(texts[0]), texts[1], len(texts[1]), byref(place))
     if code >= 0:
         return int(code) - 1
-    return _fail_version(code, other if place.value else one, place.value)
+    return fail_version(code, str(other if place.value else one), place.value)
 
 
 def _two(one: AnyRange, other: AnyRange, grammar: Optional[str]) -> Tuple[Tuple[bytes, str], Tuple[bytes, str], int]:
@@ -181,9 +171,9 @@ def _two(one: AnyRange, other: AnyRange, grammar: Optional[str]) -> Tuple[Tuple[
     return (first, first_text), (second, second_text), number
 
 
-def _fail_two(code: int, ranges: Tuple[Tuple[bytes, str], ...], number: int, place: int) -> Any:
-    source, text = ranges[place if code == INVALID_RANGE else 0]
-    return _fail_range(code, text, source, number, place if code == INVALID_RANGE else None)
+def _fail_two(code: int, ranges: Tuple[Tuple[bytes, str], ...], number: int, place: int) -> NoReturn:
+    _, text = ranges[place if code == INVALID_RANGE else 0]
+    fail_range(code, text, number, place if code == INVALID_RANGE else None)
 
 
 def overlaps(one: AnyRange, other: AnyRange, *, grammar: Optional[str] = None) -> bool:
@@ -258,8 +248,8 @@ def common(*ranges: AnyRange, grammar: Optional[str] = None, pre_releases: bool 
     code, text = read("common_all", *arguments, after=(byref(place),))
     if code >= 0:
         return text if code == YES else None
-    source, range, _ = parsed[place.value if code == INVALID_RANGE else 0]
-    return _fail_range(code, range, source, number, place.value if code == INVALID_RANGE else None)
+    _, range, _ = parsed[place.value if code == INVALID_RANGE else 0]
+    return fail_range(code, range, number, place.value if code == INVALID_RANGE else None)
 
 
 def min_version(range: AnyRange, *, grammar: Optional[str] = None, pre_releases: bool = False) -> Optional[str]:
@@ -272,7 +262,7 @@ def min_version(range: AnyRange, *, grammar: Optional[str] = None, pre_releases:
     code, written = read("min_version", number, source, len(source), pre_number(pre_releases))
     if code >= 0:
         return written if code == YES else None
-    return fail(code, InvalidRange, text, written)
+    return fail_range(code, text, number)
 
 
 def canonical(range: AnyRange, *, grammar: Optional[str] = None) -> str:
@@ -283,7 +273,7 @@ def canonical(range: AnyRange, *, grammar: Optional[str] = None) -> str:
     """
     source, text, number = range_text(range, "range", grammar)
     code, written = read("normal", number, source, len(source))
-    return written if code == YES else fail(code, InvalidRange, text, written)
+    return written if code == YES else fail_range(code, text, number)
 
 
 class Bound(NamedTuple):
@@ -313,8 +303,57 @@ def bounds(range: AnyRange, *, grammar: Optional[str] = None) -> List[Bounds]:
     source, text, number = range_text(range, "range", grammar)
     code, written = read("ranges", number, source, len(source))
     if code != YES:
-        return fail(code, InvalidRange, text, written)
+        return fail_range(code, text, number)
     return [Bounds(_bound(parts["start"]), _bound(parts["end"])) for parts in json.loads(written)]
+
+
+class Alternative(NamedTuple):
+    """An alternative of a range, and what it means.
+
+    `start` and `end` are its bounds, or None where it has none. `pre_releases` has the three numbers of which pre-releases match, such as
+    "1.2.3", or is "all". `lowest` is the lowest version that matches, or None. `error` says why an invalid alternative is left out; its
+    indexes are those of the whole range.
+    """
+
+    text: str
+    start: Optional[Bound]
+    end: Optional[Bound]
+    pre_releases: Union[Tuple[str, ...], Literal["all"]]
+    lowest: Optional[str]
+    error: Optional[InvalidRange]
+
+
+class Explanation(NamedTuple):
+    """What a range means: its alternatives, in their order, and its canonical form."""
+
+    alternatives: Tuple[Alternative, ...]
+    canonical: str
+
+
+def _alternative(text: str, parts: Dict[str, Any]) -> Alternative:
+    if "error" in parts:
+        error = invalid_range(text, parts["error"]["message"], parts["error"])
+        return Alternative(parts["text"], None, None, (), None, error)
+    pre_releases = parts["pre-releases"]
+    numbers = pre_releases if pre_releases == "all" else tuple(pre_releases)
+    return Alternative(parts["text"], _bound(parts["start"]), _bound(parts["end"]), numbers, parts["lowest"], None)
+
+
+def explain(range: AnyRange, *, grammar: Optional[str] = None, pre_releases: bool = False) -> Explanation:
+    """What the range means, alternative by alternative. npm's grammar leaves invalid alternatives out.
+
+    >>> valid, invalid = explain(">=1.2.3-rc || 1..2").alternatives
+    >>> valid.start, valid.end, valid.pre_releases, valid.lowest
+    (Bound(version='1.2.3-rc', inclusive=True), None, ('1.2.3',), '1.2.3-rc')
+    >>> invalid.text, str(invalid.error)
+    ('1..2', "'>=1.2.3-rc || 1..2': Unexpected character. (at index 16)")
+    """
+    source, text, number = range_text(range, "range", grammar)
+    code, written = read("explain", number, source, len(source), pre_number(pre_releases))
+    if code != YES:
+        return fail_range(code, text, number)
+    parts = json.loads(written)
+    return Explanation(tuple(_alternative(text, alternative) for alternative in parts["alternatives"]), parts["normal"])
 
 
 def may_be_tag(text: str) -> bool:
@@ -397,7 +436,7 @@ class Dependency(NamedTuple):
 def _parts(call: str, text: str, *options: int) -> Dict[str, Any]:
     source = encoded(text, "text", InvalidPackage)
     code, written = read(call, *options, source, len(source))
-    parts: Dict[str, Any] = json.loads(written) if code == YES else fail(code, InvalidPackage, text, written)
+    parts: Dict[str, Any] = json.loads(written) if code == YES else fail_package(code, text, written)
     return parts
 
 
@@ -442,4 +481,4 @@ def export_name(path: str) -> str:
     """
     source = encoded(path, "path", InvalidPackage)
     code, written = read("export_name", source, len(source))
-    return written if code == YES else fail(code, InvalidPackage, path, written)
+    return written if code == YES else fail_package(code, path, written)

@@ -10,16 +10,15 @@ from typing import Any, Callable, Optional, Tuple, Union
 from ._calls import (
     CALLS,
     GRAMMARS,
-    NO_MEMORY,
     YES,
     Handle,
     encoded,
-    fail,
+    fail_range,
+    fail_version,
     grammar_number,
     hold,
     pre_number,
     read,
-    version_message,
     wrong_type,
 )
 from ._errors import InvalidRange, InvalidVersion, TagError
@@ -71,7 +70,7 @@ class Version:
         source = encoded(text, "text", InvalidVersion)
         code, written, handle = hold("version_read", source, len(source))
         if code != YES:
-            fail(code, InvalidVersion, text, written)
+            fail_version(code, text)
         self = super().__new__(cls)
         self._held = _Held(handle, CALLS["version_free"])
         self._text = written or read("version", source, len(source))[1]
@@ -168,7 +167,7 @@ class Range:
         source, number = encoded(text, "text", InvalidRange), grammar_number(grammar)
         code, written, handle = hold("req_read", number, source, len(source))
         if code != YES:
-            fail(code, InvalidRange, text, written)
+            fail_range(code, text, number)
         self = super().__new__(cls)
         self._held = _Held(handle, CALLS["req_free"])
         self._text, self._grammar = text, grammar
@@ -232,8 +231,7 @@ class Range:
             return code == YES
         if code == -1:
             raise TagError("The range is a tag.", self.text)
-        message = "" if code == NO_MEMORY else version_message(version.encode())
-        fail(code, InvalidVersion, version, message)
+        fail_version(code, version)
 
     def __contains__(self, version: Union[str, Version]) -> bool:
         return self.matches(version)

@@ -13,13 +13,13 @@ import threading
 import unittest
 
 import deno_semver as semver
-from deno_semver import Range, Version, _functions, _values
+from deno_semver import Range, Version, _errors, _functions, _values
 
 heap = ctypes.CDLL(os.environ["DENO_SEMVER_LIBRARY"])
 
 
 def load_tests(loader, tests, ignore):
-    for module in (semver, _functions, _values):
+    for module in (semver, _errors, _functions, _values):
         tests.addTests(doctest.DocTestSuite(module, optionflags=doctest.IGNORE_EXCEPTION_DETAIL))
     return tests
 
@@ -83,8 +83,9 @@ class Errors(unittest.TestCase):
             semver.matches("^1.2.3.4", "1.0.0")
         for error in (caught.exception, pickle.loads(pickle.dumps(caught.exception)), copy.copy(caught.exception)):
             self.assertEqual((error.text, error.message, error.index), ("^1.2.3.4", "Unexpected character.", None))
+            self.assertEqual((error.start, error.end, error.expected[:2], error.expected[-1]), (6, 8, ("digit", "x"), "end"))
             self.assertIsInstance(error, ValueError)
-            self.assertEqual(str(error), "'^1.2.3.4': Unexpected character.")
+            self.assertEqual(str(error), "'^1.2.3.4': Unexpected character. (at index 6)")
         with self.assertRaises(semver.InvalidVersion) as caught:
             semver.sort(["1.0.0", "1.x", "foo"])
         self.assertEqual((caught.exception.text, caught.exception.index), ("1.x", 1))
@@ -97,8 +98,51 @@ class Errors(unittest.TestCase):
         with self.assertRaises(semver.InvalidRange) as caught:
             semver.common("1", "2", "3 4 <")
         self.assertEqual(caught.exception.index, 2)
-        with self.assertRaises(semver.InvalidPackage):
+        with self.assertRaises(semver.InvalidPackage) as caught:
             semver.parse_package("@a")
+        self.assertEqual((caught.exception.start, caught.exception.end, caught.exception.expected), (None, None, ()))
+
+    def test_places_in_ranges(self):
+        for text, grammar, start, end in (
+            ("^1..2", "npm", 3, 5),
+            ("\u3000\u00a0^1..2 ", "npm", 5, 7),
+            ("1 || <é || 1..2", "normalized", 6, 8),
+            ("\u3000<é>", "normalized", 1, 4),
+            ("😀", "npm", 0, 1),
+            ("", "strict", 0, 0),
+            ("^99999999999999999999", "npm", 1, 21),
+            ("^99999999999999999999", "strict", None, None),
+        ):
+            with self.subTest(text=text, grammar=grammar), self.assertRaises(semver.InvalidRange) as caught:
+                Range(text, grammar)
+            self.assertEqual((caught.exception.start, caught.exception.end), (start, end), text)
+        with self.assertRaises(semver.InvalidRange) as caught:
+            semver.common("1", "\u3000<😀")
+        self.assertEqual(str(caught.exception), "'\\u3000<😀' (item 1): Unexpected character. (at index 2)")
+
+    def test_places_in_versions(self):
+        asks = (Version, Range("1").matches, lambda text: semver.matches("1", text), lambda text: semver.sort([text]))
+        places = {"1.2": 3, " v1.x": 4, "\u3000\u00a01.é.3": 4, "1.2.3-é": 6, "1.99999999999999999999.3": 21, "": 0}
+        for text, start in places.items():
+            for ask in asks:
+                with self.assertRaises(semver.InvalidVersion) as caught:
+                    ask(text)
+                error = caught.exception
+                self.assertEqual((error.start, error.end, error.expected), (start, len(text), ()), text)
+
+    def test_explanations(self):
+        explained = semver.explain("é || >=1.2.3-b <2 || >1.0.0 <1.0.1")
+        self.assertEqual(explained.canonical, "^1.2.3-b || >1.0.0 <1.0.1")
+        left_out, range_, empty = explained.alternatives
+        self.assertEqual((left_out.text, left_out.start, left_out.end, left_out.pre_releases), ("é", None, None, ()))
+        self.assertEqual((left_out.error.text, left_out.error.start, left_out.error.end), ("é || >=1.2.3-b <2 || >1.0.0 <1.0.1", 1, 2))
+        start, end = semver.Bound("1.2.3-b", True), semver.Bound("2.0.0", False)
+        self.assertEqual(range_, (">=1.2.3-b <2", start, end, ("1.2.3",), "1.2.3-b", None))
+        self.assertEqual((empty.text, empty.lowest), (">1.0.0 <1.0.1", None))
+        self.assertEqual(semver.explain(Range("1", "strict"), pre_releases=True).alternatives[0].pre_releases, "all")
+        self.assertEqual(pickle.loads(pickle.dumps(range_)), range_)
+        self.assertRaises(semver.TagError, semver.explain, "latest")
+        self.assertRaises(semver.InvalidRange, semver.explain, "1 || 1..2", grammar="normalized")
 
     def test_tags(self):
         for ask in (
@@ -119,8 +163,8 @@ class Errors(unittest.TestCase):
         self.assertRaises(semver.InvalidVersion, Version, "1.0.0-\ud800")
         self.assertRaises(semver.InvalidRange, Range, "\udcff")
         with self.assertRaises(semver.InvalidVersion) as caught:
-            semver.filter("1", ["1.0.0", "\ud800"])
-        self.assertEqual(caught.exception.index, 1)
+            semver.filter("1", ["1.0.0", "é\ud800"])
+        self.assertEqual((caught.exception.index, caught.exception.start, caught.exception.end), (1, 1, 2))
 
     def test_grammars(self):
         self.assertRaises(ValueError, Range, "1", "loose")
@@ -215,11 +259,22 @@ class Lifetimes(unittest.TestCase):
             lambda: range_.matches(long),
             lambda: semver.common("1 || 2", "2 || 3"),
             lambda: semver.parse_package("a@1 || 2", grammar="npm"),
+            lambda: semver.explain("1 || 2"),
         ):
             heap.heap_limit(ctypes.c_long(0))
             self.assertRaises(MemoryError, ask)
             heap.heap_limit(ctypes.c_long(-1))
         self.assertTrue(range_.matches(version))
+
+    def test_out_of_memory_for_an_error(self):
+        for ask, error in ((lambda: Range("^1..2"), semver.InvalidRange), (lambda: Version("1..2"), semver.InvalidVersion)):
+            raised, allocations = MemoryError, 0
+            while raised is MemoryError:
+                heap.heap_limit(ctypes.c_long(allocations))
+                with self.assertRaises((MemoryError, error)) as caught:
+                    ask()
+                raised, allocations = type(caught.exception), allocations + 1
+            self.assertGreater(allocations, 1)
 
     def test_threads(self):
         range_, versions = Range("^1.2 || 3"), [Version(f"1.{n}.0") for n in range(50)]
