@@ -76,6 +76,8 @@ extern "C" {
     fn semver_version(version: In, version_len: usize, out: Out, out_len: usize, needed: Size) -> i32;
     fn semver_may_be_tag(text: In, len: usize) -> i32;
     fn semver_ranges(grammar: u32, range: In, range_len: usize, out: Out, out_len: usize, needed: Size) -> i32;
+    fn semver_errors(grammar: u32, range: In, range_len: usize, out: Out, out_len: usize, needed: Size) -> i32;
+    fn semver_version_error(version: In, version_len: usize, place: Size) -> i32;
     fn semver_package(grammar: u32, text: In, len: usize, out: Out, out_len: usize, needed: Size) -> i32;
     fn semver_reference(text: In, len: usize, out: Out, out_len: usize, needed: Size) -> i32;
     fn semver_name_with_version(text: In, len: usize, out: Out, out_len: usize, needed: Size) -> i32;
@@ -221,6 +223,23 @@ pub(crate) fn ranges(grammar: Grammar, text: &str) -> String {
         |out, len, needed| unsafe { semver_ranges(grammar as u32, text.as_ptr(), text.len(), out, len, needed) },
         |_, json| json.to_owned(),
     )
+}
+
+/// What is wrong with a range, as JSON.
+pub(crate) fn errors(grammar: Grammar, text: &str) -> String {
+    with_text(
+        |out, len, needed| unsafe { semver_errors(grammar as u32, text.as_ptr(), text.len(), out, len, needed) },
+        |_, json| json.to_owned(),
+    )
+}
+
+/// The index of the byte at which a text stops being a version.
+pub(crate) fn version_error(text: &str) -> usize {
+    let mut place = 0;
+    match unsafe { semver_version_error(text.as_ptr(), text.len(), &mut place) } {
+        YES => place,
+        code => failed(code),
+    }
 }
 
 /// The parts of a package with a range, as JSON, or the error message.

@@ -1,21 +1,74 @@
 //! Why a text is invalid.
 
+use crate::calls::{self, Grammar};
+use crate::json;
 use std::error::Error;
 use std::fmt;
 
-/// What is wrong with a text, and the part of it that the message is about, if the library gives it.
+/// Where a text is invalid, by indexes of its bytes, and what could be there.
+#[derive(Clone, Debug, PartialEq, Eq)]
+pub struct Place {
+    /// The index at which the text goes wrong.
+    pub start: usize,
+    /// The index at which the invalid alternative of a requirement, or the version, ends.
+    pub end: usize,
+    /// What could be at the start: `digit`, `letter`, `whitespace`, `end`, or a text such as `.`. It is empty for a version, for a number
+    /// that is too large, and where neither a range nor a tag goes on like this.
+    pub expected: Vec<String>,
+}
+
+/// The text that was parsed.
+#[derive(Clone, Debug, PartialEq, Eq)]
+enum Parsed {
+    Range(Grammar, String),
+    Version(String),
+}
+
+/// What is wrong with a text.
 #[derive(Clone, Debug, PartialEq, Eq)]
 pub struct ParseErrorFailureError {
     /// What is wrong, in one line.
     pub message: String,
-    /// The part of the text that the message is about: with a missing number of a version the whole text, else none.
+    /// With a missing number of a version the whole text, with a path behind a package the path, else none.
     pub code_snippet: Option<String>,
+    // None where the place isn't known.
+    parsed: Option<Parsed>,
 }
 
 impl ParseErrorFailureError {
-    pub(crate) fn new(message: String, text: &str) -> ParseErrorFailureError {
+    pub(crate) fn new(message: &str, code_snippet: Option<String>) -> ParseErrorFailureError {
+        ParseErrorFailureError { message: message.to_owned(), code_snippet, parsed: None }
+    }
+
+    pub(crate) fn of_range(message: String, grammar: Grammar, text: &str) -> ParseErrorFailureError {
+        let parsed = Some(Parsed::Range(grammar, text.to_owned()));
+        ParseErrorFailureError { message, code_snippet: None, parsed }
+    }
+
+    pub(crate) fn of_version(message: String, text: &str) -> ParseErrorFailureError {
         let code_snippet = message.starts_with("Missing ").then(|| text.trim().to_owned());
-        ParseErrorFailureError { message, code_snippet }
+        ParseErrorFailureError { message, code_snippet, parsed: Some(Parsed::Version(text.to_owned())) }
+    }
+
+    /// Where the text is invalid: that of the requirement, in its first invalid alternative, or that of the version, without a package
+    /// before it. It is found by this call, in some 50 µs for a short requirement.
+    ///
+    /// None if it isn't known: of a path behind a package, of a number that is too large for the strict grammar, and of
+    /// [`Version::from_parts`](crate::Version::from_parts).
+    ///
+    /// ```
+    /// use deno_semver_proved::VersionReq;
+    ///
+    /// let text = "^1.2.3.4";
+    /// let error = VersionReq::parse_from_npm(text).unwrap_err().source;
+    /// let place = error.place().unwrap();
+    /// assert_eq!((place.start, &text[place.start..place.end]), (6, ".4"));
+    /// ```
+    pub fn place(&self) -> Option<Place> {
+        match self.parsed.as_ref()? {
+            Parsed::Range(grammar, text) => json::first_error(&calls::errors(*grammar, text)),
+            Parsed::Version(text) => Some(Place { start: calls::version_error(text), end: text.len(), expected: Vec::new() }),
+        }
     }
 }
 
@@ -42,10 +95,6 @@ macro_rules! parse_error {
         }
 
         impl $name {
-            pub(crate) fn new(message: String, text: &str) -> $name {
-                $name { source: $crate::ParseErrorFailureError::new(message, text) }
-            }
-
             /// What is wrong, in one line.
             pub fn message(&self) -> &str {
                 &self.source.message

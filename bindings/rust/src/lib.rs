@@ -32,7 +32,7 @@ mod version;
 mod version_req;
 
 pub use calls::{Grammar, PreRelease};
-pub use error::ParseErrorFailureError;
+pub use error::{ParseErrorFailureError, Place};
 pub use partial::{Partial, XRange};
 pub use range::{PackageTag, RangeBound, RangeSetOrTag, VersionBound, VersionBoundKind, VersionRange, VersionRangeSet};
 pub use string::{SmallStackString, StackString};

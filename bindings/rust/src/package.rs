@@ -4,6 +4,7 @@
 //! for whole packages ([`json`]) give the same parts as JSON.
 
 use crate::calls::{self, Grammar};
+use crate::error::ParseErrorFailureError;
 use crate::npm::NpmVersionReqParseError;
 use crate::range::{RangeBound, RangeSetOrTag, VersionBound, VersionRange};
 use crate::string::{SmallStackString, StackString};
@@ -107,8 +108,9 @@ impl PackageReq {
     fn parse_with_path(grammar: Grammar, text: &str) -> Result<(PackageReq, &str), PackageReqPartsParseError> {
         let parts = Parts::of(text)?;
         let version_req = match parts.requirement {
-            Some(text) => VersionReq::parse(grammar, text)
-                .map_err(|message| PackageReqPartsParseError::requirement(grammar, message, text))?,
+            Some(text) => {
+                VersionReq::parse(grammar, text).map_err(|source| PackageReqPartsParseError::requirement(grammar, source))?
+            }
             None => WILDCARD_VERSION_REQ.clone(),
         };
         Ok((PackageReq { name: parts.name.into(), version_req }, parts.path))
@@ -269,7 +271,7 @@ impl PackageNv {
 
     fn parse(text: &str) -> Option<(PackageNv, &str)> {
         let VersionParts { name, version, rest } = VersionParts::of(text)?;
-        let version = Version::parse_standard(version).ok()?;
+        let version = Version::parse_valid(version)?;
         Some((PackageNv { name: name.into(), version }, rest))
     }
 
@@ -390,18 +392,17 @@ pub enum PackageReqPartsParseError {
 }
 
 impl PackageReqPartsParseError {
-    fn requirement(grammar: Grammar, message: String, text: &str) -> PackageReqPartsParseError {
+    fn requirement(grammar: Grammar, source: ParseErrorFailureError) -> PackageReqPartsParseError {
         match grammar {
-            Grammar::Strict => Self::SpecifierVersionReq(VersionReqSpecifierParseError::new(message, text)),
-            Grammar::Npm => Self::NpmVersionReq(NpmVersionReqParseError::new(message, text)),
-            Grammar::Normalized => Self::NormalizedVersionReq(VersionReqNormalizedParseError::new(message, text)),
+            Grammar::Strict => Self::SpecifierVersionReq(VersionReqSpecifierParseError { source }),
+            Grammar::Npm => Self::NpmVersionReq(NpmVersionReqParseError { source }),
+            Grammar::Normalized => Self::NormalizedVersionReq(VersionReqNormalizedParseError { source }),
         }
     }
 
     fn path(path: &str) -> PackageReqPartsParseError {
-        let mut error = VersionReqSpecifierParseError::new("Unexpected character '/'".to_owned(), path);
-        error.source.code_snippet = Some(format!("/{path}"));
-        Self::SpecifierVersionReq(error)
+        let source = ParseErrorFailureError::new("Unexpected character '/'", Some(format!("/{path}")));
+        Self::SpecifierVersionReq(VersionReqSpecifierParseError { source })
     }
 
     /// What is wrong, in one line.

@@ -50,7 +50,7 @@ impl fmt::Display for Partial {
 
 /// The only range of a text.
 fn range(grammar: Grammar, text: &str) -> VersionRange {
-    let req = VersionReq::parse(grammar, text).unwrap_or_else(|message| panic!("{text}: {message}"));
+    let req = VersionReq::parse(grammar, text).unwrap_or_else(|error| panic!("{text}: {}", error.message));
     match req.range() {
         // A range that ends below 0.0.0 is dropped.
         Some(ranges) => ranges.0.first().cloned().unwrap_or_else(VersionRange::none),

@@ -1,7 +1,7 @@
 //! Versions.
 
 use crate::calls::{displayed, Fit, Grammar, PreRelease, Requirement, VersionHandle};
-use crate::error::parse_error;
+use crate::error::{parse_error, ParseErrorFailureError};
 use crate::handle::Held;
 use crate::lazy::LazyArc;
 use crate::npm::NpmVersionParseError;
@@ -105,19 +105,24 @@ fn is_version(text: &str) -> bool {
 impl Version {
     /// Parses a version.
     pub fn parse_standard(text: &str) -> Result<Version, VersionParseError> {
-        Version::parse(text).map_err(|message| VersionParseError::new(message, text))
+        Version::parse(text).map_err(|source| VersionParseError { source })
     }
 
     /// Parses a version as npm does, which is the same.
     pub fn parse_from_npm(text: &str) -> Result<Version, NpmVersionParseError> {
-        Version::parse(text).map_err(|message| NpmVersionParseError::new(message, text))
+        Version::parse(text).map_err(|source| NpmVersionParseError { source })
     }
 
-    fn parse(text: &str) -> Result<Version, String> {
-        match is_version(text) {
-            true => Ok(Version::of(text)),
-            false => Err(displayed(text).expect_err("the text isn't a version")),
-        }
+    fn parse(text: &str) -> Result<Version, ParseErrorFailureError> {
+        Version::parse_valid(text).ok_or_else(|| {
+            let message = displayed(text).expect_err("the text isn't a version");
+            ParseErrorFailureError::of_version(message, text)
+        })
+    }
+
+    /// The version, or none where the text isn't one.
+    pub(crate) fn parse_valid(text: &str) -> Option<Version> {
+        is_version(text).then(|| Version::of(text))
     }
 
     fn of(text: &str) -> Version {
@@ -126,12 +131,11 @@ impl Version {
 
     /// The version of these parts. It fails if an identifier isn't one.
     pub fn from_parts(parts: VersionParts) -> Result<Version, VersionParseError> {
-        let text = parts.to_string();
-        let version = Version::parse_standard(&text)?;
-        match *version == parts {
-            true => Ok(version),
-            false => {
-                Err(VersionParseError::new("An identifier of a version is empty or has a character that none has.".into(), &text))
+        match Version::parse_valid(&parts.to_string()) {
+            Some(version) if *version == parts => Ok(version),
+            _ => {
+                let message = "An identifier of a version is empty or has a character that none has.";
+                Err(VersionParseError { source: ParseErrorFailureError::new(message, None) })
             }
         }
     }

@@ -1,7 +1,7 @@
 //! Version requirements: ranges and tags.
 
 use crate::calls::{self, Fit, Grammar, Lowest, PreRelease, Requirement};
-use crate::error::parse_error;
+use crate::error::{parse_error, ParseErrorFailureError};
 use crate::handle::Held;
 use crate::json;
 use crate::lazy::LazyArc;
@@ -55,23 +55,24 @@ impl Shared {
 impl VersionReq {
     /// Parses comparators separated by whitespace, with alternatives separated by `||`: the form in which requirements are stored.
     pub fn parse_from_normalized(text: &str) -> Result<VersionReq, VersionReqNormalizedParseError> {
-        VersionReq::parse(Grammar::Normalized, text).map_err(|message| VersionReqNormalizedParseError::new(message, text))
+        VersionReq::parse(Grammar::Normalized, text).map_err(|source| VersionReqNormalizedParseError { source })
     }
 
     /// Parses the requirement of a package specifier: `~`, `^` or nothing before one partial version, or a tag.
     pub fn parse_from_specifier(text: &str) -> Result<VersionReq, VersionReqSpecifierParseError> {
-        VersionReq::parse(Grammar::Strict, text).map_err(|message| VersionReqSpecifierParseError::new(message, text))
+        VersionReq::parse(Grammar::Strict, text).map_err(|source| VersionReqSpecifierParseError { source })
     }
 
     /// Parses a requirement as npm does.
     pub fn parse_from_npm(text: &str) -> Result<VersionReq, NpmVersionReqParseError> {
-        VersionReq::parse(Grammar::Npm, text).map_err(|message| NpmVersionReqParseError::new(message, text))
+        VersionReq::parse(Grammar::Npm, text).map_err(|source| NpmVersionReqParseError { source })
     }
 
-    pub(crate) fn parse(grammar: Grammar, text: &str) -> Result<VersionReq, String> {
-        let text = if grammar == Grammar::Npm { text.trim() } else { text };
-        let is_tag = calls::check_range(grammar, text)?;
-        Ok(VersionReq { text: text.into(), grammar, is_tag, shared: LazyArc::none() })
+    pub(crate) fn parse(grammar: Grammar, text: &str) -> Result<VersionReq, ParseErrorFailureError> {
+        let kept = if grammar == Grammar::Npm { text.trim() } else { text };
+        let is_tag =
+            calls::check_range(grammar, kept).map_err(|message| ParseErrorFailureError::of_range(message, grammar, text))?;
+        Ok(VersionReq { text: kept.into(), grammar, is_tag, shared: LazyArc::none() })
     }
 
     /// The requirement of these ranges or this tag, with another text.

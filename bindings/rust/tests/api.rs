@@ -8,8 +8,8 @@ use deno_semver_proved::package::{
     json, PackageKind, PackageNv, PackageReq, PackageReqPartsParseError, PackageReqReferenceParseError,
 };
 use deno_semver_proved::{
-    Grammar, PreRelease, RangeBound, RangeSetOrTag, StackString, Version, VersionBoundKind, VersionParts, VersionRange,
-    VersionRangeSet, VersionReq, WILDCARD_VERSION_REQ,
+    Grammar, ParseErrorFailureError, Place, PreRelease, RangeBound, RangeSetOrTag, StackString, Version, VersionBoundKind,
+    VersionParts, VersionRange, VersionRangeSet, VersionReq, WILDCARD_VERSION_REQ,
 };
 use std::collections::{BTreeSet, HashMap, HashSet};
 use std::error::Error;
@@ -72,6 +72,9 @@ fn versions() {
     assert_eq!((version(&long).to_string(), version(&long).pre.len()), (long.clone(), 201));
     let parts = VersionParts { major: 1, pre: vec!["a.b".into()], ..VersionParts::default() };
     assert_eq!(Version::from_parts(parts).unwrap_err().to_string(), "Invalid version");
+    let parts = VersionParts { build: vec!["é".into()], ..VersionParts::default() };
+    let error = Version::from_parts(parts).unwrap_err();
+    assert_eq!((error.message().starts_with("An identifier of a version"), error.source.place()), (true, None));
     let sorted: BTreeSet<Version> = ["1.0.0", "1.0.0-a", "0.1.0"].map(version).into();
     assert_eq!(sorted.iter().map(Version::to_string).collect::<Vec<_>>(), ["0.1.0", "1.0.0-a", "1.0.0"]);
 }
@@ -98,6 +101,40 @@ fn errors() {
     let error = PackageNv::from_str("name@1").unwrap_err();
     assert_eq!(error.message, "Missing minor version. Versions must be in the form MAJOR.MINOR.PATCH (ex. 1.0.0).");
     assert_eq!(lists::filter(Grammar::Npm, "!", "", PreRelease::Restricted).unwrap_err().place, 0);
+}
+
+/// The place of an error, but for what is expected there.
+fn span(error: ParseErrorFailureError) -> Option<(usize, usize)> {
+    error.place().map(|place| (place.start, place.end))
+}
+
+#[test]
+fn places_of_errors() {
+    let npm = |text| parse_npm_version_req(text).unwrap_err().source;
+    let expected = ["digit", "x", "v", "letter", "-", "+", "whitespace", ",", "&", "|", "end"].map(String::from).into();
+    assert_eq!(npm("^1.2.3.4").place(), Some(Place { start: 6, end: 8, expected }));
+    assert_eq!(npm("latest!").place(), Some(Place { start: 6, end: 7, expected: Vec::new() }));
+    // The text is the one that was given, with the whitespace around it.
+    assert_eq!(span(npm("\u{3000}\u{a0}^1..2 ")), Some((8, 10)));
+    let normalized = VersionReq::parse_from_normalized("1 || <é || 1..2").unwrap_err();
+    assert_eq!(span(normalized.source), Some((6, 9)));
+    let strict = |text| VersionReq::parse_from_specifier(text).unwrap_err().source;
+    assert_eq!((span(strict("")), span(strict("^99999999999999999999"))), (Some((0, 0)), None));
+    let version = |text| parse_npm_version(text).unwrap_err().source;
+    assert_eq!(version("1.2").place(), Some(Place { start: 3, end: 3, expected: Vec::new() }));
+    assert_eq!(span(version("\u{3000}1.é")), Some((5, 7)));
+    assert_eq!(span(version("1.99999999999999999999.3")), Some((21, 24)));
+}
+
+#[test]
+fn places_in_packages() {
+    let source = |text| match PackageReq::from_str(text).unwrap_err().source {
+        PackageReqPartsParseError::SpecifierVersionReq(error) => error.source,
+        error => panic!("{text}: {error}"),
+    };
+    assert_eq!(span(source("@a/é@^1..2")), Some((3, 5)));
+    let error = source("@a/b@1/c");
+    assert_eq!((error.code_snippet.as_deref(), span(error.clone())), (Some("/c"), None));
 }
 
 #[test]

@@ -7,7 +7,7 @@ use deno_semver_proved::lowest::{self, Lowest};
 use deno_semver_proved::npm::is_valid_npm_tag;
 use deno_semver_proved::package::{json, PackageReq};
 use deno_semver_proved::{
-    Grammar, InvalidRange, PreRelease, RangeBound, RangeSetOrTag, Version, VersionBoundKind, VersionRange, VersionReq,
+    Grammar, InvalidRange, Place, PreRelease, RangeBound, RangeSetOrTag, Version, VersionBoundKind, VersionRange, VersionReq,
     WILDCARD_VERSION_REQ,
 };
 use std::error::Error;
@@ -213,6 +213,28 @@ fn version_parts(version: &Version) -> String {
     format!(r#"yes{US}{{"build":[{build}],"major":"{major}","minor":"{minor}","patch":"{patch}","pre":[{pre}]}}"#)
 }
 
+/// The error of a range, as JSON. The crate has no call for those of alternatives that are left out, and of tags.
+fn range_error(name: &str, text: &str) -> Option<Answers> {
+    let error = match name {
+        "npm" => VersionReq::parse_from_npm(text).err()?.source,
+        "normalized" => VersionReq::parse_from_normalized(text).err()?.source,
+        _ => VersionReq::parse_from_specifier(text).err()?.source,
+    };
+    let Place { start, end, expected } = error.place().expect("the place is known");
+    let expected = expected.iter().map(|text| format!("{text:?}")).collect::<Vec<_>>().join(",");
+    let json = format!(r#"[{{"end":{end},"expected":[{expected}],"message":"{}","start":{start}}}]"#, error.message);
+    Some(answer(&["yes", &json]))
+}
+
+/// Where a text stops being a version.
+fn version_error(text: &str) -> Answers {
+    let start = match Version::parse_standard(text) {
+        Ok(_) => text.len(),
+        Err(error) => error.source.place().expect("the place is known").start,
+    };
+    answer(&["yes", &start.to_string()])
+}
+
 /// The canonical form, which the ranges have as well.
 fn normal(req: &VersionReq) -> String {
     assert_eq!(req.inner().to_string(), req.to_string_normalized());
@@ -272,6 +294,8 @@ fn ask(question: &[&str]) -> Option<Answers> {
         ["is_tag", grammar, text] => requirements(grammar, text).and_then(|all| each(all, |req| yes_or_no(req.tag().is_some()))),
         ["ranges", grammar, text] => requirements(grammar, text).and_then(|all| each(all, ranges)),
         ["version", text] => versions(text).and_then(|all| written(all, Version::to_string)),
+        ["errors", name, text] => return range_error(name, text),
+        ["version_error", text] => version_error(text),
         ["version_parts", text] => versions(text).and_then(|all| each(all, version_parts)),
         ["may_be_tag", text] => Ok(vec![yes_or_no(is_valid_npm_tag(text))]),
         ["package", grammar, text] => package(grammar, text),
