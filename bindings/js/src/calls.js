@@ -116,6 +116,22 @@ export function json() {
   return JSON.parse(text());
 }
 
+/** The index in a text of each byte of its UTF-8, and that of its end. */
+export function indexesOfBytes(text) {
+  const encoded = encoder.encode(text);
+  const indexes = new Uint32Array(encoded.length + 1);
+  encoded.forEach((byte, at) => {
+    indexes[at + 1] = indexes[at] + unitsOf(byte);
+  });
+  return indexes;
+}
+
+/** How many UTF-16 units a character has whose first byte this is; none if it's another byte. */
+function unitsOf(byte) {
+  if (byte >= 0xf0) return 2;
+  return (byte & 0xc0) === 0x80 ? 0 : 1;
+}
+
 /** The address of the value that the last call made. */
 export function handle() {
   return wasm.handle() >>> 0;

@@ -1,9 +1,8 @@
 // Errors, and the checks of arguments.
 
 import {
-  INVALID_RANGE, INVALID_VERSION, NOT_UTF8, NO_MEMORY, TAG, YES, isWellFormed, outOfMemory, text, wasm, write,
+  INVALID_RANGE, INVALID_VERSION, NOT_UTF8, NO_MEMORY, TAG, YES, ask2, indexesOfBytes, isWellFormed, json, outOfMemory, text, wasm, write,
 } from './calls.js';
-import { isTag, placeInRange } from './places.js';
 
 const GRAMMARS = new Map([['npm', 0], ['normalized', 1], ['strict', 2]]);
 
@@ -34,14 +33,31 @@ for (const [name, kind] of Object.entries({ RangeSyntaxError, VersionSyntaxError
   Object.defineProperty(kind.prototype, 'name', { value: name, configurable: true, writable: true });
 }
 
-// What a text is meant to be: the error of an invalid one, and the call that parses it, and writes a message where it's invalid.
-export const VERSION = { Problem: VersionSyntaxError, parse: (grammar, source) => wasm.version(write(source)) };
-export const RANGE = { Problem: RangeSyntaxError, parse: (grammar, source) => wasm.normal(grammar, write(source)) };
+// The kinds of texts: `Problem` is the error of an invalid one, `parse` the call that parses it or writes a message, and `place` finds
+// where it's invalid.
+export const VERSION = { Problem: VersionSyntaxError, parse: (grammar, source) => wasm.version(write(source)), place: placeInVersion };
+export const RANGE = { Problem: RangeSyntaxError, parse: (grammar, source) => wasm.normal(grammar, write(source)), place: placeInRange };
 export const PACKAGE = { Problem: PackageSyntaxError, parse: (grammar, source) => wasm.package(grammar, write(source)) };
 export const REFERENCE = { Problem: PackageSyntaxError, parse: (grammar, source) => wasm.reference(write(source)) };
 export const NAME_WITH_VERSION = { Problem: PackageSyntaxError, parse: (grammar, source) => wasm.name_with_version(write(source)) };
 export const VERSION_REFERENCE = { Problem: PackageSyntaxError, parse: (grammar, source) => wasm.version_reference(write(source)) };
 export const DEPENDENCY = { Problem: PackageSyntaxError, parse: (grammar, source) => wasm.dependency(grammar, write(source)) };
+
+function placeInVersion(grammar, source) {
+  if (wasm.version_error(write(source)) !== YES) throw outOfMemory();
+  return { start: indexesOfBytes(source)[wasm.place()], end: source.length };
+}
+
+function placeInRange(grammar, source) {
+  if (wasm.errors(grammar, write(source)) !== YES) throw outOfMemory();
+  const [first] = json();
+  return withIndexes(first, indexesOfBytes(source));
+}
+
+/** An error of the library's JSON, with indexes of the text instead of bytes. */
+export function withIndexes(error, indexes) {
+  return { ...error, start: indexes[error.start], end: indexes[error.end] };
+}
 
 /** Why a text of a kind is invalid, or null where it's valid. */
 export function reasonOf(kind, grammar, source) {
@@ -50,7 +66,7 @@ export function reasonOf(kind, grammar, source) {
   if (code === NO_MEMORY) throw outOfMemory();
   if (code === YES) return null;
   const message = text();
-  return { message, expected: [], ...(kind === RANGE && placeInRange(grammar, source, message)) };
+  return { expected: [], ...kind.place?.(grammar, source), message };
 }
 
 /** The error that a text of a kind is invalid; `index` is its place in a list. */
@@ -73,6 +89,13 @@ export function errorOf(code, grammar, ranges, versions = [], place = 0, isList 
     default:
       return outOfMemory();
   }
+}
+
+/** Whether the text is a tag, and not a range. */
+function isTag(grammar, text) {
+  const code = ask2(wasm.fits, grammar, text, '0.0.0', 0);
+  if (code === NO_MEMORY) throw outOfMemory();
+  return code === TAG;
 }
 
 function notEncodable(grammar, ranges, versions, isList) {

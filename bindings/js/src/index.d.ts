@@ -39,11 +39,11 @@ export interface Options extends GrammarOptions {
 export interface Diagnosis {
   /** What is wrong. */
   readonly message: string;
-  /** The index at which the text leaves the grammar, if it's known. */
+  /** The index at which a range or a version goes wrong; undefined of other texts, and where a text has a lone surrogate. */
   readonly start?: number;
-  /** The index behind the invalid part, if it's known. */
+  /** The index at which the version ends, or the alternative of a range with the whitespace behind it; undefined where `start` is. */
   readonly end?: number;
-  /** What could be at `start`: `digit`, `letter`, `whitespace`, `end`, or a text such as `.`. */
+  /** What could be at `start` in a range: `digit`, `letter`, `whitespace`, `end`, or a character such as `.`. */
   readonly expected: readonly string[];
 }
 
@@ -205,7 +205,7 @@ export interface Bound {
 
 /** An alternative of a range. */
 export interface ValidAlternative {
-  /** Its text. */
+  /** Its text, without the whitespace around it. */
   readonly text: string;
   /** Where it starts; null where it has no lower bound. */
   readonly start: Bound | null;
@@ -220,7 +220,7 @@ export interface ValidAlternative {
 
 /** An alternative that isn't valid, which npm's grammar leaves out. */
 export interface InvalidAlternative {
-  /** Its text. */
+  /** Its text, without the whitespace around it. */
   readonly text: string;
   /** Why it's invalid. The indexes are of the whole range. */
   readonly error: Diagnosis;

@@ -1,10 +1,10 @@
 // Versions and version ranges of npm and JSR.
 
-import { NO, NO_MEMORY, TAG, YES, ask1, ask2, json, outOfMemory, text, wasm, write } from './calls.js';
+import { NO, NO_MEMORY, TAG, YES, ask1, ask2, indexesOfBytes, json, outOfMemory, text, wasm, write } from './calls.js';
 import {
   DEPENDENCY, NAME_WITH_VERSION, PACKAGE, RANGE, REFERENCE, VERSION_REFERENCE, errorOf, expectString, invalid, kindOf, optionsOf, reasonOf,
+  withIndexes,
 } from './errors.js';
-import { alternativesOf } from './explain.js';
 import { askFits } from './held.js';
 import { filterList, findInList, linesOf, sortList } from './lists.js';
 import { compareTexts, versionText } from './versions.js';
@@ -94,9 +94,16 @@ export function canonical(range, options) {
 
 export function explain(range, options) {
   const { grammar, pre } = optionsOf(options);
-  const form = canonical(range, options && { grammar: options.grammar });
-  if (ask2(wasm.fits, grammar, range, '0.0.0', 0) === TAG) return { tag: form };
-  return { alternatives: alternativesOf(grammar, pre, range), canonical: form };
+  const code = ask1(wasm.explain, grammar, expectString(range, 'range'), pre);
+  if (code === TAG) return { tag: canonical(range, options) };
+  if (code !== YES) throw errorOf(code, grammar, [range]);
+  const { alternatives, normal } = json();
+  const indexes = indexesOfBytes(range);
+  return { alternatives: alternatives.map((it) => alternativeOf(it, indexes)), canonical: normal };
+}
+
+function alternativeOf({ text, error, start, end, lowest, 'pre-releases': preReleases }, indexes) {
+  return error ? { text, error: withIndexes(error, indexes) } : { text, start, end, preReleases, lowest };
 }
 
 export function diagnose(range, options) {

@@ -90,6 +90,8 @@ for (const [kind, semver] of [['ES modules', modules], ['CommonJS', common]]) {
     assert.equal(any.start ?? any.end, null);
     assert.deepEqual(semver.explain('latest'), { tag: 'latest' });
     assert.deepEqual(semver.explain('1 ||').alternatives.map(({ text }) => text), ['1']);
+    const { text, error } = semver.explain('é😀 ||1..2').alternatives[1];
+    assert.deepEqual([text, error.start, error.end], ['1..2', 8, 10]);
   });
 
   test(`${kind}: invalid texts`, () => {
@@ -101,8 +103,11 @@ for (const [kind, semver] of [['ES modules', modules], ['CommonJS', common]]) {
     assert.equal(attempt(() => semver.isSubset('1', '^1.2.3.4')).text, '^1.2.3.4');
     assert.equal(attempt(() => semver.common(['1', '2', '^1.2.3.4'])).text, '^1.2.3.4');
     assert.deepEqual([error.start, error.end], [6, 8]);
-    assert.deepEqual(error.expected, ['digit', 'x', 'v', 'letter', '-', '+', 'whitespace', ',', '&&', '||', 'end']);
-    assert.equal(attempt(() => semver.compare('1.0.0', '1')).text, '1');
+    assert.deepEqual(error.expected, ['digit', 'x', 'v', 'letter', '-', '+', 'whitespace', ',', '&', '|', 'end']);
+    assert.equal(semver.diagnose('é日!').start, 2);
+    assert.equal(semver.diagnose('1 || 1..2 || 1..3', { grammar: 'normalized' }).start, 7);
+    const { text, start, end } = attempt(() => semver.compare('1.0.0', '\u30001.2.é'));
+    assert.deepEqual([text, start, end], ['\u30001.2.é', 5, 6]);
     const item = attempt(() => semver.sort(['1.0.0', '1.x']));
     assert.deepEqual([item.name, item.text, item.index], ['VersionSyntaxError', '1.x', 1]);
     assert.ok(attempt(() => new Version('1.0.0-\ud800')) instanceof VersionSyntaxError);

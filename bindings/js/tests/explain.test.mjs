@@ -1,4 +1,4 @@
-// What `explain` and `diagnose` say, beside what `ranges explain` prints (tools/programs/ranges.jsonl), of whose answers most are proved.
+// What `explain` and `diagnose` say, beside what `ranges explain` prints: tools/programs/ranges.jsonl.
 
 import assert from 'node:assert/strict';
 import { readFileSync } from 'node:fs';

@@ -88,7 +88,9 @@ static int32_t ask(void) {
     ASK(common_all, FIRST, a, LAST);
     ASK(normal, FIRST, a);
     ASK(version, a);
-    ASK(ranges, FIRST, a);
+    ASK(explain, FIRST, a, LAST);
+    ASK(errors, FIRST, a);
+    ASK(version_error, a);
     ASK(version_parts, a);
     ASK(package, FIRST, a);
     ASK(reference, a);

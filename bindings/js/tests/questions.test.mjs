@@ -31,6 +31,13 @@ function sortedJson(parts) {
 const referenceJson = (parts) => sortedJson({ ...parts, package: packageJson(parts.package) });
 const nameJson = ({ name, scope, version }) => ({ name, scope, version });
 
+/** An error of a text in ASCII, whose indexes are those of its bytes. */
+const errorJson = ({ message, start, end, expected }) => ({ end, expected, message, start });
+
+function alternativeJson({ text, error, start, end, lowest, preReleases }) {
+  return error ? { error: errorJson(error), text } : { end, lowest, 'pre-releases': preReleases, start, text };
+}
+
 /** How the calls that name a grammar answer. */
 const WITH_GRAMMAR = {
   fits: (o, range, version) => yesIf(semver.matches(range, version, o)),
@@ -52,6 +59,16 @@ const WITH_GRAMMAR = {
   common_all: (o, text) => textOr(semver.common(linesOf(text), o)),
   min_version: (o, range) => textOr(semver.minVersion(range, o)),
   normal: (o, range) => ['yes', semver.canonical(range, o)],
+  explain: (o, range) => {
+    const { alternatives, canonical, tag } = semver.explain(range, o);
+    return tag === undefined ? ['yes', sortedJson({ alternatives: alternatives.map(alternativeJson), normal: canonical })] : ['tag'];
+  },
+  errors: (o, range) => {
+    const error = thrown(() => semver.explain(range, o));
+    if (error && error.start === undefined) throw error;
+    const errors = error ? [error] : semver.explain(range, o).alternatives.flatMap((it) => it.error ?? []);
+    return ['yes', JSON.stringify(errors.map(errorJson))];
+  },
   equal: (o, one, other) => yesIf(new Range(one, o).equals(new Range(other, o))),
   is_tag: (o, range) => yesIf(new Range(range, o).tag !== undefined),
   package: (o, text) => {
@@ -74,6 +91,11 @@ const CALLS = {
   },
   compare: (one, other) => orderOf(new Version(one).compare(other)),
   version: (text) => ['yes', String(new Version(text))],
+  version_error: (text) => {
+    const error = thrown(() => new Version(text));
+    if (error && error.start === undefined) throw error;
+    return ['yes', String(error ? error.start : text.length)];
+  },
   may_be_tag: (text) => yesIf(semver.mayBeTag(text)),
   reference: (text) => ['yes', referenceJson(semver.parseReference(text))],
   name_with_version: (text) => ['yes', sortedJson(nameJson(semver.parseNameWithVersion(text)))],
@@ -110,12 +132,17 @@ function problem(error, texts) {
   return [name, error.message, String(error.index ?? texts.indexOf(error.text))];
 }
 
+/** Whether the package answers in another way. */
+function isOther(name, [first, second]) {
+  if (name === 'may_be_tag') return !isEncodable(first); // no
+  if (name === 'version_parts') return /\d{16}/.test(first); // a RangeError: a number of JavaScript doesn't hold it
+  return name === 'errors' && thrown(() => semver.minVersion(second, { grammar: first }))?.name === 'TagError'; // a tag isn't an error
+}
+
 let count = 0;
 for (const [[name, ...given], expected] of rows) {
   const call = WITH_GRAMMAR[name] ?? CALLS[name];
-  // A text that has no UTF-8 isn't a tag, and numbers that a number of JavaScript doesn't hold are RangeErrors.
-  const isOther = (name === 'may_be_tag' && !isEncodable(given[0])) || (name === 'version_parts' && /\d{16}/.test(given[0]));
-  if (!call || isOther) continue;
+  if (!call || isOther(name, given)) continue;
   count++;
   test(JSON.stringify([name, ...given]), () => {
     const { texts, asked } = argumentsOf(name, given);

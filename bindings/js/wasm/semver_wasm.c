@@ -78,8 +78,10 @@ EXPORT(int32_t, best)(uint32_t grammar, uint32_t a, uint32_t b, uint32_t pre) { 
 EXPORT(int32_t, lowest)(uint32_t grammar, uint32_t a, uint32_t b, uint32_t pre) { return semver_lowest(grammar, TWO, pre, &found); }
 EXPORT(int32_t, min_version)(uint32_t grammar, uint32_t a, uint32_t pre) { WRITES(semver_min_version(grammar, ONE, pre, OUT)); }
 EXPORT(int32_t, normal)(uint32_t grammar, uint32_t a) { WRITES(semver_normal(grammar, ONE, OUT)); }
-EXPORT(int32_t, ranges)(uint32_t grammar, uint32_t a) { WRITES(semver_ranges(grammar, ONE, OUT)); }
+EXPORT(int32_t, explain)(uint32_t grammar, uint32_t a, uint32_t pre) { WRITES(semver_explain(grammar, ONE, pre, OUT)); }
+EXPORT(int32_t, errors)(uint32_t grammar, uint32_t a) { WRITES(semver_errors(grammar, ONE, OUT)); }
 EXPORT(int32_t, version)(uint32_t a) { WRITES(semver_version(ONE, OUT)); }
+EXPORT(int32_t, version_error)(uint32_t a) { return semver_version_error(ONE, &found); }
 EXPORT(int32_t, version_parts)(uint32_t a) { WRITES(semver_version_parts(ONE, OUT)); }
 EXPORT(int32_t, package)(uint32_t grammar, uint32_t a) { WRITES(semver_package(grammar, ONE, OUT)); }
 EXPORT(int32_t, reference)(uint32_t a) { WRITES(semver_reference(ONE, OUT)); }
