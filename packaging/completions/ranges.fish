@@ -1,7 +1,7 @@
 complete -c ranges -f
 complete -c ranges -n __fish_use_subcommand -a check -d 'Check the ranges of package.json, deno.json and import maps'
 complete -c ranges -n '__fish_seen_subcommand_from check' -s j -l json -d 'Print JSON'
-complete -c ranges -n '__fish_seen_subcommand_from check' -l github -d 'Print GitHub\'s annotations of a workflow'
+complete -c ranges -n '__fish_seen_subcommand_from check' -l github -d 'Print GitHub Actions annotations'
 complete -c ranges -n '__fish_seen_subcommand_from check' -s c -l canonical -d 'Print every range with its canonical form'
 complete -c ranges -n '__fish_seen_subcommand_from check' -l strict -d 'Exit with 1 on a warning'
 complete -c ranges -n '__fish_seen_subcommand_from check' -s q -l quiet -d 'Print no result, only errors'
@@ -39,7 +39,7 @@ complete -c ranges -n '__fish_seen_subcommand_from within' -s p -l pre -d 'Match
 complete -c ranges -n '__fish_seen_subcommand_from within' -s q -l quiet -d 'Print no result, only errors'
 complete -c ranges -n '__fish_seen_subcommand_from within' -s h -l help -d 'Print help'
 complete -c ranges -n '__fish_seen_subcommand_from within' -s V -l version -d 'Print version'
-complete -c ranges -n __fish_use_subcommand -a overlap -d 'Check whether the bounds of any two of the ranges overlap'
+complete -c ranges -n __fish_use_subcommand -a overlap -d 'Check whether the bounds of every two of the ranges overlap'
 complete -c ranges -n '__fish_seen_subcommand_from overlap' -s j -l json -d 'Print JSON'
 complete -c ranges -n '__fish_seen_subcommand_from overlap' -s g -l grammar -x -a 'npm normal strict' -d 'The grammar of ranges: npm\'s, the normalized one, or that of package specifiers [default: npm]'
 complete -c ranges -n '__fish_seen_subcommand_from overlap' -s q -l quiet -d 'Print no result, only errors'

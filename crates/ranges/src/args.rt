@@ -41,6 +41,7 @@ pub struct InputOptions {
 }
 
 impl Options {
+    /// The options among the arguments.
     pub fn of(matches: &ArgMatches<'_>) -> Options {
         let flavour = match matches.get_str("grammar") {
             Some("normal") => Flavour::Normal,
@@ -107,7 +108,7 @@ fn files<'a>(alloc: Global) -> Arg<'a> {
         .num_args(0..)
         .action(ArgAction::Append)
         .help(
-            "A package.json, deno.json, import map, or a range per line; standard input without any, and for -",
+            "A package.json, deno.json, import map, or a range per line; without any, or for -, standard input",
         )
 }
 
@@ -304,7 +305,7 @@ fn overlap<'a>(alloc: Global) -> Result<Command<'a>, AllocError> {
     on_ranges(
         alloc,
         "overlap",
-        "Check whether the bounds of any two of the ranges overlap",
+        "Check whether the bounds of every two of the ranges overlap",
         "\
 Examples:
   ranges overlap '^1.2' '>=1.5 <3'
@@ -353,7 +354,7 @@ Examples:
   ranges check package.json deno.json
   ranges check --strict --canonical packages/*/package.json",
     )?
-    .arg(long_flag(alloc, "github", "Print GitHub's annotations of a workflow"))?
+    .arg(long_flag(alloc, "github", "Print GitHub Actions annotations"))?
     .arg(flag(
         alloc,
         "canonical",

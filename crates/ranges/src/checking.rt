@@ -1,17 +1,18 @@
 //! `ranges check`: the ranges of package.json, deno.json, import maps and lists of ranges.
 
-use crate::advice::warnings;
+use crate::advice::{npm_warning, warnings};
 use crate::args::Options;
 use crate::console::{Console, Status, Stop, print_line};
 use crate::hints::{is_protocol, question};
 use crate::manifest::{Entry, Kind, Unreadable, entries};
 use crate::object::Object;
-use crate::pointing::{Pointer, errors_of};
+use crate::pointing::{add_error, errors_behind, errors_of, print_error};
 use answers::asking::Problem;
 use answers::explained::{Explanation, Meaning, Piece, explain};
 use answers::references::read_reference;
 use clap::ArgMatches;
 use deno_semver::PreRelease;
+use error_places::pieces::InvalidPiece;
 use semver_req::common::values::Flavour;
 use serde_json::Value;
 use std::alloc::{AllocError, Global};
@@ -59,7 +60,7 @@ struct Finding<'f> {
     level: Level,
     message: &'f str,
     /// Where the text is wrong.
-    errors: &'f [Pointer],
+    errors: &'f [InvalidPiece],
 }
 
 // A place in a file: the line and the column, counted from 1.
@@ -150,7 +151,7 @@ impl Report<'_> {
             .put_text("name", Some(entry.name.as_str()))
             .put_text("text", Some(entry.text.as_str()));
         if let [first, ..] = finding.errors {
-            json = first.add_to(alloc, json);
+            json = add_error(alloc, json, first);
         }
         json.into_json()
     }
@@ -220,7 +221,7 @@ impl Report<'_> {
             writeln!(console.out, "{start}{level}{end}: {subject}: {message}")?;
         }
         for error in finding.errors {
-            error.print(&mut console.out, style, entry.text.as_str())?;
+            print_error(&mut console.out, style, entry.text.as_str(), error)?;
         }
         Ok(())
     }
@@ -245,17 +246,24 @@ fn is_left_out(piece: &Piece) -> bool {
     matches!(piece.meaning, Meaning::LeftOut(_))
 }
 
+// Where the range that an entry's text is, or ends with, is wrong.
+fn errors_in(alloc: Global, entry: &Entry, range: &str) -> Result<Vec<InvalidPiece>, AllocError> {
+    let before = entry.text.len().saturating_sub(range.len());
+    errors_behind(alloc, Flavour::Npm, before, range)
+}
+
 // Reports that npm leaves alternatives out, and where each is wrong.
 fn check_left_out<O: Write, E: Write>(
     console: &mut Console<O, E>,
     report: &mut Report<'_>,
     entry: &Entry,
+    range: &str,
     pieces: &[Piece],
 ) -> Result<(), Stop> {
     if !pieces.iter().any(is_left_out) {
         return Ok(());
     }
-    let errors = errors_of(console.alloc, entry.text.as_str(), Flavour::Npm)?;
+    let errors = errors_in(console.alloc, entry, range)?;
     let finding = Finding {
         level: Level::Warning,
         message: "npm leaves out an alternative that isn't a range",
@@ -272,7 +280,6 @@ fn check_pieces<O: Write, E: Write>(
     pieces: &[Piece],
     normal: &str,
 ) -> Result<(), Stop> {
-    check_left_out(console, report, entry, pieces)?;
     let warnings = warnings(console.alloc, pieces)?;
     for warning in warnings.iter() {
         warn(console, report, entry, warning.as_str())?;
@@ -320,18 +327,42 @@ fn check_range<O: Write, E: Write>(
             None => Ok(()),
         },
         Ok(Explanation::Ranges { pieces, normal }) => {
+            check_left_out(console, report, entry, range, pieces.as_slice())?;
+            if let Some(warning) = npm_warning(range) {
+                warn(console, report, entry, warning)?;
+            }
             check_pieces(console, report, entry, pieces.as_slice(), normal.as_str())
         }
         Err(Problem::Invalid(_)) => {
-            let errors = errors_of(console.alloc, range, Flavour::Npm)?;
-            let is_whole = range.len() == entry.text.len();
+            let errors = errors_in(console.alloc, entry, range)?;
             let finding = Finding {
                 level: Level::Error,
                 message: "not a version range",
-                errors: if is_whole { errors.as_slice() } else { &[] },
+                errors: errors.as_slice(),
             };
             report.add(console, entry, finding)
         }
+        Err(Problem::OutOfMemory) => Err(Stop::OutOfMemory),
+    }
+}
+
+// Checks the range of a specifier, which is valid.
+fn check_requirement<O: Write, E: Write>(
+    console: &mut Console<O, E>,
+    report: &mut Report<'_>,
+    entry: &Entry,
+    range: &str,
+) -> Result<(), Stop> {
+    let flavour = Flavour::Specifier;
+    match explain(console.alloc, flavour, PreRelease::Restricted, range) {
+        Ok(Explanation::Tag(tag)) => match question(tag.as_str()) {
+            Some(question) => warn(console, report, entry, question),
+            None => Ok(()),
+        },
+        Ok(Explanation::Ranges { pieces, normal }) => {
+            check_pieces(console, report, entry, pieces.as_slice(), normal.as_str())
+        }
+        Err(Problem::Invalid(_)) => Ok(()),
         Err(Problem::OutOfMemory) => Err(Stop::OutOfMemory),
     }
 }
@@ -348,18 +379,15 @@ fn check_specifier<O: Write, E: Write>(
     }
     match read_reference(console.alloc, text) {
         Ok(reference) => {
-            let normal = reference
-                .reference
-                .req
-                .version_req
-                .to_string_normalized(console.alloc)?;
-            check_pieces(console, report, entry, &[], normal.as_str())
+            let range = reference.reference.req.version_req.version_text();
+            check_requirement(console, report, entry, range)
         }
         Err(Problem::Invalid(invalid)) => {
+            let errors = errors_of(console.alloc, Flavour::Specifier, text, &invalid)?;
             let finding = Finding {
                 level: Level::Error,
                 message: invalid.failure.message(),
-                errors: &[],
+                errors: errors.as_slice(),
             };
             report.add(console, entry, finding)
         }
@@ -411,6 +439,9 @@ fn check_file<R: Input + Files + AllocGlobal, O: Write, E: Write>(
     report: &mut Report<'_>,
 ) -> Result<(), Stop> {
     let file = report.file;
+    if file == "-" {
+        console.announce("ranges");
+    }
     let text = match read(rt, console.alloc, file) {
         Ok(text) => text,
         Err(error) if error.kind() == ErrorKind::OutOfMemory => return Err(Stop::OutOfMemory),
@@ -419,8 +450,11 @@ fn check_file<R: Input + Files + AllocGlobal, O: Write, E: Write>(
             return Ok(());
         }
     };
-    match entries(console.alloc, file, text.as_str()) {
-        Ok(entries) => check_entries(console, report, text.as_str(), entries.as_slice()),
+    // Some programs begin UTF-8 with a byte order mark.
+    let text = text.as_str();
+    let text = text.strip_prefix('\u{feff}').unwrap_or(text);
+    match entries(console.alloc, file, text) {
+        Ok(entries) => check_entries(console, report, text, entries.as_slice()),
         Err(Unreadable::OutOfMemory) => Err(Stop::OutOfMemory),
         Err(Unreadable::NoJson(line)) => {
             let message = format!(in console.alloc; "line {line} isn't valid JSON")?;

@@ -4,12 +4,13 @@ use crate::args::Options;
 use crate::console::{Console, Status, Stop, print_line};
 use crate::hints::question;
 use crate::object::Object;
-use crate::pointing::{Pointer, errors_of};
+use crate::pointing::{add_error, errors_of, print_error, version_errors};
 use answers::asking::{Answer, InvalidArgument, Kind, Problem};
 use answers::questions::{common_version, text_of_version, version_outside};
 use answers::reading::{range, ranges};
 use clap::ArgMatches;
-use deno_semver::{Version, VersionReq};
+use deno_semver::{ParseFailure, Version, VersionReq};
+use error_places::pieces::InvalidPiece;
 use serde_json::Value;
 use std::alloc::{AllocError, Global};
 use std::io::Write;
@@ -26,21 +27,30 @@ impl<O: Write, E: Write> Console<O, E> {
             return Err(Stop::OutOfMemory);
         };
         let argument = arguments.get(invalid.place).copied().unwrap_or("");
-        let errors = match invalid.kind {
-            Kind::Range => errors_of(self.alloc, argument, options.flavour)?,
-            _ => Vec::new(self.alloc),
-        };
+        let errors = errors_of(self.alloc, options.flavour, argument, invalid)?;
         if options.json {
             let json = error_json(self.alloc, argument, invalid, errors.as_slice());
             self.json(json)?;
             return Ok(Status::Rejected);
         }
         let status = self.reject_text(kind_name(invalid.kind), argument, invalid.failure.message());
-        for error in errors.iter() {
-            // What can't be written to standard error is left out.
-            let _ = error.print(&mut self.err, self.err_style, argument);
-        }
+        self.point(argument, errors.as_slice());
         Ok(status)
+    }
+
+    // Prints where a text is wrong. What can't be written to standard error is left out.
+    fn point(&mut self, text: &str, errors: &[InvalidPiece]) {
+        for error in errors {
+            let _ = print_error(&mut self.err, self.err_style, text, error);
+        }
+    }
+
+    /// Reports that an argument isn't a version, and where it goes wrong.
+    pub fn reject_version(&mut self, text: &str, failure: &ParseFailure) -> Result<(), Stop> {
+        let errors = version_errors(self.alloc, text)?;
+        self.reject_text("version", text, failure.message());
+        self.point(text, errors.as_slice());
+        Ok(())
     }
 
     /// Prints the tag that a range is.
@@ -105,14 +115,14 @@ fn error_json(
     alloc: Global,
     argument: &str,
     invalid: &InvalidArgument,
-    errors: &[Pointer],
+    errors: &[InvalidPiece],
 ) -> Result<Value, AllocError> {
     let mut error = Object::new(alloc)
         .put_text("kind", Some(kind_name(invalid.kind)))
         .put_text("argument", Some(argument))
         .put_text("message", Some(invalid.failure.message()));
     if let [first, ..] = errors {
-        error = first.add_to(alloc, error);
+        error = add_error(alloc, error, first);
     }
     Object::new(alloc)
         .put("error", error.into_json())

@@ -25,6 +25,7 @@ pub enum Status {
 }
 
 impl Status {
+    /// The exit status.
     pub fn code(self) -> u8 {
         match self {
             Status::Answered => 0,
@@ -55,25 +56,29 @@ pub enum Stop {
     Unread,
     /// Standard output can't be written.
     Unwritten,
+    /// Nobody reads standard output any more.
+    Closed,
     /// An argument isn't valid UTF-8.
     NoText,
 }
 
 impl Stop {
+    /// The status with which the program ends.
     pub fn status(self) -> Status {
         match self {
             Stop::OutOfMemory => Status::OutOfMemory,
-            Stop::Unread | Stop::Unwritten => Status::Broken,
+            Stop::Unread | Stop::Unwritten | Stop::Closed => Status::Broken,
             Stop::NoText => Status::Usage,
         }
     }
 
-    /// The message to print; none if output can't be written, as when a pipe is closed.
+    /// The message to print; none if a pipe is closed.
     pub fn message(self) -> Option<&'static str> {
         match self {
             Stop::OutOfMemory => Some("out of memory"),
             Stop::Unread => Some("standard input can't be read"),
-            Stop::Unwritten => None,
+            Stop::Unwritten => Some("standard output can't be written"),
+            Stop::Closed => None,
             Stop::NoText => Some("an argument isn't valid UTF-8"),
         }
     }
@@ -111,6 +116,7 @@ impl From<io::Error> for Stop {
     fn from(error: io::Error) -> Stop {
         match error.kind() {
             ErrorKind::OutOfMemory => Stop::OutOfMemory,
+            ErrorKind::BrokenPipe => Stop::Closed,
             _ => Stop::Unwritten,
         }
     }
@@ -141,18 +147,22 @@ impl Style {
         }
     }
 
+    /// What begins an error message.
     pub fn error(self) -> &'static str {
         self.code("\x1b[1;31m")
     }
 
+    /// What begins the word of a warning.
     pub fn warning(self) -> &'static str {
         self.code("\x1b[1;33m")
     }
 
+    /// What begins a caret and what is expected there.
     pub fn caret(self) -> &'static str {
         self.code("\x1b[1;32m")
     }
 
+    /// What begins the bounds of a range.
     pub fn bounds(self) -> &'static str {
         self.code("\x1b[36m")
     }
@@ -184,6 +194,7 @@ pub struct Console<O, E> {
 }
 
 impl<O, E> Console<O, E> {
+    /// A console over two streams.
     pub fn new(alloc: Global, out: O, err: E, terminal: Terminal) -> Console<O, E> {
         Console {
             alloc,

@@ -2,23 +2,22 @@
 
 use crate::args::Options;
 use crate::console::{Console, Status, Stop, Style, print_line};
-use crate::object::Object;
-use crate::pointing::{Pointer, errors_of};
+use crate::pointing::print_error;
+use answers::errors::errors;
 use answers::explained::{Explanation, Matches, Meaning, Piece, explain};
+use answers::explained_json::{next_error, ranges_explained};
 use clap::ArgMatches;
 use deno_semver::{PreRelease, RangeBound, Version, VersionBound, VersionBoundKind, VersionRange};
-use semver_base::failure::Rejection;
-use serde_json::Value;
-use std::alloc::{AllocError, Global};
+use error_places::pieces::InvalidPiece;
+use std::fmt;
 use std::io::Write;
-use std::{fmt, slice};
 
 // What is printed of a range: its text, its alternatives, the errors of the invalid ones, and its canonical form.
 #[derive(Clone, Copy)]
 struct Explained<'a> {
     text: &'a str,
     pieces: &'a [Piece],
-    errors: &'a [Pointer],
+    errors: &'a [InvalidPiece],
     normal: &'a str,
 }
 
@@ -64,28 +63,6 @@ fn only_version(range: &VersionRange) -> Option<&Version> {
     }
 }
 
-// The version of a bound that is a pre-release.
-fn pre_release_of(bound: &RangeBound) -> Option<&Version> {
-    match bound {
-        RangeBound::Version(bound) if !bound.version.pre.is_empty() => Some(&bound.version),
-        _ => None,
-    }
-}
-
-// The versions of whose three numbers pre-releases match; not the same numbers twice.
-fn pre_releases(matches: &Matches) -> (Option<&Version>, Option<&Version>) {
-    let range = &matches.range;
-    let first = pre_release_of(&range.start).filter(|_| matches.pre_of_start);
-    let second = pre_release_of(&range.end).filter(|_| matches.pre_of_end);
-    match (first, second) {
-        (Some(_), Some(version)) if range.start.has_pre_with_exact_major_minor_patch(version) => {
-            (first, None)
-        }
-        (None, second) => (second, None),
-        both => both,
-    }
-}
-
 // The three numbers of a version.
 #[derive(Clone, Copy)]
 struct Numbers<'a>(&'a Version);
@@ -108,13 +85,14 @@ impl fmt::Display for PreReleases<'_> {
         if self.pre_release == PreRelease::Admitted {
             return f.write_str("pre-releases included");
         }
-        match pre_releases(self.matches) {
+        match self.matches.pre_releases() {
             (Some(first), Some(second)) => {
                 let (first, second) = (Numbers(first), Numbers(second));
                 write!(f, "pre-releases of {first} and {second}")
             }
             (Some(only), None) => write!(f, "pre-releases of {}", Numbers(only)),
-            (None, _) => f.write_str("no pre-releases"),
+            (None, Some(only)) => write!(f, "pre-releases of {}", Numbers(only)),
+            (None, None) => f.write_str("no pre-releases"),
         }
     }
 }
@@ -163,134 +141,9 @@ fn what_matches<W: fmt::Write>(
     write!(f, "{colored}{bounds}{end}, {pre_releases}, lowest {lowest}")
 }
 
-fn bound_json(alloc: Global, bound: &RangeBound) -> Result<Value, AllocError> {
-    let RangeBound::Version(bound) = bound else {
-        return Ok(Value::Null);
-    };
-    let inclusive = bound.kind == VersionBoundKind::Inclusive;
-    Object::new(alloc)
-        .put("version", shown_json(alloc, &bound.version))
-        .put("inclusive", Ok(Value::Bool(inclusive)))
-        .into_json()
-}
-
-// The JSON of the text of a value.
-fn shown_json<T: fmt::Display>(alloc: Global, value: &T) -> Result<Value, AllocError> {
-    Ok(Value::String(format!(in alloc; "{value}")?))
-}
-
-// The three numbers of which pre-releases match, or `all`.
-fn pre_releases_json(
-    alloc: Global,
-    matches: &Matches,
-    pre_release: PreRelease,
-) -> Result<Value, AllocError> {
-    if pre_release == PreRelease::Admitted {
-        return Value::try_from_str(alloc, "all");
-    }
-    let (first, second) = pre_releases(matches);
-    let mut items = Vec::new(alloc);
-    push_numbers(alloc, &mut items, first)?;
-    push_numbers(alloc, &mut items, second)?;
-    Ok(Value::Array(items))
-}
-
-fn push_numbers(
-    alloc: Global,
-    items: &mut Vec<Value>,
-    version: Option<&Version>,
-) -> Result<(), AllocError> {
-    if let Some(version) = version {
-        items.push(shown_json(alloc, &Numbers(version))?)?;
-    }
-    Ok(())
-}
-
-fn lowest_json(alloc: Global, lowest: &Option<Version>) -> Result<Value, AllocError> {
-    match lowest {
-        Some(version) => shown_json(alloc, version),
-        None => Ok(Value::Null),
-    }
-}
-
-// Adds the range that a piece means.
-fn with_range(alloc: Global, json: Object, matches: &Matches, pre_release: PreRelease) -> Object {
-    json.put("start", bound_json(alloc, &matches.range.start))
-        .put("end", bound_json(alloc, &matches.range.end))
-        .put(
-            "pre-releases",
-            pre_releases_json(alloc, matches, pre_release),
-        )
-        .put("lowest", lowest_json(alloc, &matches.lowest))
-}
-
-// Why an alternative is left out, and where.
-fn error_json(
-    alloc: Global,
-    rejection: Rejection,
-    error: Option<&Pointer>,
-) -> Result<Value, AllocError> {
-    let json = Object::new(alloc).put_text("message", Some(rejection.message()));
-    match error {
-        Some(error) => error.add_to(alloc, json).into_json(),
-        None => json.into_json(),
-    }
-}
-
-fn piece_json(
-    alloc: Global,
-    piece: &Piece,
-    error: Option<&Pointer>,
-    pre_release: PreRelease,
-) -> Result<Value, AllocError> {
-    let json = Object::new(alloc).put_text("text", Some(piece.text.as_str().trim()));
-    let json = match &piece.meaning {
-        Meaning::Range(matches) => with_range(alloc, json, matches, pre_release),
-        Meaning::LeftOut(rejection) => json.put("error", error_json(alloc, *rejection, error)),
-    };
-    json.into_json()
-}
-
 // Whether an alternative is left out.
 fn is_left_out(piece: &Piece) -> bool {
     matches!(piece.meaning, Meaning::LeftOut(_))
-}
-
-// The next of the errors, if the alternative is left out.
-fn error_of<'a>(errors: &mut slice::Iter<'a, Pointer>, piece: &Piece) -> Option<&'a Pointer> {
-    if is_left_out(piece) {
-        errors.next()
-    } else {
-        None
-    }
-}
-
-fn alternatives_json(
-    alloc: Global,
-    explained: Explained<'_>,
-    pre_release: PreRelease,
-) -> Result<Value, AllocError> {
-    let mut errors = explained.errors.iter();
-    let mut items = Vec::new(alloc);
-    for piece in explained.pieces {
-        let error = error_of(&mut errors, piece);
-        items.push(piece_json(alloc, piece, error, pre_release)?)?;
-    }
-    Ok(Value::Array(items))
-}
-
-fn pieces_json(
-    alloc: Global,
-    explained: Explained<'_>,
-    pre_release: PreRelease,
-) -> Result<Value, AllocError> {
-    Object::new(alloc)
-        .put(
-            "alternatives",
-            alternatives_json(alloc, explained, pre_release),
-        )
-        .put_text("normal", Some(explained.normal))
-        .into_json()
 }
 
 // Prints that a range is a tag.
@@ -318,7 +171,13 @@ fn report_pieces<O: Write, E: Write>(
 ) -> Result<Status, Stop> {
     let pre_release = options.pre_release;
     if options.json {
-        let json = pieces_json(console.alloc, explained, pre_release);
+        let Explained {
+            pieces,
+            errors,
+            normal,
+            ..
+        } = explained;
+        let json = ranges_explained(console.alloc, pre_release, pieces, errors, normal);
         console.json(json)?;
     } else {
         print_pieces(&mut console.out, console.out_style, explained, pre_release)?;
@@ -336,7 +195,7 @@ fn print_pieces<O: Write>(
     explained: Explained<'_>,
     pre_release: PreRelease,
 ) -> Result<(), Stop> {
-    let mut errors = explained.errors.iter();
+    let mut errors = explained.errors;
     for piece in explained.pieces {
         let line = Line {
             piece,
@@ -344,9 +203,11 @@ fn print_pieces<O: Write>(
             style,
         };
         print_line(out, line)?;
-        if let Some(error) = error_of(&mut errors, piece) {
-            error.print(out, style, explained.text)?;
+        let (error, behind) = next_error(&piece.meaning, errors);
+        if let Some(error) = error {
+            print_error(out, style, explained.text, error)?;
         }
+        errors = behind;
     }
     print_line(out, format_args!("canonical form: {}", explained.normal))
 }
@@ -361,7 +222,7 @@ fn report_explanation<O: Write, E: Write>(
         Explanation::Tag(tag) => report_tag(console, options, tag.as_str()),
         Explanation::Ranges { pieces, normal } => {
             let errors = if pieces.iter().any(is_left_out) {
-                errors_of(console.alloc, text, options.flavour)?
+                errors(console.alloc, options.flavour, text)?
             } else {
                 Vec::new(console.alloc)
             };

@@ -62,6 +62,9 @@ fn hint_of(piece: &str) -> Option<&'static str> {
     if is_protocol(piece) {
         return Some("this is a protocol of package.json, not a range");
     }
+    if piece.ends_with(".txt") || piece.ends_with(".json") {
+        return Some("to read versions from a file, write `<` before its name");
+    }
     for (front, hint) in &FRONTS {
         if piece.starts_with(*front) {
             return Some(*hint);
@@ -145,7 +148,7 @@ fn version_question(tag: &str) -> Option<&'static str> {
     if tag.ends_with('-') {
         Some("is a version meant? A pre-release follows `-`")
     } else if tag.split('.').count() > 3 {
-        Some("is a version meant? It has three numbers")
+        Some("is a version meant? One has three numbers")
     } else {
         Some("is a version meant?")
     }

@@ -29,9 +29,7 @@ impl Place {
             return Err(Stop::OutOfMemory);
         }
         match self {
-            Place::Argument => {
-                console.reject_text("version", text, failure.message());
-            }
+            Place::Argument => console.reject_version(text, failure)?,
             Place::Line(number) => console.reject_input("line", number, text, failure.message()),
             Place::Item(number) => console.reject_input("item", number, text, failure.message()),
         }
@@ -84,7 +82,15 @@ fn take_one<O: Write, E: Write, T: Take>(
     }
 }
 
-// Takes a line of standard input; an empty line is passed over.
+// The text without the byte order mark with which some programs begin UTF-8.
+fn without_mark(text: &[u8]) -> &[u8] {
+    match text {
+        [0xef, 0xbb, 0xbf, rest @ ..] => rest,
+        _ => text,
+    }
+}
+
+// Takes a line of standard input; one without text is passed over.
 fn take_line<O: Write, E: Write, T: Take>(
     console: &mut Console<O, E>,
     taker: &mut T,
@@ -92,12 +98,20 @@ fn take_line<O: Write, E: Write, T: Take>(
     number: u64,
     line: &[u8],
 ) -> Result<bool, Stop> {
-    let Ok(text) = str::from_utf8(line) else {
+    let bytes = if number == 1 {
+        without_mark(line)
+    } else {
+        line
+    };
+    let Ok(text) = str::from_utf8(bytes) else {
+        if options.skip_invalid {
+            return Ok(true);
+        }
         console.reject_input("line", number, "", "The line isn't valid UTF-8.");
         return Ok(false);
     };
     let text = text.trim_end_matches(['\n', '\r', '\0'].as_slice());
-    if text.is_empty() {
+    if text.trim().is_empty() {
         return Ok(true);
     }
     take_one(console, taker, options, text, Place::Line(number))
@@ -122,8 +136,9 @@ fn take_json<O: Write, E: Write, T: Take>(
         number = number.saturating_add(1);
         match item.as_str() {
             Some(text) => all &= take_one(console, taker, options, text, Place::Item(number))?,
+            None if options.skip_invalid => (),
             None => {
-                console.reject_input("item", number, "", "The item isn't a text.");
+                console.reject_input("item", number, "", "The item isn't a string.");
                 all = false;
             }
         }
@@ -133,7 +148,7 @@ fn take_json<O: Write, E: Write, T: Take>(
 
 // Whether the text begins a JSON array or a JSON text.
 fn is_json(line: &[u8]) -> bool {
-    matches!(line.trim_ascii_start(), [b'[' | b'"', ..])
+    matches!(without_mark(line).trim_ascii_start(), [b'[' | b'"', ..])
 }
 
 // Takes all that the input holds, which begins with `line`, as JSON.
@@ -147,7 +162,7 @@ fn take_all_json<I: BufRead, O: Write, E: Write, T: Take>(
     if let Err(error) = input.read_to_end(line) {
         return Err(Stop::of_reading(error));
     }
-    let Ok(text) = str::from_utf8(line.as_slice()) else {
+    let Ok(text) = str::from_utf8(without_mark(line.as_slice())) else {
         console.complain("standard input", "it isn't valid UTF-8");
         return Ok(false);
     };

@@ -289,7 +289,7 @@ fn outdated_by<R: Input, O: Write, E: Write>(
     Ok(ended(all, status))
 }
 
-// Prints both versions; the status is 1 if they differ.
+// Prints both versions; the status is 1 if there is a higher one than that which matches.
 fn print_outdated<O: Write, E: Write>(
     console: &mut Console<O, E>,
     options: Options,
@@ -307,7 +307,7 @@ fn print_outdated<O: Write, E: Write>(
         let highest = highest.unwrap_or("none");
         print_line(&mut console.out, format_args!("{matching} {highest}"))?;
     }
-    if matching == highest {
+    if highest.is_none() || matching == highest {
         Ok(Status::Answered)
     } else {
         Ok(Status::Nothing)

@@ -3,9 +3,13 @@
 use crate::console::{Stop, Style};
 use crate::hints::hint;
 use crate::object::Object;
-use deno_semver::npm::is_valid_npm_tag;
-use error_places::expected::{KINDS, Kind, is_expected, may_end};
-use error_places::pieces::{InvalidPiece, invalid_pieces};
+use answers::asking::{InvalidArgument, Kind as ArgumentKind, Problem};
+use answers::errors::{errors, expected_json};
+use answers::reading::range;
+use error_places::causes::Cause;
+use error_places::expected::{Expected, Kind};
+use error_places::pieces::InvalidPiece;
+use error_places::versions::{version_error_place, version_may_follow};
 use semver_base::failure::ParseFailure;
 use semver_req::common::values::Flavour;
 use serde_json::Value;
@@ -21,189 +25,168 @@ const BEFORE: usize = 60;
 
 const AFTER: usize = 40;
 
-// What is wrong at a place.
-#[derive(Drop)]
-enum Fault {
-    // The text leaves the grammar; one of these kinds could stand there, or the text could end.
-    Unexpected(Vec<Kind>, bool),
-    // No range begins like this, and a tag can't have this character.
-    NoTag,
-    // A number is too large, or a bound.
-    TooLarge,
-}
-
-/// The error of an alternative, by indexes into the text.
-#[derive(Drop)]
-pub struct Pointer {
-    start: usize,
-    end: usize,
-    place: usize,
-    fault: Fault,
-}
-
 // The part of a text between two indexes.
 fn part(text: &str, start: usize, end: usize) -> &str {
     text.get(start..end).unwrap_or("")
 }
 
-// The index of the first character that a tag can't have.
-fn tag_error(text: &str) -> Option<usize> {
-    for (index, c) in text.char_indices() {
-        let rest = part(text, index, index.saturating_add(c.len_utf8()));
-        if !is_valid_npm_tag(rest) {
-            return Some(index);
-        }
+// The part of the text that is shown for an error at the place.
+fn window(text: &str, place: usize) -> (usize, usize) {
+    if text.len() <= LONG {
+        return (0, text.len());
     }
-    None
+    let start = text.floor_char_boundary(place.saturating_sub(BEFORE));
+    let end = text.floor_char_boundary(place.saturating_add(AFTER));
+    (start, end)
 }
 
-// The index of the first number that exceeds 18446744073709551615, outside pre-releases and builds.
-fn large_number(text: &str) -> Option<usize> {
-    let (mut start, mut was_digit, mut is_qualifier) = (0, false, false);
-    for (index, c) in text.char_indices() {
-        let is_digit = c.is_ascii_digit();
-        if is_digit && !was_digit {
-            start = index;
-        }
-        if was_digit && (matches!(c, '-' | '+') || c.is_ascii_alphabetic()) {
-            is_qualifier = true;
-        } else if !c.is_ascii_alphanumeric() && !matches!(c, '-' | '+' | '.') {
-            is_qualifier = false;
-        }
-        let number = part(text, start, index.saturating_add(1));
-        if is_digit && !is_qualifier && number.parse::<u64>().is_err() {
-            return Some(start);
-        }
-        was_digit = is_digit;
-    }
-    None
-}
+// What may follow in a version's text, in the order in which it is listed.
+const OF_VERSIONS: [Kind; 8] = [
+    Kind::Digit,
+    Kind::V,
+    Kind::Letter,
+    Kind::Dot,
+    Kind::Hyphen,
+    Kind::Plus,
+    Kind::Equals,
+    Kind::Space,
+];
 
-// What could follow the prefix.
-fn expected(alloc: Global, prefix: &str, flavour: Flavour) -> Result<Fault, ParseFailure> {
+// What may follow the prefix of a version.
+fn expected_in_version(alloc: Global, prefix: &str) -> Result<Expected, ParseFailure> {
     let mut kinds = Vec::new(alloc);
-    for kind in &KINDS {
-        if is_expected(alloc, prefix, *kind, flavour)? && kinds.push(*kind).is_err() {
-            return Err(AllocError.into());
+    for kind in &OF_VERSIONS {
+        if version_may_follow(alloc, prefix, kind.text())? && kinds.push(*kind).is_err() {
+            return Err(ParseFailure::memory());
         }
     }
-    let ends = may_end(alloc, prefix, flavour)?;
-    Ok(Fault::Unexpected(kinds, ends))
-}
-
-// The place in an invalid alternative, and what is wrong there; the grammar's own place is given.
-fn fault_of(
-    alloc: Global,
-    piece: &str,
-    place: usize,
-    flavour: Flavour,
-) -> Result<(usize, Fault), ParseFailure> {
-    if may_end(alloc, piece, flavour)? {
-        return Ok((large_number(piece).unwrap_or(0), Fault::TooLarge));
-    }
-    match tag_error(piece) {
-        Some(index) if place == 0 && index > 0 => Ok((index, Fault::NoTag)),
-        _ => Ok((place, expected(alloc, part(piece, 0, place), flavour)?)),
-    }
-}
-
-// The error of an alternative of a text of which the grammar splits the part behind `skipped`.
-fn pointer_of(
-    alloc: Global,
-    text: &str,
-    skipped: usize,
-    piece: InvalidPiece,
-    flavour: Flavour,
-) -> Result<Pointer, ParseFailure> {
-    let start = piece.start.saturating_add(skipped);
-    let end = piece.end.saturating_add(skipped);
-    let place = piece.place.saturating_sub(piece.start);
-    let (place, fault) = fault_of(alloc, part(text, start, end), place, flavour)?;
-    Ok(Pointer {
-        start,
-        end,
-        place: start.saturating_add(place),
-        fault,
+    Ok(Expected {
+        kinds,
+        may_end: false,
     })
 }
 
-fn pointers(alloc: Global, text: &str, flavour: Flavour) -> Result<Vec<Pointer>, ParseFailure> {
-    // npm's grammar trims a text before it splits it.
-    let (split, skipped) = match flavour {
-        Flavour::Npm => {
-            let from = text.trim_start();
-            (text.trim(), text.len().saturating_sub(from.len()))
-        }
-        _ => (text, 0),
-    };
-    let pieces = invalid_pieces(alloc, split, flavour)?;
-    let mut all = Vec::new(alloc);
-    for piece in pieces.iter() {
-        let pointer = pointer_of(alloc, text, skipped, *piece, flavour)?;
-        if all.push(pointer).is_err() {
-            return Err(AllocError.into());
-        }
-    }
-    Ok(all)
+// Where a text stops being a version, and what is expected there.
+fn version_error(alloc: Global, text: &str) -> Result<InvalidPiece, ParseFailure> {
+    let place = version_error_place(alloc, text)?;
+    let expected = expected_in_version(alloc, part(text, 0, place))?;
+    Ok(InvalidPiece {
+        start: 0,
+        end: text.len(),
+        place,
+        cause: Cause::Unexpected(expected),
+    })
 }
 
-/// The errors of the invalid alternatives of a text, in their order.
-pub fn errors_of(alloc: Global, text: &str, flavour: Flavour) -> Result<Vec<Pointer>, AllocError> {
-    match pointers(alloc, text, flavour) {
-        Ok(pointers) => Ok(pointers),
+// Where the range of a package or a reference starts and ends: behind the last `@` that doesn't begin the text, up to a path.
+fn range_in_package(text: &str) -> Option<(usize, usize)> {
+    let at = text.rfind('@').filter(|at| *at > 0)?;
+    let start = at.saturating_add(1);
+    let len = part(text, start, text.len()).find('/');
+    let end = len.map_or(text.len(), |len| start.saturating_add(len));
+    Some((start, end))
+}
+
+// Whether the range is invalid, and this is the message.
+fn is_reason(
+    alloc: Global,
+    flavour: Flavour,
+    range_text: &str,
+    message: &str,
+) -> Result<bool, AllocError> {
+    match range(alloc, flavour, 0, range_text) {
+        Ok(_) => Ok(false),
+        Err(Problem::Invalid(invalid)) => Ok(invalid.failure.message() == message),
+        Err(Problem::OutOfMemory) => Err(AllocError),
+    }
+}
+
+// The errors of the range of a package or a reference; none if something else is wrong.
+fn package_errors(
+    alloc: Global,
+    flavour: Flavour,
+    text: &str,
+    message: &str,
+) -> Result<Vec<InvalidPiece>, AllocError> {
+    let Some((start, end)) = range_in_package(text) else {
+        return Ok(Vec::new(alloc));
+    };
+    let range_text = part(text, start, end);
+    if !is_reason(alloc, flavour, range_text, message)? {
+        return Ok(Vec::new(alloc));
+    }
+    errors_behind(alloc, flavour, start, range_text)
+}
+
+/// The errors of the range that stands behind so many bytes of a text.
+pub fn errors_behind(
+    alloc: Global,
+    flavour: Flavour,
+    start: usize,
+    range_text: &str,
+) -> Result<Vec<InvalidPiece>, AllocError> {
+    let mut found = errors(alloc, flavour, range_text)?;
+    for error in found.iter_mut() {
+        error.start = error.start.saturating_add(start);
+        error.end = error.end.saturating_add(start);
+        error.place = error.place.saturating_add(start);
+    }
+    Ok(found)
+}
+
+/// Where an argument is invalid: the invalid alternatives of a range, also of one in a package, and where a version goes wrong.
+pub fn errors_of(
+    alloc: Global,
+    flavour: Flavour,
+    text: &str,
+    invalid: &InvalidArgument,
+) -> Result<Vec<InvalidPiece>, AllocError> {
+    let message = invalid.failure.message();
+    match invalid.kind {
+        ArgumentKind::Range => errors(alloc, flavour, text),
+        ArgumentKind::Package => package_errors(alloc, flavour, text, message),
+        ArgumentKind::Reference => package_errors(alloc, Flavour::Specifier, text, message),
+        ArgumentKind::Version => version_errors(alloc, text),
+    }
+}
+
+/// Where a text that isn't a version goes wrong.
+pub fn version_errors(alloc: Global, text: &str) -> Result<Vec<InvalidPiece>, AllocError> {
+    match version_error(alloc, text) {
+        Ok(error) => Ok(vec![in alloc; error]?),
         // Only out of memory.
         Err(_) => Err(AllocError),
     }
 }
 
-impl Pointer {
-    // The part of the text that is shown.
-    fn window(&self, text: &str) -> (usize, usize) {
-        if text.len() <= LONG {
-            return (0, text.len());
-        }
-        let start = text.floor_char_boundary(self.place.saturating_sub(BEFORE));
-        let end = text.floor_char_boundary(self.place.saturating_add(AFTER));
-        (start, end)
+/// Prints the text with a caret under the place of an error, what is expected there, and a hint if there is one. A text with control
+/// characters isn't shown.
+pub fn print_error<O: Write>(
+    out: &mut O,
+    style: Style,
+    text: &str,
+    error: &InvalidPiece,
+) -> Result<(), Stop> {
+    if !text.chars().any(|c| c.is_control() && c != '\t') {
+        let (start, end) = window(text, error.place);
+        let before = part(text, start, error.place);
+        writeln!(out, "  | {before}{}", part(text, error.place, end))?;
+        let (caret, end) = (style.caret(), style.end());
+        let expectation = Expectation(error, text);
+        writeln!(out, "  | {}{caret}^ {expectation}{end}", Padding(before))?;
     }
+    let piece = part(text, error.start, error.end);
+    match hint(piece, error.place.saturating_sub(error.start)) {
+        Some(hint) => Ok(writeln!(out, "  = {hint}")?),
+        None => Ok(()),
+    }
+}
 
-    /// Prints the text with a caret under the place, what is expected there, and a hint if there is one. A text with control
-    /// characters isn't shown.
-    pub fn print<O: Write>(&self, out: &mut O, style: Style, text: &str) -> Result<(), Stop> {
-        if !text.chars().any(|c| c.is_control() && c != '\t') {
-            let (start, end) = self.window(text);
-            let before = part(text, start, self.place);
-            writeln!(out, "  | {before}{}", part(text, self.place, end))?;
-            let (caret, end) = (style.caret(), style.end());
-            let expectation = Expectation(self, text);
-            writeln!(out, "  | {}{caret}^ {expectation}{end}", Padding(before))?;
-        }
-        let piece = part(text, self.start, self.end);
-        match hint(piece, self.place.saturating_sub(self.start)) {
-            Some(hint) => Ok(writeln!(out, "  = {hint}")?),
-            None => Ok(()),
-        }
-    }
-
-    /// Adds the place, and what is expected there.
-    pub fn add_to(&self, alloc: Global, json: Object) -> Object {
-        json.put("start", Ok(Value::from(self.place)))
-            .put("end", Ok(Value::from(self.end)))
-            .put("expected", self.expected_json(alloc))
-    }
-
-    fn expected_json(&self, alloc: Global) -> Result<Value, AllocError> {
-        let mut items = Vec::new(alloc);
-        if let Fault::Unexpected(kinds, ends) = &self.fault {
-            for kind in kinds.iter() {
-                items.push(Value::try_from_str(alloc, name_of(*kind))?)?;
-            }
-            if *ends {
-                items.push(Value::try_from_str(alloc, "end")?)?;
-            }
-        }
-        Ok(Value::Array(items))
-    }
+/// Adds the place of an error, and what is expected there.
+pub fn add_error(alloc: Global, json: Object, error: &InvalidPiece) -> Object {
+    json.put("start", Ok(Value::from(error.place)))
+        .put("end", Ok(Value::from(error.end)))
+        .put("expected", expected_json(alloc, &error.cause))
 }
 
 // As many columns as a text takes; tabs stay tabs.
@@ -224,31 +207,21 @@ impl fmt::Display for Padding<'_> {
     }
 }
 
-// The name of a kind in JSON.
-fn name_of(kind: Kind) -> &'static str {
-    match kind {
-        Kind::Digit => "digit",
-        Kind::Letter => "letter",
-        Kind::Space => "whitespace",
-        kind => kind.text(),
-    }
-}
-
 // What is expected at a place, in plain words.
 #[derive(Clone, Copy)]
-struct Expectation<'a>(&'a Pointer, &'a str);
+struct Expectation<'a>(&'a InvalidPiece, &'a str);
 
 impl fmt::Display for Expectation<'_> {
     fn fmt<W: fmt::Write>(&self, f: &mut fmt::Formatter<W>) -> fmt::Result {
-        let Expectation(pointer, text) = self;
-        match &pointer.fault {
-            Fault::TooLarge => f.write_str("the number, or the bound that it raises, is too large"),
-            Fault::NoTag => f.write_str("neither a range nor a tag goes on like this"),
-            Fault::Unexpected(kinds, ends) => {
+        let Expectation(error, text) = self;
+        match &error.cause {
+            Cause::NumberTooLarge => f.write_str("the number exceeds 18446744073709551615"),
+            Cause::BoundTooLarge => f.write_str("a bound exceeds 18446744073709551615"),
+            Cause::NoTag => f.write_str("neither a range nor a tag goes on like this"),
+            Cause::Unexpected(expected) => {
                 let names = Names {
-                    kinds: kinds.as_slice(),
-                    ends: *ends,
-                    before: part(text, 0, pointer.place),
+                    expected,
+                    before: part(text, 0, error.place),
                 };
                 write!(f, "expected {names}")
             }
@@ -259,21 +232,17 @@ impl fmt::Display for Expectation<'_> {
 // What could stand behind a text, as a list.
 #[derive(Clone, Copy)]
 struct Names<'a> {
-    kinds: &'a [Kind],
-    ends: bool,
+    expected: &'a Expected,
     before: &'a str,
 }
 
 impl Names<'_> {
     fn has(&self, kind: Kind) -> bool {
-        self.kinds.contains(&kind)
+        self.expected.kinds.as_slice().contains(&kind)
     }
 
-    // The name of a kind, if it is to be listed; a comparator includes all that one may begin with.
+    // The name of an expected kind, if it is to be listed; a comparator includes all that one may begin with.
     fn name(&self, kind: Kind) -> Option<&'static str> {
-        if !self.has(kind) {
-            return None;
-        }
         let has_comparators = self.has(Kind::Tilde);
         match kind {
             Kind::Digit if has_comparators => Some("a comparator"),
@@ -311,10 +280,15 @@ fn quoted(kind: Kind) -> &'static str {
 
 impl fmt::Display for Names<'_> {
     fn fmt<W: fmt::Write>(&self, f: &mut fmt::Formatter<W>) -> fmt::Result {
-        let end = if self.ends { Some("the end") } else { None };
+        let end = if self.expected.may_end {
+            Some("the end")
+        } else {
+            None
+        };
         let mut last = None;
         let mut is_first = true;
-        for name in KINDS.iter().filter_map(|kind| self.name(*kind)).chain(end) {
+        let kinds = self.expected.kinds.iter();
+        for name in kinds.filter_map(|kind| self.name(*kind)).chain(end) {
             if let Some(last) = last.replace(name) {
                 separate(f, &mut is_first, ", ")?;
                 f.write_str(last)?;
