@@ -55,6 +55,7 @@ pub struct Answer {
 }
 
 impl Answer {
+    /// Starts a report without items.
     pub fn new(alloc: Global) -> Answer {
         Answer {
             alloc,
@@ -76,10 +77,12 @@ impl Answer {
         Ok(answer)
     }
 
+    /// The allocator of the items.
     pub fn alloc(&self) -> Global {
         self.alloc
     }
 
+    /// The items so far.
     pub fn items(&self) -> &Vec<Item> {
         &self.items
     }
@@ -91,6 +94,7 @@ impl Answer {
         }
     }
 
+    /// Reports a text.
     pub fn text(&mut self, text: &str) -> Reported {
         match String::from_str(self.alloc, text) {
             Ok(text) => self.push(Some(text)),
@@ -98,6 +102,7 @@ impl Answer {
         }
     }
 
+    /// Reports texts, an item each.
     pub fn texts(&mut self, texts: &[&str]) -> Reported {
         for text in texts {
             self.text(text)?;
@@ -124,10 +129,12 @@ impl Answer {
         self.made(format!(in self.alloc; "{value}"))
     }
 
+    /// Reports `yes` or `no`.
     pub fn yes_or_no(&mut self, holds: bool) -> Reported {
         self.text(if holds { "yes" } else { "no" })
     }
 
+    /// Reports the order of two values: `less`, `equal` or `greater`.
     pub fn order(&mut self, order: Ordering) -> Reported {
         self.text(match order {
             Ordering::Less => "less",

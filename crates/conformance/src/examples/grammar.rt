@@ -10,6 +10,7 @@ use semver_req::common;
 use semver_req::common::values::{Flavour, PrimitiveKind};
 use std::alloc::Global;
 
+/// Whether partial versions are parsed behind the first character of a text, by each grammar.
 pub fn partial_at(alloc: Global) -> Holds {
     let holds = is_partial(alloc, Flavour::Npm, "^v1.2.3b,", ">=1.2.3-b <=1.2.3-b", ",")?
         && is_partial(alloc, Flavour::Normal, "^01.x", ">=1.0.0 <2.0.0", ".x")?
@@ -43,6 +44,7 @@ fn is_partial(alloc: Global, flavour: Flavour, text: &str, range: &str, rest: &s
     }
 }
 
+/// Whether the pre-release and the build behind the first character of a text are parsed, by each grammar.
 pub fn qualifier_at(alloc: Global) -> Holds {
     let holds = is_qualifier(alloc, Flavour::Npm, "3a.b+c d", "0.0.0-a.b+c", " d")?
         && is_qualifier(alloc, Flavour::Normal, "b+c d", "0.0.0+c", " d")?
@@ -65,6 +67,7 @@ fn is_qualifier(alloc: Global, flavour: Flavour, text: &str, version: &str, rest
     Ok(same && &text[reached..] == rest)
 }
 
+/// Whether an operator and a partial version behind the first character of a text have their range.
 pub fn comparator_at(alloc: Global) -> Holds {
     let holds = is_comparator(alloc, Flavour::Npm, "1<  1", ">=0.0.0 <1.0.0")?
         && is_comparator(alloc, Flavour::Npm, "1>01.x.3", ">=2.0.3")?
@@ -92,6 +95,7 @@ fn is_comparator(alloc: Global, flavour: Flavour, text: &str, range: &str) -> Ho
     }
 }
 
+/// Whether an operator behind the first character of a text is found, with its end.
 pub fn sign_at() -> Holds {
     let holds = kind_in(">>=1") == Some((PrimitiveKind::GreaterThanOrEqual, 3))
         && kind_in("1<  1") == Some((PrimitiveKind::LessThan, 2))
@@ -106,6 +110,7 @@ fn kind_in(text: &str) -> Option<(PrimitiveKind, usize)> {
     common::primitive_kind(text, 1)
 }
 
+/// Whether `||` and `&&` behind the first character of a text are found, with their ends.
 pub fn operator_at() -> Holds {
     let holds = operators_in("1 || 2 || 3") == [Some(5), None]
         && operators_in("1 && 2") == [None, Some(5)]

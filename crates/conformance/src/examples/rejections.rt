@@ -15,6 +15,7 @@ use deno_semver::{ParseFailure, Rejection, Version, VersionReq};
 use std::alloc::{AllocError, Global};
 use std::fmt::Display;
 
+/// Whether failures made by hand have their message and snippet, and are copied and compared by them.
 pub fn failure(alloc: Global) -> Holds {
     let failure = made(ParseFailure::with_texts(alloc, "the message of a failure", Some("here")))?;
     let other = made(ParseFailure::with_texts(alloc, "the message of a failure", None))?;
@@ -35,6 +36,7 @@ fn made(failure: ParseFailure) -> OrFault<ParseFailure> {
     Ok(failure)
 }
 
+/// Whether the errors of the parts of a package print their lines.
 pub fn of_parts(alloc: Global) -> Holds {
     let line = "Packages in the format <scope>/<name> must start with an '@' symbol";
     let holds = displays(
@@ -46,6 +48,7 @@ pub fn of_parts(alloc: Global) -> Holds {
     Ok(holds && displays(alloc, &PartsError::InvalidPackageName, line)?)
 }
 
+/// Whether each error prints that memory ran out.
 pub fn out_of_memory(alloc: Global) -> Holds {
     let line = "Out of memory.";
     let holds = displays(alloc, &ParseFailure::memory(), line)?
@@ -65,6 +68,7 @@ fn prints<E: Display + Drop>(alloc: Global, error: Result<E, AllocError>, line: 
     Ok(holds?)
 }
 
+/// Whether the errors of versions print their lines.
 pub fn of_versions(alloc: Global) -> Holds {
     let standard = Version::parse_standard(alloc, "foo").err();
     let npm = parse_npm_version(alloc, "1.0").err();
@@ -80,6 +84,7 @@ const NORMAL: &str = "Invalid normalized version requirement";
 
 const STRICT: &str = "Invalid specifier version requirement";
 
+/// Whether the errors of version requirements print their lines, by each grammar.
 pub fn of_requirements(alloc: Global) -> Holds {
     let npm = parse_npm_version_req(alloc, "1 | 2").err();
     let normal = VersionReq::parse_from_normalized(alloc, "1 | 2").err();
@@ -118,6 +123,7 @@ fn is_rejected<T: Drop, E: Report + Display>(
 const PATH: &str =
     "Invalid package specifier 'jsr:@a/b/c@1'. Did you mean to write 'jsr:@a/b@1/c'? If not, add a version requirement to the specifier.";
 
+/// Whether the errors of packages, dependencies and names with versions print their lines.
 pub fn of_packages(alloc: Global) -> Holds {
     let package = PackageReq::from_str_loose(alloc, "a@foo bar");
     let holds = is_rejected(alloc, package, "Invalid package requirement 'a@foo bar'")?;
@@ -129,6 +135,7 @@ pub fn of_packages(alloc: Global) -> Holds {
     Ok(is_rejected(alloc, nv, line)? && holds)
 }
 
+/// Whether the errors of references print their lines.
 pub fn of_references(alloc: Global) -> Holds {
     let reference = JsrPackageReqReference::from_str(alloc, "npm:a");
     let holds = is_rejected(alloc, reference, "Not jsr: specifier")?;

@@ -5,6 +5,7 @@ use semver_base::string::{CowItem, CowVec, SmallStackString, StackString, String
 use std::alloc::{AllocError, Global};
 use std::borrow::CowStr;
 
+/// Whether texts are the same however they are made: copied, taken over, or converted.
 pub fn made(alloc: Global) -> Holds {
     let holds = is_made(alloc, "")?
         && is_made(alloc, "ééééééééééé")?
@@ -25,6 +26,7 @@ fn is_made(alloc: Global, text: &str) -> Result<bool, AllocError> {
     Ok(holds)
 }
 
+/// Whether texts that grow beyond what is stored in the value hold what was pushed.
 pub fn pushed(alloc: Global) -> Holds {
     let holds = keeps::<SmallStackString>(alloc, "aaaaaaaaaaaaaa", "é", "aaaaaaaaaaaaaaé")?
         && keeps::<StackString>(
@@ -37,7 +39,7 @@ pub fn pushed(alloc: Global) -> Holds {
     Ok(holds)
 }
 
-// Takes no memory, since the texts are stored in the values.
+/// Whether texts that fit into the value hold what was pushed, for which they take no memory.
 pub fn in_value(alloc: Global) -> Holds {
     let holds = keeps::<SmallStackString>(alloc, "1234567890", "12345", "123456789012345")?
         && keeps::<SmallStackString>(alloc, "", "ééééééé", "ééééééé")?
@@ -96,7 +98,7 @@ fn many(alloc: Global, count: usize) -> Result<CowVec<SmallStackString>, AllocEr
     Ok(items)
 }
 
-// Pushing to a copy of a list leaves the list unchanged.
+/// Whether pushing to a copy of a list leaves the list unchanged.
 pub fn grown(alloc: Global) -> Holds {
     let items = many(alloc, 1_000)?;
     let mut longer = items.copy()?;
@@ -109,7 +111,7 @@ pub fn grown(alloc: Global) -> Holds {
     Ok(holds)
 }
 
-// A copy of a list shares its items, and takes no memory.
+/// Whether copies of lists, which share their items, succeed without memory.
 pub fn copy_succeeds(alloc: Global) -> Holds {
     let (one, two, many) = (many(alloc, 1)?, many(alloc, 2)?, many(alloc, 1_000)?);
     Ok(one.copy().is_ok() && two.copy().is_ok() && many.copy().is_ok())

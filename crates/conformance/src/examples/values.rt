@@ -15,6 +15,7 @@ use deno_semver::{PackageTag, RangeSetOrTag, SmallStackString, VersionReq, wildc
 use serde_json::Value;
 use std::alloc::{AllocError, Global};
 
+/// Whether references have their URL, or the error that they have none.
 pub fn specifier(alloc: Global) -> Holds {
     let holds = is_url::<JsrRegistry>(alloc, "jsr:@s/a@1.0.0/mod.ts", "jsr:/@s/a@1.0.0/mod.ts")?
         && is_url::<NpmRegistry>(alloc, "npm:a@1.2.3", "npm:/a@1.2.3")?
@@ -34,6 +35,7 @@ fn is_url<R: Registry>(alloc: Global, text: &str, expected: &str) -> Holds {
     }
 }
 
+/// Whether references to JSR packages name their export.
 pub fn export_name(alloc: Global) -> Holds {
     let reference = JsrPackageReqReference::parse(alloc, "jsr:@s/a@1/mod.ts")?;
     let same = reference.export_name(alloc)?.as_str() == "./mod.ts";
@@ -42,6 +44,7 @@ pub fn export_name(alloc: Global) -> Holds {
     Ok(same && nv_reference.export_name(alloc)?.as_str() == ".")
 }
 
+/// Whether dependencies made of a package requirement print their scheme.
 pub fn dependency_made(alloc: Global) -> Holds {
     let jsr = JsrDepPackageReq::jsr(PackageReq::parse(alloc, "@s/b@^1")?);
     let holds = displays(alloc, &jsr, "jsr:@s/b@^1");
@@ -50,6 +53,7 @@ pub fn dependency_made(alloc: Global) -> Holds {
     Ok(holds? && displays(alloc, &npm, "npm:c@1")?)
 }
 
+/// Whether lists of package requirements have their JSON, and come back from it in order.
 pub fn json_list(alloc: Global) -> Holds {
     let holds = is_list(alloc, &[], "[]", "[]")?
         && is_list(
@@ -89,6 +93,7 @@ fn reqs_of(alloc: Global, json: &Value) -> OrFault<Vec<PackageReq>> {
     }
 }
 
+/// Whether a version requirement made of a text and a tag has both.
 pub fn tag_requirement(alloc: Global) -> Holds {
     let tag = PackageTag::from_str(alloc, "latest")?;
     let text = SmallStackString::from_str(alloc, " raw ")?;
@@ -100,6 +105,7 @@ pub fn tag_requirement(alloc: Global) -> Holds {
     Ok(holds)
 }
 
+/// Whether the wildcard requirement has the text and the canonical form `*`.
 pub fn wildcard(alloc: Global) -> Holds {
     let requirement = wildcard_version_req(alloc)?;
     let canonical = requirement.to_string_normalized(alloc)?;
