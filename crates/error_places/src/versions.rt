@@ -14,7 +14,8 @@ const ENDINGS: [&str; 6] = ["", "1", "1.1", "1.1.1", ".1", ".1.1"];
 
 // Whether the prefix with this ending is a version.
 fn is_version_with(alloc: Global, prefix: &str, ending: &str) -> Result<bool, ParseFailure>
-    ensures value { IfOk result (λ yes. IsTrue yes ↔ ((version : Version) × IsVersionText (prefix.now ++ ending.now) version)) }
+    ensures value { IfOk result (λ yes. IsTrue yes
+        ↔ ((version : Version) × IsVersionText (prefix.now ++ ending.now) version)) }
     ensures memory { IfErr result (λ failure. failure ≡ None) }
 {
     let text = format!(in alloc; "{prefix}{ending}")?;

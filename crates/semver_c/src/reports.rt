@@ -306,7 +306,8 @@ pub fn report_places(
 /// Reports a place.
 pub fn report_place(answer: Result<usize, Problem>, place: &mut usize) -> i32
     ensures code { result ≡ code_of always_yes (outcome_of (λ found. found) answer) }
-    ensures place { place.new ≡ place_after as_place (outcome_of (λ found. found) answer) place.old }
+    ensures place { place.new
+        ≡ place_after as_place (outcome_of (λ found. found) answer) place.old }
 {
     match answer {
         Ok(found) => {
