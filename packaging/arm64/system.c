@@ -1,13 +1,18 @@
-/* The programs' arguments and errno on arm64: the kit has these calls for x86-64 alone. They're trusted, as the kit's are; the kit's
- * crate `os` states what they do. */
+/* The programs' arguments, environment and errno on arm64: the kit has these calls for x86-64 alone. They're trusted, as the kit's are;
+ * the kit's crate `os` states what they do. */
 #include <errno.h>
 #include <stdint.h>
+#include <stdlib.h>
 #include <string.h>
 #include <sys/types.h>
 
 ssize_t rattle_arg(size_t place, uint8_t *out, size_t room);
+ssize_t rattle_env(const uint8_t *name, uint8_t *out, size_t room);
+ssize_t rattle_env_at(size_t place, uint8_t *out, size_t room);
 int32_t rattle_errno(void);
 void rattle_set_errno(int32_t error);
+
+extern char **environ;
 
 static size_t count;
 static char **arguments;
@@ -18,12 +23,30 @@ __attribute__((constructor)) static void keep(int argc, char **argv) {
     arguments = argv;
 }
 
-/* Copies an argument and returns its length, or -1 if there is none, or -2 if it's too long, and then its beginning is copied. */
-ssize_t rattle_arg(size_t place, uint8_t *out, size_t room) {
-    if (place >= count || arguments[place] == NULL) return -1;
-    size_t length = strlen(arguments[place]);
-    memcpy(out, arguments[place], length <= room ? length : room);
+/* Copies a string and returns its length, or -1 if there is none, or -2 if it's too long, and then its beginning is copied. */
+static ssize_t copy(const char *string, uint8_t *out, size_t room) {
+    if (string == NULL) return -1;
+    size_t length = strlen(string);
+    memcpy(out, string, length <= room ? length : room);
     return length <= room ? (ssize_t)length : -2;
+}
+
+/* Copies an argument, as copy does. */
+ssize_t rattle_arg(size_t place, uint8_t *out, size_t room) {
+    return copy(place < count ? arguments[place] : NULL, out, room);
+}
+
+/* Copies the value of a variable, whose name ends with a zero byte, as copy does. */
+ssize_t rattle_env(const uint8_t *name, uint8_t *out, size_t room) {
+    return copy(getenv((const char *)name), out, room);
+}
+
+/* Copies an entry NAME=VALUE of the environment, as copy does. */
+ssize_t rattle_env_at(size_t place, uint8_t *out, size_t room) {
+    for (size_t i = 0; environ != NULL && environ[i] != NULL; i++) {
+        if (i == place) return copy(environ[i], out, room);
+    }
+    return -1;
 }
 
 int32_t rattle_errno(void) {
