@@ -79,6 +79,19 @@ install_and_remove() {
     echo 'packaging: installed, tried and removed'
 }
 
+# What the programs ask of the kit's C on x86-64 is there for arm64 too. This needs no compiler for arm64.
+has_arm64_calls() {
+    for part in system heap; do
+        "${CC:-cc}" -O2 -Wall -Wextra -Werror -c -o "$root/$part.o" "packaging/arm64/$part.c"
+    done
+    nm -u out/x86_64/ranges.o out/x86_64/npmver.o | grep -o 'rattle_.*' | sort -u >"$root/asked"
+    nm --defined-only "$root/system.o" "$root/heap.o" | grep -o 'rattle_.*' | sort -u >"$root/present"
+    [ -s "$root/asked" ] || fail 'no program asks the C code for anything'
+    missing=$(comm -23 "$root/asked" "$root/present")
+    [ -z "$missing" ] || fail "packaging/arm64 lacks $missing"
+    rm "$root/system.o" "$root/heap.o"
+}
+
 release_twice() {
     for time in first second; do
         make -s dist GATE= STATIC="$static" ARCHES="$arches" DIST="$root/$time" >/dev/null
@@ -163,6 +176,7 @@ elif ! has qemu-aarch64; then
 else
     arches='x86_64 aarch64'
 fi
+if [ -n "$static" ]; then has_arm64_calls; fi
 release_twice
 try_tarball x86_64 "${CC:-cc}"
 try_packages
