@@ -140,6 +140,7 @@ try_packages() {
     fi
     if has npm && ls "$root"/first/*.tgz >/dev/null 2>&1; then
         mkdir "$root/project"
+        echo '{"private": true}' >"$root/project/package.json"
         (cd "$root/project" && npm install --offline --silent --no-audit --no-fund "$root"/first/*.tgz >/dev/null)
         (cd "$root/project" && expect true "$(command -v node)" -p 'require("deno-semver").matches("^1.2", "1.3.0")')
     fi
