@@ -3,7 +3,7 @@
 
 `rt ci` leaves the libraries below built, with their statements alone, and `rt lib` would prove each of them once more. So where
 they stand and no source is newer, semver_c is proved and built over them as `rt ci` does it with a program; else by `rt lib`."""
-import os, pathlib, shutil, subprocess, sys
+import contextlib, os, pathlib, subprocess, sys, tempfile
 
 TOP = pathlib.Path(__file__).resolve().parents[1]
 CRATE = TOP / "crates/semver_c"
@@ -53,19 +53,21 @@ def build_over(crate, made, *flags, toolchain=None, keeps=False, **how):
     return subprocess.run([rtlib.RATTLE, "build", *words], cwd=crate.folder, **how).returncode
 
 
+@contextlib.contextmanager
 def keeping_toolchain():
-    """A toolchain folder that is the kit's but for its clang, which copies the module that rattle compiles to MODULE."""
+    """A toolchain folder that is the kit's but for its clang, which copies the module that rattle compiles to MODULE. It's removed
+    afterwards, since `rt ci` rejects links below the project."""
     kits = pathlib.Path(kit()[0]) / "toolchain"
-    folder = CRATE / "out/toolchain"
-    shutil.rmtree(folder, ignore_errors=True)
-    (folder / "bin").mkdir(parents=True)
-    (folder / "lib").symlink_to(kits / "lib")
-    for name in ("llvm-ar", "ld.lld"):
-        (folder / "bin" / name).symlink_to(kits / "bin/clang")
-    clang = folder / "bin/clang"
-    clang.write_text(KEEPING_CLANG.format(module=MODULE, clang=kits / "bin/clang"))
-    clang.chmod(0o755)
-    return folder
+    with tempfile.TemporaryDirectory() as name:
+        folder = pathlib.Path(name)
+        (folder / "bin").mkdir()
+        (folder / "lib").symlink_to(kits / "lib")
+        for tool in ("llvm-ar", "ld.lld"):
+            (folder / "bin" / tool).symlink_to(kits / "bin/clang")
+        clang = folder / "bin/clang"
+        clang.write_text(KEEPING_CLANG.format(module=MODULE, clang=kits / "bin/clang"))
+        clang.chmod(0o755)
+        yield folder
 
 
 def main():
@@ -74,7 +76,8 @@ def main():
     if is_newer(LIBRARY, [*below, crate]):
         return 0
     if all(is_newer(pathlib.Path(it.rlib), it.below() + [it]) for it in below):
-        return build_over(crate, LIBRARY, toolchain=keeping_toolchain())
+        with keeping_toolchain() as toolchain:
+            return build_over(crate, LIBRARY, toolchain=toolchain)
     return subprocess.run(["rt", "lib"], cwd=CRATE).returncode
 
 
@@ -86,8 +89,9 @@ def keep_module():
     if is_newer(MODULE, [*crate.below(), crate]):
         return 0
     before = LIBRARY.read_bytes()
-    if build_over(crate, LIBRARY, toolchain=keeping_toolchain(), keeps=True):
-        return 1
+    with keeping_toolchain() as toolchain:
+        if build_over(crate, LIBRARY, toolchain=toolchain, keeps=True):
+            return 1
     if LIBRARY.read_bytes() != before:
         print(f"library.py: {LIBRARY} was built twice, and differs", file=sys.stderr)
         return 1
