@@ -9,7 +9,7 @@ use Rattle.error_places.specs.Causes.{rejection_of}
 use Rattle.error_places.specs.InvalidPieces.{AreInvalidPieces}
 use Rattle.error_places.specs.Kinds.{kind_text}
 use Rattle.error_places.specs.declared.causes.Cause.{Cause}
-use Rattle.error_places.specs.declared.causes.Cause.TheVariants.{Unexpected, NoTag, NumberTooLarge, BoundTooLarge}
+use Rattle.error_places.specs.declared.causes.Cause.TheVariants.{Unexpected, NoTag, Empty, NumberTooLarge, BoundTooLarge}
 use Rattle.error_places.specs.declared.expected.Expected.{Expected}
 use Rattle.error_places.specs.declared.expected.Kind.{Kind}
 use Rattle.error_places.specs.declared.expected.Kind.TheVariants.{Digit, Letter, Space}
@@ -30,6 +30,7 @@ expected_names e = map kind_name e.kinds.items ++ (if e.may_end then codes "end"
 abbrev pub expected_texts : Cause → List (List ℕ)
 expected_texts (Unexpected e) = expected_names e
 expected_texts NoTag = []
+expected_texts Empty = []
 expected_texts NumberTooLarge = []
 expected_texts BoundTooLarge = []
 

@@ -18,6 +18,7 @@ use Rattle.semver_req.specs.Pieces.{IsCutting, IsFilled, IsHyphened, IsListOpera
 use Rattle.semver_req.specs.declared.common.values.Flavour.{Flavour}
 use Rattle.semver_req.specs.declared.common.values.Flavour.TheVariants.{Npm, Normal, Specifier}
 use Rattle.error_places.specs.Kinds.{is_other_letter}
+use Rattle.error_places.specs.declared.Sizes.TheVariants.{Any}
 use Rattle.error_places.specs.Viable.{HasPiece, IsAnyPiece, IsPart, IsPieceOrCut, alone, cut, IsViablePrefix}
 use Rattle.error_places.proofs.Alike.{Goes, IsAlike, IsExchanged, is_sign_byte, is_special, whitespace_special, whitespace_exchanged, byte_exchanged, either_exchanged, followed_exchanged, kind_exchanged, mapped_exchanged, none_here, optional_exchanged, other, prefixed_exchanged, some_whitespace_exchanged, text_exchanged}
 use Rattle.error_places.proofs.AlikeWords.{listed_exchanged, normal_filled_exchanged, of_primitive_exchanged, one_text, bare_exchanged, bare_partial_exchanged, specifier_exchanged}
@@ -103,7 +104,7 @@ module _ (f : Flavour) (cuts : IsCutting f) (d e : ℕ) (alike : IsAlike f d e) 
   piece_goes p u (c ∷ cs) h = by (filled_exchanged f cuts d e alike p u (c ∷ cs) h)
     where
       by : Goes (IsFilled f) p e → IsViablePrefix (IsPieceOrCut f) (p ++ (e ∷ []))
-      by k = with_viable f (p ++ (e ∷ [])) k.more k.is_text (subst (HasPiece f false) (sym (append_assoc p (e ∷ []) k.more)) (filled_piece f cuts (p ++ (e ∷ k.more)) k.value k.stands))
+      by k = with_viable f Any (p ++ (e ∷ [])) k.more k.is_text (subst (HasPiece f Any false) (sym (append_assoc p (e ∷ []) k.more)) (k.value, inl (filled_piece f cuts (p ++ (e ∷ k.more)) k.value k.stands)))
 
   any_goes : (p u : List ℕ) (cs : List Comparator) → IsAnyPiece f true (p ++ (d ∷ u)) cs → IsViablePrefix (IsPieceOrCut f) (p ++ (e ∷ []))
   any_goes p u cs (inl h) = piece_goes p u cs h

@@ -5,6 +5,7 @@ use Rattle.std.proofs.lemmas.List.{nil_from_length}
 use Rattle.semver_base.specs.Comparators.{Comparator}
 use Rattle.semver_base.specs.Grammar.{IsLongest}
 use Rattle.semver_base.specs.Lexical.{IsWhitespace}
+use Rattle.semver_req.specs.Comparators.{fits}
 use Rattle.semver_req.specs.Outcome.{IsSpecifierRange}
 use Rattle.semver_req.specs.Pieces.{AreMorePieces, no_piece, last_piece, cut_piece, ArePieces, one_piece, first_cut, HasNoBar, IsCutAt, IsTrimmed}
 use Rattle.semver_req.specs.declared.common.values.Flavour.{Flavour}
@@ -75,8 +76,8 @@ module _ (f : Flavour) (before : ℕ) (text : List ℕ) where
 
 -- ---- the strict grammar
 
-pub no_error : {text : List ℕ} {errors : List InvalidPiece} → errors ≡ [] → ((c : Comparator) × IsSpecifierRange text c) → IsStrictError text errors
-no_error {text} e h = rw e (range h.0 h.1)
+pub no_error : {text : List ℕ} {errors : List InvalidPiece} → errors ≡ [] → ((c : Comparator) × IsSpecifierRange text c × (fits c ≡ true)) → IsStrictError text errors
+no_error {text} e h = rw e (range h.0 h.1 h.2)
 
 pub strict_error : {text : List ℕ} {empty errors : List InvalidPiece} {e : InvalidPiece} → empty ≡ [] → errors ≡ empty ++ (e ∷ []) → IsErrorOf Specifier 0 text e → IsStrictError text errors
 strict_error {text} nil is there = rw (is, nil) (no_range there)

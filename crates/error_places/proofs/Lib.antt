@@ -9,6 +9,7 @@ pub mod AlikeParts
 pub mod InvalidPieces
 pub mod KindTexts
 mod ErrorCauses
+pub mod StrictRejections
 pub mod Trimmed
 pub mod VersionEndings
 pub mod VersionTexts

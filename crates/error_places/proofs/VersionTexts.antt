@@ -4,11 +4,10 @@ use Rattle.std.specs.Prelude.{IsUtf8, codes}
 use Rattle.std.specs.List.{list_all}
 use Rattle.std.specs.Str.{trim}
 use Rattle.std.proofs.lemmas.Str.{IsUtf8-append, IsUtf8-nil, NoCharPasses-append}
-use Rattle.semver_base.specs.Grammar.{Joined, Optional, Prefixed}
-use Rattle.semver_base.specs.Lexical.{IsByte, IsQualifier, IsWhitespace, NoDigitFollows}
+use Rattle.semver_base.specs.Grammar.{Optional, Prefixed}
+use Rattle.semver_base.specs.Lexical.{IsByte, IsWhitespace}
 use Rattle.semver_base.specs.VersionGrammar.{AllNumbersFit, IsLead, IsTriple, IsVersion, is_version, version_of}
 use Rattle.semver_base.specs.declared.lexical.values.Qualifier.{Qualifier}
-use Rattle.semver_base.specs.declared.lexical.values.Strictness.TheVariants.{Loose}
 use Rattle.semver_base.specs.declared.version.Version.{Version}
 use Rattle.semver_base.proofs.Bytes.{MadeOf, joined_made, joined_some_text, prefixed_made}
 use Rattle.semver_base.proofs.Numbers.{loose_some}
@@ -19,13 +18,10 @@ use Rattle.error_places.specs.declared.Grammar.TheVariants.{Ranges, Versions}
 use Rattle.error_places.proofs.Partials.{whitespace_none}
 use Rattle.error_places.proofs.Parts.{empty_part, one_byte_text, starts_text}
 use Rattle.error_places.proofs.Trimmed.{around, trim_within}
-use Rattle.error_places.proofs.VersionEndings.{IsSurrounded, IsVersionEnding, fitting_version, one_core, ones, short, surrounded_ended, surrounded_is, three, two, behind_one, behind_two, version_fits}
+use Rattle.error_places.proofs.VersionEndings.{IsCore, IsSurrounded, IsVersionEnding, one_core, one_fits, ones, short, surrounded_ended, surrounded_is, three, two, behind_one, behind_two}
 use Rattle.error_places.proofs.Words.{nothing, digit}
 
 -- ---- the text of a version without whitespace in front
-
-abbrev IsCore : List ℕ → (ℕ × (ℕ × ℕ)) × Qualifier → Type 0
-IsCore = Joined NoDigitFollows IsTriple (IsQualifier Loose)
 
 triple_made : MadeOf IsTriple is_solid_byte
 triple_made = joined_made number_made (prefixed_made (joined_made number_made (prefixed_made number_made 46 refl)) 46 refl)
@@ -102,21 +98,23 @@ bare_of text v h =
 
 -- ---- texts of versions, and versions with whitespace around them
 
-pub surrounded_of : (text : List ℕ) (v : Version) → IsUtf8 text → IsVersionText text v → IsSurrounded text v
+surrounded_of : (text : List ℕ) (v : Version) → IsUtf8 text → IsVersionText text v → IsSurrounded text v × AllNumbersFit v
 surrounded_of text v u (is_version h fit) =
-    let it = around text u in
-    record {
-      value = (tt, v);
-      stands = record {
-        first = it.ahead;
-        second = trim text ++ it.behind;
-        text_is = it.text_is;
-        in_first = it.is_ahead;
-        in_second = record { value = (v, tt); stands = record { first = trim text; second = it.behind; text_is = refl; in_first = version_fits (trim text) v h fit; in_second = it.is_behind; seam = tt }; is = refl };
-        seam = tt;
-      };
-      is = refl;
-    }
+    let it = around text u in (
+      record {
+        value = (tt, v);
+        stands = record {
+          first = it.ahead;
+          second = trim text ++ it.behind;
+          text_is = it.text_is;
+          in_first = it.is_ahead;
+          in_second = record { value = (v, tt); stands = record { first = trim text; second = it.behind; text_is = refl; in_first = h; in_second = it.is_behind; seam = tt }; is = refl };
+          seam = tt;
+        };
+        is = refl;
+      },
+      fit,
+    )
 
 version_within : (a core b : List ℕ) (v : Version) → IsUtf8 (a ++ (core ++ b)) → IsWhitespace a tt → IsVersion core v → AllNumbersFit v → IsWhitespace b tt → IsVersionText (a ++ (core ++ b)) v
 version_within a core b v u h k fit l =
@@ -126,13 +124,12 @@ version_within a core b v u h k fit l =
     let trimmed : trim (a ++ (core ++ b)) ≡ it.bare = ap trim whole ∙ trim_within (a ++ it.white) it.bare b (rw whole at u) ahead it.starts it.ends l in
     rw trimmed (is_version it.version fit)
 
-pub text_of : (text : List ℕ) (v : Version) → IsUtf8 text → IsSurrounded text v → IsVersionText text v
-text_of text v u h =
+text_of : (text : List ℕ) (v : Version) → IsUtf8 text → IsSurrounded text v → AllNumbersFit v → IsVersionText text v
+text_of text v u h fit =
     let inner = h.stands.in_second.stands in
     let named : v ≡ h.stands.in_second.value.0 = h.is ∙ h.stands.in_second.is in
     let whole : text ≡ h.stands.first ++ (inner.first ++ inner.second) = h.stands.text_is ∙ ap (λ t. h.stands.first ++ t) inner.text_is in
-    let version = fitting_version inner.first h.stands.in_second.value.0 inner.in_first in
-    let within = version_within h.stands.first inner.first inner.second h.stands.in_second.value.0 (rw whole at u) h.stands.in_first version.0 version.1 inner.in_second in
+    let within = version_within h.stands.first inner.first inner.second h.stands.in_second.value.0 (rw whole at u) h.stands.in_first inner.in_first (subst AllNumbersFit named fit) inner.in_second in
     subst (IsVersionText text) (sym named) (subst (λ t. IsVersionText t h.stands.in_second.value.0) (sym whole) within)
 
 -- ---- which prefixes are viable
@@ -166,13 +163,14 @@ abbrev HasEnding : List ℕ → Type 0
 HasEnding prefix = (ending : List ℕ) × IsVersionEnding ending × IsMadeBy prefix ending
 
 some_empty : HasEnding []
-some_empty = (ones, three, (version_of one_core, text_of ones (version_of one_core) (ending_text three) surrounded_is))
+some_empty = (ones, three, (version_of one_core, text_of ones (version_of one_core) (ending_text three) surrounded_is one_fits))
 
 pub some_ending : (prefix : List ℕ) → IsUtf8 prefix → IsViablePrefix IsVersionText prefix → HasEnding prefix
 some_ending [] u v = some_empty
 some_ending (x ∷ p) u v =
-    let k = surrounded_ended.ends x p v.more v.value (starts_text v.more v.is_text) (surrounded_of ((x ∷ p) ++ v.more) v.value (IsUtf8-append (x ∷ p) v.more u v.is_text) v.stands) in
-    (k.ending, k.is_ending, (k.value, text_of ((x ∷ p) ++ k.ending) k.value (IsUtf8-append (x ∷ p) k.ending u (ending_text k.is_ending)) k.stands))
+    let h = surrounded_of ((x ∷ p) ++ v.more) v.value (IsUtf8-append (x ∷ p) v.more u v.is_text) v.stands in
+    let k = surrounded_ended.ends x p v.more v.value (starts_text v.more v.is_text) h.0 h.1 in
+    (k.ending, k.is_ending, (k.value, text_of ((x ∷ p) ++ k.ending) k.value (IsUtf8-append (x ∷ p) k.ending u (ending_text k.is_ending)) k.stands k.has))
 
 -- so it isn't viable if none of them does
 pub none_made : (prefix : List ℕ) → IsUtf8 prefix → (IsMadeBy prefix (codes "") → ⊥) → (IsMadeBy prefix (codes "1") → ⊥) → (IsMadeBy prefix (codes "1.1") → ⊥) → (IsMadeBy prefix (codes "1.1.1") → ⊥)
@@ -194,7 +192,7 @@ no_item = record { ref_ptr = (0, 0); now = [] }
 -- ---- the empty prefix of each grammar
 
 pub empty_viable : (g : Grammar) → IsViablePrefix (IsTextOf g) []
-empty_viable (Ranges f) = empty_part f
+empty_viable (Ranges f sizes) = empty_part f sizes
 empty_viable Versions = let k = some_empty in made_viable [] k.0 (ending_text k.1) k.2
 
 pub text_some : (g : Grammar) (text : List ℕ) → (IsViablePrefix (IsTextOf g) text → ⊥) → 0 < length text

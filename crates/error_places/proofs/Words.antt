@@ -1,8 +1,10 @@
 -- The words of versions and requirements: with which endings their prefixes are whole.
-use Rattle.std.proofs.Common.{◌≡◌, ◌≤◌, ◌<◌, ℕ, true, false, List, [], ◌∷◌, ◌++◌, length, None, refl, sym, ap, ◌∙◌, arith, inl, inr, append_assoc, append-nil, length-append, get_or}
+use Rattle.std.proofs.Common.{◌≡◌, ◌≤◌, ◌<◌, ◌^◌, ℕ, true, false, List, [], ◌∷◌, ◌++◌, length, None, refl, sym, ap, subst, ◌∙◌, arith, inl, inr, append_assoc, append-nil, length-append, get_or}
 use Rattle.std.specs.Prelude.{IsUtf8, encode_utf8}
 use Rattle.std.specs.Char.{is_ascii_digit, is_not_whitespace, is_whitespace}
+use Rattle.std.specs.Str.Parse.{digits_value}
 use Rattle.std.specs.Str.{IsCharBoundary, NonePass, NoCharPasses, encode_utf8_all}
+use Rattle.std.proofs.lemmas.Str.Parse.{digits_value-take-le}
 use Rattle.std.proofs.lemmas.Str.{IsUtf8-encode, IsUtf8-take, NoCharPasses-append, NoCharPasses-nil, encode_same}
 use Rattle.std.proofs.lemmas.List.{take_at}
 use Rattle.std.proofs.Math.Utf8.{low_scalar}
@@ -13,7 +15,7 @@ use Rattle.semver_base.specs.Lexical.{IsWhitespace, IsIdentifiers, IsLooseNumber
 use Rattle.semver_base.specs.declared.lexical.values.Strictness.{Strictness}
 use Rattle.semver_base.specs.declared.lexical.values.Strictness.TheVariants.{Loose, Strict}
 use Rattle.semver_base.proofs.Fronts.{fronts, same, shorter, longer}
-use Rattle.error_places.proofs.Endings.{Ends, HasText, IsEnded, Starts, byte_ended, ends_here, followed_ended, listed_ended, mapped_ended, optional_ended, prefixed_ended, run_ended, run_front}
+use Rattle.error_places.proofs.Endings.{Any, Each, Ends, HasText, IsEnded, Starts, any_both, byte_ended, ended_as, ends_here, followed_ended, listed_ended, mapped_ended, optional_ended, prefixed_ended, run_ended, run_front}
 
 -- ---- whitespace
 
@@ -62,11 +64,11 @@ go_whitespace (c ∷ cs) (y ∷ p) u e n s = elim (fronts (encode_utf8 c) (y ∷
 pub whitespace_front : (p u : List ℕ) → Starts u → IsWhitespace (p ++ u) tt → IsWhitespace p tt
 whitespace_front p u s h = go_whitespace h.0 p u h.1 h.2 s
 
-pub whitespace_ended : {E : List ℕ → Type 0} → E [] → IsEnded IsWhitespace E
-whitespace_ended e = record { ends = λ x p u v s h. ends_here (x ∷ p) tt e (whitespace_front (x ∷ p) u s h) }
+pub whitespace_ended : {E : List ℕ → Type 0} → E [] → IsEnded IsWhitespace Any E
+whitespace_ended e = record { ends = λ x p u v s h i. ends_here (x ∷ p) tt e (whitespace_front (x ∷ p) u s h) tt }
 
-pub some_whitespace_ended : {E : List ℕ → Type 0} → E [] → IsEnded IsSomeWhitespace E
-some_whitespace_ended e = record { ends = λ x p u v s h. ends_here (x ∷ p) tt e (omega arith, whitespace_front (x ∷ p) u s h.1) }
+pub some_whitespace_ended : {E : List ℕ → Type 0} → E [] → IsEnded IsSomeWhitespace Any E
+some_whitespace_ended e = record { ends = λ x p u v s h i. ends_here (x ∷ p) tt e (omega arith, whitespace_front (x ∷ p) u s h.1) tt }
 
 -- ---- numbers and identifiers
 
@@ -78,53 +80,70 @@ pub data IsShort : List ℕ → Type 0 where
 abbrev pub one_digit : List ℕ
 one_digit = 49 ∷ []
 
-loose_ended : IsEnded IsLooseNumber IsShort
-loose_ended = mapped_ended (run_ended is_ascii_digit nothing)
-
 one_loose : IsLooseNumber one_digit 1
 one_loose = record { value = one_digit; stands = record { some = omega arith; pass = refl; is = refl }; is = refl }
 
-strict_ended : IsEnded IsStrictNumber IsShort
-strict_ended = record {
-  ends = λ x p u v s h. ends_here (x ∷ p) _ nothing (record {
-    digits = record { value = x ∷ p; stands = run_front is_ascii_digit x p u h.digits.value h.digits.stands; is = refl };
-    no_leading_zero = λ z. let n = h.no_leading_zero z in omega (arith, n, length-append (x ∷ p) u);
-  });
-}
+-- such sizes of numbers: 1 is of such a size, and so is what a number of such a size begins with
+pub record AreSizes (N : ℕ → Type 0) : Type 0 where
+  pub one : N 1
+  pub shorter : (x : ℕ) (p u : List ℕ) → N (digits_value 10 ((x ∷ p) ++ u)) → N (digits_value 10 (x ∷ p))
 
-pub number_ended : (s : Strictness) → IsEnded (IsNumber s) IsShort
-number_ended Loose = loose_ended
-number_ended Strict = strict_ended
+pub any_size : AreSizes Any
+any_size = record { one = tt; shorter = λ x p u h. tt }
+
+pub front_below : (x : ℕ) (p u : List ℕ) → digits_value 10 (x ∷ p) ≤ digits_value 10 ((x ∷ p) ++ u)
+front_below x p u = subst (λ t. digits_value 10 t ≤ digits_value 10 ((x ∷ p) ++ u)) (take_at (x ∷ p) u (length (x ∷ p)) refl) (digits_value-take-le 10 ((x ∷ p) ++ u) (length (x ∷ p)) (omega arith))
+
+pub below : AreSizes (λ n. n < 2 ^ 64)
+below = record { one = omega arith; shorter = λ x p u h. omega (arith, front_below x p u, h) }
+
+module _ {N : ℕ → Type 0} (sizes : AreSizes N) where
+  loose_shorter : (x : ℕ) (p u : List ℕ) (n : ℕ) → IsLooseNumber ((x ∷ p) ++ u) n → N n → N (digits_value 10 (x ∷ p))
+  loose_shorter x p u n h i = sizes.shorter x p u (subst N (h.is ∙ ap (digits_value 10) h.stands.is) i)
+
+  loose_front : (x : ℕ) (p u : List ℕ) (n : ℕ) → IsLooseNumber ((x ∷ p) ++ u) n → IsLooseNumber (x ∷ p) (digits_value 10 (x ∷ p))
+  loose_front x p u n h = record { value = x ∷ p; stands = run_front is_ascii_digit x p u h.value h.stands; is = refl }
+
+  strict_front : (x : ℕ) (p u : List ℕ) (n : ℕ) → IsStrictNumber ((x ∷ p) ++ u) n → IsStrictNumber (x ∷ p) (digits_value 10 (x ∷ p))
+  strict_front x p u n h = record { digits = loose_front x p u n h.digits; no_leading_zero = λ z. let k = h.no_leading_zero z in omega (arith, k, length-append (x ∷ p) u) }
+
+  pub number_ended : (E : List ℕ → Type 0) → E [] → (s : Strictness) → IsEnded (IsNumber s) N E
+  number_ended E nil Loose = record { ends = λ x p u n s h i. ends_here (x ∷ p) (digits_value 10 (x ∷ p)) nil (loose_front x p u n h) (loose_shorter x p u n h i) }
+  number_ended E nil Strict = record { ends = λ x p u n s h i. ends_here (x ∷ p) (digits_value 10 (x ∷ p)) nil (strict_front x p u n h) (loose_shorter x p u n h.digits i) }
 
 pub one_number : (s : Strictness) → IsNumber s one_digit 1
 one_number Loose = one_loose
 one_number Strict = record { digits = one_loose; no_leading_zero = λ z. refl }
 
-identifiers_ended : IsEnded IsIdentifiers IsShort
-identifiers_ended = listed_ended (run_ended is_identifier_byte nothing) (byte_ended 46 nothing)
+each_any : {V : Type 0} (vs : List V) → Each Any vs
+each_any [] = tt
+each_any (v ∷ vs) = (tt, each_any vs)
+
+identifiers_ended : IsEnded IsIdentifiers Any IsShort
+identifiers_ended = ended_as (Each Any) Any (λ vs i. each_any vs) (λ vs i. tt) (listed_ended (run_ended is_identifier_byte nothing) (byte_ended 46 nothing))
 
 one_identifiers : IsIdentifiers one_digit (one_digit ∷ [])
 one_identifiers = last_item (record { some = omega arith; pass = refl; is = refl })
 
-identifiers_text : HasText IsIdentifiers IsShort
-identifiers_text = record { text = one_digit; value = one_digit ∷ []; is_ending = digit; stands = one_identifiers }
+identifiers_text : HasText IsIdentifiers Any IsShort
+identifiers_text = record { text = one_digit; value = one_digit ∷ []; is_ending = digit; stands = one_identifiers; has = tt }
 
 -- ---- qualifiers
 
-loose_pre_ended : IsEnded IsLoosePre IsShort
-loose_pre_ended = record { ends = λ x p u v s h. go x p u v s h }
+loose_pre_ended : IsEnded IsLoosePre Any IsShort
+loose_pre_ended = record { ends = λ x p u v s h i. go x p u v s h }
   where
-    go : (x : ℕ) (p u : List ℕ) (v : List (List ℕ)) → Starts u → IsLoosePre ((x ∷ p) ++ u) v → Ends IsLoosePre IsShort (x ∷ p)
-    go x [] u v s (inl h) = record { ending = one_digit; value = one_digit ∷ []; is_ending = digit; stands = inl (h.0, one_identifiers) }
-    go x (y ∷ p) u v s (inl h) = let k = identifiers_ended.ends y p u v s h.1 in record { ending = k.ending; value = k.value; is_ending = k.is_ending; stands = inl (h.0, k.stands) }
-    go x p u v s (inr h) = let k = identifiers_ended.ends x p u v s h.1 in record { ending = k.ending; value = k.value; is_ending = k.is_ending; stands = inr (h.0, k.stands) }
+    go : (x : ℕ) (p u : List ℕ) (v : List (List ℕ)) → Starts u → IsLoosePre ((x ∷ p) ++ u) v → Ends IsLoosePre Any IsShort (x ∷ p)
+    go x [] u v s (inl h) = record { ending = one_digit; value = one_digit ∷ []; is_ending = digit; stands = inl (h.0, one_identifiers); has = tt }
+    go x (y ∷ p) u v s (inl h) = let k = identifiers_ended.ends y p u v s h.1 tt in record { ending = k.ending; value = k.value; is_ending = k.is_ending; stands = inl (h.0, k.stands); has = tt }
+    go x p u v s (inr h) = let k = identifiers_ended.ends x p u v s h.1 tt in record { ending = k.ending; value = k.value; is_ending = k.is_ending; stands = inr (h.0, k.stands); has = tt }
 
-pre_ended : (s : Strictness) → IsEnded (IsPre s) IsShort
+pre_ended : (s : Strictness) → IsEnded (IsPre s) Any IsShort
 pre_ended Loose = loose_pre_ended
 pre_ended Strict = prefixed_ended 45 identifiers_text identifiers_ended
 
-pub qualifier_ended : (s : Strictness) → IsEnded (IsQualifier s) IsShort
-qualifier_ended s = mapped_ended (followed_ended IsShort IsShort IsShort [] None refl (λ e h. rw append-nil h) (λ e h. h) (optional_ended (pre_ended s)) (optional_ended (prefixed_ended 43 identifiers_text identifiers_ended)))
+pub qualifier_ended : (s : Strictness) → IsEnded (IsQualifier s) Any IsShort
+qualifier_ended s = mapped_ended (any_both (followed_ended IsShort IsShort IsShort [] None refl tt (λ e h. rw append-nil h) (λ e h. h) (optional_ended (pre_ended s)) (optional_ended (prefixed_ended 43 identifiers_text identifiers_ended))))
 
 pub no_qualifier : (s : Strictness) → IsQualifier s [] (qualifier_of (None, None))
 no_qualifier s = record { value = (None, None); stands = record { first = []; second = []; text_is = refl; in_first = refl; in_second = refl; seam = tt }; is = refl }

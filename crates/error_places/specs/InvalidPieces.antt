@@ -1,9 +1,10 @@
 -- The alternatives of a text that are invalid, where they stand, and what is wrong in each.
-use Rattle.std.specs.Prelude.{◌≡◌, ◌+◌, ◌-◌, ℕ, List, [], ◌∷◌, ◌++◌, length, Bool, false, Option}
+use Rattle.std.specs.Prelude.{◌≡◌, ◌+◌, ◌-◌, ℕ, List, [], ◌∷◌, ◌++◌, length, Bool, true, false, Option}
 use Rattle.std.specs.Str.{trim}
 use Rattle.semver_base.specs.Comparators.{Comparator}
 use Rattle.semver_base.specs.Grammar.{IsLongest}
 use Rattle.semver_base.specs.Lexical.{IsWhitespace}
+use Rattle.semver_req.specs.Comparators.{fits}
 use Rattle.semver_req.specs.Outcome.{IsBad, IsGood, IsSpecifierRange}
 use Rattle.semver_req.specs.Pieces.{ArePieces}
 use Rattle.semver_req.specs.declared.common.values.Flavour.{Flavour}
@@ -54,9 +55,9 @@ pub record AreTrimmedErrors (f : Flavour) (text : List ℕ) (errors : List Inval
   pub whitespace : IsLongest IsWhitespace text tt rest
   pub errors_of : AreErrorsOf f (length text - length rest) (trim text) errors
 
--- the whole text, if it isn't a range of the strict grammar
+-- the whole text, if it isn't a range of the strict grammar that fits
 pub data IsStrictError (text : List ℕ) : List InvalidPiece → Type 0 where
-  range : (c : Comparator) → IsSpecifierRange text c → IsStrictError text []
+  range : (c : Comparator) → IsSpecifierRange text c → fits c ≡ true → IsStrictError text []
   no_range : {e : InvalidPiece} → IsErrorOf Specifier 0 text e → IsStrictError text (e ∷ [])
 
 -- the invalid alternatives of a text in the grammar of a flavour; the strict one has no alternatives

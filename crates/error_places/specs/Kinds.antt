@@ -1,11 +1,10 @@
 -- What may stand at a place of a text, by kinds whose texts may all follow the same prefixes.
 use Rattle.std.specs.Prelude.{◌≡◌, ◌↔◌, ◌==◌, ◌||◌, ◌&&◌, ℕ, Bool, true, IsTrue, List, [], ◌∷◌, ◌++◌, codes, false, nat_le}
 use Rattle.std.specs.Char.{is_ascii_digit}
-use Rattle.semver_base.specs.Comparators.{Comparator}
-use Rattle.semver_req.specs.Outcome.{IsSpecifierRange}
 use Rattle.semver_req.specs.declared.common.values.Flavour.{Flavour}
 use Rattle.semver_req.specs.declared.common.values.Flavour.TheVariants.{Npm, Normal, Specifier}
-use Rattle.error_places.specs.Viable.{HasPiece, IsPart, IsViablePrefix}
+use Rattle.error_places.specs.Viable.{HasPiece, HasRange, IsPart, IsViablePrefix}
+use Rattle.error_places.specs.declared.Sizes.TheVariants.{Any}
 use Rattle.error_places.specs.declared.expected.Expected.{Expected}
 use Rattle.error_places.specs.declared.expected.Kind.{Kind}
 use Rattle.error_places.specs.declared.expected.Kind.TheVariants.{Digit, X, V, Letter, Star, Dot, Hyphen, Plus, Tilde, Caret, Less, Greater, Equals, Space, Comma, And, Bar}
@@ -48,9 +47,9 @@ pub record IsExpected (f : Flavour) (prefix : List ℕ) (kind : Kind) (says : Bo
 
 -- the prefix is itself an alternative, or a range of the strict grammar
 abbrev pub IsWhole : Flavour → List ℕ → Type 0
-IsWhole Npm text = HasPiece Npm false text
-IsWhole Normal text = HasPiece Normal false text
-IsWhole Specifier text = (c : Comparator) × IsSpecifierRange text c
+IsWhole Npm text = HasPiece Npm Any false text
+IsWhole Normal text = HasPiece Normal Any false text
+IsWhole Specifier text = HasRange Any text
 
 -- those of these kinds whose texts may follow, in their order
 pub data AreExpected (f : Flavour) (prefix : List ℕ) : List Kind → List Kind → Type 0 where

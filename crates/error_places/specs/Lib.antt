@@ -1,3 +1,4 @@
+pub mod Sizes
 pub mod Viable
 pub mod InvalidPieces
 pub mod Kinds

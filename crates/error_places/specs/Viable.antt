@@ -1,4 +1,4 @@
--- Where a text leaves a grammar; the textbook's viable prefixes. Numbers of versions must fit; sizes of numbers don't matter to ranges.
+-- Where a text leaves a grammar; the textbook's viable prefixes.
 use Rattle.std.specs.Prelude.{◌≡◌, ◌⊎◌, ℕ, List, [], ◌∷◌, ◌++◌, ◌≤◌, Bool, true, take, codes, IsUtf8, Ok}
 use Rattle.std.specs.Str.{IsCharBoundary, trim}
 use Rattle.semver_base.specs.Comparators.{Comparator}
@@ -12,6 +12,8 @@ use Rattle.semver_req.specs.declared.common.values.Flavour.{Flavour}
 use Rattle.semver_req.specs.declared.common.values.Flavour.TheVariants.{Npm, Normal, Specifier}
 use Rattle.error_places.specs.declared.Grammar.{Grammar}
 use Rattle.error_places.specs.declared.Grammar.TheVariants.{Ranges, Versions}
+use Rattle.error_places.specs.Sizes.{Sized}
+use Rattle.error_places.specs.declared.Sizes.{Sizes}
 
 -- ---- of any grammar
 
@@ -34,9 +36,6 @@ pub record IsErrorPlace {V : Type 0} (R : List ℕ → V → Type 0) (text : Lis
 abbrev pub IsAnyPiece : Flavour → Bool → List ℕ → List Comparator → Type 0
 IsAnyPiece f followed text cs = IsPiece f text cs ⊎ ((followed ≡ true) × IsWhitespace text tt × (cs ≡ []))
 
-abbrev pub HasPiece : Flavour → Bool → List ℕ → Type 0
-HasPiece f followed text = (cs : List Comparator) × IsAnyPiece f followed text cs
-
 -- an alternative, alone or with the `||` that follows
 pub data IsPieceOrCut (f : Flavour) : List ℕ → List Comparator → Type 0 where
   alone : {text : List ℕ} {cs : List Comparator} → IsPiece f text cs → IsPieceOrCut f text cs
@@ -48,6 +47,12 @@ IsPart Npm = IsPieceOrCut Npm
 IsPart Normal = IsPieceOrCut Normal
 IsPart Specifier = Mapped (λ c. c ∷ []) IsSpecifierRange
 
+abbrev pub HasPiece : Flavour → Sizes → Bool → List ℕ → Type 0
+HasPiece f sizes followed text = (cs : List Comparator) × Sized sizes (IsAnyPiece f followed) text cs
+
+abbrev pub HasRange : Sizes → List ℕ → Type 0
+HasRange sizes text = (cs : List Comparator) × Sized sizes (IsPart Specifier) text cs
+
 -- ---- of versions
 
 -- a version whose numbers fit in 64 bits, with whitespace around it or not
@@ -58,9 +63,9 @@ IsVersionText text v = IsVersionOutcome (trim text) (Ok v)
 
 -- what a text of the grammar is parsed to
 abbrev pub ValueOf : Grammar → Type 0
-ValueOf (Ranges f) = List Comparator
+ValueOf (Ranges f sizes) = List Comparator
 ValueOf Versions = Version
 
 abbrev pub IsTextOf : (g : Grammar) → List ℕ → ValueOf g → Type 0
-IsTextOf (Ranges f) = IsPart f
+IsTextOf (Ranges f sizes) = Sized sizes (IsPart f)
 IsTextOf Versions = IsVersionText

@@ -1,11 +1,13 @@
 //! What is wrong with an invalid alternative, and where.
 
-ghost use Rattle.std.specs.Prelude.{◌≡◌, ◌<◌, ◌≤◌, ◌⊎◌, IfErr, IfOk, IfSome, MatchOption, None, Option, Some, ℕ, length};
+ghost use Rattle.std.specs.Prelude.{◌≡◌, ◌<◌, ◌⊎◌, IfErr, IfOk, IfSome, MatchOption, None, Option, Some, ℕ};
 ghost use Rattle.semver_base.specs.declared.failure.Rejection.TheVariants.{UnexpectedCharacter};
 ghost use Rattle.error_places.specs.Causes.{IsCauseAt, IsFirstOutsideTag, IsRejected, rejection_of};
+ghost use Rattle.error_places.specs.Sizes.{Sized};
+ghost use Rattle.error_places.specs.Viable.{IsErrorPlace, IsPart};
 
-use crate::error_place;
 use crate::expected::{Expected, expected_after};
+use crate::{Grammar, Sizes, error_place, longest_viable};
 use semver_base::failure::{ParseFailure, Rejection};
 use semver_req::common::values::Flavour;
 use semver_req::tag::is_tag_character;
@@ -18,9 +20,12 @@ pub enum Cause {
     Unexpected(Expected),
     /// It doesn't begin as a range does, and no tag has the character at the place of the error.
     NoTag,
-    /// A number is larger than 18446744073709551615.
+    /// It is empty or only whitespace, which the strict grammar doesn't allow.
+    Empty,
+    /// A number is larger than 18446744073709551615; the place of the error is the digit with which it no longer fits.
     NumberTooLarge,
-    /// A number of a bound, which is one more than a number in the text, is larger than 18446744073709551615.
+    /// A number of a bound, which is one more than a number in the text, is larger than 18446744073709551615; the place of the error is the
+    /// start of the alternative.
     BoundTooLarge,
 }
 
@@ -31,6 +36,7 @@ impl Cause {
     {
         match self {
             Cause::Unexpected(_) | Cause::NoTag => Rejection::UnexpectedCharacter,
+            Cause::Empty => Rejection::EmptyConstraint,
             Cause::NumberTooLarge => Rejection::NumberTooLarge,
             Cause::BoundTooLarge => Rejection::BoundTooLarge,
         }
@@ -51,28 +57,12 @@ fn outside_tag(text: &str) -> Option<usize>
     text.find(|c: char| !is_tag_character(c))
 }
 
-// The index of the first number that is too large outside pre-releases and builds; the end of the text, if none is.
-fn large_number(text: &str) -> usize
-    ensures { result ≤ length text.now }
+// The index of the digit with which a number no longer fits.
+fn large_number(alloc: Global, piece: &str, flavour: Flavour) -> Result<usize, ParseFailure>
+    ensures place { IfOk result (IsErrorPlace (Sized Sizes.Fitting (IsPart flavour)) piece.now) }
+    ensures memory { IfErr result (λ failure. failure ≡ None) }
 {
-    let (mut start, mut was_digit, mut is_qualifier) = (0, false, false);
-    for (index, c) in text.char_indices() {
-        let is_digit = c.is_ascii_digit();
-        if is_digit && !was_digit {
-            start = index;
-        }
-        if was_digit && (matches!(c, '-' | '+') || c.is_ascii_alphabetic()) {
-            is_qualifier = true;
-        } else if !c.is_ascii_alphanumeric() && !matches!(c, '-' | '+' | '.') {
-            is_qualifier = false;
-        }
-        let number = text.get(start..=index).unwrap_or("");
-        if is_digit && !is_qualifier && number.parse::<u64>().is_err() {
-            return start.min(text.len());
-        }
-        was_digit = is_digit;
-    }
-    text.len()
+    longest_viable(alloc, piece, Grammar::Ranges(flavour, Sizes::Fitting))
 }
 
 // The index of the first character that no tag has, for an alternative that isn't a range from its start on and begins as a tag does.
@@ -134,8 +124,12 @@ pub(crate) fn cause_of(
 {
     let outside = outside_tag(piece);
     match rejection {
+        Rejection::EmptyConstraint => Ok(CauseAt {
+            place: 0,
+            cause: Cause::Empty,
+        }),
         Rejection::NumberTooLarge => Ok(CauseAt {
-            place: large_number(piece),
+            place: large_number(alloc, piece, flavour)?,
             cause: Cause::NumberTooLarge,
         }),
         Rejection::BoundTooLarge => Ok(CauseAt {

@@ -3,7 +3,7 @@
 ghost use Rattle.std.specs.Prelude.{◌≡◌, ◌↔◌, IfErr, IfOk, IsTrue, None};
 ghost use Rattle.error_places.specs.Kinds.{AreExpected, IsExpectation, IsExpected, IsWhole, kind_text};
 
-use crate::{is_piece, is_range, may_follow};
+use crate::{Sizes, is_piece, is_range, may_follow};
 use semver_base::failure::ParseFailure;
 use semver_req::common::values::Flavour;
 use std::alloc::Global;
@@ -146,9 +146,9 @@ fn may_end(alloc: Global, prefix: &str, flavour: Flavour) -> Result<bool, ParseF
     ensures memory { IfErr result (λ failure. failure ≡ None) }
 {
     match flavour {
-        Flavour::Npm => is_piece(alloc, prefix, false, Flavour::Npm),
-        Flavour::Normal => is_piece(alloc, prefix, false, Flavour::Normal),
-        Flavour::Specifier => is_range(alloc, prefix),
+        Flavour::Npm => is_piece(alloc, prefix, false, Flavour::Npm, Sizes::Any),
+        Flavour::Normal => is_piece(alloc, prefix, false, Flavour::Normal, Sizes::Any),
+        Flavour::Specifier => is_range(alloc, prefix, Sizes::Any),
     }
 }
 

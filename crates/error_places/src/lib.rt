@@ -4,9 +4,8 @@
 #![tactic(auto)]
 
 ghost use Rattle.std.specs.Prelude.{◌≡◌, ◌↔◌, ◌++◌, IfErr, IfOk, IsTrue, List, ℕ, false, true, None};
-ghost use Rattle.semver_base.specs.Comparators.{Comparator};
-ghost use Rattle.semver_req.specs.Outcome.{IsSpecifierRange};
-ghost use Rattle.error_places.specs.Viable.{HasPiece, IsErrorPlace, IsPart, IsPieceOrCut, IsTextOf, IsViablePrefix};
+ghost use Rattle.error_places.specs.Sizes.{Sized, admits, is_in_grammar};
+ghost use Rattle.error_places.specs.Viable.{HasPiece, HasRange, IsErrorPlace, IsPart, IsPieceOrCut, IsTextOf, IsViablePrefix};
 ghost use Rattle.semver_req.specs.Pieces.{IsCutting};
 
 pub mod causes;
@@ -15,6 +14,8 @@ pub mod pieces;
 pub mod versions;
 
 use semver_base::failure::{ParseFailure, Rejection};
+use semver_base::lexical::values::Measured;
+use semver_base::partial::Partial;
 use semver_req::common::comparator::non_primitive_front;
 use semver_req::common::values::Flavour;
 use semver_req::range_set_or_tag::RangeOrInvalid;
@@ -23,10 +24,45 @@ use std::alloc::Global;
 // The grammars in which places are found.
 #[derive(Clone, Copy)]
 pub(crate) enum Grammar {
-    // Alternatives, or ranges of the strict grammar.
-    Ranges(Flavour),
+    // Alternatives, or ranges of the strict grammar, whose numbers have these sizes.
+    Ranges(Flavour, Sizes),
     // Versions whose numbers fit in 64 bits.
     Versions,
+}
+
+// The sizes of numbers that a grammar admits.
+#[derive(Clone, Copy)]
+pub(crate) enum Sizes {
+    // Any size.
+    Any,
+    // What fits in 64 bits.
+    Fitting,
+}
+
+impl Sizes {
+    // Whether a partial version is admitted.
+    fn admits(self, partial: &Measured<Partial>) -> bool
+        ensures { result ≡ admits self partial.now }
+    {
+        match self {
+            Sizes::Any => true,
+            Sizes::Fitting => match partial {
+                Measured::Fits(_) => true,
+                Measured::TooLarge => false,
+            },
+        }
+    }
+
+    // Whether an alternative that is rejected for this reason is one of the grammar.
+    fn is_in_grammar(self, rejection: Rejection) -> bool
+        ensures { result ≡ is_in_grammar self rejection }
+    {
+        match (rejection, self) {
+            (Rejection::UnexpectedCharacter, _) => false,
+            (Rejection::NumberTooLarge, Sizes::Fitting) => false,
+            _ => true,
+        }
+    }
 }
 
 // Whether the text, which is followed by `||` or not, is an alternative of the grammar.
@@ -35,8 +71,10 @@ fn is_piece(
     text: &str,
     is_followed: bool,
     flavour: Flavour,
+    sizes: Sizes,
 ) -> Result<bool, ParseFailure>
-    ensures value { IfOk result (λ yes. IsTrue yes ↔ HasPiece flavour is_followed text.now) }
+    ensures value { IfOk result
+        (λ yes. IsTrue yes ↔ HasPiece flavour sizes is_followed text.now) }
     ensures memory { IfErr result (λ failure. failure ≡ None) }
 {
     match RangeOrInvalid::parse(alloc, text, is_followed, flavour)? {
@@ -44,7 +82,7 @@ fn is_piece(
             drop(range);
             Ok(true)
         }
-        RangeOrInvalid::Invalid(rejection) => Ok(rejection != Rejection::UnexpectedCharacter),
+        RangeOrInvalid::Invalid(rejection) => Ok(sizes.is_in_grammar(rejection)),
     }
 }
 
@@ -54,13 +92,14 @@ fn is_piece_with(
     prefix: &str,
     ending: &str,
     flavour: Flavour,
+    sizes: Sizes,
 ) -> Result<bool, ParseFailure>
     ensures value { IfOk result
-        (λ yes. IsTrue yes ↔ HasPiece flavour false (prefix.now ++ ending.now)) }
+        (λ yes. IsTrue yes ↔ HasPiece flavour sizes false (prefix.now ++ ending.now)) }
     ensures memory { IfErr result (λ failure. failure ≡ None) }
 {
     let text = format!(in alloc; "{prefix}{ending}")?;
-    is_piece(alloc, &text, false, flavour)
+    is_piece(alloc, &text, false, flavour, sizes)
 }
 
 // Whether the prefix is an alternative with these bars behind it.
@@ -69,76 +108,92 @@ fn is_piece_before(
     prefix: &str,
     bars: &str,
     flavour: Flavour,
+    sizes: Sizes,
 ) -> Result<bool, ParseFailure>
-    ensures value { IfOk result (λ yes. IsTrue yes
-        ↔ ((piece : List ℕ) × (prefix.now ≡ piece ++ bars.now) × HasPiece flavour true piece)) }
+    ensures value { IfOk result (λ yes. IsTrue yes ↔ ((piece : List ℕ)
+        × (prefix.now ≡ piece ++ bars.now) × HasPiece flavour sizes true piece)) }
     ensures memory { IfErr result (λ failure. failure ≡ None) }
 {
     match prefix.strip_suffix(bars) {
-        Some(piece) => is_piece(alloc, piece, true, flavour),
+        Some(piece) => is_piece(alloc, piece, true, flavour, sizes),
         None => Ok(false),
     }
 }
 
 // Whether some alternative of the grammar, alone or with the `||` that follows it, begins with the prefix.
-fn is_viable_piece(alloc: Global, prefix: &str, flavour: Flavour) -> Result<bool, ParseFailure>
+fn is_viable_piece(
+    alloc: Global,
+    prefix: &str,
+    flavour: Flavour,
+    sizes: Sizes,
+) -> Result<bool, ParseFailure>
     requires { IsCutting flavour }
     ensures value { IfOk result
-        (λ yes. IsTrue yes ↔ IsViablePrefix (IsPieceOrCut flavour) prefix.now) }
+        (λ yes. IsTrue yes ↔ IsViablePrefix (Sized sizes (IsPieceOrCut flavour)) prefix.now) }
     ensures memory { IfErr result (λ failure. failure ≡ None) }
 {
-    if is_piece(alloc, prefix, true, flavour)? {
+    if is_piece(alloc, prefix, true, flavour, sizes)? {
         return Ok(true);
     }
-    if is_piece_with(alloc, prefix, "1", flavour)? {
+    if is_piece_with(alloc, prefix, "1", flavour, sizes)? {
         return Ok(true);
     }
-    if is_piece_with(alloc, prefix, " 1", flavour)? {
+    if is_piece_with(alloc, prefix, " 1", flavour, sizes)? {
         return Ok(true);
     }
-    if is_piece_with(alloc, prefix, "&", flavour)? {
+    if is_piece_with(alloc, prefix, "&", flavour, sizes)? {
         return Ok(true);
     }
-    if is_piece_before(alloc, prefix, "|", flavour)? {
+    if is_piece_before(alloc, prefix, "|", flavour, sizes)? {
         return Ok(true);
     }
-    is_piece_before(alloc, prefix, "||", flavour)
+    is_piece_before(alloc, prefix, "||", flavour, sizes)
 }
 
 // Whether the text is a range of the strict grammar.
-fn is_range(alloc: Global, text: &str) -> Result<bool, ParseFailure>
-    ensures value { IfOk result
-        (λ yes. IsTrue yes ↔ ((c : Comparator) × IsSpecifierRange text.now c)) }
+fn is_range(alloc: Global, text: &str, sizes: Sizes) -> Result<bool, ParseFailure>
+    ensures value { IfOk result (λ yes. IsTrue yes ↔ HasRange sizes text.now) }
     ensures memory { IfErr result (λ failure. failure ≡ None) }
 {
     let Some((written, rest)) = non_primitive_front(alloc, text, Flavour::Specifier)? else {
         return Ok(false);
     };
+    let is_admitted = sizes.admits(&written.partial);
     drop(written);
-    Ok(rest.is_empty())
+    if rest.is_empty() {
+        return Ok(is_admitted);
+    }
+    Ok(false)
 }
 
 // Whether some range of the strict grammar begins with the prefix.
-fn is_viable_range(alloc: Global, prefix: &str) -> Result<bool, ParseFailure>
-    ensures value { IfOk result (λ yes. IsTrue yes ↔ IsViablePrefix IsSpecifierRange prefix.now) }
+fn is_viable_range(alloc: Global, prefix: &str, sizes: Sizes) -> Result<bool, ParseFailure>
+    ensures value { IfOk result
+        (λ yes. IsTrue yes ↔ IsViablePrefix (Sized sizes (IsPart Flavour.Specifier)) prefix.now) }
     ensures memory { IfErr result (λ failure. failure ≡ None) }
 {
-    if is_range(alloc, prefix)? {
+    if is_range(alloc, prefix, sizes)? {
         return Ok(true);
     }
     let text = format!(in alloc; "{prefix}1")?;
-    is_range(alloc, &text)
+    is_range(alloc, &text, sizes)
 }
 
 // Whether some alternative, or some range of the strict grammar, begins with the prefix.
-fn is_viable_part(alloc: Global, prefix: &str, flavour: Flavour) -> Result<bool, ParseFailure>
-    ensures value { IfOk result (λ yes. IsTrue yes ↔ IsViablePrefix (IsPart flavour) prefix.now) }
+fn is_viable_part(
+    alloc: Global,
+    prefix: &str,
+    flavour: Flavour,
+    sizes: Sizes,
+) -> Result<bool, ParseFailure>
+    ensures value { IfOk result
+        (λ yes. IsTrue yes ↔ IsViablePrefix (Sized sizes (IsPart flavour)) prefix.now) }
     ensures memory { IfErr result (λ failure. failure ≡ None) }
 {
     match flavour {
-        Flavour::Npm => is_viable_piece(alloc, prefix, Flavour::Npm),
-        Flavour::Normal => is_viable_piece(alloc, prefix, Flavour::Normal),
-        Flavour::Specifier => is_viable_range(alloc, prefix),
+        Flavour::Npm => is_viable_piece(alloc, prefix, Flavour::Npm, sizes),
+        Flavour::Normal => is_viable_piece(alloc, prefix, Flavour::Normal, sizes),
+        Flavour::Specifier => is_viable_range(alloc, prefix, sizes),
     }
 }
 
@@ -149,7 +204,7 @@ fn is_viable(alloc: Global, prefix: &str, grammar: Grammar) -> Result<bool, Pars
     ensures memory { IfErr result (λ failure. failure ≡ None) }
 {
     match grammar {
-        Grammar::Ranges(flavour) => is_viable_part(alloc, prefix, flavour),
+        Grammar::Ranges(flavour, sizes) => is_viable_part(alloc, prefix, flavour, sizes),
         Grammar::Versions => versions::is_viable_version(alloc, prefix),
     }
 }
@@ -204,7 +259,7 @@ pub fn error_place(alloc: Global, text: &str, flavour: Flavour) -> Result<usize,
     ensures place { IfOk result (IsErrorPlace (IsPart flavour) text.now) }
     ensures memory { IfErr result (λ failure. failure ≡ None) }
 {
-    longest_viable(alloc, text, Grammar::Ranges(flavour))
+    longest_viable(alloc, text, Grammar::Ranges(flavour, Sizes::Any))
 }
 
 /// Whether some text of the grammar begins with the prefix and then `next`. What could have followed at an [`error_place`] is asked with
@@ -221,5 +276,5 @@ pub fn may_follow(
         (λ yes. IsTrue yes ↔ IsViablePrefix (IsPart flavour) (prefix.now ++ next.now)) }
     ensures memory { IfErr result (λ failure. failure ≡ None) }
 {
-    is_viable_with(alloc, prefix, next, Grammar::Ranges(flavour))
+    is_viable_with(alloc, prefix, next, Grammar::Ranges(flavour, Sizes::Any))
 }

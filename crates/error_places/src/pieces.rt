@@ -1,15 +1,19 @@
 //! The invalid alternatives of a text.
 
-ghost use Rattle.std.specs.Prelude.{◌≡◌, ◌++◌, ◌+◌, ◌<◌, ◌^◌, ◌∷◌, [], IfErr, IfOk, List, MatchOption, None, OnErr, OnOk, length};
-ghost use Rattle.error_places.specs.Causes.{IsRejected};
+ghost use Rattle.std.specs.Prelude.{◌≡◌, ◌++◌, ◌+◌, ◌<◌, ◌^◌, ◌∷◌, [], IfErr, IfOk, List, MatchOption, None, OnErr, OnOk, length, true};
+ghost use Rattle.semver_base.specs.Comparators.{Comparator};
+ghost use Rattle.error_places.specs.Causes.{IsRejected, IsStrictRejection};
 ghost use Rattle.error_places.specs.InvalidPieces.{AreErrorsOf, AreInvalidPieces, IsErrorAt, IsErrorOf, IsStrictError};
 ghost use Rattle.error_places.specs.declared.pieces.InvalidPiece.{InvalidPiece};
+ghost use Rattle.semver_req.specs.Comparators.{fits};
+ghost use Rattle.semver_req.specs.Outcome.{IsSpecifierRange};
 ghost use Rattle.semver_req.specs.Pieces.{HasNoBar, IsCutAt, IsCutting};
 
 use crate::causes::{Cause, cause_of};
-use crate::is_range;
 use semver_base::failure::{ParseFailure, Rejection};
-use semver_base::lexical::after_whitespace;
+use semver_base::lexical::values::Measured;
+use semver_base::lexical::{after_whitespace, is_all_whitespace};
+use semver_req::common::comparator::{Written, non_primitive_front};
 use semver_req::common::values::Flavour;
 use semver_req::range_set_or_tag::RangeOrInvalid;
 use std::alloc::{AllocError, Global};
@@ -127,24 +131,54 @@ fn errors_of(
     }
 }
 
+// Why the strict parser finds no range in a text; none if it does.
+fn strict_rejection(alloc: Global, text: &str) -> Result<Option<Rejection>, ParseFailure>
+    ensures value { IfOk result (λ found. MatchOption found
+        ((c : Comparator) × IsSpecifierRange text.now c × (fits c ≡ true))
+        (IsStrictRejection text.now)) }
+    ensures memory { IfErr result (λ failure. failure ≡ None) }
+{
+    let Some((written, rest)) = non_primitive_front(alloc, text, Flavour::Specifier)? else {
+        if is_all_whitespace(text) {
+            return Ok(Some(Rejection::EmptyConstraint));
+        }
+        return Ok(Some(Rejection::UnexpectedCharacter));
+    };
+    let Written { operator, partial } = written;
+    let Measured::Fits(partial) = partial else {
+        return Ok(Some(Rejection::NumberTooLarge));
+    };
+    let range = operator.range(alloc, &partial);
+    drop(partial);
+    match range {
+        Ok(range) => {
+            drop(range);
+            if rest.is_empty() {
+                return Ok(None);
+            }
+            Ok(Some(Rejection::UnexpectedCharacter))
+        }
+        Err(failure) if failure.is_memory() => Err(failure),
+        Err(_) => Ok(Some(Rejection::BoundTooLarge)),
+    }
+}
+
 // The error of a text that isn't a range of the strict grammar.
 fn strict_errors(alloc: Global, text: &str) -> Result<Vec<InvalidPiece>, ParseFailure>
     ensures value { IfOk result (λ errors. IsStrictError text.now errors.items) }
     ensures memory { IfErr result (λ failure. failure ≡ None) }
 {
     let mut errors = Vec::new(alloc);
-    if is_range(alloc, text)? {
+    let Some(rejection) = strict_rejection(alloc, text)? else {
         return Ok(errors);
-    }
-    let rejection = Rejection::UnexpectedCharacter;
+    };
     let error = error_of(alloc, 0, text, rejection, Flavour::Specifier)?;
     push(&mut errors, error)?;
     Ok(errors)
 }
 
 /// The alternatives of a text that are invalid, in their order, with what is wrong in each and where: none if the text is valid.
-/// npm's parser trims a text before it splits it. In the strict grammar, which has no alternatives, the whole text is meant, and
-/// sizes of numbers don't matter.
+/// npm's parser trims a text before it splits it. In the strict grammar, which has no alternatives, the whole text is meant.
 ///
 /// Takes time that grows as n log n. Fails only out of memory.
 pub fn invalid_pieces(
