@@ -139,7 +139,7 @@ int32_t semver_explain(uint32_t grammar, const uint8_t *range, size_t range_len,
 /* What is wrong with a range, as JSON: YES, with an array of its invalid alternatives, in the order in which they stand. Each has "message",
  * "start", the index of the byte at which it goes wrong, "end", where it ends, and "expected", what could be at "start": "digit",
  * "letter", "whitespace", "end", or a text such as ".". A tag isn't a range, so it is one, too. By the strict grammar the one alternative is
- * the text, and the size of its numbers doesn't matter. */
+ * the text. */
 int32_t semver_errors(uint32_t grammar, const uint8_t *range, size_t range_len, uint8_t *out, size_t out_len, size_t *needed);
 
 /* Where a text stops being a version: YES, and `*place` is the index of the byte at which no version goes on like this. For a version,

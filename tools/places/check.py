@@ -2,7 +2,8 @@
 """Compares the places of errors in random texts with an automaton of each grammar, written here from the grammars alone. Run at
 the top of the project, after rt ci (or after rt run in crates/conformance and crates/ranges).
 
-    tools/places/check.py [COUNT] [SEED]    COUNT: so many texts, 100,000 if it isn't given; and a fifth as many of versions
+    tools/places/check.py [COUNT] [SEED]    COUNT: so many texts, 100,000 if it isn't given; a fifth as many of versions, and as many
+                                            with numbers that don't all fit
 
 A grammar is a regular expression. Its derivative by a character is what may follow that character; a prefix is viable until no
 derivative is left. Each text is asked of the program conformance by each grammar, and some are asked of ranges, which says the
@@ -121,17 +122,9 @@ def partial(wildcards, number, is_loose):
     return seq(component, optional(seq(chars("."), component, optional(third))))
 
 
-LOOSE = some(chars(DIGITS))
-STRICT = alt(chars("0"), seq(chars(DIGITS[1:]), star(chars(DIGITS))))
-NPM = seq(optional(chars("v")), partial("*xX", LOOSE, True))
-LED = seq(star(chars("=")), SPACES, optional(chars("v")), SPACES, NPM)
-IGNORED = optional(seq(OPERATOR, SOME_SPACES))
 TILDE = alt(text("~>"), text("~"))
-NPM_COMPARATOR = alt(seq(IGNORED, alt(TILDE, chars("^")), LED), seq(OPERATOR, SPACES, NPM), NPM)
 NPM_SEPARATOR = alt(seq(SPACES, alt(text("&&"), text(",")), SPACES), SOME_SPACES)
-HYPHEN = seq(NPM, SOME_SPACES, chars("-"), SOME_SPACES, NPM, SPACES)
-NORMAL = partial("*", LOOSE, True)
-NORMAL_COMPARATOR = alt(seq(chars("~^"), NORMAL), seq(OPERATOR, SPACES, NORMAL), NORMAL)
+IGNORED = optional(seq(OPERATOR, SOME_SPACES))
 
 
 def piece(filled):
@@ -139,30 +132,42 @@ def piece(filled):
     return alt(optional(filled), seq(alt(optional(filled), SOME_SPACES), BARS))
 
 
-GRAMMARS = {
-    "npm": piece(alt(HYPHEN, listed(NPM_COMPARATOR, NPM_SEPARATOR))),
-    "normal": piece(listed(NORMAL_COMPARATOR, SOME_SPACES)),
-    "strict": seq(optional(chars("~^")), partial("*xX", STRICT, False)),
-}
+def grammars(loose, strict):
+    """The grammar of each name, whose numbers are these."""
+    npm = seq(optional(chars("v")), partial("*xX", loose, True))
+    led = seq(star(chars("=")), SPACES, optional(chars("v")), SPACES, npm)
+    npm_comparator = alt(seq(IGNORED, alt(TILDE, chars("^")), led), seq(OPERATOR, SPACES, npm), npm)
+    hyphen = seq(npm, SOME_SPACES, chars("-"), SOME_SPACES, npm, SPACES)
+    normal = partial("*", loose, True)
+    normal_comparator = alt(seq(chars("~^"), normal), seq(OPERATOR, SPACES, normal), normal)
+    return {
+        "npm": piece(alt(hyphen, listed(npm_comparator, NPM_SEPARATOR))),
+        "normal": piece(listed(normal_comparator, SOME_SPACES)),
+        "strict": seq(optional(chars("~^")), partial("*xX", strict, False)),
+    }
 
-# ---- the grammar of versions, whose numbers fit in 64 bits
+
 def up_to(count):
     """One digit or more, and at most so many."""
     return seq(chars(DIGITS), optional(up_to(count - 1))) if count > 1 else chars(DIGITS)
 
 
-def at_most(most):
-    """Numbers up to this one, with leading zeros or without: one with as many digits is lower at the first digit that differs."""
-    digits = str(most)
-    lower = [
-        seq(text(digits[:at]), chars(DIGITS[: int(digits[at])]), *[chars(DIGITS)] * (len(digits) - at - 1))
+def lower(digits, first):
+    """Numbers of as many digits that are lower, at the first digit that differs; this is the lowest of the first digits."""
+    return [
+        seq(text(digits[:at]), chars(DIGITS[0 if at else first : int(digits[at])]), *[chars(DIGITS)] * (len(digits) - at - 1))
         for at in range(len(digits))
-        if digits[at] != "0"
+        if int(digits[at]) > (0 if at else first)
     ]
-    return seq(star(chars("0")), alt(up_to(len(digits) - 1), text(digits), *lower))
 
 
-FITTING = at_most(2**64 - 1)
+MOST = str(2**64 - 1)
+FITTING = seq(star(chars("0")), alt(up_to(len(MOST) - 1), text(MOST), *lower(MOST, 0)))
+STRICT_FITTING = alt(chars("0"), seq(chars(DIGITS[1:]), optional(up_to(len(MOST) - 2))), text(MOST), *lower(MOST, 1))
+GRAMMARS = grammars(some(chars(DIGITS)), alt(chars("0"), seq(chars(DIGITS[1:]), star(chars(DIGITS)))))
+FITTING_GRAMMARS = grammars(FITTING, STRICT_FITTING)
+
+# ---- the grammar of versions, whose numbers fit in 64 bits
 LEAD = seq(optional(chars("=")), SPACES, optional(seq(chars("v"), SPACES)))
 NUMBERS = seq(FITTING, chars("."), FITTING, chars("."), FITTING)
 VERSION = seq(SPACES, LEAD, NUMBERS, qualifier(LETTERS), SPACES)
@@ -184,6 +189,15 @@ PARTS = (
 )
 
 
+COMPARATORS = (("", "", "^", "~", "~>", ">=", "< ", "= ", "v"), *(NUMBER_TEXTS, (".", ".", ".x", ".*.", "")) * 2, NUMBER_TEXTS, ("", "", "-a", "+1"))
+
+
+def random_comparators(source):
+    """Comparators of such numbers, most of which are a text of some grammar."""
+    count = source.choice((1, 1, 2, 3))
+    return source.choice((" ", " ", " - ", ",")).join("".join(map(source.choice, COMPARATORS)) for _ in range(count))
+
+
 def random_text(source):
     return "".join(source.choices(PIECES, k=source.randint(0, 12)))
 
@@ -193,6 +207,19 @@ def random_version(source):
     if source.random() < 0.5:
         parts[source.randrange(len(parts))] = source.choice(PIECES)
     return "".join(parts)
+
+
+def is_text(grammar, given):
+    return has_empty(functools.reduce(after, given, grammar))
+
+
+def too_large(texts):
+    """Of each text of a grammar whose numbers don't all fit: the digit with which one no longer does."""
+    for given in texts:
+        for name, grammar in GRAMMARS.items():
+            if is_text(grammar, given) and not is_text(FITTING_GRAMMARS[name], given):
+                found = ["0", str(len(given)), str(place(FITTING_GRAMMARS[name], given)), "Number is too large."]
+                yield json.dumps([["invalid-pieces", name, given], found])
 
 
 def rows(texts, versions):
@@ -220,11 +247,13 @@ def main():
     source = random.Random(seed)
     texts = [random_text(source) for _ in range(count)]
     versions = [random_version(source) for _ in range(count // 5)]
-    ran = subprocess.run([CONFORMANCE], input="\n".join(rows(texts, versions)).encode(), capture_output=True)
+    large = list(too_large(random_comparators(source) for _ in range(count // 5)))
+    ran = subprocess.run([CONFORMANCE], input="\n".join([*rows(texts, versions), *large]).encode(), capture_output=True)
     differing = list(asked_of_ranges(texts[:SHOWN]))
     print(*differing[:10], sep="\n", end="")
     print(ran.stdout.decode(), end="")
-    print(f"{3 * count} places in ranges, {count // 5} in versions, {min(count, SHOWN)} texts shown, {len(differing)} of these differ")
+    print(f"{3 * count} places in ranges, {count // 5} in versions, {len(large)} of numbers, {min(count, SHOWN)} texts shown,")
+    print(f"{len(differing)} of these differ")
     return 1 if differing or ran.returncode else 0
 
 

@@ -7,12 +7,12 @@ use crate::arguments::{
 };
 use crate::notation;
 use crate::parse::Parse;
+use deno_semver::errors::{
+    Expected, InvalidPiece, error_place, expected_after, invalid_pieces, may_follow,
+};
 use deno_semver::npm::is_valid_npm_tag;
 use deno_semver::package::PackageReq;
 use deno_semver::{IntoVersionReq, PreRelease, RangeSetOrTag, Version, VersionReq};
-use error_places::expected::{Expected, expected_after};
-use error_places::pieces::{InvalidPiece, invalid_pieces};
-use error_places::{error_place, may_follow};
 use std::alloc::{AllocError, Global};
 
 /// `tag`: whether a text is a valid tag.

@@ -3,9 +3,9 @@
 use crate::answer::{Answer, Fault, Item, OrFault, Reported};
 use crate::arguments::{Rule, both, only, pair, pre_release, requirement, versions};
 use crate::parse::Parse;
+use deno_semver::errors::{version_error_place, version_may_follow};
 use deno_semver::npm::parse_npm_version;
 use deno_semver::{ParseFailure, Version, VersionPreOrBuild, VersionReq, resolve};
-use error_places::versions::{version_error_place, version_may_follow};
 use std::alloc::Global;
 
 /// `version`: `read` and the version that a text parses to, as displayed.

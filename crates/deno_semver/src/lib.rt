@@ -4,6 +4,7 @@
 //! `semver_base` and `semver_req`; this crate exports their public names at the paths that users write.
 #![tactic(auto)]
 
+pub mod errors;
 pub mod json;
 pub mod jsr;
 pub mod laws;
