@@ -193,7 +193,6 @@ impl RangeOrInvalid {
     }
 
     // Parses the whole piece as a hyphen range.
-    #[inline(always)]
     fn hyphen(alloc: Global, piece: &str) -> Result<Option<RangeOrInvalid>, ParseFailure>
         ensures value { IfOk result (IsWholeRead IsHyphen piece.now) }
         ensures memory { IfErr result (λ failure. failure ≡ None) }
@@ -230,6 +229,24 @@ impl RangeOrInvalid {
         RangeOrInvalid::by_grammar(alloc, piece, flavour)
     }
 
+    // Parses the whole piece, which isn't empty, by npm's grammar. No piece is both a hyphen range and a list, so the order is free: what
+    // it looks like is tried first.
+    #[inline(always)]
+    fn npm(alloc: Global, piece: &str) -> Result<Option<RangeOrInvalid>, ParseFailure>
+        ensures value { IfOk result (IsWholeRead (IsFilled Flavour.Npm) piece.now) }
+        ensures memory { IfErr result (λ failure. failure ≡ None) }
+    {
+        if piece.contains(" - ") {
+            if let Some(read) = RangeOrInvalid::hyphen(alloc, piece)? {
+                return Ok(Some(read));
+            }
+        }
+        if let Some(read) = RangeOrInvalid::list(alloc, piece, Flavour::Npm)? {
+            return Ok(Some(read));
+        }
+        RangeOrInvalid::hyphen(alloc, piece)
+    }
+
     // Parses the whole piece, which isn't empty, by the full grammar.
     fn by_grammar(
         alloc: Global,
@@ -240,10 +257,7 @@ impl RangeOrInvalid {
         ensures memory { IfErr result (λ failure. failure ≡ None) }
     {
         match flavour {
-            Flavour::Npm => match RangeOrInvalid::hyphen(alloc, piece)? {
-                Some(read) => Ok(Some(read)),
-                None => RangeOrInvalid::list(alloc, piece, Flavour::Npm),
-            },
+            Flavour::Npm => RangeOrInvalid::npm(alloc, piece),
             Flavour::Normal => RangeOrInvalid::list(alloc, piece, Flavour::Normal),
             Flavour::Specifier => Ok(None),
         }
