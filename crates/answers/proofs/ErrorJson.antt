@@ -4,8 +4,8 @@ use Rattle.std.specs.Prelude.{◌⊎◌, codes, if◌then◌else◌}
 use Rattle.serde_json.specs.Data.{Data, string}
 use Rattle.semver_base.specs.declared.range.PreRelease.{PreRelease}
 use Rattle.semver_req.specs.declared.common.values.Flavour.{Flavour}
-use Rattle.error_places.specs.declared.expected.Expected.{Expected}
-use Rattle.error_places.specs.declared.expected.Kind.{Kind}
+use Rattle.semver_req.specs.declared.error_places.expected.Expected.{Expected}
+use Rattle.semver_req.specs.declared.error_places.expected.Kind.{Kind}
 use Rattle.answers.specs.Asking.{Fault, OutOfMemory}
 use Rattle.answers.specs.Errors.{expected_names, kind_name}
 use Rattle.answers.specs.ExplainedJson.{Explains, invalid_range}

@@ -11,7 +11,7 @@ use Rattle.semver_base.specs.declared.range.VersionRange.{VersionRange}
 use Rattle.semver_base.specs.declared.version.Version.{Version}
 use Rattle.semver_base.specs.declared.range.PreRelease.{PreRelease}
 use Rattle.semver_base.specs.declared.range.PreRelease.TheVariants as pre_release
-use Rattle.error_places.specs.declared.pieces.InvalidPiece.{InvalidPiece}
+use Rattle.semver_req.specs.declared.error_places.pieces.InvalidPiece.{InvalidPiece}
 use Rattle.answers.specs.Errors.{error_json, errors_json, expected_texts}
 use Rattle.answers.specs.ExplainedJson.{alternatives_json, error_for, error_or_null, errors_behind, lowest_json, matches_json, meaning_json, numbers_text, pre_releases, pre_releases_json, ranges_explained}
 use Rattle.answers.specs.declared.explained.Matches.{Matches}

@@ -5,15 +5,15 @@ use Rattle.serde_json.specs.View.{items_of}
 use Rattle.serde_json.specs.Written.{compact_text}
 use Rattle.semver_base.specs.Failure.{rejection_message}
 use Rattle.semver_req.specs.declared.common.values.Flavour.{Flavour}
-use Rattle.error_places.specs.Causes.{rejection_of}
-use Rattle.error_places.specs.InvalidPieces.{AreInvalidPieces}
-use Rattle.error_places.specs.Kinds.{kind_text}
-use Rattle.error_places.specs.declared.causes.Cause.{Cause}
-use Rattle.error_places.specs.declared.causes.Cause.TheVariants.{Unexpected, NoTag, Empty, NumberTooLarge, BoundTooLarge}
-use Rattle.error_places.specs.declared.expected.Expected.{Expected}
-use Rattle.error_places.specs.declared.expected.Kind.{Kind}
-use Rattle.error_places.specs.declared.expected.Kind.TheVariants.{Digit, Letter, Space}
-use Rattle.error_places.specs.declared.pieces.InvalidPiece.{InvalidPiece}
+use Rattle.semver_req.specs.Causes.{rejection_of}
+use Rattle.semver_req.specs.InvalidPieces.{AreInvalidPieces}
+use Rattle.semver_req.specs.Kinds.{kind_text}
+use Rattle.semver_req.specs.declared.error_places.causes.Cause.{Cause}
+use Rattle.semver_req.specs.declared.error_places.causes.Cause.TheVariants.{Unexpected, NoTag, Empty, NumberTooLarge, BoundTooLarge}
+use Rattle.semver_req.specs.declared.error_places.expected.Expected.{Expected}
+use Rattle.semver_req.specs.declared.error_places.expected.Kind.{Kind}
+use Rattle.semver_req.specs.declared.error_places.expected.Kind.TheVariants.{Digit, Letter, Space}
+use Rattle.semver_req.specs.declared.error_places.pieces.InvalidPiece.{InvalidPiece}
 
 -- a kind of which each text may stand there has a name, any other its one text
 abbrev pub kind_name : Kind → List ℕ

@@ -15,8 +15,8 @@ use Rattle.semver_base.specs.declared.version.Version.{Version}
 use Rattle.semver_req.specs.Parsers.{IsReading}
 use Rattle.semver_req.specs.declared.common.values.Flavour.{Flavour}
 use Rattle.semver_req.specs.declared.range_set_or_tag.RangeSetOrTag.TheVariants as inner
-use Rattle.error_places.specs.InvalidPieces.{AreInvalidPieces}
-use Rattle.error_places.specs.declared.pieces.InvalidPiece.{InvalidPiece}
+use Rattle.semver_req.specs.InvalidPieces.{AreInvalidPieces}
+use Rattle.semver_req.specs.declared.error_places.pieces.InvalidPiece.{InvalidPiece}
 use Rattle.answers.specs.Asking.{Fault}
 use Rattle.answers.specs.Errors.{error_json}
 use Rattle.answers.specs.Explained.{IsExplained}

@@ -18,7 +18,7 @@ use crate::packages::text_json;
 use crate::parts::bound_json;
 use crate::questions::text_of_version;
 use deno_semver::{PreRelease, RangeBound, Version};
-use error_places::pieces::InvalidPiece;
+use semver_req::error_places::pieces::InvalidPiece;
 use semver_req::common::values::Flavour;
 use serde_json::{Value, json};
 use std::alloc::{AllocError, Global};

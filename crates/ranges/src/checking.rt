@@ -12,7 +12,7 @@ use answers::explained::{Explanation, Meaning, Piece, explain};
 use answers::references::read_reference;
 use clap::ArgMatches;
 use deno_semver::PreRelease;
-use error_places::pieces::InvalidPiece;
+use semver_req::error_places::pieces::InvalidPiece;
 use semver_req::common::values::Flavour;
 use serde_json::Value;
 use std::alloc::{AllocError, Global};

@@ -10,7 +10,7 @@ use answers::questions::{common_version, text_of_version, version_outside};
 use answers::reading::{range, ranges};
 use clap::ArgMatches;
 use deno_semver::{ParseFailure, Version, VersionReq};
-use error_places::pieces::InvalidPiece;
+use semver_req::error_places::pieces::InvalidPiece;
 use serde_json::Value;
 use std::alloc::{AllocError, Global};
 use std::io::Write;

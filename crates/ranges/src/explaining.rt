@@ -8,7 +8,7 @@ use answers::explained::{Explanation, Matches, Meaning, Piece, explain};
 use answers::explained_json::{next_error, ranges_explained};
 use clap::ArgMatches;
 use deno_semver::{PreRelease, RangeBound, Version, VersionBound, VersionBoundKind, VersionRange};
-use error_places::pieces::InvalidPiece;
+use semver_req::error_places::pieces::InvalidPiece;
 use std::fmt;
 use std::io::Write;
 

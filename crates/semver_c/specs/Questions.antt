@@ -7,7 +7,7 @@ use Rattle.semver_base.specs.declared.version.Version.{Version}
 use Rattle.semver_req.specs.Requirement.{Requirement}
 use Rattle.semver_req.specs.declared.common.values.Flavour.{Flavour}
 use Rattle.deno_semver.specs.ExportName.{export_name}
-use Rattle.error_places.specs.Viable.{IsErrorPlace, IsVersionText}
+use Rattle.semver_req.specs.Viable.{IsErrorPlace, IsVersionText}
 use Rattle.answers.specs.Asking.{Fault, Given, Is}
 use Rattle.answers.specs.Errors.{IsErrorsText}
 use Rattle.answers.specs.ExplainedJson.{Explains}

@@ -49,3 +49,18 @@ pub mod WithoutSeparators
 pub mod WritableRanges
 pub mod WrittenComparators
 pub mod WrittenSets
+pub mod Endings
+pub mod WordEndings
+pub mod PartialEndings
+pub mod NpmEndings
+pub mod ViableParts
+pub mod Alike
+pub mod AlikeWords
+pub mod AlikeParts
+pub mod InvalidPieces
+pub mod KindTexts
+mod ErrorCauses
+pub mod StrictRejections
+pub mod Trimmed
+pub mod VersionEndings
+pub mod VersionTexts

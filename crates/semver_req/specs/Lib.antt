@@ -15,3 +15,8 @@ pub mod SpecifierRejections
 pub mod Tag
 pub mod TextRejection
 pub mod Written
+pub mod Sizes
+pub mod Viable
+pub mod InvalidPieces
+pub mod Kinds
+pub mod Causes

@@ -2,10 +2,12 @@
 //!
 //! The second crate of the port of `deno_semver`. Its modules, bottom up: `common`, comparators parsed from a text; `tag`,
 //! which texts are tags; `range_set_or_tag` and `req`, requirements and their canonical form, and the normalized parser;
-//! `specifier`, the strict parser; `npm`, npm's parser; `parse`, the parser of any of the three grammars.
+//! `specifier`, the strict parser; `npm`, npm's parser; `parse`, the parser of any of the three grammars; `error_places`, where a text
+//! leaves its grammar.
 #![tactic(auto)]
 
 pub mod common;
+pub mod error_places;
 pub mod laws;
 pub mod npm;
 mod parse;

@@ -1,9 +1,0 @@
-use Rattle.error_places.proofs.Parts.{good_piece, rejected_piece}
-use Rattle.error_places.proofs.is_piece.Goals as goal
-
-pub returns-in-Range-clause-value : goal.returns-in-Range-clause-value
-returns-in-Range-clause-value c = good_piece c.args.flavour c.args.sizes c.args.is_followed c.args.text.now (rw c.in-Range.is at c.in_ok-range.ensures.value)
-
-pub returns-in-Invalid-clause-value : goal.returns-in-Invalid-clause-value
-returns-in-Invalid-clause-value c =
-    rw c.is_in_grammar.ensures (rejected_piece c.args.flavour c.args.sizes c.args.is_followed c.args.text.now c.in-Invalid.rejection (rw c.in-Invalid.is at c.in_ok-range.ensures.value))

@@ -1,9 +1,0 @@
-use Rattle.std.proofs.Common.{◌++◌, sym, ap, ◌∙◌}
-use Rattle.std.proofs.lemmas.Result.{IfOk-weaker}
-use Rattle.error_places.proofs.Parts.{before_piece}
-use Rattle.error_places.proofs.is_piece_before.Goals as goal
-
-pub returns-in-Some-clause-value : goal.returns-in-Some-clause-value
-returns-in-Some-clause-value c =
-    let k = c.in-Some.ensures.cases in
-    IfOk-weaker c.is_piece.result _ _ (before_piece c.args.flavour c.args.sizes _ _ _ (k.1.1 ∙ ap (λ t. t ++ c.args.bars.now) (sym k.2))) c.is_piece.ensures.value

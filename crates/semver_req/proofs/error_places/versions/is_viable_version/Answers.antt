@@ -1,0 +1,27 @@
+use Rattle.std.proofs.Common.{◌≡◌, inl, inr, arith}
+use Rattle.std.proofs.lemmas.Bool.{both_ways, cases_lt}
+use Rattle.semver_req.proofs.VersionTexts.{none_made}
+use Rattle.semver_req.proofs.error_places.versions.is_viable_version.Goals as goal
+
+pub loop-ending-init : goal.loop-ending-init
+loop-ending-init c = λ k less made. omega arith
+
+pub loop-ending-preserved : goal.loop-ending-preserved
+loop-ending-preserved c = λ k less made. elim (cases_lt k c.loop-ending.ending-index) [
+  | inl earlier ↦ c.loop-ending.invariant k earlier made
+  | inr there ↦
+      let same : k ≡ c.loop-ending.ending-index = omega arith in
+      both_ways c.in_ok-is_version_with.field-0 c.if-branch.false (c.in_ok-is_version_with.ensures.value.1 (rw same at made))
+]
+
+pub returns-clause-value : goal.returns-clause-value
+returns-clause-value c = (
+  λ t. cc t,
+  λ v. absurd (none_made c.args.prefix.now c.utf8.prefix
+      (λ m. c.loop-ending.invariant 0 (omega (arith, c.loop-ending-test.false)) m)
+      (λ m. c.loop-ending.invariant 1 (omega (arith, c.loop-ending-test.false)) m)
+      (λ m. c.loop-ending.invariant 2 (omega (arith, c.loop-ending-test.false)) m)
+      (λ m. c.loop-ending.invariant 3 (omega (arith, c.loop-ending-test.false)) m)
+      (λ m. c.loop-ending.invariant 4 (omega (arith, c.loop-ending-test.false)) m)
+      (λ m. c.loop-ending.invariant 5 (omega (arith, c.loop-ending-test.false)) m) v),
+)

@@ -1,0 +1,279 @@
+//! The exact place of a syntax error: the end of the longest prefix with which some text of the grammar begins.
+//!
+//! No second parser decides it. Whether a prefix is viable is asked of the parser itself, on the prefix with a few endings behind it.
+
+ghost use Rattle.std.specs.Prelude.{◌≡◌, ◌↔◌, ◌++◌, IfErr, IfOk, IsTrue, List, ℕ, false, true, None};
+ghost use Rattle.semver_req.specs.Sizes.{Sized, admits, is_in_grammar};
+ghost use Rattle.semver_req.specs.Viable.{HasPiece, HasRange, IsErrorPlace, IsPart, IsPieceOrCut, IsTextOf, IsViablePrefix};
+ghost use Rattle.semver_req.specs.Pieces.{IsCutting};
+
+pub mod causes;
+pub mod expected;
+pub mod pieces;
+pub mod versions;
+
+use crate::common::comparator::non_primitive_front;
+use crate::common::values::Flavour;
+use crate::range_set_or_tag::RangeOrInvalid;
+use semver_base::failure::{ParseFailure, Rejection};
+use semver_base::lexical::values::Measured;
+use semver_base::partial::Partial;
+use std::alloc::Global;
+
+// The grammars in which places are found.
+#[derive(Clone, Copy)]
+pub(crate) enum Grammar {
+    // Alternatives, or ranges of the strict grammar, whose numbers have these sizes.
+    Ranges(Flavour, Sizes),
+    // Versions whose numbers fit in 64 bits.
+    Versions,
+}
+
+// The sizes of numbers that a grammar admits.
+#[derive(Clone, Copy)]
+pub(crate) enum Sizes {
+    // Any size.
+    Any,
+    // What fits in 64 bits.
+    Fitting,
+}
+
+impl Sizes {
+    // Whether a partial version is admitted.
+    fn admits(self, partial: &Measured<Partial>) -> bool
+        ensures { result ≡ admits self partial.now }
+    {
+        match self {
+            Sizes::Any => true,
+            Sizes::Fitting => match partial {
+                Measured::Fits(_) => true,
+                Measured::TooLarge => false,
+            },
+        }
+    }
+
+    // Whether an alternative that is rejected for this reason is one of the grammar.
+    fn is_in_grammar(self, rejection: Rejection) -> bool
+        ensures { result ≡ is_in_grammar self rejection }
+    {
+        match (rejection, self) {
+            (Rejection::UnexpectedCharacter, _) => false,
+            (Rejection::NumberTooLarge, Sizes::Fitting) => false,
+            _ => true,
+        }
+    }
+}
+
+// Whether the text, which is followed by `||` or not, is an alternative of the grammar.
+fn is_piece(
+    alloc: Global,
+    text: &str,
+    is_followed: bool,
+    flavour: Flavour,
+    sizes: Sizes,
+) -> Result<bool, ParseFailure>
+    ensures value { IfOk result
+        (λ yes. IsTrue yes ↔ HasPiece flavour sizes is_followed text.now) }
+    ensures memory { IfErr result (λ failure. failure ≡ None) }
+{
+    match RangeOrInvalid::parse(alloc, text, is_followed, flavour)? {
+        RangeOrInvalid::Range(range) => {
+            drop(range);
+            Ok(true)
+        }
+        RangeOrInvalid::Invalid(rejection) => Ok(sizes.is_in_grammar(rejection)),
+    }
+}
+
+// Whether the prefix with this ending is an alternative.
+fn is_piece_with(
+    alloc: Global,
+    prefix: &str,
+    ending: &str,
+    flavour: Flavour,
+    sizes: Sizes,
+) -> Result<bool, ParseFailure>
+    ensures value { IfOk result
+        (λ yes. IsTrue yes ↔ HasPiece flavour sizes false (prefix.now ++ ending.now)) }
+    ensures memory { IfErr result (λ failure. failure ≡ None) }
+{
+    let text = format!(in alloc; "{prefix}{ending}")?;
+    is_piece(alloc, &text, false, flavour, sizes)
+}
+
+// Whether the prefix is an alternative with these bars behind it.
+fn is_piece_before(
+    alloc: Global,
+    prefix: &str,
+    bars: &str,
+    flavour: Flavour,
+    sizes: Sizes,
+) -> Result<bool, ParseFailure>
+    ensures value { IfOk result (λ yes. IsTrue yes ↔ ((piece : List ℕ)
+        × (prefix.now ≡ piece ++ bars.now) × HasPiece flavour sizes true piece)) }
+    ensures memory { IfErr result (λ failure. failure ≡ None) }
+{
+    match prefix.strip_suffix(bars) {
+        Some(piece) => is_piece(alloc, piece, true, flavour, sizes),
+        None => Ok(false),
+    }
+}
+
+// Whether some alternative of the grammar, alone or with the `||` that follows it, begins with the prefix.
+fn is_viable_piece(
+    alloc: Global,
+    prefix: &str,
+    flavour: Flavour,
+    sizes: Sizes,
+) -> Result<bool, ParseFailure>
+    requires { IsCutting flavour }
+    ensures value { IfOk result
+        (λ yes. IsTrue yes ↔ IsViablePrefix (Sized sizes (IsPieceOrCut flavour)) prefix.now) }
+    ensures memory { IfErr result (λ failure. failure ≡ None) }
+{
+    if is_piece(alloc, prefix, true, flavour, sizes)? {
+        return Ok(true);
+    }
+    if is_piece_with(alloc, prefix, "1", flavour, sizes)? {
+        return Ok(true);
+    }
+    if is_piece_with(alloc, prefix, " 1", flavour, sizes)? {
+        return Ok(true);
+    }
+    if is_piece_with(alloc, prefix, "&", flavour, sizes)? {
+        return Ok(true);
+    }
+    if is_piece_before(alloc, prefix, "|", flavour, sizes)? {
+        return Ok(true);
+    }
+    is_piece_before(alloc, prefix, "||", flavour, sizes)
+}
+
+// Whether the text is a range of the strict grammar.
+fn is_range(alloc: Global, text: &str, sizes: Sizes) -> Result<bool, ParseFailure>
+    ensures value { IfOk result (λ yes. IsTrue yes ↔ HasRange sizes text.now) }
+    ensures memory { IfErr result (λ failure. failure ≡ None) }
+{
+    let Some((written, rest)) = non_primitive_front(alloc, text, Flavour::Specifier)? else {
+        return Ok(false);
+    };
+    let is_admitted = sizes.admits(&written.partial);
+    drop(written);
+    if rest.is_empty() {
+        return Ok(is_admitted);
+    }
+    Ok(false)
+}
+
+// Whether some range of the strict grammar begins with the prefix.
+fn is_viable_range(alloc: Global, prefix: &str, sizes: Sizes) -> Result<bool, ParseFailure>
+    ensures value { IfOk result
+        (λ yes. IsTrue yes ↔ IsViablePrefix (Sized sizes (IsPart Flavour.Specifier)) prefix.now) }
+    ensures memory { IfErr result (λ failure. failure ≡ None) }
+{
+    if is_range(alloc, prefix, sizes)? {
+        return Ok(true);
+    }
+    let text = format!(in alloc; "{prefix}1")?;
+    is_range(alloc, &text, sizes)
+}
+
+// Whether some alternative, or some range of the strict grammar, begins with the prefix.
+fn is_viable_part(
+    alloc: Global,
+    prefix: &str,
+    flavour: Flavour,
+    sizes: Sizes,
+) -> Result<bool, ParseFailure>
+    ensures value { IfOk result
+        (λ yes. IsTrue yes ↔ IsViablePrefix (Sized sizes (IsPart flavour)) prefix.now) }
+    ensures memory { IfErr result (λ failure. failure ≡ None) }
+{
+    match flavour {
+        Flavour::Npm => is_viable_piece(alloc, prefix, Flavour::Npm, sizes),
+        Flavour::Normal => is_viable_piece(alloc, prefix, Flavour::Normal, sizes),
+        Flavour::Specifier => is_viable_range(alloc, prefix, sizes),
+    }
+}
+
+// Whether some text of the grammar begins with the prefix.
+fn is_viable(alloc: Global, prefix: &str, grammar: Grammar) -> Result<bool, ParseFailure>
+    ensures value { IfOk result
+        (λ yes. IsTrue yes ↔ IsViablePrefix (IsTextOf grammar) prefix.now) }
+    ensures memory { IfErr result (λ failure. failure ≡ None) }
+{
+    match grammar {
+        Grammar::Ranges(flavour, sizes) => is_viable_part(alloc, prefix, flavour, sizes),
+        Grammar::Versions => versions::is_viable_version(alloc, prefix),
+    }
+}
+
+// The end of the longest prefix of the text with which some text of the grammar begins, by bisection: each shorter prefix is one too.
+pub(crate) fn longest_viable(
+    alloc: Global,
+    text: &str,
+    grammar: Grammar,
+) -> Result<usize, ParseFailure>
+    ensures place { IfOk result (IsErrorPlace (IsTextOf grammar) text.now) }
+    ensures memory { IfErr result (λ failure. failure ≡ None) }
+{
+    if is_viable(alloc, text, grammar)? {
+        return Ok(text.len());
+    }
+    let mut low: usize = 0;
+    let mut high = text.len();
+    while high - low > 1 {
+        let middle = low + (high - low) / 2;
+        let prefix = text.floor_char_boundary(middle);
+        if is_viable(alloc, &text[..prefix], grammar)? {
+            low = middle;
+        } else {
+            high = middle;
+        }
+    }
+    Ok(text.floor_char_boundary(low))
+}
+
+// Whether some text of the grammar begins with the prefix and then `next`.
+pub(crate) fn is_viable_with(
+    alloc: Global,
+    prefix: &str,
+    next: &str,
+    grammar: Grammar,
+) -> Result<bool, ParseFailure>
+    ensures value { IfOk result
+        (λ yes. IsTrue yes ↔ IsViablePrefix (IsTextOf grammar) (prefix.now ++ next.now)) }
+    ensures memory { IfErr result (λ failure. failure ≡ None) }
+{
+    let text = format!(in alloc; "{prefix}{next}")?;
+    is_viable(alloc, &text, grammar)
+}
+
+/// The index in the text at which it leaves the grammar: the end of the longest prefix with which some text of the grammar begins. Texts of
+/// npm's and the normalized grammar are alternatives here, alone or with the `||` that follows. A text of the grammar, and one
+/// that only stops too early, has its length as that index. Sizes of numbers don't matter.
+///
+/// Takes time that grows as n log n. Fails only out of memory.
+pub fn error_place(alloc: Global, text: &str, flavour: Flavour) -> Result<usize, ParseFailure>
+    ensures place { IfOk result (IsErrorPlace (IsPart flavour) text.now) }
+    ensures memory { IfErr result (λ failure. failure ≡ None) }
+{
+    longest_viable(alloc, text, Grammar::Ranges(flavour, Sizes::Any))
+}
+
+/// Whether some text of the grammar begins with the prefix and then `next`. What could have followed at an [`error_place`] is asked with
+/// the text before it as the prefix.
+///
+/// Fails only out of memory.
+pub fn may_follow(
+    alloc: Global,
+    prefix: &str,
+    next: &str,
+    flavour: Flavour,
+) -> Result<bool, ParseFailure>
+    ensures follows { IfOk result
+        (λ yes. IsTrue yes ↔ IsViablePrefix (IsPart flavour) (prefix.now ++ next.now)) }
+    ensures memory { IfErr result (λ failure. failure ≡ None) }
+{
+    is_viable_with(alloc, prefix, next, Grammar::Ranges(flavour, Sizes::Any))
+}

@@ -1,0 +1,141 @@
+//! What is wrong with an invalid alternative, and where.
+
+ghost use Rattle.std.specs.Prelude.{◌≡◌, ◌<◌, ◌⊎◌, IfErr, IfOk, IfSome, MatchOption, None, Option, Some, ℕ};
+ghost use Rattle.semver_base.specs.declared.failure.Rejection.TheVariants.{UnexpectedCharacter};
+ghost use Rattle.semver_req.specs.Causes.{IsCauseAt, IsFirstOutsideTag, IsRejected, rejection_of};
+ghost use Rattle.semver_req.specs.Sizes.{Sized};
+ghost use Rattle.semver_req.specs.Viable.{IsErrorPlace, IsPart};
+
+use crate::common::values::Flavour;
+use crate::error_places::expected::{Expected, expected_after};
+use crate::error_places::{Grammar, Sizes, error_place, longest_viable};
+use crate::tag::is_tag_character;
+use semver_base::failure::{ParseFailure, Rejection};
+use std::alloc::Global;
+
+/// What is wrong with an alternative.
+#[derive(Debug, Drop)]
+pub enum Cause {
+    /// It leaves the grammar: no text of the grammar goes on as it does at the place of the error, where this is expected.
+    Unexpected(Expected),
+    /// It doesn't begin as a range does, and no tag has the character at the place of the error.
+    NoTag,
+    /// It is empty or only whitespace, which the strict grammar doesn't allow.
+    Empty,
+    /// A number is larger than 18446744073709551615; the place of the error is the digit with which it no longer fits.
+    NumberTooLarge,
+    /// A number of a bound, which is one more than a number in the text, is larger than 18446744073709551615; the place of the error is the
+    /// start of the alternative.
+    BoundTooLarge,
+}
+
+impl Cause {
+    /// Why the parser rejects the alternative.
+    pub fn rejection(&self) -> Rejection
+        ensures { result ≡ rejection_of self.now }
+    {
+        match self {
+            Cause::Unexpected(_) | Cause::NoTag => Rejection::UnexpectedCharacter,
+            Cause::Empty => Rejection::EmptyConstraint,
+            Cause::NumberTooLarge => Rejection::NumberTooLarge,
+            Cause::BoundTooLarge => Rejection::BoundTooLarge,
+        }
+    }
+}
+
+/// A cause, and the index at which an alternative is wrong.
+#[derive(Debug, Drop)]
+pub(crate) struct CauseAt {
+    pub(crate) place: usize,
+    pub(crate) cause: Cause,
+}
+
+// The index of the first character that no tag has.
+fn outside_tag(text: &str) -> Option<usize>
+    ensures { IsFirstOutsideTag text.now result }
+{
+    text.find(|c: char| !is_tag_character(c))
+}
+
+// The index of the digit with which a number no longer fits.
+fn large_number(alloc: Global, piece: &str, flavour: Flavour) -> Result<usize, ParseFailure>
+    ensures place { IfOk result (IsErrorPlace (Sized Sizes.Fitting (IsPart flavour)) piece.now) }
+    ensures memory { IfErr result (λ failure. failure ≡ None) }
+{
+    longest_viable(alloc, piece, Grammar::Ranges(flavour, Sizes::Fitting))
+}
+
+// The index of the first character that no tag has, for an alternative that isn't a range from its start on and begins as a tag does.
+fn tag_end(outside: Option<usize>, place: usize) -> Option<usize>
+    ensures { MatchOption result ((0 < place) ⊎ IfSome outside (λ n. n ≡ 0))
+        (λ end. (place ≡ 0) × (outside ≡ Some end) × (0 < end)) }
+{
+    if place > 0 {
+        return None;
+    }
+    let end = outside?;
+    if end == 0 {
+        return None;
+    }
+    Some(end)
+}
+
+// What is wrong with an alternative that isn't in the grammar.
+fn outside_grammar(
+    alloc: Global,
+    piece: &str,
+    outside: Option<usize>,
+    flavour: Flavour,
+) -> Result<CauseAt, ParseFailure>
+    ensures value { IfOk result (λ c. IsCauseAt flavour piece.now outside c.cause c.place) }
+    ensures rejection { IfOk result (λ c. rejection_of c.cause ≡ UnexpectedCharacter) }
+    ensures memory { IfErr result (λ failure. failure ≡ None) }
+{
+    let place = error_place(alloc, piece, flavour)?;
+    match tag_end(outside, place) {
+        Some(place) => Ok(CauseAt {
+            place,
+            cause: Cause::NoTag,
+        }),
+        None => {
+            let expected = expected_after(alloc, &piece[..place], flavour)?;
+            Ok(CauseAt {
+                place,
+                cause: Cause::Unexpected(expected),
+            })
+        }
+    }
+}
+
+/// What is wrong with an alternative that the parser rejects, and where.
+///
+/// Fails only out of memory.
+pub(crate) fn cause_of(
+    alloc: Global,
+    piece: &str,
+    rejection: Rejection,
+    flavour: Flavour,
+) -> Result<CauseAt, ParseFailure>
+    requires { IsRejected flavour piece.now rejection }
+    ensures value { IfOk result (λ c. (outside : Option ℕ) × IsFirstOutsideTag piece.now outside
+        × IsCauseAt flavour piece.now outside c.cause c.place) }
+    ensures rejected { IfOk result (λ c. IsRejected flavour piece.now (rejection_of c.cause)) }
+    ensures memory { IfErr result (λ failure. failure ≡ None) }
+{
+    let outside = outside_tag(piece);
+    match rejection {
+        Rejection::EmptyConstraint => Ok(CauseAt {
+            place: 0,
+            cause: Cause::Empty,
+        }),
+        Rejection::NumberTooLarge => Ok(CauseAt {
+            place: large_number(alloc, piece, flavour)?,
+            cause: Cause::NumberTooLarge,
+        }),
+        Rejection::BoundTooLarge => Ok(CauseAt {
+            place: 0,
+            cause: Cause::BoundTooLarge,
+        }),
+        _ => outside_grammar(alloc, piece, outside, flavour),
+    }
+}

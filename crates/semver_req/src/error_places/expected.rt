@@ -1,0 +1,170 @@
+//! What may stand at a place of a text.
+
+ghost use Rattle.std.specs.Prelude.{◌≡◌, ◌↔◌, IfErr, IfOk, IsTrue, None};
+ghost use Rattle.semver_req.specs.Kinds.{AreExpected, IsExpectation, IsExpected, IsWhole, kind_text};
+
+use crate::common::values::Flavour;
+use crate::error_places::{Sizes, is_piece, is_range, may_follow};
+use semver_base::failure::ParseFailure;
+use std::alloc::Global;
+
+/// Texts that may follow the same prefixes.
+#[derive(Clone, Copy, Debug, PartialEq, Eq)]
+pub enum Kind {
+    /// A digit.
+    Digit,
+    /// `x` or `X`.
+    X,
+    /// `v`.
+    V,
+    /// Another ASCII letter.
+    Letter,
+    /// `*`.
+    Star,
+    /// `.`.
+    Dot,
+    /// `-`.
+    Hyphen,
+    /// `+`.
+    Plus,
+    /// `~`.
+    Tilde,
+    /// `^`.
+    Caret,
+    /// `<`.
+    Less,
+    /// `>`.
+    Greater,
+    /// `=`.
+    Equals,
+    /// A space.
+    Space,
+    /// `,`.
+    Comma,
+    /// `&`.
+    And,
+    /// `|`.
+    Bar,
+}
+
+// Every kind.
+const KINDS: [Kind; 17] = [
+    Kind::Digit,
+    Kind::X,
+    Kind::V,
+    Kind::Letter,
+    Kind::Star,
+    Kind::Dot,
+    Kind::Hyphen,
+    Kind::Plus,
+    Kind::Tilde,
+    Kind::Caret,
+    Kind::Less,
+    Kind::Greater,
+    Kind::Equals,
+    Kind::Space,
+    Kind::Comma,
+    Kind::And,
+    Kind::Bar,
+];
+
+impl Kind {
+    /// A text of this kind.
+    pub fn text(self) -> &'static str
+        ensures text { result.now ≡ kind_text self }
+    {
+        match self {
+            Kind::Digit => "1",
+            Kind::X => "x",
+            Kind::V => "v",
+            Kind::Letter => "a",
+            Kind::Star => "*",
+            Kind::Dot => ".",
+            Kind::Hyphen => "-",
+            Kind::Plus => "+",
+            Kind::Tilde => "~",
+            Kind::Caret => "^",
+            Kind::Less => "<",
+            Kind::Greater => ">",
+            Kind::Equals => "=",
+            Kind::Space => " ",
+            Kind::Comma => ",",
+            Kind::And => "&",
+            Kind::Bar => "|",
+        }
+    }
+}
+
+/// What may stand behind a prefix.
+#[derive(Debug, Drop)]
+pub struct Expected {
+    /// The kinds whose texts may follow, in the order in which [`Kind`] has them.
+    pub kinds: Vec<Kind>,
+    /// Whether a text may end there.
+    pub may_end: bool,
+}
+
+// Whether the texts of a kind may follow the prefix: all of them may, or none.
+fn is_expected(
+    alloc: Global,
+    prefix: &str,
+    kind: Kind,
+    flavour: Flavour,
+) -> Result<bool, ParseFailure>
+    ensures expected { IfOk result (IsExpected flavour prefix.now kind) }
+    ensures memory { IfErr result (λ failure. failure ≡ None) }
+{
+    may_follow(alloc, prefix, kind.text(), flavour)
+}
+
+// Which of these kinds may follow the prefix.
+fn expected_among(
+    alloc: Global,
+    prefix: &str,
+    kinds: &[Kind],
+    flavour: Flavour,
+) -> Result<Vec<Kind>, ParseFailure>
+    ensures value { IfOk result
+        (λ found. AreExpected flavour prefix.now kinds.now found.items) }
+    ensures memory { IfErr result (λ failure. failure ≡ None) }
+{
+    let mut found = Vec::new(alloc);
+    for kind in kinds {
+        if !is_expected(alloc, prefix, *kind, flavour)? {
+            continue;
+        }
+        if found.push(*kind).is_err() {
+            return Err(ParseFailure::memory());
+        }
+    }
+    Ok(found)
+}
+
+// Whether a text may end behind the prefix, which is then an alternative of the grammar.
+fn may_end(alloc: Global, prefix: &str, flavour: Flavour) -> Result<bool, ParseFailure>
+    ensures ends { IfOk result (λ yes. IsTrue yes ↔ IsWhole flavour prefix.now) }
+    ensures memory { IfErr result (λ failure. failure ≡ None) }
+{
+    match flavour {
+        Flavour::Npm => is_piece(alloc, prefix, false, Flavour::Npm, Sizes::Any),
+        Flavour::Normal => is_piece(alloc, prefix, false, Flavour::Normal, Sizes::Any),
+        Flavour::Specifier => is_range(alloc, prefix, Sizes::Any),
+    }
+}
+
+/// Returns what may stand behind a prefix: which kinds may follow it, and whether a text may end there. If one text of a kind may
+/// follow, each may.
+///
+/// Fails only out of memory.
+pub fn expected_after(
+    alloc: Global,
+    prefix: &str,
+    flavour: Flavour,
+) -> Result<Expected, ParseFailure>
+    ensures value { IfOk result (IsExpectation flavour prefix.now) }
+    ensures memory { IfErr result (λ failure. failure ≡ None) }
+{
+    let may_end = may_end(alloc, prefix, flavour)?;
+    let kinds = expected_among(alloc, prefix, &KINDS, flavour)?;
+    Ok(Expected { kinds, may_end })
+}

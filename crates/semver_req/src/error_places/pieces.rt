@@ -1,0 +1,201 @@
+//! The invalid alternatives of a text.
+
+ghost use Rattle.std.specs.Prelude.{◌≡◌, ◌++◌, ◌+◌, ◌<◌, ◌^◌, ◌∷◌, [], IfErr, IfOk, List, MatchOption, None, OnErr, OnOk, length, true};
+ghost use Rattle.semver_base.specs.Comparators.{Comparator};
+ghost use Rattle.semver_req.specs.Causes.{IsRejected, IsStrictRejection};
+ghost use Rattle.semver_req.specs.InvalidPieces.{AreErrorsOf, AreInvalidPieces, IsErrorAt, IsErrorOf, IsStrictError};
+ghost use Rattle.semver_req.specs.declared.error_places.pieces.InvalidPiece.{InvalidPiece};
+ghost use Rattle.semver_req.specs.Comparators.{fits};
+ghost use Rattle.semver_req.specs.Outcome.{IsSpecifierRange};
+ghost use Rattle.semver_req.specs.Pieces.{HasNoBar, IsCutAt, IsCutting};
+
+use crate::common::comparator::{Written, non_primitive_front};
+use crate::common::values::Flavour;
+use crate::error_places::causes::{Cause, cause_of};
+use crate::range_set_or_tag::RangeOrInvalid;
+use semver_base::failure::{ParseFailure, Rejection};
+use semver_base::lexical::values::Measured;
+use semver_base::lexical::{after_whitespace, is_all_whitespace};
+use std::alloc::{AllocError, Global};
+
+/// An invalid alternative, by indexes into its text.
+#[derive(Debug, Drop)]
+pub struct InvalidPiece {
+    /// Where the alternative starts.
+    pub start: usize,
+    /// Where it ends.
+    pub end: usize,
+    /// Where it is wrong: at its end, if it only stops too early.
+    pub place: usize,
+    /// What is wrong there.
+    pub cause: Cause,
+}
+
+// The error of an alternative that starts here.
+fn error_of(
+    alloc: Global,
+    start: usize,
+    piece: &str,
+    rejection: Rejection,
+    flavour: Flavour,
+) -> Result<InvalidPiece, ParseFailure>
+    requires in_memory { start + length piece.now < 2 ^ 64 }
+    requires rejected { IsRejected flavour piece.now rejection }
+    ensures value { IfOk result (IsErrorOf flavour start piece.now) }
+    ensures memory { IfErr result (λ failure. failure ≡ None) }
+{
+    let found = cause_of(alloc, piece, rejection, flavour)?;
+    Ok(InvalidPiece {
+        start,
+        end: start + piece.len(),
+        place: start + found.place,
+        cause: found.cause,
+    })
+}
+
+fn push(errors: &mut Vec<InvalidPiece>, error: InvalidPiece) -> Result<(), ParseFailure>
+    ensures value { OnOk result (errors.new.items ≡ errors.old.items ++ error ∷ []) }
+    ensures memory { IfErr result (λ failure. failure ≡ None) }
+{
+    match errors.push(error) {
+        Ok(()) => Ok(()),
+        Err(failed) => Err(AllocError::from(failed).into()),
+    }
+}
+
+// Adds the error of an alternative that starts here, if it is invalid.
+fn add_error(
+    alloc: Global,
+    errors: &mut Vec<InvalidPiece>,
+    start: usize,
+    piece: &str,
+    is_followed: bool,
+    flavour: Flavour,
+) -> Result<(), ParseFailure>
+    requires in_memory { start + length piece.now < 2 ^ 64 }
+    requires cuts { IsCutting flavour }
+    ensures value { OnOk result ((found : List InvalidPiece)
+        × (errors.new.items ≡ errors.old.items ++ found)
+        × IsErrorAt flavour is_followed start piece.now found) }
+    ensures memory { IfErr result (λ failure. failure ≡ None) }
+{
+    match RangeOrInvalid::parse(alloc, piece, is_followed, flavour)? {
+        RangeOrInvalid::Range(range) => {
+            drop(range);
+            Ok(())
+        }
+        RangeOrInvalid::Invalid(rejection) => {
+            let error = error_of(alloc, start, piece, rejection, flavour)?;
+            push(errors, error)
+        }
+    }
+}
+
+// Splits the text at the leftmost `||`.
+fn cut(text: &str) -> Option<(&str, &str)>
+    ensures { MatchOption result (HasNoBar text.now) (λ p. IsCutAt text.now p.0.now p.1.now) }
+{
+    text.split_once("||")
+}
+
+// The errors of the alternatives of a text that is split at each `||`, with so many bytes before it.
+fn errors_of(
+    alloc: Global,
+    before: usize,
+    text: &str,
+    flavour: Flavour,
+) -> Result<Vec<InvalidPiece>, ParseFailure>
+    requires in_memory { before + length text.now < 2 ^ 64 }
+    requires cuts { IsCutting flavour }
+    ensures value { IfOk result (λ errors. AreErrorsOf flavour before text.now errors.items) }
+    ensures memory { IfErr result (λ failure. failure ≡ None) }
+{
+    let mut errors = Vec::new(alloc);
+    let Some((first, mut rest)) = cut(text) else {
+        add_error(alloc, &mut errors, before, text, false, flavour)?;
+        return Ok(errors);
+    };
+    add_error(alloc, &mut errors, before, first, true, flavour)?;
+    loop {
+        let from = after_whitespace(rest);
+        if from.is_empty() {
+            return Ok(errors);
+        }
+        let start = before + (text.len() - from.len());
+        let Some((piece, more)) = cut(from) else {
+            add_error(alloc, &mut errors, start, from, false, flavour)?;
+            return Ok(errors);
+        };
+        add_error(alloc, &mut errors, start, piece, false, flavour)?;
+        rest = more;
+    }
+}
+
+// Why the strict parser finds no range in a text; none if it does.
+fn strict_rejection(alloc: Global, text: &str) -> Result<Option<Rejection>, ParseFailure>
+    ensures value { IfOk result (λ found. MatchOption found
+        ((c : Comparator) × IsSpecifierRange text.now c × (fits c ≡ true))
+        (IsStrictRejection text.now)) }
+    ensures memory { IfErr result (λ failure. failure ≡ None) }
+{
+    let Some((written, rest)) = non_primitive_front(alloc, text, Flavour::Specifier)? else {
+        if is_all_whitespace(text) {
+            return Ok(Some(Rejection::EmptyConstraint));
+        }
+        return Ok(Some(Rejection::UnexpectedCharacter));
+    };
+    let Written { operator, partial } = written;
+    let Measured::Fits(partial) = partial else {
+        return Ok(Some(Rejection::NumberTooLarge));
+    };
+    let range = operator.range(alloc, &partial);
+    drop(partial);
+    match range {
+        Ok(range) => {
+            drop(range);
+            if rest.is_empty() {
+                return Ok(None);
+            }
+            Ok(Some(Rejection::UnexpectedCharacter))
+        }
+        Err(failure) if failure.is_memory() => Err(failure),
+        Err(_) => Ok(Some(Rejection::BoundTooLarge)),
+    }
+}
+
+// The error of a text that isn't a range of the strict grammar.
+fn strict_errors(alloc: Global, text: &str) -> Result<Vec<InvalidPiece>, ParseFailure>
+    ensures value { IfOk result (λ errors. IsStrictError text.now errors.items) }
+    ensures memory { IfErr result (λ failure. failure ≡ None) }
+{
+    let mut errors = Vec::new(alloc);
+    let Some(rejection) = strict_rejection(alloc, text)? else {
+        return Ok(errors);
+    };
+    let error = error_of(alloc, 0, text, rejection, Flavour::Specifier)?;
+    push(&mut errors, error)?;
+    Ok(errors)
+}
+
+/// The alternatives of a text that are invalid, in their order, with what is wrong in each and where: none if the text is valid.
+/// npm's parser trims a text before it splits it. In the strict grammar, which has no alternatives, the whole text is meant.
+///
+/// Takes time that grows as n log n. Fails only out of memory.
+pub fn invalid_pieces(
+    alloc: Global,
+    text: &str,
+    flavour: Flavour,
+) -> Result<Vec<InvalidPiece>, ParseFailure>
+    ensures value { IfOk result (λ errors. AreInvalidPieces flavour text.now errors.items) }
+    ensures memory { IfErr result (λ failure. failure ≡ None) }
+{
+    match flavour {
+        Flavour::Npm => {
+            let rest = after_whitespace(text);
+            let before = text.len() - rest.len();
+            errors_of(alloc, before, text.trim(), Flavour::Npm)
+        }
+        Flavour::Normal => errors_of(alloc, 0, text, Flavour::Normal),
+        Flavour::Specifier => strict_errors(alloc, text),
+    }
+}
