@@ -63,11 +63,17 @@ static void held_lists(void) {
     semver_req r = {0};
     semver_list list = {0};
     int8_t answers[4] = {9, 9, 9, 9};
-    size_t lines = 0;
+    size_t places[3] = {9, 9, 9}, place = 9, lines = 0;
     int read = semver_req_read(SEMVER_NPM, TEXT("^1.2"), &r, out, sizeof out, &needed) == SEMVER_YES
             && semver_list_read(TEXT("1.2.0\nfoo\n2.0.0\n"), &list, &lines) == SEMVER_YES;
     int32_t code = semver_list_filter(&list, &r, SEMVER_RESTRICTED, answers, 4, &needed);
     is("a list is held, and a line that isn't a version stays in its place", read && lines == 3 && code == SEMVER_YES && needed == 3 && memcmp(answers, "\1\375\0\11", 4) == 0);
+    code = semver_list_best(&list, &r, SEMVER_RESTRICTED, &place);
+    is("the best match of a held list", code == SEMVER_YES && place == 0);
+    code = semver_list_sort(&list, places, 1, &needed);
+    is("a buffer for places that is too small stays as it was", code == SEMVER_YES && needed == 2 && places[0] == 9);
+    code = semver_list_sort(&list, places, 3, &needed);
+    is("lines that aren't versions aren't sorted", code == SEMVER_YES && needed == 2 && places[0] == 0 && places[1] == 2 && places[2] == 9);
     semver_list_free(&list);
     semver_req_free(&r);
     is("a list is freed", !list.at && heap_alive() == 0);

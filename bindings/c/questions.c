@@ -141,42 +141,78 @@ static void check_answers(int32_t code) {
     check(code, FIT, code == SEMVER_YES ? out : NULL, len);
 }
 
-/* The versions of a list that is held. */
-static void filter_list(const text *t) {
+static int read_list(text t, semver_list *list) {
+    size_t lines;
+    int32_t code = semver_list_read(BYTES(t), list, &lines);
+    if (code != SEMVER_YES) check(code, FIT, NULL, 0);
+    return code == SEMVER_YES;
+}
+
+static void check_match(int32_t code, size_t place) {
+    check(code, FIT, code == SEMVER_YES ? out : NULL, sprintf((char *)out, "%zu", place));
+    if (code != SEMVER_YES) check_place(code, place);
+}
+
+static void filter_list(semver_list *list, semver_req *r) {
+    check_answers(semver_list_filter(list, r, pre_releases, answers, LINES, &needed));
+}
+
+static void best_of_list(semver_list *list, semver_req *r) {
+    size_t place = 99;
+    int32_t code = semver_list_best(list, r, pre_releases, &place);
+    check_match(code, place);
+}
+
+static void lowest_of_list(semver_list *list, semver_req *r) {
+    size_t place = 99;
+    int32_t code = semver_list_lowest(list, r, pre_releases, &place);
+    check_match(code, place);
+}
+
+/* Asks of a range and a list that are held. */
+static void ask_held_list(const text *t, void (*ask)(semver_list *, semver_req *)) {
     semver_req r = {0};
     semver_list list = {0};
-    size_t lines;
     if (!read_req(t[0], &r)) return;
-    int32_t code = semver_list_read(BYTES(t[1]), &list, &lines);
-    if (code == SEMVER_YES) {
-        check_answers(semver_list_filter(&list, &r, pre_releases, answers, LINES, &needed));
+    if (read_list(t[1], &list)) {
+        ask(&list, &r);
         semver_list_free(&list);
-    } else {
-        check(code, FIT, NULL, 0);
     }
     semver_req_free(&r);
 }
 
 static void filter(const text *t) {
     check_answers(semver_filter(grammar, BYTES(t[0]), BYTES(t[1]), pre_releases, answers, LINES, &needed));
-    filter_list(t);
+    ask_held_list(t, filter_list);
 }
 
-static void sort(const text *t) {
-    size_t places[LINES], len = 0, place = 99;
+static void list_best(const text *t) { ask_held_list(t, best_of_list); }
+static void list_lowest(const text *t) { ask_held_list(t, lowest_of_list); }
+
+static void check_places(int32_t code, const size_t *places) {
+    size_t len = 0;
     char number[24];
-    int32_t code = semver_sort(BYTES(t[0]), places, LINES, &needed, &place);
     for (size_t n = 0; n < needed; n++) {
         sprintf(number, "%zu", places[n]);
         len = item(len, number);
     }
     check(code, FIT, code == SEMVER_YES ? out : NULL, len);
+}
+
+static void sort(const text *t) {
+    size_t places[LINES], place = 99;
+    int32_t code = semver_sort(BYTES(t[0]), places, LINES, &needed, &place);
+    check_places(code, places);
     check_place(code, place);
 }
 
-static void check_match(int32_t code, size_t place) {
-    check(code, FIT, code == SEMVER_YES ? out : NULL, sprintf((char *)out, "%zu", place));
-    if (code != SEMVER_YES) check_place(code, place);
+static void list_sort(const text *t) {
+    size_t places[LINES];
+    semver_list list = {0};
+    if (!read_list(t[0], &list)) return;
+    int32_t code = semver_list_sort(&list, places, LINES, &needed);
+    check_places(code, places);
+    semver_list_free(&list);
 }
 
 static void best(const text *t) {
@@ -287,6 +323,7 @@ static const struct call {
     void (*ask)(const text *t);
     int32_t (*text)(const uint8_t *, size_t, uint8_t *, size_t, size_t *);
     int32_t (*req)(uint32_t, const uint8_t *, size_t, uint8_t *, size_t, size_t *);
+    names of; /* what held_reqs returns */
     int32_t (*held_reqs)(semver_req *, semver_req *);
     int32_t (*held_versions)(semver_ver *, semver_ver *);
     int32_t (*held_req)(semver_req *, uint8_t *, size_t, size_t *);
@@ -297,6 +334,9 @@ static const struct call {
     {"best", 2, .ask = best},
     {"lowest", 2, .ask = lowest},
     {"sort", 0, .ask = sort},
+    {"list_best", 2, .ask = list_best},
+    {"list_lowest", 2, .ask = list_lowest},
+    {"list_sort", 0, .ask = list_sort},
     {"may_be_tag", 0, .ask = may_be_tag},
     {"package", 1, .ask = package},
     {"reference", 0, .text = semver_reference},
@@ -313,6 +353,7 @@ static const struct call {
     {"order", 0, .held_versions = semver_version_order},
     {"overlap", 1, .ask = overlap, .held_reqs = semver_req_overlap},
     {"equal", 1, .held_reqs = semver_req_equal},
+    {"req_order", 1, .of = ORDER, .held_reqs = semver_req_order},
     {"is_tag", 1, .ask = is_tag},
     {"within", 2, .ask = within},
     {"equivalent", 2, .ask = equivalent},
@@ -329,7 +370,7 @@ static void ask_held_reqs(const struct call *c, const text *t) {
     if (!read_req(t[0], &r)) return;
     if (c->held_req) check_text(c->held_req(&r, OUT));
     if (c->held_reqs && read_req(t[1], &s)) {
-        check(c->held_reqs(&r, &s), FIT, NULL, 0);
+        check(c->held_reqs(&r, &s), c->of, NULL, 0);
         semver_req_free(&s);
     }
     semver_req_free(&r);

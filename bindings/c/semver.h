@@ -222,6 +222,11 @@ int32_t semver_req_overlap(semver_req *one, semver_req *other);
 /* Whether two ranges mean the same, whatever texts they were parsed from: NO or YES. The handles are two. */
 int32_t semver_req_equal(semver_req *one, semver_req *other);
 
+/* The order of two requirements: BEFORE, SAME or AFTER. A tag is before ranges, of two tags the greater is first, and of ranges those
+ * that begin higher, and then those that end lower; builds are compared last. SAME, if they mean the same, as semver_req_equal. The
+ * handles are two. */
+int32_t semver_req_order(semver_req *one, semver_req *other);
+
 /* The text that the range was parsed from: YES. Without the whitespace around it, if it was parsed by npm's grammar. */
 int32_t semver_req_text(semver_req *handle, uint8_t *out, size_t out_len, size_t *needed);
 
@@ -245,6 +250,17 @@ void semver_list_free(semver_list *handle);
 /* Which versions of the list match the range: as semver_filter. */
 int32_t semver_list_filter(semver_list *list, semver_req *range, uint32_t pre_releases,
                            int8_t *answers, size_t answers_len, size_t *needed);
+
+/* Which version of the list is the highest that matches the range, the first of equal ones: YES, and `*place` is its line, counted from
+ * 0; NO, if none matches; or TAG. For any code but YES `*place` stays as it was. No code says that memory ran out: none is needed. */
+int32_t semver_list_best(semver_list *list, semver_req *range, uint32_t pre_releases, size_t *place);
+
+/* The lowest that matches, the first of equal ones: like semver_list_best. */
+int32_t semver_list_lowest(semver_list *list, semver_req *range, uint32_t pre_releases, size_t *place);
+
+/* The lines of the list that are versions, in the order of precedence: as semver_sort. A line that isn't a version is left out, and
+ * `*needed` is the number of the others. */
+int32_t semver_list_sort(semver_list *list, size_t *places, size_t places_len, size_t *needed);
 
 /* SEMVER_API of the library: a binding rejects another one when it is loaded. */
 uint32_t semver_api(void);

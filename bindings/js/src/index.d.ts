@@ -133,7 +133,7 @@ export class Range {
   [Symbol.dispose](): void;
 }
 
-/** The versions of a package, parsed once and filtered by many ranges. An invalid one keeps its place and matches nothing. */
+/** The versions of a package, parsed once and asked of by many ranges. An invalid one keeps its place and matches nothing. */
 export class VersionList<T extends string | Version = string> {
   /** Parses versions. */
   constructor(versions: readonly T[]);
@@ -144,6 +144,18 @@ export class VersionList<T extends string | Version = string> {
    * @throws {@link TagError}
    */
   filter(range: Range): T[];
+  /**
+   * The highest version that matches, the first of equal ones; `undefined` where none matches.
+   * @throws {@link TagError}
+   */
+  best(range: Range): T | undefined;
+  /**
+   * The lowest version that matches, the first of equal ones; `undefined` where none matches.
+   * @throws {@link TagError}
+   */
+  lowest(range: Range): T | undefined;
+  /** The versions by precedence, without the invalid ones. Versions that differ only in the build keep their order. */
+  sort(): T[];
   /** Frees the list. Its methods throw `TypeError` then. */
   free(): void;
   /** The same as {@link VersionList.free}, for `using`. */

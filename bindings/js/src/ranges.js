@@ -1,6 +1,6 @@
 // Ranges, and lists of versions, that the library holds between calls.
 
-import { YES, ask2, codes, handle, isWellFormed, outOfMemory, text, wasm, write } from './calls.js';
+import { YES, ask2, codes, handle, isWellFormed, outOfMemory, places, text, wasm, write } from './calls.js';
 import { errorOf, expectString, kindOf, optionsOf } from './errors.js';
 import { parse } from './held.js';
 import { linesOf, textsOf } from './lists.js';
@@ -126,12 +126,31 @@ export class VersionList {
     return this.#versions.length;
   }
 
-  filter(range) {
+  /** Asks of the range: the code, YES or NO. */
+  #ask(call, range) {
     const { address, options } = heldBy(expectRange(range, 'range'));
-    const code = wasm.list_filter(this.#held.address, address, options.pre);
-    if (code !== YES) throw errorOf(code, options.grammar, [range.text]);
+    const code = call(this.#held.address, address, options.pre);
+    if (code < 0) throw errorOf(code, options.grammar, [range.text]);
+    return code;
+  }
+
+  filter(range) {
+    this.#ask(wasm.list_filter, range);
     const answers = codes();
     return this.#versions.filter((_, index) => answers[index] === YES);
+  }
+
+  best(range) {
+    return this.#ask(wasm.list_best, range) === YES ? this.#versions[wasm.place()] : undefined;
+  }
+
+  lowest(range) {
+    return this.#ask(wasm.list_lowest, range) === YES ? this.#versions[wasm.place()] : undefined;
+  }
+
+  sort() {
+    if (wasm.list_sort(this.#held.address, this.length) !== YES) throw outOfMemory();
+    return Array.from(places(), (place) => this.#versions[place]);
   }
 
   free() {

@@ -160,6 +160,10 @@ for (const [kind, semver] of [['ES modules', modules], ['CommonJS', common]]) {
     assert.equal(list.length, 7);
     assert.deepEqual(list.filter(new Range('^1')), ['1.2.0', '1.10.0\n']);
     assert.deepEqual(list.filter(new Range('>=2')), ['2.0.0']);
+    assert.deepEqual([list.best(new Range('^1')), list.lowest(new Range('^1')), list.best(new Range('3'))], ['1.10.0\n', '1.2.0', undefined]);
+    assert.deepEqual(list.sort(), ['1.2.0', '1.10.0\n', '2.0.0']);
+    assert.deepEqual(new VersionList([]).sort(), []);
+    assert.equal(attempt(() => list.lowest(new Range('latest'))).tag, 'latest');
     assert.deepEqual(new VersionList([]).filter(new Range('*')), []);
     assert.deepEqual(new VersionList(['1.2.0-a']).filter(new Range('1', { preReleases: true })), ['1.2.0-a']);
     assert.equal(attempt(() => list.filter('1')).message, 'range must be a Range, not string');

@@ -42,7 +42,10 @@ static int32_t ask_list(address range) {
     int32_t code = wasm_list_read(b);
     if (code != SEMVER_YES) return code;
     address list = wasm_handle();
-    code = wasm_list_filter(list, range, LAST);
+    code = IS(list_sort)   ? wasm_list_sort(list, LAST)
+         : IS(list_best)   ? wasm_list_best(list, range, LAST)
+         : IS(list_lowest) ? wasm_list_lowest(list, range, LAST)
+                           : wasm_list_filter(list, range, LAST);
     wasm_list_free(list);
     return code;
 }
@@ -50,7 +53,7 @@ static int32_t ask_list(address range) {
 /* Asks of a range and the text at the front of the input. */
 static int32_t ask_held_by(address range) {
     address other;
-    if (IS(list_filter)) return ask_list(range);
+    if (strncmp(asked->name, "list_", 5) == 0) return ask_list(range);
     if (IS(range_fits)) return wasm_range_fits(range, b, LAST);
     if (IS(range_normal)) return wasm_range_normal(range);
     if (IS(range_text)) return wasm_range_text(range);

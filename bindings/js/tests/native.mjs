@@ -52,6 +52,9 @@ const CALLS = {
   range_overlap: ['range', 'range'],
   range_equal: ['range', 'range'],
   list_filter: ['range', 'versions'],
+  list_best: ['range', 'versions'],
+  list_lowest: ['range', 'versions'],
+  list_sort: ['range', 'versions'],
 };
 
 /** The bytes of a text. A lone surrogate is a byte that is in no UTF-8. */
@@ -78,12 +81,12 @@ function textOf(kind) {
 function makeQuestion() {
   const name = texts.pick(Object.keys(CALLS));
   const [one, other] = CALLS[name].slice(0, 2).map(textOf);
-  const isSort = name === 'sort';
+  const isSort = name === 'sort' || name === 'list_sort';
   return {
     name,
     allocations: texts.below(3) ? NO_LIMIT : texts.below(12),
     first: texts.below(20) ? texts.below(3) : 3,
-    last: isSort ? linesOf(one) : texts.below(2),
+    last: isSort ? linesOf(name === 'sort' ? one : other) : texts.below(2),
     one,
     other,
   };
@@ -103,11 +106,11 @@ function encode({ name, allocations, first, last, one, other }) {
 }
 
 /** Asks of a range and the list at the front of the input. */
-function askList(range, { last, other }) {
+function askList(range, { name, last, other }) {
   const code = wasm.list_read(other.length);
   if (code !== 1) return code;
   const list = wasm.handle();
-  const answer = wasm.list_filter(list, range, last);
+  const answer = name === 'list_sort' ? wasm.list_sort(list, last) : wasm[name](list, range, last);
   wasm.list_free(list);
   return answer;
 }
@@ -115,7 +118,7 @@ function askList(range, { last, other }) {
 /** Asks of a range and the text at the front of the input. */
 function askHeldBy(range, question) {
   const { name, first, last, other } = question;
-  if (name === 'list_filter') return askList(range, question);
+  if (name.startsWith('list_')) return askList(range, question);
   if (name === 'range_fits') return wasm.range_fits(range, other.length, last);
   if (CALLS[name][1] === null) return wasm[name](range);
   const code = wasm.range_read(first, other.length);

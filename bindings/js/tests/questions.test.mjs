@@ -49,6 +49,8 @@ const WITH_GRAMMAR = {
   },
   best: (o, range, text) => placeOr(linesOf(text), semver.best(range, linesOf(text), o)),
   lowest: (o, range, text) => placeOr(linesOf(text), semver.lowest(range, linesOf(text), o)),
+  list_best: (o, range, text) => listBest(o, range, text, 'best'),
+  list_lowest: (o, range, text) => listBest(o, range, text, 'lowest'),
   overlap: (o, one, other) => yesIf(semver.overlaps(one, other, o)),
   within: (o, one, other) => {
     const version = semver.counterexample(one, other, o);
@@ -82,13 +84,21 @@ const WITH_GRAMMAR = {
   },
 };
 
+/** The place of what a list finds. */
+function listBest(o, range, text, method) {
+  const lines = linesOf(text);
+  return placeOr(lines, new semver.VersionList(lines)[method](new Range(range, o)));
+}
+
+/** The places of sorted versions. */
+function sortedPlaces(lines, sorted) {
+  const versions = lines.map((line, at) => ({ line, at }));
+  return ['yes', ...sorted.map((line) => String(take(versions, line)))];
+}
+
 const CALLS = {
-  sort: (text) => {
-    const lines = linesOf(text);
-    const versions = lines.map((line, at) => ({ line, at }));
-    const sorted = semver.sort(lines);
-    return ['yes', ...sorted.map((line) => String(take(versions, line)))];
-  },
+  sort: (text) => sortedPlaces(linesOf(text), semver.sort(linesOf(text))),
+  list_sort: (text) => sortedPlaces(linesOf(text), new semver.VersionList(linesOf(text)).sort()),
   compare: (one, other) => orderOf(new Version(one).compare(other)),
   version: (text) => ['yes', String(new Version(text))],
   version_error: (text) => {

@@ -162,6 +162,16 @@ EXPORT(int32_t, range_equal)(address r, address s) { return semver_req_equal(RAN
 EXPORT(int32_t, range_text)(address r) { WRITES(semver_req_text(RANGE(r), OUT)); }
 EXPORT(int32_t, range_normal)(address r) { WRITES(semver_req_normal(RANGE(r), OUT)); }
 
+EXPORT(int32_t, list_best)(address l, address r, uint32_t pre) { return semver_list_best(LIST(l), RANGE(r), pre, &found); }
+EXPORT(int32_t, list_lowest)(address l, address r, uint32_t pre) { return semver_list_lowest(LIST(l), RANGE(r), pre, &found); }
+
+/* `count` is how many lines there are. */
+EXPORT(int32_t, list_sort)(address l, uint32_t count) {
+    size_t needed = 0, *to = places(count);
+    int32_t code = to ? semver_list_sort(LIST(l), to, count, &needed) : SEMVER_NO_MEMORY;
+    return report_places(code, needed);
+}
+
 /* A byte for each line of the list. */
 EXPORT(int32_t, list_filter)(address l, address r, uint32_t pre) {
     WRITES(semver_list_filter(LIST(l), RANGE(r), pre, (int8_t *)output.at, output.room, &output.len));

@@ -90,6 +90,7 @@ extern "C" {
     fn semver_req_matches(range: *mut Raw, version: *mut Raw, pre: u32) -> i32;
     fn semver_req_overlap(one: *mut Raw, other: *mut Raw) -> i32;
     fn semver_req_equal(one: *mut Raw, other: *mut Raw) -> i32;
+    fn semver_req_order(one: *mut Raw, other: *mut Raw) -> i32;
     fn semver_req_normal(handle: *mut Raw, out: Out, out_len: usize, needed: Size) -> i32;
     fn semver_version_read(text: In, len: usize, handle: *mut Raw, out: Out, out_len: usize, needed: Size) -> i32;
     fn semver_version_free(handle: *mut Raw);
@@ -99,6 +100,9 @@ extern "C" {
     fn semver_list_read(versions: In, versions_len: usize, handle: *mut Raw, lines: Size) -> i32;
     fn semver_list_free(handle: *mut Raw);
     fn semver_list_filter(list: *mut Raw, range: *mut Raw, pre: u32, answers: *mut i8, answers_len: usize, needed: Size) -> i32;
+    fn semver_list_best(list: *mut Raw, range: *mut Raw, pre: u32, place: Size) -> i32;
+    fn semver_list_lowest(list: *mut Raw, range: *mut Raw, pre: u32, place: Size) -> i32;
+    fn semver_list_sort(list: *mut Raw, places: Size, places_len: usize, needed: Size) -> i32;
 }
 
 const NO: i32 = 0;
@@ -340,12 +344,18 @@ pub(crate) fn best(end: End, grammar: Grammar, range: &str, versions: &str, pre:
     };
     let (list, list_len) = (versions.as_ptr(), versions.len());
     match unsafe { call(grammar as u32, range.as_ptr(), range.len(), list, list_len, pre as u32, &mut place) } {
-        NO => Ok(Best::Nothing),
-        YES => Ok(Best::At(place)),
-        TAG => Ok(Best::Tag),
-        INVALID_VERSION => Ok(Best::Invalid(place)),
         INVALID_RANGE => Err(Invalid::range(grammar, range, 0)),
-        code => failed(code),
+        code => Ok(best_at(code, place)),
+    }
+}
+
+fn best_at(code: i32, place: usize) -> Best {
+    match code {
+        NO => Best::Nothing,
+        YES => Best::At(place),
+        TAG => Best::Tag,
+        INVALID_VERSION => Best::Invalid(place),
+        _ => failed(code),
     }
 }
 
@@ -463,6 +473,10 @@ impl Requirement {
         unsafe { semver_req_equal(&mut self.0, &mut other.0) == YES }
     }
 
+    pub(crate) fn order(&mut self, other: &mut Requirement) -> Ordering {
+        ordering(unsafe { semver_req_order(&mut self.0, &mut other.0) })
+    }
+
     fn normal_text(&mut self) -> StackString {
         with_text(|out, len, needed| unsafe { semver_req_normal(&mut self.0, out, len, needed) }, |_, text| text.into())
     }
@@ -552,6 +566,24 @@ impl Versions {
         let (out, len) = (answers.as_mut_ptr(), answers.len());
         let code = unsafe { semver_list_filter(&mut self.raw, &mut range.0, pre as u32, out, len, &mut needed) };
         fits(code, answers)
+    }
+
+    pub(crate) fn best(&mut self, end: End, range: &mut Requirement, pre: PreRelease) -> Best {
+        let mut place = 0;
+        let call = match end {
+            End::Highest => semver_list_best,
+            End::Lowest => semver_list_lowest,
+        };
+        best_at(unsafe { call(&mut self.raw, &mut range.0, pre as u32, &mut place) }, place)
+    }
+
+    pub(crate) fn sort(&mut self) -> Vec<usize> {
+        let (mut places, mut needed) = (vec![0; self.lines], 0);
+        match unsafe { semver_list_sort(&mut self.raw, places.as_mut_ptr(), places.len(), &mut needed) } {
+            YES => places.truncate(needed),
+            code => failed(code),
+        }
+        places
     }
 }
 

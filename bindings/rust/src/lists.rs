@@ -47,6 +47,22 @@ impl VersionList {
         self.ask(|versions| req.ask(|req| versions.filter(req, pre_release)))
     }
 
+    /// Which version is the highest that matches; the first of equal ones.
+    pub fn best(&self, req: &VersionReq, pre_release: PreRelease) -> Best {
+        self.ask(|versions| req.ask(|req| versions.best(End::Highest, req, pre_release)))
+    }
+
+    /// Which version is the lowest that matches; the first of equal ones.
+    pub fn lowest(&self, req: &VersionReq, pre_release: PreRelease) -> Best {
+        self.ask(|versions| req.ask(|req| versions.best(End::Lowest, req, pre_release)))
+    }
+
+    /// The lines of the versions by precedence; versions that differ in the build alone keep their order. Lines that aren't versions are
+    /// left out.
+    pub fn sort(&self) -> Vec<usize> {
+        self.ask(Versions::sort)
+    }
+
     fn ask<R>(&self, question: impl FnOnce(&mut Versions) -> R) -> R {
         self.held.ask(|| Versions::parse(&self.text), question)
     }

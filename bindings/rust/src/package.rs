@@ -6,7 +6,6 @@
 use crate::calls::{self, Grammar};
 use crate::error::ParseErrorFailureError;
 use crate::npm::NpmVersionReqParseError;
-use crate::range::{RangeBound, RangeSetOrTag, VersionBound, VersionRange};
 use crate::string::{SmallStackString, StackString};
 use crate::version::Version;
 use crate::version_req::{VersionReq, VersionReqNormalizedParseError, VersionReqSpecifierParseError};
@@ -140,52 +139,8 @@ impl PartialOrd for PackageReq {
 
 impl Ord for PackageReq {
     fn cmp(&self, other: &PackageReq) -> Ordering {
-        self.name.cmp(&other.name).then_with(|| cmp_inner(self.version_req.inner(), other.version_req.inner()))
+        self.name.cmp(&other.name).then_with(|| self.version_req.order(&other.version_req))
     }
-}
-
-fn cmp_inner(one: &RangeSetOrTag, other: &RangeSetOrTag) -> Ordering {
-    match (one, other) {
-        (RangeSetOrTag::Tag(one), RangeSetOrTag::Tag(other)) => other.cmp(one),
-        (RangeSetOrTag::Tag(_), RangeSetOrTag::RangeSet(_)) => Ordering::Less,
-        (RangeSetOrTag::RangeSet(_), RangeSetOrTag::Tag(_)) => Ordering::Greater,
-        (RangeSetOrTag::RangeSet(one), RangeSetOrTag::RangeSet(other)) => {
-            let ranges = || one.0.iter().zip(&other.0);
-            let bounds = ranges().map(|(one, other)| cmp_range(one, other)).find(|order| order.is_ne());
-            let builds = || ranges().map(|(one, other)| builds(one).cmp(&builds(other))).find(|order| order.is_ne());
-            bounds.unwrap_or_else(|| one.0.len().cmp(&other.0.len()).then_with(|| builds().unwrap_or(Ordering::Equal)))
-        }
-    }
-}
-
-// Starts from the highest to none, then ends from the lowest to none; of bounds with one version, the narrower first.
-fn cmp_range(one: &VersionRange, other: &VersionRange) -> Ordering {
-    let starts = cmp_bound(&one.start, &other.start, |one, other| {
-        other.version.cmp_precedence(&one.version).then(is_inclusive(one).cmp(&is_inclusive(other)))
-    });
-    starts.then_with(|| {
-        cmp_bound(&one.end, &other.end, |one, other| {
-            one.version.cmp_precedence(&other.version).then(is_inclusive(one).cmp(&is_inclusive(other)))
-        })
-    })
-}
-
-fn is_inclusive(bound: &VersionBound) -> bool {
-    bound.kind == crate::VersionBoundKind::Inclusive
-}
-
-fn cmp_bound(one: &RangeBound, other: &RangeBound, order: impl Fn(&VersionBound, &VersionBound) -> Ordering) -> Ordering {
-    match (one, other) {
-        (RangeBound::Version(one), RangeBound::Version(other)) => order(one, other),
-        (one, other) => (*one == RangeBound::Unbounded).cmp(&(*other == RangeBound::Unbounded)),
-    }
-}
-
-fn builds(range: &VersionRange) -> [&[StackString]; 2] {
-    [&range.start, &range.end].map(|bound| match bound {
-        RangeBound::Version(bound) => bound.version.build.as_slice(),
-        RangeBound::Unbounded => &[],
-    })
 }
 
 /// A package with a requirement, and a path in it.

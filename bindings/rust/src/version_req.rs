@@ -9,6 +9,7 @@ use crate::npm::NpmVersionReqParseError;
 use crate::range::{RangeSetOrTag, VersionRangeSet};
 use crate::string::{SmallStackString, StackString};
 use crate::version::Version;
+use std::cmp::Ordering;
 use std::fmt;
 use std::hash::{Hash, Hasher};
 use std::ptr;
@@ -153,6 +154,11 @@ impl VersionReq {
             .unwrap_or_else(|invalid| unreachable!("{}", invalid.message))
     }
 
+    /// The order in which packages of one name stand.
+    pub(crate) fn order(&self, other: &VersionReq) -> Ordering {
+        self.ask_both(other, Requirement::order)
+    }
+
     /// The canonical form, or the tag.
     pub(crate) fn normalized(&self) -> &str {
         &self.shared().normal
@@ -180,7 +186,7 @@ impl VersionReq {
 
     // The answer to a question about two requirements. If they share their handle, one is parsed again.
     #[inline]
-    fn ask_both(&self, other: &VersionReq, question: impl FnOnce(&mut Requirement, &mut Requirement) -> bool) -> bool {
+    fn ask_both<R>(&self, other: &VersionReq, question: impl FnOnce(&mut Requirement, &mut Requirement) -> R) -> R {
         let (one, two) = (self.shared(), other.shared());
         if ptr::eq(one, two) {
             return one.ask(|req| question(req, &mut one.requirement()));

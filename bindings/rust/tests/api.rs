@@ -1,7 +1,7 @@
 //! What the table of questions can't ask: errors, packages and references, ranges that a caller builds, copies and threads.
 
 use deno_semver_proved::jsr::{JsrDepPackageReq, JsrDepPackageReqParseError, JsrPackageNvReference, JsrPackageReqReference};
-use deno_semver_proved::lists::{self, Fit, VersionList};
+use deno_semver_proved::lists::{self, Best, Fit, VersionList};
 use deno_semver_proved::lowest::{self, Lowest};
 use deno_semver_proved::npm::{parse_npm_version, parse_npm_version_req, NpmPackageNvReference, NpmPackageReqReference};
 use deno_semver_proved::package::{
@@ -280,6 +280,9 @@ fn beyond_the_original() {
     assert_eq!(lowest::equivalent(Grammar::Npm, "1.x", "^1.0.0", PreRelease::Restricted), Ok(Some(true)));
     let list = VersionList::parse("1.2.0\n2.0.0\r\nfoo\n1.9.9\n");
     assert_eq!(list.filter(&npm("^1.2"), PreRelease::Restricted), [Fit::Yes, Fit::No, Fit::Invalid, Fit::Yes]);
+    assert_eq!(list.best(&npm("^1.2"), PreRelease::Restricted), Best::At(3));
+    assert_eq!(list.lowest(&npm("^1.3"), PreRelease::Restricted), Best::At(3));
+    assert_eq!(list.sort(), [0, 3, 1]);
     assert_eq!(lists::sort("2.0.0\n1.0.0"), Ok(vec![1, 0]));
 }
 

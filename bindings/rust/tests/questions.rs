@@ -123,8 +123,17 @@ fn best(best: Result<Best, InvalidRange>) -> Answers {
 }
 
 fn sort(versions: &str) -> Answers {
-    let places = lists::sort(versions).map_err(|place| format!("invalid version{US}{place}"))?;
+    places(lists::sort(versions).map_err(|place| format!("invalid version{US}{place}"))?)
+}
+
+fn places(places: Vec<usize>) -> Answers {
     Ok(vec![places.iter().fold("yes".to_string(), |list, place| format!("{list}{US}{place}"))])
+}
+
+/// What a held list answers about each of two requirements, as both ask it.
+fn list_best(reqs: Result<[VersionReq; 2], String>, versions: &str, ask: impl Fn(&VersionList, &VersionReq) -> Best) -> Answers {
+    let list = VersionList::parse(versions);
+    Ok(reqs?.iter().map(|req| best(Ok(ask(&list, req)))).collect::<Result<Vec<_>, _>>()?.concat())
 }
 
 /// The order with builds, with which equality and hashes agree.
@@ -148,6 +157,14 @@ fn overlap(one: &VersionReq, other: &VersionReq) -> String {
 fn equal(one: &VersionReq, other: &VersionReq) -> String {
     assert_eq!(hash(one) == hash(other), one.to_string_normalized() == other.to_string_normalized());
     yes_or_no(one == other)
+}
+
+/// The order of two packages of one name, with which equality agrees.
+fn req_order(one: &VersionReq, other: &VersionReq) -> String {
+    let [one, other] = [one, other].map(|req| PackageReq { name: "name".into(), version_req: req.clone() });
+    let order = one.cmp(&other);
+    assert_eq!(one == other, order.is_eq());
+    ["before", "same", "after"][(order as i8 + 1) as usize].to_string()
 }
 
 fn lowest_version(found: &str, nothing: &str, lowest: Result<Lowest, InvalidRange>) -> Answers {
@@ -257,6 +274,13 @@ fn ask_lists(question: &[&str]) -> Option<Answers> {
         ["best", name, _, range, versions] => best(lists::best(grammar(name), range, versions, flag)),
         ["lowest", name, _, range, versions] => best(lists::lowest(grammar(name), range, versions, flag)),
         ["sort", versions] => sort(versions),
+        ["list_best", grammar, _, requirement, versions] => {
+            list_best(requirements(grammar, requirement), versions, |list, req| list.best(req, flag))
+        }
+        ["list_lowest", grammar, _, requirement, versions] => {
+            list_best(requirements(grammar, requirement), versions, |list, req| list.lowest(req, flag))
+        }
+        ["list_sort", versions] => places(VersionList::parse(versions).sort()),
         ["within", name, _, one, other] => lowest_version("no", "yes", lowest::outside(grammar(name), one, other, flag)),
         ["common", name, _, one, other] => {
             lowest_version("yes", "no", lowest::common_version(grammar(name), &format!("{one}\n{other}\n"), flag))
@@ -286,6 +310,7 @@ fn ask(question: &[&str]) -> Option<Answers> {
         ["order", one, other] => versions(one).and_then(|one| pairs(one, versions(other)?, same, order)),
         ["overlap", grammar, one, other] => reqs(grammar, one, other, overlap),
         ["equal", grammar, one, other] => reqs(grammar, one, other, equal),
+        ["req_order", grammar, one, other] => reqs(grammar, one, other, req_order),
         ["normal", name, text] => requirements(name, text).and_then(|all| {
             assert_eq!(lowest::normal(grammar(name), text).as_ref(), Ok(&normal(&all[0])));
             written(all, normal)
@@ -316,7 +341,7 @@ fn wanted(call: &str, answer: &str) -> String {
         // These have a place and no message.
         ("best" | "lowest" | "sort", ["invalid version", _, place]) => ["invalid version", place].join(US),
         // These have a message and no place.
-        ("overlap" | "equal" | "compare" | "order", [code @ ("invalid range" | "invalid version"), message, _]) => {
+        ("overlap" | "equal" | "req_order" | "compare" | "order", [code @ ("invalid range" | "invalid version"), message, _]) => {
             [*code, *message].join(US)
         }
         // These have a place even if there is one range alone.

@@ -1,3 +1,4 @@
+pub mod BestLines
 pub mod BestMatches
 pub mod ExplainedPieces
 pub mod Givens

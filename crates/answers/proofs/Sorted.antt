@@ -1,50 +1,113 @@
 -- Versions with their places: only one arrangement is ascending.
-use Rattle.std.proofs.Common.{◌≡◌, ◌+◌, ℕ, suc, List, [], ◌∷◌, ◌++◌, length, map, Ordering, Less, Equal, Greater, IsPermutation, IsSorted, Ok, refl, sym, ap, arith, inr, ◌∙◌}
+use Rattle.std.proofs.Common.{◌≡◌, ◌+◌, ◌<◌, ℕ, zero, suc, Bool, List, [], ◌∷◌, ◌++◌, get_or, length, map, take, Option, None, Some, Ordering, Less, Equal, Greater, IsPermutation, IsSorted, IsSortedBy, Ok, refl, sym, ap, arith, inr, ◌∙◌}
 use Rattle.std.proofs.lemmas.Cmp.{nat_cmp_total, tied_itself}
+use Rattle.std.proofs.lemmas.List.{length-map, length-take-le, map-append, take_more}
 use Rattle.std.proofs.lemmas.List.MinMax.{ranks_by}
-use Rattle.std.proofs.lemmas.List.Sorted.{IsPermutation-sym, IsPermutation-trans}
+use Rattle.std.proofs.lemmas.List.Sorted.{IsPermutation-map, IsPermutation-sym, IsPermutation-trans}
 use Rattle.std.specs.Cmp.{IsStrictWeakOrder, IsTotalOrder, back_total, on_total, then_total}
 use Rattle.std.specs.FinMap.{nat_cmp-IsAntisymmetric}
 use Rattle.std.specs.Ordering.{is_lt, nat_cmp, ordering_then}
-use Rattle.semver_base.specs.PrecedenceLaws.{precedence_total}
-use Rattle.semver_base.specs.declared.version.Version.{Version}
 use Rattle.deno_semver.proofs.ListOrder.{Tie, sorted_ties}
-use Rattle.answers.specs.Sorting.{AreSortedPlaces, SortedPlaces, order_cmp, place_of, placed_cmp, placed_from}
-use Rattle.answers.specs.Asking.{IsAnswer}
-use Rattle.answers.specs.declared.sorting.Placed.{Placed}
+use Rattle.semver_base.specs.PrecedenceLaws.{precedence_total}
+use Rattle.answers.specs.Asking.{IsOutcomeOf}
 use Rattle.answers.proofs.Givens.{as_value}
+use Rattle.semver_base.specs.declared.version.Version.{Version}
+use Rattle.answers.specs.Sorting.{AreSortedPlaces, SortedPlaces, Standing, order_cmp, standing, standing_cmp, standing_from, standing_lines}
+use Rattle.answers.specs.declared.sorting.Placed.{Placed}
 use Rattle.answers.specs.declared.sorting.Order.{Order}
 use Rattle.answers.specs.declared.sorting.Order.TheVariants.{Ascending, Descending}
 
--- one more version has the next place
-one_placed : (n : ℕ) (vs : List Version) (v : Version) → placed_from n (vs ++ v ∷ []) ≡ placed_from n vs ++ record { version = v; place = n + length vs } ∷ []
-one_placed n [] v = ap (λ (k : ℕ). record { version = v; place = k } ∷ []) (omega arith)
-one_placed n (w ∷ vs) v =
+-- ---- one more
+
+one_standing : (n : ℕ) (vs : List Version) (v : Version) → standing_from n (vs ++ v ∷ []) ≡ standing_from n vs ++ (v, n + length vs) ∷ []
+one_standing n [] v = ap (λ (k : ℕ). (v, k) ∷ []) (omega arith)
+one_standing n (w ∷ vs) v =
     let same : n + 1 + length vs ≡ n + suc (length vs) = omega arith in
-    ap (λ (rest : List Placed). record { version = w; place = n } ∷ rest)
-    (one_placed (n + 1) vs v ∙ ap (λ (k : ℕ). placed_from (n + 1) vs ++ record { version = v; place = k } ∷ []) same)
+    ap (λ (rest : List Standing). (w, n) ∷ rest) (one_standing (n + 1) vs v ∙ ap (λ (k : ℕ). standing_from (n + 1) vs ++ (v, k) ∷ []) same)
 
--- a list and one more version
-pub next_placed : (vs : List Version) (v : Version) (place : ℕ) → place ≡ length vs → placed_from 0 vs ++ record { version = v; place = place } ∷ [] ≡ placed_from 0 (vs ++ v ∷ [])
-next_placed vs v place e =
-    let same : place ≡ 0 + length vs = omega (arith, e) in
-    ap (λ (k : ℕ). placed_from 0 vs ++ record { version = v; place = k } ∷ []) same ∙ sym (one_placed 0 vs v)
+one_line : (n : ℕ) (lines : List (Option Version)) (line : Option Version) → standing_lines n (lines ++ line ∷ []) ≡ standing_lines n lines ++ standing_lines (n + length lines) (line ∷ [])
+one_line n [] line = ap (λ (k : ℕ). standing_lines k (line ∷ [])) (omega arith)
+one_line n (Some w ∷ lines) line =
+    let same : n + 1 + length lines ≡ n + suc (length lines) = omega arith in
+    ap (λ (rest : List Standing). (w, n) ∷ rest) (one_line (n + 1) lines line ∙ ap (λ (k : ℕ). standing_lines (n + 1) lines ++ standing_lines k (line ∷ [])) same)
+one_line n (None ∷ lines) line =
+    let same : n + 1 + length lines ≡ n + suc (length lines) = omega arith in
+    one_line (n + 1) lines line ∙ ap (λ (k : ℕ). standing_lines (n + 1) lines ++ standing_lines k (line ∷ [])) same
 
-pub placed_length : (n : ℕ) (vs : List Version) → length (placed_from n vs) ≡ length vs
-placed_length n [] = refl
-placed_length n (w ∷ vs) = ap suc (placed_length (n + 1) vs)
+-- one more version is placed
+pub next_standing : (all more : List Placed) (versions : List Version) (place : ℕ) (it : Placed) → more ≡ all ++ it ∷ [] → it.place ≡ place → it.version.now ≡ get_or versions place it.version.now → place < length versions
+    → map standing all ≡ standing_from 0 (take place versions) → map standing more ≡ standing_from 0 (take (place + 1) versions)
+next_standing all more versions place it e stands at within h =
+    let seen = take place versions in
+    let v = it.version.now in
+    let behind : it.place ≡ 0 + length seen = stands ∙ sym (length-take-le place versions (omega (arith, within))) ∙ omega arith in
+    ap (map standing) e ∙ map-append standing all (it ∷ []) ∙ ap (λ (rest : List Standing). rest ++ standing it ∷ []) h ∙ ap (λ (k : ℕ). standing_from 0 seen ++ (v, k) ∷ []) behind
+    ∙ sym (one_standing 0 seen v) ∙ ap (λ (w : Version). standing_from 0 (seen ++ w ∷ [])) at ∙ ap (standing_from 0) (sym (take_more versions place v within))
 
--- either order is total
+module _ (lines : List (Option Version)) (place : ℕ) (line : Option Version) (at : line ≡ get_or lines place line) (within : place < length lines) where
+  seen_more : standing_lines 0 (take place lines ++ line ∷ []) ≡ standing_lines 0 (take (place + 1) lines)
+  seen_more = ap (λ (it : Option Version). standing_lines 0 (take place lines ++ it ∷ [])) at ∙ ap (standing_lines 0) (sym (take_more lines place line within))
+
+  pub next_line : (all more : List Placed) (it : Placed) → more ≡ all ++ it ∷ [] → it.place ≡ place → line ≡ Some it.version.now
+      → map standing all ≡ standing_lines 0 (take place lines) → map standing more ≡ standing_lines 0 (take (place + 1) lines)
+  next_line all more it e stands is h =
+      let seen = take place lines in
+      let behind : it.place ≡ 0 + length seen = stands ∙ sym (length-take-le place lines (omega (arith, within))) ∙ omega arith in
+      ap (map standing) e ∙ map-append standing all (it ∷ []) ∙ ap (λ (rest : List Standing). rest ++ standing it ∷ []) h ∙ ap (λ (k : ℕ). standing_lines 0 seen ++ (it.version.now, k) ∷ []) behind
+      ∙ sym (one_line 0 seen (Some it.version.now)) ∙ ap (λ (other : Option Version). standing_lines 0 (seen ++ other ∷ [])) (sym is) ∙ seen_more
+
+  -- a line without a version stands nowhere
+  pub no_line : line ≡ None → standing_lines 0 (take place lines) ≡ standing_lines 0 (take (place + 1) lines)
+  no_line is =
+      let seen = take place lines in
+      sym (append_none (standing_lines 0 seen)) ∙ sym (one_line 0 seen None) ∙ ap (λ (other : Option Version). standing_lines 0 (seen ++ other ∷ [])) (sym is) ∙ seen_more
+    where
+      append_none : (xs : List Standing) → xs ++ [] ≡ xs
+      append_none [] = refl
+      append_none (x ∷ xs) = ap (λ (rest : List Standing). x ∷ rest) (append_none xs)
+
+-- ---- sorted by a function of the items
+
+module _ {A B : Type 0} (f : A → B) (lt : B → B → Bool) where
+  read_map : (xs : List A) (k : ℕ) (x : A) (d : B) → k < length xs → get_or (map f xs) k d ≡ f (get_or xs k x)
+  read_map [] k x d within = absurd (omega (arith, within))
+  read_map (y ∷ ys) zero x d within = refl
+  read_map (y ∷ ys) (suc k) x d within = read_map ys k x d (omega (arith, within))
+
+  pub sorted_map : (xs : List A) → IsSortedBy (λ (a b : A). lt (f a) (f b)) xs → IsSortedBy lt (map f xs)
+  sorted_map [] h k d low more = absurd (omega (arith, more))
+  sorted_map (x ∷ xs) h k d low more =
+      let within : k + 1 < length (x ∷ xs) = omega (arith, more, length-map (x ∷ xs) f) in
+      rw (read_map (x ∷ xs) (k + 1) x d within, read_map (x ∷ xs) k x d (omega (arith, within))) (h k x low within)
+
+-- ---- either order is total
+
 order_total : (order : Order) → IsTotalOrder (order_cmp order)
 order_total Ascending = precedence_total
 order_total Descending = back_total precedence_total
 
 module _ (order : Order) where
-  placed_total : IsTotalOrder (placed_cmp order)
-  placed_total = then_total (on_total (λ (placed : Placed). placed.version) (order_total order)) (on_total place_of nat_cmp_total)
+  standing_total : IsTotalOrder (standing_cmp order)
+  standing_total = then_total (on_total (λ (s : Standing). s.0) (order_total order)) (on_total (λ (s : Standing). s.1) nat_cmp_total)
 
-  pub placed_ranks : IsStrictWeakOrder (λ (a b : Placed). is_lt (placed_cmp order a b))
-  placed_ranks = ranks_by placed_total (λ (placed : Placed). placed)
+  -- the test that the items are sorted by
+  abbrev pub comes_before : Placed → Placed → Bool
+  comes_before a b = is_lt (standing_cmp order (standing a) (standing b))
+
+  pub placed_ranks : IsStrictWeakOrder comes_before
+  placed_ranks = ranks_by standing_total standing
+
+  pub sorted_places : (all sorted : List Placed) → IsPermutation all sorted → IsSortedBy comes_before sorted → AreSortedPlaces order (map standing all) (map (λ (p : Placed). p.place) sorted)
+  sorted_places all sorted same ascends = record {
+    sorted = map standing sorted;
+    same = IsPermutation-map standing all sorted same;
+    ascends = sorted_map standing (λ (a b : Standing). is_lt (standing_cmp order a b)) sorted ascends;
+    places_are = places sorted;
+  }
+    where
+      places : (xs : List Placed) → map (λ (p : Placed). p.place) xs ≡ map (λ (s : Standing). s.1) (map standing xs)
+      places [] = refl
+      places (x ∷ xs) = ap (λ (rest : List ℕ). x.place ∷ rest) (places xs)
 
   -- versions that tie have the same place
   second : (r s : Ordering) → ordering_then r s ≡ Equal → s ≡ Equal
@@ -52,27 +115,26 @@ module _ (order : Order) where
   second Equal s e = e
   second Greater s e = absurd (cc e)
 
-  one_place : (a b : Placed) → placed_cmp order a b ≡ Equal → place_of a ≡ place_of b
-  one_place a b e = nat_cmp-IsAntisymmetric a.place b.place (second (order_cmp order a.version b.version) (nat_cmp a.place b.place) e)
+  one_place : (a b : Standing) → standing_cmp order a b ≡ Equal → a.1 ≡ b.1
+  one_place a b e = nat_cmp-IsAntisymmetric a.1 b.1 (second (order_cmp order a.0 b.0) (nat_cmp a.1 b.1) e)
 
-  ties_places : (xs ys : List Placed) → Tie (placed_cmp order) placed_total xs ys → map place_of xs ≡ map place_of ys
+  ties_places : (xs ys : List Standing) → Tie (standing_cmp order) standing_total xs ys → map (λ (s : Standing). s.1) xs ≡ map (λ (s : Standing). s.1) ys
   ties_places [] [] h = refl
   ties_places [] (y ∷ ys) h = absurd h
   ties_places (x ∷ xs) [] h = absurd h
   ties_places (x ∷ xs) (y ∷ ys) h = rw (one_place x y h.0, ties_places xs ys h.1) refl
 
-  ties_self : (xs : List Placed) → Tie (placed_cmp order) placed_total xs xs
+  ties_self : (xs : List Standing) → Tie (standing_cmp order) standing_total xs xs
   ties_self [] = tt
-  ties_self (x ∷ xs) = (tied_itself placed_total x, ties_self xs)
+  ties_self (x ∷ xs) = (tied_itself standing_total x, ties_self xs)
 
   -- two ascending arrangements of the same list have the same places
-  one_order : (base xs ys : List Placed) → IsPermutation base xs → IsSorted (placed_cmp order) xs → IsPermutation base ys → IsSorted (placed_cmp order) ys → map place_of ys ≡ map place_of xs
+  one_order : (base xs ys : List Standing) → IsPermutation base xs → IsSorted (standing_cmp order) xs → IsPermutation base ys → IsSorted (standing_cmp order) ys → map (λ (s : Standing). s.1) ys ≡ map (λ (s : Standing). s.1) xs
   one_order base xs ys p h q k =
-      ties_places ys xs (sorted_ties (placed_cmp order) placed_total xs xs ys h (ties_self xs) (IsPermutation-trans xs base ys (IsPermutation-sym base xs p) q) k)
+      ties_places ys xs (sorted_ties (standing_cmp order) standing_total xs xs ys h (ties_self xs) (IsPermutation-trans xs base ys (IsPermutation-sym base xs p) q) k)
 
-  pub places_answer : (versions : List Version) (places : List ℕ) → AreSortedPlaces order versions places → {V : Type 0} (items : V → List ℕ) (given : V) → items given ≡ places
-      → IsAnswer (SortedPlaces order versions) items (Ok given)
-  places_answer versions places h items given e = record {
-    is = inr (places, h, ap as_value e);
-    only = λ o a. inr (ap as_value (e ∙ h.places_are ∙ one_order (placed_from 0 versions) a.1.sorted h.sorted a.1.same a.1.ascends h.same h.ascends ∙ sym a.1.places_are) ∙ sym a.2);
+  pub places_answer : {P : Type 0} (memory : P) (versions : List Standing) (places : List ℕ) → AreSortedPlaces order versions places → IsOutcomeOf memory (SortedPlaces order versions) (Ok places)
+  places_answer memory versions places h = record {
+    is = inr (places, h, refl);
+    only = λ o a. inr (ap as_value (h.places_are ∙ one_order versions a.1.sorted h.sorted a.1.same a.1.ascends h.same h.ascends ∙ sym a.1.places_are) ∙ sym a.2);
   }

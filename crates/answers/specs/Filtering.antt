@@ -1,5 +1,8 @@
 -- Which of several versions match a range.
-use Rattle.std.specs.Prelude.{ℕ, List, Bool, Option, None, Some, Result, Ok, Err, map}
+use Rattle.std.specs.Prelude.{ℕ, List, Bool, false, Option, None, Some, Result, Ok, Err, map}
+use Rattle.std.specs.Option.{option_cmp}
+use Rattle.std.specs.Ordering.{is_lt}
+use Rattle.semver_base.specs.Precedence.{precedence_cmp}
 use Rattle.semver_base.specs.declared.range.PreRelease.{PreRelease}
 use Rattle.semver_base.specs.declared.version.Version.{Version}
 use Rattle.semver_req.specs.Requirement.{inner_means_with, tag_of}
@@ -11,6 +14,8 @@ use Rattle.answers.specs.Questions.{UnlessTag}
 use Rattle.answers.specs.Reading.{IsRange, IsVersion}
 use Rattle.answers.specs.declared.asking.Answer.{Answer}
 use Rattle.answers.specs.declared.asking.Answer.TheVariants.{Value, Tag}
+use Rattle.answers.specs.declared.questions.End.{End}
+use Rattle.answers.specs.declared.questions.End.TheVariants.{Highest, Lowest}
 
 -- a list of answers, or the tag
 abbrev pub list_answer : {E X : Type 0} → (E → X) → Answer E → Answer X
@@ -48,3 +53,13 @@ line_answer test None = None
 abbrev pub list_matches : PreRelease → RangeSetOrTag → List (Option Version) → Answer (List (Option Bool))
 list_matches flag (inner.RangeSet set) lines = Value (map (line_answer (inner_means_with flag (inner.RangeSet set))) lines)
 list_matches flag (inner.Tag tag) lines = Tag tag
+
+-- the line's version passes the test; a line without one doesn't
+abbrev pub line_passes : (Version → Bool) → Option Version → Bool
+line_passes test (Some v) = test v
+line_passes test None = false
+
+-- at this end of the order, which of two lines has the better version; a line without one passes no test, wherever it stands
+abbrev pub better_line : End → Option Version → Option Version → Bool
+better_line Highest one other = is_lt (option_cmp precedence_cmp other one)
+better_line Lowest one other = is_lt (option_cmp precedence_cmp one other)

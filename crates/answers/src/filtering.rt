@@ -1,15 +1,19 @@
-//! Which of several versions match a range.
+//! Which of several versions match a range, and which of those that were parsed is the best match.
 
-ghost use Rattle.std.specs.Prelude.{◌≡◌, IfErr, IfOk, None, map};
+ghost use Rattle.std.specs.Prelude.{◌≡◌, ◌&&◌, IfErr, IfOk, None, map};
 ghost use Rattle.semver_req.specs.Requirement.{inner_means_with, tag_of};
 ghost use Rattle.semver_req.specs.TextRejection.{IsTextRejection};
+ghost use Rattle.deno_semver.specs.Resolve.{IsBestMatch, IsOnlyMatch};
+ghost use Rattle.deno_semver.specs.ResolveSteps.{exceeds, known_of};
 ghost use Rattle.answers.specs.Asking.{Each, IsAnswer, IsFailureAt};
-ghost use Rattle.answers.specs.Filtering.{Filter, FilterOf, IsLine, LineMatch, VersionLines, line_answer, list_answer, list_matches};
+ghost use Rattle.answers.specs.Filtering.{Filter, FilterOf, IsLine, LineMatch, VersionLines, better_line, line_answer, line_passes, list_answer, list_matches};
+ghost use Rattle.answers.specs.Questions.{better};
 ghost use Rattle.answers.specs.Reading.{texts_of};
 ghost use Rattle.answers.specs.declared.asking.Kind.TheVariants as kind;
 ghost use Rattle.answers.specs.declared.asking.Problem.TheVariants as problem;
 
 use crate::asking::{Answer, Problem};
+use crate::questions::End;
 use crate::reading::{range, version};
 use deno_semver::{PackageTag, PreRelease, Version, VersionReq};
 use semver_req::common::values::Flavour;
@@ -167,5 +171,52 @@ pub fn list_matches(
     match range.tag() {
         Some(tag) => Ok(Answer::Tag(PackageTag::from_str(alloc, tag)?)),
         None => Ok(Answer::Value(line_answers(alloc, pre_release, range, lines)?)),
+    }
+}
+
+// Whether the version matches the range, which isn't a tag, and is better than the best match so far, if any.
+fn is_better(
+    end: End,
+    pre_release: PreRelease,
+    range: &VersionReq,
+    version: &Version,
+    known: Option<(usize, &Version)>,
+) -> bool
+    requires { tag_of range.now.inner ≡ None }
+    ensures { result ≡ (inner_means_with pre_release range.now.inner version.now
+        && exceeds (better end) version.now (known_of known.entry)) }
+{
+    range.matches_with(version, pre_release)
+        && match known {
+            None => true,
+            Some((_, known)) => end.is_better(version, known),
+        }
+}
+
+/// Which of the versions that were parsed is at this end of those that match the range, which isn't a tag? Returns its place; of
+/// versions equal but for builds, the first.
+pub fn list_best(
+    end: End,
+    pre_release: PreRelease,
+    range: &VersionReq,
+    lines: &[Option<Version>],
+) -> Option<usize>
+    requires { tag_of range.now.inner ≡ None }
+    ensures best { IsBestMatch (better_line end)
+        (line_passes (λ v. inner_means_with pre_release range.now.inner v)) lines.now result }
+    ensures only { IsOnlyMatch (better_line end)
+        (line_passes (λ v. inner_means_with pre_release range.now.inner v)) lines.now result }
+{
+    let mut best = None;
+    for (place, line) in lines.iter().enumerate() {
+        if let Some(version) = line {
+            if is_better(end, pre_release, range, version, best) {
+                best = Some((place, version));
+            }
+        }
+    }
+    match best {
+        None => None,
+        Some((place, _)) => Some(place),
     }
 }

@@ -32,6 +32,18 @@ pub enum End {
     Lowest,
 }
 
+impl End {
+    /// Whether one version is nearer to this end than the other.
+    pub fn is_better(self, one: &Version, other: &Version) -> bool
+        ensures { result ≡ better self one.now other.now }
+    {
+        match self {
+            End::Highest => other.cmp_precedence(one).is_lt(),
+            End::Lowest => one.cmp_precedence(other).is_lt(),
+        }
+    }
+}
+
 /// A version of a list, and its place there.
 #[derive(Debug, Drop)]
 pub struct Best {

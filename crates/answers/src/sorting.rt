@@ -7,7 +7,7 @@ ghost use Rattle.semver_base.specs.VersionGrammar.{IsVersionRejection};
 ghost use Rattle.answers.specs.Asking.{IsAnswer};
 ghost use Rattle.answers.specs.Reading.{IsFailureAmong, texts_of};
 ghost use Rattle.answers.specs.declared.asking.Kind.TheVariants as kind;
-ghost use Rattle.answers.specs.Sorting.{AreSortedPlaces, Sorts, order_cmp, place_of, placed_cmp, placed_from};
+ghost use Rattle.answers.specs.Sorting.{AreSortedPlaces, Sorts, order_cmp, standing, standing_cmp, standing_from, standing_lines};
 
 use crate::asking::Problem;
 use crate::reading::versions;
@@ -23,9 +23,9 @@ pub enum Order {
 }
 
 // A version, and its place in a list.
-#[derive(Debug, Drop)]
-struct Placed {
-    version: Version,
+#[derive(Clone, Copy)]
+struct Placed<'a> {
+    version: &'a Version,
     place: usize,
 }
 
@@ -41,37 +41,56 @@ impl Order {
     }
 
     // Compares two placed versions in this order, equal ones by their places.
-    fn compare_placed(self, one: &Placed, other: &Placed) -> Ordering
-        ensures { result ≡ placed_cmp self one.now other.now }
+    fn compare_placed(self, one: &Placed<'_>, other: &Placed<'_>) -> Ordering
+        ensures { result ≡ standing_cmp self (standing one.now) (standing other.now) }
     {
-        let order = self.compare(&one.version, &other.version);
+        let order = self.compare(one.version, other.version);
         order.then(one.place.cmp(&other.place))
     }
 }
 
 // The versions with their places.
-fn with_places(alloc: Global, versions: Vec<Version>) -> Result<Vec<Placed>, AllocError>
-    ensures { IfOk result (λ all. all.items ≡ placed_from 0 versions.items) }
+fn with_places<'a>(alloc: Global, versions: &'a [Version]) -> Result<Vec<Placed<'a>>, AllocError>
+    ensures { IfOk result (λ all. map standing all.items ≡ standing_from 0 versions.now) }
 {
     let mut all = Vec::new(alloc);
-    for version in versions {
-        let place = all.len();
+    for (place, version) in versions.iter().enumerate() {
         all.push(Placed { version, place })?;
     }
     Ok(all)
 }
 
-// Puts them in order.
-fn put_in_order(all: &mut Vec<Placed>, order: Order) -> Result<(), AllocError>
-    ensures same { IsPermutation all.old.items all.new.items }
-    ensures sorted { OnOk result (IsSorted (placed_cmp order) all.new.items) }
+// The versions of the lines with their places.
+fn lines_with_places<'a>(
+    alloc: Global,
+    lines: &'a [Option<Version>],
+) -> Result<Vec<Placed<'a>>, AllocError>
+    ensures { IfOk result (λ all. map standing all.items ≡ standing_lines 0 lines.now) }
 {
-    all.sort_by(|one, other| order.compare_placed(one, other))
+    let mut all = Vec::new(alloc);
+    for (place, line) in lines.iter().enumerate() {
+        if let Some(version) = line {
+            all.push(Placed { version, place })?;
+        }
+    }
+    Ok(all)
+}
+
+// Puts them in order, and returns the place of each.
+fn places_in_order(
+    alloc: Global,
+    mut all: Vec<Placed<'_>>,
+    order: Order,
+) -> Result<Vec<usize>, AllocError>
+    ensures { IfOk result (λ places. AreSortedPlaces order (map standing all.entry.items) places.items) }
+{
+    all.sort_by(|one, other| order.compare_placed(one, other))?;
+    places_of(alloc, all.as_slice())
 }
 
 // The place of each.
-fn places_of(alloc: Global, all: &[Placed]) -> Result<Vec<usize>, AllocError>
-    ensures { IfOk result (λ places. places.items ≡ map place_of all.now) }
+fn places_of(alloc: Global, all: &[Placed<'_>]) -> Result<Vec<usize>, AllocError>
+    ensures { IfOk result (λ places. places.items ≡ map (λ placed. placed.place) all.now) }
 {
     let mut places = Vec::new(alloc);
     for it in all {
@@ -87,11 +106,22 @@ pub fn sorted_places(
     versions: Vec<Version>,
     order: Order,
 ) -> Result<Vec<usize>, AllocError>
-    ensures { IfOk result (λ places. AreSortedPlaces order versions.items places.items) }
+    ensures { IfOk result (λ places. AreSortedPlaces order (standing_from 0 versions.items) places.items) }
 {
-    let mut all = with_places(alloc, versions)?;
-    put_in_order(&mut all, order)?;
-    places_of(alloc, all.as_slice())
+    let all = with_places(alloc, versions.as_slice())?;
+    places_in_order(alloc, all, order)
+}
+
+/// Returns the places of the lines that have a version, like [`sorted_places`].
+pub fn sorted_lines(
+    alloc: Global,
+    lines: &[Option<Version>],
+    order: Order,
+) -> Result<Vec<usize>, AllocError>
+    ensures { IfOk result (λ places. AreSortedPlaces order (standing_lines 0 lines.now) places.items) }
+{
+    let all = lines_with_places(alloc, lines)?;
+    places_in_order(alloc, all, order)
 }
 
 /// In which order do the versions stand? Returns the first one's place first.

@@ -1,10 +1,9 @@
--- The best match, as more versions are seen.
+-- The best match, as more versions are seen, or more values that are ranked in some way.
 use Rattle.std.proofs.Common.{◌≡◌, ◌&&◌, ◌||◌, ◌++◌, [], ◌∷◌, ℕ, List, Bool, true, false, not, length, Option, Some, None, refl, sym, ap, ◌∙◌}
 use Rattle.std.proofs.lemmas.List.Folds.{list_any-append}
 use Rattle.std.proofs.lemmas.List.MinMax.{IsStrictWeakOrder-flip, ranks_by}
 use Rattle.std.specs.Cmp.{IsStrictWeakOrder}
 use Rattle.std.specs.List.{list_any}
-use Rattle.std.specs.Borrow.{Bor}
 use Rattle.semver_base.specs.PrecedenceLaws.{precedence_total}
 use Rattle.semver_base.specs.declared.version.Version.{Version}
 use Rattle.semver_base.proofs.Orders.{and_first, and_second, or_first, or_second}
@@ -38,37 +37,37 @@ none_from p q fails (x ∷ xs) h = or_none _ _ (fails x (or_false_first _ _ h)) 
 lower_ranks : IsStrictWeakOrder lower
 lower_ranks = ranks_by precedence_total (λ (v : Version). v)
 
-ranks : (e : End) → IsStrictWeakOrder (nearer e)
-ranks end.Highest = IsStrictWeakOrder-flip lower lower_ranks
-ranks end.Lowest = lower_ranks
+pub nearer_ranks : (e : End) → IsStrictWeakOrder (nearer e)
+nearer_ranks end.Highest = IsStrictWeakOrder-flip lower lower_ranks
+nearer_ranks end.Lowest = lower_ranks
 
-module _ (e : End) (means : Version → Bool) where
-  -- what is known of the versions seen so far
-  abbrev pub IsKnown : List Version → Option (ℕ × Bor Version) → Type 0
+module _ {V : Type 0} (near : V → V → Bool) (ranks : IsStrictWeakOrder near) (means : V → Bool) where
+  -- what is known of the values seen so far
+  abbrev pub IsKnown : List V → Option (ℕ × V) → Type 0
   IsKnown versions None = list_any means versions ≡ false
-  IsKnown versions (Some known) = IsBestAt (nearer e) means versions known.0 known.1.now
+  IsKnown versions (Some known) = IsBestAt near means versions known.0 known.1
 
   -- another version matches and is nearer; or it matches, and this one isn't nearer
-  abbrev is_better_match : Version → Version → Bool
-  is_better_match version other = means other && nearer e other version
+  abbrev is_better_match : V → V → Bool
+  is_better_match version other = means other && near other version
 
-  abbrev is_as_good : Version → Version → Bool
-  is_as_good version other = means other && not (nearer e version other)
+  abbrev is_as_good : V → V → Bool
+  is_as_good version other = means other && not (near version other)
 
-  never_itself : (v : Version) → nearer e v v ≡ false
-  never_itself v = go (nearer e v v) refl
+  never_itself : (v : V) → near v v ≡ false
+  never_itself v = go (near v v) refl
     where
-      go : (b : Bool) → nearer e v v ≡ b → nearer e v v ≡ false
-      go true h = (ranks e).one_way v v h
+      go : (b : Bool) → near v v ≡ b → near v v ≡ false
+      go true h = ranks.one_way v v h
       go false h = h
 
   -- a version nearer than a known one is nearer than any other that isn't nearer than the known one
-  nearer_than_third : (v known other : Version) → nearer e v known ≡ true → nearer e other known ≡ false → nearer e v other ≡ true
-  nearer_than_third v known other h k = go (nearer e v other) refl
+  nearer_than_third : (v known other : V) → near v known ≡ true → near other known ≡ false → near v other ≡ true
+  nearer_than_third v known other h k = go (near v other) refl
     where
-      go : (b : Bool) → nearer e v other ≡ b → nearer e v other ≡ true
+      go : (b : Bool) → near v other ≡ b → near v other ≡ true
       go true h = h
-      go false is = absurd (cc (h, (ranks e).chain v other known is k))
+      go false is = absurd (cc (h, ranks.chain v other known is k))
 
   and_none : (b c : Bool) → (b ≡ true → c ≡ false) → (b && c) ≡ false
   and_none true c h = h refl
@@ -79,15 +78,15 @@ module _ (e : End) (means : Version → Bool) where
   no_match false c h k = cc k
 
   -- no match seen so far is as good as a version that is nearer than all of them
-  pub none_as_good : (versions : List Version) (known : Option (ℕ × Bor Version)) (v : Version) → IsKnown versions known → exceeds e v known ≡ true
+  pub none_as_good : (versions : List V) (known : Option (ℕ × V)) (v : V) → IsKnown versions known → exceeds near v known ≡ true
       → list_any (is_as_good v) versions ≡ false
   none_as_good versions None v h k = none_from means (is_as_good v) (λ other none. and_none (means other) _ (λ is. absurd (cc (none, is)))) versions h
-  none_as_good versions (Some known) v h k = none_from (is_better_match known.1.now) (is_as_good v)
-      (λ other none. and_none (means other) _ (λ is. ap not (nearer_than_third v known.1.now other k (no_match (means other) _ none is)))) versions h.best
+  none_as_good versions (Some known) v h k = none_from (is_better_match known.1) (is_as_good v)
+      (λ other none. and_none (means other) _ (λ is. ap not (nearer_than_third v known.1 other k (no_match (means other) _ none is)))) versions h.best
 
   -- a version that isn't better changes nothing
-  pub stays : (versions : List Version) (known : Option (ℕ × Bor Version)) (v : Version) → IsKnown versions known
-      → (means v && exceeds e v known) ≡ false → IsKnown (versions ++ v ∷ []) known
+  pub stays : (versions : List V) (known : Option (ℕ × V)) (v : V) → IsKnown versions known
+      → (means v && exceeds near v known) ≡ false → IsKnown (versions ++ v ∷ []) known
   stays versions None v h k = list_any-append means versions (v ∷ []) ∙ or_none _ _ h (or_none _ _ (unmatched (means v) k) refl)
     where
       unmatched : (b : Bool) → (b && true) ≡ false → b ≡ false
@@ -96,16 +95,16 @@ module _ (e : End) (means : Version → Bool) where
   stays versions (Some known) v h k = record {
     before = h.before;
     after = h.after ++ v ∷ [];
-    stands = ap (λ vs. vs ++ v ∷ []) h.stands ∙ grouped h.before (known.1.now ∷ h.after) (v ∷ []);
+    stands = ap (λ vs. vs ++ v ∷ []) h.stands ∙ grouped h.before (known.1 ∷ h.after) (v ∷ []);
     at_place = h.at_place;
     matches = h.matches;
-    best = list_any-append (is_better_match known.1.now) versions (v ∷ []) ∙ or_none _ _ h.best (or_none _ _ k refl);
+    best = list_any-append (is_better_match known.1) versions (v ∷ []) ∙ or_none _ _ h.best (or_none _ _ k refl);
     first = h.first;
   }
 
   -- a better version becomes the best so far
-  pub taken : (versions : List Version) (known : Option (ℕ × Bor Version)) (place : ℕ) (v : Version) → length versions ≡ place → IsKnown versions known
-      → (means v && exceeds e v known) ≡ true → IsBestAt (nearer e) means (versions ++ v ∷ []) place v
+  pub taken : (versions : List V) (known : Option (ℕ × V)) (place : ℕ) (v : V) → length versions ≡ place → IsKnown versions known
+      → (means v && exceeds near v known) ≡ true → IsBestAt near means (versions ++ v ∷ []) place v
   taken versions known place v at h k =
       let none : list_any (is_as_good v) versions ≡ false = none_as_good versions known v h (and_second (means v) _ k) in
       record {
@@ -119,8 +118,8 @@ module _ (e : End) (means : Version → Bool) where
         first = none;
       }
     where
-      no_better : (other : Version) → is_as_good v other ≡ false → is_better_match v other ≡ false
-      no_better other h = and_none (means other) _ (λ is. (ranks e).one_way v other (nearer_by (nearer e v other) (no_match (means other) _ h is)))
+      no_better : (other : V) → is_as_good v other ≡ false → is_better_match v other ≡ false
+      no_better other h = and_none (means other) _ (λ is. ranks.one_way v other (nearer_by (near v other) (no_match (means other) _ h is)))
         where
           nearer_by : (b : Bool) → not b ≡ false → b ≡ true
           nearer_by true h = refl
@@ -129,26 +128,26 @@ module _ (e : End) (means : Version → Bool) where
   -- ---- one result
 
   -- no matching version of the list is better than the best
-  none_better : (before after : List Version) (x : Version) (versions : List Version) → versions ≡ before ++ x ∷ after → means x ≡ true
-      → (y : Version) → list_any (is_better_match y) versions ≡ false → nearer e x y ≡ false
+  none_better : (before after : List V) (x : V) (versions : List V) → versions ≡ before ++ x ∷ after → means x ≡ true
+      → (y : V) → list_any (is_better_match y) versions ≡ false → near x y ≡ false
   none_better before after x versions is m y h =
       no_match (means x) _ (or_false_first _ _ (or_false_second (list_any (is_better_match y) before) _
       (sym (list_any-append (is_better_match y) before (x ∷ after)) ∙ (sym (ap (list_any (is_better_match y)) is) ∙ h)))) m
 
-  head_same : (x y : Version) (xs ys : List Version) → x ∷ xs ≡ y ∷ ys → x ≡ y
+  head_same : (x y : V) (xs ys : List V) → x ∷ xs ≡ y ∷ ys → x ≡ y
   head_same x y xs ys e = cc e
 
-  tail_same : (x y : Version) (xs ys : List Version) → x ∷ xs ≡ y ∷ ys → xs ≡ ys
+  tail_same : (x y : V) (xs ys : List V) → x ∷ xs ≡ y ∷ ys → xs ≡ ys
   tail_same x y xs ys e = cc e
 
   -- of two matches neither of which is better, neither comes first among those as good as the other
-  never_first : (x y : Version) → means x ≡ true → nearer e y x ≡ false → is_as_good y x ≡ false → ⊥
+  never_first : (x y : V) → means x ≡ true → near y x ≡ false → is_as_good y x ≡ false → ⊥
   never_first x y m h k =
       let as_good : is_as_good y x ≡ true = rw (m, h) refl in
       absurd (cc (as_good, k))
 
-  same_length : (us after : List Version) (x : Version) (bs later : List Version) (y : Version) → us ++ x ∷ after ≡ bs ++ y ∷ later
-      → means x ≡ true → means y ≡ true → nearer e x y ≡ false → nearer e y x ≡ false
+  same_length : (us after : List V) (x : V) (bs later : List V) (y : V) → us ++ x ∷ after ≡ bs ++ y ∷ later
+      → means x ≡ true → means y ≡ true → near x y ≡ false → near y x ≡ false
       → list_any (is_as_good x) us ≡ false → list_any (is_as_good y) bs ≡ false → length us ≡ length bs
   same_length [] after x [] later y e mx my xy yx hx hy = refl
   same_length [] after x (b ∷ bs) later y is mx my xy yx hx hy =
@@ -161,13 +160,13 @@ module _ (e : End) (means : Version → Bool) where
       rw rest refl
 
   -- if one version matches, the result isn't none
-  some_match : (versions : List Version) (place : ℕ) (x : Version) → IsBestAt (nearer e) means versions place x → list_any means versions ≡ false → ⊥
+  some_match : (versions : List V) (place : ℕ) (x : V) → IsBestAt near means versions place x → list_any means versions ≡ false → ⊥
   some_match versions place x h none =
       let found : list_any means versions ≡ true = ap (list_any means) h.stands ∙ list_any-append means h.before (x ∷ h.after) ∙ or_second (list_any means h.before) _ (or_first _ _ h.matches) in
       absurd (cc (found, none))
 
   -- no list has two results
-  pub one_match : (versions : List Version) (some other : Option ℕ) → IsBestMatch (nearer e) means versions some → IsBestMatch (nearer e) means versions other → other ≡ some
+  pub one_match : (versions : List V) (some other : Option ℕ) → IsBestMatch near means versions some → IsBestMatch near means versions other → other ≡ some
   one_match versions None None h k = refl
   one_match versions None (Some q) h k = absurd (some_match versions q k.0 k.1 h)
   one_match versions (Some p) None h k = absurd (some_match versions p h.0 h.1 k)

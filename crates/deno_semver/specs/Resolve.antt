@@ -14,11 +14,11 @@ lower one other = is_lt (precedence_cmp one other)
 abbrev pub greater : Version → Version → Bool
 greater one other = lower other one
 
--- the version at the index matches; no match is better, and none before it is as good
-pub record IsBestAt (better : Version → Version → Bool) (means : Version → Bool) (versions : List Version) (place : ℕ)
-    (version : Version) : Type 0 where
-  pub before : List Version
-  pub after : List Version
+-- the version at the index matches; no match is better, and none before it is as good. V is a version, or a line of a list that may have one.
+pub record IsBestAt {V : Type 0} (better : V → V → Bool) (means : V → Bool) (versions : List V) (place : ℕ) (version : V) :
+    Type 0 where
+  pub before : List V
+  pub after : List V
   pub stands : versions ≡ before ++ version ∷ after
   pub at_place : length before ≡ place
   pub matches : means version ≡ true
@@ -26,10 +26,10 @@ pub record IsBestAt (better : Version → Version → Bool) (means : Version →
   pub first : list_any (λ other. means other && not (better version other)) before ≡ false
 
 -- the index of the first of the best matches; none if no version matches
-abbrev pub IsBestMatch : (Version → Version → Bool) → (Version → Bool) → List Version → Option ℕ → Type 0
+abbrev pub IsBestMatch : {V : Type 0} → (V → V → Bool) → (V → Bool) → List V → Option ℕ → Type 0
 IsBestMatch better means versions None = list_any means versions ≡ false
-IsBestMatch better means versions (Some place) = (version : Version) × IsBestAt better means versions place version
+IsBestMatch {V} better means versions (Some place) = (version : V) × IsBestAt better means versions place version
 
 -- no other result is such an index
-abbrev pub IsOnlyMatch : (Version → Version → Bool) → (Version → Bool) → List Version → Option ℕ → Type 0
+abbrev pub IsOnlyMatch : {V : Type 0} → (V → V → Bool) → (V → Bool) → List V → Option ℕ → Type 0
 IsOnlyMatch better means versions answer = (other : Option ℕ) → IsBestMatch better means versions other → other ≡ answer

@@ -11,7 +11,12 @@ abbrev pub nearer : End → Version → Version → Bool
 nearer end.Highest one other = greater one other
 nearer end.Lowest one other = lower one other
 
--- the version is nearer to the end than the best match so far, if any
-abbrev pub exceeds : End → Version → Option (ℕ × Bor Version) → Bool
-exceeds e version None = true
-exceeds e version (Some known) = nearer e version known.1.now
+-- the version is nearer than the best match so far, if any
+abbrev pub exceeds : {V : Type 0} → (V → V → Bool) → V → Option (ℕ × V) → Bool
+exceeds near version None = true
+exceeds near version (Some known) = near version known.1
+
+-- the best match so far, by value
+abbrev pub known_of : Option (ℕ × Bor Version) → Option (ℕ × Version)
+known_of None = None
+known_of (Some known) = Some (known.0, known.1.now)

@@ -20,6 +20,7 @@ pub use errors::{PackageReqParseError, PackageReqPartsParseError};
 pub use kind::PackageKind;
 pub use name_version::PackageNvParseError;
 pub use nv_reference::{PackageNvReference, PackageNvReferenceParseError};
+pub use order::cmp_version_reqs;
 pub(crate) use read::package_req;
 pub use reference::PackageReqReference;
 pub use reference_errors::{

@@ -3,7 +3,7 @@
 ghost use Rattle.std.specs.Prelude.{◌≡◌, ◌&&◌, None};
 ghost use Rattle.semver_req.specs.Requirement.{inner_means, inner_means_with, tag_of};
 ghost use Rattle.deno_semver.specs.Resolve.{IsBestMatch, IsOnlyMatch, greater, lower};
-ghost use Rattle.deno_semver.specs.ResolveSteps.{exceeds, nearer};
+ghost use Rattle.deno_semver.specs.ResolveSteps.{exceeds, known_of, nearer};
 
 use semver_base::range::PreRelease;
 use semver_base::version::Version;
@@ -38,7 +38,7 @@ fn is_better(
 ) -> bool
     requires { tag_of requirement.now.inner ≡ None }
     ensures { result ≡ (inner_means_with pre_release requirement.now.inner version.now
-        && exceeds end version.now known.entry) }
+        && exceeds (nearer end) version.now (known_of known.entry)) }
 {
     requirement.matches_with(version, pre_release)
         && match known {

@@ -1,11 +1,20 @@
 -- What is returned to C, from the results of questions.
-use Rattle.std.proofs.Common.{◌≡◌, ℕ, List, Option, None, Result, Ok, Err, ap, subst, ◌∙◌, inl, inr}
+use Rattle.std.proofs.Common.{◌≡◌, ℕ, List, Option, Some, None, Result, Ok, Err, refl, ap, subst, ◌∙◌, inl, inr}
 use Rattle.std.specs.Prelude.{◌⊎◌, ℤ}
+use Rattle.semver_base.specs.declared.range.PreRelease.{PreRelease}
+use Rattle.semver_base.specs.declared.version.Version.{Version}
+use Rattle.semver_req.specs.Requirement.{inner_means_with, tag_of}
+use Rattle.semver_req.specs.declared.range_set_or_tag.RangeSetOrTag.{RangeSetOrTag}
+use Rattle.semver_req.specs.declared.range_set_or_tag.RangeSetOrTag.TheVariants as inner
+use Rattle.deno_semver.specs.Resolve.{IsBestMatch, IsOnlyMatch}
+use Rattle.answers.specs.Filtering.{better_line, line_passes}
+use Rattle.answers.specs.declared.questions.End.{End}
 use Rattle.semver_c.specs.Codes.{IsCode, IsOneReply, IsPlaceReply, IsReply, IsReported, Reports, code_of, no_memory, no_place, place_after}
 use Rattle.semver_c.specs.Arguments.{CallFault, IsAnswer, IsOneAnswer, memory, outcome_of, problem_place}
-use Rattle.semver_c.specs.Held.{HoldsOutcome, IsHeld}
+use Rattle.semver_c.specs.Held.{HoldsOutcome, IsHeld, IsListBest}
 use Rattle.semver_c.specs.declared.arguments.Problem.{Problem}
 use Rattle.semver_c.specs.declared.codes.Code.{Code}
+use Rattle.semver_c.specs.declared.codes.Code.TheVariants as code
 
 -- a result without a place of its own
 pub unplaced : {E X : Type 0} (value : E → X) (answer : Result E Problem) (old new : ℕ) → new ≡ problem_place answer old → new ≡ place_after no_place (outcome_of value answer) old
@@ -98,3 +107,12 @@ one_replied {X = X} {I = I} Asked value answer h coded shown old new needed code
     is (inl none) (inl short) = inl short
     is (inl none) (inr reported) = inl (reported.0 ∙ ap (code_of coded) none)
     is (inr a) reported = inr (outcome_of value answer, a, reported)
+
+-- ---- the best match of a list that is held
+
+-- a line that is found
+pub found_reply : (end : End) (flag : PreRelease) (read : RangeSetOrTag) (lines : List (Option Version)) (old found : ℕ) → tag_of read ≡ None
+    → IsBestMatch (better_line end) (line_passes (inner_means_with flag read)) lines (Some found) → IsOnlyMatch (better_line end) (line_passes (inner_means_with flag read)) lines (Some found)
+    → IsListBest end flag read lines old found code.Yes
+found_reply end flag (inner.RangeSet set) lines old found none h only = record { best = Some found; is = h; only = only; returned_is = refl; new_is = refl }
+found_reply end flag (inner.Tag tag) lines old found none h only = absurd (cc none)

@@ -94,6 +94,15 @@ best_place (Value (Some best)) old = best.place
 best_place (Value None) old = old
 best_place (Tag tag) old = old
 
+-- a place that is found, or none
+abbrev pub place_code : Option ℕ → Code
+place_code (Some place) = code.Yes
+place_code None = code.No
+
+abbrev pub place_or : Option ℕ → ℕ → ℕ
+place_or (Some place) old = place
+place_or None old = old
+
 -- of a line: whether its version matches, or that it is invalid
 abbrev pub line_code : Option Bool → Code
 line_code (Some matches) = bool_code matches

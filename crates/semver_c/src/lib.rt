@@ -11,9 +11,11 @@ ghost use Rattle.semver_base.specs.Precedence.{precedence_cmp, version_cmp};
 ghost use Rattle.semver_base.specs.VersionText.{version_text};
 ghost use Rattle.semver_req.specs.Requirement.{inner_text, tag_of};
 ghost use Rattle.semver_req.specs.Tag.{is_valid_tag};
+ghost use Rattle.deno_semver.specs.ReqOrder.{inner_cmp};
 ghost use Rattle.answers.specs.Asking.{Is};
+ghost use Rattle.answers.specs.declared.questions.End.TheVariants as end;
 ghost use Rattle.semver_c.specs.Codes.{IsCode, IsOneReply, IsPlaceReply, IsPlaced, IsReply, IsUntouched, always_yes, as_place, best_code, best_place, bool_code, filter_code, filter_numbers, lowest_code, lowest_text, match_code, no_place, no_text, number_of, order_code, text_code, text_of, yes};
-ghost use Rattle.semver_c.specs.Held.{IsHeld, IsHeldEqual, IsHeldFilter, IsHeldMatch, IsHeldOrder, IsHeldOverlap, lines_of};
+ghost use Rattle.semver_c.specs.Held.{IsHeld, IsHeldBest, IsHeldEqual, IsHeldFilter, IsHeldMatch, IsHeldOrder, IsHeldOverlap, IsHeldSort, lines_of};
 ghost use Rattle.semver_c.specs.Questions.{BestLine, CanonicalBy, CommonBy, CommonOfAll, DependencyBy, DisplayedOf, EquivalentBy, ErrorsBy, ExplainsBy, ExportNameOf, Filters, Fits, LowestBy, LowestLine, MatchesHeld, NameWithVersionOf, OrdersOf, OutsideBy, OverlapsBy, PackageBy, RangeBy, RangesBy, ReferenceOf, SortsOf, VersionErrorOf, VersionListOf, VersionOf, VersionPartsOf, VersionReferenceOf};
 ghost use Rattle.semver_c.specs.declared.codes.Code.TheVariants as code;
 
@@ -22,16 +24,18 @@ mod codes;
 mod questions;
 mod reports;
 
+use answers::questions::End;
 use arguments::pre_release;
 use codes::Code;
 use deno_semver::npm::is_valid_npm_tag;
+use deno_semver::package::cmp_version_reqs;
 use handles::{RequirementHandle, VersionHandle, VersionListHandle};
 use questions::{
-    best_line, canonical_form, common, common_of_all, dependency_of, displayed_version,
+    best_held, best_line, canonical_form, common, common_of_all, dependency_of, displayed_version,
     equivalent_ranges, errors_of, explanation_of, export_name_of, filter, filter_held, fits,
     held_canonical, held_displayed, lowest, lowest_line, match_code, matches_held,
     name_with_version_of, order_of, outside, overlap, package_of, ranges_of, read_list, read_range,
-    read_version, reference_of, sorted_lines, version_error_of, version_parts_of,
+    read_version, reference_of, sorted_held, sorted_lines, version_error_of, version_parts_of,
     version_reference_of,
 };
 use reports::{
@@ -741,6 +745,27 @@ pub extern "C" fn semver_req_equal(
     Code::of_bool(equal).number()
 }
 
+/// The order of the ranges of two handles; a tag is before ranges, and of ranges those with higher starts and lower ends come first.
+#[unsafe(no_mangle)]
+pub extern "C" fn semver_req_order(
+    alloc: Global,
+    one: &mut RequirementHandle,
+    other: &mut RequirementHandle,
+) -> i32
+    requires one { Holds one.old.value }
+    requires other { Holds other.old.value }
+    ensures stays_one { one.new.value ≡ one.old.value }
+    ensures stays_other { other.new.value ≡ other.old.value }
+    ensures code { IsHeldOrder (λ req others. inner_cmp req.inner others.inner)
+        one.old.value other.old.value result }
+{
+    let (req, other_req) = (one.take(alloc), other.take(alloc));
+    let order = cmp_version_reqs(&*req, &*other_req);
+    *one = RequirementHandle::keep(req);
+    *other = RequirementHandle::keep(other_req);
+    Code::of_order(order).number()
+}
+
 /// Parses several versions, one per line, into an empty handle: yes, and `lines` is the number of lines. A line that isn't a
 /// version keeps its place and matches nothing. For any other code `lines` is unchanged.
 #[unsafe(no_mangle)]
@@ -797,6 +822,76 @@ pub extern "C" fn semver_list_filter(
     let code = report_filter(alloc, answer, answers, needed);
     *list = VersionListHandle::keep(versions);
     *range = RequirementHandle::keep(requirement);
+    code
+}
+
+/// Which version of the one handle is the highest that matches the range of the other, the first of equal ones: yes, the one at
+/// `place`, counted from 0; no; or that the range is a tag. For any code but 1 `place` is unchanged.
+#[unsafe(no_mangle)]
+pub extern "C" fn semver_list_best(
+    alloc: Global,
+    list: &mut VersionListHandle,
+    range: &mut RequirementHandle,
+    pre_releases: u32,
+    place: &mut usize,
+) -> i32
+    requires list { Holds list.old.value }
+    requires range { Holds range.old.value }
+    ensures stays_list { list.new.value ≡ list.old.value }
+    ensures stays_range { range.new.value ≡ range.old.value }
+    ensures best { IsHeldBest end.Highest pre_releases list.old.value range.old.value
+        place.old place.new result }
+{
+    let (versions, requirement) = (list.take(alloc), range.take(alloc));
+    let pre_release = pre_release(pre_releases);
+    let code = best_held(End::Highest, &*versions, &*requirement, pre_release, place);
+    *list = VersionListHandle::keep(versions);
+    *range = RequirementHandle::keep(requirement);
+    code.number()
+}
+
+/// Which version of the one handle is the lowest that matches the range of the other: like `semver_list_best`.
+#[unsafe(no_mangle)]
+pub extern "C" fn semver_list_lowest(
+    alloc: Global,
+    list: &mut VersionListHandle,
+    range: &mut RequirementHandle,
+    pre_releases: u32,
+    place: &mut usize,
+) -> i32
+    requires list { Holds list.old.value }
+    requires range { Holds range.old.value }
+    ensures stays_list { list.new.value ≡ list.old.value }
+    ensures stays_range { range.new.value ≡ range.old.value }
+    ensures best { IsHeldBest end.Lowest pre_releases list.old.value range.old.value
+        place.old place.new result }
+{
+    let (versions, requirement) = (list.take(alloc), range.take(alloc));
+    let pre_release = pre_release(pre_releases);
+    let code = best_held(End::Lowest, &*versions, &*requirement, pre_release, place);
+    *list = VersionListHandle::keep(versions);
+    *range = RequirementHandle::keep(requirement);
+    code.number()
+}
+
+/// The places of the lines of the handle that are versions, in the order of precedence: yes. The place of the lowest comes first, places
+/// are counted from 0, and versions that differ only in the build keep their order. `needed` is the number of these lines; if there
+/// are more than places, these stay as they were.
+#[unsafe(no_mangle)]
+pub extern "C" fn semver_list_sort(
+    alloc: Global,
+    list: &mut VersionListHandle,
+    places: &mut [usize],
+    needed: &mut usize,
+) -> i32
+    requires { Holds list.old.value }
+    ensures stays { list.new.value ≡ list.old.value }
+    ensures answer { IsHeldSort list.old.value places.old places.new needed.new result }
+    ensures no_places { IsUntouched places.old places.new needed.new result }
+{
+    let versions = list.take(alloc);
+    let code = report_places(sorted_held(alloc, &*versions), places, needed);
+    *list = VersionListHandle::keep(versions);
     code
 }
 

@@ -7,9 +7,11 @@ ghost use Rattle.deno_semver.specs.ExportName.{export_name};
 ghost use Rattle.answers.specs.Asking.{Is};
 ghost use Rattle.answers.specs.Filtering.{list_answer, list_matches};
 ghost use Rattle.answers.specs.Questions.{match_of};
+ghost use Rattle.answers.specs.Sorting.{SortedLines};
+ghost use Rattle.answers.specs.declared.sorting.Order.TheVariants as sorting;
 ghost use Rattle.semver_c.specs.Arguments.{IsAnswer, IsOneAnswer, pre_release_of};
 ghost use Rattle.semver_c.specs.Codes.{match_code};
-ghost use Rattle.semver_c.specs.Held.{list_lines};
+ghost use Rattle.semver_c.specs.Held.{IsListBest, list_lines};
 ghost use Rattle.semver_c.specs.Questions.{BestLine, CanonicalBy, CommonBy, CommonOfAll, DependencyBy, DisplayedOf, EquivalentBy, ErrorsBy, ExplainsBy, ExportNameOf, Filters, Fits, LowestBy, LowestLine, MatchesHeld, NameWithVersionOf, OrdersOf, OutsideBy, OverlapsBy, PackageBy, RangeBy, RangesBy, ReferenceOf, SortsOf, VersionErrorOf, VersionListOf, VersionOf, VersionPartsOf, VersionReferenceOf};
 
 use crate::arguments::{Problem, flavour, line_list, pre_release, text};
@@ -17,16 +19,16 @@ use crate::codes::Code;
 use answers::asking::Answer;
 use answers::errors::{errors_of_range, version_error};
 use answers::explained_json::explain_as_json;
-use answers::filtering::{self, list_matches, version_lines};
+use answers::filtering::{self, list_best, list_matches, version_lines};
 use answers::packages::package_parts;
 use answers::parts::{name_with_version_parts, range_parts, version_parts};
 use answers::questions::{
-    Best, best_match, canonical, common_version, displayed, equivalent, lowest_match, matches,
+    Best, End, best_match, canonical, common_version, displayed, equivalent, lowest_match, matches,
     order, overlaps, text_of_version, version_outside,
 };
 use answers::reading::{range, version};
 use answers::references::reference_parts;
-use answers::sorting::{Order, sort};
+use answers::sorting::{Order, sort, sorted_lines as sorted_list};
 use answers::specifiers::{dependency_parts, version_reference_parts};
 use deno_semver::jsr::normalized_export_name;
 use deno_semver::{PreRelease, Version, VersionReq};
@@ -427,6 +429,37 @@ pub fn filter_held(
 {
     let pre_release = pre_release(pre_releases);
     Ok(list_matches(alloc, pre_release, range, list.lines.as_slice())?)
+}
+
+/// Which of the versions at this end of the order matches the range? Its place is stored.
+pub fn best_held(
+    end: End,
+    list: &VersionList,
+    range: &VersionReq,
+    pre_release: PreRelease,
+    place: &mut usize,
+) -> Code
+    ensures { IsListBest end pre_release range.now.inner (list_lines list.now)
+        place.old place.new result }
+{
+    if let Some(_) = range.tag() {
+        return Code::Tag;
+    }
+    match list_best(end, pre_release, range, list.lines.as_slice()) {
+        Some(found) => {
+            *place = found;
+            Code::Yes
+        }
+        None => Code::No,
+    }
+}
+
+/// In which order do the versions stand?
+pub fn sorted_held(alloc: Global, list: &VersionList) -> Result<Vec<usize>, Problem>
+    ensures { IsAnswer (SortedLines sorting.Ascending (list_lines list.now))
+        (λ places. places.items) result }
+{
+    Ok(sorted_list(alloc, list.lines.as_slice(), Order::Ascending)?)
 }
 
 /// The code of whether the version matches the range.

@@ -10,6 +10,7 @@ use super::values::PackageReq;
 use semver_base::range::{RangeBound, VersionBound, VersionBoundKind, VersionRange};
 use semver_base::version::VersionPreOrBuild;
 use semver_req::range_set_or_tag::RangeSetOrTag;
+use semver_req::req::VersionReq;
 use std::cmp::Ordering;
 
 // The place of a kind in the order: an exclusive bound first.
@@ -134,6 +135,14 @@ fn cmp_inner(a: &RangeSetOrTag, b: &RangeSetOrTag) -> Ordering
     }
 }
 
+/// The order of two version requirements, in which package requirements of one name stand: tags before ranges, and of ranges those with
+/// higher starts and lower ends first. Requirements are equal in it only if they mean the same.
+pub fn cmp_version_reqs(one: &VersionReq, other: &VersionReq) -> Ordering
+    ensures { result ≡ inner_cmp one.now.inner other.now.inner }
+{
+    cmp_inner(one.inner(), other.inner())
+}
+
 impl PartialOrd for PackageReq {
     ghost partial_cmp = { as_partial_cmp req_cmp };
 
@@ -155,7 +164,7 @@ impl Ord for PackageReq {
 
     fn cmp(&self, other: &PackageReq) -> Ordering {
         match self.name.cmp(&other.name) {
-            Ordering::Equal => cmp_inner(self.version_req.inner(), other.version_req.inner()),
+            Ordering::Equal => cmp_version_reqs(&self.version_req, &other.version_req),
             unequal => unequal,
         }
     }

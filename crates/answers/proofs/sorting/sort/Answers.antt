@@ -1,7 +1,7 @@
 use Rattle.std.proofs.lemmas.Result.{err_from_is_err_and}
-use Rattle.std.proofs.Common.{refl}
 use Rattle.answers.proofs.Givens.{by_fault, by_value}
 use Rattle.answers.proofs.Sorted.{places_answer}
+use Rattle.answers.specs.Asking.{OutOfMemory}
 use Rattle.answers.proofs.sorting.sort.Goals as goal
 
 pub returns-in_err-versions-clause-answer : goal.returns-in_err-versions-clause-answer
@@ -10,4 +10,4 @@ returns-in_err-versions-clause-answer c =
     rw (p.1, p.2) (by_fault _ _ _ _ c.in_err-versions.ensures.answer)
 
 pub returns-clause-answer : goal.returns-clause-answer
-returns-clause-answer c = by_value _ _ _ _ c.in_ok-versions.ensures.answer _ (places_answer c.args.order _ _ c.in_ok-sorted_places.ensures (λ places. places.items) c.in_ok-sorted_places.field-0 refl)
+returns-clause-answer c = by_value _ _ _ _ c.in_ok-versions.ensures.answer _ (places_answer c.args.order OutOfMemory _ _ c.in_ok-sorted_places.ensures)

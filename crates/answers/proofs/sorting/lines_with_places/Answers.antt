@@ -1,0 +1,15 @@
+use Rattle.std.proofs.Common.{◌∙◌, ap, map, refl}
+use Rattle.answers.specs.Sorting.{standing}
+use Rattle.answers.proofs.Sorted.{next_line, no_line}
+use Rattle.answers.proofs.sorting.lines_with_places.Goals as goal
+use Rattle.answers.proofs.sorting.lines_with_places.Goals.{in-Some+in_ok-push, in_default}
+
+pub loop-place-preserved : goal.loop-place-preserved
+loop-place-preserved c =
+    let l = c.loop-place in
+    let line = c.index-lines-place in
+    let lines = c.args.lines.now in
+    elim c.match-line.branch [
+      | in-Some+in_ok-push w ↦ ap (λ all. map standing all.items) w.all-is ∙ next_line lines l.place line.result line.is c.loop-place-test.true l.all.items w.push.new.self.items _ w.in_ok-push.ensures.items refl w.in-Some.is l.invariant
+      | in_default w ↦ ap (λ all. map standing all.items) w.all-is ∙ l.invariant ∙ no_line lines l.place line.result line.is c.loop-place-test.true w.in_default.is
+    ]

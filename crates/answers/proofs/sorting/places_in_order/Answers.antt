@@ -1,0 +1,16 @@
+use Rattle.std.proofs.Common.{◌∙◌, ap, subst, sym, map, rules}
+use Rattle.std.proofs.lemmas.Fn.{always_returns_same}
+use Rattle.std.proofs.lemmas.Result.{IfOk-weaker}
+use Rattle.answers.specs.Sorting.{AreSortedPlaces, standing}
+use Rattle.answers.proofs.Sorted.{comes_before, placed_ranks, sorted_places}
+use Rattle.answers.proofs.sorting.places_in_order.Goals as goal
+
+pub returns : goal.returns
+returns c =
+    let order = c.args.order in
+    let all = c.args.all.items in
+    let sorted = c.sort_by.new.self.items in
+    let ascends = c.in_ok-sort_by.ensures.sorted (comes_before order) (placed_ranks order) (always_returns_same _ _ _ (λ a r f k. search rules)) in
+    IfOk-weaker c.places_of.result _ _
+    (λ places e. subst (AreSortedPlaces order (map standing all)) (sym (e ∙ ap (map (λ placed. placed.place)) c.as_slice.ensures.value)) (sorted_places order all sorted c.sort_by.ensures.permutation ascends))
+    c.places_of.ensures
