@@ -40,6 +40,13 @@ pub struct InputOptions {
     pub skip_invalid: bool,
 }
 
+impl InputOptions {
+    /// What ends a line of output.
+    pub fn line_end(self) -> &'static str {
+        if self.null { "\0" } else { "\n" }
+    }
+}
+
 impl Options {
     /// The options among the arguments.
     pub fn of(matches: &ArgMatches<'_>) -> Options {

@@ -216,8 +216,7 @@ impl Report<'_> {
         let style = console.out_style;
         let start = match finding.level {
             Level::Error => style.error(),
-            Level::Warning => style.warning(),
-            Level::Fine => style.caret(),
+            Level::Warning | Level::Fine => style.warning(),
         };
         let (file, end) = (Shown(self.file), style.end());
         let Position { line, column, .. } = self.position;

@@ -83,7 +83,8 @@ impl<O: Write, E: Write> Console<O, E> {
             let json = field_json(self.alloc, "version", version);
             self.json(json)?;
         } else {
-            print_line(&mut self.out, version.unwrap_or("none"))?;
+            let (version, end) = (version.unwrap_or("none"), options.input.line_end());
+            write!(self.out, "{version}{end}")?;
         }
         match version {
             Some(_) => Ok(Status::Answered),

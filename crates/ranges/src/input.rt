@@ -120,11 +120,15 @@ fn take_line<O: Write, E: Write, T: Take>(
         return Ok(false);
     };
     let text = text.trim_end_matches(['\n', '\r', '\0'].as_slice());
+    let place = Place::Line(number);
+    // Most lines are versions as they are.
+    if matches!(text.as_bytes(), [b'0'..=b'9' | b'v', ..]) {
+        return take_one(console, taker, options, text, place);
+    }
     let bare = text.trim();
     if bare.is_empty() {
         return Ok(true);
     }
-    let place = Place::Line(number);
     match between_quotes(bare) {
         Some(raw) => {
             let text = unescaped(console.alloc, raw)?;
