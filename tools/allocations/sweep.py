@@ -148,8 +148,8 @@ def commands():
     yield from (["best", "npm", "1", "1.0.0", "foo"], ["fits", "strict", "", "1.0.0"], ["nothing"], [])
 
 
-MANIFEST = b'{"dependencies": {"a": "^1.2 || ^1", "b": ">=1.2<2", "c": "npm:d@^1.2.3-rc.1"}, "imports": {"e": "jsr:@f/g@1"}}'
-VERSIONS = b"1.2.3-rc\n2.1.0\n1.x\n2.0.0\n"
+MANIFEST = b'{"dependencies": {"a": "^1.2 || ^1", "b": ">=1.2<2", "c": "npm:d@^1.2.3-rc.1", "h": 1}, "imports": {"e": "jsr:@f/g@1"}}'
+VERSIONS = b"1.2.3-rc\n2.1.0\n1.x\n\"2.\\u0030.0\"\n"
 
 
 def ranges_commands():
@@ -164,6 +164,7 @@ def ranges_commands():
         yield from ((["package", *json_form, TEXTS[2]], b""), (["reference", *json_form, "jsr:@a/b@^1/c.ts"], b""))
     yield from ((["filter", "-q", "*"], b'["1.0.0", "2.0.0-a"]'), (["best", "--tags", "*", "-r", "1"], b"refs/tags/v1.0.0\n"))
     yield from ((["check", "--github"], MANIFEST), (["--help"], b""), (["frobnicate"], b""), (["check", "none.json"], b""))
+    yield from ((["check"], b"{"), (["check"], b"[]"), (["filter", "*"], b"{}"))
 
 
 def status_of(arguments, out, err):

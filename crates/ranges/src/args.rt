@@ -40,6 +40,13 @@ pub struct InputOptions {
     pub skip_invalid: bool,
 }
 
+impl InputOptions {
+    /// What ends a line of output.
+    pub fn line_end(self) -> &'static str {
+        if self.null { "\0" } else { "\n" }
+    }
+}
+
 impl Options {
     /// The options among the arguments.
     pub fn of(matches: &ArgMatches<'_>) -> Options {
@@ -100,7 +107,9 @@ fn versions<'a>(alloc: Global) -> Arg<'a> {
     Arg::new(alloc, "VERSION")
         .num_args(0..)
         .action(ArgAction::Append)
-        .help("A version; without any, standard input is read: a version per line, or a JSON array")
+        .help(
+            "A version; without any, or for -, standard input: a version per line, or a JSON array",
+        )
 }
 
 fn files<'a>(alloc: Global) -> Arg<'a> {
@@ -135,8 +144,8 @@ fn json<'a>(alloc: Global) -> Arg<'a> {
     flag(alloc, "json", 'j', "Print JSON")
 }
 
-fn quiet<'a>(alloc: Global) -> Arg<'a> {
-    flag(alloc, "quiet", 'q', "Print no result, only errors")
+fn quiet<'a>(alloc: Global) -> Result<Arg<'a>, AllocError> {
+    flag(alloc, "quiet", 'q', "Print no result, only errors").conflicts_with("json")
 }
 
 fn pre<'a>(alloc: Global) -> Arg<'a> {
@@ -205,7 +214,7 @@ fn matching<'a>(
     examples: &'a str,
 ) -> Result<Command<'a>, AllocError> {
     let command = with_pre(alloc, name, about, examples)?
-        .arg(quiet(alloc))?
+        .arg(quiet(alloc)?)?
         .arg(text(alloc, "RANGE", "The range"))?;
     listing(alloc, command)
 }
@@ -311,7 +320,7 @@ Examples:
   ranges overlap '^1.2' '>=1.5 <3'
   ranges overlap --quiet '^1.2' '~1.4' '1.4.x'",
     )?
-    .arg(quiet(alloc))?
+    .arg(quiet(alloc)?)?
     .arg(ranges(alloc, 2, "The ranges, two or more"))
 }
 
@@ -325,7 +334,7 @@ Examples:
   ranges common '^1.2' '~1.4 || ^2'
   ranges common --pre '>1.0.0' '<1.0.1'",
     )?
-    .arg(quiet(alloc))?
+    .arg(quiet(alloc)?)?
     .arg(ranges(alloc, 2, "The ranges, two or more"))
 }
 
@@ -339,7 +348,7 @@ Examples:
   ranges within '^1.3' '^1.2'
   ranges within '>=1.3' '^1.2'",
     )?
-    .arg(quiet(alloc))?
+    .arg(quiet(alloc)?)?
     .arg(text(alloc, "NEW", "The new range"))?
     .arg(text(alloc, "OLD", "The old range"))
 }
@@ -354,7 +363,7 @@ Examples:
   ranges check package.json deno.json
   ranges check --strict --canonical packages/*/package.json",
     )?
-    .arg(long_flag(alloc, "github", "Print GitHub Actions annotations"))?
+    .arg(long_flag(alloc, "github", "Print GitHub Actions annotations").conflicts_with("json")?)?
     .arg(flag(
         alloc,
         "canonical",
@@ -362,7 +371,7 @@ Examples:
         "Print every range with its canonical form",
     ))?
     .arg(long_flag(alloc, "strict", "Exit with 1 on a warning"))?
-    .arg(quiet(alloc))?
+    .arg(quiet(alloc)?)?
     .arg(files(alloc))
 }
 

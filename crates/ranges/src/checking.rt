@@ -4,9 +4,10 @@ use crate::advice::{npm_warning, warnings};
 use crate::args::Options;
 use crate::console::{Console, Status, Stop, print_line};
 use crate::hints::{is_protocol, question};
-use crate::manifest::{Entry, Kind, Unreadable, entries};
+use crate::manifest::{Entry, Kind, entries};
 use crate::object::Object;
 use crate::pointing::{add_error, errors_behind, errors_of, print_error};
+use crate::shown::{Quoted, Shown};
 use answers::asking::Problem;
 use answers::explained::{Explanation, Meaning, Piece, explain};
 use answers::references::read_reference;
@@ -101,27 +102,29 @@ struct Report<'r> {
     warning: Status,
 }
 
-// Percent signs and line ends as GitHub reads them.
-fn escaped(alloc: Global, text: &str) -> Result<String, AllocError> {
+// A text as GitHub reads it in an annotation, where in a property `:` and `,` are escaped too.
+fn escaped(alloc: Global, text: &str, is_property: bool) -> Result<String, AllocError> {
     let mut all = String::new(alloc);
     for c in text.chars() {
         match c {
             '%' => all.push_str("%25")?,
-            '\r' => all.push_str("%0D")?,
-            '\n' => all.push_str("%0A")?,
+            ':' if is_property => all.push_str("%3A")?,
+            ',' if is_property => all.push_str("%2C")?,
             c => all.push(c)?,
         }
     }
     Ok(all)
 }
 
-// The name of an entry and its text.
-fn subject(alloc: Global, entry: &Entry) -> Result<String, AllocError> {
-    let (name, text) = (entry.name.as_str(), entry.text.as_str());
-    if name.is_empty() {
-        format!(in alloc; "\"{text}\"")
-    } else {
-        format!(in alloc; "{name}: \"{text}\"")
+// The name of an entry and its text, where there are such, and the message.
+fn line(alloc: Global, entry: &Entry, message: &str) -> Result<String, AllocError> {
+    let (name, text) = (Shown(entry.name.as_str()), Quoted(entry.text.as_str()));
+    let message = Shown(message);
+    match (entry.name.is_empty(), entry.kind) {
+        (true, Kind::Mistake(_)) => format!(in alloc; "{message}"),
+        (false, Kind::Mistake(_)) => format!(in alloc; "{name}: {message}"),
+        (true, _) => format!(in alloc; "{text}: {message}"),
+        (false, _) => format!(in alloc; "{name}: {text}: {message}"),
     }
 }
 
@@ -142,6 +145,10 @@ impl Report<'_> {
         entry: &Entry,
         finding: Finding<'_>,
     ) -> Result<Value, AllocError> {
+        let text = match entry.kind {
+            Kind::Mistake(_) => None,
+            _ => Some(entry.text.as_str()),
+        };
         let mut json = Object::new(alloc)
             .put("column", Ok(Value::from(self.position.column)))
             .put_text("file", Some(self.file))
@@ -149,7 +156,7 @@ impl Report<'_> {
             .put("line", Ok(Value::from(self.position.line)))
             .put_text(finding.level.key(), Some(finding.message))
             .put_text("name", Some(entry.name.as_str()))
-            .put_text("text", Some(entry.text.as_str()));
+            .put_text("text", text);
         if let [first, ..] = finding.errors {
             json = add_error(alloc, json, first);
         }
@@ -186,10 +193,11 @@ impl Report<'_> {
         entry: &Entry,
         finding: Finding<'_>,
     ) -> Result<(), Stop> {
-        let subject = subject(console.alloc, entry)?;
-        let message = format!(in console.alloc; "{subject}: {}", finding.message)?;
-        let message = escaped(console.alloc, message.as_str())?;
-        let (level, file) = (finding.level.name(), self.file);
+        let message = line(console.alloc, entry, finding.message)?;
+        let message = escaped(console.alloc, message.as_str(), false)?;
+        let file = format!(in console.alloc; "{}", Shown(self.file))?;
+        let file = escaped(console.alloc, file.as_str(), true)?;
+        let level = finding.level.name();
         let Position { line, column, .. } = self.position;
         print_line(
             &mut console.out,
@@ -204,22 +212,19 @@ impl Report<'_> {
         entry: &Entry,
         finding: Finding<'_>,
     ) -> Result<(), Stop> {
-        let subject = subject(console.alloc, entry)?;
+        let message = line(console.alloc, entry, finding.message)?;
         let style = console.out_style;
         let start = match finding.level {
             Level::Error => style.error(),
-            Level::Warning => style.warning(),
-            Level::Fine => style.caret(),
+            Level::Warning | Level::Fine => style.warning(),
         };
-        let (file, end) = (self.file, style.end());
+        let (file, end) = (Shown(self.file), style.end());
         let Position { line, column, .. } = self.position;
-        let (level, message) = (finding.level.name(), finding.message);
         write!(console.out, "{file}:{line}:{column}: ")?;
-        if finding.level == Level::Fine {
-            writeln!(console.out, "{subject}: {message}")?;
-        } else {
-            writeln!(console.out, "{start}{level}{end}: {subject}: {message}")?;
+        if finding.level != Level::Fine {
+            write!(console.out, "{start}{}{end}: ", finding.level.name())?;
         }
+        print_line(&mut console.out, message.as_str())?;
         for error in finding.errors {
             print_error(&mut console.out, style, entry.text.as_str(), error)?;
         }
@@ -407,6 +412,14 @@ fn check_entries<O: Write, E: Write>(
         match entry.kind {
             Kind::Range => check_range(console, report, entry)?,
             Kind::Specifier => check_specifier(console, report, entry)?,
+            Kind::Mistake(message) => {
+                let finding = Finding {
+                    level: Level::Error,
+                    message,
+                    errors: &[],
+                };
+                report.add(console, entry, finding)?;
+            }
         }
     }
     Ok(())
@@ -417,8 +430,9 @@ fn reason(error: &io::Error) -> &'static str {
     match error.kind() {
         ErrorKind::NotFound => "no such file",
         ErrorKind::PermissionDenied => "permission denied",
-        ErrorKind::InvalidData => "it isn't valid UTF-8",
-        _ => "it can't be read",
+        ErrorKind::IsADirectory => "is a directory",
+        ErrorKind::InvalidData => "not valid UTF-8",
+        _ => "can't be read",
     }
 }
 
@@ -446,24 +460,17 @@ fn check_file<R: Input + Files + AllocGlobal, O: Write, E: Write>(
         Ok(text) => text,
         Err(error) if error.kind() == ErrorKind::OutOfMemory => return Err(Stop::OutOfMemory),
         Err(error) => {
-            report.status = report.status.worse(console.complain(file, reason(&error)));
+            report.status = report
+                .status
+                .worse(console.complain(Shown(file), reason(&error)));
             return Ok(());
         }
     };
     // Some programs begin UTF-8 with a byte order mark.
     let text = text.as_str();
     let text = text.strip_prefix('\u{feff}').unwrap_or(text);
-    match entries(console.alloc, file, text) {
-        Ok(entries) => check_entries(console, report, text, entries.as_slice()),
-        Err(Unreadable::OutOfMemory) => Err(Stop::OutOfMemory),
-        Err(Unreadable::NoJson(line)) => {
-            let message = format!(in console.alloc; "line {line} isn't valid JSON")?;
-            report.status = report
-                .status
-                .worse(console.complain(file, message.as_str()));
-            Ok(())
-        }
-    }
+    let entries = entries(console.alloc, file, text)?;
+    check_entries(console, report, text, entries.as_slice())
 }
 
 fn format_of(matches: &ArgMatches<'_>, options: Options) -> Format {

@@ -5,6 +5,7 @@ use crate::console::{Console, Status, Stop, print_line};
 use crate::hints::question;
 use crate::object::Object;
 use crate::pointing::{add_error, errors_of, print_error, version_errors};
+use crate::shown::{Quoted, Shown};
 use answers::asking::{Answer, InvalidArgument, Kind, Problem};
 use answers::questions::{common_version, text_of_version, version_outside};
 use answers::reading::{range, ranges};
@@ -48,8 +49,11 @@ impl<O: Write, E: Write> Console<O, E> {
     /// Reports that an argument isn't a version, and where it goes wrong.
     pub fn reject_version(&mut self, text: &str, failure: &ParseFailure) -> Result<(), Stop> {
         let errors = version_errors(self.alloc, text)?;
-        self.reject_text("version", text, failure.message());
+        let _ = self.reject_text("version", text, failure.message());
         self.point(text, errors.as_slice());
+        if text.starts_with(['^', '~', '<', '>'].as_slice()) {
+            let _ = writeln!(self.err, "  = the range is the first argument");
+        }
         Ok(())
     }
 
@@ -68,7 +72,8 @@ impl<O: Write, E: Write> Console<O, E> {
     /// Asks on standard error what is meant, if the tag looks like a typing mistake.
     pub fn question(&mut self, tag: &str) {
         if let Some(question) = question(tag) {
-            let _ = writeln!(self.err, "ranges: tag \"{tag}\": {question}");
+            let _ = self.out.flush();
+            let _ = writeln!(self.err, "ranges: tag {}: {question}", Quoted(tag));
         }
     }
 
@@ -78,7 +83,8 @@ impl<O: Write, E: Write> Console<O, E> {
             let json = field_json(self.alloc, "version", version);
             self.json(json)?;
         } else {
-            print_line(&mut self.out, version.unwrap_or("none"))?;
+            let (version, end) = (version.unwrap_or("none"), options.input.line_end());
+            write!(self.out, "{version}{end}")?;
         }
         match version {
             Some(_) => Ok(Status::Answered),
@@ -274,7 +280,7 @@ fn print_overlap<O: Write, E: Write>(
         match apart {
             Some((one, other)) => print_line(
                 &mut console.out,
-                format_args!("no \"{one}\" and \"{other}\""),
+                format_args!("no \"{}\" and \"{}\"", Shown(one), Shown(other)),
             )?,
             None => print_line(&mut console.out, "yes")?,
         }

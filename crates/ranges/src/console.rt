@@ -1,5 +1,6 @@
 //! Where the program writes, and its exit status.
 
+use crate::shown::Quoted;
 use serde_json::Value;
 use std::alloc::{AllocError, AllocFailed, Global};
 use std::fmt::Display;
@@ -216,18 +217,13 @@ impl<O: Write, E: Write> Console<O, E> {
 
     /// Reports an invalid argument: its kind, its text, and what is wrong.
     pub fn reject_text(&mut self, kind: &str, text: &str, message: &str) -> Status {
-        let (start, end) = (self.err_style.error(), self.err_style.end());
-        let _ = writeln!(self.err, "ranges: {kind} \"{text}\": {start}{message}{end}");
-        Status::Rejected
+        self.complain(format_args!("{kind} {}", Quoted(text)), message)
     }
 
-    /// Reports an invalid line or item of standard input.
+    /// Reports an invalid version in a line or item of standard input.
     pub fn reject_input(&mut self, what: &str, number: u64, text: &str, message: &str) {
-        let (start, end) = (self.err_style.error(), self.err_style.end());
-        let _ = writeln!(
-            self.err,
-            "ranges: {what} {number}: version \"{text}\": {start}{message}{end}"
-        );
+        let text = Quoted(text);
+        let _ = self.complain(format_args!("{what} {number}: version {text}"), message);
     }
 
     /// Says on a terminal that standard input is read.
@@ -237,8 +233,9 @@ impl<O: Write, E: Write> Console<O, E> {
         }
     }
 
-    /// Reports what is wrong with something that isn't a version or a range.
-    pub fn complain(&mut self, subject: &str, message: &str) -> Status {
+    /// Reports what is wrong with something, behind what was printed before.
+    pub fn complain<T: Display + Drop>(&mut self, subject: T, message: &str) -> Status {
+        let _ = self.out.flush();
         let (start, end) = (self.err_style.error(), self.err_style.end());
         let _ = writeln!(self.err, "ranges: {subject}: {start}{message}{end}");
         Status::Rejected

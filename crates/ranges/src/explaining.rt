@@ -3,6 +3,7 @@
 use crate::args::Options;
 use crate::console::{Console, Status, Stop, Style, print_line};
 use crate::pointing::print_error;
+use crate::shown::Shown;
 use answers::errors::errors;
 use answers::explained::{Explanation, Matches, Meaning, Piece, explain};
 use answers::explained_json::{next_error, ranges_explained};
@@ -108,7 +109,7 @@ struct Line<'a> {
 impl fmt::Display for Line<'_> {
     fn fmt<W: fmt::Write>(&self, f: &mut fmt::Formatter<W>) -> fmt::Result {
         let text = self.piece.text.as_str().trim();
-        write!(f, "\"{text}\": ")?;
+        write!(f, "\"{}\": ", Shown(text))?;
         let (style, end) = (self.style, self.style.end());
         match &self.piece.meaning {
             Meaning::Range(matches) => what_matches(f, matches, self.pre_release, style),

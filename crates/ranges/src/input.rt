@@ -2,6 +2,7 @@
 
 use crate::args::InputOptions;
 use crate::console::{Console, Stop};
+use crate::manifest::unescaped;
 use deno_semver::ParseFailure;
 use serde_json::Value;
 use std::io::{BufRead, BufReader, Write};
@@ -67,10 +68,13 @@ fn take_one<O: Write, E: Write, T: Take>(
     text: &str,
     place: Place,
 ) -> Result<bool, Stop> {
-    let text = match tag_name(text) {
-        None if options.tags => return Ok(true),
-        Some(name) if options.tags => name,
-        _ => text,
+    let name = if options.tags {
+        tag_name(text)
+    } else {
+        Some(text)
+    };
+    let Some(text) = name else {
+        return Ok(true);
     };
     match taker.take(console, text)? {
         Ok(()) => Ok(true),
@@ -90,6 +94,11 @@ fn without_mark(text: &[u8]) -> &[u8] {
     }
 }
 
+// What is between the quotes of a JSON string, as `jq` prints one on a line.
+fn between_quotes(text: &str) -> Option<&str> {
+    text.strip_prefix('"')?.strip_suffix('"')
+}
+
 // Takes a line of standard input; one without text is passed over.
 fn take_line<O: Write, E: Write, T: Take>(
     console: &mut Console<O, E>,
@@ -107,28 +116,37 @@ fn take_line<O: Write, E: Write, T: Take>(
         if options.skip_invalid {
             return Ok(true);
         }
-        console.reject_input("line", number, "", "The line isn't valid UTF-8.");
+        let _ = console.complain(format_args!("line {number}"), "not valid UTF-8");
         return Ok(false);
     };
     let text = text.trim_end_matches(['\n', '\r', '\0'].as_slice());
-    if text.trim().is_empty() {
+    let place = Place::Line(number);
+    // Most lines are versions as they are.
+    if matches!(text.as_bytes(), [b'0'..=b'9' | b'v', ..]) {
+        return take_one(console, taker, options, text, place);
+    }
+    let bare = text.trim();
+    if bare.is_empty() {
         return Ok(true);
     }
-    take_one(console, taker, options, text, Place::Line(number))
+    match between_quotes(bare) {
+        Some(raw) => {
+            let text = unescaped(console.alloc, raw)?;
+            take_one(console, taker, options, text.as_str(), place)
+        }
+        None => take_one(console, taker, options, text, place),
+    }
 }
 
-// Takes the items of a JSON array of texts, or one text.
+// Takes the items of a JSON array of texts.
 fn take_json<O: Write, E: Write, T: Take>(
     console: &mut Console<O, E>,
     taker: &mut T,
     options: InputOptions,
     json: &Value,
 ) -> Result<bool, Stop> {
-    if let Some(text) = json.as_str() {
-        return take_one(console, taker, options, text, Place::Item(1));
-    }
     let Some(items) = json.as_array() else {
-        console.complain("standard input", "the JSON isn't an array of versions");
+        let _ = console.complain("standard input", "expected a JSON array of versions");
         return Ok(false);
     };
     let (mut all, mut number) = (true, 0u64);
@@ -138,7 +156,7 @@ fn take_json<O: Write, E: Write, T: Take>(
             Some(text) => all &= take_one(console, taker, options, text, Place::Item(number))?,
             None if options.skip_invalid => (),
             None => {
-                console.reject_input("item", number, "", "The item isn't a string.");
+                let _ = console.complain(format_args!("item {number}"), "not a string");
                 all = false;
             }
         }
@@ -146,31 +164,33 @@ fn take_json<O: Write, E: Write, T: Take>(
     Ok(all)
 }
 
-// Whether the text begins a JSON array or a JSON text.
-fn is_json(line: &[u8]) -> bool {
-    matches!(without_mark(line).trim_ascii_start(), [b'[' | b'"', ..])
+// Whether a text begins a JSON array or object.
+fn is_json(text: &[u8]) -> bool {
+    matches!(without_mark(text).trim_ascii_start(), [b'[' | b'{', ..])
 }
 
-// Takes all that the input holds, which begins with `line`, as JSON.
+// Takes all that the input holds, of which `line` was read, as JSON that begins in the line with this number.
 fn take_all_json<I: BufRead, O: Write, E: Write, T: Take>(
     console: &mut Console<O, E>,
     taker: &mut T,
     options: InputOptions,
     input: &mut I,
+    number: u64,
     line: &mut Vec<u8>,
 ) -> Result<bool, Stop> {
     if let Err(error) = input.read_to_end(line) {
         return Err(Stop::of_reading(error));
     }
     let Ok(text) = str::from_utf8(without_mark(line.as_slice())) else {
-        console.complain("standard input", "it isn't valid UTF-8");
+        let _ = console.complain("standard input", "not valid UTF-8");
         return Ok(false);
     };
     match Value::from_str(console.alloc, text) {
         Ok(json) => take_json(console, taker, options, &json),
         Err(error) if error.is_memory() => Err(Stop::OutOfMemory),
-        Err(_) => {
-            console.complain("standard input", "it isn't valid JSON");
+        Err(error) => {
+            let number = number.saturating_add(error.line() as u64).saturating_sub(1);
+            let _ = console.complain(format_args!("line {number}"), "not valid JSON");
             Ok(false)
         }
     }
@@ -185,14 +205,15 @@ fn take_each_line<I: BufRead, O: Write, E: Write, T: Take>(
     line: &mut Vec<u8>,
 ) -> Result<bool, Stop> {
     let end = if options.null { 0 } else { b'\n' };
-    let mut all = true;
+    let (mut all, mut is_front) = (true, true);
     for number in 1..u64::MAX {
         if !read_line(input, line, end)? {
             break;
         }
-        if number == 1 && is_json(line.as_slice()) {
-            return take_all_json(console, taker, options, input, line);
+        if is_front && is_json(line.as_slice()) {
+            return take_all_json(console, taker, options, input, number, line);
         }
+        is_front &= line.as_slice().trim_ascii().is_empty();
         all &= take_line(console, taker, options, number, line.as_slice())?;
     }
     Ok(all)
@@ -220,6 +241,15 @@ fn read_line<I: BufRead>(input: &mut I, line: &mut Vec<u8>, end: u8) -> Result<b
     }
 }
 
+// Whether standard input is read: without arguments, and for `-`.
+fn is_input(arguments: &[&str]) -> bool {
+    match arguments {
+        [] => true,
+        [only] => *only == "-",
+        _ => false,
+    }
+}
+
 /// Takes each of the arguments, or what standard input holds if there are none, and returns whether each is a version.
 pub fn take_all<R: Input, O: Write, E: Write, T: Take>(
     rt: &R,
@@ -228,9 +258,10 @@ pub fn take_all<R: Input, O: Write, E: Write, T: Take>(
     arguments: Option<&[&str]>,
     taker: &mut T,
 ) -> Result<bool, Stop> {
-    let Some(arguments) = arguments else {
+    let arguments = arguments.unwrap_or(&[]);
+    if is_input(arguments) {
         return take_input(rt, console, taker, options);
-    };
+    }
     let mut all = true;
     for text in arguments {
         all &= take_one(console, taker, options, text, Place::Argument)?;

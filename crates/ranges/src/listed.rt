@@ -18,7 +18,7 @@ use std::io::Write;
 #[derive(Drop)]
 struct Printed {
     json: bool,
-    end: char,
+    end: &'static str,
     is_first: bool,
 }
 
@@ -26,7 +26,7 @@ impl Printed {
     fn new(options: Options) -> Printed {
         Printed {
             json: options.json,
-            end: if options.input.null { '\0' } else { '\n' },
+            end: options.input.line_end(),
             is_first: true,
         }
     }
@@ -41,7 +41,8 @@ impl Printed {
             let separator = if self.is_first { '[' } else { ',' };
             print_item(console, separator, text)?;
         } else {
-            write!(console.out, "{text}{}", self.end)?;
+            console.out.write_all(text.as_bytes())?;
+            console.out.write_all(self.end.as_bytes())?;
         }
         self.is_first = false;
         Ok(())
@@ -305,7 +306,8 @@ fn print_outdated<O: Write, E: Write>(
     } else {
         let matching = matching.unwrap_or("none");
         let highest = highest.unwrap_or("none");
-        print_line(&mut console.out, format_args!("{matching} {highest}"))?;
+        let end = options.input.line_end();
+        write!(console.out, "{matching} {highest}{end}")?;
     }
     if highest.is_none() || matching == highest {
         Ok(Status::Answered)

@@ -20,11 +20,14 @@ mod manifest;
 mod object;
 mod packaged;
 mod pointing;
+mod shown;
 
 use args::{Options, program};
 use clap::error::ErrorKind as Mistake;
 use clap::{ArgMatches, Error};
 use console::{Console, Status, Stop, Style, Terminal};
+use shown::Shown;
+use std::alloc::Global;
 use std::env::Env;
 use std::io::{BufWriter, IsTerminal, Write};
 use std::process::ExitCode;
@@ -70,17 +73,31 @@ fn answer_texts<O: Write, E: Write>(
     }
 }
 
+// Prints what is wrong with the arguments. What can't be written to standard error is left out.
+fn print_lines<E: Write>(alloc: Global, err: &mut E, mistake: &Error) -> Result<(), Stop> {
+    let text = format!(in alloc; "{mistake}")?;
+    for line in text.lines() {
+        let _ = writeln!(err, "{}", Shown(line));
+    }
+    Ok(())
+}
+
 // Prints the help or the version, or what is wrong with the arguments.
-fn print_mistake<R: Print + Eprint>(rt: &R, mistake: &Error) -> Status {
-    let status = match mistake.kind() {
-        Mistake::DisplayHelp | Mistake::DisplayVersion => Status::Answered,
-        Mistake::OutOfMemory => Status::OutOfMemory,
-        _ => Status::Usage,
-    };
-    match mistake.print(rt) {
-        Ok(()) => status,
-        Err(_) if mistake.use_stderr() => status,
-        Err(_) => Status::Broken,
+fn print_mistake<R: Print + AllocGlobal, E: Write>(
+    rt: &R,
+    err: &mut E,
+    mistake: &Error,
+) -> Result<Status, Stop> {
+    match mistake.kind() {
+        Mistake::DisplayHelp | Mistake::DisplayVersion => {
+            rt.print(mistake)?;
+            Ok(Status::Answered)
+        }
+        Mistake::OutOfMemory => Err(Stop::OutOfMemory),
+        _ => {
+            print_lines(rt.alloc(), err, mistake)?;
+            Ok(Status::Usage)
+        }
     }
 }
 
@@ -131,7 +148,7 @@ fn write_answer<R: Runtime + AllocGlobal, E: Write + Drop>(
 // Parses the arguments and runs their command.
 fn run<R: Runtime + AllocGlobal, E: Write + Drop>(
     rt: &R,
-    err: E,
+    mut err: E,
     terminal: Terminal,
     arguments: &[String],
 ) -> Result<Status, Stop> {
@@ -142,9 +159,9 @@ fn run<R: Runtime + AllocGlobal, E: Write + Drop>(
             status
         }
         Err(mistake) => {
-            let status = print_mistake(rt, &mistake);
+            let status = print_mistake(rt, &mut err, &mistake);
             drop(mistake);
-            Ok(status)
+            status
         }
     }
 }

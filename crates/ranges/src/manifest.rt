@@ -10,6 +10,8 @@ pub enum Kind {
     Range,
     /// A specifier, of which those of npm and JSR name a package.
     Specifier,
+    /// No text: the file should have something else here, as the message says.
+    Mistake(&'static str),
 }
 
 /// A range or a specifier of a file.
@@ -23,65 +25,59 @@ pub struct Entry {
     pub kind: Kind,
 }
 
-/// Why a file has no entries.
-#[derive(Clone, Copy)]
-pub enum Unreadable {
-    /// It isn't valid JSON, from this line on.
-    NoJson(usize),
-    OutOfMemory,
-}
-
-impl From<AllocError> for Unreadable {
-    fn from(_error: AllocError) -> Unreadable {
-        Unreadable::OutOfMemory
+impl Entry {
+    fn mistake(alloc: Global, name: String, start: usize, message: &'static str) -> Entry {
+        Entry {
+            name,
+            text: String::new(alloc),
+            start,
+            kind: Kind::Mistake(message),
+        }
     }
 }
 
-// What the values of an object should be, of which the keys on the way to it are given, and the empty one of the file.
-fn kind_of(path: &[&str]) -> Option<Kind> {
-    let [_, section, rest @ ..] = path else {
-        return None;
-    };
-    match (*section, rest.len()) {
-        ("dependencies" | "devDependencies" | "peerDependencies", 0) => Some(Kind::Range),
-        ("optionalDependencies" | "engines" | "catalog", 0) => Some(Kind::Range),
-        ("catalogs", 1) => Some(Kind::Range),
-        ("overrides" | "resolutions", _) => Some(Kind::Range),
-        ("imports", 0) | ("scopes", 1) => Some(Kind::Specifier),
+// What the values are that are so many objects deep in a section of the file.
+fn kind_at(section: &str, depth: usize) -> Option<Kind> {
+    match (section, depth) {
+        ("dependencies" | "devDependencies" | "peerDependencies", 1) => Some(Kind::Range),
+        ("optionalDependencies" | "engines" | "catalog", 1) => Some(Kind::Range),
+        ("catalogs", 2) => Some(Kind::Range),
+        ("overrides" | "resolutions", 1..) => Some(Kind::Range),
+        ("imports", 1) | ("scopes", 2) => Some(Kind::Specifier),
         (_, _) => None,
     }
 }
 
-// Which part of a file the scanner is in.
-#[derive(Clone, Copy, PartialEq, Eq)]
-enum Part {
-    Structure,
-    /// Behind a `/`.
-    Slash,
-    LineComment,
-    BlockComment,
-    /// In a block comment, behind a `*`.
-    Star,
-    /// A text that starts at this index, behind its quote.
-    Text(usize),
-    /// In a text, behind a `\`.
-    Escape(usize),
+// What is wrong with a value that begins with this character, by the section and how many objects deep in it the value is.
+fn mistake_at(section: &str, depth: usize, first: char) -> Option<&'static str> {
+    let is_range_at = |depth: usize| kind_at(section, depth) == Some(Kind::Range);
+    let has_ranges = is_range_at(depth.saturating_add(1)) || is_range_at(depth.saturating_add(2));
+    match first {
+        '{' if has_ranges => None,
+        '"' if is_range_at(depth) => None,
+        _ if is_range_at(depth) => Some("expected a string, such as \"^1.2\""),
+        _ if has_ranges => Some("expected an object"),
+        _ => None,
+    }
 }
 
-// Goes over JSON, with comments or without, and collects the values that are ranges or specifiers.
+// Goes over JSON, and collects the values that are ranges or specifiers, and what is there in place of one.
 #[derive(Drop)]
 struct Scanner<'t> {
     alloc: Global,
     file: &'t str,
-    part: Part,
+    /// The keys on the way, and the empty one of the file.
     path: Vec<&'t str>,
     key: Option<&'t str>,
     is_value: bool,
+    /// Where a text starts, behind its quote.
+    text: Option<usize>,
+    is_escaped: bool,
     entries: Vec<Entry>,
 }
 
-// The text that JSON means by this part between two quotes.
-fn unescaped(alloc: Global, raw: &str) -> Result<String, AllocError> {
+/// The text that JSON means by this part between two quotes.
+pub fn unescaped(alloc: Global, raw: &str) -> Result<String, AllocError> {
     if !raw.contains('\\') {
         return String::from_str(alloc, raw);
     }
@@ -94,9 +90,15 @@ fn unescaped(alloc: Global, raw: &str) -> Result<String, AllocError> {
 }
 
 impl<'t> Scanner<'t> {
+    // The section of the next value, and how many objects deep in it the value is.
+    fn place(&self) -> (&'t str, usize) {
+        let key = self.key.unwrap_or("");
+        let section = self.path.get(1).copied().unwrap_or(key);
+        (section, self.path.len().saturating_sub(1))
+    }
+
     // Ends the text that starts at `start` before this index: a key, an item of an array, or a value.
     fn end_text(&mut self, start: usize, end: usize) -> Result<(), AllocError> {
-        self.part = Part::Structure;
         let raw = self.file.get(start..end).unwrap_or("");
         let is_value = self.is_value;
         self.is_value = false;
@@ -104,7 +106,8 @@ impl<'t> Scanner<'t> {
             self.key = Some(raw);
             return Ok(());
         }
-        let Some(kind) = kind_of(self.path.as_slice()) else {
+        let (section, depth) = self.place();
+        let Some(kind) = kind_at(section, depth) else {
             return Ok(());
         };
         let name = unescaped(self.alloc, self.key.unwrap_or(""))?;
@@ -118,25 +121,32 @@ impl<'t> Scanner<'t> {
         Ok(self.entries.push(entry)?)
     }
 
-    // Takes a character outside texts and comments.
+    // Begins the value behind a key.
+    fn begin_value(&mut self, index: usize, first: char) -> Result<(), AllocError> {
+        let (section, depth) = self.place();
+        self.is_value = first == '"';
+        let Some(message) = mistake_at(section, depth, first) else {
+            return Ok(());
+        };
+        let name = unescaped(self.alloc, self.key.unwrap_or(""))?;
+        let mistake = Entry::mistake(self.alloc, name, index, message);
+        Ok(self.entries.push(mistake)?)
+    }
+
+    // Takes a character outside texts.
     fn structure(&mut self, index: usize, c: char) -> Result<(), AllocError> {
+        if self.is_value && !c.is_ascii_whitespace() {
+            self.begin_value(index, c)?;
+        }
         match c {
-            '"' => self.part = Part::Text(index.saturating_add(1)),
-            '/' => self.part = Part::Slash,
+            '"' => self.text = Some(index.saturating_add(1)),
             ':' => self.is_value = true,
-            '{' | '[' => {
-                self.path.push(self.key.take().unwrap_or(""))?;
-                self.is_value = false;
-            }
+            '{' | '[' => self.path.push(self.key.take().unwrap_or(""))?,
             '}' | ']' => {
                 let _ = self.path.pop();
                 self.key = None;
-                self.is_value = false;
             }
-            ',' => {
-                self.key = None;
-                self.is_value = false;
-            }
+            ',' => self.key = None,
             _ => (),
         }
         Ok(())
@@ -144,34 +154,31 @@ impl<'t> Scanner<'t> {
 
     // Takes the next character.
     fn step(&mut self, index: usize, c: char) -> Result<(), AllocError> {
-        match (self.part, c) {
-            (Part::Structure, c) => self.structure(index, c)?,
-            (Part::Slash, '/') => self.part = Part::LineComment,
-            (Part::Slash, '*') => self.part = Part::BlockComment,
-            (Part::Slash, _) => self.part = Part::Structure,
-            (Part::LineComment, '\n') => self.part = Part::Structure,
-            (Part::LineComment, _) => (),
-            (Part::BlockComment | Part::Star, '*') => self.part = Part::Star,
-            (Part::Star, '/') => self.part = Part::Structure,
-            (Part::BlockComment | Part::Star, _) => self.part = Part::BlockComment,
-            (Part::Text(start), '"') => self.end_text(start, index)?,
-            (Part::Text(start), '\\') => self.part = Part::Escape(start),
-            (Part::Text(_), _) => (),
-            (Part::Escape(start), _) => self.part = Part::Text(start),
+        let Some(start) = self.text else {
+            return self.structure(index, c);
+        };
+        if self.is_escaped {
+            self.is_escaped = false;
+        } else if c == '\\' {
+            self.is_escaped = true;
+        } else if c == '"' {
+            self.text = None;
+            self.end_text(start, index)?;
         }
         Ok(())
     }
 }
 
-// The entries of JSON, with comments or without.
+// The entries of a file that is valid JSON.
 fn of_json(alloc: Global, file: &str) -> Result<Vec<Entry>, AllocError> {
     let mut scanner = Scanner {
         alloc,
         file,
-        part: Part::Structure,
         path: Vec::new(alloc),
         key: None,
         is_value: false,
+        text: None,
+        is_escaped: false,
         entries: Vec::new(alloc),
     };
     for (index, c) in file.char_indices() {
@@ -179,6 +186,137 @@ fn of_json(alloc: Global, file: &str) -> Result<Vec<Entry>, AllocError> {
     }
     let Scanner { entries, .. } = scanner;
     Ok(entries)
+}
+
+// The index of a line and the byte of it with this number, both counted from 1.
+fn index_of(file: &str, line: usize, byte: usize) -> usize {
+    let mut index = byte.saturating_sub(1);
+    for before in file.split('\n').take(line.saturating_sub(1)) {
+        index = index.saturating_add(before.len()).saturating_add(1);
+    }
+    file.floor_char_boundary(index)
+}
+
+// The one entry of a file that is a mistake itself.
+fn of_mistake(
+    alloc: Global,
+    start: usize,
+    message: &'static str,
+) -> Result<Vec<Entry>, AllocError> {
+    let mistake = Entry::mistake(alloc, String::new(alloc), start, message);
+    Ok(vec![in alloc; mistake]?)
+}
+
+// The entries of JSON, or where it is invalid. A lockfile has none.
+fn of_text(alloc: Global, file: &str) -> Result<Vec<Entry>, AllocError> {
+    match Value::from_str(alloc, file) {
+        Ok(value) if !value.is_object() => of_mistake(alloc, 0, "expected an object"),
+        Ok(value) if value.get("lockfileVersion").is_some() => Ok(Vec::new(alloc)),
+        Ok(_) => of_json(alloc, file),
+        Err(error) if error.is_memory() => Err(AllocError),
+        Err(error) => {
+            let start = index_of(file, error.line(), error.column());
+            of_mistake(alloc, start, "not valid JSON")
+        }
+    }
+}
+
+// Which part of JSON with comments.
+#[derive(Clone, Copy, PartialEq, Eq)]
+enum Part {
+    Structure,
+    /// Behind a `/`.
+    Slash,
+    LineComment,
+    BlockComment,
+    /// In a block comment, behind a `*`.
+    Star,
+    Text,
+    /// In a text, behind a `\`.
+    Escape,
+}
+
+// JSON with comments, and commas before closing brackets, of which the bytes so far are spaces.
+#[derive(Drop)]
+struct Commented {
+    bytes: Vec<u8>,
+    part: Part,
+    /// The last comma, if only whitespace and comments follow.
+    comma: Option<usize>,
+}
+
+impl Commented {
+    fn clear(&mut self, index: usize) {
+        if let Some(byte) = self.bytes.get_mut(index) {
+            *byte = b' ';
+        }
+    }
+
+    // The part behind a byte.
+    fn next(&self, byte: u8) -> Part {
+        match (self.part, byte) {
+            (Part::Structure | Part::Slash, b'"') => Part::Text,
+            (Part::Structure, b'/') => Part::Slash,
+            (Part::Slash, b'/') => Part::LineComment,
+            (Part::Slash, b'*') => Part::BlockComment,
+            (Part::LineComment, b'\n') => Part::Structure,
+            (Part::BlockComment | Part::Star, b'*') => Part::Star,
+            (Part::Star, b'/') => Part::Structure,
+            (Part::Star, _) => Part::BlockComment,
+            (Part::Text, b'"') => Part::Structure,
+            (Part::Text, b'\\') => Part::Escape,
+            (Part::Escape, _) => Part::Text,
+            (Part::Slash, _) => Part::Structure,
+            (part, _) => part,
+        }
+    }
+
+    // Takes the next byte.
+    fn step(&mut self, index: usize, byte: u8) {
+        let part = self.part;
+        self.part = self.next(byte);
+        match (part, self.part) {
+            (Part::Slash, Part::LineComment | Part::BlockComment) => {
+                self.clear(index.saturating_sub(1));
+                self.clear(index);
+            }
+            (Part::LineComment | Part::BlockComment | Part::Star, _) if byte != b'\n' => {
+                self.clear(index);
+            }
+            (Part::Structure, Part::Structure) => self.structure(index, byte),
+            (Part::Structure, Part::Text) => self.comma = None,
+            (_, _) => (),
+        }
+    }
+
+    // Takes a byte outside texts and comments.
+    fn structure(&mut self, index: usize, byte: u8) {
+        match (byte, self.comma) {
+            (b'}' | b']', Some(comma)) => {
+                self.clear(comma);
+                self.comma = None;
+            }
+            (b',', _) => self.comma = Some(index),
+            (b' ' | b'\t' | b'\r' | b'\n', _) => (),
+            (_, _) => self.comma = None,
+        }
+    }
+}
+
+// The entries of JSON with comments, which are read as spaces.
+fn of_commented(alloc: Global, file: &str) -> Result<Vec<Entry>, AllocError> {
+    let mut commented = Commented {
+        bytes: file.as_bytes().to_vec(alloc)?,
+        part: Part::Structure,
+        comma: None,
+    };
+    for (index, byte) in file.bytes().enumerate() {
+        commented.step(index, byte);
+    }
+    of_text(
+        alloc,
+        str::from_utf8(commented.bytes.as_slice()).unwrap_or(file),
+    )
 }
 
 // The entry of a line that starts at this index, unless it is empty or a comment.
@@ -214,24 +352,20 @@ fn of_lines(alloc: Global, file: &str) -> Result<Vec<Entry>, AllocError> {
     Ok(entries)
 }
 
-// Whether a file of this name may have comments: Deno's may.
+// Whether a file of this name may have comments: Deno's may, and standard input, of which no name is known.
 fn has_comments(path: &str) -> bool {
     let name = path.rsplit('/').next().unwrap_or(path);
-    name.ends_with(".jsonc") || name.starts_with("deno.")
+    name.ends_with(".jsonc") || name.starts_with("deno.") || path == "-"
 }
 
 /// The entries of a file, in their order. JSON begins with a brace; any other file has a range on each line.
-pub fn entries(alloc: Global, path: &str, file: &str) -> Result<Vec<Entry>, Unreadable> {
+pub fn entries(alloc: Global, path: &str, file: &str) -> Result<Vec<Entry>, AllocError> {
     let is_json = file.trim_start().starts_with(['{', '/'].as_slice());
     if !is_json && !path.ends_with(".json") {
-        return Ok(of_lines(alloc, file)?);
+        of_lines(alloc, file)
+    } else if has_comments(path) {
+        of_commented(alloc, file)
+    } else {
+        of_text(alloc, file)
     }
-    if !has_comments(path) {
-        match Value::from_str(alloc, file) {
-            Ok(value) => drop(value),
-            Err(error) if error.is_memory() => return Err(Unreadable::OutOfMemory),
-            Err(error) => return Err(Unreadable::NoJson(error.line())),
-        }
-    }
-    Ok(of_json(alloc, file)?)
 }

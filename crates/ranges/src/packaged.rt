@@ -2,6 +2,7 @@
 
 use crate::args::Options;
 use crate::console::{Console, Status, Stop, print_line};
+use crate::shown::Shown;
 use answers::packages::{package_json, read_package, scope_and_name};
 use answers::references::{Reference, read_reference, reference_json};
 use clap::ArgMatches;
@@ -12,7 +13,7 @@ use std::io::Write;
 // Prints a part on a line, if there is one.
 fn print_part<O: Write>(out: &mut O, part: &str, text: Option<&str>) -> Result<(), Stop> {
     match text {
-        Some(text) => print_line(out, format_args!("{part}: {text}")),
+        Some(text) => print_line(out, format_args!("{part}: {}", Shown(text))),
         None => Ok(()),
     }
 }

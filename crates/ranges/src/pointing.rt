@@ -3,6 +3,7 @@
 use crate::console::{Stop, Style};
 use crate::hints::hint;
 use crate::object::Object;
+use crate::shown::{Shown, is_escaped};
 use answers::asking::{InvalidArgument, Kind as ArgumentKind, Problem};
 use answers::errors::{errors, expected_json};
 use answers::reading::range;
@@ -159,22 +160,19 @@ pub fn version_errors(alloc: Global, text: &str) -> Result<Vec<InvalidPiece>, Al
     }
 }
 
-/// Prints the text with a caret under the place of an error, what is expected there, and a hint if there is one. A text with control
-/// characters isn't shown.
+/// Prints the text with a caret under the place of an error, what is expected there, and a hint if there is one.
 pub fn print_error<O: Write>(
     out: &mut O,
     style: Style,
     text: &str,
     error: &InvalidPiece,
 ) -> Result<(), Stop> {
-    if !text.chars().any(|c| c.is_control() && c != '\t') {
-        let (start, end) = window(text, error.place);
-        let before = part(text, start, error.place);
-        writeln!(out, "  | {before}{}", part(text, error.place, end))?;
-        let (caret, end) = (style.caret(), style.end());
-        let expectation = Expectation(error, text);
-        writeln!(out, "  | {}{caret}^ {expectation}{end}", Padding(before))?;
-    }
+    let (start, end) = window(text, error.place);
+    let before = part(text, start, error.place);
+    writeln!(out, "  | {}", Shown(part(text, start, end)))?;
+    let (caret, end) = (style.caret(), style.end());
+    let expectation = Expectation(error, text);
+    writeln!(out, "  | {}{caret}^ {expectation}{end}", Padding(before))?;
     let piece = part(text, error.start, error.end);
     match hint(piece, error.place.saturating_sub(error.start)) {
         Some(hint) => Ok(writeln!(out, "  = {hint}")?),
@@ -189,7 +187,7 @@ pub fn add_error(alloc: Global, json: Object, error: &InvalidPiece) -> Object {
         .put("expected", expected_json(alloc, &error.cause))
 }
 
-// As many columns as a text takes; tabs stay tabs.
+// As many columns as a text takes where it is shown; tabs stay tabs.
 #[derive(Clone, Copy)]
 struct Padding<'a>(&'a str);
 
@@ -198,6 +196,7 @@ impl fmt::Display for Padding<'_> {
         for c in self.0.chars() {
             match (c, c.width()) {
                 ('\t', _) => f.write_str("\t")?,
+                (c, _) if is_escaped(c) => write!(f, "{:1$}", "", c.escape_unicode().count())?,
                 (_, Some(1)) => f.write_str(" ")?,
                 (_, Some(2)) => f.write_str("  ")?,
                 (_, _) => (),
