@@ -60,6 +60,7 @@ pub mod AlikeParts
 pub mod InvalidPieces
 pub mod KindTexts
 mod ErrorCauses
+pub mod LargeBounds
 pub mod StrictRejections
 pub mod Trimmed
 pub mod VersionEndings

@@ -13,11 +13,11 @@ use Rattle.semver_req.specs.Parsers.{Failure}
 use Rattle.semver_req.specs.Written.{comparator_of}
 use Rattle.semver_req.specs.declared.common.comparator.Operator.{Operator}
 use Rattle.semver_req.proofs.Fitting.{FittingFront, LargeFront}
-use Rattle.semver_req.specs.Causes.{IsStrictRejection, followed, large_bound, large_number}
+use Rattle.semver_req.specs.Causes.{IsStrictRejection, followed, front_bound, front_number}
 
 module _ {text rest : List ℕ} {m : Operator} {p : Partial} where
   pub number_rejection : LargeFront IsSpecifierRange text m p rest → IsStrictRejection text NumberTooLarge
-  number_rejection f = large_number f.longest f.number_large
+  number_rejection f = front_number f.longest f.number_large
 
   module _ (f : FittingFront IsSpecifierRange text m p rest) where
     all_sums : all_fit (comparator_line (comparator_of m p)).sums ≡ true → fits (comparator_of m p) ≡ true
@@ -34,4 +34,4 @@ module _ {text rest : List ℕ} {m : Operator} {p : Partial} where
 
     pub bound_rejection : (failure : Failure) → IsBoundRejection (comparator_line (comparator_of m p)).sums failure → (failure ≡ None → ⊥) → IsStrictRejection text BoundTooLarge
     bound_rejection failure (inl e) never = absurd (never e)
-    bound_rejection failure (inr h) never = large_bound f.longest f.numbers_fit h.1
+    bound_rejection failure (inr h) never = front_bound f.longest f.numbers_fit h.1

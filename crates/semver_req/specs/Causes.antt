@@ -1,5 +1,6 @@
 -- What is wrong with an invalid alternative, and where.
-use Rattle.std.specs.Prelude.{◌≡◌, ◌⊎◌, ◌<◌, ℕ, List, length, take, Bool, not, true, false, Option, Some, None, IfSome}
+use Rattle.std.specs.Prelude.{◌≡◌, ◌⊎◌, ◌<◌, ◌&&◌, ℕ, List, [], ◌∷◌, ◌++◌, length, take, Bool, not, true, false, Option, Some, None, IfSome}
+use Rattle.std.specs.List.{list_any}
 use Rattle.std.specs.Str.{NoCharPasses}
 use Rattle.std.specs.Str.Pattern.{HasPassingCharAt}
 use Rattle.semver_base.specs.Comparators.{Comparator}
@@ -7,9 +8,10 @@ use Rattle.semver_base.specs.Grammar.{HasNone, IsLongest}
 use Rattle.semver_base.specs.Lexical.{IsWhitespace}
 use Rattle.semver_base.specs.declared.failure.Rejection.{Rejection}
 use Rattle.semver_base.specs.declared.failure.Rejection.TheVariants as rejection
-use Rattle.semver_req.specs.Comparators.{fits}
+use Rattle.semver_req.specs.Comparators.{IsComparator, fits}
 use Rattle.semver_req.specs.Outcome.{IsSpecifierRange}
 use Rattle.semver_req.specs.PieceReading.{IsPieceRejection, numbers_fit, sums_fit}
+use Rattle.semver_req.specs.Pieces.{IsHyphen, IsSeparator}
 use Rattle.semver_req.specs.Tag.{is_tag_character}
 use Rattle.semver_req.specs.declared.common.values.Flavour.{Flavour}
 use Rattle.semver_req.specs.declared.common.values.Flavour.TheVariants.{Npm, Normal, Specifier}
@@ -37,9 +39,9 @@ pub data IsStrictRejection (text : List ℕ) : Rejection → Type 0 where
   no_range : HasNone IsSpecifierRange text → (IsWhitespace text tt → ⊥) → IsStrictRejection text rejection.UnexpectedCharacter
   followed : {c : Comparator} {rest : List ℕ} → IsLongest IsSpecifierRange text c rest → fits c ≡ true → 0 < length rest
       → IsStrictRejection text rejection.UnexpectedCharacter
-  large_number : {c : Comparator} {rest : List ℕ} → IsLongest IsSpecifierRange text c rest → numbers_fit c ≡ false
+  front_number : {c : Comparator} {rest : List ℕ} → IsLongest IsSpecifierRange text c rest → numbers_fit c ≡ false
       → IsStrictRejection text rejection.NumberTooLarge
-  large_bound : {c : Comparator} {rest : List ℕ} → IsLongest IsSpecifierRange text c rest → numbers_fit c ≡ true
+  front_bound : {c : Comparator} {rest : List ℕ} → IsLongest IsSpecifierRange text c rest → numbers_fit c ≡ true
       → sums_fit c ≡ false → IsStrictRejection text rejection.BoundTooLarge
 
 -- why the parser rejects an alternative; of the strict grammar that is the whole text
@@ -59,9 +61,26 @@ IsFirstOutsideTag text None = NoCharPasses is_outside_tag text
 IsFirstOutsideTag text (Some place) =
     NoCharPasses is_outside_tag (take place text) × ((end : ℕ) × HasPassingCharAt is_outside_tag text place end)
 
+-- the numbers of the comparator fit, and a bound doesn't
+abbrev pub overflows : Comparator → Bool
+overflows c = numbers_fit c && not (sums_fit c)
+
+-- comparators, each with the separator that follows
+pub data AreFollowed (f : Flavour) : List Comparator → List ℕ → Type 0 where
+  none_before : AreFollowed f [] []
+  one_more : {cs : List Comparator} {before : List ℕ} (c : Comparator) (text separator : List ℕ) → AreFollowed f cs before
+      → IsComparator f text c → IsSeparator f separator tt → AreFollowed f (cs ++ c ∷ []) (before ++ (text ++ separator))
+
+-- where an alternative has a bound that is too large: at the start of the first comparator of which that is so, or of a hyphen range
+pub data IsBoundAt (f : Flavour) (piece : List ℕ) : ℕ → Type 0 where
+  comparator : {cs : List Comparator} {c : Comparator} {before rest more : List ℕ} → piece ≡ before ++ rest
+      → AreFollowed f cs before → list_any overflows cs ≡ false → IsLongest (IsComparator f) rest c more
+      → overflows c ≡ true → IsBoundAt f piece (length before)
+  hyphen_range : {cs : List Comparator} → IsHyphen piece cs → IsBoundAt f piece 0
+
 -- where an alternative is wrong: at the place at which it leaves the grammar; but if that is its start, and tags begin like it, at the
 -- first character that no tag has. If a number is too large, at the place at which it leaves the grammar of numbers that fit: at the digit
--- with which it no longer does. A bound is the whole of it.
+-- with which it no longer does. If a bound is, at the start of its comparator.
 pub data IsCauseAt (f : Flavour) (piece : List ℕ) (outside : Option ℕ) : Cause → ℕ → Type 0 where
   unexpected : {place : ℕ} {expected : Expected} → IsErrorPlace (IsPart f) piece place
       → (0 < place) ⊎ IfSome outside (λ n. n ≡ 0) → IsExpectation f (take place piece) expected
@@ -70,4 +89,4 @@ pub data IsCauseAt (f : Flavour) (piece : List ℕ) (outside : Option ℕ) : Cau
       → IsCauseAt f piece outside NoTag place
   empty : IsCauseAt f piece outside Empty 0
   too_large : {place : ℕ} → IsErrorPlace (Sized Fitting (IsPart f)) piece place → IsCauseAt f piece outside NumberTooLarge place
-  large_bound : IsCauseAt f piece outside BoundTooLarge 0
+  bound_too_large : {place : ℕ} → IsBoundAt f piece place → IsCauseAt f piece outside BoundTooLarge place

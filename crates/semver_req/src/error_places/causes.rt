@@ -1,16 +1,24 @@
 //! What is wrong with an invalid alternative, and where.
 
+ghost use Rattle.semver_base.specs.declared.partial.Partial.{Partial};
 ghost use Rattle.std.specs.Prelude.{◌≡◌, ◌<◌, ◌⊎◌, IfErr, IfOk, IfSome, MatchOption, None, Option, Some, ℕ};
-ghost use Rattle.semver_base.specs.declared.failure.Rejection.TheVariants.{UnexpectedCharacter};
-ghost use Rattle.semver_req.specs.Causes.{IsCauseAt, IsFirstOutsideTag, IsRejected, rejection_of};
+ghost use Rattle.semver_base.specs.declared.failure.Rejection.TheVariants as rejection;
+ghost use Rattle.semver_req.specs.Partials.{sized_partial};
+ghost use Rattle.semver_req.specs.PieceReading.{IsPieceRejection};
+ghost use Rattle.semver_req.specs.Pieces.{IsCutting};
+ghost use Rattle.semver_req.specs.Written.{comparator_of};
+ghost use Rattle.semver_req.specs.Causes.{IsBoundAt, IsCauseAt, IsFirstOutsideTag, IsRejected, overflows, rejection_of};
 ghost use Rattle.semver_req.specs.Sizes.{Sized};
 ghost use Rattle.semver_req.specs.Viable.{IsErrorPlace, IsPart};
 
+use crate::common::comparator::{Written, comparator_front};
+use crate::common::separators::after_separator;
 use crate::common::values::Flavour;
 use crate::error_places::expected::{Expected, expected_after};
 use crate::error_places::{Grammar, Sizes, error_place, longest_viable};
 use crate::tag::is_tag_character;
 use semver_base::failure::{ParseFailure, Rejection};
+use semver_base::lexical::values::Measured;
 use std::alloc::Global;
 
 /// What is wrong with an alternative.
@@ -25,7 +33,7 @@ pub enum Cause {
     /// A number is larger than 18446744073709551615; the place of the error is the digit with which it no longer fits.
     NumberTooLarge,
     /// A number of a bound, which is one more than a number in the text, is larger than 18446744073709551615; the place of the error is the
-    /// start of the alternative.
+    /// start of the comparator.
     BoundTooLarge,
 }
 
@@ -65,6 +73,67 @@ fn large_number(alloc: Global, piece: &str, flavour: Flavour) -> Result<usize, P
     longest_viable(alloc, piece, Grammar::Ranges(flavour, Sizes::Fitting))
 }
 
+// Whether the numbers of a comparator fit, and a bound of it doesn't.
+fn overflows(alloc: Global, written: Written) -> Result<bool, ParseFailure>
+    ensures value { (p : Partial) → written.partial ≡ sized_partial p
+        → IfOk result (λ yes. yes ≡ overflows (comparator_of written.operator p)) }
+    ensures memory { IfErr result (λ failure. failure ≡ None) }
+{
+    let Written { operator, partial } = written;
+    let Measured::Fits(partial) = partial else {
+        return Ok(false);
+    };
+    let range = operator.range(alloc, &partial);
+    drop(partial);
+    match range {
+        Ok(range) => {
+            drop(range);
+            Ok(false)
+        }
+        Err(failure) if failure.is_memory() => Err(failure),
+        Err(_) => Ok(true),
+    }
+}
+
+// The start of the first comparator of which a bound is too large; 0 for a hyphen range.
+fn large_bound(alloc: Global, piece: &str, flavour: Flavour) -> Result<usize, ParseFailure>
+    requires rejected { IsPieceRejection flavour piece.now rejection.BoundTooLarge }
+    requires cuts { IsCutting flavour }
+    ensures place { IfOk result (IsBoundAt flavour piece.now) }
+    ensures memory { IfErr result (λ failure. failure ≡ None) }
+{
+    let Some((first, mut rest)) = comparator_front(alloc, piece, flavour)? else {
+        return Ok(0);
+    };
+    if overflows(alloc, first)? {
+        return Ok(0);
+    }
+    while let Some(next) = after_separator(rest, flavour) {
+        let Some((written, more)) = comparator_front(alloc, next, flavour)? else {
+            return Ok(0);
+        };
+        if overflows(alloc, written)? {
+            return Ok(piece.len() - next.len());
+        }
+        rest = more;
+    }
+    Ok(0)
+}
+
+// Where a bound of an alternative is too large.
+fn bound_place(alloc: Global, piece: &str, flavour: Flavour) -> Result<usize, ParseFailure>
+    requires { IsRejected flavour piece.now rejection.BoundTooLarge }
+    ensures place { IfOk result (IsBoundAt flavour piece.now) }
+    ensures memory { IfErr result (λ failure. failure ≡ None) }
+{
+    match flavour {
+        Flavour::Npm => large_bound(alloc, piece, Flavour::Npm),
+        Flavour::Normal => large_bound(alloc, piece, Flavour::Normal),
+        // The only comparator.
+        Flavour::Specifier => Ok(0),
+    }
+}
+
 // The index of the first character that no tag has, for an alternative that isn't a range from its start on and begins as a tag does.
 fn tag_end(outside: Option<usize>, place: usize) -> Option<usize>
     ensures { MatchOption result ((0 < place) ⊎ IfSome outside (λ n. n ≡ 0))
@@ -88,7 +157,7 @@ fn outside_grammar(
     flavour: Flavour,
 ) -> Result<CauseAt, ParseFailure>
     ensures value { IfOk result (λ c. IsCauseAt flavour piece.now outside c.cause c.place) }
-    ensures rejection { IfOk result (λ c. rejection_of c.cause ≡ UnexpectedCharacter) }
+    ensures rejection { IfOk result (λ c. rejection_of c.cause ≡ rejection.UnexpectedCharacter) }
     ensures memory { IfErr result (λ failure. failure ≡ None) }
 {
     let place = error_place(alloc, piece, flavour)?;
@@ -133,7 +202,7 @@ pub(crate) fn cause_of(
             cause: Cause::NumberTooLarge,
         }),
         Rejection::BoundTooLarge => Ok(CauseAt {
-            place: 0,
+            place: bound_place(alloc, piece, flavour)?,
             cause: Cause::BoundTooLarge,
         }),
         _ => outside_grammar(alloc, piece, outside, flavour),

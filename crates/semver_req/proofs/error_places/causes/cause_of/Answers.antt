@@ -1,4 +1,4 @@
-use Rattle.semver_req.specs.Causes.{empty, large_bound, too_large}
+use Rattle.semver_req.specs.Causes.{bound_too_large, empty, too_large}
 use Rattle.semver_req.proofs.error_places.causes.cause_of.Goals as goal
 
 pub returns-in-EmptyConstraint-clause-value : goal.returns-in-EmptyConstraint-clause-value
@@ -7,5 +7,5 @@ returns-in-EmptyConstraint-clause-value c = (c.outside_tag-outside.result, c.out
 pub returns-in_ok-large_number-in-NumberTooLarge-clause-value : goal.returns-in_ok-large_number-in-NumberTooLarge-clause-value
 returns-in_ok-large_number-in-NumberTooLarge-clause-value c = (c.outside_tag-outside.result, c.outside_tag-outside.ensures, too_large c.in_ok-large_number-in-NumberTooLarge.ensures.place)
 
-pub returns-in-BoundTooLarge-clause-value : goal.returns-in-BoundTooLarge-clause-value
-returns-in-BoundTooLarge-clause-value c = (c.outside_tag-outside.result, c.outside_tag-outside.ensures, large_bound)
+pub returns-in_ok-bound_place-in-BoundTooLarge-clause-value : goal.returns-in_ok-bound_place-in-BoundTooLarge-clause-value
+returns-in_ok-bound_place-in-BoundTooLarge-clause-value c = (c.outside_tag-outside.result, c.outside_tag-outside.ensures, bound_too_large c.in_ok-bound_place-in-BoundTooLarge.ensures.place)

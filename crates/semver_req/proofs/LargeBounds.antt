@@ -1,0 +1,131 @@
+-- Where a bound is too large: at the first comparator that overflows.
+use Rattle.std.proofs.Common.{◌≡◌, ◌<◌, ◌-◌, ℕ, Bool, true, false, List, [], ◌∷◌, ◌++◌, length, None, refl, sym, ap, subst, ◌∙◌, arith, inl, inr, append_assoc, append-nil, length-append}
+use Rattle.std.specs.Prelude.{◌&&◌, ◌||◌, not}
+use Rattle.std.specs.List.{list_all, list_any}
+use Rattle.std.proofs.lemmas.Bool.{and_parts, both_ways, cases_Bool}
+use Rattle.semver_base.specs.Comparators.{Comparator, comparator_line}
+use Rattle.semver_base.specs.Grammar.{HasNone, IsLongest, Listed, last_item, closed_item, more_items, this, that}
+use Rattle.semver_base.specs.PartialTable.{IsBoundRejection, all_fit}
+use Rattle.semver_base.specs.declared.failure.Rejection.TheVariants.{BoundTooLarge}
+use Rattle.semver_base.specs.declared.lexical.values.Measured.{Measured}
+use Rattle.semver_base.specs.declared.lexical.values.Measured.TheVariants.{Fits, TooLarge}
+use Rattle.semver_base.specs.declared.partial.Partial.{Partial}
+use Rattle.semver_req.specs.Causes.{AreFollowed, IsBoundAt, IsStrictRejection, comparator, front_bound, hyphen_range, none_before, one_more, overflows}
+use Rattle.semver_req.specs.Comparators.{IsComparator}
+use Rattle.semver_req.specs.Outcome.{IsSpecifierRange}
+use Rattle.semver_req.specs.Parsers.{Failure}
+use Rattle.semver_req.specs.Partials.{sized_partial}
+use Rattle.semver_req.specs.PieceReading.{IsPieceRejection, large_bound, numbers_fit, sums_fit}
+use Rattle.semver_req.specs.Pieces.{IsComparators, IsCutting, IsPiece, IsSeparator, normal, npm}
+use Rattle.semver_req.specs.Written.{comparator_of}
+use Rattle.semver_req.specs.declared.common.comparator.Operator.{Operator}
+use Rattle.semver_req.specs.declared.common.values.Flavour.{Flavour}
+use Rattle.semver_req.specs.declared.common.values.Flavour.TheVariants.{Npm, Normal, Specifier}
+use Rattle.semver_req.proofs.Fitting.{comparator_all}
+use Rattle.semver_req.proofs.Joining.{fitting_partial, large_partial}
+
+-- ---- one comparator
+
+module _ (m : Operator) (p : Partial) where
+  pub large_number_no : {b : Bool} → b ≡ false → TooLarge ≡ sized_partial p → b ≡ overflows (comparator_of m p)
+  large_number_no n seen = rw (n, comparator_all m p ∙ large_partial p seen) refl
+
+  module _ {q : Partial} (seen : Fits q ≡ sized_partial p) where
+    pub sums_no : {b : Bool} → b ≡ false → all_fit (comparator_line (comparator_of m q)).sums ≡ true → b ≡ overflows (comparator_of m p)
+    sums_no n fit =
+        let both = fitting_partial p seen in
+        rw (n, comparator_all m p ∙ both.1, ap (λ r. sums_fit (comparator_of m r)) both.0 ∙ fit) refl
+
+    pub sums_yes : {b : Bool} → b ≡ true → (failure : Failure) → IsBoundRejection (comparator_line (comparator_of m q)).sums failure → (failure ≡ None → ⊥) → b ≡ overflows (comparator_of m p)
+    sums_yes y failure (inl e) never = absurd (never e)
+    sums_yes y failure (inr h) never =
+        let both = fitting_partial p seen in
+        rw (y, comparator_all m p ∙ both.1, ap (λ r. sums_fit (comparator_of m r)) both.0 ∙ h.1) refl
+
+-- ---- lists
+
+-- if the numbers fit, and not the bounds, some comparator overflows
+some_overflows : (cs : List Comparator) → list_all numbers_fit cs ≡ true → list_all sums_fit cs ≡ false → list_any overflows cs ≡ true
+some_overflows [] fit large = cc large
+some_overflows (c ∷ cs) fit large = elim (cases_Bool (sums_fit c)) [
+  | inl sums ↦ rw (both.0, sums) (some_overflows cs both.1 (rw sums at large))
+  | inr over ↦ rw (both.0, over) refl
+]
+  where
+    both : (numbers_fit c ≡ true) × (list_all numbers_fit cs ≡ true)
+    both = and_parts (numbers_fit c) (list_all numbers_fit cs) fit
+
+one_more_not : (cs : List Comparator) (c : Comparator) → list_any overflows cs ≡ false → overflows c ≡ false → list_any overflows (cs ++ c ∷ []) ≡ false
+one_more_not [] c none n = rw n refl
+one_more_not (d ∷ cs) c none n = elim (cases_Bool (overflows d)) [
+  | inl y ↦ cc (rw y at none)
+  | inr not_this ↦ rw not_this (one_more_not cs c (rw not_this at none) n)
+]
+
+no_list : (f : Flavour) {text : List ℕ} {cs : List Comparator} → IsComparators f text cs → HasNone (IsComparator f) text → ⊥
+no_list f (last_item {a} {v} h) n = n.none a [] v (sym (append-nil a)) h
+no_list f (closed_item {a} {s} {v} h k) n = n.none a s v refl h
+no_list f (more_items {a} {s} {b} {v} h k l) n = n.none a (s ++ b) v refl h
+
+module _ (f : Flavour) (cuts : IsCutting f) (text : List ℕ) where
+  -- a hyphen range, or a list with these comparators
+  hyphen_or_list : (cs : List Comparator) → IsPiece f text cs → list_all sums_fit cs ≡ false → (IsComparators f text cs → ⊥) → IsBoundAt f text 0
+  hyphen_or_list [] h large never = cc large
+  hyphen_or_list (c ∷ cs) h large never = by f cuts h never
+    where
+      by : (g : Flavour) → IsCutting g → IsPiece g text (c ∷ cs) → (IsComparators g text (c ∷ cs) → ⊥) → IsBoundAt g text 0
+      by Npm npm (this h) never = hyphen_range h
+      by Npm npm (that h) never = absurd (never h)
+      by Normal normal h never = absurd (never h)
+      by Specifier k h never = elim k [ ]
+
+  module _ (rejected : IsPieceRejection f text BoundTooLarge) where
+    pub no_comparator : HasNone (IsComparator f) text → IsBoundAt f text 0
+    no_comparator n = elim rejected [
+      | large_bound cs h fit large ↦ hyphen_or_list cs h large (λ list. no_list f list n)
+    ]
+
+    -- the longest list overflows nowhere
+    pub none_overflows : {items : List Comparator} {rest : List ℕ} → IsLongest (IsComparators f) text items rest → list_any overflows items ≡ false → IsBoundAt f text 0
+    none_overflows {items} {rest} l none = elim rejected [
+      | large_bound cs h fit large ↦ hyphen_or_list cs h large (λ list.
+          let longest = l.longest text [] cs (sym (append-nil text)) list in
+          let even : length text ≡ length l.front = omega (arith, longest.0, ap length l.text_is, length-append l.front rest) in
+          both_ways (list_any overflows cs) (ap (list_any overflows) (longest.1 even) ∙ none) (some_overflows cs fit large))
+    ]
+
+module _ (f : Flavour) (text : List ℕ) where
+  pub first_overflows : {c : Comparator} {rest : List ℕ} → IsLongest (IsComparator f) text c rest → overflows c ≡ true → IsBoundAt f text 0
+  first_overflows l y = comparator refl none_before refl l y
+
+  -- with a separator behind it, each comparator so far is followed
+  abbrev pub AreBefore : List Comparator → List ℕ → Type 0
+  AreBefore items rest = (separator next : List ℕ) → IsSeparator f separator tt → rest ≡ separator ++ next → (before : List ℕ) × (text ≡ before ++ next) × AreFollowed f items before
+
+  pub first_before : (c : Comparator) {rest : List ℕ} → IsLongest (IsComparator f) text c rest → AreBefore (c ∷ []) rest
+  first_before c {rest} l = λ separator next h e. (l.front ++ separator, l.text_is ∙ (ap (λ t. l.front ++ t) e ∙ sym (append_assoc l.front separator next)), one_more c l.front separator none_before l.stands h)
+
+  module _ (items : List Comparator) {rest next : List ℕ} (so_far : AreBefore items rest) (s : IsLongest (IsSeparator f) rest tt next) where
+    at_next : (before : List ℕ) × (text ≡ before ++ next) × AreFollowed f items before
+    at_next = so_far s.front next s.stands s.text_is
+
+    pub next_before : (c : Comparator) {more : List ℕ} → IsLongest (IsComparator f) next c more → AreBefore (items ++ c ∷ []) more
+    next_before c {more} l = λ separator after h e.
+        let whole : text ≡ (at_next.0 ++ (l.front ++ separator)) ++ after =
+        at_next.1 ∙ (ap (λ t. at_next.0 ++ t) (l.text_is ∙ (ap (λ t. l.front ++ t) e ∙ sym (append_assoc l.front separator after))) ∙ sym (append_assoc at_next.0 (l.front ++ separator) after)) in
+        (at_next.0 ++ (l.front ++ separator), whole, one_more c l.front separator at_next.2 l.stands h)
+
+    pub next_overflows : {c : Comparator} {more : List ℕ} (place : ℕ) → place ≡ length text - length next → list_any overflows items ≡ false → IsLongest (IsComparator f) next c more → overflows c ≡ true → IsBoundAt f text place
+    next_overflows place there none l y =
+        let size : length at_next.0 ≡ place = omega (arith, there, ap length at_next.1, length-append at_next.0 next) in
+        subst (IsBoundAt f text) size (comparator at_next.1 at_next.2 none l y)
+
+pub one_more_none : (cs : List Comparator) (c : Comparator) {b : Bool} → list_any overflows cs ≡ false → b ≡ overflows c → b ≡ false → list_any overflows (cs ++ c ∷ []) ≡ false
+one_more_none cs c none e n = one_more_not cs c none (sym e ∙ n)
+
+-- ---- the strict grammar
+
+pub strict_bound : {text : List ℕ} → IsStrictRejection text BoundTooLarge → IsBoundAt Specifier text 0
+strict_bound r = elim r [
+  | front_bound l fit large ↦ comparator refl none_before refl l (rw (fit, large) refl)
+]

@@ -1,0 +1,59 @@
+use Rattle.std.proofs.Common.{[], ◌∷◌, ◌++◌, rules, refl, sym, ◌∙◌}
+use Rattle.semver_base.proofs.Lists.{so_far_more, so_far_one}
+use Rattle.semver_req.specs.Written.{comparator_of}
+use Rattle.semver_req.proofs.LargeBounds.{first_before, first_overflows, next_before, next_overflows, no_comparator, none_overflows, one_more_none}
+use Rattle.semver_req.proofs.PieceReadings.{list_shorter, listing}
+use Rattle.semver_req.proofs.error_places.causes.large_bound.Goals as goal
+
+pub returns-in_default-clause-place : goal.returns-in_default-clause-place
+returns-in_default-clause-place c = no_comparator c.args.flavour c.requires.cuts c.args.piece.now c.requires.rejected (rw c.in_default.is at c.in_ok-first.ensures)
+
+pub returns-then-branch-clause-place : goal.returns-then-branch-clause-place
+returns-then-branch-clause-place c =
+    let front = rw c.in-Some.is at c.in_ok-first.ensures in
+    first_overflows c.args.flavour c.args.piece.now front.longest (search rules)
+
+pub loop-next-init : goal.loop-next-init
+loop-next-init c =
+    let front = rw c.in-Some.is at c.in_ok-first.ensures in
+    record {
+      is_text = search rules;
+      items = comparator_of c.in-Some.first.operator front.partial ∷ [];
+      so_far = so_far_one (listing c.args.flavour) front.longest;
+      none = search rules;
+      before = first_before c.args.flavour c.args.piece.now (comparator_of c.in-Some.first.operator front.partial) front.longest;
+    }
+
+pub loop-next-preserved : goal.loop-next-preserved
+loop-next-preserved c =
+    let i = c.loop-next.invariant in
+    let front = rw c.in-Some-2.is at c.in_ok-written.ensures in
+    let next = comparator_of c.in-Some-2.written.operator front.partial in
+    record {
+      is_text = search rules;
+      items = i.items ++ next ∷ [];
+      so_far = so_far_more (listing c.args.flavour) i.so_far c.in-Some-after_separator.ensures front.longest;
+      none = one_more_none i.items next i.none (c.in_ok-overflows-2.ensures.value front.partial front.seen) c.if-branch-2.false;
+      before = next_before c.args.flavour c.args.piece.now i.items i.before c.in-Some-after_separator.ensures next front.longest;
+    }
+
+pub loop-next-smaller : goal.loop-next-smaller
+loop-next-smaller c =
+    let front = rw c.in-Some-2.is at c.in_ok-written.ensures in
+    list_shorter c.args.flavour c.in-Some-after_separator.ensures front.longest
+
+pub returns-in_default-2-clause-place : goal.returns-in_default-2-clause-place
+returns-in_default-2-clause-place c =
+    let i = c.loop-next.invariant in
+    none_overflows c.args.flavour c.requires.cuts c.args.piece.now c.requires.rejected (i.so_far.at_separator _ _ c.in-Some-after_separator.ensures (rw c.in_default-2.is at c.in_ok-written.ensures)) i.none
+
+pub returns-then-branch-2-clause-place : goal.returns-then-branch-2-clause-place
+returns-then-branch-2-clause-place c =
+    let i = c.loop-next.invariant in
+    let front = rw c.in-Some-2.is at c.in_ok-written.ensures in
+    next_overflows c.args.flavour c.args.piece.now i.items i.before c.in-Some-after_separator.ensures _ refl i.none front.longest (sym (c.in_ok-overflows-2.ensures.value front.partial front.seen) ∙ c.if-branch-2.true)
+
+pub returns-clause-place : goal.returns-clause-place
+returns-clause-place c =
+    let i = c.loop-next.invariant in
+    none_overflows c.args.flavour c.requires.cuts c.args.piece.now c.requires.rejected (i.so_far.at_end c.in_default-after_separator.ensures) i.none
