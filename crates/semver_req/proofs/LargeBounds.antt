@@ -1,18 +1,15 @@
 -- Where a bound is too large: at the first comparator that overflows.
-use Rattle.std.proofs.Common.{◌≡◌, ◌<◌, ◌-◌, ℕ, Bool, true, false, List, [], ◌∷◌, ◌++◌, length, None, refl, sym, ap, subst, ◌∙◌, arith, inl, inr, append_assoc, append-nil, length-append}
-use Rattle.std.specs.Prelude.{◌&&◌, ◌||◌, not}
+use Rattle.std.proofs.Common.{◌≡◌, ◌-◌, ℕ, Bool, true, false, List, [], ◌∷◌, ◌++◌, length, None, refl, sym, ap, subst, ◌∙◌, arith, inl, inr, append_assoc, append-nil, length-append}
 use Rattle.std.specs.List.{list_all, list_any}
 use Rattle.std.proofs.lemmas.Bool.{and_parts, both_ways, cases_Bool}
 use Rattle.semver_base.specs.Comparators.{Comparator, comparator_line}
-use Rattle.semver_base.specs.Grammar.{HasNone, IsLongest, Listed, last_item, closed_item, more_items, this, that}
+use Rattle.semver_base.specs.Grammar.{HasNone, IsLongest, last_item, closed_item, more_items, this, that}
 use Rattle.semver_base.specs.PartialTable.{IsBoundRejection, all_fit}
 use Rattle.semver_base.specs.declared.failure.Rejection.TheVariants.{BoundTooLarge}
-use Rattle.semver_base.specs.declared.lexical.values.Measured.{Measured}
 use Rattle.semver_base.specs.declared.lexical.values.Measured.TheVariants.{Fits, TooLarge}
 use Rattle.semver_base.specs.declared.partial.Partial.{Partial}
 use Rattle.semver_req.specs.Causes.{AreFollowed, IsBoundAt, IsStrictRejection, comparator, front_bound, hyphen_range, none_before, one_more, overflows}
 use Rattle.semver_req.specs.Comparators.{IsComparator}
-use Rattle.semver_req.specs.Outcome.{IsSpecifierRange}
 use Rattle.semver_req.specs.Parsers.{Failure}
 use Rattle.semver_req.specs.Partials.{sized_partial}
 use Rattle.semver_req.specs.PieceReading.{IsPieceRejection, large_bound, numbers_fit, sums_fit}

@@ -61,6 +61,7 @@ pub mod InvalidPieces
 pub mod KindTexts
 mod ErrorCauses
 pub mod LargeBounds
+pub mod CausesWithin
 pub mod StrictRejections
 pub mod Trimmed
 pub mod VersionEndings
