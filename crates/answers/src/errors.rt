@@ -9,11 +9,11 @@ ghost use Rattle.semver_req.specs.Viable.{IsErrorPlace, IsVersionText};
 ghost use Rattle.answers.specs.Errors.{IsErrorsText, error_json, errors_json, expected_json, expected_names, kind_name};
 
 use crate::packages::text_json;
+use semver_req::common::values::Flavour;
 use semver_req::error_places::causes::Cause;
 use semver_req::error_places::expected::{Expected, Kind};
 use semver_req::error_places::pieces::{InvalidPiece, invalid_pieces};
 use semver_req::error_places::versions::version_error_place;
-use semver_req::common::values::Flavour;
 use serde_json::{Value, json};
 use std::alloc::{AllocError, Global};
 

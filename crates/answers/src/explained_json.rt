@@ -18,8 +18,8 @@ use crate::packages::text_json;
 use crate::parts::bound_json;
 use crate::questions::text_of_version;
 use deno_semver::{PreRelease, RangeBound, Version};
-use semver_req::error_places::pieces::InvalidPiece;
 use semver_req::common::values::Flavour;
+use semver_req::error_places::pieces::InvalidPiece;
 use serde_json::{Value, json};
 use std::alloc::{AllocError, Global};
 
