@@ -216,6 +216,7 @@ impl fmt::Display for Expectation<'_> {
         match &error.cause {
             Cause::NumberTooLarge => f.write_str("the number exceeds 18446744073709551615"),
             Cause::BoundTooLarge => f.write_str("a bound exceeds 18446744073709551615"),
+            Cause::Empty => f.write_str("expected a range"),
             Cause::NoTag => f.write_str("neither a range nor a tag goes on like this"),
             Cause::Unexpected(expected) => {
                 let names = Names {
