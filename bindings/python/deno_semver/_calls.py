@@ -190,8 +190,7 @@ def fail_range(code: int, text: str, grammar: int, index: Optional[int] = None) 
     source = text.encode()
     message = _written("normal", grammar, source, len(source))
     errors = json.loads(_written("errors", grammar, source, len(source)))
-    # By the strict grammar the place of a number that is too large isn't known.
-    raise invalid_range(text, message, errors[0], index) if errors else InvalidRange(message, text, index)
+    raise invalid_range(text, message, errors[0], index)
 
 
 def fail_version(code: int, text: str, index: Optional[int] = None) -> NoReturn:

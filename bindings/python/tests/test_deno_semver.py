@@ -110,8 +110,8 @@ class Errors(unittest.TestCase):
             ("\u3000<é>", "normalized", 1, 4),
             ("😀", "npm", 0, 1),
             ("", "strict", 0, 0),
-            ("^99999999999999999999", "npm", 1, 21),
-            ("^99999999999999999999", "strict", None, None),
+            ("^99999999999999999999", "npm", 20, 21),
+            ("^99999999999999999999", "strict", 20, 21),
         ):
             with self.subTest(text=text, grammar=grammar), self.assertRaises(semver.InvalidRange) as caught:
                 Range(text, grammar)

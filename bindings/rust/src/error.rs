@@ -53,8 +53,7 @@ impl ParseErrorFailureError {
     /// Where the text is invalid: that of the requirement, in its first invalid alternative, or that of the version, without a package
     /// before it. It is found by this call, in some 50 µs for a short requirement.
     ///
-    /// None if it isn't known: of a path behind a package, of a number that is too large for the strict grammar, and of
-    /// [`Version::from_parts`](crate::Version::from_parts).
+    /// None if it isn't known: of a path behind a package, and of [`Version::from_parts`](crate::Version::from_parts).
     ///
     /// ```
     /// use deno_semver_proved::VersionReq;

@@ -119,7 +119,7 @@ fn places_of_errors() {
     let normalized = VersionReq::parse_from_normalized("1 || <é || 1..2").unwrap_err();
     assert_eq!(span(normalized.source), Some((6, 9)));
     let strict = |text| VersionReq::parse_from_specifier(text).unwrap_err().source;
-    assert_eq!((span(strict("")), span(strict("^99999999999999999999"))), (Some((0, 0)), None));
+    assert_eq!((span(strict("")), span(strict("^99999999999999999999"))), (Some((0, 0)), Some((20, 21))));
     let version = |text| parse_npm_version(text).unwrap_err().source;
     assert_eq!(version("1.2").place(), Some(Place { start: 3, end: 3, expected: Vec::new() }));
     assert_eq!(span(version("\u{3000}1.é")), Some((5, 7)));
