@@ -39,8 +39,14 @@ function preReleasesText({ preReleases }) {
   return preReleases.length ? `pre-releases of ${preReleases.join(' and ')}` : 'no pre-releases';
 }
 
+/** The text as `ranges` prints it, with control characters escaped. */
+function shown(text) {
+  return text.replace(/[^\t\P{Cc}]/gu, (c) => `\\u{${c.codePointAt(0).toString(16)}}`);
+}
+
 /** The line that `ranges explain` prints of an alternative. */
-function lineOf({ text, error, ...meaning }) {
+function lineOf({ text: raw, error, ...meaning }) {
+  const text = shown(raw);
   const { start, end, lowest } = meaning;
   if (error) return `"${text}": left out: ${error.message}`;
   if (lowest === null) return `"${text}": no version matches`;
@@ -50,7 +56,7 @@ function lineOf({ text, error, ...meaning }) {
 
 function linesOf(text, options) {
   const { alternatives, canonical, tag } = explain(text, options);
-  if (tag !== undefined) return [`"${tag}": a tag, a name that a registry gives a version`];
+  if (tag !== undefined) return [`"${shown(tag)}": a tag, a name that a registry gives a version`];
   return [...alternatives.map(lineOf), `canonical form: ${canonical}`];
 }
 
