@@ -82,7 +82,8 @@ fn places_in_order(
     mut all: Vec<Placed<'_>>,
     order: Order,
 ) -> Result<Vec<usize>, AllocError>
-    ensures { IfOk result (λ places. AreSortedPlaces order (map standing all.entry.items) places.items) }
+    ensures { IfOk result
+        (λ places. AreSortedPlaces order (map standing all.entry.items) places.items) }
 {
     all.sort_by(|one, other| order.compare_placed(one, other))?;
     places_of(alloc, all.as_slice())
@@ -106,7 +107,8 @@ pub fn sorted_places(
     versions: Vec<Version>,
     order: Order,
 ) -> Result<Vec<usize>, AllocError>
-    ensures { IfOk result (λ places. AreSortedPlaces order (standing_from 0 versions.items) places.items) }
+    ensures { IfOk result
+        (λ places. AreSortedPlaces order (standing_from 0 versions.items) places.items) }
 {
     let all = with_places(alloc, versions.as_slice())?;
     places_in_order(alloc, all, order)
@@ -118,7 +120,8 @@ pub fn sorted_lines(
     lines: &[Option<Version>],
     order: Order,
 ) -> Result<Vec<usize>, AllocError>
-    ensures { IfOk result (λ places. AreSortedPlaces order (standing_lines 0 lines.now) places.items) }
+    ensures { IfOk result
+        (λ places. AreSortedPlaces order (standing_lines 0 lines.now) places.items) }
 {
     let all = lines_with_places(alloc, lines)?;
     places_in_order(alloc, all, order)

@@ -88,9 +88,6 @@ pub record AreSizes (N : ℕ → Type 0) : Type 0 where
   pub one : N 1
   pub shorter : (x : ℕ) (p u : List ℕ) → N (digits_value 10 ((x ∷ p) ++ u)) → N (digits_value 10 (x ∷ p))
 
-pub any_size : AreSizes Any
-any_size = record { one = tt; shorter = λ x p u h. tt }
-
 pub front_below : (x : ℕ) (p u : List ℕ) → digits_value 10 (x ∷ p) ≤ digits_value 10 ((x ∷ p) ++ u)
 front_below x p u = subst (λ t. digits_value 10 t ≤ digits_value 10 ((x ∷ p) ++ u)) (take_at (x ∷ p) u (length (x ∷ p)) refl) (digits_value-take-le 10 ((x ∷ p) ++ u) (length (x ∷ p)) (omega arith))
 
