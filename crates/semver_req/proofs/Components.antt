@@ -14,7 +14,7 @@ use Rattle.semver_base.proofs.Fronts.{NoClash, NonEmpty, joined, prefixed_some}
 use Rattle.semver_base.proofs.Bytes.{BeginsBy, GoesBy}
 use Rattle.semver_base.proofs.Numbers.{loose_begins, loose_end, loose_goes, loose_some, number_is_loose}
 use Rattle.semver_base.proofs.Qualifiers.{strict_no_digit}
-use Rattle.semver_req.specs.Partials.{IsComponent, IsThird, component_of, is_wildcard, sized_component, sized_third, strictness_of}
+use Rattle.semver_req.specs.Partials.{IsComponent, IsThird, component_of, is_wildcard, sized_component, strictness_of}
 use Rattle.semver_req.specs.declared.common.values.Flavour.{Flavour}
 use Rattle.semver_req.specs.declared.common.values.Flavour.TheVariants.{Npm, Normal, Specifier}
 
@@ -146,10 +146,6 @@ component_clash f = record {
       seam (component_goes_first f x a m v u short long) ((component_goes f).goes x (record { front = a; more = m; short_value = v; long_value = u; short = short; long = long }));
 }
 
--- what the parser of the third part returns
-pub third_read : (f : Flavour) {text after middle rest : List ℕ} {answer : Measured XRange} {q : Qualifier} → text ≡ 46 ∷ after → IsSeen sized_component (IsComponent f) after answer middle → IsLongest (IsQualifier (strictness_of f)) middle q rest → IsSeen sized_third (IsThird f) text (record { patch = answer; qualifier = q }) rest
-third_read f {rest = rest} {q = q} e a b = record {
-  value = (a.value, q);
-  longest = prefixed_some e (joined (component_clash f) a.longest b (component_end f a.longest b.front rest q b.text_is b.stands));
-  seen = rw a.seen refl;
-}
+-- the longest third part
+pub third_longest : (f : Flavour) {text after middle rest : List ℕ} {v : XRange} {q : Qualifier} → text ≡ 46 ∷ after → IsLongest (IsComponent f) after v middle → IsLongest (IsQualifier (strictness_of f)) middle q rest → IsLongest (IsThird f) text (v, q) rest
+third_longest f {rest = rest} {q = q} e a b = prefixed_some e (joined (component_clash f) a b (component_end f a b.front rest q b.text_is b.stands))

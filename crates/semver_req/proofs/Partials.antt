@@ -1,9 +1,10 @@
 -- Leading partial versions.
-use Rattle.std.proofs.Common.{◌≡◌, ℕ, Bool, true, false, List, [], ◌∷◌, Option, Some, None, refl, ap, ap₂, ◌∙◌, arith, ◌==◌}
+use Rattle.std.proofs.Common.{◌≡◌, ℕ, Bool, true, false, List, [], ◌∷◌, Option, Some, None, refl, ap, ◌∙◌, arith, append_assoc, ◌++◌, ◌==◌}
 use Rattle.std.specs.Prelude.{◌&&◌, if◌then◌else◌}
 use Rattle.std.specs.Char.{is_ascii_digit}
 use Rattle.std.proofs.lemmas.Bool.Decides.{nat_tests}
-use Rattle.semver_base.specs.Grammar.{ReadsAs, IsSeen, HasNone, Prefixed, Optional}
+use Rattle.semver_base.specs.Grammar.{ReadsAs, IsLongest, IsSeen, HasNone, Joined, Prefixed, Optional}
+use Rattle.semver_base.specs.Lexical.{IsQualifier}
 use Rattle.semver_base.specs.declared.lexical.values.Measured.{Measured}
 use Rattle.semver_base.specs.declared.lexical.values.Measured.TheVariants.{Fits, TooLarge}
 use Rattle.semver_base.specs.declared.lexical.values.Qualifier.{Qualifier}
@@ -11,21 +12,11 @@ use Rattle.semver_base.specs.declared.partial.Partial.{Partial}
 use Rattle.semver_base.specs.declared.partial.XRange.{XRange}
 use Rattle.semver_base.specs.declared.partial.XRange.TheVariants.{Wildcard}
 use Rattle.semver_base.proofs.Fronts.{Apart, NonEmpty, either_none, either_that, either_this, prefixed_none, prefixed_other, followed, mapped, prefixed_some, optional_none, optional_some}
-use Rattle.semver_base.proofs.Bytes.{BeginsBy, Disjoint, apart_by, joined_begins, joined_some_text, mapped_begins, mapped_some_text, none_by_byte, prefixed_begins, optional_begins}
-use Rattle.semver_req.specs.Partials.{IsComponent, IsPartial, IsBarePartial, IsSecond, IsThird, assembled, assembled_by, component_fits, partial_of, second_or_none, sized_component, sized_partial, sized_second, third_or_none}
-use Rattle.semver_req.specs.declared.common.FromMinor.{FromMinor}
-use Rattle.semver_req.specs.declared.common.FromPatch.{FromPatch}
+use Rattle.semver_base.proofs.Bytes.{BeginsBy, Disjoint, apart_by, joined_begins, joined_some_text, mapped_begins, mapped_some_text, none_by_byte, prefixed_begins, prefixed_some_text, optional_begins}
+use Rattle.semver_req.specs.Partials.{IsComponent, IsPartial, IsBarePartial, assembled, component_fits, partial_of, sized_component, sized_partial, strictness_of}
 use Rattle.semver_req.specs.declared.common.values.Flavour.{Flavour}
 use Rattle.semver_req.specs.declared.common.values.Flavour.TheVariants.{Npm}
-use Rattle.semver_req.proofs.Components.{component_begins, component_goes, component_some, is_component_byte}
-
--- an optional part, as its parser sees it
-module _ {V X : Type 0} {A : List ℕ → V → Type 0} {see : V → X} (or : Option V → X) where
-  pub optional_seen : {text rest : List ℕ} {answer : X} → ((v : V) → see v ≡ or (Some v)) → NonEmpty A → IsSeen see A text answer rest → IsSeen or (Optional A) text answer rest
-  optional_seen same some h = record { value = Some h.value; longest = optional_some some h.longest; seen = h.seen ∙ same h.value }
-
-pub optional_unseen : {V X : Type 0} {A : List ℕ → V → Type 0} (or : Option V → X) {text : List ℕ} → HasNone A text → IsSeen or (Optional A) text (or None) text
-optional_unseen or h = record { value = None; longest = optional_none h; seen = refl }
+use Rattle.semver_req.proofs.Components.{component_begins, component_goes, component_some, is_component_byte, third_longest}
 
 -- ---- a component, and what begins with a dot
 
@@ -35,36 +26,54 @@ digit_no_dot x h k = grind (arith, nat_tests)
 pub component_dot_apart : {V : Type 0} {A : List ℕ → V → Type 0} (f : Flavour) → Apart (IsComponent f) (Optional (Prefixed 46 A))
 component_dot_apart f = apart_by is_ascii_digit (λ x. x == 46) digit_no_dot (component_goes f) (optional_begins (prefixed_begins 46))
 
-pub second_read : (f : Flavour) {text after middle rest : List ℕ} {minor : Measured XRange} {third : FromPatch} → text ≡ 46 ∷ after → IsSeen sized_component (IsComponent f) after minor middle → IsSeen third_or_none (Optional (IsThird f)) middle third rest → IsSeen sized_second (IsSecond f) text (record { minor = minor; patch = third.patch; qualifier = third.qualifier }) rest
-second_read f e a b = record {
-  value = (a.value, b.value);
-  longest = prefixed_some e (followed (component_dot_apart f) a.longest b.longest);
-  seen = rw (a.seen, ap (λ (t : FromPatch). t.patch) b.seen, ap (λ (t : FromPatch). t.qualifier) b.seen) refl;
-}
+-- without a dot and a component there is no part that begins with both
+dotted_none : {V W : Type 0} {S : List ℕ → List ℕ → Type 0} {A : List ℕ → V → Type 0} {B : List ℕ → W → Type 0} {text : List ℕ} → HasNone (Prefixed 46 A) text → HasNone (Prefixed 46 (Joined S A B)) text
+dotted_none {V} {W} {S} {A} {B} {text} p = record { none = go }
+  where
+    go : (a b : List ℕ) (w : V × W) → text ≡ a ++ b → Prefixed 46 (Joined S A B) a w → ⊥
+    go [] b w e h = h
+    go (x ∷ a) b w e h = p.none (x ∷ h.1.first) (h.1.second ++ b) w.0 (e ∙ ap (λ t. x ∷ t) (ap (λ t. t ++ b) h.1.text_is ∙ append_assoc h.1.first h.1.second b)) (h.0, h.1.in_first)
 
 -- ---- the whole
 
 sized_by : (b c d : Bool) (m n p : XRange) (q : Qualifier)
-    → assembled_by (if b then Fits m else TooLarge) (if c then Fits n else TooLarge) (if d then Fits p else TooLarge) q ≡ (if b && c && d then Fits (record { major = m; minor = n; patch = p; pre = q.pre; build = q.build }) else TooLarge)
+    → assembled (if b then Fits m else TooLarge) (if c then Fits n else TooLarge) (if d then Fits p else TooLarge) q ≡ (if b && c && d then Fits (record { major = m; minor = n; patch = p; pre = q.pre; build = q.build }) else TooLarge)
 sized_by true true true m n p q = refl
 sized_by true true false m n p q = refl
 sized_by true false d m n p q = refl
 sized_by false c d m n p q = refl
 
-assembled_is : (m n p : XRange) (q : Qualifier) → assembled_by (sized_component m) (sized_component n) (sized_component p) q ≡ sized_partial (record { major = m; minor = n; patch = p; pre = q.pre; build = q.build })
+assembled_is : (m n p : XRange) (q : Qualifier) → assembled (sized_component m) (sized_component n) (sized_component p) q ≡ sized_partial (record { major = m; minor = n; patch = p; pre = q.pre; build = q.build })
 assembled_is m n p q = sized_by (component_fits m) (component_fits n) (component_fits p) m n p q
 
-sized_whole : (m : XRange) (s : Option (XRange × Option (XRange × Qualifier))) → assembled (sized_component m) (second_or_none s) ≡ sized_partial (partial_of (m, s))
-sized_whole m None = assembled_is m Wildcard Wildcard (record { pre = []; build = [] })
-sized_whole m (Some (n, None)) = assembled_is m n Wildcard (record { pre = []; build = [] })
-sized_whole m (Some (n, Some (p, q))) = assembled_is m n p q
+abbrev unqualified : Qualifier
+unqualified = record { pre = []; build = [] }
 
-pub partial_read : (f : Flavour) {text middle rest : List ℕ} {major : Measured XRange} {second : FromMinor} {answer : Measured Partial} → answer ≡ assembled major second → IsSeen sized_component (IsComponent f) text major middle → IsSeen second_or_none (Optional (IsSecond f)) middle second rest → IsSeen sized_partial (IsBarePartial f) text answer rest
-partial_read f e a b = record {
-  value = partial_of (a.value, b.value);
-  longest = mapped (followed (component_dot_apart f) a.longest b.longest);
-  seen = e ∙ (ap₂ assembled a.seen b.seen ∙ sized_whole a.value b.value);
-}
+module _ (f : Flavour) {text middle : List ℕ} {major : Measured XRange} (first : IsSeen sized_component (IsComponent f) text major middle) where
+  -- one component
+  pub one_read : HasNone (Prefixed 46 (IsComponent f)) middle → IsSeen sized_partial (IsBarePartial f) text (assembled major (Fits Wildcard) (Fits Wildcard) unqualified) middle
+  one_read none = record {
+    value = partial_of (first.value, None);
+    longest = mapped (followed (component_dot_apart f) first.longest (optional_none (dotted_none none)));
+    seen = rw first.seen (assembled_is first.value Wildcard Wildcard unqualified);
+  }
+
+  module _ {from_minor rest : List ℕ} {minor : Measured XRange} (dot : middle ≡ 46 ∷ from_minor) (second : IsSeen sized_component (IsComponent f) from_minor minor rest) where
+    -- two components
+    pub two_read : HasNone (Prefixed 46 (IsComponent f)) rest → IsSeen sized_partial (IsBarePartial f) text (assembled major minor (Fits Wildcard) unqualified) rest
+    two_read none = record {
+      value = partial_of (first.value, Some (second.value, None));
+      longest = mapped (followed (component_dot_apart f) first.longest (optional_some (prefixed_some_text 46) (prefixed_some dot (followed (component_dot_apart f) second.longest (optional_none (dotted_none none))))));
+      seen = rw (first.seen, second.seen) (assembled_is first.value second.value Wildcard unqualified);
+    }
+
+    -- three components, and a qualifier
+    pub three_read : {from_patch after end : List ℕ} {patch : Measured XRange} {q : Qualifier} → rest ≡ 46 ∷ from_patch → IsSeen sized_component (IsComponent f) from_patch patch after → IsLongest (IsQualifier (strictness_of f)) after q end → IsSeen sized_partial (IsBarePartial f) text (assembled major minor patch q) end
+    three_read {q = q} e third qualifier = record {
+      value = partial_of (first.value, Some (second.value, Some (third.value, q)));
+      longest = mapped (followed (component_dot_apart f) first.longest (optional_some (prefixed_some_text 46) (prefixed_some dot (followed (component_dot_apart f) second.longest (optional_some (prefixed_some_text 46) (third_longest f e third.longest qualifier))))));
+      seen = rw (first.seen, second.seen, third.seen) (assembled_is first.value second.value third.value q);
+    }
 
 -- ---- npm's `v`
 

@@ -30,7 +30,7 @@ use Rattle.semver_base.proofs.Solid.{is_solid_byte}
 use Rattle.semver_req.specs.Comparators.{IsComparator, IsPrimitive, fits}
 use Rattle.semver_req.specs.RetainedSet.{retained_range, without_none}
 use Rattle.semver_req.specs.Outcome.{IsCutOutcome, one_good, Ranges}
-use Rattle.semver_req.specs.Partials.{IsComponent, IsPartial, IsBarePartial, second_or_none, sized_component, sized_partial, strictness_of, third_or_none}
+use Rattle.semver_req.specs.Partials.{IsComponent, IsPartial, IsBarePartial, sized_component, sized_partial, strictness_of}
 use Rattle.semver_req.specs.Pieces.{HasNoBar, IsComparators, IsFilled, IsPiece, one_piece}
 use Rattle.semver_req.specs.PieceReading.{as_retained, joined, read_as}
 use Rattle.semver_req.specs.PieceSteps.{IsWholeRead}
@@ -45,10 +45,10 @@ use Rattle.semver_req.specs.declared.range_set_or_tag.pieces.RangeOrInvalid.{Ran
 use Rattle.semver_req.specs.declared.range_set_or_tag.RangeSetOrTag.{RangeSetOrTag}
 use Rattle.semver_req.specs.declared.range_set_or_tag.RangeSetOrTag.TheVariants as inner
 use Rattle.semver_req.specs.Parsers.{IsReading}
-use Rattle.semver_req.proofs.Components.{component_read, third_read, wildcard_no_digit}
+use Rattle.semver_req.proofs.Components.{component_read, wildcard_no_digit}
 use Rattle.semver_req.proofs.Fitting.{fitting}
 use Rattle.semver_req.proofs.Operators.{non_primitive_some}
-use Rattle.semver_req.proofs.Partials.{not_led, optional_seen, optional_unseen, partial_read, second_read}
+use Rattle.semver_req.proofs.Partials.{not_led, one_read, three_read, two_read}
 use Rattle.semver_req.proofs.PiecesRead.{list_retained}
 use Rattle.semver_req.proofs.SpecifierRetained.{specifier_ends, specifier_retained}
 use Rattle.semver_req.proofs.SpecifierRanges.{whole_reading}
@@ -78,22 +78,14 @@ number_seen f {text} {rest} {n} p = component_read f text (λ b more wild e. wil
 
 -- ---- partial versions
 
-triple_seen : (f : Flavour) {text : List ℕ} (n : Numbers) → IsBareTriple text n.major n.minor n.patch → IsSeen sized_partial (IsBarePartial f) text (Fits (of_short (short_numbers.Three n))) []
-triple_seen f n t =
-    let third = optional_seen third_or_none (λ v. refl) (prefixed_some_text 46) (third_read f refl (number_seen f t.patch) (no_qualifier (strictness_of f))) in
-    let second = optional_seen second_or_none (λ v. refl) (prefixed_some_text 46) (second_read f refl (number_seen f t.minor) third) in
-    partial_read f refl (number_seen f t.major) second
-
 -- nothing continues with a dot
 nothing_more : {V : Type 0} {A : List ℕ → V → Type 0} → HasNone (Prefixed 46 A) []
 nothing_more = prefixed_other (λ rest e. cc e)
 
 short_bare : (f : Flavour) {text : List ℕ} (n : ShortNumbers) → IsShortNumbers text n → IsSeen sized_partial (IsBarePartial f) text (Fits (of_short n)) []
-short_bare f (short_numbers.One m) p = partial_read f refl (number_seen f p) (optional_unseen second_or_none nothing_more)
-short_bare f (short_numbers.Two m n) p =
-    let second = optional_seen second_or_none (λ v. refl) (prefixed_some_text 46) (second_read f refl (number_seen f p.minor) (optional_unseen third_or_none nothing_more)) in
-    partial_read f refl (number_seen f p.major) second
-short_bare f (short_numbers.Three n) t = triple_seen f n t
+short_bare f (short_numbers.One m) p = one_read f (number_seen f p) nothing_more
+short_bare f (short_numbers.Two m n) p = two_read f (number_seen f p.major) refl (number_seen f p.minor) nothing_more
+short_bare f (short_numbers.Three n) t = three_read f (number_seen f t.major) refl (number_seen f t.minor) refl (number_seen f t.patch) (no_qualifier (strictness_of f))
 
 short_begins : {text : List ℕ} (n : ShortNumbers) → IsShortNumbers text n → (b : ℕ) (more : List ℕ) → text ≡ b ∷ more → is_ascii_digit b ≡ true
 short_begins (short_numbers.One m) p = first_digit p.loose

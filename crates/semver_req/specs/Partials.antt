@@ -1,8 +1,8 @@
 -- Partial versions in the three grammars of requirements. Numbers are of any size. Source: node-semver's range grammar (`xr`,
 -- `partial`, `qualifier`); the normalized and the strict grammar are narrower.
-use Rattle.std.specs.Prelude.{ℕ, List, [], Bool, true, ◌||◌, ◌&&◌, ◌==◌, Option, Some, None, if◌then◌else◌, drop}
+use Rattle.std.specs.Prelude.{◌≡◌, ◌∷◌, ℕ, List, [], Bool, true, ◌||◌, ◌&&◌, ◌==◌, Option, Some, None, if◌then◌else◌, drop}
 use Rattle.semver_base.specs.Characters.{asterisk, capital_x, dot, letter_v, letter_x}
-use Rattle.semver_base.specs.Grammar.{Either, Followed, IsLongest, Joined, Mapped, Prefixed, OneByte, Optional, ReadsAs}
+use Rattle.semver_base.specs.Grammar.{Either, Followed, HasNone, IsLongest, IsSeen, Joined, Mapped, Prefixed, OneByte, Optional, ReadsAs}
 use Rattle.semver_base.specs.Lexical.{IsNumber, IsNumberEnd, IsQualifier}
 use Rattle.semver_base.specs.PartialTable.{number_fits}
 use Rattle.semver_base.specs.declared.lexical.values.Measured.{Measured}
@@ -13,8 +13,6 @@ use Rattle.semver_base.specs.declared.lexical.values.Strictness.TheVariants.{Loo
 use Rattle.semver_base.specs.declared.partial.Partial.{Partial}
 use Rattle.semver_base.specs.declared.partial.XRange.{XRange}
 use Rattle.semver_base.specs.declared.partial.XRange.TheVariants.{Wildcard, Val}
-use Rattle.semver_req.specs.declared.common.FromMinor.{FromMinor}
-use Rattle.semver_req.specs.declared.common.FromPatch.{FromPatch}
 use Rattle.semver_req.specs.declared.common.values.Flavour.{Flavour}
 use Rattle.semver_req.specs.declared.common.values.Flavour.TheVariants.{Npm, Normal, Specifier}
 
@@ -86,34 +84,19 @@ abbrev pub component_of : Measured ℕ → Measured XRange
 component_of (Fits n) = Fits (Val n)
 component_of TooLarge = TooLarge
 
-abbrev pub sized_third : XRange × Qualifier → FromPatch
-sized_third v = record { patch = sized_component v.0; qualifier = v.1 }
-
--- a missing third part is a wildcard without a qualifier
-abbrev pub third_or_none : Option (XRange × Qualifier) → FromPatch
-third_or_none None = record { patch = Fits Wildcard; qualifier = record { pre = []; build = [] } }
-third_or_none (Some v) = sized_third v
-
--- the minor component, and the third part
-abbrev pub sized_second : XRange × Option (XRange × Qualifier) → FromMinor
-sized_second v =
-    record { minor = sized_component v.0; patch = (third_or_none v.1).patch; qualifier = (third_or_none v.1).qualifier }
-
-abbrev pub second_or_none : Option (XRange × Option (XRange × Qualifier)) → FromMinor
-second_or_none None =
-    record { minor = Fits Wildcard; patch = Fits Wildcard; qualifier = record { pre = []; build = [] } }
-second_or_none (Some v) = sized_second v
-
-abbrev pub assembled_by : Measured XRange → Measured XRange → Measured XRange → Qualifier → Measured Partial
-assembled_by (Fits m) (Fits n) (Fits p) q =
-    Fits (record { major = m; minor = n; patch = p; pre = q.pre; build = q.build })
-assembled_by TooLarge n p q = TooLarge
-assembled_by (Fits m) TooLarge p q = TooLarge
-assembled_by (Fits m) (Fits n) TooLarge q = TooLarge
-
 -- the partial version of these components, if none is too large
-abbrev pub assembled : Measured XRange → FromMinor → Measured Partial
-assembled major second = assembled_by major second.minor second.patch second.qualifier
+abbrev pub assembled : Measured XRange → Measured XRange → Measured XRange → Qualifier → Measured Partial
+assembled (Fits m) (Fits n) (Fits p) q =
+    Fits (record { major = m; minor = n; patch = p; pre = q.pre; build = q.build })
+assembled TooLarge n p q = TooLarge
+assembled (Fits m) TooLarge p q = TooLarge
+assembled (Fits m) (Fits n) TooLarge q = TooLarge
+
+-- the component behind a `.`, and what follows it; or None if the text doesn't begin with both
+abbrev pub ReadsDotted : Flavour → List ℕ → Option (Measured XRange × List ℕ) → Type 0
+ReadsDotted f text None = HasNone (Prefixed dot (IsComponent f)) text
+ReadsDotted f text (Some p) =
+    (after : List ℕ) × (text ≡ dot ∷ after) × IsSeen sized_component (IsComponent f) after p.0 p.1
 
 -- a parser's result at a position in a text, as one on the text from there on
 abbrev pub answer_at : {X : Type 0} → List ℕ → Option (X × ℕ) → Option (X × List ℕ)

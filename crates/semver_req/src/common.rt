@@ -9,7 +9,7 @@ ghost use Rattle.semver_base.specs.Characters.{ampersand, bar};
 ghost use Rattle.semver_base.specs.Grammar.{IsAfterOne, IsSeen, Optional, Reads, ReadsAs, answer_of};
 ghost use Rattle.semver_base.specs.Lexical.{IsQualifier};
 ghost use Rattle.semver_req.specs.Comparators.{IsMaybeEqual, IsPrimitive, IsPrimitiveKind, primitive_of, sized_primitive};
-ghost use Rattle.semver_req.specs.Partials.{IsComponent, IsLongestAt, IsPartial, IsBarePartial, IsSecond, IsThird, ReadsAt, answer_at, assembled, component_of, is_wildcard, second_or_none, sized_component, sized_partial, sized_second, sized_third, strictness_of, third_or_none};
+ghost use Rattle.semver_req.specs.Partials.{IsComponent, IsLongestAt, IsPartial, IsBarePartial, ReadsAt, ReadsDotted, answer_at, assembled, component_of, is_wildcard, sized_component, sized_partial, strictness_of};
 ghost use Rattle.semver_req.specs.Pieces.{IsOperator, place_answer};
 
 pub mod comparator;
@@ -66,118 +66,24 @@ fn component(text: &str, flavour: Flavour) -> Option<(Measured<XRange>, &str)>
     Some((component_of(value), rest))
 }
 
-// The third component and the qualifier.
-struct FromPatch {
-    patch: Measured<XRange>,
-    qualifier: Qualifier,
-}
-
-// Parses `.`, a component and a qualifier.
+// Parses `.` and a component.
 #[inline(always)]
-fn third(
-    alloc: Global,
-    text: &str,
-    flavour: Flavour,
-) -> Result<Option<(FromPatch, &str)>, AllocError>
-    ensures { IfOk result (λ r. ReadsAs sized_third (IsThird flavour) text.now (answer_of r)) }
+fn dotted_component(text: &str, flavour: Flavour) -> Option<(Measured<XRange>, &str)>
+    ensures { ReadsDotted flavour text.now (answer_of result) }
 {
-    let Some(rest) = after(text, '.') else {
-        return Ok(None);
-    };
-    let Some((patch, rest)) = component(rest, flavour) else {
-        return Ok(None);
-    };
-    let (qualifier, rest) = lexical::qualifier(alloc, rest, flavour.strictness())?;
-    Ok(Some((FromPatch { patch, qualifier }, rest)))
-}
-
-// Parses the third part, or a wildcard if it is missing.
-#[inline(always)]
-fn optional_third(
-    alloc: Global,
-    text: &str,
-    flavour: Flavour,
-) -> Result<(FromPatch, &str), AllocError>
-    ensures { IfOk result
-        (λ r. IsSeen third_or_none (Optional (IsThird flavour)) text.now r.0 r.1.now) }
-{
-    match third(alloc, text, flavour)? {
-        Some(read) => Ok(read),
-        None => {
-            let third = FromPatch {
-                patch: Measured::Fits(XRange::Wildcard),
-                qualifier: Qualifier::new(alloc),
-            };
-            Ok((third, text))
-        }
-    }
-}
-
-// What follows the first component.
-struct FromMinor {
-    minor: Measured<XRange>,
-    patch: Measured<XRange>,
-    qualifier: Qualifier,
-}
-
-// Parses `.`, a component, and then an optional third part.
-#[inline(always)]
-fn second(
-    alloc: Global,
-    text: &str,
-    flavour: Flavour,
-) -> Result<Option<(FromMinor, &str)>, AllocError>
-    ensures { IfOk result (λ r. ReadsAs sized_second (IsSecond flavour) text.now (answer_of r)) }
-{
-    let Some(rest) = after(text, '.') else {
-        return Ok(None);
-    };
-    let Some((minor, rest)) = component(rest, flavour) else {
-        return Ok(None);
-    };
-    let (third, rest) = optional_third(alloc, rest, flavour)?;
-    let FromPatch { patch, qualifier } = third;
-    let second = FromMinor {
-        minor,
-        patch,
-        qualifier,
-    };
-    Ok(Some((second, rest)))
-}
-
-// Parses what follows the first component, or wildcards if it is missing.
-#[inline(always)]
-fn optional_second(
-    alloc: Global,
-    text: &str,
-    flavour: Flavour,
-) -> Result<(FromMinor, &str), AllocError>
-    ensures { IfOk result
-        (λ r. IsSeen second_or_none (Optional (IsSecond flavour)) text.now r.0 r.1.now) }
-{
-    match second(alloc, text, flavour)? {
-        Some(read) => Ok(read),
-        None => {
-            let second = FromMinor {
-                minor: Measured::Fits(XRange::Wildcard),
-                patch: Measured::Fits(XRange::Wildcard),
-                qualifier: Qualifier::new(alloc),
-            };
-            Ok((second, text))
-        }
-    }
+    component(after(text, '.')?, flavour)
 }
 
 // Assembles the partial version of these components, if none is too large.
 #[inline(always)]
-fn assemble(major: Measured<XRange>, second: FromMinor) -> Measured<Partial>
-    ensures { result ≡ assembled major second }
+fn assembled(
+    major: Measured<XRange>,
+    minor: Measured<XRange>,
+    patch: Measured<XRange>,
+    qualifier: Qualifier,
+) -> Measured<Partial>
+    ensures { result ≡ assembled major minor patch qualifier }
 {
-    let FromMinor {
-        minor,
-        patch,
-        qualifier,
-    } = second;
     match (major, minor, patch) {
         (Measured::Fits(major), Measured::Fits(minor), Measured::Fits(patch)) => {
             Measured::Fits(Partial {
@@ -192,6 +98,9 @@ fn assemble(major: Measured<XRange>, second: FromMinor) -> Measured<Partial>
     }
 }
 
+// A component that is missing.
+const MISSING: Measured<XRange> = Measured::Fits(XRange::Wildcard);
+
 // Parses a partial version without a `v` before it.
 #[inline(always)]
 fn bare_partial(
@@ -205,8 +114,16 @@ fn bare_partial(
     let Some((major, rest)) = component(text, flavour) else {
         return Ok(None);
     };
-    let (second, rest) = optional_second(alloc, rest, flavour)?;
-    Ok(Some((assemble(major, second), rest)))
+    let Some((minor, after_minor)) = dotted_component(rest, flavour) else {
+        let only = assembled(major, MISSING, MISSING, Qualifier::new(alloc));
+        return Ok(Some((only, rest)));
+    };
+    let Some((patch, after_patch)) = dotted_component(after_minor, flavour) else {
+        let two = assembled(major, minor, MISSING, Qualifier::new(alloc));
+        return Ok(Some((two, after_minor)));
+    };
+    let (qualifier, rest) = lexical::qualifier(alloc, after_patch, flavour.strictness())?;
+    Ok(Some((assembled(major, minor, patch, qualifier), rest)))
 }
 
 // Parses a partial version with an optional `v` before it.

@@ -229,22 +229,16 @@ impl RangeOrInvalid {
         RangeOrInvalid::by_grammar(alloc, piece, flavour)
     }
 
-    // Parses the whole piece, which isn't empty, by npm's grammar. No piece is both a hyphen range and a list, so the order is free: what
-    // it looks like is tried first.
+    // Parses the whole piece, which isn't empty, by npm's grammar. No piece is both a list and a hyphen range, so the order is free.
     #[inline(always)]
     fn npm(alloc: Global, piece: &str) -> Result<Option<RangeOrInvalid>, ParseFailure>
         ensures value { IfOk result (IsWholeRead (IsFilled Flavour.Npm) piece.now) }
         ensures memory { IfErr result (λ failure. failure ≡ None) }
     {
-        if piece.contains(" - ") {
-            if let Some(read) = RangeOrInvalid::hyphen(alloc, piece)? {
-                return Ok(Some(read));
-            }
+        match RangeOrInvalid::list(alloc, piece, Flavour::Npm)? {
+            Some(read) => Ok(Some(read)),
+            None => RangeOrInvalid::hyphen(alloc, piece),
         }
-        if let Some(read) = RangeOrInvalid::list(alloc, piece, Flavour::Npm)? {
-            return Ok(Some(read));
-        }
-        RangeOrInvalid::hyphen(alloc, piece)
     }
 
     // Parses the whole piece, which isn't empty, by the full grammar.
