@@ -10,3 +10,4 @@ pub mod Sorting
 pub mod Specifiers
 pub mod Errors
 pub mod ExplainedJson
+pub mod Object

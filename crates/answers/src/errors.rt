@@ -8,13 +8,14 @@ ghost use Rattle.semver_req.specs.InvalidPieces.{AreInvalidPieces};
 ghost use Rattle.semver_req.specs.Viable.{IsErrorPlace, IsVersionText};
 ghost use Rattle.answers.specs.Errors.{IsErrorsText, error_json, errors_json, expected_json, expected_names, kind_name};
 
+use crate::object::Object;
 use crate::packages::text_json;
 use semver_req::common::values::Flavour;
 use semver_req::error_places::causes::Cause;
 use semver_req::error_places::expected::{Expected, Kind};
 use semver_req::error_places::pieces::{InvalidPiece, invalid_pieces};
 use semver_req::error_places::versions::version_error_place;
-use serde_json::{Value, json};
+use serde_json::Value;
 use std::alloc::{AllocError, Global};
 
 /// The name of a kind of text in JSON.
@@ -69,10 +70,12 @@ pub fn expected_json(alloc: Global, cause: &Cause) -> Result<Value, AllocError>
 pub fn error_json(alloc: Global, error: &InvalidPiece) -> Result<Value, AllocError>
     ensures { IfOk result (λ json. view json ≡ error_json error.now) }
 {
-    let expected = expected_json(alloc, &error.cause)?;
-    let message = error.cause.rejection().message();
-    let (start, end) = (error.place, error.end);
-    json!(in alloc; { "end": end, "expected": expected, "message": message, "start": start })
+    Object::new(alloc)
+        .put("end", Ok(Value::from(error.end)))
+        .put("expected", expected_json(alloc, &error.cause))
+        .put_text("message", Some(error.cause.rejection().message()))
+        .put("start", Ok(Value::from(error.place)))
+        .into_json()
 }
 
 // The JSON of errors.

@@ -2,8 +2,8 @@
 
 ghost use Rattle.std.specs.Prelude.{◌≡◌, ◌++◌, IfErr, IfOk, OnOk, map, string_bytes};
 ghost use Rattle.std.specs.Option.{option_copied};
-ghost use Rattle.serde_json.specs.Data.{string};
-ghost use Rattle.serde_json.specs.View.{view};
+ghost use Rattle.serde_json.specs.Data.{array, string};
+ghost use Rattle.serde_json.specs.View.{items_of, view};
 ghost use Rattle.serde_json.specs.Written.{compact_text};
 ghost use Rattle.semver_req.specs.TextRejection.{IsTextRejection};
 ghost use Rattle.answers.specs.Asking.{IsFailureAt, IsOneAnswer};
@@ -14,13 +14,13 @@ ghost use Rattle.answers.specs.declared.asking.Kind.TheVariants as kind;
 use crate::asking::{Answer, Problem};
 use crate::errors::{error_json, errors};
 use crate::explained::{Explanation, Matches, Meaning, Piece, explain};
+use crate::object::Object;
 use crate::packages::text_json;
-use crate::parts::bound_json;
-use crate::questions::text_of_version;
+use crate::parts::{bound_json, displayed_json};
 use deno_semver::{PreRelease, RangeBound, Version};
 use semver_req::common::values::Flavour;
 use semver_req::error_places::pieces::InvalidPiece;
-use serde_json::{Value, json};
+use serde_json::Value;
 use std::alloc::{AllocError, Global};
 
 // The version of a bound that is a pre-release, if pre-releases of its numbers match.
@@ -103,7 +103,7 @@ fn lowest_json(alloc: Global, lowest: &Option<Version>) -> Result<Value, AllocEr
     ensures { IfOk result (λ json. view json ≡ lowest_json lowest.now) }
 {
     match lowest {
-        Some(version) => Ok(Value::String(text_of_version(alloc, version)?)),
+        Some(version) => displayed_json(alloc, version),
         None => Ok(Value::Null),
     }
 }
@@ -117,13 +117,16 @@ fn matches_json(
 ) -> Result<Value, AllocError>
     ensures { IfOk result (λ json. view json ≡ matches_json pre_release text.now matches.now) }
 {
-    let end = bound_json(alloc, &matches.range.end)?;
-    let start = bound_json(alloc, &matches.range.start)?;
-    let lowest = lowest_json(alloc, &matches.lowest)?;
-    let pre_releases = pre_releases_json(alloc, pre_release, matches)?;
-    json!(in alloc; {
-        "end": end, "lowest": lowest, "pre-releases": pre_releases, "start": start, "text": text
-    })
+    Object::new(alloc)
+        .put("end", bound_json(alloc, &matches.range.end))
+        .put("lowest", lowest_json(alloc, &matches.lowest))
+        .put(
+            "pre-releases",
+            pre_releases_json(alloc, pre_release, matches),
+        )
+        .put("start", bound_json(alloc, &matches.range.start))
+        .put_text("text", Some(text))
+        .into_json()
 }
 
 fn error_or_null(alloc: Global, error: Option<&InvalidPiece>) -> Result<Value, AllocError>
@@ -144,8 +147,10 @@ fn left_out_json(
     ensures { IfOk result
         (λ json. view json ≡ left_out_json text.now (option_copied error.entry)) }
 {
-    let error = error_or_null(alloc, error)?;
-    json!(in alloc; { "error": error, "text": text })
+    Object::new(alloc)
+        .put("error", error_or_null(alloc, error))
+        .put_text("text", Some(text))
+        .into_json()
 }
 
 fn alternative_json(
@@ -185,9 +190,9 @@ fn alternatives_json(
     pre_release: PreRelease,
     pieces: &[Piece],
     errors: &[InvalidPiece],
-) -> Result<Vec<Value>, AllocError>
-    ensures { IfOk result (λ items. map view items.items
-        ≡ alternatives_json pre_release pieces.now errors.now) }
+) -> Result<Value, AllocError>
+    ensures { IfOk result (λ json. view json
+        ≡ array (items_of (alternatives_json pre_release pieces.now errors.now))) }
 {
     let mut items = Vec::new(alloc);
     let mut rest = errors;
@@ -196,7 +201,7 @@ fn alternatives_json(
         items.push(alternative_json(alloc, pre_release, piece, error)?)?;
         rest = behind;
     }
-    Ok(items)
+    Ok(Value::Array(items))
 }
 
 /// Returns the alternatives of a text as JSON, with the errors of the invalid ones, and its canonical form.
@@ -210,8 +215,13 @@ pub fn ranges_explained(
     ensures { IfOk result (λ json. view json
         ≡ ranges_explained pre_release pieces.now errors.now normal.now) }
 {
-    let alternatives = Value::Array(alternatives_json(alloc, pre_release, pieces, errors)?);
-    json!(in alloc; { "alternatives": alternatives, "normal": normal })
+    Object::new(alloc)
+        .put(
+            "alternatives",
+            alternatives_json(alloc, pre_release, pieces, errors),
+        )
+        .put_text("normal", Some(normal))
+        .into_json()
 }
 
 // The same as a text.

@@ -6,6 +6,7 @@ pub mod errors;
 pub mod explained;
 pub mod explained_json;
 pub mod filtering;
+pub mod object;
 pub mod packages;
 pub mod parts;
 pub mod questions;

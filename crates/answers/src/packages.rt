@@ -12,10 +12,11 @@ ghost use Rattle.answers.specs.Packages.{IsPackage, IsPackageFailure, PackagePar
 ghost use Rattle.answers.specs.declared.asking.Kind.TheVariants as kind;
 
 use crate::asking::{Kind, Problem};
+use crate::object::Object;
 use deno_semver::ParseFailure;
 use deno_semver::package::{PackageReq, PackageReqParseError, PackageReqPartsParseError};
 use semver_req::common::values::Flavour;
-use serde_json::{Value, json};
+use serde_json::Value;
 use std::alloc::{AllocError, Global};
 
 /// Returns the scope of a name without its `@`, if it has one, and what follows the scope.
@@ -55,12 +56,13 @@ pub fn package_json(alloc: Global, req: &PackageReq) -> Result<Value, AllocError
     ensures { IfOk result (λ json. view json ≡ package_json req.now) }
 {
     let (scope, name) = scope_and_name(req.name.as_str());
-    let requirement = req.version_req.version_text();
     let normal = req.version_req.to_string_normalized(alloc)?;
-    let scope = text_or_null(alloc, scope)?;
-    json!(in alloc; {
-        "scope": scope, "name": name, "requirement": requirement, "normal": normal.as_str()
-    })
+    Object::new(alloc)
+        .put_text("name", Some(name))
+        .put_text("normal", Some(normal.as_str()))
+        .put_text("requirement", Some(req.version_req.version_text()))
+        .put_text("scope", scope)
+        .into_json()
 }
 
 // The JSON as a text.

@@ -5,6 +5,7 @@ ghost use Rattle.serde_json.specs.Data.{string};
 ghost use Rattle.serde_json.specs.View.{view};
 ghost use Rattle.serde_json.specs.Written.{compact_text};
 ghost use Rattle.semver_base.specs.VersionGrammar.{IsVersionRejection};
+ghost use Rattle.semver_base.specs.VersionText.{version_text};
 ghost use Rattle.semver_base.specs.declared.range.RangeBound.TheVariants as bounds;
 ghost use Rattle.semver_req.specs.TextRejection.{IsTextRejection};
 ghost use Rattle.std.specs.Fmt.{decimal};
@@ -15,7 +16,8 @@ ghost use Rattle.answers.specs.Parts.{IsNameWithVersion, IsNvFailure, NameWithVe
 ghost use Rattle.answers.specs.declared.asking.Kind.TheVariants as kind;
 
 use crate::asking::{Answer, Kind, Problem};
-use crate::packages::{scope_and_name, text_json, text_or_null};
+use crate::object::Object;
+use crate::packages::{scope_and_name, text_json};
 use crate::questions::text_of_version;
 use crate::reading::{range, version};
 use deno_semver::package::{PackageNv, PackageNvParseError};
@@ -24,7 +26,7 @@ use deno_semver::{
     VersionPreOrBuild, VersionRange, VersionReq,
 };
 use semver_req::common::values::Flavour;
-use serde_json::{Value, json};
+use serde_json::Value;
 use std::alloc::{AllocError, Global};
 
 // The JSON of the parts of a pre-release or a build.
@@ -45,18 +47,24 @@ fn number_json(alloc: Global, number: u64) -> Result<Value, AllocError>
     Ok(Value::String(format!(in alloc; "{number}")?))
 }
 
+/// The JSON of a version as displayed.
+pub(crate) fn displayed_json(alloc: Global, version: &Version) -> Result<Value, AllocError>
+    ensures { IfOk result (λ json. view json ≡ string (version_text version.now)) }
+{
+    Ok(Value::String(text_of_version(alloc, version)?))
+}
+
 /// Returns the parts of a version as JSON: its three numbers as texts, and the parts of its pre-release and its build.
 pub fn version_json(alloc: Global, version: &Version) -> Result<Value, AllocError>
     ensures { IfOk result (λ json. view json ≡ version_json version.now) }
 {
-    let build = texts_json(alloc, version.build.iter().as_slice())?;
-    let pre = texts_json(alloc, version.pre.iter().as_slice())?;
-    let major = number_json(alloc, version.major)?;
-    let minor = number_json(alloc, version.minor)?;
-    let patch = number_json(alloc, version.patch)?;
-    json!(in alloc; {
-        "build": build, "major": major, "minor": minor, "patch": patch, "pre": pre
-    })
+    Object::new(alloc)
+        .put("build", texts_json(alloc, version.build.iter().as_slice()))
+        .put("major", number_json(alloc, version.major))
+        .put("minor", number_json(alloc, version.minor))
+        .put("patch", number_json(alloc, version.patch))
+        .put("pre", texts_json(alloc, version.pre.iter().as_slice()))
+        .into_json()
 }
 
 // The parts of a version as a text.
@@ -91,9 +99,10 @@ fn is_inclusive(kind: VersionBoundKind) -> bool
 fn version_bound_json(alloc: Global, bound: &VersionBound) -> Result<Value, AllocError>
     ensures { IfOk result (λ json. view json ≡ bound_json (bounds.Version bound.now)) }
 {
-    let version = Value::String(text_of_version(alloc, &bound.version)?);
-    let inclusive = is_inclusive(bound.kind);
-    json!(in alloc; { "inclusive": inclusive, "version": version })
+    Object::new(alloc)
+        .put("inclusive", Ok(Value::from(is_inclusive(bound.kind))))
+        .put("version", displayed_json(alloc, &bound.version))
+        .into_json()
 }
 
 /// Returns a bound as JSON: its version as displayed, and whether that lies within it; null, if there is no bound.
@@ -110,9 +119,10 @@ pub fn bound_json(alloc: Global, bound: &RangeBound) -> Result<Value, AllocError
 fn range_json(alloc: Global, range: &VersionRange) -> Result<Value, AllocError>
     ensures { IfOk result (λ json. view json ≡ range_json range.now) }
 {
-    let end = bound_json(alloc, &range.end)?;
-    let start = bound_json(alloc, &range.start)?;
-    json!(in alloc; { "end": end, "start": start })
+    Object::new(alloc)
+        .put("end", bound_json(alloc, &range.end))
+        .put("start", bound_json(alloc, &range.start))
+        .into_json()
 }
 
 // The JSON of ranges.
@@ -167,9 +177,11 @@ pub fn nv_json(alloc: Global, nv: &PackageNv) -> Result<Value, AllocError>
     ensures { IfOk result (λ json. view json ≡ nv_json nv.now) }
 {
     let (scope, name) = scope_and_name(nv.name.as_str());
-    let version = Value::String(text_of_version(alloc, &nv.version)?);
-    let scope = text_or_null(alloc, scope)?;
-    json!(in alloc; { "name": name, "scope": scope, "version": version })
+    Object::new(alloc)
+        .put_text("name", Some(name))
+        .put_text("scope", scope)
+        .put("version", displayed_json(alloc, &nv.version))
+        .into_json()
 }
 
 // The parts of a name with a version as a text.

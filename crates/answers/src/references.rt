@@ -12,12 +12,13 @@ ghost use Rattle.answers.specs.References.{IsReference, IsReferenceFailure, IsRe
 ghost use Rattle.answers.specs.declared.asking.Kind.TheVariants as kind;
 
 use crate::asking::{Kind, Problem};
-use crate::packages::{package_json, parts_failure, text_json, text_or_null};
+use crate::object::Object;
+use crate::packages::{package_json, parts_failure, text_json};
 use deno_semver::ParseFailure;
 use deno_semver::jsr::{JsrPackageReqReference, normalized_export_name};
 use deno_semver::npm::NpmPackageReqReference;
 use deno_semver::package::{PackageKind, PackageReqReference, PackageReqReferenceParseError};
-use serde_json::{Value, json};
+use serde_json::Value;
 use std::alloc::{AllocError, Global};
 
 /// A reference to a package of either registry.
@@ -79,12 +80,12 @@ pub(crate) fn export_json(
 pub fn reference_json(alloc: Global, read: &Reference) -> Result<Value, AllocError>
     ensures { IfOk result (λ json. view json ≡ reference_json read.now) }
 {
-    let path = text_or_null(alloc, read.path())?;
-    let export = export_json(alloc, read.kind, read.path())?;
-    let package = package_json(alloc, &read.reference.req)?;
-    json!(in alloc; {
-        "kind": read.registry(), "package": package, "path": path, "export": export
-    })
+    Object::new(alloc)
+        .put("export", export_json(alloc, read.kind, read.path()))
+        .put_text("kind", Some(read.registry()))
+        .put("package", package_json(alloc, &read.reference.req))
+        .put_text("path", read.path())
+        .into_json()
 }
 
 // The JSON as a text.

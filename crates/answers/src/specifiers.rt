@@ -15,7 +15,8 @@ ghost use Rattle.answers.specs.Specifiers.{DependencyParts, IsDependency, IsDepe
 ghost use Rattle.answers.specs.declared.asking.Kind.TheVariants as kind;
 
 use crate::asking::{Kind, Problem};
-use crate::packages::{package_json, parts_failure, text_or_null};
+use crate::object::Object;
+use crate::packages::{package_json, parts_failure};
 use crate::parts::nv_json;
 use crate::references::{export_json, registry_name, registry_of};
 use deno_semver::ParseFailure;
@@ -23,7 +24,7 @@ use deno_semver::jsr::{JsrDepPackageReq, JsrDepPackageReqParseError, JsrPackageN
 use deno_semver::npm::NpmPackageNvReference;
 use deno_semver::package::{PackageKind, PackageNvReference, PackageNvReferenceParseError};
 use semver_req::common::values::Flavour;
-use serde_json::{Value, json};
+use serde_json::Value;
 use std::alloc::{AllocError, Global};
 
 // Parses a dependency.
@@ -81,11 +82,12 @@ pub fn read_dependency(
 fn dependency_json(alloc: Global, dependency: &JsrDepPackageReq) -> Result<Value, AllocError>
     ensures { IfOk result (λ json. view json ≡ dependency_json dependency.now) }
 {
-    let package = package_json(alloc, &dependency.req)?;
     let normal = dependency.to_string_normalized(alloc)?;
-    json!(in alloc; {
-        "kind": registry_name(dependency.kind), "normal": normal.as_str(), "package": package
-    })
+    Object::new(alloc)
+        .put_text("kind", Some(registry_name(dependency.kind)))
+        .put_text("normal", Some(normal.as_str()))
+        .put("package", package_json(alloc, &dependency.req))
+        .into_json()
 }
 
 // The JSON as a text.
@@ -183,12 +185,12 @@ pub fn read_version_reference(alloc: Global, text: &str) -> Result<VersionRefere
 fn version_reference_json(alloc: Global, read: &VersionReference) -> Result<Value, AllocError>
     ensures { IfOk result (λ json. view json ≡ version_reference_json read.now) }
 {
-    let path = text_or_null(alloc, read.path())?;
-    let export = export_json(alloc, read.kind, read.path())?;
-    let package = nv_json(alloc, &read.reference.nv)?;
-    json!(in alloc; {
-        "export": export, "kind": registry_name(read.kind), "package": package, "path": path
-    })
+    Object::new(alloc)
+        .put("export", export_json(alloc, read.kind, read.path()))
+        .put_text("kind", Some(registry_name(read.kind)))
+        .put("package", nv_json(alloc, &read.reference.nv))
+        .put_text("path", read.path())
+        .into_json()
 }
 
 // The JSON as a text.

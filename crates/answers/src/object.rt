@@ -1,0 +1,75 @@
+//! JSON objects, built member by member.
+
+ghost use Rattle.std.specs.Prelude.{◌≡◌, IfOk};
+ghost use Rattle.std.specs.Option.{option_copied};
+ghost use Rattle.serde_json.specs.Data.{Data, Members, no_members, object, put as with_member};
+ghost use Rattle.serde_json.specs.View.{members_view, view};
+ghost use Rattle.answers.specs.Object.{Has};
+ghost use Rattle.answers.specs.Packages.{text_or_null};
+
+use crate::packages::text_or_null;
+use serde_json::{Map, Value, put};
+use std::alloc::{AllocError, Global};
+
+/// A JSON object under construction. If memory runs out for a member, that is the outcome.
+#[derive(Drop)]
+pub struct Object {
+    pub members: Result<Map<String, Value>, AllocError>,
+    alloc: Global,
+}
+
+// The members and one more; an earlier error stays.
+fn with_member(
+    alloc: Global,
+    members: Result<Map<String, Value>, AllocError>,
+    key: &str,
+    value: Result<Value, AllocError>,
+) -> Result<Map<String, Value>, AllocError>
+    ensures { (all : Members) (d : Data) → IfOk members (λ map. members_view map.entries ≡ all)
+        → IfOk value (λ value. view value ≡ d)
+        → IfOk result (λ map. members_view map.entries ≡ with_member key.now d all) }
+{
+    let mut members = members?;
+    put(&mut members, alloc, key, value?)?;
+    Ok(members)
+}
+
+impl Object {
+    /// Starts without members.
+    pub fn new(alloc: Global) -> Object
+        ensures { Has result no_members }
+    {
+        Object {
+            members: Ok(Map::new(alloc)),
+            alloc,
+        }
+    }
+
+    /// Adds a member.
+    pub fn put(self, key: &str, value: Result<Value, AllocError>) -> Object
+        ensures { (all : Members) (d : Data) → Has self all → IfOk value (λ value. view value ≡ d)
+            → Has result (with_member key.now d all) }
+    {
+        let Object { members, alloc } = self;
+        Object {
+            members: with_member(alloc, members, key, value),
+            alloc,
+        }
+    }
+
+    /// Adds a text, or null.
+    pub fn put_text(self, key: &str, text: Option<&str>) -> Object
+        ensures { (all : Members) → Has self all
+            → Has result (with_member key.now (text_or_null (option_copied text.entry)) all) }
+    {
+        let value = text_or_null(self.alloc, text);
+        self.put(key, value)
+    }
+
+    /// Returns the object.
+    pub fn into_json(self) -> Result<Value, AllocError>
+        ensures { (all : Members) → Has self all → IfOk result (λ json. view json ≡ object all) }
+    {
+        Ok(Value::Object(self.members?))
+    }
+}
