@@ -1,15 +1,10 @@
 //! `ranges check`: the ranges of package.json, deno.json, import maps and lists of ranges.
 
 use crate::advice::{npm_warning, warnings};
-use crate::args::Options;
-use crate::console::{Console, Status, Stop, print_line};
-use crate::hints::{is_protocol, question};
-use crate::manifest::{Entry, Kind, entries};
-use crate::object::Object;
-use crate::pointing::{add_error, errors_behind, errors_of, print_error};
-use crate::shown::{Quoted, Shown};
+use crate::errors::{add_error, errors_behind, errors_of};
 use answers::asking::Problem;
 use answers::explained::{Explanation, Meaning, Piece, explain};
+use answers::object::Object;
 use answers::references::read_reference;
 use clap::ArgMatches;
 use deno_semver::PreRelease;
@@ -20,6 +15,12 @@ use std::alloc::{AllocError, Global};
 use std::io::{BufRead, ErrorKind, Read, Write};
 use std::rt::Files;
 use std::{fs, io};
+use terminal::args::Options;
+use terminal::console::{Console, Status, Stop, print_line};
+use terminal::hints::{is_protocol, question};
+use terminal::manifest::{Entry, Kind, entries};
+use terminal::pointing::print_error;
+use terminal::shown::{Quoted, Shown};
 
 // How findings are printed.
 #[derive(Clone, Copy, PartialEq, Eq)]

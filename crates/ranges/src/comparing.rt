@@ -1,109 +1,92 @@
 //! The commands that print one line.
 
-use crate::args::Options;
-use crate::console::{Console, Status, Stop, print_line};
-use crate::hints::question;
-use crate::object::Object;
-use crate::pointing::{add_error, errors_of, print_error, version_errors};
-use crate::shown::{Quoted, Shown};
+use crate::errors::{add_error, errors_of};
 use answers::asking::{Answer, InvalidArgument, Kind, Problem};
+use answers::object::Object;
 use answers::questions::{common_version, text_of_version, version_outside};
 use answers::reading::{range, ranges};
 use clap::ArgMatches;
-use deno_semver::{ParseFailure, Version, VersionReq};
+use deno_semver::{Version, VersionReq};
 use semver_req::error_places::pieces::InvalidPiece;
 use serde_json::Value;
 use std::alloc::{AllocError, Global};
 use std::io::Write;
+use terminal::args::Options;
+use terminal::console::{Console, Status, Stop, print_line};
+use terminal::shown::Shown;
 
-impl<O: Write, E: Write> Console<O, E> {
-    /// Reports which of the arguments is invalid, and where, or that memory ran out.
-    pub fn reject(
-        &mut self,
-        options: Options,
-        arguments: &[&str],
-        problem: &Problem,
-    ) -> Result<Status, Stop> {
-        let Problem::Invalid(invalid) = problem else {
-            return Err(Stop::OutOfMemory);
-        };
-        let argument = arguments.get(invalid.place).copied().unwrap_or("");
-        let errors = errors_of(self.alloc, options.flavour, argument, invalid)?;
-        if options.json {
-            let json = error_json(self.alloc, argument, invalid, errors.as_slice());
-            self.json(json)?;
-            return Ok(Status::Rejected);
-        }
-        let status = self.reject_text(kind_name(invalid.kind), argument, invalid.failure.message());
-        self.point(argument, errors.as_slice());
-        Ok(status)
+/// Reports which of the arguments is invalid, and where, or that memory ran out.
+pub fn reject<O: Write, E: Write>(
+    console: &mut Console<O, E>,
+    options: Options,
+    arguments: &[&str],
+    problem: &Problem,
+) -> Result<Status, Stop> {
+    let Problem::Invalid(invalid) = problem else {
+        return Err(Stop::OutOfMemory);
+    };
+    let argument = arguments.get(invalid.place).copied().unwrap_or("");
+    let errors = errors_of(console.alloc, options.flavour, argument, invalid)?;
+    if options.json {
+        let json = error_json(console.alloc, argument, invalid, errors.as_slice());
+        console.json(json)?;
+        return Ok(Status::Rejected);
     }
+    let status = console.reject_text(kind_name(invalid.kind), argument, invalid.failure.message());
+    console.point(argument, errors.as_slice());
+    Ok(status)
+}
 
-    // Prints where a text is wrong. What can't be written to standard error is left out.
-    fn point(&mut self, text: &str, errors: &[InvalidPiece]) {
-        for error in errors {
-            let _ = print_error(&mut self.err, self.err_style, text, error);
-        }
+/// Prints the tag that a range is.
+pub fn print_tag<O: Write, E: Write>(
+    console: &mut Console<O, E>,
+    options: Options,
+    tag: &str,
+) -> Result<Status, Stop> {
+    if options.json {
+        let json = field_json(console.alloc, "tag", Some(tag));
+        console.json(json)?;
+    } else {
+        print_line(&mut console.out, format_args!("tag {tag}"))?;
     }
+    console.question(tag);
+    Ok(Status::Tag)
+}
 
-    /// Reports that an argument isn't a version, and where it goes wrong.
-    pub fn reject_version(&mut self, text: &str, failure: &ParseFailure) -> Result<(), Stop> {
-        let errors = version_errors(self.alloc, text)?;
-        let _ = self.reject_text("version", text, failure.message());
-        self.point(text, errors.as_slice());
-        if text.starts_with(['^', '~', '<', '>'].as_slice()) {
-            let _ = writeln!(self.err, "  = the range is the first argument");
-        }
-        Ok(())
+/// Prints the version, or that there is none.
+pub fn print_version<O: Write, E: Write>(
+    console: &mut Console<O, E>,
+    options: Options,
+    version: Option<&str>,
+) -> Result<Status, Stop> {
+    if options.json {
+        let json = field_json(console.alloc, "version", version);
+        console.json(json)?;
+    } else {
+        let (version, end) = (version.unwrap_or("none"), options.input.line_end());
+        write!(console.out, "{version}{end}")?;
     }
-
-    /// Prints the tag that a range is.
-    pub fn tag(&mut self, options: Options, tag: &str) -> Result<Status, Stop> {
-        if options.json {
-            let json = field_json(self.alloc, "tag", Some(tag));
-            self.json(json)?;
-        } else {
-            print_line(&mut self.out, format_args!("tag {tag}"))?;
-        }
-        self.question(tag);
-        Ok(Status::Tag)
+    match version {
+        Some(_) => Ok(Status::Answered),
+        None => Ok(Status::Nothing),
     }
+}
 
-    /// Asks on standard error what is meant, if the tag looks like a typing mistake.
-    pub fn question(&mut self, tag: &str) {
-        if let Some(question) = question(tag) {
-            let _ = self.out.flush();
-            let _ = writeln!(self.err, "ranges: tag {}: {question}", Quoted(tag));
-        }
+// Prints whether a range allows no more than another, or the lowest version that it alone allows.
+fn print_within<O: Write, E: Write>(
+    console: &mut Console<O, E>,
+    options: Options,
+    first: Option<&str>,
+) -> Result<Status, Stop> {
+    if options.json {
+        let json = within_json(console.alloc, first);
+        console.json(json)?;
+    } else {
+        print_first(&mut console.out, first)?;
     }
-
-    /// Prints the version, or that there is none.
-    pub fn version(&mut self, options: Options, version: Option<&str>) -> Result<Status, Stop> {
-        if options.json {
-            let json = field_json(self.alloc, "version", version);
-            self.json(json)?;
-        } else {
-            let (version, end) = (version.unwrap_or("none"), options.input.line_end());
-            write!(self.out, "{version}{end}")?;
-        }
-        match version {
-            Some(_) => Ok(Status::Answered),
-            None => Ok(Status::Nothing),
-        }
-    }
-
-    // Prints whether a range allows no more than another, or the lowest version that it alone allows.
-    fn within(&mut self, options: Options, first: Option<&str>) -> Result<Status, Stop> {
-        if options.json {
-            let json = within_json(self.alloc, first);
-            self.json(json)?;
-        } else {
-            print_within(&mut self.out, first)?;
-        }
-        match first {
-            Some(_) => Ok(Status::Nothing),
-            None => Ok(Status::Answered),
-        }
+    match first {
+        Some(_) => Ok(Status::Nothing),
+        None => Ok(Status::Answered),
     }
 }
 
@@ -148,7 +131,7 @@ fn within_json(alloc: Global, first: Option<&str>) -> Result<Value, AllocError> 
     }
 }
 
-fn print_within<O: Write>(out: &mut O, first: Option<&str>) -> Result<(), Stop> {
+fn print_first<O: Write>(out: &mut O, first: Option<&str>) -> Result<(), Stop> {
     match first {
         Some(version) => print_line(out, format_args!("no {version}")),
         None => print_line(out, "yes"),
@@ -172,7 +155,7 @@ pub fn common<O: Write, E: Write>(
     let texts = matches.get_strs("RANGE").unwrap_or(&[]);
     match common_version(console.alloc, options.flavour, options.pre_release, texts) {
         Ok(answer) => print_common(console, options, &answer),
-        Err(problem) => console.reject(options, texts, &problem),
+        Err(problem) => reject(console, options, texts, &problem),
     }
 }
 
@@ -184,9 +167,9 @@ fn print_common<O: Write, E: Write>(
     match answer {
         Answer::Value(lowest) => {
             let lowest = shown(console.alloc, lowest)?;
-            console.version(options, lowest.as_deref())
+            print_version(console, options, lowest.as_deref())
         }
-        Answer::Tag(tag) => console.tag(options, tag.as_str()),
+        Answer::Tag(tag) => print_tag(console, options, tag.as_str()),
     }
 }
 
@@ -206,7 +189,7 @@ pub fn within<O: Write, E: Write>(
         old,
     ) {
         Ok(answer) => print_outside(console, options, &answer),
-        Err(problem) => console.reject(options, &[new, old], &problem),
+        Err(problem) => reject(console, options, &[new, old], &problem),
     }
 }
 
@@ -218,9 +201,9 @@ fn print_outside<O: Write, E: Write>(
     match answer {
         Answer::Value(lowest) => {
             let lowest = shown(console.alloc, lowest)?;
-            console.within(options, lowest.as_deref())
+            print_within(console, options, lowest.as_deref())
         }
-        Answer::Tag(tag) => console.tag(options, tag.as_str()),
+        Answer::Tag(tag) => print_tag(console, options, tag.as_str()),
     }
 }
 
@@ -251,7 +234,7 @@ pub fn overlap<O: Write, E: Write>(
             };
             print_overlap(console, options, apart)
         }
-        Err(problem) => console.reject(options, texts, &problem),
+        Err(problem) => reject(console, options, texts, &problem),
     }
 }
 
@@ -311,10 +294,10 @@ fn print_normal<O: Write, E: Write>(
 ) -> Result<Status, Stop> {
     let range = match range(console.alloc, options.flavour, 0, text) {
         Ok(range) => range,
-        Err(problem) => return console.reject(options, &[text], &problem),
+        Err(problem) => return reject(console, options, &[text], &problem),
     };
     if let Some(tag) = range.tag() {
-        return console.tag(options, tag);
+        return print_tag(console, options, tag);
     }
     let normal = range.to_string_normalized(console.alloc)?;
     if options.json {

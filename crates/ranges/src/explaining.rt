@@ -1,9 +1,6 @@
 //! `ranges explain`: what a range means.
 
-use crate::args::Options;
-use crate::console::{Console, Status, Stop, Style, print_line};
-use crate::pointing::print_error;
-use crate::shown::Shown;
+use crate::comparing::{print_tag, reject};
 use answers::errors::errors;
 use answers::explained::{Explanation, Matches, Meaning, Piece, explain};
 use answers::explained_json::{next_error, ranges_explained};
@@ -12,6 +9,10 @@ use deno_semver::{PreRelease, RangeBound, Version, VersionBound, VersionBoundKin
 use semver_req::error_places::pieces::InvalidPiece;
 use std::fmt;
 use std::io::Write;
+use terminal::args::Options;
+use terminal::console::{Console, Status, Stop, Style, print_line};
+use terminal::pointing::print_error;
+use terminal::shown::Shown;
 
 // What is printed of a range: its text, its alternatives, the errors of the invalid ones, and its canonical form.
 #[derive(Clone, Copy)]
@@ -161,7 +162,7 @@ fn report_tag<O: Write, E: Write>(
         console.question(tag);
         return Ok(Status::Tag);
     }
-    console.tag(options, tag)
+    print_tag(console, options, tag)
 }
 
 // Prints each alternative on a line, an invalid one with its error, and the canonical form; or all as JSON.
@@ -259,6 +260,6 @@ fn report_one<O: Write, E: Write>(
 ) -> Result<Status, Stop> {
     match explain(console.alloc, options.flavour, options.pre_release, text) {
         Ok(explanation) => report_explanation(console, options, text, &explanation),
-        Err(problem) => console.reject(options, &[text], &problem),
+        Err(problem) => reject(console, options, &[text], &problem),
     }
 }

@@ -1,9 +1,7 @@
 //! The commands over lists of versions: `filter`, `best`, `outdated` and `sort`.
 
-use crate::args::Options;
-use crate::console::{Console, Status, Stop, json_text, print_line};
-use crate::input::{Take, take_all};
-use crate::object::Object;
+use crate::comparing::{print_tag, print_version, reject};
+use answers::object::Object;
 use answers::reading::ranges;
 use answers::sorting::{Order, sorted_places};
 use clap::ArgMatches;
@@ -13,6 +11,9 @@ use semver_req::common::values::Flavour;
 use serde_json::Value;
 use std::alloc::{AllocError, Global};
 use std::io::Write;
+use terminal::args::Options;
+use terminal::console::{Console, Status, Stop, json_text, print_line};
+use terminal::input::{Take, take_all};
 
 // How texts are printed: a line each, or as a JSON array; and whether one was.
 #[derive(Drop)]
@@ -187,10 +188,10 @@ fn on_ranges<O: Write, E: Write>(
     let parsed = ranges(console.alloc, options.flavour, texts.as_slice());
     match parsed {
         Ok(parsed) => match parsed.iter().find_map(|range| range.tag()) {
-            Some(tag) => Ok(Err(console.tag(options, tag)?)),
+            Some(tag) => Ok(Err(print_tag(console, options, tag)?)),
             None => Ok(Ok(parsed)),
         },
-        Err(problem) => Ok(Err(console.reject(options, texts.as_slice(), &problem)?)),
+        Err(problem) => Ok(Err(reject(console, options, texts.as_slice(), &problem)?)),
     }
 }
 
@@ -247,7 +248,7 @@ fn best_by<R: Input, O: Write, E: Write>(
     let mut listed = Listed::new(console.alloc, others, options.pre_release);
     let versions = matches.get_strs("VERSION");
     let all = take_all(rt, console, options.input, versions, &mut listed)?;
-    let status = console.version(options, listed.highest(first))?;
+    let status = print_version(console, options, listed.highest(first))?;
     Ok(ended(all, status))
 }
 

@@ -8,31 +8,24 @@
 #![tactic(auto)]
 
 mod advice;
-mod args;
 mod checking;
 mod comparing;
-mod console;
+mod errors;
 mod explaining;
-mod hints;
-mod input;
 mod listed;
-mod manifest;
-mod object;
 mod packaged;
-mod pointing;
-mod shown;
 
-use args::{Options, program};
 use clap::error::ErrorKind as Mistake;
 use clap::{ArgMatches, Error};
-use console::{Console, Status, Stop, Style, Terminal};
-use shown::Shown;
 use std::alloc::Global;
 use std::env::Env;
 use std::io::{BufWriter, IsTerminal, Write};
 use std::process::ExitCode;
 use std::rt::{Files, Runtime};
 use std::{env, io};
+use terminal::args::{Options, program};
+use terminal::console::{Console, Status, Stop, Style, Terminal};
+use terminal::shown::Shown;
 
 // Runs the given command.
 fn answer<R: Input + Files + AllocGlobal, O: Write, E: Write>(

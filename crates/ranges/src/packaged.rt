@@ -1,14 +1,15 @@
 //! `ranges package` and `ranges reference`: the parts of the text of a package.
 
-use crate::args::Options;
-use crate::console::{Console, Status, Stop, print_line};
-use crate::shown::Shown;
+use crate::comparing::reject;
 use answers::packages::{package_json, read_package, scope_and_name};
 use answers::references::{Reference, read_reference, reference_json};
 use clap::ArgMatches;
 use deno_semver::jsr::normalized_export_name;
 use deno_semver::package::{PackageKind, PackageReq};
 use std::io::Write;
+use terminal::args::Options;
+use terminal::console::{Console, Status, Stop, print_line};
+use terminal::shown::Shown;
 
 // Prints a part on a line, if there is one.
 fn print_part<O: Write>(out: &mut O, part: &str, text: Option<&str>) -> Result<(), Stop> {
@@ -82,7 +83,7 @@ pub fn report_package<O: Write, E: Write>(
     let text = matches.get_str("TEXT").unwrap_or("");
     match read_package(console.alloc, options.flavour, text) {
         Ok(req) => answer_package(console, options, &req),
-        Err(problem) => console.reject(options, &[text], &problem),
+        Err(problem) => reject(console, options, &[text], &problem),
     }
 }
 
@@ -95,6 +96,6 @@ pub fn report_reference<O: Write, E: Write>(
     let text = matches.get_str("TEXT").unwrap_or("");
     match read_reference(console.alloc, text) {
         Ok(read) => answer_reference(console, options, &read),
-        Err(problem) => console.reject(options, &[text], &problem),
+        Err(problem) => reject(console, options, &[text], &problem),
     }
 }

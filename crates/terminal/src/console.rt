@@ -1,5 +1,6 @@
 //! Where the program writes, and its exit status.
 
+use crate::hints::question;
 use crate::shown::Quoted;
 use serde_json::Value;
 use std::alloc::{AllocError, AllocFailed, Global};
@@ -224,6 +225,14 @@ impl<O: Write, E: Write> Console<O, E> {
     pub fn reject_input(&mut self, what: &str, number: u64, text: &str, message: &str) {
         let text = Quoted(text);
         let _ = self.complain(format_args!("{what} {number}: version {text}"), message);
+    }
+
+    /// Asks on standard error what is meant, if the tag looks like a typing mistake.
+    pub fn question(&mut self, tag: &str) {
+        if let Some(question) = question(tag) {
+            let _ = self.out.flush();
+            let _ = writeln!(self.err, "ranges: tag {}: {question}", Quoted(tag));
+        }
     }
 
     /// Says on a terminal that standard input is read.

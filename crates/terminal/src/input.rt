@@ -3,7 +3,7 @@
 use crate::args::InputOptions;
 use crate::console::{Console, Stop};
 use crate::manifest::unescaped;
-use deno_semver::ParseFailure;
+use semver_base::failure::ParseFailure;
 use serde_json::Value;
 use std::io::{BufRead, BufReader, Write};
 

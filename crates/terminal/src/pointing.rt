@@ -1,19 +1,13 @@
 //! Where an invalid range leaves its grammar, and what could stand there.
 
-use crate::console::{Stop, Style};
+use crate::console::{Console, Stop, Style};
 use crate::hints::hint;
-use crate::object::Object;
 use crate::shown::{Shown, is_escaped};
-use answers::asking::{InvalidArgument, Kind as ArgumentKind, Problem};
-use answers::errors::{errors, expected_json};
-use answers::reading::range;
 use semver_base::failure::ParseFailure;
-use semver_req::common::values::Flavour;
 use semver_req::error_places::causes::Cause;
 use semver_req::error_places::expected::{Expected, Kind};
 use semver_req::error_places::pieces::InvalidPiece;
 use semver_req::error_places::versions::{version_error_place, version_may_follow};
-use serde_json::Value;
 use std::alloc::{AllocError, Global};
 use std::fmt;
 use std::io::Write;
@@ -26,8 +20,8 @@ const BEFORE: usize = 60;
 
 const AFTER: usize = 40;
 
-// The part of a text between two indexes.
-fn part(text: &str, start: usize, end: usize) -> &str {
+/// The part of a text between two indexes.
+pub fn part(text: &str, start: usize, end: usize) -> &str {
     text.get(start..end).unwrap_or("")
 }
 
@@ -79,78 +73,6 @@ fn version_error(alloc: Global, text: &str) -> Result<InvalidPiece, ParseFailure
     })
 }
 
-// Where the range of a package or a reference starts and ends: behind the last `@` that doesn't begin the text, up to a path.
-fn range_in_package(text: &str) -> Option<(usize, usize)> {
-    let at = text.rfind('@').filter(|at| *at > 0)?;
-    let start = at.saturating_add(1);
-    let len = part(text, start, text.len()).find('/');
-    let end = len.map_or(text.len(), |len| start.saturating_add(len));
-    Some((start, end))
-}
-
-// Whether the range is invalid, and this is the message.
-fn is_reason(
-    alloc: Global,
-    flavour: Flavour,
-    range_text: &str,
-    message: &str,
-) -> Result<bool, AllocError> {
-    match range(alloc, flavour, 0, range_text) {
-        Ok(_) => Ok(false),
-        Err(Problem::Invalid(invalid)) => Ok(invalid.failure.message() == message),
-        Err(Problem::OutOfMemory) => Err(AllocError),
-    }
-}
-
-// The errors of the range of a package or a reference; none if something else is wrong.
-fn package_errors(
-    alloc: Global,
-    flavour: Flavour,
-    text: &str,
-    message: &str,
-) -> Result<Vec<InvalidPiece>, AllocError> {
-    let Some((start, end)) = range_in_package(text) else {
-        return Ok(Vec::new(alloc));
-    };
-    let range_text = part(text, start, end);
-    if !is_reason(alloc, flavour, range_text, message)? {
-        return Ok(Vec::new(alloc));
-    }
-    errors_behind(alloc, flavour, start, range_text)
-}
-
-/// The errors of the range that stands behind so many bytes of a text.
-pub fn errors_behind(
-    alloc: Global,
-    flavour: Flavour,
-    start: usize,
-    range_text: &str,
-) -> Result<Vec<InvalidPiece>, AllocError> {
-    let mut found = errors(alloc, flavour, range_text)?;
-    for error in found.iter_mut() {
-        error.start = error.start.saturating_add(start);
-        error.end = error.end.saturating_add(start);
-        error.place = error.place.saturating_add(start);
-    }
-    Ok(found)
-}
-
-/// Where an argument is invalid: the invalid alternatives of a range, also of one in a package, and where a version goes wrong.
-pub fn errors_of(
-    alloc: Global,
-    flavour: Flavour,
-    text: &str,
-    invalid: &InvalidArgument,
-) -> Result<Vec<InvalidPiece>, AllocError> {
-    let message = invalid.failure.message();
-    match invalid.kind {
-        ArgumentKind::Range => errors(alloc, flavour, text),
-        ArgumentKind::Package => package_errors(alloc, flavour, text, message),
-        ArgumentKind::Reference => package_errors(alloc, Flavour::Specifier, text, message),
-        ArgumentKind::Version => version_errors(alloc, text),
-    }
-}
-
 /// Where a text that isn't a version goes wrong.
 pub fn version_errors(alloc: Global, text: &str) -> Result<Vec<InvalidPiece>, AllocError> {
     match version_error(alloc, text) {
@@ -180,11 +102,24 @@ pub fn print_error<O: Write>(
     }
 }
 
-/// Adds the place of an error, and what is expected there.
-pub fn add_error(alloc: Global, json: Object, error: &InvalidPiece) -> Object {
-    json.put("start", Ok(Value::from(error.place)))
-        .put("end", Ok(Value::from(error.end)))
-        .put("expected", expected_json(alloc, &error.cause))
+impl<O: Write, E: Write> Console<O, E> {
+    /// Prints where a text is wrong. What can't be written to standard error is left out.
+    pub fn point(&mut self, text: &str, errors: &[InvalidPiece]) {
+        for error in errors {
+            let _ = print_error(&mut self.err, self.err_style, text, error);
+        }
+    }
+
+    /// Reports that an argument isn't a version, and where it goes wrong.
+    pub fn reject_version(&mut self, text: &str, failure: &ParseFailure) -> Result<(), Stop> {
+        let errors = version_errors(self.alloc, text)?;
+        let _ = self.reject_text("version", text, failure.message());
+        self.point(text, errors.as_slice());
+        if text.starts_with(['^', '~', '<', '>'].as_slice()) {
+            let _ = writeln!(self.err, "  = the range is the first argument");
+        }
+        Ok(())
+    }
 }
 
 // As many columns as a text takes where it is shown; tabs stay tabs.

@@ -1,7 +1,7 @@
 //! The program's arguments, parsed with the crate `clap`.
 
 use clap::{Arg, ArgAction, ArgMatches, Command};
-use deno_semver::PreRelease;
+use semver_base::range::PreRelease;
 use semver_req::common::values::Flavour;
 use std::alloc::{AllocError, Global};
 

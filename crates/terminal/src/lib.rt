@@ -1,0 +1,10 @@
+//! What the program `ranges` reads and prints: arguments, versions, files with ranges, messages, hints and carets.
+#![tactic(auto)]
+
+pub mod args;
+pub mod console;
+pub mod hints;
+pub mod input;
+pub mod manifest;
+pub mod pointing;
+pub mod shown;
