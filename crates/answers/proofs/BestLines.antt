@@ -7,9 +7,9 @@ use Rattle.std.specs.Option.{option_cmp}
 use Rattle.std.specs.Ordering.{is_lt}
 use Rattle.semver_base.specs.Precedence.{precedence_cmp}
 use Rattle.semver_base.specs.PrecedenceLaws.{precedence_total}
-use Rattle.deno_semver.proofs.BestMatches.{IsKnown, stays}
+use Rattle.semver_req.proofs.BestMatches.{IsKnown, stays}
 use Rattle.semver_base.specs.declared.version.Version.{Version}
-use Rattle.deno_semver.specs.ResolveSteps.{exceeds, known_of}
+use Rattle.semver_req.specs.ResolveSteps.{exceeds, known_of}
 use Rattle.answers.specs.Filtering.{better_line, line_passes}
 use Rattle.answers.specs.Questions.{better}
 use Rattle.answers.specs.declared.questions.End.{End}

@@ -6,7 +6,7 @@ use Rattle.semver_base.specs.declared.version.Version.{Version}
 use Rattle.semver_req.specs.Requirement.{inner_means_with, tag_of}
 use Rattle.semver_req.specs.declared.range_set_or_tag.RangeSetOrTag.{RangeSetOrTag}
 use Rattle.semver_req.specs.declared.range_set_or_tag.RangeSetOrTag.TheVariants as inner
-use Rattle.deno_semver.specs.Resolve.{IsBestAt, IsBestMatch, IsOnlyMatch}
+use Rattle.semver_req.specs.Resolve.{IsBestAt, IsBestMatch, IsOnlyMatch}
 use Rattle.answers.specs.Asking.{Fault, IsAnswer}
 use Rattle.answers.specs.Questions.{BestOf, IsBest, better}
 use Rattle.answers.specs.declared.asking.Answer.{Answer}

@@ -7,7 +7,7 @@ use Rattle.std.proofs.lemmas.List.Sorted.{IsPermutation-map, IsPermutation-sym, 
 use Rattle.std.specs.Cmp.{IsStrictWeakOrder, IsTotalOrder, back_total, on_total, then_total}
 use Rattle.std.specs.FinMap.{nat_cmp-IsAntisymmetric}
 use Rattle.std.specs.Ordering.{is_lt, nat_cmp, ordering_then}
-use Rattle.deno_semver.proofs.ListOrder.{Tie, sorted_ties}
+use Rattle.semver_req.proofs.ListOrder.{Tie, sorted_ties}
 use Rattle.semver_base.specs.PrecedenceLaws.{precedence_total}
 use Rattle.answers.specs.Asking.{IsOutcomeOf}
 use Rattle.answers.proofs.Givens.{as_value}

@@ -1,13 +1,10 @@
 pub mod Asking
 pub mod Explained
 pub mod Filtering
-pub mod Packages
 pub mod Parts
 pub mod Questions
 pub mod Reading
-pub mod References
 pub mod Sorting
-pub mod Specifiers
 pub mod Errors
 pub mod ExplainedJson
 pub mod Object

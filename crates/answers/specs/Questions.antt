@@ -12,7 +12,7 @@ use Rattle.semver_req.specs.Requirement.{Requirement, all_inners_mean_with, inne
 use Rattle.semver_req.specs.declared.common.values.Flavour.{Flavour}
 use Rattle.semver_req.specs.declared.range_set_or_tag.RangeSetOrTag.{RangeSetOrTag}
 use Rattle.semver_req.specs.declared.range_set_or_tag.RangeSetOrTag.TheVariants as inner
-use Rattle.deno_semver.specs.Resolve.{IsBestAt, greater, lower}
+use Rattle.semver_req.specs.Resolve.{IsBestAt, greater, lower}
 use Rattle.answers.specs.Asking.{Each, Fault, Given, Is}
 use Rattle.answers.specs.Reading.{IsRange, IsVersion}
 use Rattle.answers.specs.declared.asking.Answer.{Answer}

@@ -5,7 +5,8 @@ ghost use Rattle.semver_base.specs.Failure.{message_of};
 ghost use Rattle.answers.specs.Asking.{failure_of, problem_of};
 ghost use Rattle.answers.specs.declared.asking.Problem.TheVariants as problem;
 
-use deno_semver::{PackageTag, ParseFailure};
+use semver_base::failure::ParseFailure;
+use semver_req::range_set_or_tag::PackageTag;
 use std::alloc::AllocError;
 
 /// The result of a question about ranges.

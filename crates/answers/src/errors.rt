@@ -8,8 +8,7 @@ ghost use Rattle.semver_req.specs.InvalidPieces.{AreInvalidPieces};
 ghost use Rattle.semver_req.specs.Viable.{IsErrorPlace, IsVersionText};
 ghost use Rattle.answers.specs.Errors.{IsErrorsText, error_json, errors_json, expected_json, expected_names, kind_name};
 
-use crate::object::Object;
-use crate::packages::text_json;
+use crate::object::{Object, text_json};
 use semver_req::common::values::Flavour;
 use semver_req::error_places::causes::Cause;
 use semver_req::error_places::expected::{Expected, Kind};

@@ -11,11 +11,14 @@ ghost use Rattle.semver_req.specs.TextRejection.{IsTextRejection};
 
 use crate::asking::Problem;
 use crate::reading::range;
-use deno_semver::{PackageTag, PreRelease, RangeSetOrTag, Version, VersionRange};
 use semver_base::failure::Rejection;
+use semver_base::range::{PreRelease, VersionRange};
+use semver_base::version::Version;
 use semver_req::common::values::Flavour;
 use semver_req::laws::read_ranges_are_writable;
-use semver_req::range_set_or_tag::{FirstPiece, RangeOrInvalid, first_piece, next_piece};
+use semver_req::range_set_or_tag::{
+    FirstPiece, PackageTag, RangeOrInvalid, RangeSetOrTag, first_piece, next_piece,
+};
 use std::alloc::{AllocError, Global};
 
 /// What a grammar makes of a text.

@@ -3,8 +3,8 @@
 ghost use Rattle.std.specs.Prelude.{◌≡◌, ◌&&◌, IfErr, IfOk, None, map};
 ghost use Rattle.semver_req.specs.Requirement.{inner_means_with, tag_of};
 ghost use Rattle.semver_req.specs.TextRejection.{IsTextRejection};
-ghost use Rattle.deno_semver.specs.Resolve.{IsBestMatch, IsOnlyMatch};
-ghost use Rattle.deno_semver.specs.ResolveSteps.{exceeds, known_of};
+ghost use Rattle.semver_req.specs.Resolve.{IsBestMatch, IsOnlyMatch};
+ghost use Rattle.semver_req.specs.ResolveSteps.{exceeds, known_of};
 ghost use Rattle.answers.specs.Asking.{Each, IsAnswer, IsFailureAt};
 ghost use Rattle.answers.specs.Filtering.{Filter, FilterOf, IsLine, LineMatch, VersionLines, better_line, line_answer, line_passes, list_answer, list_matches};
 ghost use Rattle.answers.specs.Questions.{better};
@@ -15,8 +15,11 @@ ghost use Rattle.answers.specs.declared.asking.Problem.TheVariants as problem;
 use crate::asking::{Answer, Problem};
 use crate::questions::End;
 use crate::reading::{range, version};
-use deno_semver::{PackageTag, PreRelease, Version, VersionReq};
+use semver_base::range::PreRelease;
+use semver_base::version::Version;
 use semver_req::common::values::Flavour;
+use semver_req::range_set_or_tag::PackageTag;
+use semver_req::req::VersionReq;
 use std::alloc::{AllocError, Global};
 
 // Whether the version of a text matches the range; none if the text isn't a version.

@@ -2,12 +2,10 @@
 
 ghost use Rattle.std.specs.Prelude.{◌≡◌, IfOk};
 ghost use Rattle.std.specs.Option.{option_copied};
-ghost use Rattle.serde_json.specs.Data.{Data, Members, no_members, object, put as with_member};
+ghost use Rattle.serde_json.specs.Data.{Data, Members, no_members, object, put as with_member, string};
 ghost use Rattle.serde_json.specs.View.{members_view, view};
-ghost use Rattle.answers.specs.Object.{Has};
-ghost use Rattle.answers.specs.Packages.{text_or_null};
+ghost use Rattle.answers.specs.Object.{Has, text_or_null};
 
-use crate::packages::text_or_null;
 use serde_json::{Map, Value, put};
 use std::alloc::{AllocError, Global};
 
@@ -16,6 +14,23 @@ use std::alloc::{AllocError, Global};
 pub struct Object {
     pub members: Result<Map<String, Value>, AllocError>,
     alloc: Global,
+}
+
+/// The JSON of a text.
+pub fn text_json(alloc: Global, text: &str) -> Result<Value, AllocError>
+    ensures { IfOk result (λ json. view json ≡ string text.now) }
+{
+    Value::try_from_str(alloc, text)
+}
+
+/// The JSON of a text, or null.
+pub fn text_or_null(alloc: Global, text: Option<&str>) -> Result<Value, AllocError>
+    ensures { IfOk result (λ json. view json ≡ text_or_null (option_copied text.entry)) }
+{
+    match text {
+        Some(text) => text_json(alloc, text),
+        None => Ok(Value::Null),
+    }
 }
 
 // The members and one more; an earlier error stays.

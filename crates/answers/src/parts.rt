@@ -1,6 +1,6 @@
-//! The parts of versions, ranges and names with versions, as JSON.
+//! The parts of versions and ranges, as JSON.
 
-ghost use Rattle.std.specs.Prelude.{◌≡◌, ◌≢◌, ◌⊎◌, [], IfErr, IfOk, None, Some, string_bytes};
+ghost use Rattle.std.specs.Prelude.{◌≡◌, IfErr, IfOk, string_bytes};
 ghost use Rattle.serde_json.specs.Data.{string};
 ghost use Rattle.serde_json.specs.View.{view};
 ghost use Rattle.serde_json.specs.Written.{compact_text};
@@ -12,20 +12,19 @@ ghost use Rattle.std.specs.Fmt.{decimal};
 ghost use Rattle.std.specs.Str.{trim};
 ghost use Rattle.answers.specs.Asking.{IsAnswer, IsFailureAt};
 ghost use Rattle.answers.specs.Filtering.{list_answer};
-ghost use Rattle.answers.specs.Parts.{IsNameWithVersion, IsNvFailure, NameWithVersionParts, RangeParts, VersionParts, bound_json, is_inclusive, nv_json, range_json, ranges_answer, ranges_json, texts_json, version_json};
+ghost use Rattle.answers.specs.Parts.{RangeParts, VersionParts, bound_json, is_inclusive, range_json, ranges_answer, ranges_json, texts_json, version_json};
 ghost use Rattle.answers.specs.declared.asking.Kind.TheVariants as kind;
 
-use crate::asking::{Answer, Kind, Problem};
-use crate::object::Object;
-use crate::packages::{scope_and_name, text_json};
+use crate::asking::{Answer, Problem};
+use crate::object::{Object, text_json};
 use crate::questions::text_of_version;
 use crate::reading::{range, version};
-use deno_semver::package::{PackageNv, PackageNvParseError};
-use deno_semver::{
-    PackageTag, ParseFailure, RangeBound, RangeSetOrTag, Version, VersionBound, VersionBoundKind,
-    VersionPreOrBuild, VersionRange, VersionReq,
-};
+use semver_base::failure::ParseFailure;
+use semver_base::range::{RangeBound, VersionBound, VersionBoundKind, VersionRange};
+use semver_base::version::{Version, VersionPreOrBuild};
 use semver_req::common::values::Flavour;
+use semver_req::range_set_or_tag::{PackageTag, RangeSetOrTag};
+use semver_req::req::VersionReq;
 use serde_json::Value;
 use std::alloc::{AllocError, Global};
 
@@ -48,7 +47,7 @@ fn number_json(alloc: Global, number: u64) -> Result<Value, AllocError>
 }
 
 /// The JSON of a version as displayed.
-pub(crate) fn displayed_json(alloc: Global, version: &Version) -> Result<Value, AllocError>
+pub fn displayed_json(alloc: Global, version: &Version) -> Result<Value, AllocError>
     ensures { IfOk result (λ json. view json ≡ string (version_text version.now)) }
 {
     Ok(Value::String(text_of_version(alloc, version)?))
@@ -170,58 +169,4 @@ pub fn range_parts(
 {
     let range = range(alloc, flavour, 0, range_text)?;
     Ok(ranges_of(alloc, &range)?)
-}
-
-/// Returns the parts of a name with a version as JSON: the name without its scope, the scope or null, and the version.
-pub fn nv_json(alloc: Global, nv: &PackageNv) -> Result<Value, AllocError>
-    ensures { IfOk result (λ json. view json ≡ nv_json nv.now) }
-{
-    let (scope, name) = scope_and_name(nv.name.as_str());
-    Object::new(alloc)
-        .put_text("name", Some(name))
-        .put_text("scope", scope)
-        .put("version", displayed_json(alloc, &nv.version))
-        .into_json()
-}
-
-// The parts of a name with a version as a text.
-fn nv_text(alloc: Global, nv: &PackageNv) -> Result<String, AllocError>
-    ensures { IfOk result (λ text. string_bytes text ≡ compact_text (nv_json nv.now)) }
-{
-    let json = nv_json(alloc, nv)?;
-    json.to_string(alloc)
-}
-
-// What is wrong with the text of a name with a version.
-fn nv_failure(alloc: Global, error: &PackageNvParseError) -> ParseFailure
-    ensures { (result ≡ None)
-        ⊎ ((error.now.message ≢ []) × (result ≡ Some (error.now.message, None))) }
-{
-    if error.is_memory() {
-        return ParseFailure::memory();
-    }
-    ParseFailure::with_texts(alloc, error.message.as_str(), None)
-}
-
-/// Parses a name with a version, such as `@scope/name@1.2.3`.
-pub fn name_with_version(alloc: Global, text: &str) -> Result<PackageNv, Problem>
-    ensures answer { IsAnswer (IsNameWithVersion text.now) (λ nv. nv) result }
-    ensures failure { IfErr result (IsFailureAt kind.Package 0 (IsNvFailure text.now)) }
-{
-    match PackageNv::from_str(alloc, text) {
-        Ok(nv) => Ok(nv),
-        Err(error) => {
-            let failure = nv_failure(alloc, &error);
-            Err(Problem::of(Kind::Package, 0, failure))
-        }
-    }
-}
-
-/// Parses a name with a version, and returns its parts as the text of a JSON object.
-pub fn name_with_version_parts(alloc: Global, text: &str) -> Result<String, Problem>
-    ensures answer { IsAnswer (NameWithVersionParts text.now) (λ text. string_bytes text) result }
-    ensures failure { IfErr result (IsFailureAt kind.Package 0 (IsNvFailure text.now)) }
-{
-    let nv = name_with_version(alloc, text)?;
-    Ok(nv_text(alloc, &nv)?)
 }

@@ -11,7 +11,7 @@ ghost use Rattle.semver_base.specs.VersionText.{version_text};
 ghost use Rattle.semver_req.specs.Parsers.{AreReadOrTags, IsReadOrTag};
 ghost use Rattle.semver_req.specs.Requirement.{inner_means_with, tag_of};
 ghost use Rattle.semver_req.specs.TextRejection.{IsTextRejection};
-ghost use Rattle.deno_semver.specs.Resolve.{IsBestMatch, IsOnlyMatch};
+ghost use Rattle.semver_req.specs.Resolve.{IsBestMatch, IsOnlyMatch};
 ghost use Rattle.answers.specs.Asking.{IsAnswer, IsFailureAt};
 ghost use Rattle.answers.specs.declared.asking.Kind.TheVariants as kind;
 ghost use Rattle.answers.specs.Questions.{BestMatch, BestOf, Canonical, Common, CommonOf, Displayed, EndMatch, Equivalent, EquivalentOf, LowestMatch, Matches, Orders, Outside, OutsideOf, Overlaps, better, first_tag, match_of};
@@ -19,9 +19,12 @@ ghost use Rattle.answers.specs.Reading.{IsFailureAmong, texts_of};
 
 use crate::asking::{Answer, Problem};
 use crate::reading::{range, ranges, version, versions};
-use deno_semver::resolve::{max_satisfying_with, min_satisfying_with};
-use deno_semver::{PackageTag, PreRelease, Version, VersionReq};
+use semver_base::range::PreRelease;
+use semver_base::version::Version;
 use semver_req::common::values::Flavour;
+use semver_req::range_set_or_tag::PackageTag;
+use semver_req::req::VersionReq;
+use semver_req::resolve::{max_satisfying_with, min_satisfying_with};
 use std::alloc::{AllocError, Global};
 use std::cmp::Ordering;
 

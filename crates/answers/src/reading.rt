@@ -10,8 +10,9 @@ ghost use Rattle.answers.specs.declared.asking.Kind.TheVariants as kind;
 ghost use Rattle.answers.specs.Reading.{IsFailureAmong, IsRange, IsVersion, texts_of};
 
 use crate::asking::{Kind, Problem};
-use deno_semver::{Version, VersionReq};
+use semver_base::version::Version;
 use semver_req::common::values::Flavour;
+use semver_req::req::VersionReq;
 use std::alloc::Global;
 
 /// Parses the range at this place by the grammar.

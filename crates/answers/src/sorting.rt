@@ -11,7 +11,7 @@ ghost use Rattle.answers.specs.Sorting.{AreSortedPlaces, Sorts, order_cmp, stand
 
 use crate::asking::Problem;
 use crate::reading::versions;
-use deno_semver::Version;
+use semver_base::version::Version;
 use std::alloc::{AllocError, Global};
 use std::cmp::Ordering;
 

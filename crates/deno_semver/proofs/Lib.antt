@@ -1,11 +1,9 @@
-pub mod BestMatches
 pub mod Dependencies
 pub mod Equality
 pub mod ExportNames
 pub mod InnerReading
 pub mod JsonOnce
 pub mod JsonReading
-pub mod ListOrder
 pub mod NameAndVersion
 pub mod NvReferences
 pub mod NvText

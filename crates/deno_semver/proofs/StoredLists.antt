@@ -15,7 +15,7 @@ use Rattle.deno_semver.specs.StoredList.{AreEqualLists, IsNpmReq, IsSortedFrom, 
 use Rattle.deno_semver.specs.declared.json.error.JsonError.{JsonError}
 use Rattle.deno_semver.specs.declared.json.error.JsonError.TheVariants as error
 use Rattle.deno_semver.specs.declared.package.values.PackageReq.{PackageReq}
-use Rattle.deno_semver.proofs.ListOrder.{Tie, sorted_ties}
+use Rattle.semver_req.proofs.ListOrder.{Tie, sorted_ties}
 
 -- the exit of a `?` when out of memory
 pub exit_memory : {T : Type 0} (Says : T → Type 0) (r : Result T JsonError) (e : JsonError) → IsErrAnd r (λ f. f ≡ e) → e ≡ error.Memory → MatchResult r Says (λ f. f ≡ error.Memory)

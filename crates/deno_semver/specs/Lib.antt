@@ -23,8 +23,6 @@ pub mod ReferenceText
 pub mod ReqOrder
 pub mod ReqOrderLaws
 pub mod RequirementText
-pub mod Resolve
-pub mod ResolveSteps
 pub mod Specifier
 pub mod Stored
 pub mod StoredList

@@ -10,7 +10,6 @@ pub mod jsr;
 pub mod laws;
 pub mod npm;
 pub mod package;
-pub mod resolve;
 
 pub use semver_base::failure::{ParseFailure, Rejection};
 pub use semver_base::npm::NpmVersionParseError;
@@ -26,4 +25,5 @@ pub use semver_req::range_set_or_tag::{PackageTag, RangeSetOrTag};
 pub use semver_req::req::{
     IntoVersionReq, VersionReq, VersionReqNormalizedParseError, wildcard_version_req,
 };
+pub use semver_req::resolve;
 pub use semver_req::specifier::VersionReqSpecifierParseError;

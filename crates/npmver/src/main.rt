@@ -26,8 +26,9 @@ ghost use Rattle.npmver.specs.declared.Problem.TheVariants as problem;
 
 use answers::asking::{Answer, Problem as Unanswered};
 use answers::questions::{Best, best_match, canonical, matches, overlaps, text_of_version};
-use deno_semver::{PackageTag, PreRelease};
+use semver_base::range::PreRelease;
 use semver_req::common::values::Flavour;
+use semver_req::range_set_or_tag::PackageTag;
 use std::alloc::{AllocError, Global};
 use std::env::Env;
 use std::io::{ErrorKind, Write};

@@ -1,11 +1,11 @@
 //! `ranges package` and `ranges reference`: the parts of the text of a package.
 
 use crate::comparing::reject;
-use answers::packages::{package_json, read_package, scope_and_name};
-use answers::references::{Reference, read_reference, reference_json};
 use clap::ArgMatches;
 use deno_semver::jsr::normalized_export_name;
 use deno_semver::package::{PackageKind, PackageReq};
+use package_answers::packages::{package_json, read_package, scope_and_name};
+use package_answers::references::{Reference, read_reference, reference_json};
 use std::io::Write;
 use terminal::args::Options;
 use terminal::console::{Console, Status, Stop, print_line};

@@ -6,7 +6,7 @@ use Rattle.semver_base.specs.declared.version.Version.{Version}
 use Rattle.semver_req.specs.Requirement.{inner_means_with, tag_of}
 use Rattle.semver_req.specs.declared.range_set_or_tag.RangeSetOrTag.{RangeSetOrTag}
 use Rattle.semver_req.specs.declared.range_set_or_tag.RangeSetOrTag.TheVariants as inner
-use Rattle.deno_semver.specs.Resolve.{IsBestMatch, IsOnlyMatch}
+use Rattle.semver_req.specs.Resolve.{IsBestMatch, IsOnlyMatch}
 use Rattle.answers.specs.Filtering.{better_line, line_passes}
 use Rattle.answers.specs.declared.questions.End.{End}
 use Rattle.semver_c.specs.Codes.{IsCode, IsOneReply, IsPlaceReply, IsReply, IsReported, Reports, code_of, no_memory, no_place, place_after}

@@ -6,7 +6,7 @@ use Rattle.semver_base.specs.declared.version.Version.{Version}
 use Rattle.semver_req.specs.Requirement.{Requirement, inner_means_with, inner_overlap}
 use Rattle.semver_req.specs.declared.range_set_or_tag.RangeSetOrTag.{RangeSetOrTag}
 use Rattle.semver_req.specs.declared.range_set_or_tag.RangeSetOrTag.TheVariants as inner
-use Rattle.deno_semver.specs.Resolve.{IsBestMatch, IsOnlyMatch}
+use Rattle.semver_req.specs.Resolve.{IsBestMatch, IsOnlyMatch}
 use Rattle.answers.specs.Asking.{Is}
 use Rattle.answers.specs.Filtering.{better_line, line_passes, list_matches}
 use Rattle.answers.specs.Questions.{match_of}

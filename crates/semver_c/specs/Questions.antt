@@ -12,13 +12,14 @@ use Rattle.answers.specs.Asking.{Fault, Given, Is}
 use Rattle.answers.specs.Errors.{IsErrorsText}
 use Rattle.answers.specs.ExplainedJson.{Explains}
 use Rattle.answers.specs.Filtering.{Filter, VersionLines}
-use Rattle.answers.specs.Packages.{PackageParts}
-use Rattle.answers.specs.Parts.{NameWithVersionParts, RangeParts, VersionParts}
+use Rattle.package_answers.specs.Packages.{PackageParts}
+use Rattle.answers.specs.Parts.{RangeParts, VersionParts}
+use Rattle.package_answers.specs.Names.{NameWithVersionParts}
 use Rattle.answers.specs.Questions.{BestMatch, Canonical, Common, Displayed, Equivalent, LowestMatch, Matches, Orders, Outside, Overlaps, match_of}
 use Rattle.answers.specs.Reading.{IsRange, IsVersion}
-use Rattle.answers.specs.References.{ReferenceParts}
+use Rattle.package_answers.specs.References.{ReferenceParts}
 use Rattle.answers.specs.Sorting.{Sorts}
-use Rattle.answers.specs.Specifiers.{DependencyParts, VersionReferenceParts}
+use Rattle.package_answers.specs.Specifiers.{DependencyParts, VersionReferenceParts}
 use Rattle.answers.specs.declared.asking.Answer.{Answer}
 use Rattle.answers.specs.declared.questions.Best.{Best}
 use Rattle.answers.specs.declared.sorting.Order.TheVariants.{Ascending}

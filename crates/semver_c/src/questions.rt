@@ -20,19 +20,20 @@ use answers::asking::Answer;
 use answers::errors::{errors_of_range, version_error};
 use answers::explained_json::explain_as_json;
 use answers::filtering::{self, list_best, list_matches, version_lines};
-use answers::packages::package_parts;
-use answers::parts::{name_with_version_parts, range_parts, version_parts};
+use answers::parts::{range_parts, version_parts};
 use answers::questions::{
     Best, End, best_match, canonical, common_version, displayed, equivalent, lowest_match, matches,
     order, overlaps, text_of_version, version_outside,
 };
 use answers::reading::{range, version};
-use answers::references::reference_parts;
 use answers::sorting::{Order, sort, sorted_lines as sorted_list};
-use answers::specifiers::{dependency_parts, version_reference_parts};
 use deno_semver::jsr::normalized_export_name;
 use deno_semver::{PreRelease, Version, VersionReq};
 use handles::VersionList;
+use package_answers::names::name_with_version_parts;
+use package_answers::packages::package_parts;
+use package_answers::references::reference_parts;
+use package_answers::specifiers::{dependency_parts, version_reference_parts};
 use std::alloc::{AllocError, Global};
 use std::cmp::Ordering;
 

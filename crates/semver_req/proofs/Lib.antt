@@ -66,3 +66,5 @@ pub mod StrictRejections
 pub mod Trimmed
 pub mod VersionEndings
 pub mod VersionTexts
+pub mod BestMatches
+pub mod ListOrder

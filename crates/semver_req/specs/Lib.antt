@@ -20,3 +20,5 @@ pub mod Viable
 pub mod InvalidPieces
 pub mod Kinds
 pub mod Causes
+pub mod Resolve
+pub mod ResolveSteps

@@ -4,7 +4,7 @@ use Rattle.semver_req.specs.Requirement.{inner_means_with}
 use Rattle.semver_base.specs.declared.version.Version.{Version}
 use Rattle.answers.specs.Filtering.{better_line, line_passes}
 use Rattle.answers.proofs.BestLines.{known_line, line_exceeds, line_ranks, line_stays}
-use Rattle.deno_semver.proofs.BestMatches.{one_match, stays, taken}
+use Rattle.semver_req.proofs.BestMatches.{one_match, stays, taken}
 use Rattle.answers.proofs.filtering.list_best.Goals as goal
 use Rattle.answers.proofs.filtering.list_best.Goals.{in-Some+then-is_better, in-Some+else-is_better, in_default}
 

@@ -2,7 +2,7 @@ use Rattle.std.proofs.Common.{take}
 use Rattle.semver_req.specs.Requirement.{inner_means_with}
 use Rattle.answers.specs.Filtering.{better_line, line_passes}
 use Rattle.answers.proofs.BestLines.{known_line, line_ranks}
-use Rattle.deno_semver.proofs.BestMatches.{IsKnown}
+use Rattle.semver_req.proofs.BestMatches.{IsKnown}
 use Rattle.answers.proofs.filtering.list_best.Given as goal
 
 abbrev pub invariant-loop-place : goal.invariant-loop-place

@@ -1,0 +1,4 @@
+pub mod NvAnswers
+pub mod PackageAnswers
+pub mod ReferenceAnswers
+pub mod SpecifierAnswers

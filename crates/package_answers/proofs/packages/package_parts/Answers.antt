@@ -1,0 +1,11 @@
+use Rattle.std.proofs.lemmas.Result.{err_from_is_err_and}
+use Rattle.answers.proofs.Givens.{answered, by_fault, by_value}
+use Rattle.package_answers.proofs.packages.package_parts.Goals as goal
+
+pub returns-in_err-req-clause-answer : goal.returns-in_err-req-clause-answer
+returns-in_err-req-clause-answer c =
+    let p = err_from_is_err_and c.from_residual.result c.from_residual.ensures.1 in
+    rw (p.1, p.2) (by_fault _ _ _ _ c.in_err-req.ensures.answer)
+
+pub returns-clause-answer : goal.returns-clause-answer
+returns-clause-answer c = by_value _ _ _ _ c.in_ok-req.ensures.answer _ (answered _ _ _ c.in_ok-parts_text.ensures)

@@ -1,0 +1,11 @@
+use Rattle.std.proofs.lemmas.Result.{err_from_is_err_and}
+use Rattle.answers.proofs.Givens.{answered, by_fault, by_value}
+use Rattle.package_answers.proofs.specifiers.version_reference_parts.Goals as goal
+
+pub returns-in_err-read-clause-answer : goal.returns-in_err-read-clause-answer
+returns-in_err-read-clause-answer c =
+    let p = err_from_is_err_and c.from_residual.result c.from_residual.ensures.1 in
+    rw (p.1, p.2) (by_fault _ _ _ _ c.in_err-read.ensures.answer)
+
+pub returns-clause-answer : goal.returns-clause-answer
+returns-clause-answer c = by_value _ _ _ _ c.in_ok-read.ensures.answer _ (answered _ _ _ c.in_ok-version_reference_text.ensures)

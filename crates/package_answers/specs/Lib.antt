@@ -1,0 +1,4 @@
+pub mod Names
+pub mod Packages
+pub mod References
+pub mod Specifiers

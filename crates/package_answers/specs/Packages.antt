@@ -1,0 +1,70 @@
+-- The package that a text parses to, its parts, and what is wrong with an invalid text.
+use Rattle.std.specs.Prelude.{◌≡◌, ◌⊎◌, ◌==◌, ◌+◌, ℕ, List, [], ◌∷◌, Option, None, Some, Result, Ok, Err, codes, drop, length, if◌then◌else◌}
+use Rattle.std.specs.List.{take_while}
+use Rattle.serde_json.specs.Data.{Data, member, no_members, object, string}
+use Rattle.serde_json.specs.Written.{compact_text}
+use Rattle.semver_base.specs.Characters.{at_sign, slash}
+use Rattle.semver_req.specs.Parsers.{Failure}
+use Rattle.semver_req.specs.Requirement.{inner_text}
+use Rattle.semver_req.specs.declared.common.values.Flavour.{Flavour}
+use Rattle.deno_semver.specs.Cuts.{is_not}
+use Rattle.deno_semver.specs.PackageOutcome.{Fault as PackageFault, IsPackageOutcome, IsPackageRejection}
+use Rattle.deno_semver.specs.declared.package.errors.PackageReqParseError.{PackageReqParseError}
+use Rattle.deno_semver.specs.declared.package.errors.PackageReqPartsParseError.{PackageReqPartsParseError}
+use Rattle.deno_semver.specs.declared.package.errors.PackageReqPartsParseError.TheVariants as parts
+use Rattle.deno_semver.specs.declared.package.values.PackageReq.{PackageReq}
+use Rattle.answers.specs.Asking.{Fault, Given, Invalid, Is}
+use Rattle.answers.specs.Object.{text_or_null}
+use Rattle.answers.specs.declared.asking.Kind.TheVariants as kind
+
+-- ---- a name and its scope
+
+-- for a name that begins with `@`, the part between that and the first `/`
+abbrev pub scope_part : List ℕ → Option (List ℕ)
+scope_part [] = None
+scope_part (first ∷ more) = if first == at_sign then Some (take_while (is_not slash) more) else None
+
+-- what follows the scope and its `/`; without a scope, the whole name
+abbrev pub last_part : List ℕ → List ℕ
+last_part [] = []
+last_part (first ∷ more) =
+    if first == at_sign then drop (length (take_while (is_not slash) more) + 1) more else first ∷ more
+
+-- ---- the parts of a package
+
+-- the name without its scope, the range's canonical form and the text it was parsed from, and the scope
+abbrev pub package_json : PackageReq → Data
+package_json req =
+    object (member (codes "name") (string (last_part req.name))
+    (member (codes "normal") (string (inner_text req.version_req.inner))
+    (member (codes "requirement") (string req.version_req.raw_text)
+    (member (codes "scope") (text_or_null (scope_part req.name)) no_members))))
+
+-- ---- the question
+
+-- the package that a text parses to, with a grammar for its range
+pub data IsPackage (f : Flavour) (text : List ℕ) : Result PackageReq Fault → Type 0 where
+  is_package : {req : PackageReq} → IsPackageOutcome f text (Ok req) → IsPackage f text (Ok req)
+  is_no_package : {fault : PackageFault} → IsPackageOutcome f text (Err fault) → IsPackage f text (Err (Invalid kind.Package 0))
+
+-- its parts
+abbrev pub PackageParts : Flavour → List ℕ → Result (List ℕ) Fault → Type 0
+PackageParts f text = Given (IsPackage f text) (λ req. Is (compact_text (package_json req)))
+
+-- ---- failures
+
+-- what is wrong: with the range what its grammar reports, else one of three messages; none for out of memory
+abbrev pub parts_failure : PackageReqPartsParseError → Failure
+parts_failure (parts.SpecifierVersionReq error) = error.source
+parts_failure (parts.NpmVersionReq error) = error.source
+parts_failure (parts.NormalizedVersionReq error) = error.source
+parts_failure parts.NoPackageName = Some (codes "Did not contain a package name.", None)
+parts_failure parts.InvalidPackageName = Some (codes "Did not contain a valid package name.", None)
+parts_failure parts.MissingAtSymbol =
+    Some (codes "Packages in the format <scope>/<name> must start with an '@' symbol.", None)
+parts_failure parts.Memory = None
+
+-- the failure is that of the text's first fault, or out of memory
+abbrev pub IsPackageFailure : Flavour → List ℕ → Failure → Type 0
+IsPackageFailure f text failure = (failure ≡ None)
+    ⊎ ((error : PackageReqParseError) × IsPackageRejection f text error × (failure ≡ parts_failure error.source))

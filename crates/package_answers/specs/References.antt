@@ -1,0 +1,71 @@
+-- The package reference that a text parses to, its parts, and what is wrong with an invalid text.
+use Rattle.std.specs.Prelude.{◌≡◌, ◌⊎◌, ◌++◌, ℕ, List, Option, None, Some, Result, Ok, Err, codes}
+use Rattle.serde_json.specs.Data.{Data, member, no_members, object, string}
+use Rattle.serde_json.specs.Written.{compact_text}
+use Rattle.semver_req.specs.Parsers.{Failure}
+use Rattle.deno_semver.specs.ExportName.{export_name}
+use Rattle.deno_semver.specs.Kind.{scheme_of}
+use Rattle.deno_semver.specs.ReferenceOutcome as reference
+use Rattle.deno_semver.specs.ReferenceOutcome.{IsReferenceOutcome, IsReferenceRejection, ReferenceError, ReferenceFault, unboxed}
+use Rattle.deno_semver.specs.ReferenceText.{LacksScheme}
+use Rattle.deno_semver.specs.declared.package.kind.PackageKind.{PackageKind}
+use Rattle.deno_semver.specs.declared.package.kind.PackageKind.TheVariants.{Jsr, Npm}
+use Rattle.deno_semver.specs.declared.package.reference_errors.PackageReqReferenceParseError.{PackageReqReferenceParseError}
+use Rattle.answers.specs.Asking.{Fault, Given, Invalid, Is}
+use Rattle.package_answers.specs.Packages.{package_json, parts_failure}
+use Rattle.answers.specs.Object.{text_or_null}
+use Rattle.answers.specs.declared.asking.Kind.TheVariants as kind
+use Rattle.package_answers.specs.declared.references.Reference.{Reference}
+
+-- ---- the parts
+
+-- the name of a registry
+abbrev pub kind_text : PackageKind → List ℕ
+kind_text Jsr = codes "jsr"
+kind_text Npm = codes "npm"
+
+-- for JSR, the export that the path means
+abbrev pub export_of : PackageKind → Option (List ℕ) → Option (List ℕ)
+export_of Jsr path = Some (export_name path)
+export_of Npm path = None
+
+abbrev pub reference_json : Reference → Data
+reference_json read =
+    object (member (codes "export") (text_or_null (export_of read.kind read.reference.sub_path))
+    (member (codes "kind") (string (kind_text read.kind))
+    (member (codes "package") (package_json read.reference.req)
+    (member (codes "path") (text_or_null read.reference.sub_path) no_members))))
+
+-- ---- the question
+
+-- JSR if the text begins with its scheme, else npm
+abbrev pub IsRegistryOf : List ℕ → PackageKind → Type 0
+IsRegistryOf text Jsr = (body : List ℕ) × (text ≡ scheme_of Jsr ++ body)
+IsRegistryOf text Npm = LacksScheme Jsr text
+
+-- the reference to a package of that registry that a text parses to
+pub data IsReference (text : List ℕ) : Result Reference Fault → Type 0 where
+  refers : {read : Reference} → IsRegistryOf text read.kind → IsReferenceOutcome read.kind text (Ok read.reference)
+      → IsReference text (Ok read)
+  refers_not : {registry : PackageKind} {fault : ReferenceFault} → IsRegistryOf text registry
+      → IsReferenceOutcome registry text (Err fault) → IsReference text (Err (Invalid kind.Reference 0))
+
+-- its parts
+abbrev pub ReferenceParts : List ℕ → Result (List ℕ) Fault → Type 0
+ReferenceParts text = Given (IsReference text) (λ read. Is (compact_text (reference_json read)))
+
+-- ---- failures
+
+-- what is wrong: with the package what its parser reports, else one of two messages; none for out of memory
+abbrev pub reference_failure : ReferenceError → Failure
+reference_failure (reference.NotExpectedScheme registry) = Some (codes "Neither jsr: nor npm: stands in front.", None)
+reference_failure (reference.Invalid error) = parts_failure error.source
+reference_failure (reference.InvalidPathWithVersion error) =
+    Some (codes "The version stands in the path; write " ++ (scheme_of error.kind ++ error.suggested), None)
+reference_failure reference.Memory = None
+
+-- the failure is that of the text's first fault, or out of memory
+abbrev pub IsReferenceFailure : List ℕ → Failure → Type 0
+IsReferenceFailure text failure = (failure ≡ None)
+    ⊎ ((registry : PackageKind) × (error : PackageReqReferenceParseError) × IsRegistryOf text registry
+    × IsReferenceRejection registry text error × (failure ≡ reference_failure (unboxed error)))

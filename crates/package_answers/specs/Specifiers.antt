@@ -1,0 +1,77 @@
+-- References to one version of a package, and dependencies, with their parts as JSON.
+use Rattle.std.specs.Prelude.{◌≡◌, ◌⊎◌, ℕ, List, None, Some, Result, Ok, Err, codes}
+use Rattle.serde_json.specs.Data.{Data, member, no_members, object, string}
+use Rattle.serde_json.specs.Written.{compact_text}
+use Rattle.semver_base.specs.Failure.{rejection_message}
+use Rattle.semver_base.specs.declared.failure.Rejection.{Rejection}
+use Rattle.semver_req.specs.Parsers.{Failure}
+use Rattle.semver_req.specs.declared.common.values.Flavour.{Flavour}
+use Rattle.deno_semver.specs.DependencyOrder.{normal_dependency_text}
+use Rattle.deno_semver.specs.DependencyOutcome.{DependencyFault, IsDependencyOutcome, IsDependencyRejection}
+use Rattle.deno_semver.specs.NvReference.{IsNvReferenceOutcome}
+use Rattle.deno_semver.specs.declared.jsr.dependency.JsrDepPackageReq.{JsrDepPackageReq}
+use Rattle.deno_semver.specs.declared.jsr.dependency.JsrDepPackageReqParseError.{JsrDepPackageReqParseError}
+use Rattle.deno_semver.specs.declared.jsr.dependency.JsrDepPackageReqParseError.TheVariants as error
+use Rattle.deno_semver.specs.declared.package.kind.PackageKind.{PackageKind}
+use Rattle.answers.specs.Asking.{Fault, Given, Invalid, Is}
+use Rattle.package_answers.specs.Packages.{package_json, parts_failure}
+use Rattle.answers.specs.Object.{text_or_null}
+use Rattle.package_answers.specs.Names.{nv_json}
+use Rattle.package_answers.specs.References.{IsRegistryOf, export_of, kind_text}
+use Rattle.answers.specs.declared.asking.Kind.TheVariants as kind
+use Rattle.package_answers.specs.declared.specifiers.VersionReference.{VersionReference}
+
+-- ---- dependencies
+
+-- the registry, the canonical form of the whole, and the package
+abbrev pub dependency_json : JsrDepPackageReq → Data
+dependency_json d =
+    object (member (codes "kind") (string (kind_text d.kind))
+    (member (codes "normal") (string (normal_dependency_text d))
+    (member (codes "package") (package_json d.req) no_members)))
+
+-- the dependency that a text parses to, with a grammar for its range
+pub data IsDependency (f : Flavour) (text : List ℕ) : Result JsrDepPackageReq Fault → Type 0 where
+  depends : {d : JsrDepPackageReq} → IsDependencyOutcome f text (Ok d) → IsDependency f text (Ok d)
+  depends_not : {fault : DependencyFault} → IsDependencyOutcome f text (Err fault)
+      → IsDependency f text (Err (Invalid kind.Reference 0))
+
+abbrev pub DependencyParts : Flavour → List ℕ → Result (List ℕ) Fault → Type 0
+DependencyParts f text = Given (IsDependency f text) (λ d. Is (compact_text (dependency_json d)))
+
+-- what is wrong: with the package what its parser reports; none for out of memory
+abbrev pub dependency_failure : JsrDepPackageReqParseError → Failure
+dependency_failure (error.NotExpectedScheme scheme) = Some (codes "Neither jsr: nor npm: stands in front.", None)
+dependency_failure (error.PackageReqParse inner) = parts_failure inner.source
+dependency_failure error.Memory = None
+
+-- the failure is that of the text's first fault, or out of memory
+abbrev pub IsDependencyFailure : Flavour → List ℕ → Failure → Type 0
+IsDependencyFailure f text failure = (failure ≡ None)
+    ⊎ ((e : JsrDepPackageReqParseError) × IsDependencyRejection f text e × (failure ≡ dependency_failure e))
+
+-- ---- references to a version
+
+-- for JSR the export that the path means, the registry, the name with its version, and the path
+abbrev pub version_reference_json : VersionReference → Data
+version_reference_json read =
+    object (member (codes "export") (text_or_null (export_of read.kind read.reference.sub_path))
+    (member (codes "kind") (string (kind_text read.kind))
+    (member (codes "package") (nv_json read.reference.nv)
+    (member (codes "path") (text_or_null read.reference.sub_path) no_members))))
+
+-- the reference to a version of a package of that registry that a text parses to
+pub data IsVersionReference (text : List ℕ) : Result VersionReference Fault → Type 0 where
+  pins : {read : VersionReference} → IsRegistryOf text read.kind → IsNvReferenceOutcome read.kind text (Ok read.reference)
+      → IsVersionReference text (Ok read)
+  pins_not : {registry : PackageKind} {fault : Rejection} → IsRegistryOf text registry
+      → IsNvReferenceOutcome registry text (Err fault) → IsVersionReference text (Err (Invalid kind.Reference 0))
+
+abbrev pub VersionReferenceParts : List ℕ → Result (List ℕ) Fault → Type 0
+VersionReferenceParts text = Given (IsVersionReference text) (λ read. Is (compact_text (version_reference_json read)))
+
+-- the failure is that of the text's first fault, or out of memory
+abbrev pub IsVersionReferenceFailure : List ℕ → Failure → Type 0
+IsVersionReferenceFailure text failure = (failure ≡ None)
+    ⊎ ((registry : PackageKind) × (fault : Rejection) × IsRegistryOf text registry
+    × IsNvReferenceOutcome registry text (Err fault) × (failure ≡ Some (rejection_message fault, None)))

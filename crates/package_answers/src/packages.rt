@@ -1,0 +1,115 @@
+//! The text of a package, such as `@scope/name@^1.2`.
+
+ghost use Rattle.std.specs.Prelude.{◌≡◌, ◌⊎◌, IfErr, IfOk, None, Ok, Result, string_bytes};
+ghost use Rattle.std.specs.Option.{option_copied};
+ghost use Rattle.serde_json.specs.View.{view};
+ghost use Rattle.serde_json.specs.Written.{compact_text};
+ghost use Rattle.deno_semver.specs.PackageOutcome.{Fault, IsPackageAnswer, IsPackageOutcome, IsPackageRejection};
+ghost use Rattle.deno_semver.specs.declared.package.values.PackageReq.{PackageReq};
+ghost use Rattle.answers.specs.Asking.{IsAnswer, IsFailureAt};
+ghost use Rattle.package_answers.specs.Packages.{IsPackage, IsPackageFailure, PackageParts, last_part, package_json, parts_failure, scope_part};
+ghost use Rattle.answers.specs.Object.{text_or_null};
+ghost use Rattle.answers.specs.declared.asking.Kind.TheVariants as kind;
+
+use answers::asking::{Kind, Problem};
+use answers::object::Object;
+use deno_semver::ParseFailure;
+use deno_semver::package::{PackageReq, PackageReqParseError, PackageReqPartsParseError};
+use semver_req::common::values::Flavour;
+use serde_json::Value;
+use std::alloc::{AllocError, Global};
+
+/// Returns the scope of a name without its `@`, if it has one, and what follows the scope.
+pub fn scope_and_name(name: &str) -> (Option<&str>, &str)
+    ensures scope { option_copied result.0 ≡ scope_part name.now }
+    ensures last { result.1.now ≡ last_part name.now }
+{
+    let Some(rest) = name.strip_prefix('@') else {
+        return (None, name);
+    };
+    match rest.split_once('/') {
+        Some((scope, last)) => (Some(scope), last),
+        None => (Some(rest), ""),
+    }
+}
+
+/// Returns the parts of a package as JSON: its name without the scope, its range's canonical form and the text the range was
+/// parsed from, and its scope or null.
+pub fn package_json(alloc: Global, req: &PackageReq) -> Result<Value, AllocError>
+    ensures { IfOk result (λ json. view json ≡ package_json req.now) }
+{
+    let (scope, name) = scope_and_name(req.name.as_str());
+    let normal = req.version_req.to_string_normalized(alloc)?;
+    Object::new(alloc)
+        .put_text("name", Some(name))
+        .put_text("normal", Some(normal.as_str()))
+        .put_text("requirement", Some(req.version_req.version_text()))
+        .put_text("scope", scope)
+        .into_json()
+}
+
+// The JSON as a text.
+fn parts_text(alloc: Global, req: &PackageReq) -> Result<String, AllocError>
+    ensures { IfOk result (λ text. string_bytes text ≡ compact_text (package_json req.now)) }
+{
+    let json = package_json(alloc, req)?;
+    json.to_string(alloc)
+}
+
+// Parses a package.
+fn parse(alloc: Global, flavour: Flavour, text: &str) -> Result<PackageReq, PackageReqParseError>
+    ensures read { IfOk result (λ req. IsPackageOutcome flavour text.now (Ok req)) }
+    ensures rejected { IfErr result (IsPackageRejection flavour text.now) }
+    ensures answer { (outcome : Result PackageReq Fault)
+        → IsPackageOutcome flavour text.now outcome
+        → IsPackageAnswer flavour text.now outcome result }
+{
+    match flavour {
+        Flavour::Npm => PackageReq::from_str_loose(alloc, text),
+        Flavour::Normal => PackageReq::from_str_normalized(alloc, text),
+        Flavour::Specifier => PackageReq::from_str(alloc, text),
+    }
+}
+
+/// What is wrong with the text of a package.
+pub(crate) fn parts_failure(alloc: Global, error: PackageReqPartsParseError) -> ParseFailure
+    ensures { (result ≡ None) ⊎ (result ≡ parts_failure error) }
+{
+    let message = match error {
+        PackageReqPartsParseError::SpecifierVersionReq(error) => return error.source,
+        PackageReqPartsParseError::NpmVersionReq(error) => return error.source,
+        PackageReqPartsParseError::NormalizedVersionReq(error) => return error.source,
+        PackageReqPartsParseError::NoPackageName => "Did not contain a package name.",
+        PackageReqPartsParseError::InvalidPackageName => "Did not contain a valid package name.",
+        PackageReqPartsParseError::MissingAtSymbol => {
+            "Packages in the format <scope>/<name> must start with an '@' symbol."
+        }
+        PackageReqPartsParseError::Memory => return ParseFailure::memory(),
+    };
+    ParseFailure::with_texts(alloc, message, None)
+}
+
+/// Parses a package, with this grammar for its range.
+pub fn read_package(alloc: Global, flavour: Flavour, text: &str) -> Result<PackageReq, Problem>
+    ensures answer { IsAnswer (IsPackage flavour text.now) (λ req. req) result }
+    ensures failure { IfErr result
+        (IsFailureAt kind.Package 0 (IsPackageFailure flavour text.now)) }
+{
+    match parse(alloc, flavour, text) {
+        Ok(req) => Ok(req),
+        Err(error) => {
+            let failure = parts_failure(alloc, error.source);
+            Err(Problem::of(Kind::Package, 0, failure))
+        }
+    }
+}
+
+/// Parses a package, and returns its parts as the text of a JSON object.
+pub fn package_parts(alloc: Global, flavour: Flavour, text: &str) -> Result<String, Problem>
+    ensures answer { IsAnswer (PackageParts flavour text.now) (λ text. string_bytes text) result }
+    ensures failure { IfErr result
+        (IsFailureAt kind.Package 0 (IsPackageFailure flavour text.now)) }
+{
+    let req = read_package(alloc, flavour, text)?;
+    Ok(parts_text(alloc, &req)?)
+}

@@ -1,0 +1,213 @@
+//! The texts of references to one version of a package, such as `jsr:@scope/name@1.2.3/mod.ts`, and of dependencies, such as
+//! `npm:name@^1`.
+
+ghost use Rattle.std.specs.Prelude.{◌≡◌, ◌≢◌, ◌⊎◌, [], IfErr, IfOk, None, Ok, Result, Some, string_bytes};
+ghost use Rattle.std.specs.Option.{option_copied};
+ghost use Rattle.serde_json.specs.View.{view};
+ghost use Rattle.serde_json.specs.Written.{compact_text};
+ghost use Rattle.semver_base.specs.declared.failure.Rejection.{Rejection};
+ghost use Rattle.deno_semver.specs.DependencyOutcome.{DependencyFault, IsDependencyAnswer, IsDependencyOutcome, IsDependencyRejection};
+ghost use Rattle.deno_semver.specs.NvReference.{IsNvReferenceAnswer, IsNvReferenceOutcome, IsNvReferenceRejection};
+ghost use Rattle.deno_semver.specs.declared.jsr.dependency.JsrDepPackageReq.{JsrDepPackageReq};
+ghost use Rattle.deno_semver.specs.declared.package.nv_reference.PackageNvReference.{PackageNvReference};
+ghost use Rattle.answers.specs.Asking.{IsAnswer, IsFailureAt};
+ghost use Rattle.package_answers.specs.Specifiers.{DependencyParts, IsDependency, IsDependencyFailure, IsVersionReference, IsVersionReferenceFailure, VersionReferenceParts, dependency_failure, dependency_json, version_reference_json};
+ghost use Rattle.answers.specs.declared.asking.Kind.TheVariants as kind;
+
+use crate::names::nv_json;
+use crate::packages::{package_json, parts_failure};
+use crate::references::{export_json, registry_name, registry_of};
+use answers::asking::{Kind, Problem};
+use answers::object::Object;
+use deno_semver::ParseFailure;
+use deno_semver::jsr::{JsrDepPackageReq, JsrDepPackageReqParseError, JsrPackageNvReference};
+use deno_semver::npm::NpmPackageNvReference;
+use deno_semver::package::{PackageKind, PackageNvReference, PackageNvReferenceParseError};
+use semver_req::common::values::Flavour;
+use serde_json::Value;
+use std::alloc::{AllocError, Global};
+
+// Parses a dependency.
+fn parse_dependency(
+    alloc: Global,
+    flavour: Flavour,
+    text: &str,
+) -> Result<JsrDepPackageReq, JsrDepPackageReqParseError>
+    ensures read { IfOk result (λ d. IsDependencyOutcome flavour text.now (Ok d)) }
+    ensures rejected { IfErr result (IsDependencyRejection flavour text.now) }
+    ensures answer { (outcome : Result JsrDepPackageReq DependencyFault)
+        → IsDependencyOutcome flavour text.now outcome
+        → IsDependencyAnswer flavour text.now outcome result }
+{
+    match flavour {
+        Flavour::Npm => JsrDepPackageReq::from_str_loose(alloc, text),
+        Flavour::Normal => JsrDepPackageReq::from_str_normalized(alloc, text),
+        Flavour::Specifier => JsrDepPackageReq::from_str(alloc, text),
+    }
+}
+
+// What is wrong with the text of a dependency.
+fn dependency_failure(alloc: Global, error: JsrDepPackageReqParseError) -> ParseFailure
+    ensures { (result ≡ None) ⊎ (result ≡ dependency_failure error) }
+{
+    match error {
+        JsrDepPackageReqParseError::NotExpectedScheme(_scheme) => {
+            ParseFailure::with_texts(alloc, "Neither jsr: nor npm: stands in front.", None)
+        }
+        JsrDepPackageReqParseError::PackageReqParse(error) => parts_failure(alloc, error.source),
+        JsrDepPackageReqParseError::Memory => ParseFailure::memory(),
+    }
+}
+
+/// Parses a dependency, with this grammar for its range.
+pub fn read_dependency(
+    alloc: Global,
+    flavour: Flavour,
+    text: &str,
+) -> Result<JsrDepPackageReq, Problem>
+    ensures answer { IsAnswer (IsDependency flavour text.now) (λ d. d) result }
+    ensures failure { IfErr result
+        (IsFailureAt kind.Reference 0 (IsDependencyFailure flavour text.now)) }
+{
+    match parse_dependency(alloc, flavour, text) {
+        Ok(dependency) => Ok(dependency),
+        Err(error) => {
+            let failure = dependency_failure(alloc, error);
+            Err(Problem::of(Kind::Reference, 0, failure))
+        }
+    }
+}
+
+// The parts of a dependency as JSON: its registry, its canonical form and its package.
+fn dependency_json(alloc: Global, dependency: &JsrDepPackageReq) -> Result<Value, AllocError>
+    ensures { IfOk result (λ json. view json ≡ dependency_json dependency.now) }
+{
+    let normal = dependency.to_string_normalized(alloc)?;
+    Object::new(alloc)
+        .put_text("kind", Some(registry_name(dependency.kind)))
+        .put_text("normal", Some(normal.as_str()))
+        .put("package", package_json(alloc, &dependency.req))
+        .into_json()
+}
+
+// The JSON as a text.
+fn dependency_text(alloc: Global, dependency: &JsrDepPackageReq) -> Result<String, AllocError>
+    ensures { IfOk result (λ text. string_bytes text
+        ≡ compact_text (dependency_json dependency.now)) }
+{
+    let json = dependency_json(alloc, dependency)?;
+    json.to_string(alloc)
+}
+
+/// Parses a dependency, and returns its parts as the text of a JSON object.
+pub fn dependency_parts(alloc: Global, flavour: Flavour, text: &str) -> Result<String, Problem>
+    ensures answer { IsAnswer (DependencyParts flavour text.now)
+        (λ text. string_bytes text) result }
+    ensures failure { IfErr result
+        (IsFailureAt kind.Reference 0 (IsDependencyFailure flavour text.now)) }
+{
+    let dependency = read_dependency(alloc, flavour, text)?;
+    Ok(dependency_text(alloc, &dependency)?)
+}
+
+/// A reference to one version of a package of either registry.
+#[derive(Debug, Drop)]
+pub struct VersionReference {
+    pub kind: PackageKind,
+    pub reference: PackageNvReference,
+}
+
+impl VersionReference {
+    /// Returns the path, if there is one.
+    pub fn path(&self) -> Option<&str>
+        ensures { option_copied result ≡ self.now.reference.sub_path }
+    {
+        match &self.reference.sub_path {
+            Some(path) => Some(path.as_str()),
+            None => None,
+        }
+    }
+}
+
+// Parses a reference to a version of a package of the registry.
+fn parse_reference(
+    alloc: Global,
+    kind: PackageKind,
+    text: &str,
+) -> Result<PackageNvReference, PackageNvReferenceParseError>
+    ensures read { IfOk result (λ r. IsNvReferenceOutcome kind text.now (Ok r)) }
+    ensures rejected { IfErr result (IsNvReferenceRejection kind text.now) }
+    ensures answer { (outcome : Result PackageNvReference Rejection)
+        → IsNvReferenceOutcome kind text.now outcome
+        → IsNvReferenceAnswer text.now outcome result }
+{
+    match kind {
+        PackageKind::Jsr => match JsrPackageNvReference::from_str(alloc, text) {
+            Ok(reference) => Ok(reference.into_inner()),
+            Err(error) => Err(error),
+        },
+        PackageKind::Npm => match NpmPackageNvReference::from_str(alloc, text) {
+            Ok(reference) => Ok(reference.into_inner()),
+            Err(error) => Err(error),
+        },
+    }
+}
+
+// What is wrong with the text of a reference to a version.
+fn version_reference_failure(alloc: Global, error: &PackageNvReferenceParseError) -> ParseFailure
+    ensures { (result ≡ None)
+        ⊎ ((error.now.message ≢ []) × (result ≡ Some (error.now.message, None))) }
+{
+    if error.is_memory() {
+        return ParseFailure::memory();
+    }
+    ParseFailure::with_texts(alloc, error.message.as_str(), None)
+}
+
+/// Parses a reference to a version, of a JSR package if the text begins with `jsr:`, else of an npm package.
+pub fn read_version_reference(alloc: Global, text: &str) -> Result<VersionReference, Problem>
+    ensures answer { IsAnswer (IsVersionReference text.now) (λ read. read) result }
+    ensures failure { IfErr result
+        (IsFailureAt kind.Reference 0 (IsVersionReferenceFailure text.now)) }
+{
+    let kind = registry_of(text);
+    match parse_reference(alloc, kind, text) {
+        Ok(reference) => Ok(VersionReference { kind, reference }),
+        Err(error) => {
+            let failure = version_reference_failure(alloc, &error);
+            Err(Problem::of(Kind::Reference, 0, failure))
+        }
+    }
+}
+
+// The parts of a reference to a version as JSON: its registry, its name with the version, its path or null, and for JSR the
+// export that the path means.
+fn version_reference_json(alloc: Global, read: &VersionReference) -> Result<Value, AllocError>
+    ensures { IfOk result (λ json. view json ≡ version_reference_json read.now) }
+{
+    Object::new(alloc)
+        .put("export", export_json(alloc, read.kind, read.path()))
+        .put_text("kind", Some(registry_name(read.kind)))
+        .put("package", nv_json(alloc, &read.reference.nv))
+        .put_text("path", read.path())
+        .into_json()
+}
+
+// The JSON as a text.
+fn version_reference_text(alloc: Global, read: &VersionReference) -> Result<String, AllocError>
+    ensures { IfOk result (λ text. string_bytes text
+        ≡ compact_text (version_reference_json read.now)) }
+{
+    let json = version_reference_json(alloc, read)?;
+    json.to_string(alloc)
+}
+
+/// Parses a reference to a version, and returns its parts as the text of a JSON object.
+pub fn version_reference_parts(alloc: Global, text: &str) -> Result<String, Problem>
+    ensures answer { IsAnswer (VersionReferenceParts text.now) (λ text. string_bytes text) result }
+    ensures failure { IfErr result
+        (IsFailureAt kind.Reference 0 (IsVersionReferenceFailure text.now)) }
+{
+    let read = read_version_reference(alloc, text)?;
+    Ok(version_reference_text(alloc, &read)?)
+}

@@ -1,0 +1,127 @@
+//! Which of several versions is the best match, as `maxSatisfying` and `minSatisfying` of node-semver choose it.
+
+ghost use Rattle.std.specs.Prelude.{◌≡◌, ◌&&◌, None};
+ghost use Rattle.semver_req.specs.Requirement.{inner_means, inner_means_with, tag_of};
+ghost use Rattle.semver_req.specs.Resolve.{IsBestMatch, IsOnlyMatch, greater, lower};
+ghost use Rattle.semver_req.specs.ResolveSteps.{exceeds, known_of, nearer};
+
+use crate::req::VersionReq;
+use semver_base::range::PreRelease;
+use semver_base::version::Version;
+
+// Which end of the precedence order is wanted.
+#[derive(Clone, Copy)]
+enum End {
+    Highest,
+    Lowest,
+}
+
+impl End {
+    // Whether one version is nearer to this end than the other.
+    fn is_nearer(self, one: &Version, other: &Version) -> bool
+        ensures { result ≡ nearer self one.now other.now }
+    {
+        match self {
+            End::Highest => other.cmp_precedence(one).is_lt(),
+            End::Lowest => one.cmp_precedence(other).is_lt(),
+        }
+    }
+}
+
+// Whether the version matches and is nearer to the end than the best match so far, if any.
+fn is_better(
+    version: &Version,
+    known: Option<(usize, &Version)>,
+    requirement: &VersionReq,
+    pre_release: PreRelease,
+    end: End,
+) -> bool
+    requires { tag_of requirement.now.inner ≡ None }
+    ensures { result ≡ (inner_means_with pre_release requirement.now.inner version.now
+        && exceeds (nearer end) version.now (known_of known.entry)) }
+{
+    requirement.matches_with(version, pre_release)
+        && match known {
+            None => true,
+            Some((_, known)) => end.is_nearer(version, known),
+        }
+}
+
+// The index of the first of the matches nearest to the end.
+fn first_best(
+    versions: &[Version],
+    requirement: &VersionReq,
+    pre_release: PreRelease,
+    end: End,
+) -> Option<usize>
+    requires { tag_of requirement.now.inner ≡ None }
+    ensures best { IsBestMatch (nearer end)
+        (λ v. inner_means_with pre_release requirement.now.inner v) versions.now result }
+    ensures only { IsOnlyMatch (nearer end)
+        (λ v. inner_means_with pre_release requirement.now.inner v) versions.now result }
+{
+    let mut best = None;
+    for (place, version) in versions.iter().enumerate() {
+        if is_better(version, best, requirement, pre_release, end) {
+            best = Some((place, version));
+        }
+    }
+    match best {
+        None => None,
+        Some((place, _)) => Some(place),
+    }
+}
+
+/// Returns the index of the highest version by precedence that matches `requirement`, which isn't a tag; of versions equal
+/// but for builds, the first. Returns none exactly if no version matches.
+pub fn max_satisfying(versions: &[Version], requirement: &VersionReq) -> Option<usize>
+    requires { tag_of requirement.now.inner ≡ None }
+    ensures highest { IsBestMatch greater (λ v. inner_means requirement.now.inner v)
+        versions.now result }
+    ensures only { IsOnlyMatch greater (λ v. inner_means requirement.now.inner v)
+        versions.now result }
+{
+    max_satisfying_with(versions, requirement, PreRelease::Restricted)
+}
+
+/// Returns the index of the lowest version by precedence that matches `requirement`, which isn't a tag; of versions equal but
+/// for builds, the first. Returns none exactly if no version matches.
+pub fn min_satisfying(versions: &[Version], requirement: &VersionReq) -> Option<usize>
+    requires { tag_of requirement.now.inner ≡ None }
+    ensures lowest { IsBestMatch lower (λ v. inner_means requirement.now.inner v)
+        versions.now result }
+    ensures only { IsOnlyMatch lower (λ v. inner_means requirement.now.inner v)
+        versions.now result }
+{
+    min_satisfying_with(versions, requirement, PreRelease::Restricted)
+}
+
+/// Like [`max_satisfying`], with pre-releases restricted by npm's rule or admitted throughout.
+pub fn max_satisfying_with(
+    versions: &[Version],
+    requirement: &VersionReq,
+    pre_release: PreRelease,
+) -> Option<usize>
+    requires { tag_of requirement.now.inner ≡ None }
+    ensures highest { IsBestMatch greater
+        (λ v. inner_means_with pre_release requirement.now.inner v) versions.now result }
+    ensures only { IsOnlyMatch greater
+        (λ v. inner_means_with pre_release requirement.now.inner v) versions.now result }
+{
+    first_best(versions, requirement, pre_release, End::Highest)
+}
+
+/// Like [`min_satisfying`], with pre-releases restricted by npm's rule or admitted throughout.
+pub fn min_satisfying_with(
+    versions: &[Version],
+    requirement: &VersionReq,
+    pre_release: PreRelease,
+) -> Option<usize>
+    requires { tag_of requirement.now.inner ≡ None }
+    ensures lowest { IsBestMatch lower
+        (λ v. inner_means_with pre_release requirement.now.inner v) versions.now result }
+    ensures only { IsOnlyMatch lower
+        (λ v. inner_means_with pre_release requirement.now.inner v) versions.now result }
+{
+    first_best(versions, requirement, pre_release, End::Lowest)
+}
