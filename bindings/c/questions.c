@@ -3,12 +3,13 @@
  * Each is asked with ample memory, and then with every allocation failing in turn. The status is 1 where an answer differs or a block
  * is still alive at the end. */
 #include "semver.h"
+#include <inttypes.h>
 #include <stdio.h>
 #include <string.h>
 
 #define BYTES(t) (t).at, (t).len
 #define OUT out, sizeof out, &needed
-enum { US = 0x1f, GS = 0x1d, RS = 0x1e, FIELDS = 5, LINES = 16 };
+enum { US = 0x1f, GS = 0x1d, RS = 0x1e, FIELDS = 5, LINES = 16, NUMBERS = 3 };
 
 typedef struct {
     const uint8_t *at;
@@ -118,6 +119,7 @@ static int read_version(text t, semver_ver *handle) {
 static void fits(const text *t) {
     semver_req r = {0};
     semver_ver v = {0};
+    uint64_t numbers[NUMBERS];
     check_text(semver_fits(grammar, BYTES(t[0]), BYTES(t[1]), pre_releases, OUT));
     if (!read_req(t[0], &r)) return;
     check(semver_req_fits(&r, BYTES(t[1]), pre_releases), FIT, NULL, 0);
@@ -125,6 +127,8 @@ static void fits(const text *t) {
         check(semver_req_matches(&r, &v, pre_releases), FIT, NULL, 0);
         semver_version_free(&v);
     }
+    if (semver_version_numbers(BYTES(t[1]), numbers, NUMBERS, &needed) == SEMVER_YES)
+        check(semver_req_matches_release(&r, numbers[0], numbers[1], numbers[2], pre_releases), FIT, NULL, 0);
     semver_req_free(&r);
 }
 
@@ -283,6 +287,21 @@ static void version_error(const text *t) {
     check_match(code, place);
 }
 
+/* If there is room for two numbers alone, none is written. */
+static void version_numbers(const text *t) {
+    uint64_t numbers[NUMBERS], few[] = {99, 99};
+    size_t len = 0;
+    char number[24];
+    check(semver_version_numbers(BYTES(t[0]), few, 2, &needed), FIT, NULL, 0);
+    if (few[0] != 99 || few[1] != 99) failed = 1;
+    int32_t code = semver_version_numbers(BYTES(t[0]), numbers, NUMBERS, &needed);
+    for (size_t n = 0; n < needed && n < NUMBERS; n++) {
+        sprintf(number, "%" PRIu64, numbers[n]);
+        len = item(len, number);
+    }
+    check(code, FIT, code >= 0 ? out : NULL, len);
+}
+
 /* A handle's text is written when it is parsed, too. */
 static void normal(const text *t) {
     semver_req r = {0};
@@ -362,6 +381,7 @@ static const struct call {
     {"min_version", 2, .ask = min_version},
     {"normal", 1, .ask = normal, .req = semver_normal, .held_req = semver_req_normal},
     {"text", 1, .held_req = semver_req_text},
+    {"version_numbers", 0, .ask = version_numbers},
     {"version", 0, .ask = version, .text = semver_version, .held_version = semver_version_text},
 };
 

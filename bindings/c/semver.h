@@ -2,7 +2,7 @@
  *
  * A text is bytes in UTF-8 and a length. For every call:
  * - A pointer is never null, even with length 0. What it points to lives, and doesn't change, while the call runs.
- * - `out`, `answers`, `places`, `needed`, `place` and the handles must not alias one another or any other argument.
+ * - `out`, `answers`, `places`, `numbers`, `needed`, `place` and the handles must not alias one another or any other argument.
  * - No call keeps a pointer that it is given. Several threads may call at once, each with memory and handles of its own;
  *   none may call from a signal handler, nor from a forked child of a program that has threads.
  * - `malloc`, `realloc` and `free` are those of one allocator, and a block is aligned to each power of two up to 16 that
@@ -122,6 +122,10 @@ int32_t semver_normal(uint32_t grammar, const uint8_t *range, size_t range_len,
 /* How the version is displayed: YES. */
 int32_t semver_version(const uint8_t *version, size_t version_len, uint8_t *out, size_t out_len, size_t *needed);
 
+/* The three numbers of a version: YES, if it has neither a pre-release nor a build, or NO, if it has one; then `*needed` is 3, else 0.
+ * `numbers` stays as it was if `numbers_len` is less than 3, and for any other code. */
+int32_t semver_version_numbers(const uint8_t *version, size_t version_len, uint64_t *numbers, size_t numbers_len, size_t *needed);
+
 /* Whether the text may be the tag of a version, by npm's rules: NO or YES. */
 int32_t semver_may_be_tag(const uint8_t *text, size_t text_len);
 
@@ -215,6 +219,9 @@ int32_t semver_req_fits(semver_req *range, const uint8_t *version, size_t versio
 
 /* Whether the version matches the range: NO, YES or TAG. */
 int32_t semver_req_matches(semver_req *range, semver_ver *version, uint32_t pre_releases);
+
+/* Whether the version of these numbers, without a pre-release and a build, matches the range: NO, YES or TAG. */
+int32_t semver_req_matches_release(semver_req *range, uint64_t major, uint64_t minor, uint64_t patch, uint32_t pre_releases);
 
 /* Whether two ranges overlap: as semver_overlap. The handles are two. */
 int32_t semver_req_overlap(semver_req *one, semver_req *other);

@@ -230,6 +230,12 @@ fn version_parts(version: &Version) -> String {
     format!(r#"yes{US}{{"build":[{build}],"major":"{major}","minor":"{minor}","patch":"{patch}","pre":[{pre}]}}"#)
 }
 
+/// The three numbers of a version, and whether it has neither a pre-release nor a build.
+fn version_numbers(version: &Version) -> String {
+    let code = yes_or_no(version.pre.is_empty() && version.build.is_empty());
+    format!("{code}{US}{}{US}{}{US}{}", version.major, version.minor, version.patch)
+}
+
 /// The error of a range, as JSON. The crate has no call for those of alternatives that are left out, and of tags.
 fn range_error(name: &str, text: &str) -> Option<Answers> {
     let error = match name {
@@ -321,6 +327,7 @@ fn ask(question: &[&str]) -> Option<Answers> {
         ["version", text] => versions(text).and_then(|all| written(all, Version::to_string)),
         ["errors", name, text] => return range_error(name, text),
         ["version_error", text] => version_error(text),
+        ["version_numbers", text] => versions(text).and_then(|all| each(all, version_numbers)),
         ["version_parts", text] => versions(text).and_then(|all| each(all, version_parts)),
         ["may_be_tag", text] => Ok(vec![yes_or_no(is_valid_npm_tag(text))]),
         ["package", grammar, text] => package(grammar, text),

@@ -1,5 +1,5 @@
 -- How outcomes are returned to C: as a code, with a text in the caller's buffer or a place.
-use Rattle.std.specs.Prelude.{◌≡◌, ◌⊎◌, ◌++◌, ℕ, ℤ, pos, negsuc, List, [], drop, length, map, Bool, true, false, Option, Some, None, nat_le, Result, Ok, Err, if◌then◌else◌}
+use Rattle.std.specs.Prelude.{◌≡◌, ◌⊎◌, ◌++◌, ◌∷◌, ℕ, ℤ, pos, negsuc, List, [], drop, length, map, Bool, true, false, Option, Some, None, nat_le, Result, Ok, Err, if◌then◌else◌}
 use Rattle.std.specs.declared.cmp.Ordering.{Ordering}
 use Rattle.std.specs.declared.cmp.Ordering.TheVariants.{Less, Equal, Greater}
 use Rattle.semver_base.specs.VersionText.{version_text}
@@ -13,6 +13,7 @@ use Rattle.answers.specs.declared.questions.Best.{Best}
 use Rattle.semver_c.specs.Arguments.{CallFault, NoGrammar, NotUtf8, Unanswered, fault_place}
 use Rattle.semver_c.specs.declared.codes.Code.{Code}
 use Rattle.semver_c.specs.declared.codes.Code.TheVariants as code
+use Rattle.semver_c.specs.declared.questions.Numbers.{Numbers}
 
 -- ---- numbers: 0 and above for an answer, negative for none
 
@@ -116,6 +117,13 @@ abbrev pub filter_numbers : Answer (List (Option Bool)) → List ℤ
 filter_numbers (Value answers) = map (λ answer. number_of (line_code answer)) answers
 filter_numbers (Tag tag) = []
 
+-- the three numbers of a version, and whether it has neither a pre-release nor a build
+abbrev pub three_numbers : Numbers → List ℕ
+three_numbers numbers = numbers.major ∷ numbers.minor ∷ numbers.patch ∷ []
+
+abbrev pub unqualified_code : Numbers → Code
+unqualified_code numbers = bool_code numbers.is_unqualified
+
 -- ---- codes
 
 abbrev pub code_of : {X : Type 0} → (X → Code) → Result X CallFault → ℤ
@@ -175,6 +183,10 @@ pub record IsOneReply {X I : Type 0} (Asked : Result X CallFault → Type 0) (co
 -- for any code but 1 nothing is written, and the length is 0
 abbrev pub IsUntouched : {I : Type 0} → List I → List I → ℕ → ℤ → Type 0
 IsUntouched old new needed code = (code ≡ yes → ⊥) → (new ≡ old) × (needed ≡ 0)
+
+-- for a code that is neither 0 nor 1 nothing is written, and the length is 0
+abbrev pub IsUntouchedWithoutValue : {I : Type 0} → List I → List I → ℕ → ℤ → Type 0
+IsUntouchedWithoutValue old new needed returned = (returned ≡ number_of code.No → ⊥) → IsUntouched old new needed returned
 
 -- the outcome that is a value
 abbrev pub as_value : {X : Type 0} → X → Result X CallFault

@@ -1,6 +1,6 @@
 -- The question of each call: the grammar is looked up first, then the texts are checked, then the question about texts is
 -- asked.
-use Rattle.std.specs.Prelude.{◌≡◌, ℕ, List, [], ◌∷◌, Bool, Option, Some, Result, Ok}
+use Rattle.std.specs.Prelude.{◌≡◌, ◌==◌, ◌&&◌, ℕ, List, [], ◌∷◌, length, Bool, Option, Some, Result, Ok}
 use Rattle.std.specs.Str.Lines.{lines}
 use Rattle.std.specs.declared.cmp.Ordering.{Ordering}
 use Rattle.semver_base.specs.declared.version.Version.{Version}
@@ -26,6 +26,7 @@ use Rattle.answers.specs.declared.sorting.Order.TheVariants.{Ascending}
 use Rattle.semver_c.specs.Arguments.{CallFault, Called, IsGrammar, IsText, pre_release_of}
 use Rattle.semver_c.specs.Codes.{match_code}
 use Rattle.semver_c.specs.declared.codes.Code.{Code}
+use Rattle.semver_c.specs.declared.questions.Numbers.{Numbers}
 
 -- ---- arguments before the question
 
@@ -139,6 +140,15 @@ VersionOf text = OfText text (IsVersion 0)
 -- the versions of the lines; none for a line that isn't a version
 abbrev pub VersionListOf : List ℕ → Result (List (Option Version)) CallFault → Type 0
 VersionListOf versions = OfText versions (λ text. VersionLines (lines text))
+
+-- the numbers of a version
+abbrev pub version_numbers : Version → Numbers
+version_numbers v =
+    record { major = v.major; minor = v.minor; patch = v.patch; is_unqualified = (length v.pre == 0) && (length v.build == 0) }
+
+-- those of a text's version
+abbrev pub NumbersOf : List ℕ → Result Numbers CallFault → Type 0
+NumbersOf version = OfText version (λ text. Given (IsVersion 0 text) (λ v. Is (version_numbers v)))
 
 -- the code of the match of a text's version
 abbrev pub MatchesHeld : ℕ → Requirement → List ℕ → Result Code CallFault → Type 0

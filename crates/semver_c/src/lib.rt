@@ -5,8 +5,9 @@
 //! is always stored. A call of several arguments of one kind stores the place of the first that is invalid, counted from 0.
 #![tactic(auto)]
 
-ghost use Rattle.std.specs.Prelude.{◌≡◌, IfSome, IsUtf8, List, None, ℕ, is_some, length};
+ghost use Rattle.std.specs.Prelude.{◌≡◌, IfSome, IsUtf8, List, None, Some, ℕ, is_some, length};
 ghost use Rattle.handles.specs.Handle.{Holds};
+ghost use Rattle.semver_base.specs.Meaning.{release};
 ghost use Rattle.semver_base.specs.Precedence.{precedence_cmp, version_cmp};
 ghost use Rattle.semver_base.specs.VersionText.{version_text};
 ghost use Rattle.semver_req.specs.Requirement.{inner_text, tag_of};
@@ -14,9 +15,9 @@ ghost use Rattle.semver_req.specs.Tag.{is_valid_tag};
 ghost use Rattle.deno_semver.specs.ReqOrder.{inner_cmp};
 ghost use Rattle.answers.specs.Asking.{Is};
 ghost use Rattle.answers.specs.declared.questions.End.TheVariants as end;
-ghost use Rattle.semver_c.specs.Codes.{IsCode, IsOneReply, IsPlaceReply, IsPlaced, IsReply, IsUntouched, always_yes, as_place, best_code, best_place, bool_code, filter_code, filter_numbers, lowest_code, lowest_text, match_code, no_place, no_text, number_of, order_code, text_code, text_of, yes};
+ghost use Rattle.semver_c.specs.Codes.{IsCode, IsOneReply, IsPlaceReply, IsPlaced, IsReply, IsUntouched, IsUntouchedWithoutValue, always_yes, as_place, best_code, best_place, bool_code, filter_code, filter_numbers, lowest_code, lowest_text, match_code, no_place, no_text, number_of, order_code, text_code, text_of, three_numbers, unqualified_code, yes};
 ghost use Rattle.semver_c.specs.Held.{IsHeld, IsHeldBest, IsHeldEqual, IsHeldFilter, IsHeldMatch, IsHeldOrder, IsHeldOverlap, IsHeldSort, lines_of};
-ghost use Rattle.semver_c.specs.Questions.{BestLine, CanonicalBy, CommonBy, CommonOfAll, DependencyBy, DisplayedOf, EquivalentBy, ErrorsBy, ExplainsBy, ExportNameOf, Filters, Fits, LowestBy, LowestLine, MatchesHeld, NameWithVersionOf, OrdersOf, OutsideBy, OverlapsBy, PackageBy, RangeBy, RangesBy, ReferenceOf, SortsOf, VersionErrorOf, VersionListOf, VersionOf, VersionPartsOf, VersionReferenceOf};
+ghost use Rattle.semver_c.specs.Questions.{BestLine, CanonicalBy, CommonBy, CommonOfAll, DependencyBy, DisplayedOf, EquivalentBy, ErrorsBy, ExplainsBy, ExportNameOf, Filters, Fits, LowestBy, LowestLine, MatchesHeld, NameWithVersionOf, NumbersOf, OrdersOf, OutsideBy, OverlapsBy, PackageBy, RangeBy, RangesBy, ReferenceOf, SortsOf, VersionErrorOf, VersionListOf, VersionOf, VersionPartsOf, VersionReferenceOf};
 ghost use Rattle.semver_c.specs.declared.codes.Code.TheVariants as code;
 
 mod arguments;
@@ -34,14 +35,14 @@ use questions::{
     best_held, best_line, canonical_form, common, common_of_all, dependency_of, displayed_version,
     equivalent_ranges, errors_of, explanation_of, export_name_of, filter, filter_held, fits,
     held_canonical, held_displayed, lowest, lowest_line, match_code, matches_held,
-    name_with_version_of, order_of, outside, overlap, package_of, ranges_of, read_list, read_range,
-    read_version, reference_of, sorted_held, sorted_lines, version_error_of, version_parts_of,
-    version_reference_of,
+    name_with_version_of, numbers_of, order_of, outside, overlap, package_of, ranges_of, read_list,
+    read_range, read_version, reference_of, release, sorted_held, sorted_lines, version_error_of,
+    version_parts_of, version_reference_of,
 };
 use reports::{
     code_of_bool, code_of_match, code_of_order, code_or_problem, put, put_place, report_best,
-    report_filter, report_lowest, report_match, report_place, report_places, report_problem,
-    report_text, report_text_or_tag,
+    report_filter, report_lowest, report_match, report_name, report_numbers, report_place,
+    report_places, report_problem, report_text, report_text_or_tag,
 };
 use semver_req::laws::equal_requirements;
 use std::alloc::Global;
@@ -370,6 +371,22 @@ pub extern "C" fn semver_version_parts(
     report_text(version_parts_of(alloc, version), out, needed)
 }
 
+/// The three numbers of a version: yes, if it has neither a pre-release nor a build, or no, if it has one. Then `needed` is 3; if there
+/// is room for fewer, `numbers` stays as it was, as it does for any other code.
+#[unsafe(no_mangle)]
+pub extern "C" fn semver_version_numbers(
+    alloc: Global,
+    version: &[u8],
+    numbers: &mut [u64],
+    needed: &mut usize,
+) -> i32
+    ensures answer { IsReply (NumbersOf version.now) unqualified_code three_numbers
+        numbers.old numbers.new needed.new result }
+    ensures no_numbers { IsUntouchedWithoutValue numbers.old numbers.new needed.new result }
+{
+    report_numbers(numbers_of(alloc, version), numbers, needed)
+}
+
 /// The ranges of a range, as JSON: yes, or that it is a tag.
 #[unsafe(no_mangle)]
 pub extern "C" fn semver_ranges(
@@ -481,7 +498,7 @@ pub extern "C" fn semver_export_name(
     ensures { IsReply (ExportNameOf path.now) always_yes (λ text. text)
         out.old out.new needed.new result }
 {
-    report_text(export_name_of(alloc, path), out, needed)
+    report_name(export_name_of(alloc, path), out, needed)
 }
 
 /// Parses a range into an empty handle: yes, with its canonical form or the tag.
@@ -590,6 +607,28 @@ pub extern "C" fn semver_req_matches(
     let code = match_code(&*req, &*v, pre_release(pre_releases));
     *requirement = RequirementHandle::keep(req);
     *version = VersionHandle::keep(v);
+    code.number()
+}
+
+/// Whether the release of these numbers matches the range of the handle, like `semver_fits`.
+#[unsafe(no_mangle)]
+pub extern "C" fn semver_req_matches_release(
+    alloc: Global,
+    requirement: &mut RequirementHandle,
+    major: u64,
+    minor: u64,
+    patch: u64,
+    pre_releases: u32,
+) -> i32
+    requires { Holds requirement.old.value }
+    ensures stays { requirement.new.value ≡ requirement.old.value }
+    ensures code { IsHeldMatch pre_releases requirement.old.value
+        (Some (release major minor patch)) result }
+{
+    let req = requirement.take(alloc);
+    let version = release(alloc, major, minor, patch);
+    let code = match_code(&*req, &version, pre_release(pre_releases));
+    *requirement = RequirementHandle::keep(req);
     code.number()
 }
 

@@ -1,9 +1,10 @@
 //! The question of each call: its grammar is looked up, its texts are checked, and the question about texts is asked.
 
-ghost use Rattle.std.specs.Prelude.{◌≡◌, IfOk, Some, string_bytes};
+ghost use Rattle.std.specs.Prelude.{◌≡◌, IfOk, string_bytes};
+ghost use Rattle.std.specs.Cow.{cow_str_bytes};
+ghost use Rattle.semver_base.specs.Meaning.{release};
 ghost use Rattle.semver_base.specs.VersionText.{version_text};
 ghost use Rattle.semver_req.specs.Requirement.{inner_text};
-ghost use Rattle.deno_semver.specs.ExportName.{export_name};
 ghost use Rattle.answers.specs.Asking.{Is};
 ghost use Rattle.answers.specs.Filtering.{list_answer, list_matches};
 ghost use Rattle.answers.specs.Questions.{match_of};
@@ -12,7 +13,7 @@ ghost use Rattle.answers.specs.declared.sorting.Order.TheVariants as sorting;
 ghost use Rattle.semver_c.specs.Arguments.{IsAnswer, IsOneAnswer, pre_release_of};
 ghost use Rattle.semver_c.specs.Codes.{match_code};
 ghost use Rattle.semver_c.specs.Held.{IsListBest, list_lines};
-ghost use Rattle.semver_c.specs.Questions.{BestLine, CanonicalBy, CommonBy, CommonOfAll, DependencyBy, DisplayedOf, EquivalentBy, ErrorsBy, ExplainsBy, ExportNameOf, Filters, Fits, LowestBy, LowestLine, MatchesHeld, NameWithVersionOf, OrdersOf, OutsideBy, OverlapsBy, PackageBy, RangeBy, RangesBy, ReferenceOf, SortsOf, VersionErrorOf, VersionListOf, VersionOf, VersionPartsOf, VersionReferenceOf};
+ghost use Rattle.semver_c.specs.Questions.{BestLine, CanonicalBy, CommonBy, CommonOfAll, DependencyBy, DisplayedOf, EquivalentBy, ErrorsBy, ExplainsBy, ExportNameOf, Filters, Fits, LowestBy, LowestLine, MatchesHeld, NameWithVersionOf, NumbersOf, OrdersOf, OutsideBy, OverlapsBy, PackageBy, RangeBy, RangesBy, ReferenceOf, SortsOf, VersionErrorOf, VersionListOf, VersionOf, VersionPartsOf, VersionReferenceOf, version_numbers};
 
 use crate::arguments::{Problem, flavour, line_list, pre_release, text};
 use crate::codes::Code;
@@ -34,7 +35,9 @@ use package_answers::names::name_with_version_parts;
 use package_answers::packages::package_parts;
 use package_answers::references::reference_parts;
 use package_answers::specifiers::{dependency_parts, version_reference_parts};
+use semver_base::string::CowVec;
 use std::alloc::{AllocError, Global};
+use std::borrow::CowStr;
 use std::cmp::Ordering;
 
 /// What does the range mean?
@@ -343,20 +346,12 @@ pub fn dependency_of(alloc: Global, grammar: u32, bytes: &[u8]) -> Result<String
     Ok(dependency_parts(alloc, flavour, text)?)
 }
 
-// The name of the export that the path of a module in a JSR package means.
-fn export_text(alloc: Global, path: &str) -> Result<String, AllocError>
-    ensures { IfOk result (λ text. string_bytes text ≡ export_name (Some path.now)) }
-{
-    let name = normalized_export_name(alloc, Some(path))?;
-    String::from_str(alloc, name.as_str())
-}
-
 /// What is the name of the export that the path means?
-pub fn export_name_of(alloc: Global, bytes: &[u8]) -> Result<String, Problem>
-    ensures { IsAnswer (ExportNameOf bytes.now) (λ text. string_bytes text) result }
+pub fn export_name_of<'a>(alloc: Global, bytes: &'a [u8]) -> Result<CowStr<'a, Global>, Problem>
+    ensures { IsAnswer (ExportNameOf bytes.now) (λ name. cow_str_bytes name) result }
 {
     let path = text(bytes)?;
-    Ok(export_text(alloc, path)?)
+    Ok(normalized_export_name(alloc, Some(path))?)
 }
 
 // The value, on the heap.
@@ -405,6 +400,50 @@ pub fn read_version(alloc: Global, bytes: &[u8]) -> Result<ReadVersion, Problem>
     let displayed = text_of_version(alloc, &parsed)?;
     let version = boxed(alloc, parsed)?;
     Ok(ReadVersion { version, displayed })
+}
+
+/// The three numbers of a version, and whether it has neither a pre-release nor a build.
+#[derive(Clone, Copy)]
+pub struct Numbers {
+    pub major: u64,
+    pub minor: u64,
+    pub patch: u64,
+    pub is_unqualified: bool,
+}
+
+impl Numbers {
+    fn of(version: &Version) -> Numbers
+        ensures { result ≡ version_numbers version.now }
+    {
+        Numbers {
+            major: version.major,
+            minor: version.minor,
+            patch: version.patch,
+            is_unqualified: version.pre.is_empty() && version.build.is_empty(),
+        }
+    }
+}
+
+/// What are the numbers of the version?
+pub fn numbers_of(alloc: Global, bytes: &[u8]) -> Result<Numbers, Problem>
+    ensures { IsAnswer (NumbersOf bytes.now) (λ numbers. numbers) result }
+{
+    let text = text(bytes)?;
+    let version = version(alloc, 0, text)?;
+    Ok(Numbers::of(&version))
+}
+
+/// The release of these numbers.
+pub fn release(alloc: Global, major: u64, minor: u64, patch: u64) -> Version
+    ensures { result ≡ release major minor patch }
+{
+    Version {
+        major,
+        minor,
+        patch,
+        pre: CowVec::new(alloc),
+        build: CowVec::new(alloc),
+    }
 }
 
 /// Parses several versions, one per line, onto the heap.

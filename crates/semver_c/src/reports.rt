@@ -1,17 +1,20 @@
 //! How results are returned to C: a code, with a text or a list in the caller's buffer, or a place.
 
 ghost use Rattle.std.specs.Prelude.{◌≡◌, ◌⊎◌, IfOk, List, ℕ, map, string_bytes};
+ghost use Rattle.std.specs.Cow.{cow_str_bytes};
 ghost use Rattle.semver_base.specs.VersionText.{version_text};
 ghost use Rattle.answers.specs.Filtering.{list_answer};
 ghost use Rattle.semver_c.specs.Arguments.{call_fault, outcome_of, problem_message, problem_place};
-ghost use Rattle.semver_c.specs.Codes.{IsPlaced, IsReported, IsUntouched, always_yes, as_place, as_value, best_code, best_place, bool_code, code_of, fault_code, filter_code, filter_numbers, line_code, lowest_code, lowest_text, match_code, no_memory, no_text, number_of, order_code, place_after, text_code, text_of};
+ghost use Rattle.semver_c.specs.Codes.{IsPlaced, IsReported, IsUntouched, IsUntouchedWithoutValue, always_yes, as_place, as_value, best_code, best_place, bool_code, code_of, fault_code, filter_code, filter_numbers, line_code, lowest_code, lowest_text, match_code, no_memory, no_text, number_of, order_code, place_after, text_code, text_of, three_numbers, unqualified_code};
 
 use crate::arguments::Problem;
 use crate::codes::Code;
+use crate::questions::Numbers;
 use answers::asking::Answer;
 use answers::questions::{Best, text_of_version};
 use deno_semver::Version;
 use std::alloc::{AllocError, Global};
+use std::borrow::CowStr;
 use std::cmp::Ordering;
 
 // Writes the items to the start of the buffer, if they fit, and stores their number.
@@ -126,6 +129,24 @@ pub fn report_text(answer: Result<String, Problem>, out: &mut [u8], needed: &mut
     match answer {
         Ok(text) => {
             put(text.as_str(), out, needed);
+            Code::Yes.number()
+        }
+        Err(problem) => report_problem(&problem, out, needed),
+    }
+}
+
+/// Reports a name.
+pub fn report_name(
+    answer: Result<CowStr<'_, Global>, Problem>,
+    out: &mut [u8],
+    needed: &mut usize,
+) -> i32
+    ensures { IsReported always_yes (λ text. text) (outcome_of (λ name. cow_str_bytes name) answer.entry)
+        out.old out.new needed.new result }
+{
+    match answer {
+        Ok(name) => {
+            put(name.as_str(), out, needed);
             Code::Yes.number()
         }
         Err(problem) => report_problem(&problem, out, needed),
@@ -295,6 +316,24 @@ pub fn report_places(
         Ok(places) => {
             put_items(places.as_slice(), out, needed);
             Code::Yes.number()
+        }
+        Err(problem) => {
+            put_items(&[], out, needed);
+            problem.code().number()
+        }
+    }
+}
+
+/// Reports the three numbers of a version, and whether it has neither a pre-release nor a build; for a problem, its code alone.
+pub fn report_numbers(answer: Result<Numbers, Problem>, out: &mut [u64], needed: &mut usize) -> i32
+    ensures reported { IsReported unqualified_code three_numbers
+        (outcome_of (λ numbers. numbers) answer) out.old out.new needed.new result }
+    ensures untouched { IsUntouchedWithoutValue out.old out.new needed.new result }
+{
+    match answer {
+        Ok(numbers) => {
+            put_items(&[numbers.major, numbers.minor, numbers.patch], out, needed);
+            Code::of_bool(numbers.is_unqualified).number()
         }
         Err(problem) => {
             put_items(&[], out, needed);
