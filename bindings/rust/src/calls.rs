@@ -74,6 +74,7 @@ extern "C" {
     fn semver_min_version(grammar: u32, range: In, range_len: usize, pre: u32, out: Out, out_len: usize, needed: Size) -> i32;
     fn semver_normal(grammar: u32, range: In, range_len: usize, out: Out, out_len: usize, needed: Size) -> i32;
     fn semver_version(version: In, version_len: usize, out: Out, out_len: usize, needed: Size) -> i32;
+    fn semver_version_numbers(version: In, version_len: usize, numbers: *mut u64, numbers_len: usize, needed: Size) -> i32;
     fn semver_may_be_tag(text: In, len: usize) -> i32;
     fn semver_ranges(grammar: u32, range: In, range_len: usize, out: Out, out_len: usize, needed: Size) -> i32;
     fn semver_errors(grammar: u32, range: In, range_len: usize, out: Out, out_len: usize, needed: Size) -> i32;
@@ -88,6 +89,7 @@ extern "C" {
     fn semver_req_free(handle: *mut Raw);
     fn semver_req_fits(range: *mut Raw, version: In, version_len: usize, pre: u32) -> i32;
     fn semver_req_matches(range: *mut Raw, version: *mut Raw, pre: u32) -> i32;
+    fn semver_req_matches_release(range: *mut Raw, major: u64, minor: u64, patch: u64, pre: u32) -> i32;
     fn semver_req_overlap(one: *mut Raw, other: *mut Raw) -> i32;
     fn semver_req_equal(one: *mut Raw, other: *mut Raw) -> i32;
     fn semver_req_order(one: *mut Raw, other: *mut Raw) -> i32;
@@ -157,6 +159,16 @@ fn fit(code: i32) -> Fit {
     }
 }
 
+// Whether a version matches; none if the range is a tag.
+#[inline]
+fn is_match(code: i32) -> Option<bool> {
+    match code {
+        NO | YES => Some(code == YES),
+        TAG => None,
+        _ => failed(code),
+    }
+}
+
 // Text is UTF-8 and every `Grammar` exists, so no other code is possible.
 #[cold]
 fn failed(code: i32) -> ! {
@@ -219,6 +231,17 @@ pub(crate) fn normal(grammar: Grammar, text: &str) -> Result<String, String> {
 /// How a version is displayed, or the error message.
 pub(crate) fn displayed(text: &str) -> Result<String, String> {
     text_or_message(|out, len, needed| unsafe { semver_version(text.as_ptr(), text.len(), out, len, needed) })
+}
+
+/// The three numbers of a version, and whether it has neither a pre-release nor a build; none of a text that isn't a version.
+pub(crate) fn version_numbers(text: &str) -> Option<([u64; 3], bool)> {
+    let (mut numbers, mut needed) = ([0; 3], 0);
+    let code = unsafe { semver_version_numbers(text.as_ptr(), text.len(), numbers.as_mut_ptr(), numbers.len(), &mut needed) };
+    match code {
+        NO | YES => Some((numbers, code == YES)),
+        INVALID_VERSION => None,
+        _ => failed(code),
+    }
 }
 
 /// The bounds of a range that isn't a tag, as JSON.
@@ -456,13 +479,21 @@ impl Requirement {
         (handle, normal)
     }
 
+    /// Whether a version matches; none if this is a tag.
     #[inline]
-    pub(crate) fn matches(&mut self, version: &mut VersionHandle, pre: PreRelease) -> Fit {
-        fit(unsafe { semver_req_matches(&mut self.0, &mut version.0, pre as u32) })
+    pub(crate) fn matches(&mut self, version: &mut VersionHandle, pre: PreRelease) -> Option<bool> {
+        is_match(unsafe { semver_req_matches(&mut self.0, &mut version.0, pre as u32) })
     }
 
-    pub(crate) fn fits(&mut self, version: &str, pre: PreRelease) -> Fit {
-        fit(unsafe { semver_req_fits(&mut self.0, version.as_ptr(), version.len(), pre as u32) })
+    /// Whether the version of these numbers matches, without a pre-release and a build; none if this is a tag.
+    #[inline]
+    pub(crate) fn matches_release(&mut self, [major, minor, patch]: [u64; 3], pre: PreRelease) -> Option<bool> {
+        is_match(unsafe { semver_req_matches_release(&mut self.0, major, minor, patch, pre as u32) })
+    }
+
+    /// Whether the version of a text that is one matches; none if this is a tag.
+    pub(crate) fn matches_text(&mut self, version: &str, pre: PreRelease) -> Option<bool> {
+        is_match(unsafe { semver_req_fits(&mut self.0, version.as_ptr(), version.len(), pre as u32) })
     }
 
     pub(crate) fn overlaps(&mut self, other: &mut Requirement) -> bool {

@@ -1,6 +1,6 @@
 //! Version requirements: ranges and tags.
 
-use crate::calls::{self, Fit, Grammar, Lowest, PreRelease, Requirement};
+use crate::calls::{self, Grammar, Lowest, PreRelease, Requirement};
 use crate::error::{parse_error, ParseErrorFailureError};
 use crate::handle::Held;
 use crate::json;
@@ -135,11 +135,8 @@ impl VersionReq {
     /// If this is a tag.
     #[inline]
     pub fn matches_with(&self, version: &Version, pre_release: PreRelease) -> bool {
-        match self.ask(|req| version.is_matched_by(req, pre_release)) {
-            Fit::Yes => true,
-            Fit::No => false,
-            Fit::Tag | Fit::Invalid => panic!("the requirement is the tag {}", self.text),
-        }
+        let is_match = self.ask(|req| version.is_matched_by(req, pre_release));
+        is_match.unwrap_or_else(|| panic!("the requirement is the tag {}", self.text))
     }
 
     /// Whether both overlap by their bounds; two tags do if they are the same.

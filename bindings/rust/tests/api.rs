@@ -11,6 +11,7 @@ use deno_semver_proved::{
     Grammar, ParseErrorFailureError, Place, PreRelease, RangeBound, RangeSetOrTag, StackString, Version, VersionBoundKind,
     VersionParts, VersionRange, VersionRangeSet, VersionReq, WILDCARD_VERSION_REQ,
 };
+use std::cmp::Ordering;
 use std::collections::{BTreeSet, HashMap, HashSet};
 use std::error::Error;
 use std::panic::{RefUnwindSafe, UnwindSafe};
@@ -202,15 +203,62 @@ fn nv_json(nv: &PackageNv) -> String {
     format!(r#"{{"name":"{name}","scope":{scope},"version":"{}"}}"#, nv.version)
 }
 
+/// Numbers below others, other ones for each seed.
+fn random(seed: u32) -> impl FnMut(usize) -> usize {
+    let mut state = seed.wrapping_mul(2_654_435_761);
+    move |below| {
+        state = state.wrapping_mul(1_664_525).wrapping_add(1_013_904_223);
+        (state >> 16) as usize % below
+    }
+}
+
 /// A text of pieces of packages, another one for each seed.
 fn text(seed: u32) -> String {
     let pieces = ["@", "@", "/", "/", "a", "b", "1", "1.2.3", "^1", "-", "_", ".", " ", "é", "x", "latest", "||"];
-    let mut state = seed.wrapping_mul(2_654_435_761);
-    let mut next = |below: usize| {
-        state = state.wrapping_mul(1_664_525).wrapping_add(1_013_904_223);
-        (state >> 16) as usize % below
-    };
+    let mut next = random(seed);
     (0..next(8)).map(|_| pieces[next(pieces.len())]).collect()
+}
+
+/// The text of a version, another one for each seed.
+fn version_text(seed: u32) -> String {
+    let pieces: [&[&str]; 7] = [
+        &["", "", "", "v", " = v"],
+        &["0", "1", "01", "18446744073709551615"],
+        &[".0", ".1", ".9", ".10"],
+        &[".0", ".1", ".2"],
+        &["", "", "", "-0", "-1", "-a", "-a.1", "-a.b", "b"],
+        &["", "", "", "+1", "+a", "+a.b"],
+        &["", "", " "],
+    ];
+    let mut next = random(seed);
+    pieces.map(|pieces| pieces[next(pieces.len())]).concat()
+}
+
+// A release is its three numbers, which the crate compares, hashes and displays itself. The proved calls of texts must answer the same.
+#[test]
+fn versions_are_those_of_the_library() {
+    let ranges = ["^1", "~1.0", ">=1.0.0-a <2", "1.1.1 || >1.10.0-a.a", "<=0.9.0-1 || 18446744073709551615.0.x", "*"];
+    for seed in 0..60_000 {
+        let texts = [version_text(2 * seed), version_text(2 * seed + 1)];
+        let (one, other) = (version(&texts[0]), version(&texts[1]));
+        let json = format!(r#"{{"name":"a","scope":null,"version":"{one}"}}"#);
+        assert_eq!(json::name_with_version(&format!("a@{}", texts[0])), Ok(json));
+        let is_sorted = |lines: String| lists::sort(&lines) == Ok(vec![0, 1]);
+        let order = match (is_sorted(texts.join("\n")), is_sorted(format!("{}\n{}", texts[1], texts[0]))) {
+            (true, true) => Ordering::Equal,
+            (true, false) => Ordering::Less,
+            (false, _) => Ordering::Greater,
+        };
+        assert_eq!(one.cmp_precedence(&other), order, "{texts:?}");
+        assert_eq!(one.cmp(&other), order.then(one.build.cmp(&other.build)), "{texts:?}");
+        let is_same = one.to_string() == other.to_string();
+        assert_eq!((one == other, HashSet::from([one.clone(), other]).len() == 1), (is_same, is_same), "{texts:?}");
+        let range = ranges[seed as usize % ranges.len()];
+        for pre_release in [PreRelease::Restricted, PreRelease::Admitted] {
+            let fit = if npm(range).matches_with(&one, pre_release) { Fit::Yes } else { Fit::No };
+            assert_eq!(lists::filter(Grammar::Npm, range, &texts[0], pre_release), Ok(vec![fit]), "{range}, {texts:?}");
+        }
+    }
 }
 
 // The types split names and paths off themselves. The proved calls for whole packages must find the same parts.
