@@ -496,14 +496,17 @@ impl Requirement {
         is_match(unsafe { semver_req_fits(&mut self.0, version.as_ptr(), version.len(), pre as u32) })
     }
 
+    #[inline]
     pub(crate) fn overlaps(&mut self, other: &mut Requirement) -> bool {
         unsafe { semver_req_overlap(&mut self.0, &mut other.0) == YES }
     }
 
+    #[inline]
     pub(crate) fn equals(&mut self, other: &mut Requirement) -> bool {
         unsafe { semver_req_equal(&mut self.0, &mut other.0) == YES }
     }
 
+    #[inline]
     pub(crate) fn order(&mut self, other: &mut Requirement) -> Ordering {
         ordering(unsafe { semver_req_order(&mut self.0, &mut other.0) })
     }

@@ -65,10 +65,26 @@ impl<H> Held<H> {
         question(other.lock().unwrap_or_else(PoisonError::into_inner).get_or_insert_with(parse))
     }
 
-    /// The answer to a question about two different values. They are locked in the order of their addresses, so that threads never wait
-    /// for each other.
+    /// The answer to a question about two different values.
     #[inline]
     pub(crate) fn ask_two<R>(
+        &self,
+        parse: impl FnOnce() -> H,
+        other: &Held<H>,
+        parse_other: impl FnOnce() -> H,
+        question: impl FnOnce(&mut H, &mut H) -> R,
+    ) -> R {
+        let thread = THREAD.get();
+        if self.thread == thread && other.thread == thread {
+            // Safety: only this thread uses both, for one question at a time.
+            return unsafe { question(&mut *self.own.get(), &mut *other.own.get()) };
+        }
+        self.ask_two_others(parse, other, parse_other, question)
+    }
+
+    // If another thread made one of them. They are locked in the order of their addresses, so that threads never wait for each other.
+    #[cold]
+    fn ask_two_others<R>(
         &self,
         parse: impl FnOnce() -> H,
         other: &Held<H>,

@@ -25,14 +25,14 @@ impl<T> LazyArc<T> {
     pub(crate) fn get_or_make(&self, make: impl FnOnce() -> T) -> &T {
         match self.get() {
             Some(value) => value,
-            None => self.set(make()),
+            None => self.make(make),
         }
     }
 
-    // The value, or the one that another thread has set meanwhile.
+    // The value that is made, or the one that another thread has made meanwhile.
     #[cold]
-    fn set(&self, value: T) -> &T {
-        let made = Arc::into_raw(Arc::new(value)).cast_mut();
+    fn make(&self, make: impl FnOnce() -> T) -> &T {
+        let made = Arc::into_raw(Arc::new(make())).cast_mut();
         match self.0.compare_exchange(ptr::null_mut(), made, Ordering::AcqRel, Ordering::Acquire) {
             // Safety: this owns it now.
             Ok(_) => unsafe { &*made },

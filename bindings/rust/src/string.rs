@@ -4,21 +4,34 @@ use std::borrow::{Borrow, Cow};
 use std::cmp::Ordering;
 use std::fmt;
 use std::hash::{Hash, Hasher};
+use std::mem;
 use std::ops::Deref;
 use std::path::Path;
+use std::ptr;
 use std::sync::Arc;
 
 const SHORT: usize = 22;
 
-#[derive(Clone)]
+#[derive(PartialEq, Eq)]
 enum Text {
-    // The first `len` bytes are UTF-8.
+    // The first `len` bytes are UTF-8, and the others are 0.
     Short { len: u8, bytes: [u8; SHORT] },
     Long(Arc<str>),
 }
 
+impl Clone for Text {
+    #[inline]
+    fn clone(&self) -> Text {
+        if let Text::Long(text) = self {
+            mem::forget(text.clone());
+        }
+        // Safety: the copy has the count that was added, and bytes own nothing. Copied field by field, it takes twice as long.
+        unsafe { ptr::read(self) }
+    }
+}
+
 /// A string of 24 bytes that holds up to 22 bytes of text itself; copies of a longer one share their text.
-#[derive(Clone)]
+#[derive(Clone, PartialEq, Eq)]
 pub struct StackString(Text);
 
 /// The other name that the crate `deno_semver` has for such a string.
@@ -144,14 +157,6 @@ impl fmt::Debug for StackString {
         fmt::Debug::fmt(self.as_str(), f)
     }
 }
-
-impl PartialEq for StackString {
-    fn eq(&self, other: &StackString) -> bool {
-        self.as_str() == other.as_str()
-    }
-}
-
-impl Eq for StackString {}
 
 impl PartialOrd for StackString {
     fn partial_cmp(&self, other: &StackString) -> Option<Ordering> {

@@ -140,6 +140,7 @@ impl VersionReq {
     }
 
     /// Whether both overlap by their bounds; two tags do if they are the same.
+    #[inline]
     pub fn intersects(&self, other: &VersionReq) -> bool {
         self.ask_both(other, Requirement::overlaps)
     }
@@ -194,8 +195,10 @@ impl VersionReq {
 
 // Equal requirements have one canonical form, and others may have it too.
 impl PartialEq for VersionReq {
+    #[inline]
     fn eq(&self, other: &VersionReq) -> bool {
-        self.normalized() == other.normalized() && self.ask_both(other, Requirement::equals)
+        let (one, two) = (self.shared(), other.shared());
+        ptr::eq(one, two) || one.normal == two.normal && self.ask_both(other, Requirement::equals)
     }
 }
 
