@@ -84,7 +84,6 @@ extern "C" {
     fn semver_name_with_version(text: In, len: usize, out: Out, out_len: usize, needed: Size) -> i32;
     fn semver_version_reference(text: In, len: usize, out: Out, out_len: usize, needed: Size) -> i32;
     fn semver_dependency(grammar: u32, text: In, len: usize, out: Out, out_len: usize, needed: Size) -> i32;
-    fn semver_export_name(path: In, len: usize, out: Out, out_len: usize, needed: Size) -> i32;
     fn semver_req_read(grammar: u32, text: In, len: usize, handle: *mut Raw, out: Out, out_len: usize, needed: Size) -> i32;
     fn semver_req_free(handle: *mut Raw);
     fn semver_req_fits(range: *mut Raw, version: In, version_len: usize, pre: u32) -> i32;
@@ -292,11 +291,6 @@ pub(crate) fn version_reference(text: &str) -> Result<String, String> {
 /// The parts of a dependency, as JSON, or the error message.
 pub(crate) fn dependency(grammar: Grammar, text: &str) -> Result<String, String> {
     text_or_message(|out, len, needed| unsafe { semver_dependency(grammar as u32, text.as_ptr(), text.len(), out, len, needed) })
-}
-
-/// The name of the export that a path means, as `take` makes it.
-pub(crate) fn export_name<T>(path: &str, take: impl FnOnce(&str) -> T) -> T {
-    with_text(|out, len, needed| unsafe { semver_export_name(path.as_ptr(), path.len(), out, len, needed) }, |_, name| take(name))
 }
 
 pub(crate) fn may_be_tag(text: &str) -> bool {

@@ -1,6 +1,5 @@
 //! References to JSR packages, and the dependencies of one.
 
-use crate::calls;
 use crate::package::{references, PackageKind, PackageReq, PackageReqParseError};
 use crate::string::StackString;
 use std::borrow::Cow;
@@ -31,14 +30,14 @@ impl JsrPackageNvReference {
 
 /// The name of the export that a path in a JSR package means, such as `./mod.ts`; without a path, `.`.
 pub fn normalized_export_name(sub_path: Option<&str>) -> Cow<'_, str> {
-    let Some(path) = sub_path else {
-        return Cow::Borrowed(".");
+    let path = match sub_path {
+        None | Some("" | "/" | ".") => return Cow::Borrowed("."),
+        Some(path) => path.strip_suffix('/').unwrap_or(path),
     };
-    calls::export_name(path, |name| match path.get(..name.len()) {
-        Some(front) if front == name => Cow::Borrowed(front),
-        _ if name == "." => Cow::Borrowed("."),
-        _ => Cow::Owned(name.to_owned()),
-    })
+    if path.starts_with("./") {
+        return Cow::Borrowed(path);
+    }
+    Cow::Owned(["./", path.strip_prefix('/').unwrap_or(path)].concat())
 }
 
 /// A dependency of a JSR package: a package of JSR or npm with a requirement, such as `npm:name@1`.

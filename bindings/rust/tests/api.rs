@@ -1,6 +1,8 @@
 //! What the table of questions can't ask: errors, packages and references, ranges that a caller builds, copies and threads.
 
-use deno_semver_proved::jsr::{JsrDepPackageReq, JsrDepPackageReqParseError, JsrPackageNvReference, JsrPackageReqReference};
+use deno_semver_proved::jsr::{
+    normalized_export_name, JsrDepPackageReq, JsrDepPackageReqParseError, JsrPackageNvReference, JsrPackageReqReference,
+};
 use deno_semver_proved::lists::{self, Best, Fit, VersionList};
 use deno_semver_proved::lowest::{self, Lowest};
 use deno_semver_proved::npm::{parse_npm_version, parse_npm_version_req, NpmPackageNvReference, NpmPackageReqReference};
@@ -301,6 +303,20 @@ fn references_are_those_of_the_library() {
         });
         assert_eq!(ours, json::dependency(Grammar::Strict, &npm).ok(), "{npm:?}");
     }
+}
+
+// The crate names exports itself, and the proved call for references must name them alike.
+#[test]
+fn export_names_are_those_of_the_library() {
+    let pieces = ["/", "/", ".", ".", "./", "/.", "a", "mod.ts", "é", " "];
+    for seed in 0..60_000 {
+        let mut next = random(seed);
+        let path: String = (0..next(7)).map(|_| pieces[next(pieces.len())]).collect();
+        let json = json::reference(&format!("jsr:@a/b@1/{path}")).unwrap();
+        let export = format!(r#"{{"export":{:?},"#, normalized_export_name(Some(&path)));
+        assert!(json.starts_with(&export), "{path:?}: {json}");
+    }
+    assert_eq!(normalized_export_name(None), ".");
 }
 
 #[test]
