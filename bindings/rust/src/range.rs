@@ -1,4 +1,4 @@
-//! The ranges of a requirement as values that callers take apart and build. Their rules are Rust over the proved order of versions.
+//! The ranges of a requirement as values that callers take apart and build. Their rules are Rust over the order of versions.
 
 use crate::string::StackString;
 use crate::version::Version;

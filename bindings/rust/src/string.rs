@@ -25,7 +25,7 @@ impl Clone for Text {
         if let Text::Long(text) = self {
             mem::forget(text.clone());
         }
-        // Safety: the copy has the count that was added, and bytes own nothing. Copied field by field, it takes twice as long.
+        // Safety: the copy has the count that was added, and bytes own nothing. Field by field it is slower.
         unsafe { ptr::read(self) }
     }
 }

@@ -221,7 +221,7 @@ impl Clone for Version {
     #[inline]
     fn clone(&self) -> Version {
         mem::forget(self.qualified.clone());
-        // Safety: the copy has the count that was added, and empty lists own nothing. Copied field by field, it takes twice as long.
+        // Safety: the copy has the count that was added, and empty lists own nothing. Field by field it is slower.
         unsafe { ptr::read(self) }
     }
 }
