@@ -319,6 +319,7 @@ static void version(const text *t) {
 
 static void is_tag(const text *t) {
     semver_req r = {0};
+    check_text(semver_is_tag(grammar, BYTES(t[0]), OUT));
     if (!read_req(t[0], &r)) return;
     check(semver_req_is_tag(&r), FIT, NULL, 0);
     semver_req_free(&r);

@@ -119,6 +119,9 @@ int32_t semver_min_version(uint32_t grammar, const uint8_t *range, size_t range_
 int32_t semver_normal(uint32_t grammar, const uint8_t *range, size_t range_len,
                       uint8_t *out, size_t out_len, size_t *needed);
 
+/* Whether the range is a tag: NO or YES. */
+int32_t semver_is_tag(uint32_t grammar, const uint8_t *range, size_t range_len, uint8_t *out, size_t out_len, size_t *needed);
+
 /* How the version is displayed: YES. */
 int32_t semver_version(const uint8_t *version, size_t version_len, uint8_t *out, size_t out_len, size_t *needed);
 

@@ -23,17 +23,6 @@ type Out = *mut u8;
 type Size = *mut usize;
 
 extern "C" {
-    fn semver_fits(
-        grammar: u32,
-        range: In,
-        range_len: usize,
-        version: In,
-        version_len: usize,
-        pre: u32,
-        out: Out,
-        out_len: usize,
-        needed: Size,
-    ) -> i32;
     fn semver_filter(
         grammar: u32,
         range: In,
@@ -73,6 +62,7 @@ extern "C" {
     ) -> i32;
     fn semver_min_version(grammar: u32, range: In, range_len: usize, pre: u32, out: Out, out_len: usize, needed: Size) -> i32;
     fn semver_normal(grammar: u32, range: In, range_len: usize, out: Out, out_len: usize, needed: Size) -> i32;
+    fn semver_is_tag(grammar: u32, range: In, range_len: usize, out: Out, out_len: usize, needed: Size) -> i32;
     fn semver_version(version: In, version_len: usize, out: Out, out_len: usize, needed: Size) -> i32;
     fn semver_version_numbers(version: In, version_len: usize, numbers: *mut u64, numbers_len: usize, needed: Size) -> i32;
     fn semver_may_be_tag(text: In, len: usize) -> i32;
@@ -208,15 +198,11 @@ fn text_or_message(call: impl FnMut(Out, usize, Size) -> i32) -> Result<String, 
     })
 }
 
-/// Whether the text is a range that is a tag, or the error message.
-pub(crate) fn check_range(grammar: Grammar, text: &str) -> Result<bool, String> {
-    let any = "0.0.0";
-    let call = |out, len, needed| unsafe {
-        semver_fits(grammar as u32, text.as_ptr(), text.len(), any.as_ptr(), any.len(), 0, out, len, needed)
-    };
+/// Whether a range is a tag, or the error message.
+pub(crate) fn is_tag(grammar: Grammar, text: &str) -> Result<bool, String> {
+    let call = |out, len, needed| unsafe { semver_is_tag(grammar as u32, text.as_ptr(), text.len(), out, len, needed) };
     with_text(call, |code, message| match code {
-        NO | YES => Ok(false),
-        TAG => Ok(true),
+        NO | YES => Ok(code == YES),
         INVALID_RANGE => Err(message.to_owned()),
         _ => failed(code),
     })
@@ -306,7 +292,7 @@ pub(crate) struct Invalid {
 impl Invalid {
     /// The error of a call that writes no message: that of the range by itself.
     fn range(grammar: Grammar, text: &str, place: usize) -> Invalid {
-        Invalid { place, message: check_range(grammar, text).err().unwrap_or_default() }
+        Invalid { place, message: is_tag(grammar, text).err().unwrap_or_default() }
     }
 }
 

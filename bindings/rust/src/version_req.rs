@@ -71,8 +71,7 @@ impl VersionReq {
 
     pub(crate) fn parse(grammar: Grammar, text: &str) -> Result<VersionReq, ParseErrorFailureError> {
         let kept = if grammar == Grammar::Npm { text.trim() } else { text };
-        let is_tag =
-            calls::check_range(grammar, kept).map_err(|message| ParseErrorFailureError::of_range(message, grammar, text))?;
+        let is_tag = calls::is_tag(grammar, kept).map_err(|message| ParseErrorFailureError::of_range(message, grammar, text))?;
         Ok(VersionReq { text: kept.into(), grammar, is_tag, shared: LazyArc::none() })
     }
 

@@ -1,10 +1,10 @@
 -- The question of each call: the grammar is looked up first, then the texts are checked, then the question about texts is
 -- asked.
-use Rattle.std.specs.Prelude.{◌≡◌, ◌==◌, ◌&&◌, ℕ, List, [], ◌∷◌, length, Bool, Option, Some, Result, Ok}
+use Rattle.std.specs.Prelude.{◌≡◌, ◌==◌, ◌&&◌, ℕ, List, [], ◌∷◌, is_some, length, Bool, Option, Some, Result, Ok}
 use Rattle.std.specs.Str.Lines.{lines}
 use Rattle.std.specs.declared.cmp.Ordering.{Ordering}
 use Rattle.semver_base.specs.declared.version.Version.{Version}
-use Rattle.semver_req.specs.Requirement.{Requirement}
+use Rattle.semver_req.specs.Requirement.{Requirement, tag_of}
 use Rattle.semver_req.specs.declared.common.values.Flavour.{Flavour}
 use Rattle.deno_semver.specs.ExportName.{export_name}
 use Rattle.semver_req.specs.Viable.{IsErrorPlace, IsVersionText}
@@ -82,6 +82,10 @@ OutsideBy number g one other = ByTwo g one other (λ f r s. Outside (pre_release
 
 abbrev pub CanonicalBy : ℕ → List ℕ → Result (List ℕ) CallFault → Type 0
 CanonicalBy g range = ByOne g range Canonical
+
+-- whether a range is a tag
+abbrev pub TagBy : ℕ → List ℕ → Result Bool CallFault → Type 0
+TagBy g range = ByOne g range (λ f text. Given (IsRange f 0 text) (λ req. Is (is_some (tag_of req.inner))))
 
 abbrev pub DisplayedOf : List ℕ → Result (List ℕ) CallFault → Type 0
 DisplayedOf version = OfText version Displayed

@@ -17,7 +17,7 @@ ghost use Rattle.answers.specs.Asking.{Is};
 ghost use Rattle.answers.specs.declared.questions.End.TheVariants as end;
 ghost use Rattle.semver_c.specs.Codes.{IsCode, IsOneReply, IsPlaceReply, IsPlaced, IsReply, IsUntouched, IsUntouchedWithoutValue, always_yes, as_place, best_code, best_place, bool_code, filter_code, filter_numbers, lowest_code, lowest_text, match_code, no_place, no_text, number_of, order_code, text_code, text_of, three_numbers, unqualified_code, yes};
 ghost use Rattle.semver_c.specs.Held.{IsHeld, IsHeldBest, IsHeldEqual, IsHeldFilter, IsHeldMatch, IsHeldOrder, IsHeldOverlap, IsHeldSort, lines_of};
-ghost use Rattle.semver_c.specs.Questions.{BestLine, CanonicalBy, CommonBy, CommonOfAll, DependencyBy, DisplayedOf, EquivalentBy, ErrorsBy, ExplainsBy, ExportNameOf, Filters, Fits, LowestBy, LowestLine, MatchesHeld, NameWithVersionOf, NumbersOf, OrdersOf, OutsideBy, OverlapsBy, PackageBy, RangeBy, RangesBy, ReferenceOf, SortsOf, VersionErrorOf, VersionListOf, VersionOf, VersionPartsOf, VersionReferenceOf};
+ghost use Rattle.semver_c.specs.Questions.{BestLine, CanonicalBy, CommonBy, CommonOfAll, DependencyBy, DisplayedOf, EquivalentBy, ErrorsBy, ExplainsBy, ExportNameOf, Filters, Fits, LowestBy, LowestLine, MatchesHeld, NameWithVersionOf, NumbersOf, OrdersOf, OutsideBy, OverlapsBy, PackageBy, RangeBy, RangesBy, ReferenceOf, SortsOf, TagBy, VersionErrorOf, VersionListOf, VersionOf, VersionPartsOf, VersionReferenceOf};
 ghost use Rattle.semver_c.specs.declared.codes.Code.TheVariants as code;
 
 mod arguments;
@@ -34,15 +34,15 @@ use handles::{RequirementHandle, VersionHandle, VersionListHandle};
 use questions::{
     best_held, best_line, canonical_form, common, common_of_all, dependency_of, displayed_version,
     equivalent_ranges, errors_of, explanation_of, export_name_of, filter, filter_held, fits,
-    held_canonical, held_displayed, lowest, lowest_line, match_code, matches_held,
-    name_with_version_of, numbers_of, order_of, outside, overlap, package_of, ranges_of, read_list,
-    read_range, read_version, reference_of, release, sorted_held, sorted_lines, version_error_of,
-    version_parts_of, version_reference_of,
+    held_canonical, held_displayed, is_tag, lowest, lowest_line, match_code, matches_held,
+    name_with_version_of, names_tag, numbers_of, order_of, outside, overlap, package_of, ranges_of,
+    read_list, read_range, read_version, reference_of, release, sorted_held, sorted_lines,
+    version_error_of, version_parts_of, version_reference_of,
 };
 use reports::{
     code_of_bool, code_of_match, code_of_order, code_or_problem, put, put_place, report_best,
-    report_filter, report_lowest, report_match, report_name, report_numbers, report_place,
-    report_places, report_problem, report_text, report_text_or_tag,
+    report_bool, report_filter, report_lowest, report_match, report_name, report_numbers,
+    report_place, report_places, report_problem, report_text, report_text_or_tag,
 };
 use semver_req::laws::equal_requirements;
 use std::alloc::Global;
@@ -216,6 +216,21 @@ pub extern "C" fn semver_normal(
         out.old out.new needed.new result }
 {
     report_text(canonical_form(alloc, grammar, range), out, needed)
+}
+
+/// Whether the range is a tag: yes or no.
+#[unsafe(no_mangle)]
+pub extern "C" fn semver_is_tag(
+    alloc: Global,
+    grammar: u32,
+    range: &[u8],
+    out: &mut [u8],
+    needed: &mut usize,
+) -> i32
+    ensures { IsReply (TagBy grammar range.now) bool_code no_text
+        out.old out.new needed.new result }
+{
+    report_bool(names_tag(alloc, grammar, range), out, needed)
 }
 
 /// The version as displayed: yes.
@@ -641,9 +656,9 @@ pub extern "C" fn semver_req_is_tag(alloc: Global, handle: &mut RequirementHandl
         (λ req. result ≡ number_of (bool_code (is_some (tag_of req.inner)))) }
 {
     let requirement = handle.take(alloc);
-    let is_tag = requirement.tag().is_some();
+    let code = Code::of_bool(is_tag(&*requirement));
     *handle = RequirementHandle::keep(requirement);
-    Code::of_bool(is_tag).number()
+    code.number()
 }
 
 /// Whether the ranges of two handles overlap: 0 no, 1 yes.

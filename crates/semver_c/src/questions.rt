@@ -1,10 +1,10 @@
 //! The question of each call: its grammar is looked up, its texts are checked, and the question about texts is asked.
 
-ghost use Rattle.std.specs.Prelude.{◌≡◌, IfOk, string_bytes};
+ghost use Rattle.std.specs.Prelude.{◌≡◌, IfOk, is_some, string_bytes};
 ghost use Rattle.std.specs.Cow.{cow_str_bytes};
 ghost use Rattle.semver_base.specs.Meaning.{release};
 ghost use Rattle.semver_base.specs.VersionText.{version_text};
-ghost use Rattle.semver_req.specs.Requirement.{inner_text};
+ghost use Rattle.semver_req.specs.Requirement.{inner_text, tag_of};
 ghost use Rattle.answers.specs.Asking.{Is};
 ghost use Rattle.answers.specs.Filtering.{list_answer, list_matches};
 ghost use Rattle.answers.specs.Questions.{match_of};
@@ -13,7 +13,7 @@ ghost use Rattle.answers.specs.declared.sorting.Order.TheVariants as sorting;
 ghost use Rattle.semver_c.specs.Arguments.{IsAnswer, IsOneAnswer, pre_release_of};
 ghost use Rattle.semver_c.specs.Codes.{match_code};
 ghost use Rattle.semver_c.specs.Held.{IsListBest, list_lines};
-ghost use Rattle.semver_c.specs.Questions.{BestLine, CanonicalBy, CommonBy, CommonOfAll, DependencyBy, DisplayedOf, EquivalentBy, ErrorsBy, ExplainsBy, ExportNameOf, Filters, Fits, LowestBy, LowestLine, MatchesHeld, NameWithVersionOf, NumbersOf, OrdersOf, OutsideBy, OverlapsBy, PackageBy, RangeBy, RangesBy, ReferenceOf, SortsOf, VersionErrorOf, VersionListOf, VersionOf, VersionPartsOf, VersionReferenceOf, version_numbers};
+ghost use Rattle.semver_c.specs.Questions.{BestLine, CanonicalBy, CommonBy, CommonOfAll, DependencyBy, DisplayedOf, EquivalentBy, ErrorsBy, ExplainsBy, ExportNameOf, Filters, Fits, LowestBy, LowestLine, MatchesHeld, NameWithVersionOf, NumbersOf, OrdersOf, OutsideBy, OverlapsBy, PackageBy, RangeBy, RangesBy, ReferenceOf, SortsOf, TagBy, VersionErrorOf, VersionListOf, VersionOf, VersionPartsOf, VersionReferenceOf, version_numbers};
 
 use crate::arguments::{Problem, flavour, line_list, pre_release, text};
 use crate::codes::Code;
@@ -276,6 +276,23 @@ pub fn canonical_form(alloc: Global, grammar: u32, range: &[u8]) -> Result<Strin
     let flavour = flavour(grammar)?;
     let range = text(range)?;
     Ok(canonical(alloc, flavour, range)?)
+}
+
+/// Whether the range is a tag.
+pub fn is_tag(range: &VersionReq) -> bool
+    ensures { result ≡ is_some (tag_of range.now.inner) }
+{
+    range.tag().is_some()
+}
+
+/// Is the range a tag?
+pub fn names_tag(alloc: Global, grammar: u32, bytes: &[u8]) -> Result<bool, Problem>
+    ensures { IsAnswer (TagBy grammar bytes.now) (λ answer. answer) result }
+{
+    let flavour = flavour(grammar)?;
+    let text = text(bytes)?;
+    let range = range(alloc, flavour, 0, text)?;
+    Ok(is_tag(&range))
 }
 
 /// How is the version displayed?

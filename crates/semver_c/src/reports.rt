@@ -121,6 +121,20 @@ pub fn report_match(
     }
 }
 
+/// Reports yes or no.
+pub fn report_bool(answer: Result<bool, Problem>, out: &mut [u8], needed: &mut usize) -> i32
+    ensures { IsReported bool_code no_text (outcome_of (λ answer. answer) answer)
+        out.old out.new needed.new result }
+{
+    match answer {
+        Ok(answer) => {
+            put("", out, needed);
+            Code::of_bool(answer).number()
+        }
+        Err(problem) => report_problem(&problem, out, needed),
+    }
+}
+
 /// Reports a text.
 pub fn report_text(answer: Result<String, Problem>, out: &mut [u8], needed: &mut usize) -> i32
     ensures { IsReported always_yes (λ text. text) (outcome_of (λ text. string_bytes text) answer)
