@@ -13,7 +13,7 @@ use Rattle.answers.specs.Questions.{match_of}
 use Rattle.answers.specs.Sorting.{SortedLines}
 use Rattle.answers.specs.declared.questions.End.{End}
 use Rattle.answers.specs.declared.sorting.Order.TheVariants.{Ascending}
-use Rattle.handles.specs.declared.version_list.VersionList.{VersionList}
+use Rattle.semver_c.specs.declared.handles.version_list.VersionList.{VersionList}
 use Rattle.semver_c.specs.Arguments.{CallFault, pre_release_of}
 use Rattle.semver_c.specs.declared.codes.Code.{Code}
 use Rattle.semver_c.specs.declared.codes.Code.TheVariants as code

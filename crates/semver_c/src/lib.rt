@@ -6,7 +6,7 @@
 #![tactic(auto)]
 
 ghost use Rattle.std.specs.Prelude.{◌≡◌, IfSome, IsUtf8, List, None, Some, ℕ, is_some, length};
-ghost use Rattle.handles.specs.Handle.{Holds};
+ghost use Rattle.semver_c.specs.Handle.{Holds};
 ghost use Rattle.semver_base.specs.Meaning.{release};
 ghost use Rattle.semver_base.specs.Precedence.{precedence_cmp, version_cmp};
 ghost use Rattle.semver_base.specs.VersionText.{version_text};
@@ -22,6 +22,7 @@ ghost use Rattle.semver_c.specs.declared.codes.Code.TheVariants as code;
 
 mod arguments;
 mod codes;
+mod handles;
 mod questions;
 mod reports;
 

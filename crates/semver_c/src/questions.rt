@@ -17,6 +17,7 @@ ghost use Rattle.semver_c.specs.Questions.{BestLine, CanonicalBy, CommonBy, Comm
 
 use crate::arguments::{Problem, flavour, line_list, pre_release, text};
 use crate::codes::Code;
+use crate::handles::VersionList;
 use answers::asking::Answer;
 use answers::errors::{errors_of_range, version_error};
 use answers::explained_json::explain_as_json;
@@ -30,7 +31,6 @@ use answers::reading::{range, version};
 use answers::sorting::{Order, sort, sorted_lines as sorted_list};
 use deno_semver::jsr::normalized_export_name;
 use deno_semver::{PreRelease, Version, VersionReq};
-use handles::VersionList;
 use package_answers::names::name_with_version_parts;
 use package_answers::packages::package_parts;
 use package_answers::references::reference_parts;

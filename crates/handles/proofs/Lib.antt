@@ -1,4 +1,0 @@
-pub mod RequirementHandleValues
-pub mod Values
-pub mod VersionHandleValues
-pub mod VersionListHandleValues
