@@ -155,7 +155,8 @@ pub fn report_name(
     out: &mut [u8],
     needed: &mut usize,
 ) -> i32
-    ensures { IsReported always_yes (λ text. text) (outcome_of (λ name. cow_str_bytes name) answer.entry)
+    ensures { IsReported always_yes (λ text. text)
+        (outcome_of (λ name. cow_str_bytes name) answer.entry)
         out.old out.new needed.new result }
 {
     match answer {
