@@ -120,13 +120,16 @@ module _ (f : Flavour) where
 pub npm_list : {piece : List ℕ} {answer : RangeOrInvalid} → IsWholeRead (IsComparators Npm) piece (Some answer) → IsWholeRead (IsFilled Npm) piece (Some answer)
 npm_list h = (h.0, that h.1, h.2)
 
+pub npm_hyphen : {piece : List ℕ} {answer : RangeOrInvalid} → IsWholeRead IsHyphen piece (Some answer) → IsWholeRead (IsFilled Npm) piece (Some answer)
+npm_hyphen h = (h.0, this h.1, h.2)
+
 pub npm_hyphen_or_none : {piece : List ℕ} (r : Option RangeOrInvalid) → IsWholeRead (IsComparators Npm) piece None → IsWholeRead IsHyphen piece r → IsWholeRead (IsFilled Npm) piece r
 npm_hyphen_or_none {piece} None no_list no_pair = go
   where
     go : (cs : List Comparator) → IsFilled Npm piece cs → ⊥
     go cs (this h) = no_pair cs h
     go cs (that h) = no_list cs h
-npm_hyphen_or_none (Some answer) no_list h = (h.0, this h.1, h.2)
+npm_hyphen_or_none (Some answer) no_list h = npm_hyphen h
 
 some_items : {V : Type 0} {A : List ℕ → V → Type 0} {S : List ℕ → Unit {0} → Type 0} {text : List ℕ} {vs : List V} → Listed A S text vs → [] ≡ vs → ⊥
 some_items (last_item a) e = cc e

@@ -45,6 +45,12 @@ fn is_everything(piece: &str, is_followed: bool) -> bool
     piece.is_empty()
 }
 
+// Whether a piece begins with a digit and contains ` - `, as most hyphen ranges do.
+#[inline(always)]
+fn looks_hyphenated(piece: &str) -> bool {
+    matches!(piece.as_bytes(), [b'0'..=b'9', ..]) && piece.contains(" - ")
+}
+
 // Why a range couldn't be made: a bound is too large, or out of memory.
 fn no_range(failure: ParseFailure) -> Result<RangeOrInvalid, ParseFailure>
     ensures bound { IfOk result (λ read. (read ≡ Invalid BoundTooLarge) × (failure ≡ None → ⊥)) }
@@ -229,16 +235,22 @@ impl RangeOrInvalid {
         RangeOrInvalid::by_grammar(alloc, piece, flavour)
     }
 
-    // Parses the whole piece, which isn't empty, by npm's grammar. No piece is both a list and a hyphen range, so the order is free.
+    // Parses the whole piece, which isn't empty, by npm's grammar. No piece is both a hyphen range and a list, so the order is free: what
+    // it looks like is tried first.
     #[inline(always)]
     fn npm(alloc: Global, piece: &str) -> Result<Option<RangeOrInvalid>, ParseFailure>
         ensures value { IfOk result (IsWholeRead (IsFilled Flavour.Npm) piece.now) }
         ensures memory { IfErr result (λ failure. failure ≡ None) }
     {
-        match RangeOrInvalid::list(alloc, piece, Flavour::Npm)? {
-            Some(read) => Ok(Some(read)),
-            None => RangeOrInvalid::hyphen(alloc, piece),
+        if looks_hyphenated(piece) {
+            if let Some(read) = RangeOrInvalid::hyphen(alloc, piece)? {
+                return Ok(Some(read));
+            }
         }
+        if let Some(read) = RangeOrInvalid::list(alloc, piece, Flavour::Npm)? {
+            return Ok(Some(read));
+        }
+        RangeOrInvalid::hyphen(alloc, piece)
     }
 
     // Parses the whole piece, which isn't empty, by the full grammar.
