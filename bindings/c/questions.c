@@ -128,7 +128,7 @@ static void fits(const text *t) {
         semver_version_free(&v);
     }
     if (semver_version_numbers(BYTES(t[1]), numbers, NUMBERS, &needed) == SEMVER_YES)
-        check(semver_req_matches_release(&r, numbers[0], numbers[1], numbers[2], pre_releases), FIT, NULL, 0);
+        check(semver_req_matches_release(&r, numbers[0], numbers[1], numbers[2]), FIT, NULL, 0);
     semver_req_free(&r);
 }
 

@@ -223,8 +223,9 @@ int32_t semver_req_fits(semver_req *range, const uint8_t *version, size_t versio
 /* Whether the version matches the range: NO, YES or TAG. */
 int32_t semver_req_matches(semver_req *range, semver_ver *version, uint32_t pre_releases);
 
-/* Whether the version of these numbers, without a pre-release and a build, matches the range: NO, YES or TAG. */
-int32_t semver_req_matches_release(semver_req *range, uint64_t major, uint64_t minor, uint64_t patch, uint32_t pre_releases);
+/* Whether the version of these numbers, without a pre-release and a build, matches the range: NO, YES or TAG. It is the same for both
+ * rules of pre-releases. */
+int32_t semver_req_matches_release(semver_req *range, uint64_t major, uint64_t minor, uint64_t patch);
 
 /* Whether two ranges overlap: as semver_overlap. The handles are two. */
 int32_t semver_req_overlap(semver_req *one, semver_req *other);

@@ -78,7 +78,7 @@ extern "C" {
     fn semver_req_free(handle: *mut Raw);
     fn semver_req_fits(range: *mut Raw, version: In, version_len: usize, pre: u32) -> i32;
     fn semver_req_matches(range: *mut Raw, version: *mut Raw, pre: u32) -> i32;
-    fn semver_req_matches_release(range: *mut Raw, major: u64, minor: u64, patch: u64, pre: u32) -> i32;
+    fn semver_req_matches_release(range: *mut Raw, major: u64, minor: u64, patch: u64) -> i32;
     fn semver_req_overlap(one: *mut Raw, other: *mut Raw) -> i32;
     fn semver_req_equal(one: *mut Raw, other: *mut Raw) -> i32;
     fn semver_req_order(one: *mut Raw, other: *mut Raw) -> i32;
@@ -467,8 +467,8 @@ impl Requirement {
 
     /// Whether the version of these numbers matches, without a pre-release and a build; none if this is a tag.
     #[inline]
-    pub(crate) fn matches_release(&mut self, [major, minor, patch]: [u64; 3], pre: PreRelease) -> Option<bool> {
-        is_match(unsafe { semver_req_matches_release(&mut self.0, major, minor, patch, pre as u32) })
+    pub(crate) fn matches_release(&mut self, [major, minor, patch]: [u64; 3]) -> Option<bool> {
+        is_match(unsafe { semver_req_matches_release(&mut self.0, major, minor, patch) })
     }
 
     /// Whether the version of a text that is one matches; none if this is a tag.

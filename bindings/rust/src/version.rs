@@ -211,7 +211,7 @@ impl Version {
     #[inline]
     pub(crate) fn is_matched_by(&self, req: &mut Requirement, pre_release: PreRelease) -> Option<bool> {
         match &self.qualified {
-            None => req.matches_release(self.numbers(), pre_release),
+            None => req.matches_release(self.numbers()),
             Some(qualified) => qualified.is_matched_by(req, pre_release),
         }
     }

@@ -29,6 +29,7 @@ mod reports;
 use answers::questions::End;
 use arguments::pre_release;
 use codes::Code;
+use deno_semver::PreRelease;
 use deno_semver::npm::is_valid_npm_tag;
 use deno_semver::package::cmp_version_reqs;
 use handles::{RequirementHandle, VersionHandle, VersionListHandle};
@@ -626,7 +627,7 @@ pub extern "C" fn semver_req_matches(
     code.number()
 }
 
-/// Whether the release of these numbers matches the range of the handle, like `semver_fits`.
+/// Whether the release of these numbers matches the range of the handle, like `semver_req_matches`. Pre-releases don't matter.
 #[unsafe(no_mangle)]
 pub extern "C" fn semver_req_matches_release(
     alloc: Global,
@@ -634,16 +635,15 @@ pub extern "C" fn semver_req_matches_release(
     major: u64,
     minor: u64,
     patch: u64,
-    pre_releases: u32,
 ) -> i32
     requires { Holds requirement.old.value }
     ensures stays { requirement.new.value ≡ requirement.old.value }
-    ensures code { IsHeldMatch pre_releases requirement.old.value
+    ensures code { (pre_releases : ℕ) → IsHeldMatch pre_releases requirement.old.value
         (Some (release major minor patch)) result }
 {
     let req = requirement.take(alloc);
     let version = release(alloc, major, minor, patch);
-    let code = match_code(&*req, &version, pre_release(pre_releases));
+    let code = match_code(&*req, &version, PreRelease::Restricted);
     *requirement = RequirementHandle::keep(req);
     code.number()
 }
