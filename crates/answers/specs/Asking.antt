@@ -12,6 +12,7 @@ pub data Fault : Type 0 where
   Invalid : Kind → ℕ → Fault
   OutOfMemory : Fault
 
+-- what is wrong, without its message
 abbrev pub fault_of : Problem → Fault
 fault_of (problem.Invalid argument) = Invalid argument.kind argument.place
 fault_of problem.OutOfMemory = OutOfMemory

@@ -34,6 +34,7 @@ expected_texts Empty = []
 expected_texts NumberTooLarge = []
 expected_texts BoundTooLarge = []
 
+-- what is expected at the place of an error
 abbrev pub expected_json : Cause → Data
 expected_json cause = array (items_of (map string (expected_texts cause)))
 
@@ -45,6 +46,7 @@ error_json e =
     (member (codes "message") (string (rejection_message (rejection_of e.cause)))
     (member (codes "start") (number (unsigned e.place)) no_members))))
 
+-- the JSON of several errors
 abbrev pub errors_json : List InvalidPiece → Data
 errors_json errors = array (items_of (map error_json errors))
 

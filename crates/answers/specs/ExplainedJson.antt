@@ -38,9 +38,11 @@ abbrev pub pre_release_of : RangeBound → Bool → Option Version
 pre_release_of bound.Unbounded matches = None
 pre_release_of (bound.Version b) matches = if matches && not (length b.version.pre == 0) then Some b.version else None
 
+-- two versions have the same three numbers
 abbrev pub have_same_numbers : Version → Version → Bool
 have_same_numbers v w = (v.major == w.major) && (v.minor == w.minor) && (v.patch == w.patch)
 
+-- a value, or none, as a list
 abbrev pub option_list : {X : Type 0} → Option X → List X
 option_list (Some x) = x ∷ []
 option_list None = []
@@ -57,6 +59,7 @@ pre_releases m = distinct (pre_release_of m.range.start m.pre_of_start) (pre_rel
 
 -- ---- alternatives
 
+-- the three numbers of a version
 abbrev pub numbers_text : Version → List ℕ
 numbers_text v = decimal v.major ++ (dot ∷ (decimal v.minor ++ (dot ∷ decimal v.patch)))
 
@@ -65,6 +68,7 @@ abbrev pub pre_releases_json : PreRelease → Matches → Data
 pre_releases_json pre_release.Restricted m = array (items_of (map string (map numbers_text (pre_releases m))))
 pre_releases_json pre_release.Admitted m = string (codes "all")
 
+-- the lowest version as displayed, or null
 abbrev pub lowest_json : Option Version → Data
 lowest_json (Some v) = string (version_text v)
 lowest_json None = null
@@ -78,6 +82,7 @@ matches_json flag text m =
     (member (codes "start") (bound_json m.range.start)
     (member (codes "text") (string text) no_members)))))
 
+-- the JSON of an error, or null
 abbrev pub error_or_null : Option InvalidPiece → Data
 error_or_null (Some e) = error_json e
 error_or_null None = null
@@ -101,11 +106,13 @@ error_for (meaning.Range m) errors = None
 error_for (meaning.LeftOut why) [] = None
 error_for (meaning.LeftOut why) (e ∷ errors) = Some e
 
+-- the errors of the alternatives behind this one
 abbrev pub errors_behind : Meaning → List InvalidPiece → List InvalidPiece
 errors_behind (meaning.Range m) errors = errors
 errors_behind (meaning.LeftOut why) [] = []
 errors_behind (meaning.LeftOut why) (e ∷ errors) = errors
 
+-- each alternative, those that are left out with their errors
 abbrev pub alternatives_json : PreRelease → List Piece → List InvalidPiece → List Data
 alternatives_json flag [] errors = []
 alternatives_json flag (piece ∷ pieces) errors = alternative_json flag piece (error_for piece.meaning errors)

@@ -31,6 +31,7 @@ pub data IsLine {X : Type 0} (value : Version → X) (place : ℕ) (text : List 
 abbrev pub LineMatch : (Version → Bool) → ℕ → List ℕ → Result (Option Bool) Fault → Type 0
 LineMatch test = IsLine test
 
+-- of a parsed range, whether the version of each text matches it
 abbrev pub FilterOf : PreRelease → RangeSetOrTag → List (List ℕ) → Result (Answer (List (Option Bool))) Fault → Type 0
 FilterOf flag read texts = UnlessTag (tag_of read)
     (Given (Each (LineMatch (inner_means_with flag read)) 0 texts) (λ answers. Is (Value answers)))
@@ -45,6 +46,7 @@ Filter flag f range texts = Given (IsRange f 0 range) (λ req. FilterOf flag req
 abbrev pub VersionLines : List (List ℕ) → Result (List (Option Version)) Fault → Type 0
 VersionLines texts = Each (IsLine (λ v. v)) 0 texts
 
+-- what is asked of the version of a line, if it has one
 abbrev pub line_answer : (Version → Bool) → Option Version → Option Bool
 line_answer test (Some v) = Some (test v)
 line_answer test None = None

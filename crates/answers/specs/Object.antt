@@ -8,6 +8,7 @@ use Rattle.answers.specs.declared.object.Object.{Object}
 pub record Has (built : Object) (all : Members) : Type 0 where
   pub members : IfOk built.members (λ map. members_view map.entries ≡ all)
 
+-- the JSON of a text, or null
 abbrev pub text_or_null : Option (List ℕ) → Data
 text_or_null None = null
 text_or_null (Some text) = string text

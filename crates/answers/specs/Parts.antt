@@ -21,6 +21,7 @@ use Rattle.answers.specs.declared.asking.Answer.TheVariants.{Value, Tag}
 
 -- ---- versions
 
+-- texts as an array
 abbrev pub texts_json : List (List ℕ) → Data
 texts_json texts = array (items_of (map string texts))
 
@@ -33,11 +34,13 @@ version_json v =
     (member (codes "patch") (string (decimal v.patch))
     (member (codes "pre") (texts_json v.pre) no_members)))))
 
+-- the parts of the version of a text
 abbrev pub VersionParts : List ℕ → Result (List ℕ) Fault → Type 0
 VersionParts version = Given (IsVersion 0 version) (λ v. Is (compact_text (version_json v)))
 
 -- ---- ranges
 
+-- whether the version itself lies within the bound
 abbrev pub is_inclusive : VersionBoundKind → Bool
 is_inclusive ends.Inclusive = true
 is_inclusive ends.Exclusive = false
@@ -49,10 +52,12 @@ bound_json (bound.Version b) =
     object (member (codes "inclusive") (boolean (is_inclusive b.kind))
     (member (codes "version") (string (version_text b.version)) no_members))
 
+-- the bounds of a range
 abbrev pub range_json : VersionRange → Data
 range_json range =
     object (member (codes "end") (bound_json range.end) (member (codes "start") (bound_json range.start) no_members))
 
+-- those of several ranges
 abbrev pub ranges_json : List VersionRange → Data
 ranges_json ranges = array (items_of (map range_json ranges))
 
@@ -61,5 +66,6 @@ abbrev pub ranges_answer : RangeSetOrTag → Answer (List ℕ)
 ranges_answer (inner.RangeSet set) = Value (compact_text (ranges_json set.0))
 ranges_answer (inner.Tag tag) = Tag tag
 
+-- the ranges of a text, or the tag
 abbrev pub RangeParts : Flavour → List ℕ → Result (Answer (List ℕ)) Fault → Type 0
 RangeParts f range = Given (IsRange f 0 range) (λ req. Is (ranges_answer req.inner))

@@ -39,6 +39,7 @@ UnlessTag None Asked outcome = Asked outcome
 
 -- ---- does the version match the range
 
+-- whether the version matches the range, or the tag
 abbrev pub match_of : PreRelease → RangeSetOrTag → Version → Answer Bool
 match_of flag (inner.RangeSet set) v = Value (inner_means_with flag (inner.RangeSet set) v)
 match_of flag (inner.Tag tag) v = Tag tag
@@ -59,10 +60,12 @@ abbrev pub IsBest : End → (Version → Bool) → List Version → Option Best 
 IsBest end test versions (Some best) = IsBestAt (better end) test versions best.place best.version
 IsBest end test versions None = list_any test versions ≡ false
 
+-- of a parsed range, the match at this end of the order
 abbrev pub BestOf : End → PreRelease → RangeSetOrTag → List Version → Result (Answer (Option Best)) Fault → Type 0
 BestOf end flag read versions = UnlessTag (tag_of read)
     (λ outcome. (best : Option Best) × IsBest end (inner_means_with flag read) versions best × (outcome ≡ Ok (Value best)))
 
+-- the same of texts
 abbrev pub EndMatch : End → PreRelease → Flavour → List ℕ → List (List ℕ) → Result (Answer (Option Best)) Fault → Type 0
 EndMatch end flag f range versions =
     Given (IsRange f 0 range) (λ req. Given (Each IsVersion 0 versions) (BestOf end flag req.inner))
@@ -104,6 +107,7 @@ Outside flag f one other = Given (IsRange f 0 one) (λ req. Given (IsRange f 1 o
 
 -- ---- do two ranges match the same versions
 
+-- whether two parsed ranges match the same versions
 abbrev pub EquivalentOf : PreRelease → Requirement → Requirement → Result (Answer Bool) Fault → Type 0
 EquivalentOf flag one other = UnlessTag (first_tag (one ∷ other ∷ [])) (λ outcome. (same : Bool)
     × (IsTrue same ↔ AreEquivalent (inner_means_with flag one.inner) (inner_means_with flag other.inner))

@@ -33,6 +33,7 @@ IsNoPackageOrVersion f text version =
     ((fault : Fault) × IsPackageOutcome f text (Err fault))
     ⊎ ((fault : Rejection) × IsVersionOutcome (trim version) (Err fault))
 
+-- what the text of a package says of a version
 pub record AllowsPackage (f : Flavour) (text version : List ℕ) (result : Result Allowance Unanswered) : Type 0 where
   -- a result is that of the requirement and the version that the texts parse to
   pub reported : IfOk result (λ allowance. (req : PackageReq) × (v : Version) × IsPackageOutcome f text (Ok req)

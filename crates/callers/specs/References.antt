@@ -53,6 +53,7 @@ pub record IsPartOf (kind : PackageKind) (text part : List ℕ) : Type 0 where
   pub is_part : cut.version ≡ Some part
   pub no_version_in_path : part ≡ codes "*" → list_all (is_not at_sign) cut.path ≡ true
 
+-- what the text of a reference says of a version
 pub record AllowsReference (kind : PackageKind) (text version : List ℕ) (result : Result Allowance UnansweredReference)
     : Type 0 where
   -- a result is that of the reference and the version that the texts parse to

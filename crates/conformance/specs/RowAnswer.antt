@@ -2,6 +2,7 @@
 use Rattle.std.specs.Prelude.{◌≡◌, ◌⊎◌, ℕ, List, [], ◌∷◌, Option, Some, None, String, codes, string_bytes}
 use Rattle.std.specs.declared.alloc.Global.{Global}
 
+-- the text of a row's field
 abbrev pub item_text : Option (String Global) → Option (List ℕ)
 item_text None = None
 item_text (Some item) = Some (string_bytes item)

@@ -15,6 +15,7 @@ use Rattle.deno_semver.specs.declared.jsr.dependency.JsrDepPackageReq.{JsrDepPac
 abbrev pub dependency_text : JsrDepPackageReq → List ℕ
 dependency_text d = with_scheme d.kind (req_text d.req)
 
+-- the text by which dependencies are ordered
 abbrev pub normal_dependency_text : JsrDepPackageReq → List ℕ
 normal_dependency_text d = with_scheme d.kind (normal_req_text d.req)
 

@@ -9,8 +9,10 @@ use Rattle.deno_semver.specs.declared.package.values.PackageReq.{PackageReq}
 abbrev pub AreEqualReqs : PackageReq → PackageReq → Type 0
 AreEqualReqs x y = (x.name ≡ y.name) × (x.version_req.inner ≡ y.version_req.inner)
 
+-- `==` of references
 abbrev pub AreEqualReferences : PackageReqReference → PackageReqReference → Type 0
 AreEqualReferences x y = AreEqualReqs x.req y.req × (x.sub_path ≡ y.sub_path)
 
+-- `==` of dependencies
 abbrev pub AreEqualDependencies : JsrDepPackageReq → JsrDepPackageReq → Type 0
 AreEqualDependencies x y = (x.kind ≡ y.kind) × AreEqualReqs x.req y.req

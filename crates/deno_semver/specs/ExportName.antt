@@ -18,6 +18,7 @@ without_last_slash (first ∷ next ∷ rest) = first ∷ without_last_slash (nex
 abbrev pub dotted : List ℕ → List ℕ
 dotted path = if starts_with nat_eq path (codes "./") then path else codes "./" ++ without_slash path
 
+-- the export that a path names
 abbrev pub export_name : Option (List ℕ) → List ℕ
 export_name None = codes "."
 export_name (Some path) = if is_whole_package path then codes "." else dotted (without_last_slash path)

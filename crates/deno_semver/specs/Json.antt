@@ -111,6 +111,7 @@ range_json range =
     object (member (codes "end") (range_bound_json range.end)
     (member (codes "start") (range_bound_json range.start) no_members))
 
+-- JSON as a range
 pub record IsJsonOfRange (json : Data) (range : VersionRange) : Type 0 where
   pub start : IsMemberOf IsJsonOfRangeBound (codes "start") json range.start
   pub end : IsMemberOf IsJsonOfRangeBound (codes "end") json range.end
@@ -118,6 +119,7 @@ pub record IsJsonOfRange (json : Data) (range : VersionRange) : Type 0 where
 abbrev pub set_json : VersionRangeSet → Data
 set_json set = array (items_of (map range_json set.0))
 
+-- JSON as a set of ranges
 pub record IsJsonOfSet (json : Data) (set : VersionRangeSet) : Type 0 where
   pub items : Items
   pub is_array : json ≡ array items

@@ -43,6 +43,7 @@ abbrev pub NamesWithVersionsHaveOneOutcome : Type 0
 NamesWithVersionsHaveOneOutcome =
     (text : List ℕ) (o p : Result PackageNv Rejection) → IsNvOutcome text o → IsNvOutcome text p → o ≡ p
 
+-- the same of references to versions
 abbrev pub VersionReferencesHaveOneOutcome : Type 0
 VersionReferencesHaveOneOutcome = (kind : PackageKind) (text : List ℕ) (o p : Result PackageNvReference Rejection)
     → IsNvReferenceOutcome kind text o → IsNvReferenceOutcome kind text p → o ≡ p

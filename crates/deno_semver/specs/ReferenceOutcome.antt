@@ -71,6 +71,7 @@ pub data ReferenceError : Type 0 where
   InvalidPathWithVersion : PackageReqReferenceInvalidWithVersionParseError → ReferenceError
   Memory : ReferenceError
 
+-- the error of a reference, out of its box
 abbrev pub unboxed : PackageReqReferenceParseError → ReferenceError
 unboxed (boxed.NotExpectedScheme kind) = NotExpectedScheme kind
 unboxed (boxed.Invalid error) = Invalid error.value

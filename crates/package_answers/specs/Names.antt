@@ -25,6 +25,7 @@ pub data IsNameWithVersion (text : List ℕ) : Result PackageNv Fault → Type 0
   is_nv : {nv : PackageNv} → IsNvOutcome text (Ok nv) → IsNameWithVersion text (Ok nv)
   is_no_nv : {fault : Rejection} → IsNvOutcome text (Err fault) → IsNameWithVersion text (Err (Invalid kind.Package 0))
 
+-- its parts
 abbrev pub NameWithVersionParts : List ℕ → Result (List ℕ) Fault → Type 0
 NameWithVersionParts text = Given (IsNameWithVersion text) (λ nv. Is (compact_text (nv_json nv)))
 

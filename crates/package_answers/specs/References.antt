@@ -29,6 +29,7 @@ abbrev pub export_of : PackageKind → Option (List ℕ) → Option (List ℕ)
 export_of Jsr path = Some (export_name path)
 export_of Npm path = None
 
+-- for JSR the export that the path means, the registry, the package and the path
 abbrev pub reference_json : Reference → Data
 reference_json read =
     object (member (codes "export") (text_or_null (export_of read.kind read.reference.sub_path))

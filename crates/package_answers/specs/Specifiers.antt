@@ -36,6 +36,7 @@ pub data IsDependency (f : Flavour) (text : List ℕ) : Result JsrDepPackageReq 
   depends_not : {fault : DependencyFault} → IsDependencyOutcome f text (Err fault)
       → IsDependency f text (Err (Invalid kind.Reference 0))
 
+-- its parts
 abbrev pub DependencyParts : Flavour → List ℕ → Result (List ℕ) Fault → Type 0
 DependencyParts f text = Given (IsDependency f text) (λ d. Is (compact_text (dependency_json d)))
 
@@ -67,6 +68,7 @@ pub data IsVersionReference (text : List ℕ) : Result VersionReference Fault �
   pins_not : {registry : PackageKind} {fault : Rejection} → IsRegistryOf text registry
       → IsNvReferenceOutcome registry text (Err fault) → IsVersionReference text (Err (Invalid kind.Reference 0))
 
+-- its parts
 abbrev pub VersionReferenceParts : List ℕ → Result (List ℕ) Fault → Type 0
 VersionReferenceParts text = Given (IsVersionReference text) (λ read. Is (compact_text (version_reference_json read)))
 

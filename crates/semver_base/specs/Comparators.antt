@@ -28,6 +28,7 @@ of_primitive v = OfPrimitive v.0 v.1
 
 -- ---- what they mean
 
+-- the bounds of a comparison operator and a partial version
 abbrev pub primitive_line : PrimitiveKind → Partial → Line
 primitive_line GreaterThan p = greater_than kind.Exclusive p
 primitive_line LessThan p = less_than kind.Exclusive p

@@ -27,6 +27,7 @@ IsLowestPassing test (Some lowest) = (test lowest ≡ true)
     × ((v : Version) → IsReadable v → test v ≡ true → is_le (precedence_cmp lowest v) ≡ true)
 IsLowestPassing test None = (v : Version) → IsReadable v → test v ≡ false
 
+-- the version has no build
 abbrev pub HasNoBuild : Version → Type 0
 HasNoBuild v = v.build ≡ []
 

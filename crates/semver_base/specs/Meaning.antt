@@ -97,6 +97,7 @@ is_pre_match range b v = (not (is_release v) && has_pre_of b v) && range_means r
 
 -- ---- two named ranges
 
+-- the range without bounds
 abbrev pub everything : VersionRange
 everything = record { start = bound.Unbounded; end = bound.Unbounded }
 
@@ -107,6 +108,7 @@ release major minor patch = record { major = major; minor = minor; patch = patch
 abbrev pub bound_at : VersionBoundKind → Version → RangeBound
 bound_at k v = bound.Version (record { kind = k; version = v })
 
+-- the bound from a version on
 abbrev pub from : Version → RangeBound
 from = bound_at kind.Inclusive
 

@@ -51,9 +51,11 @@ abbrev pub IsWritableBound : RangeBound → Type 0
 IsWritableBound bound.Unbounded = Unit {0}
 IsWritableBound (bound.Version b) = IsWritable b.version
 
+-- the versions of its bounds have texts that parse back
 pub record IsWritableRange (r : VersionRange) : Type 0 where
   pub start : IsWritableBound r.start
   pub end : IsWritableBound r.end
 
+-- so it is for each range
 abbrev pub AreWritableRanges : List VersionRange → Type 0
 AreWritableRanges ranges = AllByRecursion IsWritableRange ranges

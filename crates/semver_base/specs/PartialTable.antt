@@ -34,6 +34,7 @@ pub record EndLine : Type 0 where
 abbrev pub number_fits : ℕ → Bool
 number_fits n = nat_lt n (2 ^ 64)
 
+-- each sum fits in 64 bits
 abbrev pub all_fit : List ℕ → Bool
 all_fit sums = list_all number_fits sums
 
@@ -156,6 +157,7 @@ greater_range_by k (Val major) (Val minor) (Val patch) = record {
   sums = [];
 }
 
+-- the range of `>` or `>=` before a partial version
 abbrev pub greater_range : VersionBoundKind → Partial → Line
 greater_range k p = greater_range_by k p.major p.minor p.patch
 

@@ -21,6 +21,7 @@ pub data CallFault : Type 0 where
 abbrev pub memory : CallFault
 memory = Unanswered OutOfMemory
 
+-- why a call has no result, from its problem
 abbrev pub call_fault : Problem → CallFault
 call_fault (problem.Unanswered why) = Unanswered (fault_of why)
 call_fault problem.NoGrammar = NoGrammar
@@ -49,6 +50,7 @@ pub data Called {X : Type 0} (Asked : Result X Fault → Type 0) : Result X Call
 
 -- ---- problems
 
+-- the message of a problem
 abbrev pub problem_message : Problem → List ℕ
 problem_message (problem.Unanswered why) = message_of (failure_of why)
 problem_message problem.NoGrammar = codes "No grammar has this number."

@@ -17,6 +17,7 @@ use Rattle.semver_c.specs.declared.questions.Numbers.{Numbers}
 
 -- ---- numbers: 0 and above for an answer, negative for none
 
+-- the number of a code
 abbrev pub number_of : Code → ℤ
 number_of code.No = pos 0
 number_of code.Yes = pos 1
@@ -38,12 +39,14 @@ no_memory = number_of code.NoMemory
 
 -- ---- the codes of faults
 
+-- the code of an invalid argument
 abbrev pub kind_code : Kind → Code
 kind_code kind.Range = code.InvalidRange
 kind_code kind.Version = code.InvalidVersion
 kind_code kind.Package = code.InvalidRange
 kind_code kind.Reference = code.InvalidRange
 
+-- the code of a fault
 abbrev pub fault_code : CallFault → Code
 fault_code (Unanswered (Invalid k place)) = kind_code k
 fault_code (Unanswered OutOfMemory) = code.NoMemory
@@ -52,14 +55,17 @@ fault_code NotUtf8 = code.NotUtf8
 
 -- ---- the codes of values
 
+-- the code of a yes or no
 abbrev pub bool_code : Bool → Code
 bool_code false = code.No
 bool_code true = code.Yes
 
+-- the code of a match
 abbrev pub match_code : Answer Bool → Code
 match_code (Value matches) = bool_code matches
 match_code (Tag tag) = code.Tag
 
+-- the code of an order
 abbrev pub order_code : Ordering → Code
 order_code Less = code.Before
 order_code Equal = code.Same
@@ -71,11 +77,13 @@ lowest_code found nothing (Value (Some v)) = found
 lowest_code found nothing (Value None) = nothing
 lowest_code found nothing (Tag tag) = code.Tag
 
+-- the text of a lowest version
 abbrev pub lowest_text : Answer (Option Version) → List ℕ
 lowest_text (Value (Some v)) = version_text v
 lowest_text (Value None) = []
 lowest_text (Tag tag) = []
 
+-- the code of a text or a tag
 abbrev pub text_code : Answer (List ℕ) → Code
 text_code (Value text) = code.Yes
 text_code (Tag tag) = code.Tag
@@ -85,11 +93,13 @@ abbrev pub text_of : Answer (List ℕ) → List ℕ
 text_of (Value text) = text
 text_of (Tag tag) = []
 
+-- the code of a best match
 abbrev pub best_code : Answer (Option Best) → Code
 best_code (Value (Some best)) = code.Yes
 best_code (Value None) = code.No
 best_code (Tag tag) = code.Tag
 
+-- the place of a best match
 abbrev pub best_place : Answer (Option Best) → ℕ → ℕ
 best_place (Value (Some best)) old = best.place
 best_place (Value None) old = old
@@ -100,6 +110,7 @@ abbrev pub place_code : Option ℕ → Code
 place_code (Some place) = code.Yes
 place_code None = code.No
 
+-- the place, or the old one
 abbrev pub place_or : Option ℕ → ℕ → ℕ
 place_or (Some place) old = place
 place_or None old = old
@@ -109,10 +120,12 @@ abbrev pub line_code : Option Bool → Code
 line_code (Some matches) = bool_code matches
 line_code None = code.InvalidVersion
 
+-- the code of a filter
 abbrev pub filter_code : Answer (List (Option Bool)) → Code
 filter_code (Value answers) = code.Yes
 filter_code (Tag tag) = code.Tag
 
+-- the numbers of a filter
 abbrev pub filter_numbers : Answer (List (Option Bool)) → List ℤ
 filter_numbers (Value answers) = map (λ answer. number_of (line_code answer)) answers
 filter_numbers (Tag tag) = []
@@ -121,11 +134,13 @@ filter_numbers (Tag tag) = []
 abbrev pub three_numbers : Numbers → List ℕ
 three_numbers numbers = numbers.major ∷ numbers.minor ∷ numbers.patch ∷ []
 
+-- whether a version has neither a pre-release nor a build
 abbrev pub unqualified_code : Numbers → Code
 unqualified_code numbers = bool_code numbers.is_unqualified
 
 -- ---- codes
 
+-- the number of an outcome's code
 abbrev pub code_of : {X : Type 0} → (X → Code) → Result X CallFault → ℤ
 code_of coded (Ok x) = number_of (coded x)
 code_of coded (Err fault) = number_of (fault_code fault)

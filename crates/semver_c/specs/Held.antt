@@ -36,6 +36,7 @@ abbrev pub IsHeldMatch : ℕ → Option Requirement → Option Version → ℤ �
 IsHeldMatch number (Some req) (Some v) code = code ≡ number_of (match_code (match_of (pre_release_of number) req.inner v))
 IsHeldMatch number requirement version code = Unit {0}
 
+-- do two ranges overlap
 abbrev pub IsHeldOverlap : Option Requirement → Option Requirement → ℤ → Type 0
 IsHeldOverlap (Some req) (Some other) code = code ≡ number_of (bool_code (inner_overlap req.inner other.inner))
 IsHeldOverlap one other code = Unit {0}
@@ -51,6 +52,7 @@ IsHeldEqual (Some req) (Some other) code =
     (equal : Bool) × (IsTrue equal ↔ (req.inner ≡ other.inner)) × (code ≡ number_of (bool_code equal))
 IsHeldEqual one other code = Unit {0}
 
+-- the lines of a list
 abbrev pub list_lines : VersionList → List (Option Version)
 list_lines list = list.lines.items
 

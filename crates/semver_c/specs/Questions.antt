@@ -49,27 +49,35 @@ OfTexts one other Asked = Given (IsText one) (λ text. Given (IsText other) (λ 
 
 -- ---- the calls
 
+-- `semver_fits`
 abbrev pub Fits : ℕ → ℕ → List ℕ → List ℕ → Result (Answer Bool) CallFault → Type 0
 Fits number g range version = ByTwo g range version (λ f r v. Matches (pre_release_of number) f r v)
 
+-- `semver_filter`
 abbrev pub Filters : ℕ → ℕ → List ℕ → List ℕ → Result (Answer (List (Option Bool))) CallFault → Type 0
 Filters number g range versions = ByTwo g range versions (λ f r v. Filter (pre_release_of number) f r (lines v))
 
+-- `semver_best`
 abbrev pub BestLine : ℕ → ℕ → List ℕ → List ℕ → Result (Answer (Option Best)) CallFault → Type 0
 BestLine number g range versions = ByTwo g range versions (λ f r v. BestMatch (pre_release_of number) f r (lines v))
 
+-- `semver_lowest`
 abbrev pub LowestLine : ℕ → ℕ → List ℕ → List ℕ → Result (Answer (Option Best)) CallFault → Type 0
 LowestLine number g range versions = ByTwo g range versions (λ f r v. LowestMatch (pre_release_of number) f r (lines v))
 
+-- `semver_overlap`
 abbrev pub OverlapsBy : ℕ → List ℕ → List ℕ → Result Bool CallFault → Type 0
 OverlapsBy g one other = ByTwo g one other Overlaps
 
+-- `semver_equivalent`
 abbrev pub EquivalentBy : ℕ → ℕ → List ℕ → List ℕ → Result (Answer Bool) CallFault → Type 0
 EquivalentBy number g one other = ByTwo g one other (λ f r s. Equivalent (pre_release_of number) f r s)
 
+-- `semver_min_version`
 abbrev pub LowestBy : ℕ → ℕ → List ℕ → Result (Answer (Option Version)) CallFault → Type 0
 LowestBy number g range = ByOne g range (λ f r. Common (pre_release_of number) f (r ∷ []))
 
+-- `semver_common`
 abbrev pub CommonBy : ℕ → ℕ → List ℕ → List ℕ → Result (Answer (Option Version)) CallFault → Type 0
 CommonBy number g one other = ByTwo g one other (λ f r s. Common (pre_release_of number) f (r ∷ s ∷ []))
 
@@ -77,9 +85,11 @@ CommonBy number g one other = ByTwo g one other (λ f r s. Common (pre_release_o
 abbrev pub CommonOfAll : ℕ → ℕ → List ℕ → Result (Answer (Option Version)) CallFault → Type 0
 CommonOfAll number g ranges = ByOne g ranges (λ f text. Common (pre_release_of number) f (lines text))
 
+-- `semver_within`
 abbrev pub OutsideBy : ℕ → ℕ → List ℕ → List ℕ → Result (Answer (Option Version)) CallFault → Type 0
 OutsideBy number g one other = ByTwo g one other (λ f r s. Outside (pre_release_of number) f r s)
 
+-- `semver_normal`
 abbrev pub CanonicalBy : ℕ → List ℕ → Result (List ℕ) CallFault → Type 0
 CanonicalBy g range = ByOne g range Canonical
 
@@ -87,24 +97,31 @@ CanonicalBy g range = ByOne g range Canonical
 abbrev pub TagBy : ℕ → List ℕ → Result Bool CallFault → Type 0
 TagBy g range = ByOne g range (λ f text. Given (IsRange f 0 text) (λ req. Is (is_some (tag_of req.inner))))
 
+-- `semver_version`
 abbrev pub DisplayedOf : List ℕ → Result (List ℕ) CallFault → Type 0
 DisplayedOf version = OfText version Displayed
 
+-- `semver_compare`
 abbrev pub OrdersOf : List ℕ → List ℕ → Result Ordering CallFault → Type 0
 OrdersOf one other = OfTexts one other Orders
 
+-- `semver_sort`
 abbrev pub SortsOf : List ℕ → Result (List ℕ) CallFault → Type 0
 SortsOf versions = OfText versions (λ text. Sorts Ascending (lines text))
 
+-- `semver_package`
 abbrev pub PackageBy : ℕ → List ℕ → Result (List ℕ) CallFault → Type 0
 PackageBy g text = ByOne g text PackageParts
 
+-- `semver_reference`
 abbrev pub ReferenceOf : List ℕ → Result (List ℕ) CallFault → Type 0
 ReferenceOf text = OfText text ReferenceParts
 
+-- `semver_version_parts`
 abbrev pub VersionPartsOf : List ℕ → Result (List ℕ) CallFault → Type 0
 VersionPartsOf version = OfText version VersionParts
 
+-- `semver_ranges`
 abbrev pub RangesBy : ℕ → List ℕ → Result (Answer (List ℕ)) CallFault → Type 0
 RangesBy g range = ByOne g range RangeParts
 
@@ -120,12 +137,15 @@ ErrorsBy g range = ByOne g range (λ f text outcome. (json : List ℕ) × IsErro
 abbrev pub VersionErrorOf : List ℕ → Result ℕ CallFault → Type 0
 VersionErrorOf version = OfText version (λ text outcome. (place : ℕ) × IsErrorPlace IsVersionText text place × (outcome ≡ Ok place))
 
+-- `semver_name_with_version`
 abbrev pub NameWithVersionOf : List ℕ → Result (List ℕ) CallFault → Type 0
 NameWithVersionOf text = OfText text NameWithVersionParts
 
+-- `semver_version_reference`
 abbrev pub VersionReferenceOf : List ℕ → Result (List ℕ) CallFault → Type 0
 VersionReferenceOf text = OfText text VersionReferenceParts
 
+-- `semver_dependency`
 abbrev pub DependencyBy : ℕ → List ℕ → Result (List ℕ) CallFault → Type 0
 DependencyBy g text = ByOne g text DependencyParts
 
@@ -135,9 +155,11 @@ ExportNameOf path = OfText path (λ text. Is (export_name (Some text)))
 
 -- ---- values that are held across calls
 
+-- `semver_req_read`
 abbrev pub RangeBy : ℕ → List ℕ → Result Requirement CallFault → Type 0
 RangeBy g text = ByOne g text (λ f t. IsRange f 0 t)
 
+-- `semver_version_read`
 abbrev pub VersionOf : List ℕ → Result Version CallFault → Type 0
 VersionOf text = OfText text (IsVersion 0)
 

@@ -25,6 +25,7 @@ use Rattle.semver_req.specs.declared.error_places.expected.Expected.{Expected}
 
 -- ---- why
 
+-- why the parser rejects an alternative, by its cause
 abbrev pub rejection_of : Cause → Rejection
 rejection_of (Unexpected expected) = rejection.UnexpectedCharacter
 rejection_of NoTag = rejection.UnexpectedCharacter

@@ -19,6 +19,7 @@ use Rattle.semver_req.specs.declared.common.values.Primitive.{Primitive}
 
 -- ---- comparison operators
 
+-- a comparison operator
 abbrev pub IsPrimitiveKind : List ℕ → PrimitiveKind → Type 0
 IsPrimitiveKind text kind = text ≡ primitive_kind_text kind
 

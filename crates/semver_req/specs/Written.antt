@@ -13,6 +13,7 @@ use Rattle.semver_req.specs.declared.common.comparator.Written.{Written}
 use Rattle.semver_req.specs.declared.common.values.Flavour.{Flavour}
 use Rattle.semver_req.specs.declared.common.values.Flavour.TheVariants.{Npm}
 
+-- the comparator of an operator and a partial version
 abbrev pub comparator_of : Operator → Partial → Comparator
 comparator_of operator.Tilde p = Tilde p
 comparator_of operator.Caret p = Caret p
