@@ -1,13 +1,13 @@
 -- What the grammars make of plain texts.
-use Rattle.std.proofs.Common.{◌≡◌, ◌^◌, ℕ, true, false, List, [], ◌∷◌, ◌++◌, Option, Some, None, refl, sym, ap, ◌∙◌, arith, inl, inr, append-nil}
+use Rattle.std.proofs.Common.{◌≡◌, ◌≤◌, ◌^◌, ◌==◌, ℕ, true, false, List, [], ◌∷◌, ◌++◌, length, get_or, Option, Some, None, refl, sym, ap, ◌∙◌, arith, inl, inr, append-nil, append_assoc, length-append}
 use Rattle.std.specs.Char.{is_ascii_digit, is_not_whitespace}
 use Rattle.std.specs.List.{list_all}
-use Rattle.std.proofs.lemmas.Bool.{lt-ltb}
+use Rattle.std.proofs.lemmas.Bool.{lt-ltb, or_left}
 use Rattle.std.proofs.lemmas.Bool.Decides.{nat_tests}
 use Rattle.std.proofs.lemmas.Str.{NoCharPasses-nil}
 use Rattle.std.proofs.lemmas.Str.Pattern.{IsSplitOnceResult, split_parts}
 use Rattle.std.specs.Borrow.{Bor}
-use Rattle.std.specs.Prelude.{IfSome}
+use Rattle.std.specs.Prelude.{◌||◌, IfSome, codes}
 use Rattle.semver_base.specs.Comparators.{Comparator, primitive_kind_text}
 use Rattle.semver_base.specs.Grammar.{this, that, After, HasNone, IsLongest, IsSeen, Prefixed, closed_item, last_item, more_items}
 use Rattle.semver_base.specs.Overlap.{ends_at_zero}
@@ -15,26 +15,30 @@ use Rattle.semver_base.specs.Lexical.{IsWhitespace, IsLooseNumber, IsNumber}
 use Rattle.semver_base.specs.PartialTable.{of_short}
 use Rattle.semver_base.specs.ShortTexts.{IsShortNumbers, IsBareNumber, IsBareTriple}
 use Rattle.semver_base.specs.declared.lexical.values.Measured.TheVariants.{Fits}
-use Rattle.semver_base.specs.declared.partial.XRange.TheVariants.{Val}
+use Rattle.semver_base.specs.declared.lexical.values.Strictness.{Strictness}
+use Rattle.semver_base.specs.declared.lexical.values.Strictness.TheVariants.{Loose, Strict}
+use Rattle.semver_base.specs.declared.partial.XRange.TheVariants.{Val, Wildcard}
 use Rattle.semver_base.specs.declared.partial.Partial.{Partial}
 use Rattle.semver_base.specs.declared.short.ShortNumbers.{ShortNumbers}
 use Rattle.semver_base.specs.declared.short.ShortNumbers.TheVariants as short_numbers
 use Rattle.semver_base.specs.declared.short.Numbers.{Numbers}
 use Rattle.semver_base.specs.declared.range.VersionRange.{VersionRange}
-use Rattle.semver_base.proofs.Bytes.{list_all-wider, prefixed_some_text}
-use Rattle.semver_base.proofs.Fronts.{prefixed_other}
-use Rattle.semver_base.proofs.Numbers.{loose_begins, loose_some}
+use Rattle.semver_base.proofs.Bytes.{list_all-append, list_all-wider, prefixed_some_text}
+use Rattle.semver_base.proofs.Fronts.{fronts, longer, prefixed_other, same, shorter}
+use Rattle.semver_base.proofs.Numbers.{loose_begins, loose_goes, loose_some, number_is_loose}
+use Rattle.semver_base.proofs.WordReadings.{number_one}
+use Rattle.semver_base.proofs.WrittenVersions.{after}
 use Rattle.semver_base.proofs.ShortTexts.{short_solid, solid_trimmed, IsSolid}
 use Rattle.semver_base.proofs.Qualifiers.{no_qualifier}
 use Rattle.semver_base.proofs.Solid.{is_solid_byte}
 use Rattle.semver_req.specs.Comparators.{IsComparator, IsPrimitive, fits}
 use Rattle.semver_req.specs.RetainedSet.{retained_range, without_none}
 use Rattle.semver_req.specs.Outcome.{IsCutOutcome, one_good, Ranges}
-use Rattle.semver_req.specs.Partials.{IsComponent, IsPartial, IsBarePartial, sized_component, sized_partial, strictness_of}
+use Rattle.semver_req.specs.Partials.{IsComponent, IsPartial, IsBarePartial, is_wildcard, sized_component, sized_partial, strictness_of}
 use Rattle.semver_req.specs.Pieces.{HasNoBar, IsComparators, IsFilled, IsPiece, one_piece}
 use Rattle.semver_req.specs.PieceReading.{as_retained, joined, read_as}
 use Rattle.semver_req.specs.PieceSteps.{IsWholeRead}
-use Rattle.semver_req.specs.ShortComparators.{IsShortAlone, IsShortWithOperator, IsShortPair, IsShortComparator, IsShortReading, IsUnclosed, operator_text}
+use Rattle.semver_req.specs.ShortComparators.{IsFewer, IsShortAlone, IsShortPartial, IsShortWithOperator, IsShortPair, IsShortComparator, IsUnclosed, no_wildcard, operator_text, with_wildcard}
 use Rattle.semver_req.specs.Written.{IsFront, IsOperatorCut, IsNonPrimitive, comparator_of}
 use Rattle.semver_req.specs.declared.common.comparator.Operator.{Operator}
 use Rattle.semver_req.specs.declared.common.comparator.Operator.TheVariants as operator
@@ -45,14 +49,14 @@ use Rattle.semver_req.specs.declared.range_set_or_tag.pieces.RangeOrInvalid.{Ran
 use Rattle.semver_req.specs.declared.range_set_or_tag.RangeSetOrTag.{RangeSetOrTag}
 use Rattle.semver_req.specs.declared.range_set_or_tag.RangeSetOrTag.TheVariants as inner
 use Rattle.semver_req.specs.Parsers.{IsReading}
-use Rattle.semver_req.proofs.Components.{component_read, wildcard_no_digit}
+use Rattle.semver_req.proofs.Components.{component_read, component_wildcard, wildcard_no_digit}
 use Rattle.semver_req.proofs.Fitting.{fitting}
 use Rattle.semver_req.proofs.Operators.{non_primitive_some}
 use Rattle.semver_req.proofs.Partials.{not_led, one_read, three_read, two_read}
 use Rattle.semver_req.proofs.PiecesRead.{list_retained}
 use Rattle.semver_req.proofs.SpecifierRetained.{specifier_ends, specifier_retained}
 use Rattle.semver_req.proofs.SpecifierRanges.{whole_reading}
-use Rattle.semver_req.proofs.Wider.{pieces_wider}
+use Rattle.semver_req.proofs.Wider.{npm_led, pieces_wider}
 use Rattle.semver_req.proofs.WrittenSets.{is_no_bar, no_bar, one_whitespace}
 
 -- ---- numbers
@@ -63,6 +67,30 @@ first_digit {text} {rest} {n} p b more e = go p.front (sym e ∙ p.text_is) p.st
     go : (front : List ℕ) → b ∷ more ≡ front ++ rest → IsLooseNumber front n → is_ascii_digit b ≡ true
     go [] split h = absurd (loose_some.some n h)
     go (x ∷ front) split h = let same_byte : b ≡ x = cc split in rw same_byte (loose_begins.begins x (record { more = front; value = n; stands = h }))
+
+no_dot : (x : ℕ) → 46 ≡ x → is_ascii_digit x ≡ true → ⊥
+no_dot x e h = grind (arith, nat_tests)
+
+-- a number before a dot
+before_dot : (s : Strictness) (front : List ℕ) {m : ℕ} (more : List ℕ) → IsNumber s front m → IsLongest (IsNumber s) (front ++ (46 ∷ more)) m (46 ∷ more)
+before_dot s front {m} more h = record { front = front; text_is = refl; stands = h; longest = go }
+  where
+    go : (a b : List ℕ) (w : ℕ) → front ++ (46 ∷ more) ≡ a ++ b → IsNumber s a w → (length a ≤ length front) × (length a ≡ length front → w ≡ m)
+    go a b w e k = elim (fronts front a (46 ∷ more) b e) [
+      | same one two ↦ (omega (arith, ap length one), λ l. (number_one s).one a w m k (rw one at h))
+      | shorter x rest one two ↦
+          let byte : 46 ≡ x = cc two in
+          absurd (no_dot x byte (loose_goes.goes x (record { front = front; more = rest; short_value = m; long_value = w; short = number_is_loose s front m h; long = rw one at (number_is_loose s a w k) })))
+      | longer x rest one two ↦ (omega (arith, ap length one, length-append a (x ∷ rest)), λ l. absurd (omega (arith, l, ap length one, length-append a (x ∷ rest))))
+    ]
+
+bare_before : {text rest : List ℕ} {m : ℕ} (suffix more : List ℕ) → rest ++ suffix ≡ 46 ∷ more → IsBareNumber text m rest → IsBareNumber (text ++ suffix) m (rest ++ suffix)
+bare_before {text} {rest} {m} suffix more e p = record { loose = extend Loose p.loose; strict = extend Strict p.strict; fits = p.fits }
+  where
+    extend : (s : Strictness) → IsLongest (IsNumber s) text m rest → IsLongest (IsNumber s) (text ++ suffix) m (rest ++ suffix)
+    extend s q =
+        let whole : text ++ suffix ≡ q.front ++ (46 ∷ more) = ap (λ t. t ++ suffix) q.text_is ∙ (append_assoc q.front rest suffix ∙ ap (λ t. q.front ++ t) e) in
+        rw (whole, e) (before_dot s q.front more q.stands)
 
 by_flavour : (f : Flavour) {text rest : List ℕ} {n : ℕ} → IsBareNumber text n rest → IsLongest (IsNumber (strictness_of f)) text n rest
 by_flavour Npm p = p.loose
@@ -87,28 +115,54 @@ short_bare f (short_numbers.One m) p = one_read f (number_seen f p) nothing_more
 short_bare f (short_numbers.Two m n) p = two_read f (number_seen f p.major) refl (number_seen f p.minor) nothing_more
 short_bare f (short_numbers.Three n) t = three_read f (number_seen f t.major) refl (number_seen f t.minor) refl (number_seen f t.patch) (no_qualifier (strictness_of f))
 
+-- a wildcard behind them
+wild_seen : (f : Flavour) (b : ℕ) → is_wildcard f b ≡ true → IsSeen sized_component (IsComponent f) (b ∷ []) (Fits Wildcard) []
+wild_seen f b wild = record { value = Wildcard; longest = component_wildcard f b (b ∷ []) [] wild refl; seen = refl }
+
+short_wild : (f : Flavour) (front : List ℕ) (b : ℕ) (n : ShortNumbers) → IsShortNumbers front n → IsFewer n → is_wildcard f b ≡ true → IsSeen sized_partial (IsBarePartial f) (front ++ (46 ∷ b ∷ [])) (Fits (of_short n)) []
+short_wild f front b (short_numbers.One m) p few wild = two_read f (number_seen f (bare_before (46 ∷ b ∷ []) (b ∷ []) refl p)) refl (wild_seen f b wild) nothing_more
+short_wild f front b (short_numbers.Two m n) p few wild =
+    three_read f (number_seen f (bare_before (46 ∷ b ∷ []) (p.from_minor ++ (46 ∷ b ∷ [])) refl p.major)) refl (number_seen f (bare_before (46 ∷ b ∷ []) (b ∷ []) refl p.minor)) refl (wild_seen f b wild) (no_qualifier (strictness_of f))
+short_wild f front b (short_numbers.Three n) p few wild = absurd few
+
+partial_seen : (f : Flavour) {text : List ℕ} (n : ShortNumbers) → IsShortPartial f text n → IsSeen sized_partial (IsBarePartial f) text (Fits (of_short n)) []
+partial_seen f n (no_wildcard h) = short_bare f n h
+partial_seen f n (with_wildcard front b e h few wild) = rw e (short_wild f front b n h few wild)
+
 short_begins : {text : List ℕ} (n : ShortNumbers) → IsShortNumbers text n → (b : ℕ) (more : List ℕ) → text ≡ b ∷ more → is_ascii_digit b ≡ true
 short_begins (short_numbers.One m) p = first_digit p.loose
 short_begins (short_numbers.Two m n) p = first_digit p.major.loose
 short_begins (short_numbers.Three n) t = first_digit t.major.loose
 
-short_seen : (f : Flavour) {text : List ℕ} (n : ShortNumbers) → IsShortNumbers text n → IsSeen sized_partial (IsPartial f) text (Fits (of_short n)) []
-short_seen Npm {text} n t = not_led text (Some (Fits (of_short n), [])) (λ rest e. cc (short_begins n t 118 rest e)) (short_bare Npm n t)
-short_seen Normal n t = short_bare Normal n t
-short_seen Specifier n t = short_bare Specifier n t
+-- it doesn't begin with a `v`
+dot_no_v : (more rest : List ℕ) → 46 ∷ more ≡ 118 ∷ rest → ⊥
+dot_no_v more rest e = omega (arith, ap (λ t. get_or t 0 0) e)
+
+begins_no_v : (n : ShortNumbers) (front more rest : List ℕ) → IsShortNumbers front n → front ++ (46 ∷ more) ≡ 118 ∷ rest → ⊥
+begins_no_v n [] more rest h e = dot_no_v more rest e
+begins_no_v n (x ∷ front) more rest h e = let byte : x ≡ 118 = ap (λ t. get_or t 0 0) e in cc (rw byte at (short_begins n h x front refl))
+
+no_led : (f : Flavour) {text : List ℕ} (n : ShortNumbers) → IsShortPartial f text n → (rest : List ℕ) → text ≡ 118 ∷ rest → ⊥
+no_led f n (no_wildcard h) rest e = cc (short_begins n h 118 rest e)
+no_led f n (with_wildcard front b is h few wild) rest e = begins_no_v n front (b ∷ []) rest h (sym is ∙ e)
+
+short_seen : (f : Flavour) {text : List ℕ} (n : ShortNumbers) → IsShortPartial f text n → IsSeen sized_partial (IsPartial f) text (Fits (of_short n)) []
+short_seen Npm {text} n t = not_led text (Some (Fits (of_short n), [])) (no_led Npm n t) (partial_seen Npm n t)
+short_seen Normal n t = partial_seen Normal n t
+short_seen Specifier n t = partial_seen Specifier n t
 
 -- ---- comparators
 
-pub short_front : (f : Flavour) {text : List ℕ} {range : VersionRange} (p : IsShortComparator text range) → IsFront (IsNonPrimitive f) text (record { operator = p.operator; partial = Fits (of_short p.numbers) }) []
-short_front f p = non_primitive_some f p.operator p.cut (short_seen f p.numbers p.short_numbers)
+pub short_front : (f : Flavour) {text : List ℕ} {range : VersionRange} (p : IsShortComparator f text range) → IsFront (IsNonPrimitive f) text (record { operator = p.operator; partial = Fits (of_short p.numbers) }) []
+short_front f p = non_primitive_some f p.operator p.cut (short_seen f p.numbers p.short_partial)
 
 -- the strict parser's ranges
-pub specifier_reading : {text : List ℕ} {range : VersionRange} (answer : RangeSetOrTag) → IsShortComparator text range → answer ≡ inner.RangeSet (record { 0 = range ∷ [] }) → IsReading Specifier text answer
+pub specifier_reading : {text : List ℕ} {range : VersionRange} (answer : RangeSetOrTag) → IsShortComparator Specifier text range → answer ≡ inner.RangeSet (record { 0 = range ∷ [] }) → IsReading Specifier text answer
 specifier_reading {range = range} answer p answered = whole_reading (fitting (short_front Specifier p)) range answer p.line.fits refl p.line.is answered
 
 -- ---- pieces
 
-abbrev comparator : {text : List ℕ} {range : VersionRange} → IsShortComparator text range → Comparator
+abbrev comparator : {f : Flavour} {text : List ℕ} {range : VersionRange} → IsShortComparator f text range → Comparator
 comparator p = comparator_of p.operator (of_short p.numbers)
 
 whole_front : {V : Type 0} {A : List ℕ → V → Type 0} {text : List ℕ} {c : V} → IsLongest A text c [] → A text c
@@ -118,11 +172,33 @@ is_normal : (text : List ℕ) (c : Comparator) → IsNonPrimitive Normal text c 
 is_normal text c (this h) = this h
 is_normal text c (that h) = that (that h)
 
-normal_piece : {text : List ℕ} {range : VersionRange} (p : IsShortComparator text range) → IsPiece Normal text (comparator p ∷ [])
+is_npm : (text : List ℕ) (c : Comparator) → IsNonPrimitive Npm text c → IsComparator Npm text c
+is_npm [] c (this (this m)) = absurd m.stands
+is_npm (b ∷ rest) c (this (this m)) = this (this (record { value = m.value; stands = after [] (b ∷ rest) None refl (rw m.stands.0 (after (codes "~") rest tt (that refl) (npm_led rest m.value m.stands.1))); is = m.is }))
+is_npm [] c (this (that m)) = absurd m.stands
+is_npm (b ∷ rest) c (this (that m)) = this (that (record { value = m.value; stands = after [] (b ∷ rest) None refl (m.stands.0, npm_led rest m.value m.stands.1); is = m.is }))
+is_npm text c (that m) = that (that m)
+
+normal_piece : {text : List ℕ} {range : VersionRange} (p : IsShortComparator Normal text range) → IsPiece Normal text (comparator p ∷ [])
 normal_piece {text} p = last_item (is_normal text (comparator p) (whole_front (fitting (short_front Normal p)).longest))
 
-all_fits : {text : List ℕ} {range : VersionRange} (p : IsShortComparator text range) → list_all fits (comparator p ∷ []) ≡ true
-all_fits p = rw ((fitting (short_front Normal p)).numbers_fit, p.line.fits) refl
+npm_piece : {text : List ℕ} {range : VersionRange} (p : IsShortComparator Npm text range) → IsPiece Npm text (comparator p ∷ [])
+npm_piece {text} p = that (last_item (is_npm text (comparator p) (whole_front (fitting (short_front Npm p)).longest)))
+
+all_fits : (f : Flavour) {text : List ℕ} {range : VersionRange} (p : IsShortComparator f text range) → list_all fits (comparator p ∷ []) ≡ true
+all_fits f p = rw ((fitting (short_front f p)).numbers_fit, p.line.fits) refl
+
+wild_solid : (f : Flavour) (b : ℕ) → is_wildcard f b ≡ true → is_solid_byte b ≡ true
+wild_solid Npm b h = grind (arith, nat_tests)
+wild_solid Normal b h = grind (arith, nat_tests)
+wild_solid Specifier b h = grind (arith, nat_tests)
+
+partial_solid : (f : Flavour) (text : List ℕ) (n : ShortNumbers) → IsShortPartial f text n → IsSolid text
+partial_solid f text n (no_wildcard h) = short_solid text n h
+partial_solid f text n (with_wildcard front b e h few wild) =
+    let solid = short_solid front n h in
+    let last : list_all is_solid_byte (46 ∷ b ∷ []) ≡ true = rw (wild_solid f b wild) refl in
+    rw e (list_all-append is_solid_byte front (46 ∷ b ∷ []) solid.0 last, omega (arith, solid.1, length-append front (46 ∷ b ∷ [])))
 
 solid_by : (m : Operator) (text rest : List ℕ) → IsOperatorCut text m rest → IsSolid rest → IsSolid text
 solid_by operator.Tilde text rest e h = rw e (h.0, omega arith)
@@ -130,40 +206,52 @@ solid_by operator.Caret text rest e h = rw e (h.0, omega arith)
 solid_by (operator.Primitive kind) text rest e h = absurd e
 solid_by operator.Absent text rest e h = rw e.0 at h
 
-text_solid : {text : List ℕ} {range : VersionRange} → IsShortComparator text range → IsSolid text
-text_solid {text} p = solid_by p.operator text p.rest p.cut (short_solid p.rest p.numbers p.short_numbers)
+text_solid : (f : Flavour) {text : List ℕ} {range : VersionRange} → IsShortComparator f text range → IsSolid text
+text_solid f {text} p = solid_by p.operator text p.rest p.cut (partial_solid f p.rest p.numbers p.short_partial)
 
 solid_no_bar : (x : ℕ) → is_solid_byte x ≡ true → is_no_bar x ≡ true
 solid_no_bar x h = grind (arith, nat_tests)
 
-text_no_bar : {text : List ℕ} {range : VersionRange} → IsShortComparator text range → HasNoBar text
-text_no_bar {text} p = no_bar text (list_all-wider is_solid_byte is_no_bar solid_no_bar text (text_solid p).0)
+text_no_bar : (f : Flavour) {text : List ℕ} {range : VersionRange} → IsShortComparator f text range → HasNoBar text
+text_no_bar f {text} p = no_bar text (list_all-wider is_solid_byte is_no_bar solid_no_bar text (text_solid f p).0)
 
 -- ---- what is kept
 
 only_retained : (found range : VersionRange) → found ≡ range → ends_at_zero found.end ≡ false → without_none (found ∷ []) ≡ range ∷ []
 only_retained found range e ends = rw ends (ap (λ (r : VersionRange). r ∷ []) e)
 
-retained_alone : {text : List ℕ} {range : VersionRange} (p : IsShortComparator text range) → without_none (retained_range (comparator p ∷ []) ∷ []) ≡ range ∷ []
-retained_alone p =
-    let strict = whole_front (fitting (short_front Specifier p)).longest in
+strict_wild : (f : Flavour) (b : ℕ) → is_wildcard f b ≡ true → is_wildcard Specifier b ≡ true
+strict_wild Npm b h = h
+strict_wild Normal b h = or_left ((b == 42) || (b == 120)) (b == 88) (or_left (b == 42) (b == 120) h)
+strict_wild Specifier b h = h
+
+strict_partial : (f : Flavour) {text : List ℕ} {n : ShortNumbers} → IsShortPartial f text n → IsShortPartial Specifier text n
+strict_partial f (no_wildcard h) = no_wildcard h
+strict_partial f (with_wildcard front b e h few wild) = with_wildcard front b e h few (strict_wild f b wild)
+
+abbrev as_strict : (f : Flavour) {text : List ℕ} {range : VersionRange} → IsShortComparator f text range → IsShortComparator Specifier text range
+as_strict f p = record { operator = p.operator; rest = p.rest; numbers = p.numbers; cut = p.cut; short_partial = strict_partial f p.short_partial; line = p.line }
+
+retained_alone : (f : Flavour) {text : List ℕ} {range : VersionRange} (p : IsShortComparator f text range) → without_none (retained_range (comparator p ∷ []) ∷ []) ≡ range ∷ []
+retained_alone f p =
+    let strict = whole_front (fitting (short_front Specifier (as_strict f p))).longest in
     only_retained _ _ (specifier_retained strict ∙ sym p.line.is) (specifier_ends strict)
 
-cut_outcome : (f : Flavour) {text : List ℕ} {range : VersionRange} (p : IsShortComparator text range) → IsPiece f text (comparator p ∷ []) → IsCutOutcome f text (Ranges ((comparator p ∷ []) ∷ []))
-cut_outcome f p piece = one_good (one_piece (text_no_bar p)) (inl (piece, all_fits p))
+cut_outcome : (f : Flavour) {text : List ℕ} {range : VersionRange} (p : IsShortComparator f text range) → IsPiece f text (comparator p ∷ []) → IsCutOutcome f text (Ranges ((comparator p ∷ []) ∷ []))
+cut_outcome f p piece = one_good (one_piece (text_no_bar f p)) (inl (piece, all_fits f p))
 
--- each parser's ranges
-pub short_reading : {text : List ℕ} {range : VersionRange} (answer : RangeSetOrTag) → IsShortComparator text range → answer ≡ inner.RangeSet (record { 0 = range ∷ [] }) → IsShortReading text answer
-short_reading answer p answered Specifier = specifier_reading answer p answered
-short_reading answer p answered Normal = record {
+-- the parser's ranges
+pub short_reading : (f : Flavour) {text : List ℕ} {range : VersionRange} (answer : RangeSetOrTag) → IsShortComparator f text range → answer ≡ inner.RangeSet (record { 0 = range ∷ [] }) → IsReading f text answer
+short_reading Specifier answer p answered = specifier_reading answer p answered
+short_reading Normal answer p answered = record {
   outcome = Ranges ((comparator p ∷ []) ∷ []);
   is_outcome = cut_outcome Normal p (normal_piece p);
-  is_read = answered ∙ ap (λ (r : List VersionRange). inner.RangeSet (record { 0 = r })) (sym (retained_alone p));
+  is_read = answered ∙ ap (λ (r : List VersionRange). inner.RangeSet (record { 0 = r })) (sym (retained_alone Normal p));
 }
-short_reading {text} answer p answered Npm = record {
+short_reading Npm {text} answer p answered = record {
   outcome = Ranges ((comparator p ∷ []) ∷ []);
-  is_outcome = rw (solid_trimmed text (text_solid p)) (cut_outcome Npm p (pieces_wider text (comparator p ∷ []) (normal_piece p)));
-  is_read = answered ∙ ap (λ (r : List VersionRange). inner.RangeSet (record { 0 = r })) (sym (retained_alone p));
+  is_outcome = rw (solid_trimmed text (text_solid Npm p)) (cut_outcome Npm p (npm_piece p));
+  is_read = answered ∙ ap (λ (r : List VersionRange). inner.RangeSet (record { 0 = r })) (sym (retained_alone Npm p));
 }
 
 -- ---- comparators of one to three numbers, as pieces
@@ -198,7 +286,7 @@ record IsNormal (text : List ℕ) (written : Written) : Type 0 where
 
 short_normal : {text : List ℕ} {written : Written} → IsShortWithOperator text written → IsNormal text written
 short_normal {text} {written} p =
-    let seen = short_seen Normal p.numbers p.short_numbers in
+    let seen = short_seen Normal p.numbers (no_wildcard p.short_numbers) in
     record {
       partial = seen.value;
       measured = p.partial_is ∙ seen.seen;

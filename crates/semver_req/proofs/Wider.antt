@@ -13,7 +13,7 @@ use Rattle.semver_base.specs.declared.partial.XRange.{XRange}
 use Rattle.semver_base.specs.declared.partial.XRange.TheVariants.{Wildcard, Val}
 use Rattle.semver_base.proofs.WrittenVersions.{after}
 use Rattle.semver_req.specs.Comparators.{IsComparator, IsLed, no_more}
-use Rattle.semver_req.specs.Partials.{IsComponent, IsBarePartial, IsSecond, IsThird}
+use Rattle.semver_req.specs.Partials.{IsComponent, IsPartial, IsBarePartial, IsSecond, IsThird}
 use Rattle.semver_req.specs.Pieces.{IsNpmSeparator, NormalPiecesAreNpms}
 use Rattle.semver_req.specs.declared.common.values.Flavour.TheVariants.{Npm, Normal}
 
@@ -43,8 +43,11 @@ bare_wider text p m =
 no_whitespace : IsWhitespace [] tt
 no_whitespace = NoCharPasses-nil is_not_whitespace
 
+pub npm_led : (text : List ℕ) (p : Partial) → IsPartial Npm text p → IsLed text p
+npm_led text p h = after [] text tt no_more (after [] text tt no_whitespace (after [] text None refl (after [] text tt no_whitespace h)))
+
 led : (text : List ℕ) (p : Partial) → IsBarePartial Normal text p → IsLed text p
-led text p h = after [] text tt no_more (after [] text tt no_whitespace (after [] text None refl (after [] text tt no_whitespace (that (bare_wider text p h)))))
+led text p h = npm_led text p (that (bare_wider text p h))
 
 pub comparator_wider : (text : List ℕ) (c : Comparator) → IsComparator Normal text c → IsComparator Npm text c
 comparator_wider [] c (this (this m)) = absurd m.stands

@@ -1,32 +1,40 @@
--- Comparators of plain texts, which all grammars that have them parse alike.
-use Rattle.std.specs.Prelude.{◌≡◌, ◌⊎◌, ℕ, List, [], ◌∷◌, ◌++◌}
-use Rattle.semver_base.specs.Characters.{caret_sign, space, tilde_sign}
+-- Comparators of plain texts.
+use Rattle.std.specs.Prelude.{◌≡◌, ◌⊎◌, ℕ, List, [], ◌∷◌, ◌++◌, true}
+use Rattle.semver_base.specs.Characters.{caret_sign, dot, space, tilde_sign}
 use Rattle.semver_base.specs.Comparators.{comparator_line, primitive_kind_text}
 use Rattle.semver_base.specs.PartialTable.{IsLineRange, of_short}
 use Rattle.semver_base.specs.ShortTexts.{IsShortNumbers}
 use Rattle.semver_base.specs.declared.lexical.values.Measured.TheVariants.{Fits}
 use Rattle.semver_base.specs.declared.short.ShortNumbers.{ShortNumbers}
+use Rattle.semver_base.specs.declared.short.ShortNumbers.TheVariants as short_numbers
 use Rattle.semver_base.specs.declared.range.VersionRange.{VersionRange}
-use Rattle.semver_req.specs.Parsers.{IsReading}
+use Rattle.semver_req.specs.Partials.{is_wildcard}
 use Rattle.semver_req.specs.Written.{IsOperatorCut, comparator_of}
 use Rattle.semver_req.specs.declared.common.comparator.Operator.{Operator}
 use Rattle.semver_req.specs.declared.common.comparator.Operator.TheVariants as operator
 use Rattle.semver_req.specs.declared.common.comparator.Written.{Written}
 use Rattle.semver_req.specs.declared.common.values.Flavour.{Flavour}
-use Rattle.semver_req.specs.declared.range_set_or_tag.RangeSetOrTag.{RangeSetOrTag}
 
--- the whole text is `~`, `^` or nothing and one to three numbers, with this range
-pub record IsShortComparator (text : List ℕ) (range : VersionRange) : Type 0 where
+-- a wildcard may follow
+abbrev pub IsFewer : ShortNumbers → Type 0
+IsFewer (short_numbers.One m) = Unit {0}
+IsFewer (short_numbers.Two m n) = Unit {0}
+IsFewer (short_numbers.Three n) = ⊥
+
+-- the whole text is one to three numbers, or one or two and a wildcard behind them
+pub data IsShortPartial (f : Flavour) : List ℕ → ShortNumbers → Type 0 where
+  no_wildcard : {text : List ℕ} {numbers : ShortNumbers} → IsShortNumbers text numbers → IsShortPartial f text numbers
+  with_wildcard : (front : List ℕ) (b : ℕ) {text : List ℕ} {numbers : ShortNumbers} → text ≡ front ++ (dot ∷ b ∷ [])
+      → IsShortNumbers front numbers → IsFewer numbers → is_wildcard f b ≡ true → IsShortPartial f text numbers
+
+-- the whole text is `~`, `^` or nothing and such numbers, with this range
+pub record IsShortComparator (f : Flavour) (text : List ℕ) (range : VersionRange) : Type 0 where
   pub operator : Operator
   pub rest : List ℕ
   pub numbers : ShortNumbers
   pub cut : IsOperatorCut text operator rest
-  pub short_numbers : IsShortNumbers rest numbers
+  pub short_partial : IsShortPartial f rest numbers
   pub line : IsLineRange (comparator_line (comparator_of operator (of_short numbers))) range
-
--- each parser returns this for the text
-abbrev pub IsShortReading : List ℕ → RangeSetOrTag → Type 0
-IsShortReading text answer = (f : Flavour) → IsReading f text answer
 
 -- ---- comparators of one to three numbers
 

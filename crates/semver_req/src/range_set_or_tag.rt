@@ -5,7 +5,6 @@ ghost use Rattle.std.specs.Bool.{OnFalse};
 ghost use Rattle.std.specs.Str.{trim};
 ghost use Rattle.semver_req.specs.Outcome.{IsOutcome, Rejected};
 ghost use Rattle.semver_req.specs.PieceReading.{IsCutRejection, rejection_failure};
-ghost use Rattle.semver_req.specs.ShortComparators.{IsShortReading};
 ghost use Rattle.semver_req.specs.Parsers.{IsReading};
 ghost use Rattle.semver_req.specs.Requirement.{MatchNoVersion, OverlapAsTags, inner_overlap, inner_text};
 ghost use Rattle.semver_req.specs.Tag.{is_valid_tag};
@@ -51,12 +50,16 @@ fn tag_or(alloc: Global, text: &str, rejection: Rejection) -> Result<RangeSetOrT
     Err(ParseFailure::of_rejection(alloc, rejection))
 }
 
-// The range of a plain text, which each parser returns alike. `None` says nothing about the text.
+// The range of a plain text. `None` says nothing about the text.
 #[inline(always)]
-fn short_set(alloc: Global, text: &str) -> Result<Option<RangeSetOrTag>, AllocError>
-    ensures { IfOk result (λ r. IfSome r (IsShortReading text.now)) }
+fn short_set(
+    alloc: Global,
+    text: &str,
+    flavour: Flavour,
+) -> Result<Option<RangeSetOrTag>, AllocError>
+    ensures { IfOk result (λ r. IfSome r (IsReading flavour text.now)) }
 {
-    let Some(range) = short_range(text) else {
+    let Some(range) = short_range(text, flavour) else {
         return Ok(None);
     };
     let ranges = CowVec::of_one(alloc, range.into_range(alloc))?;
@@ -77,7 +80,7 @@ impl RangeSetOrTag {
             (λ failure. (failure ≡ None) ⊎ IsOutcome Normal text.now Rejected) }
         ensures rejection { IfErr result (IsCutRejection Normal text.now) }
     {
-        match short_set(alloc, text)? {
+        match short_set(alloc, text, Flavour::Normal)? {
             Some(inner) => Ok(inner),
             None => RangeSetOrTag::parse_pieces(alloc, text),
         }
@@ -113,7 +116,7 @@ impl RangeSetOrTag {
             (λ failure. (failure ≡ None) ⊎ IsOutcome Npm text.now Rejected) }
         ensures rejection { IfErr result (IsCutRejection Npm (trim text.now)) }
     {
-        match short_set(alloc, text)? {
+        match short_set(alloc, text, Flavour::Npm)? {
             Some(inner) => Ok(inner),
             None => RangeSetOrTag::parse_npm_pieces(alloc, text),
         }

@@ -145,7 +145,7 @@ pub fn parse_version_req_from_specifier(
         (λ e. e.source ≡ empty_constraint → IsWhitespace text.now tt) }
 {
     let raw_text = SmallStackString::from_str(alloc, text)?;
-    if let Some(range) = short_range(text) {
+    if let Some(range) = short_range(text, Flavour::Specifier) {
         let inner = RangeSetOrTag::RangeSet(only(alloc, range.into_range(alloc))?);
         return Ok(VersionReq::from_raw_text_and_inner(raw_text, inner));
     }

@@ -1,17 +1,18 @@
-//! A fast path for plain comparators: an operator or none, one to three numbers, and nothing else.
+//! A fast path for plain comparators: an operator or none, one to three numbers, or a wildcard for the last, and nothing else.
 //!
 //! Most comparators are such texts. What this parses is a comparator by the grammar, and a text has only one meaning; so each
 //! parser tries this first, and falls back to the full grammar on `None`.
 
-ghost use Rattle.std.specs.Prelude.{◌≡◌, ◌++◌, ◌∷◌, IfSome};
-ghost use Rattle.semver_base.specs.Characters.{space};
+ghost use Rattle.std.specs.Prelude.{◌≡◌, ◌++◌, ◌∷◌, [], IfSome, ℕ, true};
+ghost use Rattle.semver_base.specs.Characters.{dot, space};
 ghost use Rattle.semver_base.specs.Comparators.{comparator_line};
 ghost use Rattle.semver_base.specs.PartialTable.{IsLineRange, of_short, release_range};
-ghost use Rattle.semver_req.specs.ShortComparators.{IsShortAlone, IsShortWithOperator, IsShortPair, IsShortComparator, IsUnclosed, operator_text};
+ghost use Rattle.semver_req.specs.Partials.{is_wildcard};
+ghost use Rattle.semver_req.specs.ShortComparators.{IsFewer, IsShortAlone, IsShortPartial, IsShortWithOperator, IsShortPair, IsShortComparator, IsUnclosed, operator_text};
 ghost use Rattle.semver_req.specs.Written.{comparator_of};
 
 use crate::common::comparator::{Operator, Written, split_operator};
-use crate::common::values::PrimitiveKind;
+use crate::common::values::{Flavour, PrimitiveKind};
 use semver_base::lexical::values::Measured;
 use semver_base::partial::ReleaseRange;
 use semver_base::short::{ShortNumbers, short_numbers};
@@ -31,14 +32,59 @@ fn numbers_range(operator: Operator, numbers: ShortNumbers) -> Option<ReleaseRan
     }
 }
 
-/// The range of `~`, `^` or nothing before one to three numbers, if that is the whole text and its bounds fit. `None` says
-/// nothing about the text.
 #[inline(always)]
-pub(crate) fn short_range(text: &str) -> Option<ReleaseRange>
-    ensures { IfSome result (λ range. IsShortComparator text.now (release_range range)) }
+fn is_wildcard(byte: u8, flavour: Flavour) -> bool
+    ensures { result ≡ is_wildcard flavour byte }
+{
+    match flavour {
+        Flavour::Normal => byte == b'*',
+        Flavour::Npm | Flavour::Specifier => byte == b'*' || byte == b'x' || byte == b'X',
+    }
+}
+
+// One or two numbers, which a wildcard may follow.
+#[inline(always)]
+fn fewer(numbers: ShortNumbers) -> Option<ShortNumbers>
+    ensures { IfSome result (λ fewer. (fewer ≡ numbers) × IsFewer fewer) }
+{
+    match numbers {
+        ShortNumbers::Three(_) => None,
+        numbers => Some(numbers),
+    }
+}
+
+// The text before a `.` and a wildcard at its end.
+#[inline(always)]
+fn before_wildcard(text: &[u8], flavour: Flavour) -> Option<&[u8]>
+    ensures { IfSome result (λ front. (b : ℕ) × (text.now ≡ front.now ++ dot ∷ b ∷ [])
+        × (is_wildcard flavour b ≡ true)) }
+{
+    let (last, rest) = text.split_last()?;
+    match rest {
+        [front @ .., b'.'] if is_wildcard(*last, flavour) => Some(front),
+        _ => None,
+    }
+}
+
+// Parses the whole text as one to three numbers, or one or two and a wildcard behind them.
+#[inline(always)]
+fn short_partial(text: &[u8], flavour: Flavour) -> Option<ShortNumbers>
+    ensures { IfSome result (IsShortPartial flavour text.now) }
+{
+    match before_wildcard(text, flavour) {
+        Some(front) => fewer(short_numbers(front)?),
+        None => short_numbers(text),
+    }
+}
+
+/// The range of `~`, `^` or nothing before one to three numbers, the last of which may be a wildcard, if that is the whole text and its
+/// bounds fit. `None` says nothing about the text.
+#[inline(always)]
+pub(crate) fn short_range(text: &str, flavour: Flavour) -> Option<ReleaseRange>
+    ensures { IfSome result (λ range. IsShortComparator flavour text.now (release_range range)) }
 {
     let (operator, rest) = split_operator(text);
-    let numbers = short_numbers(rest.as_bytes())?;
+    let numbers = short_partial(rest.as_bytes(), flavour)?;
     numbers_range(operator, numbers)
 }
 

@@ -5,4 +5,4 @@ use Rattle.semver_req.proofs.ShortComparators.{short_reading}
 use Rattle.semver_req.proofs.range_set_or_tag.short_set.Goals as goal
 
 pub returns : goal.returns
-returns c = short_reading (inner.RangeSet (record { 0 = c.in_ok-ranges.ranges })) c.in-Some.ensures (ap (λ (r : List VersionRange). inner.RangeSet (record { 0 = r })) (rw c.into_range.ensures at c.in_ok-ranges.ensures))
+returns c = short_reading c.args.flavour (inner.RangeSet (record { 0 = c.in_ok-ranges.ranges })) c.in-Some.ensures (ap (λ (r : List VersionRange). inner.RangeSet (record { 0 = r })) (rw c.into_range.ensures at c.in_ok-ranges.ensures))
