@@ -1,5 +1,5 @@
 -- What the grammars make of plain texts.
-use Rattle.std.proofs.Common.{◌≡◌, ◌≤◌, ◌^◌, ◌==◌, ℕ, true, false, List, [], ◌∷◌, ◌++◌, length, get_or, Option, Some, None, refl, sym, ap, ◌∙◌, arith, inl, inr, append-nil, append_assoc, length-append}
+use Rattle.std.proofs.Common.{◌≡◌, ◌≤◌, ◌^◌, ◌==◌, ℕ, true, false, List, [], ◌∷◌, ◌++◌, length, get_or, Option, Some, None, refl, sym, ap, ap₂, ◌∙◌, arith, inl, inr, append-nil, append_assoc, length-append}
 use Rattle.std.specs.Char.{is_ascii_digit, is_not_whitespace}
 use Rattle.std.specs.List.{list_all}
 use Rattle.std.proofs.lemmas.Bool.{lt-ltb, or_left}
@@ -35,10 +35,11 @@ use Rattle.semver_req.specs.Comparators.{IsComparator, IsPrimitive, fits}
 use Rattle.semver_req.specs.RetainedSet.{retained_range, without_none}
 use Rattle.semver_req.specs.Outcome.{IsCutOutcome, one_good, Ranges}
 use Rattle.semver_req.specs.Partials.{IsComponent, IsPartial, IsBarePartial, is_wildcard, sized_component, sized_partial, strictness_of}
-use Rattle.semver_req.specs.Pieces.{HasNoBar, IsComparators, IsFilled, IsPiece, one_piece}
+use Rattle.semver_req.specs.Pieces.{HasNoBar, IsComparators, IsFilled, IsHyphenPair, IsPiece, IsUpper, hyphen, one_piece}
 use Rattle.semver_req.specs.PieceReading.{as_retained, joined, read_as}
-use Rattle.semver_req.specs.PieceSteps.{IsWholeRead}
-use Rattle.semver_req.specs.ShortComparators.{IsFewer, IsShortAlone, IsShortPartial, IsShortWithOperator, IsShortPair, IsShortComparator, IsUnclosed, no_wildcard, operator_text, with_wildcard}
+use Rattle.semver_req.specs.PieceSteps.{IsHyphenRead, IsWholeRead, sized_hyphen}
+use Rattle.semver_req.specs.declared.common.hyphen.HyphenRange.{HyphenRange}
+use Rattle.semver_req.specs.ShortComparators.{IsFewer, IsShortAlone, IsShortHyphen, IsShortPartial, IsShortWithOperator, IsShortPair, IsShortComparator, IsUnclosed, no_wildcard, operator_text, with_wildcard}
 use Rattle.semver_req.specs.Written.{IsFront, IsOperatorCut, IsNonPrimitive, comparator_of}
 use Rattle.semver_req.specs.declared.common.comparator.Operator.{Operator}
 use Rattle.semver_req.specs.declared.common.comparator.Operator.TheVariants as operator
@@ -53,7 +54,7 @@ use Rattle.semver_req.proofs.Components.{component_read, component_wildcard, wil
 use Rattle.semver_req.proofs.Fitting.{fitting}
 use Rattle.semver_req.proofs.Operators.{non_primitive_some}
 use Rattle.semver_req.proofs.Partials.{not_led, one_read, three_read, two_read}
-use Rattle.semver_req.proofs.PiecesRead.{list_retained}
+use Rattle.semver_req.proofs.PiecesRead.{list_retained, npm_hyphen}
 use Rattle.semver_req.proofs.SpecifierRetained.{specifier_ends, specifier_retained}
 use Rattle.semver_req.proofs.SpecifierRanges.{whole_reading}
 use Rattle.semver_req.proofs.Wider.{npm_led, pieces_wider}
@@ -343,3 +344,30 @@ pair_filled f cuts {piece} {first} {second} {one} {answer} p read_one read_both 
 pub parts_at_whitespace : (text : List ℕ) (r : Option (Bor (List ℕ) × Bor (List ℕ))) → IsSplitOnceResult 32 text r → IfSome r (λ p. text ≡ p.0.now ++ 32 ∷ p.1.now)
 parts_at_whitespace text None h = tt
 parts_at_whitespace text (Some p) h = (split_parts 32 text (Some p) h (omega arith)).0
+
+-- ---- hyphen ranges of few numbers
+
+no_whitespace : IsWhitespace [] tt
+no_whitespace = NoCharPasses-nil is_not_whitespace
+
+upper_text : {back : List ℕ} {p : Partial} → IsPartial Npm back p → IsUpper back p
+upper_text {back} {p} h = record { value = (p, tt); stands = record { first = back; second = []; text_is = sym (append-nil back); in_first = h; in_second = no_whitespace; seam = tt }; is = refl }
+
+hyphen_pair : {front back : List ℕ} {p q : Partial} → IsPartial Npm front p → IsPartial Npm back q → IsHyphenPair (front ++ (32 ∷ 45 ∷ 32 ∷ back)) (p, q)
+hyphen_pair {front} {back} h k = record {
+  first = front;
+  second = 32 ∷ 45 ∷ 32 ∷ back;
+  text_is = refl;
+  in_first = h;
+  in_second = after (32 ∷ []) (45 ∷ 32 ∷ back) tt one_whitespace (refl, after (32 ∷ []) back tt one_whitespace (upper_text k));
+  seam = tt;
+}
+
+-- what one parses to
+pub short_hyphen_filled : {piece : List ℕ} {read : HyphenRange} {answer : RangeOrInvalid} → IsShortHyphen piece read → IsHyphenRead read answer → IsWholeRead (IsFilled Npm) piece (Some answer)
+short_hyphen_filled {piece} {read} {answer} p reads =
+    let a = short_seen Npm p.lower (no_wildcard p.in_front) in
+    let b = short_seen Npm p.upper (no_wildcard p.in_back) in
+    let pair : IsHyphenPair piece (a.value, b.value) = rw p.text_is (hyphen_pair (whole_front a.longest) (whole_front b.longest)) in
+    let same : read ≡ sized_hyphen (a.value, b.value) = ap₂ (λ l u. record { lower = l; upper = u }) (p.lower_is ∙ a.seen) (p.upper_is ∙ b.seen) in
+    npm_hyphen (hyphen (a.value, b.value), record { value = (a.value, b.value); stands = pair; is = refl }, reads (a.value, b.value) same)

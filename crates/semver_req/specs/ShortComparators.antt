@@ -1,6 +1,6 @@
 -- Comparators of plain texts.
 use Rattle.std.specs.Prelude.{◌≡◌, ◌⊎◌, ℕ, List, [], ◌∷◌, ◌++◌, true}
-use Rattle.semver_base.specs.Characters.{caret_sign, dot, space, tilde_sign}
+use Rattle.semver_base.specs.Characters.{caret_sign, dot, hyphen_sign, space, tilde_sign}
 use Rattle.semver_base.specs.Comparators.{comparator_line, primitive_kind_text}
 use Rattle.semver_base.specs.PartialTable.{IsLineRange, of_short}
 use Rattle.semver_base.specs.ShortTexts.{IsShortNumbers}
@@ -13,6 +13,7 @@ use Rattle.semver_req.specs.Written.{IsOperatorCut, comparator_of}
 use Rattle.semver_req.specs.declared.common.comparator.Operator.{Operator}
 use Rattle.semver_req.specs.declared.common.comparator.Operator.TheVariants as operator
 use Rattle.semver_req.specs.declared.common.comparator.Written.{Written}
+use Rattle.semver_req.specs.declared.common.hyphen.HyphenRange.{HyphenRange}
 use Rattle.semver_req.specs.declared.common.values.Flavour.{Flavour}
 
 -- a wildcard may follow
@@ -70,3 +71,15 @@ pub record IsShortPair (piece : List ℕ) (first second : Written) : Type 0 wher
   pub text_is : piece ≡ front ++ space ∷ back
   pub in_front : IsShortWithOperator front first
   pub in_back : IsShortAlone back second
+
+-- the whole piece is numbers, ` - ` and numbers
+pub record IsShortHyphen (piece : List ℕ) (read : HyphenRange) : Type 0 where
+  pub front : List ℕ
+  pub back : List ℕ
+  pub lower : ShortNumbers
+  pub upper : ShortNumbers
+  pub text_is : piece ≡ front ++ (space ∷ hyphen_sign ∷ space ∷ back)
+  pub in_front : IsShortNumbers front lower
+  pub in_back : IsShortNumbers back upper
+  pub lower_is : read.lower ≡ Fits (of_short lower)
+  pub upper_is : read.upper ≡ Fits (of_short upper)

@@ -4,15 +4,17 @@
 //! parser tries this first, and falls back to the full grammar on `None`.
 
 ghost use Rattle.std.specs.Prelude.{◌≡◌, ◌++◌, ◌∷◌, [], IfSome, ℕ, true};
-ghost use Rattle.semver_base.specs.Characters.{dot, space};
+ghost use Rattle.semver_base.specs.Characters.{dot, hyphen_sign, space};
 ghost use Rattle.semver_base.specs.Comparators.{comparator_line};
 ghost use Rattle.semver_base.specs.PartialTable.{IsLineRange, of_short, release_range};
 ghost use Rattle.semver_req.specs.Partials.{is_wildcard};
-ghost use Rattle.semver_req.specs.ShortComparators.{IsFewer, IsShortAlone, IsShortPartial, IsShortWithOperator, IsShortPair, IsShortComparator, IsUnclosed, operator_text};
+ghost use Rattle.semver_req.specs.ShortComparators.{IsFewer, IsShortAlone, IsShortHyphen, IsShortPartial, IsShortWithOperator, IsShortPair, IsShortComparator, IsUnclosed, operator_text};
 ghost use Rattle.semver_req.specs.Written.{comparator_of};
 
 use crate::common::comparator::{Operator, Written, split_operator};
+use crate::common::hyphen::HyphenRange;
 use crate::common::values::{Flavour, PrimitiveKind};
+use semver_base::lexical::after;
 use semver_base::lexical::values::Measured;
 use semver_base::partial::ReleaseRange;
 use semver_base::short::{ShortNumbers, short_numbers};
@@ -142,6 +144,29 @@ fn at_whitespace(text: &str) -> Option<(&str, &str)>
     ensures { IfSome result (λ p. text.now ≡ p.0.now ++ space ∷ p.1.now) }
 {
     text.split_once(' ')
+}
+
+// Strips a leading `- `.
+#[inline(always)]
+fn after_hyphen(text: &str) -> Option<&str>
+    ensures { IfSome result (λ back. text.now ≡ hyphen_sign ∷ space ∷ back.now) }
+{
+    after(after(text, '-')?, ' ')
+}
+
+/// Parses the whole piece as one to three numbers, ` - `, and again one to three.
+#[inline(always)]
+pub(crate) fn short_hyphen(alloc: Global, piece: &str) -> Option<HyphenRange>
+    ensures { IfSome result (IsShortHyphen piece.now) }
+{
+    let (front, rest) = at_whitespace(piece)?;
+    let back = after_hyphen(rest)?;
+    let lower = short_numbers(front.as_bytes())?;
+    let upper = short_numbers(back.as_bytes())?;
+    Some(HyphenRange {
+        lower: Measured::Fits(lower.into_partial(alloc)),
+        upper: Measured::Fits(upper.into_partial(alloc)),
+    })
 }
 
 /// Parses the whole piece as two such comparators with a space between them.

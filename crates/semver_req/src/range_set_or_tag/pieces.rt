@@ -16,7 +16,7 @@ ghost use Rattle.semver_req.specs.declared.range_set_or_tag.pieces.RangeOrInvali
 use crate::common::comparator::{Written, comparator_front};
 use crate::common::hyphen::{HyphenRange, hyphen_front};
 use crate::common::separators::after_separator;
-use crate::common::short::{short_alone, short_pair};
+use crate::common::short::{short_alone, short_hyphen, short_pair};
 use crate::common::values::Flavour;
 use semver_base::failure::{ParseFailure, Rejection};
 use semver_base::lexical::after_whitespace;
@@ -43,12 +43,6 @@ fn is_everything(piece: &str, is_followed: bool) -> bool
         return after_whitespace(piece).is_empty();
     }
     piece.is_empty()
-}
-
-// Whether a piece begins with a digit and contains ` - `, as most hyphen ranges do.
-#[inline(always)]
-fn looks_hyphenated(piece: &str) -> bool {
-    matches!(piece.as_bytes(), [b'0'..=b'9', ..]) && piece.contains(" - ")
 }
 
 // Why a range couldn't be made: a bound is too large, or out of memory.
@@ -235,17 +229,15 @@ impl RangeOrInvalid {
         RangeOrInvalid::by_grammar(alloc, piece, flavour)
     }
 
-    // Parses the whole piece, which isn't empty, by npm's grammar. No piece is both a hyphen range and a list, so the order is free: what
-    // it looks like is tried first.
+    // Parses the whole piece, which isn't empty, by npm's grammar; a hyphen range of few numbers takes a fast path. No piece is both a list
+    // and a hyphen range, so the order is free.
     #[inline(always)]
     fn npm(alloc: Global, piece: &str) -> Result<Option<RangeOrInvalid>, ParseFailure>
         ensures value { IfOk result (IsWholeRead (IsFilled Flavour.Npm) piece.now) }
         ensures memory { IfErr result (λ failure. failure ≡ None) }
     {
-        if looks_hyphenated(piece) {
-            if let Some(read) = RangeOrInvalid::hyphen(alloc, piece)? {
-                return Ok(Some(read));
-            }
+        if let Some(hyphen) = short_hyphen(alloc, piece) {
+            return Ok(Some(RangeOrInvalid::between(alloc, hyphen)?));
         }
         if let Some(read) = RangeOrInvalid::list(alloc, piece, Flavour::Npm)? {
             return Ok(Some(read));
