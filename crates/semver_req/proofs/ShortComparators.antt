@@ -366,8 +366,8 @@ hyphen_pair {front} {back} h k = record {
 -- what one parses to
 pub short_hyphen_filled : {piece : List ℕ} {read : HyphenRange} {answer : RangeOrInvalid} → IsShortHyphen piece read → IsHyphenRead read answer → IsWholeRead (IsFilled Npm) piece (Some answer)
 short_hyphen_filled {piece} {read} {answer} p reads =
-    let a = short_seen Npm p.lower (no_wildcard p.in_front) in
-    let b = short_seen Npm p.upper (no_wildcard p.in_back) in
+    let a = short_seen Npm p.lower p.in_front in
+    let b = short_seen Npm p.upper p.in_back in
     let pair : IsHyphenPair piece (a.value, b.value) = rw p.text_is (hyphen_pair (whole_front a.longest) (whole_front b.longest)) in
     let same : read ≡ sized_hyphen (a.value, b.value) = ap₂ (λ l u. record { lower = l; upper = u }) (p.lower_is ∙ a.seen) (p.upper_is ∙ b.seen) in
     npm_hyphen (hyphen (a.value, b.value), record { value = (a.value, b.value); stands = pair; is = refl }, reads (a.value, b.value) same)

@@ -15,6 +15,7 @@ use Rattle.semver_req.specs.declared.common.comparator.Operator.TheVariants as o
 use Rattle.semver_req.specs.declared.common.comparator.Written.{Written}
 use Rattle.semver_req.specs.declared.common.hyphen.HyphenRange.{HyphenRange}
 use Rattle.semver_req.specs.declared.common.values.Flavour.{Flavour}
+use Rattle.semver_req.specs.declared.common.values.Flavour.TheVariants.{Npm}
 
 -- a wildcard may follow
 abbrev pub IsFewer : ShortNumbers → Type 0
@@ -72,14 +73,14 @@ pub record IsShortPair (piece : List ℕ) (first second : Written) : Type 0 wher
   pub in_front : IsShortWithOperator front first
   pub in_back : IsShortAlone back second
 
--- the whole piece is numbers, ` - ` and numbers
+-- the whole piece is two such partial versions around ` - `
 pub record IsShortHyphen (piece : List ℕ) (read : HyphenRange) : Type 0 where
   pub front : List ℕ
   pub back : List ℕ
   pub lower : ShortNumbers
   pub upper : ShortNumbers
   pub text_is : piece ≡ front ++ (space ∷ hyphen_sign ∷ space ∷ back)
-  pub in_front : IsShortNumbers front lower
-  pub in_back : IsShortNumbers back upper
+  pub in_front : IsShortPartial Npm front lower
+  pub in_back : IsShortPartial Npm back upper
   pub lower_is : read.lower ≡ Fits (of_short lower)
   pub upper_is : read.upper ≡ Fits (of_short upper)

@@ -154,15 +154,15 @@ fn after_hyphen(text: &str) -> Option<&str>
     after(after(text, '-')?, ' ')
 }
 
-/// Parses the whole piece as one to three numbers, ` - `, and again one to three.
+/// Parses the whole piece as two such partial versions with ` - ` between them.
 #[inline(always)]
 pub(crate) fn short_hyphen(alloc: Global, piece: &str) -> Option<HyphenRange>
     ensures { IfSome result (IsShortHyphen piece.now) }
 {
     let (front, rest) = at_whitespace(piece)?;
     let back = after_hyphen(rest)?;
-    let lower = short_numbers(front.as_bytes())?;
-    let upper = short_numbers(back.as_bytes())?;
+    let lower = short_partial(front.as_bytes(), Flavour::Npm)?;
+    let upper = short_partial(back.as_bytes(), Flavour::Npm)?;
     Some(HyphenRange {
         lower: Measured::Fits(lower.into_partial(alloc)),
         upper: Measured::Fits(upper.into_partial(alloc)),
