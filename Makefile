@@ -88,7 +88,7 @@ $(OUT)/deno_semver.pc: packaging/deno_semver.pc.in Makefile | $(OUT)
 
 # The last line of the proofs and mutations.
 out/gate: $(shell git ls-files crates crates.txt HANDLES 2>/dev/null) | out
-	@echo 'Proving every crate and trying every mutation: forty minutes if nothing is kept.'
+	@echo 'Proving every crate and trying every mutation: three quarters of an hour if nothing is kept.'
 	@rt ci >out/gate.log 2>&1 || { tail -5 out/gate.log >&2; exit 1; }
 	@tail -1 out/gate.log >$@
 
