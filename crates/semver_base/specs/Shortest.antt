@@ -5,7 +5,7 @@ use Rattle.semver_base.specs.Comparators.{Caret, Comparator, OfPrimitive, Bare, 
 use Rattle.semver_base.specs.Meaning.{release}
 use Rattle.semver_base.specs.PrecedenceLaws.{version_eq}
 use Rattle.semver_base.specs.declared.partial.Partial.{Partial}
-use Rattle.semver_base.specs.declared.primitive.PrimitiveKind.TheVariants as primitive
+use Rattle.semver_base.specs.declared.partial.PrimitiveKind.TheVariants as primitive
 use Rattle.semver_base.specs.declared.partial.XRange.{XRange}
 use Rattle.semver_base.specs.declared.partial.XRange.TheVariants.{Wildcard, Val}
 use Rattle.semver_base.specs.declared.range.RangeBound.{RangeBound}

@@ -1,13 +1,14 @@
 //! Why a text or a bound is invalid.
 
-ghost use Rattle.std.specs.Prelude.{◌≡◌, ◌↔◌, ◌⊎◌, IsTrue, IfOk, Some, None};
+ghost use Rattle.std.specs.Prelude.{◌≡◌, ◌↔◌, ◌⊎◌, IsTrue, IfOk, List, Some, None, ℕ};
 ghost use Rattle.std.specs.Option.{option_copied};
 ghost use Rattle.semver_base.specs.Failure.{message_of, rejection_message, snippet_of};
 
 use crate::string::SmallStackString;
 use std::alloc::{AllocError, Global};
+use std::error::Error;
 use std::fmt;
-use std::marker::Model;
+use std::marker::{Model, PhantomData};
 
 /// Why a version, a version requirement or a bound is rejected, other than out of memory.
 #[derive(Clone, Copy, Debug, PartialEq, Eq)]
@@ -179,3 +180,90 @@ impl fmt::Display for ParseFailure {
         f.write_str(self.message())
     }
 }
+
+/// What a parser parses, as a type.
+pub trait Parsed {
+    /// How an error of the parser is displayed.
+    ghost title: { List ℕ };
+
+    /// How an error of the parser is displayed.
+    fn title() -> &'static str
+        ensures { result.now ≡ title };
+}
+
+/// Why a text failed to parse, which may be out of memory; `P` is what the parser parses.
+///
+/// Two errors are equal if their sources are. An error is displayed as the title of what was parsed; the source says what is wrong.
+#[derive(Drop)]
+#[derive_where(Debug, PartialEq, Eq)]
+pub struct ParserError<P> {
+    pub source: ParseFailure,
+    #[derive_where(skip)]
+    pub parsed: PhantomData<P>,
+}
+
+impl<P> ParserError<P> {
+    /// The error message; `Out of memory.` if out of memory.
+    pub fn message(&self) -> &str
+        ensures { result.now ≡ message_of self.now.source }
+    {
+        self.source.message()
+    }
+
+    /// Whether the error is out of memory.
+    pub fn is_memory(&self) -> bool
+        ensures { IsTrue result ↔ (self.now.source ≡ None) }
+    {
+        self.source.is_memory()
+    }
+
+    /// Returns a copy. Fails only out of memory.
+    pub fn copy(&self) -> Result<Self, AllocError>
+        ensures { IfOk result (λ error. error ≡ self.now) }
+    {
+        Ok(ParserError {
+            source: self.source.copy()?,
+            parsed: PhantomData,
+        })
+    }
+}
+
+impl<P> From<ParseFailure> for ParserError<P> {
+    ghost from_gives = { λ failure error. error.source ≡ failure };
+
+    fn from(source: ParseFailure) -> ParserError<P> {
+        ParserError {
+            source,
+            parsed: PhantomData,
+        }
+    }
+}
+
+impl<P> From<AllocError> for ParserError<P> {
+    ghost from_gives = { λ _ error. error.source ≡ None };
+
+    fn from(_error: AllocError) -> ParserError<P> {
+        ParserError {
+            source: ParseFailure::memory(),
+            parsed: PhantomData,
+        }
+    }
+}
+
+impl<P> From<ParserError<P>> for ParseFailure {
+    ghost from_gives = { λ error failure. failure ≡ error.source };
+
+    fn from(error: ParserError<P>) -> ParseFailure {
+        error.source
+    }
+}
+
+impl<P: Parsed> fmt::Display for ParserError<P> {
+    ghost output = { λ _. Some P.title };
+
+    fn fmt<W: fmt::Write>(&self, f: &mut fmt::Formatter<W>) -> fmt::Result {
+        f.write_str(P::title())
+    }
+}
+
+impl<P: Parsed> Error for ParserError<P> {}

@@ -15,16 +15,14 @@ ghost use Rattle.semver_base.specs.NormalTable.{IsNormalTable};
 ghost use Rattle.semver_base.specs.Sameness.{ReportsSame};
 ghost use Rattle.semver_base.specs.VersionText.{VersionTextsAreBare, VersionTextsHaveOneOutcome, VersionTextsReadBack};
 
-use crate::failure::{ParseFailure, Rejection};
+use crate::failure::{ParseFailure, ParserError, Rejection};
 use crate::lexical::values::{Measured, Strictness};
-use crate::npm::NpmVersionParseError;
-use crate::partial::XRange;
-use crate::primitive::PrimitiveKind;
+use crate::partial::{PrimitiveKind, XRange};
 use crate::range::{
     PreRelease, RangeBound, VersionBound, VersionBoundKind, VersionRange, VersionRangeSet,
 };
 use crate::string::{CowVec, SmallStackString};
-use crate::version::{Version, VersionParseError};
+use crate::version::Version;
 use std::hash::Hash;
 
 /// Whether two texts are the same.
@@ -76,15 +74,8 @@ pub fn same_versions(one: &Version, other: &Version) -> bool
     one == other
 }
 
-/// Whether two errors are the same.
-pub fn same_version_errors(one: &VersionParseError, other: &VersionParseError) -> bool
-    ensures { IsTrue result ↔ (one.now ≡ other.now) }
-{
-    one == other
-}
-
-/// Whether two errors of npm's version parser are the same.
-pub fn same_npm_version_errors(one: &NpmVersionParseError, other: &NpmVersionParseError) -> bool
+/// Whether two errors of a parser are the same.
+pub fn same_errors<P>(one: &ParserError<P>, other: &ParserError<P>) -> bool
     ensures { IsTrue result ↔ (one.now ≡ other.now) }
 {
     one == other

@@ -1,7 +1,8 @@
-//! Partial versions, whose components may be wildcards, and the ranges they mean.
+//! Partial versions, whose components may be wildcards, and the ranges they mean, also after a comparison operator.
 
 ghost use Rattle.std.specs.Prelude.{◌≡◌, ◌+◌, ◌∷◌, [], IfOk, IfErr, None, OnOk, true};
 ghost use Rattle.semver_base.specs.Meaning.{from, release, to_below};
+ghost use Rattle.semver_base.specs.Comparators.{primitive_line};
 ghost use Rattle.semver_base.specs.PartialTable.{IsBoundRejection, all_fit, between, caret, equal, greater_range, greater_than, less_than, lower_to_below, lowest, or_zero, version_with_pre, tilde, upper, without_build};
 
 mod numbers;
@@ -426,5 +427,46 @@ fn from_zero(alloc: Global, end: RangeBound) -> VersionRange
     VersionRange {
         start: RangeBound::inclusive(release(alloc, 0, 0, 0)),
         end,
+    }
+}
+
+/// A comparison operator before a partial version.
+#[derive(Clone, Copy, Debug, PartialEq, Eq)]
+pub enum PrimitiveKind {
+    /// `>`
+    GreaterThan,
+    /// `<`
+    LessThan,
+    /// `>=`
+    GreaterThanOrEqual,
+    /// `<=`
+    LessThanOrEqual,
+    /// `=`
+    Equal,
+}
+
+impl PrimitiveKind {
+    /// The range of the operator and the partial version after it (node-semver's primitives).
+    ///
+    /// Fails with "Version bound is too large." exactly if a number that the range increments exceeds 18446744073709551615;
+    /// otherwise only out of memory.
+    pub fn range(self, alloc: Global, partial: &Partial) -> Result<VersionRange, ParseFailure>
+        ensures range { IfOk result (λ range. range ≡ (primitive_line self partial.now).range) }
+        ensures fits { OnOk result (all_fit (primitive_line self partial.now).sums ≡ true) }
+        ensures rejected { IfErr result (IsBoundRejection (primitive_line self partial.now).sums) }
+    {
+        match self {
+            PrimitiveKind::Equal => partial.as_equal_range(alloc),
+            PrimitiveKind::GreaterThan => {
+                partial.as_greater_than(alloc, VersionBoundKind::Exclusive)
+            }
+            PrimitiveKind::GreaterThanOrEqual => {
+                partial.as_greater_than(alloc, VersionBoundKind::Inclusive)
+            }
+            PrimitiveKind::LessThan => partial.as_less_than(alloc, VersionBoundKind::Exclusive),
+            PrimitiveKind::LessThanOrEqual => {
+                partial.as_less_than(alloc, VersionBoundKind::Inclusive)
+            }
+        }
     }
 }

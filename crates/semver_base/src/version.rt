@@ -1,6 +1,6 @@
 //! Versions: parsing, formatting and precedence.
 
-ghost use Rattle.std.specs.Prelude.{◌≡◌, ◌<◌, ◌==◌, ◌&&◌, ◌∷◌, ◌↔◌, ◌⊎◌, length, refl, Result, Ok, Err, IfOk, IfErr, IfSome, IsTrue, [], None, Some, if◌then◌else◌};
+ghost use Rattle.std.specs.Prelude.{◌≡◌, ◌<◌, ◌==◌, ◌&&◌, ◌∷◌, ◌↔◌, ◌⊎◌, length, refl, Result, Ok, Err, IfOk, IfErr, IfSome, IsTrue, [], None, Some, if◌then◌else◌, codes};
 ghost use Rattle.std.specs.Fmt.{DisplaysOnOk};
 ghost use Rattle.std.specs.Str.{trim};
 ghost use Rattle.std.specs.Cmp.{IsTotalOrder};
@@ -19,7 +19,7 @@ ghost use Rattle.semver_base.specs.PrecedenceLaws.{version_po, version_ties, ver
 ghost use Rattle.semver_base.specs.VersionText.{ReadsBack, prefixed, version_text};
 
 use crate::dotted::{DOTTED_ROOM, dotted};
-use crate::failure::{ParseFailure, Rejection};
+use crate::failure::{ParseFailure, Parsed, ParserError, Rejection};
 use crate::lexical;
 use crate::lexical::values::{Measured, Strictness};
 use crate::short::{Numbers, split_numbers};
@@ -27,54 +27,40 @@ use crate::string::{CowVec, SmallStackString, StringAppendable, StringType, appe
 use std::alloc::{AllocError, Global};
 use std::cmp::Ordering;
 use std::fmt;
-use thiserror::Error;
+use std::marker::PhantomData;
 
 /// An identifier of a pre-release or a build.
 pub type VersionPreOrBuild = SmallStackString;
 
-/// A version failed to parse.
-#[derive(Debug, PartialEq, Eq, Drop, Error)]
-#[error("Invalid version")]
-pub struct VersionParseError {
-    #[source]
-    pub source: ParseFailure,
-}
+/// Versions, as what a parser parses.
+#[derive(Clone, Copy, Debug)]
+pub struct Versions;
 
-impl VersionParseError {
-    /// Whether the error is out of memory.
-    pub fn is_memory(&self) -> bool
-        ensures { IsTrue result ↔ (self.now.source ≡ None) }
-    {
-        self.source.is_memory()
-    }
+impl Parsed for Versions {
+    ghost title = { codes "Invalid version" };
 
-    /// Returns a copy. Fails only out of memory.
-    pub fn copy(&self) -> Result<VersionParseError, AllocError>
-        ensures { IfOk result (λ error. error ≡ self.now) }
-    {
-        Ok(VersionParseError {
-            source: self.source.copy()?,
-        })
+    fn title() -> &'static str {
+        "Invalid version"
     }
 }
 
-impl From<AllocError> for VersionParseError {
-    ghost from_gives = { λ _ error. error.source ≡ None };
+/// Why a text isn't a version, which may be out of memory.
+pub type VersionParseError = ParserError<Versions>;
 
-    fn from(_error: AllocError) -> VersionParseError {
-        VersionParseError {
-            source: ParseFailure::memory(),
-        }
+/// Versions as npm parses them.
+#[derive(Clone, Copy, Debug)]
+pub struct NpmVersions;
+
+impl Parsed for NpmVersions {
+    ghost title = { codes "Invalid npm version" };
+
+    fn title() -> &'static str {
+        "Invalid npm version"
     }
 }
 
-impl From<VersionParseError> for ParseFailure {
-    ghost from_gives = { λ error failure. failure ≡ error.source };
-
-    fn from(error: VersionParseError) -> ParseFailure {
-        error.source
-    }
-}
+/// Why a text isn't a version of npm's, which may be out of memory.
+pub type NpmVersionParseError = ParserError<NpmVersions>;
 
 /// A SemVer 2.0.0 version: three numbers, and the identifiers of its pre-release and its build, either of which may be empty.
 ///
@@ -119,7 +105,7 @@ impl Version {
         ensures rejected { IfErr result (λ error. IsVersionRejection (trim text.now) error.source) }
         ensures answer { (outcome : Result Version Rejection)
             → IsVersionOutcome (trim text.now) outcome
-            → IsVersionAnswer (λ (error : VersionParseError). error.source) (trim text.now) outcome result }
+            → IsVersionAnswer (λ (error : ParserError Versions). error.source) (trim text.now) outcome result }
     {
         let read = match split_numbers(text) {
             Some((numbers, rest)) if rest.is_empty() => {
@@ -137,7 +123,28 @@ impl Version {
         };
         match read {
             Ok(version) => Ok(version),
-            Err(source) => Err(VersionParseError { source }),
+            Err(source) => Err(ParserError {
+                source,
+                parsed: PhantomData,
+            }),
+        }
+    }
+
+    /// Parses a version as npm does, by the rules of [`Version::parse_standard`], which lists each error.
+    pub fn parse_from_npm(alloc: Global, text: &str) -> Result<Version, NpmVersionParseError>
+        ensures read { IfOk result (λ version. IsVersionOutcome (trim text.now) (Ok version)) }
+        ensures reads_back { IfOk result ReadsBack }
+        ensures rejected { IfErr result (λ error. IsVersionRejection (trim text.now) error.source) }
+        ensures answer { (outcome : Result Version Rejection)
+            → IsVersionOutcome (trim text.now) outcome
+            → IsVersionAnswer (λ (error : ParserError NpmVersions). error.source) (trim text.now) outcome result }
+    {
+        match Version::parse_standard(alloc, text) {
+            Ok(version) => Ok(version),
+            Err(error) => Err(ParserError {
+                source: error.source,
+                parsed: PhantomData,
+            }),
         }
     }
 

@@ -8,8 +8,8 @@ use Rattle.std.proofs.lemmas.Str.{IsUtf8-append, IsUtf8-nil}
 use Rattle.semver_base.specs.Comparators.{primitive_kind_text}
 use Rattle.semver_base.specs.Grammar.{Either, this, that, Followed, IsText, Joined, Mapped, Optional, Prefixed, Run}
 use Rattle.semver_base.specs.Lexical.{IsWhitespace, IsByte, IsSomeWhitespace, is_identifier_byte}
-use Rattle.semver_base.specs.declared.primitive.PrimitiveKind.{PrimitiveKind}
-use Rattle.semver_base.specs.declared.primitive.PrimitiveKind.TheVariants.{GreaterThan, LessThan, GreaterThanOrEqual, LessThanOrEqual, Equal}
+use Rattle.semver_base.specs.declared.partial.PrimitiveKind.{PrimitiveKind}
+use Rattle.semver_base.specs.declared.partial.PrimitiveKind.TheVariants.{GreaterThan, LessThan, GreaterThanOrEqual, LessThanOrEqual, Equal}
 use Rattle.semver_base.proofs.Whitespace.{whitespace_made, is_whitespace_byte}
 use Rattle.semver_base.proofs.Bytes.{list_all-wider}
 use Rattle.semver_base.proofs.Fronts.{fronts, same, shorter, longer}

@@ -8,8 +8,8 @@ use Rattle.semver_base.specs.Comparators.{Caret, Comparator, Tilde, primitive_ki
 use Rattle.semver_base.specs.Grammar.{After, Either, this, that, Mapped, Prefixed}
 use Rattle.semver_base.specs.Lexical.{IsWhitespace, IsByte, IsSomeWhitespace}
 use Rattle.semver_base.specs.declared.partial.Partial.{Partial}
-use Rattle.semver_base.specs.declared.primitive.PrimitiveKind.{PrimitiveKind}
-use Rattle.semver_base.specs.declared.primitive.PrimitiveKind.TheVariants.{GreaterThan, LessThan, GreaterThanOrEqual, LessThanOrEqual, Equal}
+use Rattle.semver_base.specs.declared.partial.PrimitiveKind.{PrimitiveKind}
+use Rattle.semver_base.specs.declared.partial.PrimitiveKind.TheVariants.{GreaterThan, LessThan, GreaterThanOrEqual, LessThanOrEqual, Equal}
 use Rattle.semver_base.proofs.Whitespace.{whitespace_made, is_whitespace_byte}
 use Rattle.semver_base.proofs.Bytes.{BeginsBy, Disjoint, GoesBy, MadeOf, apart_by, begins_from_made, begins_wider, either_begins, either_made, goes_from_made, joined_begins, joined_begins_either, joined_goes_second, joined_made, joined_some_second, joined_some_text, list_all-append, made_wider, mapped_begins, mapped_goes, mapped_made, mapped_some_text, prefixed_made, optional_begins, optional_made}
 use Rattle.semver_base.proofs.Fronts.{Apart, NonEmpty, no_clash}

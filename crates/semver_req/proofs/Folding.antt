@@ -14,8 +14,8 @@ use Rattle.semver_base.specs.PartialTable.{above_by, at_least_by, up_to, at_most
 use Rattle.semver_base.specs.Precedence.{precedence_cmp}
 use Rattle.semver_base.specs.PrecedenceLaws.{precedence_total}
 use Rattle.semver_base.specs.declared.partial.Partial.{Partial}
-use Rattle.semver_base.specs.declared.primitive.PrimitiveKind.{PrimitiveKind}
-use Rattle.semver_base.specs.declared.primitive.PrimitiveKind.TheVariants as primitive
+use Rattle.semver_base.specs.declared.partial.PrimitiveKind.{PrimitiveKind}
+use Rattle.semver_base.specs.declared.partial.PrimitiveKind.TheVariants as primitive
 use Rattle.semver_base.specs.declared.partial.XRange.{XRange}
 use Rattle.semver_base.specs.declared.partial.XRange.TheVariants.{Wildcard, Val}
 use Rattle.semver_base.specs.declared.range.PreRelease.{PreRelease}

@@ -6,7 +6,7 @@ use Rattle.semver_base.specs.Comparators.{Caret, Comparator, Bare, Tilde, OfPrim
 use Rattle.semver_base.specs.Grammar.{After, Either, this, that, IsText, Listed, last_item, closed_item, Mapped, Optional, Prefixed}
 use Rattle.semver_base.specs.Lexical.{IsWhitespace, IsByte, IsSomeWhitespace}
 use Rattle.semver_base.specs.declared.partial.Partial.{Partial}
-use Rattle.semver_base.specs.declared.primitive.PrimitiveKind.{PrimitiveKind}
+use Rattle.semver_base.specs.declared.partial.PrimitiveKind.{PrimitiveKind}
 use Rattle.semver_req.specs.Comparators.{IsComparator, IsEquals, no_more, one_more, IsIgnored, IsLed, IsPrimitiveKind}
 use Rattle.semver_req.specs.Partials.{IsPartial}
 use Rattle.semver_req.specs.Pieces.{IsFilled, IsHyphened, IsHyphenPair, IsListOperator, IsNpmSeparator, IsUpper, hyphen}

@@ -8,8 +8,8 @@ use Rattle.semver_base.specs.Grammar.{After, HasNone, IsLongest, IsSeen}
 use Rattle.semver_base.specs.Lexical.{IsWhitespace}
 use Rattle.semver_base.specs.declared.lexical.values.Measured.{Measured}
 use Rattle.semver_base.specs.declared.partial.Partial.{Partial}
-use Rattle.semver_base.specs.declared.primitive.PrimitiveKind.{PrimitiveKind}
-use Rattle.semver_base.specs.declared.primitive.PrimitiveKind.TheVariants.{Equal, GreaterThan, GreaterThanOrEqual, LessThan, LessThanOrEqual}
+use Rattle.semver_base.specs.declared.partial.PrimitiveKind.{PrimitiveKind}
+use Rattle.semver_base.specs.declared.partial.PrimitiveKind.TheVariants.{Equal, GreaterThan, GreaterThanOrEqual, LessThan, LessThanOrEqual}
 use Rattle.semver_base.proofs.Whitespace.{whitespace_made, is_whitespace_byte}
 use Rattle.semver_base.proofs.Bytes.{BeginsBy, Disjoint, GoesBy, apart_by, begins_from_made, begins_wider, either_begins, goes_from_made, joined_begins_either, mapped_begins, prefixed_begins}
 use Rattle.semver_base.proofs.Fronts.{Apart, followed, followed_none_second, mapped, mapped_none}

@@ -10,8 +10,8 @@ use Rattle.semver_base.specs.Comparators.{Comparator, Bare, Tilde, primitive_kin
 use Rattle.semver_base.specs.Grammar.{IsLongest, Listed, closed_item, last_item, more_items, that, this}
 use Rattle.semver_base.specs.Lexical.{IsSomeWhitespace}
 use Rattle.semver_base.specs.declared.partial.Partial.{Partial}
-use Rattle.semver_base.specs.declared.primitive.PrimitiveKind.{PrimitiveKind}
-use Rattle.semver_base.specs.declared.primitive.PrimitiveKind.TheVariants.{Equal, GreaterThan, GreaterThanOrEqual, LessThan, LessThanOrEqual}
+use Rattle.semver_base.specs.declared.partial.PrimitiveKind.{PrimitiveKind}
+use Rattle.semver_base.specs.declared.partial.PrimitiveKind.TheVariants.{Equal, GreaterThan, GreaterThanOrEqual, LessThan, LessThanOrEqual}
 use Rattle.semver_base.proofs.Whitespace.{whitespace_made, is_whitespace_byte}
 use Rattle.semver_req.specs.Comparators.{IsComparator, fits}
 use Rattle.semver_req.specs.Outcome.{IsGood, IsSpecifierOutcome, IsSpecifierRange, Tag, no_fit, no_front, tag}

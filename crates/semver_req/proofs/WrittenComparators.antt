@@ -17,8 +17,8 @@ use Rattle.semver_base.specs.PrecedenceLaws.{version_eq}
 use Rattle.semver_base.specs.Shortest.{ending, is_caret_major, is_caret_patch, is_release_of, numbered, shortest, shortest_between, shortest_of, starting, whole}
 use Rattle.semver_base.specs.VersionText.{IsWritable, prefixed, version_text}
 use Rattle.semver_base.specs.declared.partial.Partial.{Partial}
-use Rattle.semver_base.specs.declared.primitive.PrimitiveKind.{PrimitiveKind}
-use Rattle.semver_base.specs.declared.primitive.PrimitiveKind.TheVariants.{GreaterThan, LessThan, GreaterThanOrEqual, LessThanOrEqual}
+use Rattle.semver_base.specs.declared.partial.PrimitiveKind.{PrimitiveKind}
+use Rattle.semver_base.specs.declared.partial.PrimitiveKind.TheVariants.{GreaterThan, LessThan, GreaterThanOrEqual, LessThanOrEqual}
 use Rattle.semver_base.specs.declared.partial.XRange.{XRange}
 use Rattle.semver_base.specs.declared.partial.XRange.TheVariants.{Wildcard, Val}
 use Rattle.semver_base.specs.declared.range.RangeBound.{RangeBound}

@@ -14,10 +14,8 @@ ghost use Rattle.semver_req.specs.Parsers.{ReadRequirementsAreAnswers};
 ghost use Rattle.semver_req.specs.Rereading.{NormalTextsAreEquivalent, NormalTextsHoldNoSeparator, NormalTextsKeepTheirMeaning, OneRereadingStabilizes, RangesAreWrittenAsPieces, ReadRangesAreWritable, StableSetsAreTheirTexts, StarIsAnyVersion, TagsHoldNoSeparator, TagsReadBack};
 
 use crate::common::values::Flavour;
-use crate::npm::NpmVersionReqParseError;
 use crate::range_set_or_tag::RangeSetOrTag;
-use crate::req::{VersionReq, VersionReqNormalizedParseError};
-use crate::specifier::VersionReqSpecifierParseError;
+use crate::req::VersionReq;
 
 /// Whether two grammars are the same.
 pub fn same_flavours(one: &Flavour, other: &Flavour) -> bool
@@ -36,33 +34,6 @@ pub fn same_inner(one: &RangeSetOrTag, other: &RangeSetOrTag) -> bool
 /// Whether two requirements are equal: their ranges or tags are, whatever texts they were parsed from.
 pub fn equal_requirements(one: &VersionReq, other: &VersionReq) -> bool
     ensures { IsTrue result ↔ (one.now.inner ≡ other.now.inner) }
-{
-    one == other
-}
-
-/// Whether two errors of the strict parser are the same.
-pub fn same_specifier_errors(
-    one: &VersionReqSpecifierParseError,
-    other: &VersionReqSpecifierParseError,
-) -> bool
-    ensures { IsTrue result ↔ (one.now ≡ other.now) }
-{
-    one == other
-}
-
-/// Whether two errors of the normalized parser are the same.
-pub fn same_normalized_errors(
-    one: &VersionReqNormalizedParseError,
-    other: &VersionReqNormalizedParseError,
-) -> bool
-    ensures { IsTrue result ↔ (one.now ≡ other.now) }
-{
-    one == other
-}
-
-/// Whether two errors of npm's parser are the same.
-pub fn same_npm_errors(one: &NpmVersionReqParseError, other: &NpmVersionReqParseError) -> bool
-    ensures { IsTrue result ↔ (one.now ≡ other.now) }
 {
     one == other
 }

@@ -1,9 +1,77 @@
 //! npm's parsers of requirements and versions, and its rule for tags.
 
-mod read;
-mod version;
+ghost use Rattle.std.specs.Prelude.{IfErr, IfOk, Ok, Result, codes};
+ghost use Rattle.std.specs.Str.{trim};
+ghost use Rattle.semver_base.specs.VersionGrammar.{IsVersionAnswer, IsVersionOutcome, IsVersionRejection};
+ghost use Rattle.semver_base.specs.VersionText.{ReadsBack};
+ghost use Rattle.semver_base.specs.declared.failure.ParserError.{ParserError};
+ghost use Rattle.semver_base.specs.declared.failure.Rejection.{Rejection};
+ghost use Rattle.semver_base.specs.declared.version.NpmVersions.{NpmVersions};
+ghost use Rattle.semver_req.specs.PieceReading.{IsCutRejection};
+ghost use Rattle.semver_req.specs.Parsers.{IsParserAnswer};
+ghost use Rattle.semver_req.specs.declared.common.values.Flavour.TheVariants.{Npm};
 
+use crate::range_set_or_tag::RangeSetOrTag;
+use crate::req::VersionReq;
 pub use crate::tag::is_valid_npm_tag;
-pub use read::{NpmVersionReqParseError, parse_npm_version_req};
-pub use semver_base::npm::NpmVersionParseError;
-pub use version::parse_npm_version;
+use semver_base::failure::{Parsed, ParserError};
+use semver_base::string::SmallStackString;
+pub use semver_base::version::NpmVersionParseError;
+use semver_base::version::Version;
+use std::alloc::Global;
+
+/// Requirements of npm's grammar, as what a parser parses.
+#[derive(Clone, Copy, Debug)]
+pub struct NpmRequirements;
+
+impl Parsed for NpmRequirements {
+    ghost title = { codes "Invalid version requirement" };
+
+    fn title() -> &'static str {
+        "Invalid version requirement"
+    }
+}
+
+/// Why a text isn't a requirement of npm's grammar, which may be out of memory.
+pub type NpmVersionReqParseError = ParserError<NpmRequirements>;
+
+/// Parses a requirement by npm's range grammar (node-semver, "Range Grammar", with the separators `&&` and `,` and the
+/// ignored operators that npm accepts): alternatives with `||` between them, or a tag.
+///
+/// The text is trimmed, and the requirement keeps the trimmed text. A text without `||` that is outside the grammar, or has a
+/// number or a bound larger than 18446744073709551615, is a tag if it is a valid one; otherwise it fails with "Unexpected
+/// character.", "Number is too large." or "Version bound is too large.". Of several alternatives the invalid ones are left
+/// out ([`RangeSetOrTag::parse_npm`]). Also fails out of memory. No piece is parsed more than twice by the full grammar,
+/// after a fast path for comparators of few numbers; each comparator takes over the bounds kept so far.
+pub fn parse_npm_version_req(
+    alloc: Global,
+    text: &str,
+) -> Result<VersionReq, NpmVersionReqParseError>
+    ensures reads { IsParserAnswer (λ e. e.source) Npm text.now result }
+    ensures rejection { IfErr result (λ e. IsCutRejection Npm (trim text.now) e.source) }
+{
+    let raw_text = SmallStackString::from_str(alloc, text.trim())?;
+    let inner = RangeSetOrTag::parse_npm(alloc, text)?;
+    Ok(VersionReq::from_raw_text_and_inner(raw_text, inner))
+}
+
+impl VersionReq {
+    /// Parses a requirement by npm's grammar ([`parse_npm_version_req`], which lists each error).
+    pub fn parse_from_npm(alloc: Global, text: &str) -> Result<VersionReq, NpmVersionReqParseError>
+        ensures reads { IsParserAnswer (λ e. e.source) Npm text.now result }
+        ensures rejection { IfErr result (λ e. IsCutRejection Npm (trim text.now) e.source) }
+    {
+        parse_npm_version_req(alloc, text)
+    }
+}
+
+/// Parses a version as npm does ([`Version::parse_standard`], which lists each error).
+pub fn parse_npm_version(alloc: Global, text: &str) -> Result<Version, NpmVersionParseError>
+    ensures read { IfOk result (λ version. IsVersionOutcome (trim text.now) (Ok version)) }
+    ensures reads_back { IfOk result ReadsBack }
+    ensures rejected { IfErr result (λ error. IsVersionRejection (trim text.now) error.source) }
+    ensures answer { (outcome : Result Version Rejection) → IsVersionOutcome (trim text.now) outcome
+        → IsVersionAnswer (λ (error : ParserError NpmVersions). error.source) (trim text.now) outcome result }
+{
+    Version::parse_from_npm(alloc, text)
+}

@@ -1,6 +1,6 @@
 //! Version requirements.
 
-ghost use Rattle.std.specs.Prelude.{◌≡◌, ◌↔◌, IfErr, IfOk, IsTrue, None, Some, string_bytes};
+ghost use Rattle.std.specs.Prelude.{◌≡◌, ◌↔◌, IfErr, IfOk, IsTrue, None, Some, codes, string_bytes};
 ghost use Rattle.std.specs.Bool.{OnFalse};
 ghost use Rattle.std.specs.Option.{option_copied};
 ghost use Rattle.semver_base.specs.declared.range.PreRelease.TheVariants.{Restricted};
@@ -14,14 +14,13 @@ ghost use Rattle.semver_req.specs.declared.common.values.Flavour.TheVariants.{No
 mod lowest;
 
 use crate::range_set_or_tag::RangeSetOrTag;
-use semver_base::failure::ParseFailure;
+use semver_base::failure::{Parsed, ParserError};
 use semver_base::range::{PreRelease, RangeBound, VersionRange, VersionRangeSet};
 use semver_base::string::{CowVec, SmallStackString, displayed};
 use semver_base::version::Version;
 use std::alloc::{AllocError, Global};
 use std::fmt;
 use std::marker::Model;
-use thiserror::Error;
 
 /// A version requirement: the text it was parsed from, and its ranges or tag.
 ///
@@ -53,57 +52,20 @@ impl Drop for VersionReq {
     }
 }
 
-/// Why a normalized requirement failed to parse, which may be out of memory.
-#[derive(Debug, PartialEq, Eq, Drop, Error)]
-#[error("Invalid normalized version requirement")]
-pub struct VersionReqNormalizedParseError {
-    #[source]
-    pub source: ParseFailure,
-}
+/// Requirements of the normalized grammar, as what a parser parses.
+#[derive(Clone, Copy, Debug)]
+pub struct NormalizedRequirements;
 
-impl VersionReqNormalizedParseError {
-    /// Whether the error is out of memory.
-    pub fn is_memory(&self) -> bool
-        ensures { IsTrue result ↔ (self.now.source ≡ None) }
-    {
-        self.source.is_memory()
-    }
+impl Parsed for NormalizedRequirements {
+    ghost title = { codes "Invalid normalized version requirement" };
 
-    /// Returns a copy. Fails only out of memory.
-    pub fn copy(&self) -> Result<Self, AllocError>
-        ensures { IfOk result (λ error. error ≡ self.now) }
-    {
-        Ok(VersionReqNormalizedParseError {
-            source: self.source.copy()?,
-        })
+    fn title() -> &'static str {
+        "Invalid normalized version requirement"
     }
 }
 
-impl From<ParseFailure> for VersionReqNormalizedParseError {
-    ghost from_gives = { λ failure error. error.source ≡ failure };
-
-    fn from(source: ParseFailure) -> VersionReqNormalizedParseError {
-        VersionReqNormalizedParseError { source }
-    }
-}
-
-impl From<AllocError> for VersionReqNormalizedParseError {
-    ghost from_gives = { λ _ error. error.source ≡ None };
-
-    fn from(_error: AllocError) -> VersionReqNormalizedParseError {
-        VersionReqNormalizedParseError {
-            source: ParseFailure::memory(),
-        }
-    }
-}
-
-impl From<VersionReqNormalizedParseError> for ParseFailure {
-    ghost from_gives = { λ error failure. failure ≡ error.source };
-
-    fn from(error: VersionReqNormalizedParseError) -> ParseFailure {
-        error.source
-    }
-}
+/// Why a text isn't a requirement of the normalized grammar, which may be out of memory.
+pub type VersionReqNormalizedParseError = ParserError<NormalizedRequirements>;
 
 // Formats the requirement's ranges or tag.
 fn normal_text(alloc: Global, requirement: &VersionReq) -> Result<String, AllocError>

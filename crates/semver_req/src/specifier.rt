@@ -1,6 +1,6 @@
 //! The strict parser, for the requirements in package specifiers.
 
-ghost use Rattle.std.specs.Prelude.{◌≡◌, ◌↔◌, ◌⊎◌, ◌∷◌, [], IfErr, IfOk, IsTrue, None, true};
+ghost use Rattle.std.specs.Prelude.{◌≡◌, ◌↔◌, ◌⊎◌, ◌∷◌, [], IfErr, IfOk, IsTrue, None, codes, true};
 ghost use Rattle.semver_base.specs.Lexical.{IsWhitespace};
 ghost use Rattle.semver_req.specs.Parsers.{IsParserAnswer, IsReading};
 ghost use Rattle.semver_req.specs.SpecifierRejections.{IsNoTag, IsSpecifierRejection, empty_constraint};
@@ -12,65 +12,27 @@ use crate::common::values::Flavour;
 use crate::range_set_or_tag::RangeSetOrTag;
 use crate::req::VersionReq;
 use crate::tag::is_valid_npm_tag;
-use semver_base::failure::{ParseFailure, Rejection};
+use semver_base::failure::{ParseFailure, Parsed, ParserError, Rejection};
 use semver_base::lexical::is_all_whitespace;
 use semver_base::lexical::values::Measured;
 use semver_base::range::{VersionRange, VersionRangeSet};
 use semver_base::string::{CowVec, SmallStackString};
 use std::alloc::{AllocError, Global};
-use thiserror::Error;
 
-/// Why the requirement of a package specifier failed to parse, which may be out of memory.
-#[derive(Debug, PartialEq, Eq, Drop, Error)]
-#[error("Invalid specifier version requirement")]
-pub struct VersionReqSpecifierParseError {
-    #[source]
-    pub source: ParseFailure,
-}
+/// Requirements of package specifiers, as what a parser parses.
+#[derive(Clone, Copy, Debug)]
+pub struct SpecifierRequirements;
 
-impl VersionReqSpecifierParseError {
-    /// Whether the error is out of memory.
-    pub fn is_memory(&self) -> bool
-        ensures { IsTrue result ↔ (self.now.source ≡ None) }
-    {
-        self.source.is_memory()
-    }
+impl Parsed for SpecifierRequirements {
+    ghost title = { codes "Invalid specifier version requirement" };
 
-    /// Returns a copy. Fails only out of memory.
-    pub fn copy(&self) -> Result<Self, AllocError>
-        ensures { IfOk result (λ error. error ≡ self.now) }
-    {
-        Ok(VersionReqSpecifierParseError {
-            source: self.source.copy()?,
-        })
+    fn title() -> &'static str {
+        "Invalid specifier version requirement"
     }
 }
 
-impl From<ParseFailure> for VersionReqSpecifierParseError {
-    ghost from_gives = { λ failure error. error.source ≡ failure };
-
-    fn from(source: ParseFailure) -> VersionReqSpecifierParseError {
-        VersionReqSpecifierParseError { source }
-    }
-}
-
-impl From<AllocError> for VersionReqSpecifierParseError {
-    ghost from_gives = { λ _ error. error.source ≡ None };
-
-    fn from(_error: AllocError) -> VersionReqSpecifierParseError {
-        VersionReqSpecifierParseError {
-            source: ParseFailure::memory(),
-        }
-    }
-}
-
-impl From<VersionReqSpecifierParseError> for ParseFailure {
-    ghost from_gives = { λ error failure. failure ≡ error.source };
-
-    fn from(error: VersionReqSpecifierParseError) -> ParseFailure {
-        error.source
-    }
-}
+/// Why a text isn't the requirement of a package specifier, which may be out of memory.
+pub type VersionReqSpecifierParseError = ParserError<SpecifierRequirements>;
 
 // Returns the whole text as a tag; fails with `rejection` if it isn't a valid one.
 fn whole_text_as_tag(

@@ -8,7 +8,7 @@ ghost use Rattle.semver_req.specs.Partials.{strictness_of};
 use semver_base::failure::ParseFailure;
 use semver_base::lexical::values::Strictness;
 use semver_base::partial::Partial;
-pub use semver_base::primitive::PrimitiveKind;
+pub use semver_base::partial::PrimitiveKind;
 use semver_base::range::VersionRange;
 use std::alloc::{AllocError, Global};
 

@@ -3,7 +3,7 @@ use Rattle.std.specs.Str.{trim}
 use Rattle.semver_req.specs.PieceReading.{IsCutRejection, is_out_of_memory}
 use Rattle.semver_req.specs.declared.common.values.Flavour.TheVariants.{Npm}
 use Rattle.semver_req.proofs.ParserAnswers.{answers_err, answers_read, err_reports}
-use Rattle.semver_req.proofs.npm.read.parse_npm_version_req.Goals as goal
+use Rattle.semver_req.proofs.npm.parse_npm_version_req.Goals as goal
 
 pub returns-in_err-inner-clause-reads : goal.returns-in_err-inner-clause-reads
 returns-in_err-inner-clause-reads c =
