@@ -3,7 +3,6 @@ use Rattle.std.specs.Prelude.{◌≡◌, ℕ, List, Some, Result, Ok, Err, map, 
 use Rattle.std.specs.Borrow.{Bor}
 use Rattle.std.specs.Str.{trim}
 use Rattle.semver_base.specs.VersionGrammar.{IsVersionOutcome}
-use Rattle.semver_base.specs.declared.failure.Rejection.{Rejection}
 use Rattle.semver_base.specs.declared.version.Version.{Version}
 use Rattle.semver_req.specs.Outcome.{IsOutcome, Rejected}
 use Rattle.semver_req.specs.Parsers.{Failure, IsReadFrom, MeansTrees}
@@ -15,16 +14,23 @@ use Rattle.answers.specs.declared.asking.Kind.TheVariants as kind
 use Rattle.answers.specs.declared.asking.Problem.{Problem}
 use Rattle.answers.specs.declared.asking.Problem.TheVariants as problem
 
--- the range that the text at this place parses to by a grammar; it means what the comparators of the text mean
-pub data IsRange (f : Flavour) (place : ℕ) (text : List ℕ) : Result Requirement Fault → Type 0 where
-  range : {req : Requirement} → IsReadFrom f text req → MeansTrees f text req.inner → IsRange f place text (Ok req)
-  no_range : IsOutcome f text Rejected → IsRange f place text (Err (Invalid kind.Range place))
+-- the value that the argument of this kind at this place parses to, by the outcomes of its text; with a fault it is invalid
+pub data Parsed {X F : Type 0} (kind : Kind) (place : ℕ) (Outcome : Result X F → Type 0) : Result X Fault → Type 0 where
+  parsed : {x : X} → Outcome (Ok x) → Parsed kind place Outcome (Ok x)
+  not_parsed : {fault : F} → Outcome (Err fault) → Parsed kind place Outcome (Err (Invalid kind place))
+
+-- what the text of a range parses to by a grammar: a requirement that means what the comparators of the text mean; else it is rejected
+abbrev pub IsRangeOutcome : Flavour → List ℕ → Result Requirement (Unit {0}) → Type 0
+IsRangeOutcome f text (Ok req) = IsReadFrom f text req × MeansTrees f text req.inner
+IsRangeOutcome f text (Err fault) = IsOutcome f text Rejected
+
+-- the range that the text at this place parses to by a grammar
+abbrev pub IsRange : Flavour → ℕ → List ℕ → Result Requirement Fault → Type 0
+IsRange f place text = Parsed kind.Range place (IsRangeOutcome f text)
 
 -- the version that the text at this place parses to
-pub data IsVersion (place : ℕ) (text : List ℕ) : Result Version Fault → Type 0 where
-  version : {v : Version} → IsVersionOutcome (trim text) (Ok v) → IsVersion place text (Ok v)
-  no_version : {fault : Rejection} → IsVersionOutcome (trim text) (Err fault)
-      → IsVersion place text (Err (Invalid kind.Version place))
+abbrev pub IsVersion : ℕ → List ℕ → Result Version Fault → Type 0
+IsVersion place text = Parsed kind.Version place (IsVersionOutcome (trim text))
 
 -- the texts that the references point to
 abbrev pub texts_of : List (Bor (List ℕ)) → List (List ℕ)

@@ -3,12 +3,11 @@
 ghost use Rattle.std.specs.Prelude.{◌≡◌, IfOk, map, string_bytes};
 ghost use Rattle.serde_json.specs.Data.{string};
 ghost use Rattle.serde_json.specs.View.{view};
-ghost use Rattle.serde_json.specs.Written.{compact_text};
 ghost use Rattle.semver_req.specs.InvalidPieces.{AreInvalidPieces};
 ghost use Rattle.semver_req.specs.Viable.{IsErrorPlace, IsVersionText};
 ghost use Rattle.answers.specs.Errors.{IsErrorsText, error_json, errors_json, expected_json, expected_names, kind_name};
 
-use crate::object::{Object, text_json};
+use crate::object::{Object, json_text, text_json};
 use semver_req::common::values::Flavour;
 use semver_req::error_places::causes::Cause;
 use semver_req::error_places::expected::{Expected, Kind};
@@ -88,14 +87,6 @@ fn errors_json(alloc: Global, errors: &[InvalidPiece]) -> Result<Value, AllocErr
     Ok(Value::Array(items))
 }
 
-// The errors as a text.
-fn errors_text(alloc: Global, errors: &[InvalidPiece]) -> Result<String, AllocError>
-    ensures { IfOk result (λ text. string_bytes text ≡ compact_text (errors_json errors.now)) }
-{
-    let json = errors_json(alloc, errors)?;
-    json.to_string(alloc)
-}
-
 /// The invalid alternatives of the text of a range, in their order, with what is wrong in each and where. A tag isn't a range, so it is
 /// one, too.
 pub fn errors(
@@ -132,5 +123,5 @@ pub fn errors_of_range(
     ensures { IfOk result (λ text. IsErrorsText flavour range_text.now (string_bytes text)) }
 {
     let errors = errors(alloc, flavour, range_text)?;
-    errors_text(alloc, errors.as_slice())
+    json_text(alloc, errors_json(alloc, errors.as_slice()))
 }

@@ -4,7 +4,6 @@ ghost use Rattle.std.specs.Prelude.{◌≡◌, ◌++◌, IfErr, IfOk, OnOk, map,
 ghost use Rattle.std.specs.Option.{option_copied};
 ghost use Rattle.serde_json.specs.Data.{array, string};
 ghost use Rattle.serde_json.specs.View.{items_of, view};
-ghost use Rattle.serde_json.specs.Written.{compact_text};
 ghost use Rattle.semver_req.specs.TextRejection.{IsTextRejection};
 ghost use Rattle.answers.specs.Asking.{IsFailureAt, IsOneAnswer};
 ghost use Rattle.answers.specs.ExplainedJson.{Explains, alternative_json, alternatives_json, distinct, error_for, error_or_null, errors_behind, have_same_numbers, left_out_json, lowest_json, matches_json, numbers_text, option_list, pre_release_of, pre_releases, pre_releases_json, ranges_explained};
@@ -14,7 +13,7 @@ ghost use Rattle.answers.specs.declared.asking.Kind.TheVariants as kind;
 use crate::asking::{Answer, Problem};
 use crate::errors::{error_json, errors};
 use crate::explained::{Explanation, Matches, Meaning, Piece, explain};
-use crate::object::{Object, text_json};
+use crate::object::{Object, json_text, text_json};
 use crate::parts::{bound_json, displayed_json};
 use semver_base::range::{PreRelease, RangeBound};
 use semver_base::version::Version;
@@ -224,21 +223,6 @@ pub fn ranges_explained(
         .into_json()
 }
 
-// The same as a text.
-fn explained_text(
-    alloc: Global,
-    pre_release: PreRelease,
-    pieces: &[Piece],
-    errors: &[InvalidPiece],
-    normal: &str,
-) -> Result<String, AllocError>
-    ensures { IfOk result (λ text. string_bytes text
-        ≡ compact_text (ranges_explained pre_release pieces.now errors.now normal.now)) }
-{
-    let json = ranges_explained(alloc, pre_release, pieces, errors, normal)?;
-    json.to_string(alloc)
-}
-
 /// Returns what a grammar makes of a range's text, as the text of a JSON object; or the tag.
 pub fn explain_as_json(
     alloc: Global,
@@ -255,14 +239,14 @@ pub fn explain_as_json(
         Explanation::Tag(tag) => Ok(Answer::Tag(tag)),
         Explanation::Ranges { pieces, normal } => {
             let errors = errors(alloc, flavour, text)?;
-            let text = explained_text(
+            let json = ranges_explained(
                 alloc,
                 pre_release,
                 pieces.as_slice(),
                 errors.as_slice(),
                 normal.as_str(),
-            )?;
-            Ok(Answer::Value(text))
+            );
+            Ok(Answer::Value(json_text(alloc, json)?))
         }
     }
 }

@@ -1,9 +1,10 @@
 //! JSON objects, built member by member.
 
-ghost use Rattle.std.specs.Prelude.{◌≡◌, IfOk};
+ghost use Rattle.std.specs.Prelude.{◌≡◌, IfOk, false, string_bytes};
 ghost use Rattle.std.specs.Option.{option_copied};
 ghost use Rattle.serde_json.specs.Data.{Data, Members, no_members, object, put as with_member, string};
 ghost use Rattle.serde_json.specs.View.{members_view, view};
+ghost use Rattle.serde_json.specs.Written.{compact_text, has_float};
 ghost use Rattle.answers.specs.Object.{Has, text_or_null};
 
 use serde_json::{Map, Value, put};
@@ -30,6 +31,17 @@ pub fn text_or_null(alloc: Global, text: Option<&str>) -> Result<Value, AllocErr
     match text {
         Some(text) => text_json(alloc, text),
         None => Ok(Value::Null),
+    }
+}
+
+/// Returns the text of JSON without floats.
+pub fn json_text(alloc: Global, json: Result<Value, AllocError>) -> Result<String, AllocError>
+    ensures { (d : Data) → has_float d ≡ false → IfOk json (λ json. view json ≡ d)
+        → IfOk result (λ text. string_bytes text ≡ compact_text d) }
+{
+    match json {
+        Ok(json) => json.to_string(alloc),
+        Err(error) => Err(error),
     }
 }
 

@@ -3,7 +3,6 @@
 ghost use Rattle.std.specs.Prelude.{◌≡◌, IfErr, IfOk, string_bytes};
 ghost use Rattle.serde_json.specs.Data.{string};
 ghost use Rattle.serde_json.specs.View.{view};
-ghost use Rattle.serde_json.specs.Written.{compact_text};
 ghost use Rattle.semver_base.specs.VersionGrammar.{IsVersionRejection};
 ghost use Rattle.semver_base.specs.VersionText.{version_text};
 ghost use Rattle.semver_base.specs.declared.range.RangeBound.TheVariants as bounds;
@@ -16,7 +15,7 @@ ghost use Rattle.answers.specs.Parts.{RangeParts, VersionParts, bound_json, is_i
 ghost use Rattle.answers.specs.declared.asking.Kind.TheVariants as kind;
 
 use crate::asking::{Answer, Problem};
-use crate::object::{Object, text_json};
+use crate::object::{Object, json_text, text_json};
 use crate::questions::text_of_version;
 use crate::reading::{range, version};
 use semver_base::failure::ParseFailure;
@@ -66,14 +65,6 @@ pub fn version_json(alloc: Global, version: &Version) -> Result<Value, AllocErro
         .into_json()
 }
 
-// The parts of a version as a text.
-fn version_parts_text(alloc: Global, version: &Version) -> Result<String, AllocError>
-    ensures { IfOk result (λ text. string_bytes text ≡ compact_text (version_json version.now)) }
-{
-    let json = version_json(alloc, version)?;
-    json.to_string(alloc)
-}
-
 /// Parses a version, and returns its parts as the text of a JSON object.
 pub fn version_parts(alloc: Global, version_text: &str) -> Result<String, Problem>
     ensures answer { IsAnswer (VersionParts version_text.now) (λ text. string_bytes text) result }
@@ -81,7 +72,7 @@ pub fn version_parts(alloc: Global, version_text: &str) -> Result<String, Proble
         (IsFailureAt kind.Version 0 (IsVersionRejection (trim version_text.now))) }
 {
     let version = version(alloc, 0, version_text)?;
-    Ok(version_parts_text(alloc, &version)?)
+    Ok(json_text(alloc, version_json(alloc, &version))?)
 }
 
 // Whether the version itself lies within the bound.
@@ -135,14 +126,6 @@ fn ranges_json(alloc: Global, ranges: &[VersionRange]) -> Result<Value, AllocErr
     Ok(Value::Array(items))
 }
 
-// The ranges as a text.
-fn ranges_text(alloc: Global, ranges: &[VersionRange]) -> Result<String, AllocError>
-    ensures { IfOk result (λ text. string_bytes text ≡ compact_text (ranges_json ranges.now)) }
-{
-    let json = ranges_json(alloc, ranges)?;
-    json.to_string(alloc)
-}
-
 // The ranges of a requirement as a text, or the tag.
 fn ranges_of(alloc: Global, range: &VersionReq) -> Result<Answer<String>, AllocError>
     ensures { IfOk result (λ answer. list_answer (λ text. string_bytes text) answer
@@ -151,7 +134,8 @@ fn ranges_of(alloc: Global, range: &VersionReq) -> Result<Answer<String>, AllocE
     match range.inner() {
         RangeSetOrTag::Tag(tag) => Ok(Answer::Tag(PackageTag::from_str(alloc, tag.as_str())?)),
         RangeSetOrTag::RangeSet(set) => {
-            Ok(Answer::Value(ranges_text(alloc, set.0.iter().as_slice())?))
+            let json = ranges_json(alloc, set.0.iter().as_slice());
+            Ok(Answer::Value(json_text(alloc, json)?))
         }
     }
 }

@@ -1,8 +1,9 @@
 use Rattle.std.proofs.Common.{inr, refl, string_bytes}
 use Rattle.std.proofs.lemmas.Result.{err_from_is_err_and}
 use Rattle.answers.proofs.ErrorJson.{not_explained}
+use Rattle.answers.proofs.JsonTexts.{explained_no_float}
 use Rattle.answers.specs.Asking.{fault_of}
-use Rattle.answers.specs.ExplainedJson.{explained}
+use Rattle.answers.specs.ExplainedJson.{explained, ranges_explained}
 use Rattle.answers.specs.declared.explained.Explanation.TheVariants as explanation
 use Rattle.answers.proofs.explained_json.explain_as_json.Goals as goal
 
@@ -14,9 +15,12 @@ returns-in_err-tag-clause-answer c =
 pub returns-in-Tag-clause-answer : goal.returns-in-Tag-clause-answer
 returns-in-Tag-clause-answer c = inr (explained (rw c.in-Tag.is at c.in_ok-tag.ensures.answer))
 
-pub returns-in_ok-text-in-Ranges-clause-answer : goal.returns-in_ok-text-in-Ranges-clause-answer
-returns-in_ok-text-in-Ranges-clause-answer c =
+pub returns-in_ok-json_text-in-Ranges-clause-answer : goal.returns-in_ok-json_text-in-Ranges-clause-answer
+returns-in_ok-json_text-in-Ranges-clause-answer c =
     let is = rw c.in-Ranges.is at c.in_ok-tag.ensures.answer in
     let r = c.in-Ranges in
-    let text = rw (c.as_slice.ensures.value, c.as_slice-in-Ranges.ensures.value, c.as_str.ensures.value) at c.in_ok-text-in-Ranges.ensures in
-    inr (explained (r.pieces.items, c.in_ok-errors-in-Ranges.errors.items, string_bytes r.normal, (explanation.Ranges r.pieces r.normal, is, (refl, refl)), c.in_ok-errors-in-Ranges.ensures, text))
+    let errors = c.in_ok-errors-in-Ranges.errors.items in
+    let normal = string_bytes r.normal in
+    let json = rw (c.as_slice.ensures.value, c.as_slice-in-Ranges.ensures.value, c.as_str.ensures.value) at c.ranges_explained-json.ensures in
+    let text = c.in_ok-json_text-in-Ranges.ensures (ranges_explained c.args.pre_release r.pieces.items errors normal) (explained_no_float c.args.pre_release r.pieces.items errors normal) json in
+    inr (explained (r.pieces.items, errors, normal, (explanation.Ranges r.pieces r.normal, is, (refl, refl)), c.in_ok-errors-in-Ranges.ensures, text))

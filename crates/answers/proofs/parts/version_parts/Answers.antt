@@ -1,5 +1,7 @@
 use Rattle.std.proofs.lemmas.Result.{err_from_is_err_and}
+use Rattle.answers.specs.Parts.{version_json}
 use Rattle.answers.proofs.Givens.{answered, by_fault, by_value}
+use Rattle.answers.proofs.JsonTexts.{version_no_float}
 use Rattle.answers.proofs.parts.version_parts.Goals as goal
 
 pub returns-in_err-version-clause-answer : goal.returns-in_err-version-clause-answer
@@ -8,4 +10,5 @@ returns-in_err-version-clause-answer c =
     rw (p.1, p.2) (by_fault _ _ _ _ c.in_err-version.ensures.answer)
 
 pub returns-clause-answer : goal.returns-clause-answer
-returns-clause-answer c = by_value _ _ _ _ c.in_ok-version.ensures.answer _ (answered _ _ _ c.in_ok-version_parts_text.ensures)
+returns-clause-answer c =
+    by_value _ _ _ _ c.in_ok-version.ensures.answer _ (answered _ _ _ (c.in_ok-json_text.ensures (version_json c.in_ok-version.version) (version_no_float c.in_ok-version.version) c.version_json.ensures))
