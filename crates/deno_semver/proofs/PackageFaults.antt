@@ -6,7 +6,7 @@ use Rattle.semver_req.specs.Parsers.{IsRead, IsReadFrom}
 use Rattle.semver_req.specs.Requirement.{Requirement}
 use Rattle.semver_req.specs.declared.common.values.Flavour.{Flavour}
 use Rattle.semver_req.specs.declared.range_set_or_tag.RangeSetOrTag.{RangeSetOrTag}
-use Rattle.deno_semver.specs.PackageOutcome.{BadName, BadVersion, Fault, HasPath, IsFirstFault, IsPackageAnswer, IsPackageOutcome, IsPackageRejection, IsReadReq, IsVersionReq, IsOutOfMemory, NoAt, NoName, Reports, ReportsFault, bad_name, bad_version, has_path, is_fault, is_package, no_name}
+use Rattle.deno_semver.specs.PackageOutcome.{BadName, BadVersion, Fault, HasPath, IsFirstFault, IsPackageAnswer, IsPackageOutcome, IsPackageRejection, IsReadReq, IsVersionReq, IsOutOfMemory, NoAt, NoName, Reports, ReportsFault, bad_name, bad_version, failed, has_path, is_fault, is_package, no_name}
 use Rattle.deno_semver.specs.PackageReading.{IsFaultError, IsPartsRejection, IsPathError, ReportsSource}
 use Rattle.deno_semver.specs.PackageSteps.{IsUncut}
 use Rattle.deno_semver.specs.ReferenceReading.{IsFrontError, IsReadWithPath}
@@ -42,7 +42,7 @@ module _ (f : Flavour) (text : List ℕ) {e : PackageReqPartsParseError} where
   path_error cut req tail h is is_path some (inr reported) = inr (HasPath cut.path, has_path req h is some, reported ∙ ap shown (tail_is tail is_path))
     where
       shown : List ℕ → PackageReqPartsParseError
-      shown t = parts.SpecifierVersionReq (record { source = Some (codes "Unexpected character '/'", Some t) })
+      shown t = parts.SpecifierVersionReq (failed (Some (codes "Unexpected character '/'", Some t)))
 
       tail_is : (t : List ℕ) → IsPathPart t cut.path → t ≡ 47 ∷ cut.path
       tail_is [] k = absurd (omega (arith, some, ap length k))

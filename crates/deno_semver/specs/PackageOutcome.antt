@@ -3,6 +3,7 @@
 use Rattle.std.specs.Prelude.{◌≡◌, ◌<◌, ◌∷◌, ◌⊎◌, [], ℕ, List, length, Option, Some, None, Result, Ok, Err, MatchResult, IsErrAnd, codes, if◌then◌else◌}
 use Rattle.std.specs.Str.{trim}
 use Rattle.semver_base.specs.Characters.{slash}
+use Rattle.semver_base.specs.declared.failure.ParserError.{ParserError}
 use Rattle.semver_req.specs.Outcome.{IsOutcome, Rejected}
 use Rattle.semver_req.specs.PieceReading.{IsCutRejection}
 use Rattle.semver_req.specs.Parsers.{Failure, IsReadFrom}
@@ -64,11 +65,15 @@ IsRejectionOf Specifier text = IsSpecifierRejection text
 IsRejectionOf Npm text = IsCutRejection Npm (trim text)
 IsRejectionOf Normal text = IsCutRejection Normal text
 
+-- a parser's error with this failure
+abbrev pub failed : {P : Type 0} → Failure → ParserError P
+failed failure = record { source = failure; parsed = record {} }
+
 -- the error of that grammar
 abbrev pub rejected_by : Flavour → Failure → PackageReqPartsParseError
-rejected_by Specifier failure = parts.SpecifierVersionReq (record { source = failure })
-rejected_by Npm failure = parts.NpmVersionReq (record { source = failure })
-rejected_by Normal failure = parts.NormalizedVersionReq (record { source = failure })
+rejected_by Specifier failure = parts.SpecifierVersionReq (failed failure)
+rejected_by Npm failure = parts.NpmVersionReq (failed failure)
+rejected_by Normal failure = parts.NormalizedVersionReq (failed failure)
 
 -- what the error shows of a path: the text from its `/` on
 abbrev pub path_failure : List ℕ → Failure
@@ -80,7 +85,7 @@ Reports f NoName e = e ≡ parts.NoPackageName
 Reports f BadName e = e ≡ parts.InvalidPackageName
 Reports f (BadVersion version) e =
     (failure : Failure) × (failure ≡ None → ⊥) × IsRejectionOf f version failure × (e ≡ rejected_by f failure)
-Reports f (HasPath path) e = e ≡ parts.SpecifierVersionReq (record { source = path_failure path })
+Reports f (HasPath path) e = e ≡ parts.SpecifierVersionReq (failed (path_failure path))
 Reports f NoAt e = e ≡ parts.MissingAtSymbol
 
 -- out of memory has no text

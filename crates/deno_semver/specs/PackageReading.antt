@@ -2,7 +2,7 @@
 use Rattle.std.specs.Prelude.{◌≡◌, ◌⊎◌, ℕ, List, Option, Some, None, Result, MatchResult, codes, if◌then◌else◌}
 use Rattle.semver_req.specs.Outcome.{IsOutcome, Rejected}
 use Rattle.semver_req.specs.declared.common.values.Flavour.{Flavour}
-use Rattle.deno_semver.specs.PackageOutcome.{BadVersion, Fault, IsFirstFault, IsReadReq, Reports}
+use Rattle.deno_semver.specs.PackageOutcome.{BadVersion, Fault, IsFirstFault, IsReadReq, Reports, failed}
 use Rattle.deno_semver.specs.PackageText.{lacks_at}
 use Rattle.deno_semver.specs.declared.package.errors.PackageReqParseError.{PackageReqParseError}
 use Rattle.deno_semver.specs.declared.package.errors.PackageReqPartsParseError.{PackageReqPartsParseError}
@@ -26,7 +26,7 @@ IsPartsRejection f (Some version) e = IsVersionRejection f version e
 abbrev pub IsPathError : List ℕ → PackageReqPartsParseError → Type 0
 IsPathError tail e =
     (e ≡ parts.Memory)
-    ⊎ (e ≡ parts.SpecifierVersionReq (record { source = Some (codes "Unexpected character '/'", Some tail) }))
+    ⊎ (e ≡ parts.SpecifierVersionReq (failed (Some (codes "Unexpected character '/'", Some tail))))
 
 -- the error reports the first fault of the text, or is out of memory
 abbrev pub IsFaultError : Flavour → List ℕ → PackageReqPartsParseError → Type 0

@@ -12,7 +12,6 @@ pub mod npm;
 pub mod package;
 
 pub use semver_base::failure::{ParseFailure, Rejection};
-pub use semver_base::npm::NpmVersionParseError;
 pub use semver_base::partial::{Partial, XRange};
 pub use semver_base::range::{
     PreRelease, RangeBound, VersionBound, VersionBoundKind, VersionRange, VersionRangeSet,
@@ -20,7 +19,9 @@ pub use semver_base::range::{
 pub use semver_base::string::{
     CowItem, CowVec, SmallStackString, StackString, StringAppendable, StringType,
 };
-pub use semver_base::version::{Version, VersionParseError, VersionPreOrBuild};
+pub use semver_base::version::{
+    NpmVersionParseError, Version, VersionParseError, VersionPreOrBuild,
+};
 pub use semver_req::range_set_or_tag::{PackageTag, RangeSetOrTag};
 pub use semver_req::req::{
     IntoVersionReq, VersionReq, VersionReqNormalizedParseError, wildcard_version_req,

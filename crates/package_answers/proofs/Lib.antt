@@ -1,4 +1,1 @@
-pub mod NvAnswers
-pub mod PackageAnswers
-pub mod ReferenceAnswers
-pub mod SpecifierAnswers
+pub mod Outcomes

@@ -8,8 +8,9 @@ use Rattle.semver_base.specs.declared.failure.Rejection.{Rejection}
 use Rattle.semver_req.specs.Parsers.{Failure}
 use Rattle.deno_semver.specs.NameAndVersion.{IsNvOutcome}
 use Rattle.deno_semver.specs.declared.package.values.PackageNv.{PackageNv}
-use Rattle.answers.specs.Asking.{Fault, Given, Invalid, Is}
+use Rattle.answers.specs.Asking.{Fault, Given, Is}
 use Rattle.answers.specs.Object.{text_or_null}
+use Rattle.answers.specs.Reading.{Parsed}
 use Rattle.answers.specs.declared.asking.Kind.TheVariants as kind
 use Rattle.package_answers.specs.Packages.{last_part, scope_part}
 
@@ -21,9 +22,8 @@ nv_json nv =
     (member (codes "version") (string (version_text nv.version)) no_members)))
 
 -- the name with a version that a text parses to
-pub data IsNameWithVersion (text : List ℕ) : Result PackageNv Fault → Type 0 where
-  is_nv : {nv : PackageNv} → IsNvOutcome text (Ok nv) → IsNameWithVersion text (Ok nv)
-  is_no_nv : {fault : Rejection} → IsNvOutcome text (Err fault) → IsNameWithVersion text (Err (Invalid kind.Package 0))
+abbrev pub IsNameWithVersion : List ℕ → Result PackageNv Fault → Type 0
+IsNameWithVersion text = Parsed kind.Package 0 (IsNvOutcome text)
 
 -- its parts
 abbrev pub NameWithVersionParts : List ℕ → Result (List ℕ) Fault → Type 0

@@ -8,13 +8,14 @@ use Rattle.semver_req.specs.Parsers.{Failure}
 use Rattle.semver_req.specs.Requirement.{inner_text}
 use Rattle.semver_req.specs.declared.common.values.Flavour.{Flavour}
 use Rattle.deno_semver.specs.Cuts.{is_not}
-use Rattle.deno_semver.specs.PackageOutcome.{Fault as PackageFault, IsPackageOutcome, IsPackageRejection}
+use Rattle.deno_semver.specs.PackageOutcome.{IsPackageOutcome, IsPackageRejection}
 use Rattle.deno_semver.specs.declared.package.errors.PackageReqParseError.{PackageReqParseError}
 use Rattle.deno_semver.specs.declared.package.errors.PackageReqPartsParseError.{PackageReqPartsParseError}
 use Rattle.deno_semver.specs.declared.package.errors.PackageReqPartsParseError.TheVariants as parts
 use Rattle.deno_semver.specs.declared.package.values.PackageReq.{PackageReq}
-use Rattle.answers.specs.Asking.{Fault, Given, Invalid, Is}
+use Rattle.answers.specs.Asking.{Fault, Given, Is}
 use Rattle.answers.specs.Object.{text_or_null}
+use Rattle.answers.specs.Reading.{Parsed}
 use Rattle.answers.specs.declared.asking.Kind.TheVariants as kind
 
 -- ---- a name and its scope
@@ -43,9 +44,8 @@ package_json req =
 -- ---- the question
 
 -- the package that a text parses to, with a grammar for its range
-pub data IsPackage (f : Flavour) (text : List ℕ) : Result PackageReq Fault → Type 0 where
-  is_package : {req : PackageReq} → IsPackageOutcome f text (Ok req) → IsPackage f text (Ok req)
-  is_no_package : {fault : PackageFault} → IsPackageOutcome f text (Err fault) → IsPackage f text (Err (Invalid kind.Package 0))
+abbrev pub IsPackage : Flavour → List ℕ → Result PackageReq Fault → Type 0
+IsPackage f text = Parsed kind.Package 0 (IsPackageOutcome f text)
 
 -- its parts
 abbrev pub PackageParts : Flavour → List ℕ → Result (List ℕ) Fault → Type 0

@@ -11,9 +11,10 @@ use Rattle.deno_semver.specs.ReferenceText.{LacksScheme}
 use Rattle.deno_semver.specs.declared.package.kind.PackageKind.{PackageKind}
 use Rattle.deno_semver.specs.declared.package.kind.PackageKind.TheVariants.{Jsr, Npm}
 use Rattle.deno_semver.specs.declared.package.reference_errors.PackageReqReferenceParseError.{PackageReqReferenceParseError}
-use Rattle.answers.specs.Asking.{Fault, Given, Invalid, Is}
+use Rattle.answers.specs.Asking.{Fault, Given, Is}
 use Rattle.package_answers.specs.Packages.{package_json, parts_failure}
 use Rattle.answers.specs.Object.{text_or_null}
+use Rattle.answers.specs.Reading.{Parsed}
 use Rattle.answers.specs.declared.asking.Kind.TheVariants as kind
 use Rattle.package_answers.specs.declared.references.Reference.{Reference}
 
@@ -44,12 +45,15 @@ abbrev pub IsRegistryOf : List ℕ → PackageKind → Type 0
 IsRegistryOf text Jsr = (body : List ℕ) × (text ≡ scheme_of Jsr ++ body)
 IsRegistryOf text Npm = LacksScheme Jsr text
 
+-- what the parser of that registry makes of the text
+abbrev pub IsRegistryOutcome : List ℕ → Result Reference ReferenceFault → Type 0
+IsRegistryOutcome text (Ok read) = IsRegistryOf text read.kind × IsReferenceOutcome read.kind text (Ok read.reference)
+IsRegistryOutcome text (Err fault) =
+    (registry : PackageKind) × IsRegistryOf text registry × IsReferenceOutcome registry text (Err fault)
+
 -- the reference to a package of that registry that a text parses to
-pub data IsReference (text : List ℕ) : Result Reference Fault → Type 0 where
-  refers : {read : Reference} → IsRegistryOf text read.kind → IsReferenceOutcome read.kind text (Ok read.reference)
-      → IsReference text (Ok read)
-  refers_not : {registry : PackageKind} {fault : ReferenceFault} → IsRegistryOf text registry
-      → IsReferenceOutcome registry text (Err fault) → IsReference text (Err (Invalid kind.Reference 0))
+abbrev pub IsReference : List ℕ → Result Reference Fault → Type 0
+IsReference text = Parsed kind.Reference 0 (IsRegistryOutcome text)
 
 -- its parts
 abbrev pub ReferenceParts : List ℕ → Result (List ℕ) Fault → Type 0

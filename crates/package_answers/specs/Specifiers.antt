@@ -7,15 +7,16 @@ use Rattle.semver_base.specs.declared.failure.Rejection.{Rejection}
 use Rattle.semver_req.specs.Parsers.{Failure}
 use Rattle.semver_req.specs.declared.common.values.Flavour.{Flavour}
 use Rattle.deno_semver.specs.DependencyOrder.{normal_dependency_text}
-use Rattle.deno_semver.specs.DependencyOutcome.{DependencyFault, IsDependencyOutcome, IsDependencyRejection}
+use Rattle.deno_semver.specs.DependencyOutcome.{IsDependencyOutcome, IsDependencyRejection}
 use Rattle.deno_semver.specs.NvReference.{IsNvReferenceOutcome}
 use Rattle.deno_semver.specs.declared.jsr.dependency.JsrDepPackageReq.{JsrDepPackageReq}
 use Rattle.deno_semver.specs.declared.jsr.dependency.JsrDepPackageReqParseError.{JsrDepPackageReqParseError}
 use Rattle.deno_semver.specs.declared.jsr.dependency.JsrDepPackageReqParseError.TheVariants as error
 use Rattle.deno_semver.specs.declared.package.kind.PackageKind.{PackageKind}
-use Rattle.answers.specs.Asking.{Fault, Given, Invalid, Is}
+use Rattle.answers.specs.Asking.{Fault, Given, Is}
 use Rattle.package_answers.specs.Packages.{package_json, parts_failure}
 use Rattle.answers.specs.Object.{text_or_null}
+use Rattle.answers.specs.Reading.{Parsed}
 use Rattle.package_answers.specs.Names.{nv_json}
 use Rattle.package_answers.specs.References.{IsRegistryOf, export_of, kind_text}
 use Rattle.answers.specs.declared.asking.Kind.TheVariants as kind
@@ -31,10 +32,8 @@ dependency_json d =
     (member (codes "package") (package_json d.req) no_members)))
 
 -- the dependency that a text parses to, with a grammar for its range
-pub data IsDependency (f : Flavour) (text : List ℕ) : Result JsrDepPackageReq Fault → Type 0 where
-  depends : {d : JsrDepPackageReq} → IsDependencyOutcome f text (Ok d) → IsDependency f text (Ok d)
-  depends_not : {fault : DependencyFault} → IsDependencyOutcome f text (Err fault)
-      → IsDependency f text (Err (Invalid kind.Reference 0))
+abbrev pub IsDependency : Flavour → List ℕ → Result JsrDepPackageReq Fault → Type 0
+IsDependency f text = Parsed kind.Reference 0 (IsDependencyOutcome f text)
 
 -- its parts
 abbrev pub DependencyParts : Flavour → List ℕ → Result (List ℕ) Fault → Type 0
@@ -61,12 +60,15 @@ version_reference_json read =
     (member (codes "package") (nv_json read.reference.nv)
     (member (codes "path") (text_or_null read.reference.sub_path) no_members))))
 
+-- what the parser of the text's registry makes of it
+abbrev pub IsPinnedOutcome : List ℕ → Result VersionReference Rejection → Type 0
+IsPinnedOutcome text (Ok read) = IsRegistryOf text read.kind × IsNvReferenceOutcome read.kind text (Ok read.reference)
+IsPinnedOutcome text (Err fault) =
+    (registry : PackageKind) × IsRegistryOf text registry × IsNvReferenceOutcome registry text (Err fault)
+
 -- the reference to a version of a package of that registry that a text parses to
-pub data IsVersionReference (text : List ℕ) : Result VersionReference Fault → Type 0 where
-  pins : {read : VersionReference} → IsRegistryOf text read.kind → IsNvReferenceOutcome read.kind text (Ok read.reference)
-      → IsVersionReference text (Ok read)
-  pins_not : {registry : PackageKind} {fault : Rejection} → IsRegistryOf text registry
-      → IsNvReferenceOutcome registry text (Err fault) → IsVersionReference text (Err (Invalid kind.Reference 0))
+abbrev pub IsVersionReference : List ℕ → Result VersionReference Fault → Type 0
+IsVersionReference text = Parsed kind.Reference 0 (IsPinnedOutcome text)
 
 -- its parts
 abbrev pub VersionReferenceParts : List ℕ → Result (List ℕ) Fault → Type 0

@@ -2,14 +2,13 @@
 
 ghost use Rattle.std.specs.Prelude.{◌≡◌, ◌≢◌, ◌⊎◌, [], IfErr, IfOk, None, Some, string_bytes};
 ghost use Rattle.serde_json.specs.View.{view};
-ghost use Rattle.serde_json.specs.Written.{compact_text};
 ghost use Rattle.answers.specs.Asking.{IsAnswer, IsFailureAt};
 ghost use Rattle.answers.specs.declared.asking.Kind.TheVariants as kind;
 ghost use Rattle.package_answers.specs.Names.{IsNameWithVersion, IsNvFailure, NameWithVersionParts, nv_json};
 
 use crate::packages::scope_and_name;
 use answers::asking::{Kind, Problem};
-use answers::object::Object;
+use answers::object::{Object, json_text};
 use answers::parts::displayed_json;
 use deno_semver::ParseFailure;
 use deno_semver::package::{PackageNv, PackageNvParseError};
@@ -26,14 +25,6 @@ pub fn nv_json(alloc: Global, nv: &PackageNv) -> Result<Value, AllocError>
         .put_text("scope", scope)
         .put("version", displayed_json(alloc, &nv.version))
         .into_json()
-}
-
-// The parts of a name with a version as a text.
-fn nv_text(alloc: Global, nv: &PackageNv) -> Result<String, AllocError>
-    ensures { IfOk result (λ text. string_bytes text ≡ compact_text (nv_json nv.now)) }
-{
-    let json = nv_json(alloc, nv)?;
-    json.to_string(alloc)
 }
 
 // What is wrong with the text of a name with a version.
@@ -67,5 +58,5 @@ pub fn name_with_version_parts(alloc: Global, text: &str) -> Result<String, Prob
     ensures failure { IfErr result (IsFailureAt kind.Package 0 (IsNvFailure text.now)) }
 {
     let nv = name_with_version(alloc, text)?;
-    Ok(nv_text(alloc, &nv)?)
+    Ok(json_text(alloc, nv_json(alloc, &nv))?)
 }

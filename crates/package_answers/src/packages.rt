@@ -3,7 +3,6 @@
 ghost use Rattle.std.specs.Prelude.{◌≡◌, ◌⊎◌, IfErr, IfOk, None, Ok, Result, string_bytes};
 ghost use Rattle.std.specs.Option.{option_copied};
 ghost use Rattle.serde_json.specs.View.{view};
-ghost use Rattle.serde_json.specs.Written.{compact_text};
 ghost use Rattle.deno_semver.specs.PackageOutcome.{Fault, IsPackageAnswer, IsPackageOutcome, IsPackageRejection};
 ghost use Rattle.deno_semver.specs.declared.package.values.PackageReq.{PackageReq};
 ghost use Rattle.answers.specs.Asking.{IsAnswer, IsFailureAt};
@@ -12,7 +11,7 @@ ghost use Rattle.answers.specs.Object.{text_or_null};
 ghost use Rattle.answers.specs.declared.asking.Kind.TheVariants as kind;
 
 use answers::asking::{Kind, Problem};
-use answers::object::Object;
+use answers::object::{Object, json_text};
 use deno_semver::ParseFailure;
 use deno_semver::package::{PackageReq, PackageReqParseError, PackageReqPartsParseError};
 use semver_req::common::values::Flavour;
@@ -46,14 +45,6 @@ pub fn package_json(alloc: Global, req: &PackageReq) -> Result<Value, AllocError
         .put_text("requirement", Some(req.version_req.version_text()))
         .put_text("scope", scope)
         .into_json()
-}
-
-// The JSON as a text.
-fn parts_text(alloc: Global, req: &PackageReq) -> Result<String, AllocError>
-    ensures { IfOk result (λ text. string_bytes text ≡ compact_text (package_json req.now)) }
-{
-    let json = package_json(alloc, req)?;
-    json.to_string(alloc)
 }
 
 // Parses a package.
@@ -111,5 +102,5 @@ pub fn package_parts(alloc: Global, flavour: Flavour, text: &str) -> Result<Stri
         (IsFailureAt kind.Package 0 (IsPackageFailure flavour text.now)) }
 {
     let req = read_package(alloc, flavour, text)?;
-    Ok(parts_text(alloc, &req)?)
+    Ok(json_text(alloc, package_json(alloc, &req))?)
 }

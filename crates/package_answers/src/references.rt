@@ -3,7 +3,6 @@
 ghost use Rattle.std.specs.Prelude.{◌≡◌, ◌⊎◌, IfErr, IfOk, None, Ok, Result, string_bytes};
 ghost use Rattle.std.specs.Option.{option_copied};
 ghost use Rattle.serde_json.specs.View.{view};
-ghost use Rattle.serde_json.specs.Written.{compact_text};
 ghost use Rattle.deno_semver.specs.ReferenceOutcome.{IsReferenceAnswer, IsReferenceOutcome, IsReferenceRejection, ReferenceFault, unboxed};
 ghost use Rattle.deno_semver.specs.declared.package.reference.PackageReqReference.{PackageReqReference};
 ghost use Rattle.answers.specs.Asking.{IsAnswer, IsFailureAt};
@@ -13,7 +12,7 @@ ghost use Rattle.answers.specs.declared.asking.Kind.TheVariants as kind;
 
 use crate::packages::{package_json, parts_failure};
 use answers::asking::{Kind, Problem};
-use answers::object::{Object, text_json};
+use answers::object::{Object, json_text, text_json};
 use deno_semver::ParseFailure;
 use deno_semver::jsr::{JsrPackageReqReference, normalized_export_name};
 use deno_semver::npm::NpmPackageReqReference;
@@ -86,14 +85,6 @@ pub fn reference_json(alloc: Global, read: &Reference) -> Result<Value, AllocErr
         .put("package", package_json(alloc, &read.reference.req))
         .put_text("path", read.path())
         .into_json()
-}
-
-// The JSON as a text.
-fn parts_text(alloc: Global, read: &Reference) -> Result<String, AllocError>
-    ensures { IfOk result (λ text. string_bytes text ≡ compact_text (reference_json read.now)) }
-{
-    let json = reference_json(alloc, read)?;
-    json.to_string(alloc)
 }
 
 /// The registry whose parser parses the text: JSR if the text begins with its scheme, else npm.
@@ -177,5 +168,5 @@ pub fn reference_parts(alloc: Global, text: &str) -> Result<String, Problem>
         (IsFailureAt kind.Reference 0 (IsReferenceFailure text.now)) }
 {
     let read = read_reference(alloc, text)?;
-    Ok(parts_text(alloc, &read)?)
+    Ok(json_text(alloc, reference_json(alloc, &read))?)
 }

@@ -4,7 +4,6 @@
 ghost use Rattle.std.specs.Prelude.{◌≡◌, ◌≢◌, ◌⊎◌, [], IfErr, IfOk, None, Ok, Result, Some, string_bytes};
 ghost use Rattle.std.specs.Option.{option_copied};
 ghost use Rattle.serde_json.specs.View.{view};
-ghost use Rattle.serde_json.specs.Written.{compact_text};
 ghost use Rattle.semver_base.specs.declared.failure.Rejection.{Rejection};
 ghost use Rattle.deno_semver.specs.DependencyOutcome.{DependencyFault, IsDependencyAnswer, IsDependencyOutcome, IsDependencyRejection};
 ghost use Rattle.deno_semver.specs.NvReference.{IsNvReferenceAnswer, IsNvReferenceOutcome, IsNvReferenceRejection};
@@ -18,7 +17,7 @@ use crate::names::nv_json;
 use crate::packages::{package_json, parts_failure};
 use crate::references::{export_json, registry_name, registry_of};
 use answers::asking::{Kind, Problem};
-use answers::object::Object;
+use answers::object::{Object, json_text};
 use deno_semver::ParseFailure;
 use deno_semver::jsr::{JsrDepPackageReq, JsrDepPackageReqParseError, JsrPackageNvReference};
 use deno_semver::npm::NpmPackageNvReference;
@@ -90,15 +89,6 @@ fn dependency_json(alloc: Global, dependency: &JsrDepPackageReq) -> Result<Value
         .into_json()
 }
 
-// The JSON as a text.
-fn dependency_text(alloc: Global, dependency: &JsrDepPackageReq) -> Result<String, AllocError>
-    ensures { IfOk result (λ text. string_bytes text
-        ≡ compact_text (dependency_json dependency.now)) }
-{
-    let json = dependency_json(alloc, dependency)?;
-    json.to_string(alloc)
-}
-
 /// Parses a dependency, and returns its parts as the text of a JSON object.
 pub fn dependency_parts(alloc: Global, flavour: Flavour, text: &str) -> Result<String, Problem>
     ensures answer { IsAnswer (DependencyParts flavour text.now)
@@ -107,7 +97,7 @@ pub fn dependency_parts(alloc: Global, flavour: Flavour, text: &str) -> Result<S
         (IsFailureAt kind.Reference 0 (IsDependencyFailure flavour text.now)) }
 {
     let dependency = read_dependency(alloc, flavour, text)?;
-    Ok(dependency_text(alloc, &dependency)?)
+    Ok(json_text(alloc, dependency_json(alloc, &dependency))?)
 }
 
 /// A reference to one version of a package of either registry.
@@ -193,15 +183,6 @@ fn version_reference_json(alloc: Global, read: &VersionReference) -> Result<Valu
         .into_json()
 }
 
-// The JSON as a text.
-fn version_reference_text(alloc: Global, read: &VersionReference) -> Result<String, AllocError>
-    ensures { IfOk result (λ text. string_bytes text
-        ≡ compact_text (version_reference_json read.now)) }
-{
-    let json = version_reference_json(alloc, read)?;
-    json.to_string(alloc)
-}
-
 /// Parses a reference to a version, and returns its parts as the text of a JSON object.
 pub fn version_reference_parts(alloc: Global, text: &str) -> Result<String, Problem>
     ensures answer { IsAnswer (VersionReferenceParts text.now) (λ text. string_bytes text) result }
@@ -209,5 +190,5 @@ pub fn version_reference_parts(alloc: Global, text: &str) -> Result<String, Prob
         (IsFailureAt kind.Reference 0 (IsVersionReferenceFailure text.now)) }
 {
     let read = read_version_reference(alloc, text)?;
-    Ok(version_reference_text(alloc, &read)?)
+    Ok(json_text(alloc, version_reference_json(alloc, &read))?)
 }

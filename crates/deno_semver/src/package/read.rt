@@ -11,13 +11,13 @@ ghost use Rattle.deno_semver.specs.declared.package.values.PackageReq.{PackageRe
 use super::cut::{Cut, lacks_at, parts_of};
 use super::errors::{PackageReqParseError, PackageReqPartsParseError};
 use super::values::{PackageName, PackageReq};
-use semver_base::failure::ParseFailure;
+use semver_base::failure::{ParseFailure, ParserError};
 use semver_base::string::StackString;
 use semver_req::common::values::Flavour;
 use semver_req::laws::texts_have_one_outcome;
 use semver_req::req::{VersionReq, wildcard_version_req};
-use semver_req::specifier::VersionReqSpecifierParseError;
 use std::alloc::Global;
+use std::marker::PhantomData;
 
 // Parses a version requirement by the strict grammar.
 fn specifier(alloc: Global, text: &str) -> Result<VersionReq, PackageReqPartsParseError>
@@ -107,7 +107,10 @@ fn path_error(alloc: Global, tail: &str) -> PackageReqPartsParseError
         drop(source);
         return PackageReqPartsParseError::Memory;
     }
-    PackageReqPartsParseError::SpecifierVersionReq(VersionReqSpecifierParseError { source })
+    PackageReqPartsParseError::SpecifierVersionReq(ParserError {
+        source,
+        parsed: PhantomData,
+    })
 }
 
 // The package requirement made of a name and a version's text.

@@ -1,4 +1,6 @@
+use Rattle.std.proofs.Common.{rules}
 use Rattle.std.proofs.lemmas.Result.{err_from_is_err_and}
+use Rattle.package_answers.specs.Packages.{package_json}
 use Rattle.answers.proofs.Givens.{answered, by_fault, by_value}
 use Rattle.package_answers.proofs.packages.package_parts.Goals as goal
 
@@ -8,4 +10,4 @@ returns-in_err-req-clause-answer c =
     rw (p.1, p.2) (by_fault _ _ _ _ c.in_err-req.ensures.answer)
 
 pub returns-clause-answer : goal.returns-clause-answer
-returns-clause-answer c = by_value _ _ _ _ c.in_ok-req.ensures.answer _ (answered _ _ _ c.in_ok-parts_text.ensures)
+returns-clause-answer c = by_value _ _ _ _ c.in_ok-req.ensures.answer _ (answered _ _ _ (c.in_ok-json_text.ensures (package_json c.in_ok-req.req) (search rules) c.package_json.ensures))

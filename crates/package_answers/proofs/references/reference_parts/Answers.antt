@@ -1,4 +1,6 @@
+use Rattle.std.proofs.Common.{rules}
 use Rattle.std.proofs.lemmas.Result.{err_from_is_err_and}
+use Rattle.package_answers.specs.References.{reference_json}
 use Rattle.answers.proofs.Givens.{answered, by_fault, by_value}
 use Rattle.package_answers.proofs.references.reference_parts.Goals as goal
 
@@ -8,4 +10,4 @@ returns-in_err-read-clause-answer c =
     rw (p.1, p.2) (by_fault _ _ _ _ c.in_err-read.ensures.answer)
 
 pub returns-clause-answer : goal.returns-clause-answer
-returns-clause-answer c = by_value _ _ _ _ c.in_ok-read.ensures.answer _ (answered _ _ _ c.in_ok-parts_text.ensures)
+returns-clause-answer c = by_value _ _ _ _ c.in_ok-read.ensures.answer _ (answered _ _ _ (c.in_ok-json_text.ensures (reference_json c.in_ok-read.read) (search rules) c.reference_json.ensures))

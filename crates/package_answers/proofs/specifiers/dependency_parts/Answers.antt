@@ -1,4 +1,6 @@
+use Rattle.std.proofs.Common.{rules}
 use Rattle.std.proofs.lemmas.Result.{err_from_is_err_and}
+use Rattle.package_answers.specs.Specifiers.{dependency_json}
 use Rattle.answers.proofs.Givens.{answered, by_fault, by_value}
 use Rattle.package_answers.proofs.specifiers.dependency_parts.Goals as goal
 
@@ -8,4 +10,4 @@ returns-in_err-dependency-clause-answer c =
     rw (p.1, p.2) (by_fault _ _ _ _ c.in_err-dependency.ensures.answer)
 
 pub returns-clause-answer : goal.returns-clause-answer
-returns-clause-answer c = by_value _ _ _ _ c.in_ok-dependency.ensures.answer _ (answered _ _ _ c.in_ok-dependency_text.ensures)
+returns-clause-answer c = by_value _ _ _ _ c.in_ok-dependency.ensures.answer _ (answered _ _ _ (c.in_ok-json_text.ensures (dependency_json c.in_ok-dependency.dependency) (search rules) c.dependency_json.ensures))

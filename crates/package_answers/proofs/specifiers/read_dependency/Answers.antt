@@ -1,9 +1,19 @@
-use Rattle.package_answers.proofs.SpecifierAnswers.{short_dependency, was_dependency, was_no_dependency}
+use Rattle.std.proofs.Common.{◌≡◌, Ok, Err, None, ap}
+use Rattle.deno_semver.specs.DependencyOutcome.{DependencyFault, IsDependencyOutcome}
+use Rattle.deno_semver.specs.declared.jsr.dependency.JsrDepPackageReq.{JsrDepPackageReq}
+use Rattle.deno_semver.specs.declared.jsr.dependency.JsrDepPackageReqParseError.TheVariants as error
+use Rattle.answers.specs.declared.asking.Kind.TheVariants as kinds
+use Rattle.answers.proofs.ReadArguments.{by_rejection, was_not_parsed, was_parsed}
+use Rattle.package_answers.specs.Specifiers.{dependency_failure}
+use Rattle.package_answers.proofs.Outcomes.{none_shown}
 use Rattle.package_answers.proofs.specifiers.read_dependency.Goals as goal
 
 pub returns-in-Ok-clause-answer : goal.returns-in-Ok-clause-answer
-returns-in-Ok-clause-answer c = was_dependency c.args.flavour c.args.text.now c.in-Ok.dependency c.in-Ok.ensures.read c.in-Ok.ensures.answer
+returns-in-Ok-clause-answer c =
+    was_parsed kinds.Reference 0 (IsDependencyOutcome c.args.flavour c.args.text.now) c.in-Ok.dependency c.in-Ok.ensures.read (λ (d : JsrDepPackageReq) o. c.in-Ok.ensures.answer (Ok d) o) (λ (fault : DependencyFault) o. c.in-Ok.ensures.answer (Err fault) o)
 
 pub returns-in-Err-clause-answer : goal.returns-in-Err-clause-answer
-returns-in-Err-clause-answer c = rw c.of.ensures (was_no_dependency c.args.flavour c.args.text.now c.in-Err.error c.dependency_failure-failure.result c.in-Err.ensures.rejected c.in-Err.ensures.answer
-    (short_dependency c.in-Err.error c.dependency_failure-failure.result c.dependency_failure-failure.ensures))
+returns-in-Err-clause-answer c =
+    let failure = c.dependency_failure-failure.result in
+    let none : c.in-Err.error ≡ error.Memory → failure ≡ None = λ m. none_shown failure (dependency_failure c.in-Err.error) c.dependency_failure-failure.ensures (ap dependency_failure m) in
+    rw c.of.ensures (was_not_parsed kinds.Reference 0 (IsDependencyOutcome c.args.flavour c.args.text.now) failure (by_rejection (IsDependencyOutcome c.args.flavour c.args.text.now) failure none c.in-Err.ensures.rejected) (λ (d : JsrDepPackageReq) o. none (c.in-Err.ensures.answer (Ok d) o)))

@@ -1,9 +1,38 @@
-use Rattle.package_answers.proofs.SpecifierAnswers.{short_reference, was_no_version_reference, was_version_reference}
+use Rattle.std.proofs.Common.{◌≡◌, ℕ, List, Ok, Err, None, Result}
+use Rattle.semver_base.specs.declared.failure.Rejection.{Rejection}
+use Rattle.deno_semver.specs.NameAndVersion.{IsNvMemory}
+use Rattle.deno_semver.specs.NvReference.{IsNvReferenceOutcome, nv_error}
+use Rattle.deno_semver.specs.declared.package.kind.PackageKind.{PackageKind}
+use Rattle.deno_semver.specs.declared.package.nv_reference.PackageNvReference.{PackageNvReference}
+use Rattle.answers.specs.declared.asking.Kind.TheVariants as kinds
+use Rattle.answers.proofs.ReadArguments.{by_rejection, was_not_parsed, was_parsed}
+use Rattle.package_answers.specs.Specifiers.{IsPinnedOutcome}
+use Rattle.package_answers.specs.declared.specifiers.VersionReference.{VersionReference}
+use Rattle.package_answers.proofs.Outcomes.{by_this, in_registry, no_message, same_of_registry}
 use Rattle.package_answers.proofs.specifiers.read_version_reference.Goals as goal
 
+abbrev outcome_of : List ℕ → PackageKind → Result PackageNvReference Rejection → Type 0
+outcome_of text kind o = IsNvReferenceOutcome kind text o
+
+abbrev made : PackageKind → PackageNvReference → VersionReference
+made kind reference = record { kind = kind; reference = reference }
+
 pub returns-in-Ok-clause-answer : goal.returns-in-Ok-clause-answer
-returns-in-Ok-clause-answer c = was_version_reference c.registry_of-kind.result c.args.text.now c.registry_of-kind.ensures c.in-Ok.reference c.in-Ok.ensures.read c.in-Ok.ensures.answer
+returns-in-Ok-clause-answer c =
+    let text = c.args.text.now in
+    let kind = c.registry_of-kind.result in
+    let registry = c.registry_of-kind.ensures in
+    was_parsed kinds.Reference 0 (IsPinnedOutcome text) (made kind c.in-Ok.reference) (registry, c.in-Ok.ensures.read)
+    (λ (read : VersionReference) o. same_of_registry (outcome_of text) text kind registry made c.in-Ok.reference read.kind read.reference o.0 o.1 (λ (r : PackageNvReference) k. c.in-Ok.ensures.answer (Ok r) k))
+    (λ (fault : Rejection) o. c.in-Ok.ensures.answer (Err fault) (by_this (outcome_of text) text kind registry o.0 (Err fault) o.1 o.2))
 
 pub returns-in-Err-clause-answer : goal.returns-in-Err-clause-answer
-returns-in-Err-clause-answer c = rw c.of.ensures (was_no_version_reference c.registry_of-kind.result c.args.text.now c.registry_of-kind.ensures c.in-Err.error c.version_reference_failure-failure.result c.in-Err.ensures.rejected c.in-Err.ensures.answer
-    (short_reference c.in-Err.error c.version_reference_failure-failure.result c.version_reference_failure-failure.ensures))
+returns-in-Err-clause-answer c =
+    let text = c.args.text.now in
+    let kind = c.registry_of-kind.result in
+    let registry = c.registry_of-kind.ensures in
+    let failure = c.version_reference_failure-failure.result in
+    let none : IsNvMemory (nv_error c.in-Err.error) → failure ≡ None = λ m. no_message c.in-Err.error.message failure c.version_reference_failure-failure.ensures m.message in
+    let found = by_rejection (outcome_of text kind) failure none c.in-Err.ensures.rejected in
+    rw c.of.ensures (was_not_parsed kinds.Reference 0 (IsPinnedOutcome text) failure (in_registry (outcome_of text) text kind registry found)
+    (λ (read : VersionReference) o. none (c.in-Err.ensures.answer (Ok read.reference) (by_this (outcome_of text) text kind registry read.kind (Ok read.reference) o.0 o.1))))
