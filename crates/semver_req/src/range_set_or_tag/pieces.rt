@@ -16,7 +16,7 @@ ghost use Rattle.semver_req.specs.declared.range_set_or_tag.pieces.RangeOrInvali
 use crate::common::comparator::{Written, comparator_front};
 use crate::common::hyphen::{HyphenRange, hyphen_front};
 use crate::common::separators::after_separator;
-use crate::common::short::{short_alone, short_hyphen, short_pair};
+use crate::common::short::{short_piece, unclosed};
 use crate::common::values::Flavour;
 use semver_base::failure::{ParseFailure, Rejection};
 use semver_base::lexical::after_whitespace;
@@ -206,7 +206,7 @@ impl RangeOrInvalid {
         Ok(Some(RangeOrInvalid::between(alloc, hyphen)?))
     }
 
-    // Parses the whole piece, which isn't empty; one or two comparators of few numbers take the fast path.
+    // Parses the whole piece, which isn't empty; a short one takes the fast path.
     #[inline(always)]
     fn filled(
         alloc: Global,
@@ -219,26 +219,18 @@ impl RangeOrInvalid {
         if flavour == Flavour::Specifier {
             return Ok(None);
         }
-        if let Some(only) = short_alone(alloc, piece) {
-            return Ok(Some(RangeOrInvalid::of_one(alloc, only)?));
-        }
-        if let Some((first, second)) = short_pair(alloc, piece) {
-            let read = RangeOrInvalid::of_one(alloc, first)?;
-            return Ok(Some(read.and(alloc, second)?));
+        if let Some(range) = short_piece(unclosed(piece), flavour) {
+            return Ok(Some(RangeOrInvalid::Range(range.into_range(alloc))));
         }
         RangeOrInvalid::by_grammar(alloc, piece, flavour)
     }
 
-    // Parses the whole piece, which isn't empty, by npm's grammar; a hyphen range of few numbers takes a fast path. No piece is both a list
-    // and a hyphen range, so the order is free.
+    // Parses the whole piece, which isn't empty, by npm's grammar. No piece is both a list and a hyphen range, so the order is free.
     #[inline(always)]
     fn npm(alloc: Global, piece: &str) -> Result<Option<RangeOrInvalid>, ParseFailure>
         ensures value { IfOk result (IsWholeRead (IsFilled Flavour.Npm) piece.now) }
         ensures memory { IfErr result (λ failure. failure ≡ None) }
     {
-        if let Some(hyphen) = short_hyphen(alloc, piece) {
-            return Ok(Some(RangeOrInvalid::between(alloc, hyphen)?));
-        }
         if let Some(read) = RangeOrInvalid::list(alloc, piece, Flavour::Npm)? {
             return Ok(Some(read));
         }
