@@ -17,11 +17,12 @@ use Rattle.semver_base.specs.Comparators.{Comparator, Hyphen, OfPrimitive, compa
 use Rattle.semver_base.specs.Grammar.{this, that, After, HasNone, IsLongest, IsSeen, Prefixed, closed_item, last_item, more_items}
 use Rattle.semver_base.specs.Meaning.{bound_at, everything, from, release}
 use Rattle.semver_base.specs.Overlap.{ends_at_zero}
-use Rattle.semver_base.specs.Lexical.{IsWhitespace, IsLooseNumber, IsNumber}
+use Rattle.semver_base.specs.Lexical.{IsWhitespace, IsLooseNumber, IsNumber, IsQualifier}
 use Rattle.semver_base.specs.PartialTable.{Line, all_fit, between, greater_than, less_than, number_fits, of_short, release_bound, release_of, release_range}
 use Rattle.semver_base.specs.Precedence.{precedence_cmp}
-use Rattle.semver_base.specs.ShortTexts.{IsShortNumbers, IsBareNumber, IsBareTriple}
+use Rattle.semver_base.specs.ShortTexts.{IsShortNumbers, IsBareNumber, IsTripleFront}
 use Rattle.semver_base.specs.declared.lexical.values.Measured.TheVariants.{Fits}
+use Rattle.semver_base.specs.declared.lexical.values.Qualifier.{Qualifier}
 use Rattle.semver_base.specs.declared.lexical.values.Strictness.{Strictness}
 use Rattle.semver_base.specs.declared.lexical.values.Strictness.TheVariants.{Loose, Strict}
 use Rattle.semver_base.specs.declared.partial.XRange.TheVariants.{Val, Wildcard}
@@ -114,7 +115,7 @@ by_flavour Npm p = p.loose
 by_flavour Normal p = p.loose
 by_flavour Specifier p = p.strict
 
-number_seen : (f : Flavour) {text rest : List ℕ} {n : ℕ} → IsBareNumber text n rest → IsSeen sized_component (IsComponent f) text (Fits (Val n)) rest
+pub number_seen : (f : Flavour) {text rest : List ℕ} {n : ℕ} → IsBareNumber text n rest → IsSeen sized_component (IsComponent f) text (Fits (Val n)) rest
 number_seen f {text} {rest} {n} p = component_read f text (λ b more wild e. wildcard_no_digit f b wild (first_digit p.loose b more e)) rest (Fits n) (record {
   value = n;
   longest = by_flavour f p;
@@ -123,6 +124,11 @@ number_seen f {text} {rest} {n} p = component_read f text (λ b more wild e. wil
 
 -- ---- partial versions
 
+-- three numbers, and a qualifier
+pub numbers_seen : (f : Flavour) {text rest end : List ℕ} {m n p : ℕ} {q : Qualifier} → IsTripleFront text m n p rest → IsLongest (IsQualifier (strictness_of f)) rest q end
+    → IsSeen sized_partial (IsBarePartial f) text (Fits (record { major = Val m; minor = Val n; patch = Val p; pre = q.pre; build = q.build })) end
+numbers_seen f t qualifier = three_read f (number_seen f t.major) refl (number_seen f t.minor) refl (number_seen f t.patch) qualifier
+
 -- nothing continues with a dot
 nothing_more : {V : Type 0} {A : List ℕ → V → Type 0} → HasNone (Prefixed 46 A) []
 nothing_more = prefixed_other (λ rest e. cc e)
@@ -130,7 +136,7 @@ nothing_more = prefixed_other (λ rest e. cc e)
 short_bare : (f : Flavour) {text : List ℕ} (n : ShortNumbers) → IsShortNumbers text n → IsSeen sized_partial (IsBarePartial f) text (Fits (of_short n)) []
 short_bare f (short_numbers.One m) p = one_read f (number_seen f p) nothing_more
 short_bare f (short_numbers.Two m n) p = two_read f (number_seen f p.major) refl (number_seen f p.minor) nothing_more
-short_bare f (short_numbers.Three n) t = three_read f (number_seen f t.major) refl (number_seen f t.minor) refl (number_seen f t.patch) (no_qualifier (strictness_of f))
+short_bare f (short_numbers.Three n) t = numbers_seen f t (no_qualifier (strictness_of f))
 
 -- a wildcard behind them
 wild_seen : (f : Flavour) (b : ℕ) → is_wildcard f b ≡ true → IsSeen sized_component (IsComponent f) (b ∷ []) (Fits Wildcard) []
