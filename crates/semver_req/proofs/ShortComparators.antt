@@ -52,13 +52,14 @@ use Rattle.semver_req.specs.Outcome.{one_good, Ranges}
 use Rattle.semver_req.specs.Partials.{IsComponent, IsPartial, IsBarePartial, is_wildcard, partial_fits, sized_component, sized_partial, strictness_of}
 use Rattle.semver_req.specs.Pieces.{HasNoBar, IsCutting, IsFilled, IsHyphenPair, IsUpper, normal, npm, one_piece}
 use Rattle.semver_req.specs.PieceReading.{as_retained, numbers_fit, sums_fit}
-use Rattle.semver_req.specs.PieceSteps.{IsWholeRead}
+use Rattle.semver_req.specs.PieceSteps.{IsAdded, IsWholeRead}
 use Rattle.semver_req.specs.ShortComparators.{IsFewer, IsShortEnd, IsShortHyphen, IsShortPartial, IsShortPiece, IsShortComparator, IsShortStart, IsUnclosed, no_wildcard, with_wildcard}
 use Rattle.semver_req.specs.Written.{IsFront, IsOperatorCut, IsNonPrimitive, comparator_of}
 use Rattle.semver_req.specs.declared.common.comparator.Operator.{Operator}
 use Rattle.semver_req.specs.declared.common.comparator.Operator.TheVariants as operator
 use Rattle.semver_req.specs.declared.common.values.Flavour.{Flavour}
 use Rattle.semver_req.specs.declared.common.values.Flavour.TheVariants.{Npm, Normal, Specifier}
+use Rattle.semver_req.specs.declared.range_set_or_tag.pieces.Alternatives.{Alternatives}
 use Rattle.semver_req.specs.declared.range_set_or_tag.pieces.RangeOrInvalid.{RangeOrInvalid}
 use Rattle.semver_req.specs.declared.range_set_or_tag.pieces.RangeOrInvalid.TheVariants as read
 use Rattle.semver_req.specs.declared.range_set_or_tag.RangeSetOrTag.{RangeSetOrTag}
@@ -70,7 +71,7 @@ use Rattle.semver_req.proofs.Folding.{upper_ends}
 use Rattle.semver_req.proofs.Joining.{fitting_partial}
 use Rattle.semver_req.proofs.Operators.{non_primitive_some}
 use Rattle.semver_req.proofs.Partials.{not_led, one_read, three_read, two_read}
-use Rattle.semver_req.proofs.PiecesRead.{filled_read}
+use Rattle.semver_req.proofs.PiecesRead.{filled_read, reported_same}
 use Rattle.semver_req.proofs.SpecifierRetained.{specifier_ends, specifier_retained}
 use Rattle.semver_req.proofs.SpecifierRanges.{whole_reading}
 use Rattle.semver_req.proofs.Stabilizing.{less_stays}
@@ -543,11 +544,6 @@ hyphen_piece {text} {front} {back} {range} e p = record {
 
 -- ---- which grammar splits
 
-pub cutting : (f : Flavour) → (f ≡ Specifier → ⊥) → IsCutting f
-cutting Npm other = npm
-cutting Normal other = normal
-cutting Specifier other = absurd (other refl)
-
 pub only_npm : (f : Flavour) → IsCutting f → (f ≡ Normal → ⊥) → f ≡ Npm
 only_npm f npm other = refl
 only_npm f normal other = absurd (other refl)
@@ -558,6 +554,15 @@ only_npm f normal other = absurd (other refl)
 pub piece_filled : {f : Flavour} {piece shorter : List ℕ} {range : VersionRange} {answer : RangeOrInvalid} → IsUnclosed piece shorter → IsShortPiece f shorter range → answer ≡ read.Range range → IsWholeRead (IsFilled f) piece (Some answer)
 piece_filled (inl e) p answered = (p.first ∷ p.others, rw e p.filled, answered ∙ p.is)
 piece_filled (inr e) p answered = (p.first ∷ p.others, rw e p.closed, answered ∙ p.is)
+
+-- what is added for it
+pub piece_added : {f : Flavour} {followed : Bool} {piece shorter : List ℕ} {found range : VersionRange} {old new : Alternatives} → IsUnclosed piece shorter → IsShortPiece f shorter range → found ≡ range
+    → new.ranges ≡ old.ranges ++ found ∷ [] → new.rejected ≡ old.rejected → new.is_only ≡ old.is_only → IsAdded f followed piece old new
+piece_added {f} {followed} {piece} {range = range} {old = old} u p is ranges rejected only = record {
+  answer = read.Range range;
+  read = filled_read f followed piece (piece_filled u p refl);
+  more = record { ranges = ranges ∙ rw (is, p.is_kept) refl; rejected = rejected ∙ sym (reported_same old.rejected range); is_only = only };
+}
 
 only_retained : (found range : VersionRange) → range ≡ found → ends_at_zero range.end ≡ false → without_none (found ∷ []) ≡ range ∷ []
 only_retained found range e ends = rw (sym e, ends) refl
