@@ -5,6 +5,7 @@ use Rattle.semver_base.specs.PartialTable.{Line, between, caret, equal, greater_
 use Rattle.semver_base.specs.declared.partial.Partial.{Partial}
 use Rattle.semver_base.specs.declared.partial.PrimitiveKind.{PrimitiveKind}
 use Rattle.semver_base.specs.declared.partial.PrimitiveKind.TheVariants.{GreaterThan, LessThan, GreaterThanOrEqual, LessThanOrEqual, Equal}
+use Rattle.semver_base.specs.declared.range.VersionBoundKind.{VersionBoundKind}
 use Rattle.semver_base.specs.declared.range.VersionBoundKind.TheVariants as kind
 use Rattle.semver_base.specs.declared.range.VersionRange.{VersionRange}
 
@@ -15,6 +16,16 @@ primitive_kind_text LessThan = codes "<"
 primitive_kind_text GreaterThanOrEqual = codes ">="
 primitive_kind_text LessThanOrEqual = codes "<="
 primitive_kind_text Equal = codes "="
+
+-- `>=` or `>`
+abbrev pub greater : VersionBoundKind → PrimitiveKind
+greater kind.Inclusive = GreaterThanOrEqual
+greater kind.Exclusive = GreaterThan
+
+-- `<=` or `<`
+abbrev pub less : VersionBoundKind → PrimitiveKind
+less kind.Inclusive = LessThanOrEqual
+less kind.Exclusive = LessThan
 
 pub data Comparator : Type 0 where
   Tilde : Partial → Comparator

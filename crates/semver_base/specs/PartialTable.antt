@@ -9,6 +9,7 @@ use Rattle.semver_base.specs.Meaning.{bound_at, everything, from, nothing, relea
 use Rattle.semver_base.specs.declared.short.ShortNumbers.{ShortNumbers}
 use Rattle.semver_base.specs.declared.short.ShortNumbers.TheVariants as short_numbers
 use Rattle.semver_base.specs.declared.short.Numbers.{Numbers}
+use Rattle.semver_base.specs.declared.partial.numbers.ReleaseBound.{ReleaseBound}
 use Rattle.semver_base.specs.declared.partial.numbers.ReleaseRange.{ReleaseRange}
 use Rattle.semver_base.specs.declared.version.Version.{Version}
 use Rattle.semver_base.specs.declared.range.RangeBound.{RangeBound}
@@ -92,9 +93,18 @@ of_short (short_numbers.Three n) = of_numbers n
 abbrev pub release_of : Numbers → Version
 release_of n = release n.major n.minor n.patch
 
--- the range from one release, inclusive, to another
+-- a bound at a release
+abbrev pub release_bound : ReleaseBound → RangeBound
+release_bound b = bound_at b.kind (release_of b.numbers)
+
+-- such an end, which may be absent
+abbrev pub release_end : Option ReleaseBound → RangeBound
+release_end None = bound.Unbounded
+release_end (Some b) = release_bound b
+
+-- the range from one release to another, or without an end
 abbrev pub release_range : ReleaseRange → VersionRange
-release_range r = between (from (release_of r.start)) (bound_at r.end_kind (release_of r.end))
+release_range r = between (release_bound r.start) (release_end r.end)
 
 -- ---- from the lower bound to below a release, with the sums in it
 abbrev pub lower_to_below : Partial → Version → List ℕ → Line

@@ -11,7 +11,7 @@ use crate::failure::{ParseFailure, Rejection};
 use crate::range::{RangeBound, VersionBoundKind, VersionRange};
 use crate::string::CowVec;
 use crate::version::{Version, VersionPreOrBuild, release};
-pub use numbers::ReleaseRange;
+pub use numbers::{ReleaseBound, ReleaseRange};
 use std::alloc::{AllocError, Global};
 
 /// A component of a partial version.

@@ -105,7 +105,7 @@ fn triple(text: &[u8]) -> Option<(Numbers, &[u8])>
 
 /// Parses three leading numbers, and returns them with the rest of the text.
 #[inline(always)]
-pub(crate) fn split_numbers(text: &str) -> Option<(Numbers, &str)>
+pub fn split_numbers(text: &str) -> Option<(Numbers, &str)>
     ensures { IfSome result
         (λ r. IsTripleFront text.now r.0.major r.0.minor r.0.patch r.1.now) }
 {

@@ -267,7 +267,7 @@ module _ (f : Flavour) (b : Bool) (p : List ℕ) (ps : List (List ℕ)) (piece :
   reported_bad goods None reported rejection g r = (omega (arith, reported, length-append ps (piece ∷ [])), first_after goods reported g r)
   reported_bad goods (Some first) reported rejection g r = (omega (arith, reported.0, length-append ps (piece ∷ [])), first_stays (piece ∷ []) reported.1)
 
-reported_same : (o : Option Rejection) (range : VersionRange) → first_rejection o (read.Range range) ≡ o
+pub reported_same : (o : Option Rejection) (range : VersionRange) → first_rejection o (read.Range range) ≡ o
 reported_same None range = refl
 reported_same (Some rejection) range = refl
 

@@ -9,7 +9,7 @@ use Rattle.semver_base.specs.declared.partial.Partial.{Partial}
 use Rattle.semver_req.specs.RetainedSet.{retained}
 use Rattle.semver_req.specs.Outcome.{AreGoodOnes}
 use Rattle.semver_req.specs.Partials.{sized_partial}
-use Rattle.semver_req.specs.PieceReading.{IsFirstBad, as_retained, retained_of}
+use Rattle.semver_req.specs.PieceReading.{IsFirstBad, IsPieceRead, as_retained, retained_of}
 use Rattle.semver_req.specs.Pieces.{AreMorePieces, ArePieces, hyphen}
 use Rattle.semver_req.specs.declared.common.hyphen.HyphenRange.{HyphenRange}
 use Rattle.semver_req.specs.declared.common.values.Flavour.{Flavour}
@@ -65,6 +65,12 @@ pub record IsOneMore (piece : RangeOrInvalid) (old new : Alternatives) : Type 0 
   pub ranges : new.ranges ≡ old.ranges ++ option_to_list (retained_of piece)
   pub rejected : new.rejected ≡ first_rejection old.rejected piece
   pub is_only : new.is_only ≡ old.is_only
+
+-- with one more piece, which is followed by `||` or not
+pub record IsAdded (f : Flavour) (followed : Bool) (piece : List ℕ) (old new : Alternatives) : Type 0 where
+  pub answer : RangeOrInvalid
+  pub read : IsPieceRead f followed piece answer
+  pub more : IsOneMore answer old new
 
 -- all the pieces are valid, or the first invalid one is so for this reason
 abbrev pub IsReported : Flavour → Bool → List (List ℕ) → List (List Comparator) → Option Rejection → Type 0

@@ -1,21 +1,26 @@
--- Comparators of plain texts.
-use Rattle.std.specs.Prelude.{◌≡◌, ◌⊎◌, ℕ, List, [], ◌∷◌, ◌++◌, true}
-use Rattle.semver_base.specs.Characters.{caret_sign, dot, hyphen_sign, space, tilde_sign}
-use Rattle.semver_base.specs.Comparators.{comparator_line, primitive_kind_text}
-use Rattle.semver_base.specs.PartialTable.{IsLineRange, of_short}
+-- Comparators and pieces of plain texts.
+use Rattle.std.specs.Prelude.{◌≡◌, ◌⊎◌, ℕ, List, [], ◌∷◌, ◌++◌, false, true}
+use Rattle.std.specs.Str.{trim}
+use Rattle.semver_base.specs.Characters.{dot, space}
+use Rattle.semver_base.specs.Comparators.{Comparator, Hyphen, comparator_line, greater, less, primitive_kind_text}
+use Rattle.semver_base.specs.Meaning.{from, release}
+use Rattle.semver_base.specs.Overlap.{ends_at_zero}
+use Rattle.semver_base.specs.PartialTable.{IsLineRange, between, greater_than, less_than, of_short}
 use Rattle.semver_base.specs.ShortTexts.{IsShortNumbers}
-use Rattle.semver_base.specs.declared.lexical.values.Measured.TheVariants.{Fits}
+use Rattle.semver_base.specs.declared.range.RangeBound.{RangeBound}
+use Rattle.semver_base.specs.declared.range.RangeBound.TheVariants.{Unbounded}
+use Rattle.semver_base.specs.declared.range.VersionBoundKind.{VersionBoundKind}
 use Rattle.semver_base.specs.declared.short.ShortNumbers.{ShortNumbers}
 use Rattle.semver_base.specs.declared.short.ShortNumbers.TheVariants as short_numbers
 use Rattle.semver_base.specs.declared.range.VersionRange.{VersionRange}
 use Rattle.semver_req.specs.Partials.{is_wildcard}
+use Rattle.semver_req.specs.PieceReading.{as_retained}
+use Rattle.semver_req.specs.Pieces.{HasNoBar, IsFilled}
 use Rattle.semver_req.specs.Written.{IsOperatorCut, comparator_of}
 use Rattle.semver_req.specs.declared.common.comparator.Operator.{Operator}
-use Rattle.semver_req.specs.declared.common.comparator.Operator.TheVariants as operator
-use Rattle.semver_req.specs.declared.common.comparator.Written.{Written}
-use Rattle.semver_req.specs.declared.common.hyphen.HyphenRange.{HyphenRange}
 use Rattle.semver_req.specs.declared.common.values.Flavour.{Flavour}
 use Rattle.semver_req.specs.declared.common.values.Flavour.TheVariants.{Npm}
+use Rattle.semver_req.specs.declared.range_set_or_tag.pieces.RangeOrInvalid.TheVariants as read
 
 -- a wildcard may follow
 abbrev pub IsFewer : ShortNumbers → Type 0
@@ -38,49 +43,46 @@ pub record IsShortComparator (f : Flavour) (text : List ℕ) (range : VersionRan
   pub short_partial : IsShortPartial f rest numbers
   pub line : IsLineRange (comparator_line (comparator_of operator (of_short numbers))) range
 
--- ---- comparators of one to three numbers
+-- ---- pieces
 
--- an operator's text
-abbrev pub operator_text : Operator → List ℕ
-operator_text operator.Tilde = tilde_sign ∷ []
-operator_text operator.Caret = caret_sign ∷ []
-operator_text (operator.Primitive kind) = primitive_kind_text kind
-operator_text operator.Absent = []
-
--- the whole text is an optional operator and one to three numbers
-pub record IsShortWithOperator (text : List ℕ) (written : Written) : Type 0 where
+-- the whole text is `>` or `>=` and one to three numbers, whose range begins so
+pub record IsShortStart (text : List ℕ) (start : RangeBound) : Type 0 where
+  pub kind : VersionBoundKind
   pub rest : List ℕ
   pub numbers : ShortNumbers
-  pub text_is : text ≡ operator_text written.operator ++ rest
+  pub text_is : text ≡ primitive_kind_text (greater kind) ++ rest
   pub short_numbers : IsShortNumbers rest numbers
-  pub partial_is : written.partial ≡ Fits (of_short numbers)
+  pub line : IsLineRange (greater_than kind (of_short numbers)) (between start Unbounded)
+
+-- the whole text is `<` or `<=` and one to three numbers, whose range ends so
+pub record IsShortEnd (text : List ℕ) (end : RangeBound) : Type 0 where
+  pub kind : VersionBoundKind
+  pub rest : List ℕ
+  pub numbers : ShortNumbers
+  pub text_is : text ≡ primitive_kind_text (less kind) ++ rest
+  pub short_numbers : IsShortNumbers rest numbers
+  pub line : IsLineRange (less_than kind (of_short numbers)) (between (from (release 0 0 0)) end)
+
+-- two partial versions around ` - ` have this range
+pub record IsShortHyphen (front back : List ℕ) (range : VersionRange) : Type 0 where
+  pub lower : ShortNumbers
+  pub upper : ShortNumbers
+  pub in_front : IsShortPartial Npm front lower
+  pub in_back : IsShortPartial Npm back upper
+  pub line : IsLineRange (comparator_line (Hyphen (of_short lower) (of_short upper))) range
+
+-- the whole text is a piece without `||` and whitespace around it, which may also be followed by a space, and parses to this range, which a
+-- set keeps
+pub record IsShortPiece (f : Flavour) (text : List ℕ) (range : VersionRange) : Type 0 where
+  pub first : Comparator
+  pub others : List Comparator
+  pub filled : IsFilled f text (first ∷ others)
+  pub closed : IsFilled f (text ++ space ∷ []) (first ∷ others)
+  pub is : read.Range range ≡ as_retained (first ∷ others)
+  pub is_kept : ends_at_zero range.end ≡ false
+  pub no_bar : HasNoBar text
+  pub trimmed : trim text ≡ text
 
 -- shorter is the text, or the text without one trailing space
 abbrev pub IsUnclosed : List ℕ → List ℕ → Type 0
 IsUnclosed text shorter = (text ≡ shorter) ⊎ (text ≡ shorter ++ space ∷ [])
-
--- the whole piece is such a comparator, with an optional space after it
-pub record IsShortAlone (piece : List ℕ) (written : Written) : Type 0 where
-  pub shorter : List ℕ
-  pub unclosed : IsUnclosed piece shorter
-  pub operator_form : IsShortWithOperator shorter written
-
--- the whole piece is two such comparators with a space between them and an optional space after them
-pub record IsShortPair (piece : List ℕ) (first second : Written) : Type 0 where
-  pub front : List ℕ
-  pub back : List ℕ
-  pub text_is : piece ≡ front ++ space ∷ back
-  pub in_front : IsShortWithOperator front first
-  pub in_back : IsShortAlone back second
-
--- the whole piece is two such partial versions around ` - `
-pub record IsShortHyphen (piece : List ℕ) (read : HyphenRange) : Type 0 where
-  pub front : List ℕ
-  pub back : List ℕ
-  pub lower : ShortNumbers
-  pub upper : ShortNumbers
-  pub text_is : piece ≡ front ++ (space ∷ hyphen_sign ∷ space ∷ back)
-  pub in_front : IsShortPartial Npm front lower
-  pub in_back : IsShortPartial Npm back upper
-  pub lower_is : read.lower ≡ Fits (of_short lower)
-  pub upper_is : read.upper ≡ Fits (of_short upper)

@@ -6,13 +6,14 @@ ghost use Rattle.std.specs.Str.{trim};
 ghost use Rattle.semver_req.specs.Outcome.{IsOutcome, Rejected};
 ghost use Rattle.semver_req.specs.PieceReading.{IsCutRejection, rejection_failure};
 ghost use Rattle.semver_req.specs.Parsers.{IsReading};
+ghost use Rattle.semver_req.specs.Pieces.{IsCutting};
 ghost use Rattle.semver_req.specs.Requirement.{MatchNoVersion, OverlapAsTags, inner_overlap, inner_text};
 ghost use Rattle.semver_req.specs.Tag.{is_valid_tag};
 ghost use Rattle.semver_req.specs.declared.common.values.Flavour.TheVariants.{Normal, Npm};
 
 mod pieces;
 
-use crate::common::short::short_range;
+use crate::common::short::short_piece;
 use crate::common::values::Flavour;
 use crate::tag::is_valid_npm_tag;
 use pieces::read_pieces;
@@ -50,16 +51,16 @@ fn tag_or(alloc: Global, text: &str, rejection: Rejection) -> Result<RangeSetOrT
     Err(ParseFailure::of_rejection(alloc, rejection))
 }
 
-// The range of a plain text. `None` says nothing about the text.
+// The range of a short text. `None` says nothing about the text.
 #[inline(always)]
 fn short_set(
     alloc: Global,
     text: &str,
     flavour: Flavour,
 ) -> Result<Option<RangeSetOrTag>, AllocError>
-    ensures { IfOk result (λ r. IfSome r (IsReading flavour text.now)) }
+    ensures { IsCutting flavour → IfOk result (λ r. IfSome r (IsReading flavour text.now)) }
 {
-    let Some(range) = short_range(text, flavour) else {
+    let Some(range) = short_piece(text, flavour) else {
         return Ok(None);
     };
     let ranges = CowVec::of_one(alloc, range.into_range(alloc))?;

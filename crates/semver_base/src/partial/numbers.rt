@@ -1,48 +1,123 @@
-//! The ranges of one to three numbers, as for a partial version with no qualifier, and the partial versions of such numbers.
+//! The ranges of one to three numbers, as for a partial version with no qualifier.
 //!
 //! A range is first computed as numbers, which are cheap to move, and built where it stays.
 
-ghost use Rattle.std.specs.Prelude.{◌≡◌, ◌+◌, ◌∷◌, [], IfNone, IfSome, false};
-ghost use Rattle.semver_base.specs.Meaning.{release};
-ghost use Rattle.semver_base.specs.PartialTable.{IsLineRange, all_fit, caret, equal, lower_to_below, lowest, of_short, release_of, release_range, tilde};
+ghost use Rattle.std.specs.Prelude.{◌≡◌, ◌+◌, ◌∷◌, [], IfNone, IfSome, Some, false, true};
+ghost use Rattle.std.specs.Bool.{OnTrue};
+ghost use Rattle.std.specs.declared.cmp.Ordering.TheVariants.{Less};
+ghost use Rattle.semver_base.specs.Meaning.{from, release};
+ghost use Rattle.semver_base.specs.PartialTable.{IsLineRange, all_fit, between, caret, equal, greater_than, less_than, lower_to_below, lowest, of_short, release_bound, release_of, release_range, tilde, upper};
+ghost use Rattle.semver_base.specs.Precedence.{precedence_cmp};
+ghost use Rattle.semver_base.specs.declared.range.RangeBound.TheVariants.{Unbounded};
 
-use crate::partial::{Partial, XRange};
 use crate::range::{RangeBound, VersionBoundKind, VersionRange};
 use crate::short::{Numbers, ShortNumbers};
-use crate::string::CowVec;
 use crate::version::release;
 use std::alloc::Global;
 
-/// A range from one release, inclusive, to another.
+/// A release at which a range starts or ends.
+#[derive(Clone, Copy, Debug)]
+pub struct ReleaseBound {
+    pub kind: VersionBoundKind,
+    pub numbers: Numbers,
+}
+
+/// A range from one release, to another or without an end.
 #[derive(Clone, Copy, Debug)]
 pub struct ReleaseRange {
-    pub start: Numbers,
-    pub end: Numbers,
-    pub end_kind: VersionBoundKind,
+    pub start: ReleaseBound,
+    pub end: Option<ReleaseBound>,
+}
+
+impl Numbers {
+    // Whether the release of these numbers is below that of others.
+    #[inline(always)]
+    fn is_below(self, other: Numbers) -> bool
+        ensures { OnTrue result (precedence_cmp (release_of self) (release_of other) ≡ Less) }
+    {
+        if self.major != other.major {
+            return self.major < other.major;
+        }
+        if self.minor != other.minor {
+            return self.minor < other.minor;
+        }
+        self.patch < other.patch
+    }
+}
+
+impl ReleaseBound {
+    /// Creates a bound that includes the release of these numbers.
+    #[inline(always)]
+    pub fn inclusive(numbers: Numbers) -> ReleaseBound
+        ensures { result ≡ record { kind = VersionBoundKind.Inclusive; numbers = numbers } }
+    {
+        ReleaseBound {
+            kind: VersionBoundKind::Inclusive,
+            numbers,
+        }
+    }
+
+    /// Creates a bound that excludes the release of these numbers.
+    #[inline(always)]
+    pub fn exclusive(numbers: Numbers) -> ReleaseBound
+        ensures { result ≡ record { kind = VersionBoundKind.Exclusive; numbers = numbers } }
+    {
+        ReleaseBound {
+            kind: VersionBoundKind::Exclusive,
+            numbers,
+        }
+    }
+
+    // Builds the bound.
+    #[inline(always)]
+    fn into_bound(self, alloc: Global) -> RangeBound
+        ensures { result ≡ release_bound self }
+    {
+        let Numbers {
+            major,
+            minor,
+            patch,
+        } = self.numbers;
+        RangeBound::version(self.kind, release(alloc, major, minor, patch))
+    }
 }
 
 impl ReleaseRange {
+    /// The range between two bounds, if the start is below the end.
+    #[inline(always)]
+    pub fn between(start: ReleaseBound, end: ReleaseBound) -> Option<ReleaseRange>
+        ensures { IfSome result (λ range. (range ≡ record { start = start; end = Some end })
+            × (precedence_cmp (release_of start.numbers) (release_of end.numbers) ≡ Less)) }
+    {
+        if !start.numbers.is_below(end.numbers) {
+            return None;
+        }
+        Some(ReleaseRange {
+            start,
+            end: Some(end),
+        })
+    }
+
     /// Builds the range.
     #[inline(always)]
     pub fn into_range(self, alloc: Global) -> VersionRange
         ensures { result ≡ release_range self }
     {
-        let ReleaseRange {
-            start,
-            end,
-            end_kind,
-        } = self;
+        let end = match self.end {
+            Some(end) => end.into_bound(alloc),
+            None => RangeBound::Unbounded,
+        };
         VersionRange {
-            start: RangeBound::inclusive(release(alloc, start.major, start.minor, start.patch)),
-            end: RangeBound::version(end_kind, release(alloc, end.major, end.minor, end.patch)),
+            start: self.start.into_bound(alloc),
+            end,
         }
     }
 }
 
 impl ShortNumbers {
-    // The three numbers, with missing ones as 0.
+    /// The three numbers, with missing ones as 0.
     #[inline(always)]
-    fn lowest(self) -> Numbers
+    pub fn lowest(self) -> Numbers
         ensures { release_of result ≡ lowest (of_short self) }
     {
         match self {
@@ -66,14 +141,14 @@ impl ShortNumbers {
         ensures { release_range result
             ≡ (lower_to_below (of_short self) (release major minor patch) []).range }
     {
+        let end = Numbers {
+            major,
+            minor,
+            patch,
+        };
         ReleaseRange {
-            start: self.lowest(),
-            end: Numbers {
-                major,
-                minor,
-                patch,
-            },
-            end_kind: VersionBoundKind::Exclusive,
+            start: ReleaseBound::inclusive(self.lowest()),
+            end: Some(ReleaseBound::exclusive(end)),
         }
     }
 
@@ -141,47 +216,51 @@ impl ShortNumbers {
             ShortNumbers::One(major) => self.to_next_major(major),
             ShortNumbers::Two(major, minor) => self.to_next_minor(major, minor),
             ShortNumbers::Three(numbers) => Some(ReleaseRange {
-                start: numbers,
-                end: numbers,
-                end_kind: VersionBoundKind::Inclusive,
+                start: ReleaseBound::inclusive(numbers),
+                end: Some(ReleaseBound::inclusive(numbers)),
             }),
         }
     }
 
-    /// The partial version of these numbers.
+    /// The end at the highest version that these numbers name, as for [`Partial::as_upper_bound`](crate::partial::Partial);
+    /// `None` if it is too large.
     #[inline(always)]
-    pub fn into_partial(self, alloc: Global) -> Partial
-        ensures { result ≡ of_short self }
+    pub fn upper_bound(self) -> Option<ReleaseBound>
+        ensures end { IfSome result (λ end. release_bound end ≡ (upper (of_short self)).end) }
+        ensures fits { IfSome result (λ _. all_fit (upper (of_short self)).sums ≡ true) }
     {
-        match self {
-            ShortNumbers::One(major) => {
-                of_components(alloc, major, XRange::Wildcard, XRange::Wildcard)
+        self.equal_range()?.end
+    }
+
+    /// The start of the range of `>=` and these numbers if `kind` is inclusive, of `>` if it is exclusive; `None` if it is too
+    /// large.
+    #[inline(always)]
+    pub fn greater_than(self, kind: VersionBoundKind) -> Option<ReleaseBound>
+        ensures { IfSome result (λ start.
+            IsLineRange (greater_than kind (of_short self)) (between (release_bound start) Unbounded)) }
+    {
+        match kind {
+            VersionBoundKind::Inclusive => Some(ReleaseBound::inclusive(self.lowest())),
+            VersionBoundKind::Exclusive => {
+                let upper = self.upper_bound()?;
+                match upper.kind {
+                    VersionBoundKind::Inclusive => Some(ReleaseBound::exclusive(upper.numbers)),
+                    VersionBoundKind::Exclusive => Some(ReleaseBound::inclusive(upper.numbers)),
+                }
             }
-            ShortNumbers::Two(major, minor) => {
-                of_components(alloc, major, XRange::Val(minor), XRange::Wildcard)
-            }
-            ShortNumbers::Three(
-                Numbers {
-                    major,
-                    minor,
-                    patch,
-                },
-            ) => of_components(alloc, major, XRange::Val(minor), XRange::Val(patch)),
         }
     }
-}
 
-// The partial version of these components.
-#[inline(always)]
-fn of_components(alloc: Global, major: u64, minor: XRange, patch: XRange) -> Partial
-    ensures { result
-        ≡ record { major = XRange.Val major; minor = minor; patch = patch; pre = []; build = [] } }
-{
-    Partial {
-        major: XRange::Val(major),
-        minor,
-        patch,
-        pre: CowVec::new(alloc),
-        build: CowVec::new(alloc),
+    /// The end of the range of `<=` and these numbers if `kind` is inclusive, of `<` if it is exclusive; `None` if it is too
+    /// large.
+    #[inline(always)]
+    pub fn less_than(self, kind: VersionBoundKind) -> Option<ReleaseBound>
+        ensures { IfSome result (λ end. IsLineRange (less_than kind (of_short self))
+            (between (from (release 0 0 0)) (release_bound end))) }
+    {
+        match kind {
+            VersionBoundKind::Inclusive => self.upper_bound(),
+            VersionBoundKind::Exclusive => Some(ReleaseBound::exclusive(self.lowest())),
+        }
     }
 }

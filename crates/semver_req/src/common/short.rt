@@ -1,24 +1,25 @@
-//! A fast path for plain comparators: an operator or none, one to three numbers, or a wildcard for the last, and nothing else.
+//! A fast path for plain comparators, pairs of them and hyphen ranges: numbers, operators or none, wildcards for the last number, spaces,
+//! and nothing else.
 //!
-//! Most comparators are such texts. What this parses is a comparator by the grammar, and a text has only one meaning; so each
-//! parser tries this first, and falls back to the full grammar on `None`.
+//! Most pieces are such texts. What this parses is a piece by the grammar, and a text has only one meaning; so each parser
+//! tries this first, and falls back to the full grammar on `None`.
 
 ghost use Rattle.std.specs.Prelude.{◌≡◌, ◌++◌, ◌∷◌, [], IfSome, ℕ, true};
 ghost use Rattle.semver_base.specs.Characters.{dot, hyphen_sign, space};
 ghost use Rattle.semver_base.specs.Comparators.{comparator_line};
-ghost use Rattle.semver_base.specs.PartialTable.{IsLineRange, of_short, release_range};
+ghost use Rattle.semver_base.specs.PartialTable.{IsLineRange, of_short, release_bound, release_range};
 ghost use Rattle.semver_req.specs.Partials.{is_wildcard};
-ghost use Rattle.semver_req.specs.ShortComparators.{IsFewer, IsShortAlone, IsShortHyphen, IsShortPartial, IsShortWithOperator, IsShortPair, IsShortComparator, IsUnclosed, operator_text};
+ghost use Rattle.semver_req.specs.Pieces.{IsCutting};
+ghost use Rattle.semver_req.specs.ShortComparators.{IsFewer, IsShortEnd, IsShortHyphen, IsShortPartial, IsShortPiece, IsShortComparator, IsShortStart, IsUnclosed};
 ghost use Rattle.semver_req.specs.Written.{comparator_of};
+ghost use Rattle.semver_req.specs.declared.common.values.Flavour.TheVariants.{Normal};
 
-use crate::common::comparator::{Operator, Written, split_operator};
-use crate::common::hyphen::HyphenRange;
-use crate::common::values::{Flavour, PrimitiveKind};
+use crate::common::comparator::{Operator, split_operator};
+use crate::common::values::Flavour;
 use semver_base::lexical::after;
-use semver_base::lexical::values::Measured;
-use semver_base::partial::ReleaseRange;
-use semver_base::short::{ShortNumbers, short_numbers};
-use std::alloc::Global;
+use semver_base::partial::{ReleaseBound, ReleaseRange};
+use semver_base::range::VersionBoundKind;
+use semver_base::short::{Numbers, ShortNumbers, short_numbers};
 
 // The range of the operator and the numbers, if its bounds fit; `None` for a comparison operator.
 #[inline(always)]
@@ -90,52 +91,46 @@ pub(crate) fn short_range(text: &str, flavour: Flavour) -> Option<ReleaseRange>
     numbers_range(operator, numbers)
 }
 
-// Splits off a leading operator.
+// Parses the whole text as `>` or `>=` and one to three numbers.
 #[inline(always)]
-fn after_any_operator(text: &[u8]) -> (Operator, &[u8])
-    ensures { text.now ≡ operator_text result.0 ++ result.1.now }
+fn lower_bound(text: &[u8]) -> Option<ReleaseBound>
+    ensures { IfSome result (λ start. IsShortStart text.now (release_bound start)) }
 {
-    match text {
-        [b'~', rest @ ..] => (Operator::Tilde, rest),
-        [b'^', rest @ ..] => (Operator::Caret, rest),
-        [b'>', b'=', rest @ ..] => (Operator::Primitive(PrimitiveKind::GreaterThanOrEqual), rest),
-        [b'>', rest @ ..] => (Operator::Primitive(PrimitiveKind::GreaterThan), rest),
-        [b'<', b'=', rest @ ..] => (Operator::Primitive(PrimitiveKind::LessThanOrEqual), rest),
-        [b'<', rest @ ..] => (Operator::Primitive(PrimitiveKind::LessThan), rest),
-        [b'=', rest @ ..] => (Operator::Primitive(PrimitiveKind::Equal), rest),
-        _ => (Operator::Absent, text),
+    let (kind, rest) = match text {
+        [b'>', b'=', rest @ ..] => (VersionBoundKind::Inclusive, rest),
+        [b'>', rest @ ..] => (VersionBoundKind::Exclusive, rest),
+        _ => return None,
+    };
+    short_numbers(rest)?.greater_than(kind)
+}
+
+// Parses the whole text as `<` or `<=` and one to three numbers.
+#[inline(always)]
+fn upper_bound(text: &[u8]) -> Option<ReleaseBound>
+    ensures { IfSome result (λ end. IsShortEnd text.now (release_bound end)) }
+{
+    let (kind, rest) = match text {
+        [b'<', b'=', rest @ ..] => (VersionBoundKind::Inclusive, rest),
+        [b'<', rest @ ..] => (VersionBoundKind::Exclusive, rest),
+        _ => return None,
+    };
+    short_numbers(rest)?.less_than(kind)
+}
+
+// The range of the whole text, if it is such a start or an end above 0.0.0.
+#[inline(always)]
+fn one_bound(text: &[u8]) -> Option<ReleaseRange>
+    ensures { IfSome result (λ range. IsShortPiece Normal text.now (release_range range)) }
+{
+    if let Some(start) = lower_bound(text) {
+        return Some(ReleaseRange { start, end: None });
     }
-}
-
-// Strips one trailing space, if there is one.
-#[inline(always)]
-fn unclosed(text: &[u8]) -> &[u8]
-    ensures { IsUnclosed text.now result.now }
-{
-    match text {
-        [shorter @ .., b' '] => shorter,
-        _ => text,
-    }
-}
-
-// Parses the whole text as an optional operator and one to three numbers.
-#[inline(always)]
-fn short_with_operator(alloc: Global, text: &[u8]) -> Option<Written>
-    ensures { IfSome result (IsShortWithOperator text.now) }
-{
-    let (operator, rest) = after_any_operator(text);
-    let numbers = short_numbers(rest)?;
-    let partial = Measured::Fits(numbers.into_partial(alloc));
-    Some(Written { operator, partial })
-}
-
-/// Parses the whole piece as an optional operator and one to three numbers, by npm's and by the normalized grammar; a space
-/// may follow. `None` says nothing about the piece.
-#[inline(always)]
-pub(crate) fn short_alone(alloc: Global, piece: &str) -> Option<Written>
-    ensures { IfSome result (IsShortAlone piece.now) }
-{
-    short_with_operator(alloc, unclosed(piece.as_bytes()))
+    let zero = Numbers {
+        major: 0,
+        minor: 0,
+        patch: 0,
+    };
+    ReleaseRange::between(ReleaseBound::inclusive(zero), upper_bound(text)?)
 }
 
 // Splits the text at the first space.
@@ -154,28 +149,56 @@ fn after_hyphen(text: &str) -> Option<&str>
     after(after(text, '-')?, ' ')
 }
 
-/// Parses the whole piece as two such partial versions with ` - ` between them.
+// The range of two short partial versions around ` - `.
 #[inline(always)]
-pub(crate) fn short_hyphen(alloc: Global, piece: &str) -> Option<HyphenRange>
-    ensures { IfSome result (IsShortHyphen piece.now) }
+fn short_hyphen(front: &[u8], back: &[u8]) -> Option<ReleaseRange>
+    ensures { IfSome result (λ range. IsShortHyphen front.now back.now (release_range range)) }
 {
-    let (front, rest) = at_whitespace(piece)?;
-    let back = after_hyphen(rest)?;
-    let lower = short_partial(front.as_bytes(), Flavour::Npm)?;
-    let upper = short_partial(back.as_bytes(), Flavour::Npm)?;
-    Some(HyphenRange {
-        lower: Measured::Fits(lower.into_partial(alloc)),
-        upper: Measured::Fits(upper.into_partial(alloc)),
+    let lower = short_partial(front, Flavour::Npm)?;
+    let upper = short_partial(back, Flavour::Npm)?;
+    let end = upper.upper_bound()?;
+    Some(ReleaseRange {
+        start: ReleaseBound::inclusive(lower.lowest()),
+        end: Some(end),
     })
 }
 
-/// Parses the whole piece as two such comparators with a space between them.
-#[inline(always)]
-pub(crate) fn short_pair(alloc: Global, piece: &str) -> Option<(Written, Written)>
-    ensures { IfSome result (λ p. IsShortPair piece.now p.0 p.1) }
+// The range of the whole text, if it is one or two bounds, or a hyphen range of npm's grammar. In a call of its own, so that plain texts
+// don't pay for it.
+#[inline(never)]
+fn bounds(text: &str, flavour: Flavour) -> Option<ReleaseRange>
+    ensures { IsCutting flavour
+        → IfSome result (λ range. IsShortPiece flavour text.now (release_range range)) }
 {
-    let (front, back) = at_whitespace(piece)?;
-    let first = short_with_operator(alloc, front.as_bytes())?;
-    let second = short_alone(alloc, back)?;
-    Some((first, second))
+    let Some((front, back)) = at_whitespace(text) else {
+        return one_bound(text.as_bytes());
+    };
+    if flavour == Flavour::Npm {
+        if let Some(back) = after_hyphen(back) {
+            return short_hyphen(front.as_bytes(), back.as_bytes());
+        }
+    }
+    let start = lower_bound(front.as_bytes())?;
+    ReleaseRange::between(start, upper_bound(back.as_bytes())?)
+}
+
+/// The range of a piece, if it is the whole text and short: a comparator as for [`short_range`], one or two comparisons of one to three
+/// numbers, or npm's hyphen range. `None` says nothing about the text.
+#[inline(always)]
+pub(crate) fn short_piece(text: &str, flavour: Flavour) -> Option<ReleaseRange>
+    ensures { IsCutting flavour
+        → IfSome result (λ range. IsShortPiece flavour text.now (release_range range)) }
+{
+    match short_range(text, flavour) {
+        Some(range) => Some(range),
+        None => bounds(text, flavour),
+    }
+}
+
+/// Strips one trailing space, if there is one.
+#[inline(always)]
+pub(crate) fn unclosed(text: &str) -> &str
+    ensures { IsUnclosed text.now result.now }
+{
+    text.strip_suffix(' ').unwrap_or(text)
 }

@@ -8,7 +8,7 @@ ghost use Rattle.semver_base.specs.declared.lexical.values.Measured.TheVariants.
 ghost use Rattle.semver_base.specs.declared.partial.Partial.{Partial};
 ghost use Rattle.semver_req.specs.Partials.{sized_partial};
 ghost use Rattle.semver_req.specs.PieceReading.{IsPieceRead, as_retained, joined, retained_of};
-ghost use Rattle.semver_req.specs.PieceSteps.{AreAllRead, IsEverything, IsFirstPiece, IsHyphenRead, IsNextPiece, IsOneMore, IsWholeRead, both_now};
+ghost use Rattle.semver_req.specs.PieceSteps.{AreAllRead, IsAdded, IsEverything, IsFirstPiece, IsHyphenRead, IsNextPiece, IsWholeRead, both_now};
 ghost use Rattle.semver_req.specs.Pieces.{HasNoBar, IsComparators, IsCutAt, IsCutting, IsFilled, IsHyphen, hyphen};
 ghost use Rattle.semver_req.specs.Written.{comparator_of};
 ghost use Rattle.semver_req.specs.declared.range_set_or_tag.pieces.RangeOrInvalid.TheVariants.{Invalid};
@@ -16,7 +16,7 @@ ghost use Rattle.semver_req.specs.declared.range_set_or_tag.pieces.RangeOrInvali
 use crate::common::comparator::{Written, comparator_front};
 use crate::common::hyphen::{HyphenRange, hyphen_front};
 use crate::common::separators::after_separator;
-use crate::common::short::{short_alone, short_hyphen, short_pair};
+use crate::common::short::{short_piece, unclosed};
 use crate::common::values::Flavour;
 use semver_base::failure::{ParseFailure, Rejection};
 use semver_base::lexical::after_whitespace;
@@ -206,47 +206,21 @@ impl RangeOrInvalid {
         Ok(Some(RangeOrInvalid::between(alloc, hyphen)?))
     }
 
-    // Parses the whole piece, which isn't empty; one or two comparators of few numbers take the fast path.
-    #[inline(always)]
-    fn filled(
-        alloc: Global,
-        piece: &str,
-        flavour: Flavour,
-    ) -> Result<Option<RangeOrInvalid>, ParseFailure>
-        ensures value { IfOk result (IsWholeRead (IsFilled flavour) piece.now) }
-        ensures memory { IfErr result (λ failure. failure ≡ None) }
-    {
-        if flavour == Flavour::Specifier {
-            return Ok(None);
-        }
-        if let Some(only) = short_alone(alloc, piece) {
-            return Ok(Some(RangeOrInvalid::of_one(alloc, only)?));
-        }
-        if let Some((first, second)) = short_pair(alloc, piece) {
-            let read = RangeOrInvalid::of_one(alloc, first)?;
-            return Ok(Some(read.and(alloc, second)?));
-        }
-        RangeOrInvalid::by_grammar(alloc, piece, flavour)
-    }
-
-    // Parses the whole piece, which isn't empty, by npm's grammar; a hyphen range of few numbers takes a fast path. No piece is both a list
-    // and a hyphen range, so the order is free.
+    // Parses the whole piece, which isn't empty, by npm's grammar. No piece is both a list and a hyphen range, so the order is free.
     #[inline(always)]
     fn npm(alloc: Global, piece: &str) -> Result<Option<RangeOrInvalid>, ParseFailure>
         ensures value { IfOk result (IsWholeRead (IsFilled Flavour.Npm) piece.now) }
         ensures memory { IfErr result (λ failure. failure ≡ None) }
     {
-        if let Some(hyphen) = short_hyphen(alloc, piece) {
-            return Ok(Some(RangeOrInvalid::between(alloc, hyphen)?));
-        }
         if let Some(read) = RangeOrInvalid::list(alloc, piece, Flavour::Npm)? {
             return Ok(Some(read));
         }
         RangeOrInvalid::hyphen(alloc, piece)
     }
 
-    // Parses the whole piece, which isn't empty, by the full grammar.
-    fn by_grammar(
+    // Parses the whole piece, which isn't empty.
+    #[inline(always)]
+    fn filled(
         alloc: Global,
         piece: &str,
         flavour: Flavour,
@@ -355,22 +329,63 @@ pub(super) struct Alternatives {
 }
 
 impl Alternatives {
-    // Adds one piece.
+    // Adds a range.
     #[inline(always)]
-    fn add(&mut self, alloc: Global, read: RangeOrInvalid) -> Result<(), AllocError>
-        ensures { OnOk result (IsOneMore read self.old self.new) }
+    fn retain(&mut self, alloc: Global, range: VersionRange) -> Result<(), AllocError>
+        ensures ranges { OnOk result (self.new.ranges ≡ self.old.ranges ++ range ∷ []) }
+        ensures rejected { OnOk result (self.new.rejected ≡ self.old.rejected) }
+        ensures is_only { OnOk result (self.new.is_only ≡ self.old.is_only) }
     {
+        if self.ranges.is_empty() {
+            self.ranges = CowVec::of_one(alloc, range)?;
+        } else {
+            self.ranges.push(range)?;
+        }
+        Ok(())
+    }
+
+    // Parses one piece by the full grammar, and adds it. In a call of its own, so that short pieces don't pay for it.
+    #[inline(never)]
+    fn add_by_grammar(
+        &mut self,
+        alloc: Global,
+        piece: &str,
+        is_followed: bool,
+        flavour: Flavour,
+    ) -> Result<(), ParseFailure>
+        ensures value { OnOk result (IsAdded flavour is_followed piece.now self.old self.new) }
+        ensures memory { IfErr result (λ failure. failure ≡ None) }
+    {
+        let read = RangeOrInvalid::parse(alloc, piece, is_followed, flavour)?;
         if let RangeOrInvalid::Invalid(rejection) = &read {
             self.rejected = self.rejected.or(Some(*rejection));
         }
         if let Some(range) = read.into_range() {
-            if self.ranges.is_empty() {
-                self.ranges = CowVec::of_one(alloc, range)?;
-            } else {
-                self.ranges.push(range)?;
-            }
+            self.retain(alloc, range)?;
         }
         Ok(())
+    }
+
+    // Adds one piece. The only piece was tried as a short one before the text was split.
+    #[inline(never)]
+    fn add(
+        &mut self,
+        alloc: Global,
+        piece: &str,
+        is_followed: bool,
+        flavour: Flavour,
+    ) -> Result<(), ParseFailure>
+        requires { IsCutting flavour }
+        ensures value { OnOk result (IsAdded flavour is_followed piece.now self.old self.new) }
+        ensures memory { IfErr result (λ failure. failure ≡ None) }
+    {
+        if is_followed || !self.is_only {
+            if let Some(range) = short_piece(unclosed(piece), flavour) {
+                self.retain(alloc, range.into_range(alloc))?;
+                return Ok(());
+            }
+        }
+        self.add_by_grammar(alloc, piece, is_followed, flavour)
     }
 }
 
@@ -390,12 +405,11 @@ pub(super) fn read_pieces(
         rejected: None,
         is_only: true,
     };
-    let read = RangeOrInvalid::parse(alloc, first.piece, first.is_followed, flavour)?;
-    all.add(alloc, read)?;
+    all.add(alloc, first.piece, first.is_followed, flavour)?;
     let mut rest = first.rest;
     while let Some((piece, more)) = next_piece(rest) {
         all.is_only = false;
-        all.add(alloc, RangeOrInvalid::parse(alloc, piece, false, flavour)?)?;
+        all.add(alloc, piece, false, flavour)?;
         rest = more;
     }
     Ok(all)
