@@ -19,7 +19,7 @@ use Rattle.semver_base.specs.Grammar.{IsLongest, Stops}
 use Rattle.semver_base.specs.Lexical.{IsLooseNumber, IsStrictNumber}
 use Rattle.semver_base.specs.VersionGrammar.{IsTriple}
 use Rattle.semver_base.specs.Meaning.{release}
-use Rattle.semver_base.specs.ShortTexts.{IsShortNumbers, IsBareNumber, IsBareTriple, IsShort, IsTripleFront, LacksShortNumbers, LacksShortNumber}
+use Rattle.semver_base.specs.ShortTexts.{IsShortNumbers, IsBareNumber, IsBareTriple, IsShort, IsTripleFront, LacksShortNumbers, LacksShortTriple, LacksShortNumber}
 use Rattle.semver_base.specs.VersionParserSteps.{IsFittingNumber, IsFittingTriple, IsBareVersion, IsQualified}
 use Rattle.semver_base.specs.declared.lexical.values.Strictness.TheVariants.{Loose}
 use Rattle.semver_base.specs.declared.short.ShortNumbers.{ShortNumbers}
@@ -250,3 +250,29 @@ pub no_more_than_first : {text rest : List ℕ} {n : ℕ} → IsBareNumber text 
 no_more_than_first read behind (short_numbers.One m) p short = behind.some (one_front read.loose p.loose).1
 no_more_than_first read behind (short_numbers.Two m n) p short = (behind.dotted p.from_minor (one_front read.loose p.major.loose).1).one n p.minor short.1
 no_more_than_first read behind (short_numbers.Three n) p short = (behind.dotted p.from_minor (one_front read.loose p.major.loose).1).two n.minor n.patch p.from_patch p.minor p.patch short.1 short.2
+
+-- ---- no three leading numbers
+
+pub record Behind (Lacks : List ℕ → Type 0) (text : List ℕ) : Type 0 where
+  pub at_dot : (rest : List ℕ) → text ≡ dot ∷ rest → Lacks rest
+
+abbrev pub LacksSecond : List ℕ → Type 0
+LacksSecond text = (n p : ℕ) (more rest : List ℕ) → IsBareNumber text n (dot ∷ more) → IsBareNumber more p rest → IsShort n → IsShort p → ⊥
+
+pub ends_there : {Lacks : List ℕ → Type 0} {rest : List ℕ} → ((more : List ℕ) → rest ≡ dot ∷ more → ⊥) → Behind Lacks rest
+ends_there none = record { at_dot = λ more e. absurd (none more e) }
+
+pub behind : {Lacks : List ℕ → Type 0} {more : List ℕ} → Lacks more → Behind Lacks (dot ∷ more)
+behind {Lacks} lacks = record { at_dot = λ rest e. subst Lacks (ap (drop 1) e) lacks }
+
+pub triple_first : {text : List ℕ} → LacksShortNumber text → LacksShortTriple text
+triple_first none m n p rest t short = none m (dot ∷ t.from_minor) t.major short.0
+
+pub triple_behind : {text rest : List ℕ} {k : ℕ} → IsBareNumber text k rest → Behind LacksSecond rest → LacksShortTriple text
+triple_behind read lacks m n p rest t short = lacks.at_dot t.from_minor (one_front read.loose t.major.loose).1 n p t.from_patch rest t.minor t.patch short.1 short.2
+
+pub second_first : {text : List ℕ} → LacksShortNumber text → LacksSecond text
+second_first none n p more rest a b short other = none n (dot ∷ more) a short
+
+pub second_behind : {text rest : List ℕ} {k : ℕ} → IsBareNumber text k rest → Behind LacksShortNumber rest → LacksSecond text
+second_behind read lacks n p more rest a b short other = lacks.at_dot more (one_front read.loose a.loose).1 p rest b other

@@ -28,6 +28,10 @@ pub record IsTripleFront (text : List ℕ) (m n p : ℕ) (rest : List ℕ) : Typ
   pub minor : IsBareNumber from_minor n (dot ∷ from_patch)
   pub patch : IsBareNumber from_patch p rest
 
+-- the text doesn't begin with three numbers of at most 19 digits
+abbrev pub LacksShortTriple : List ℕ → Type 0
+LacksShortTriple text = (m n p : ℕ) (rest : List ℕ) → IsTripleFront text m n p rest → IsShort m × IsShort n × IsShort p → ⊥
+
 -- the whole text is these numbers with dots between them
 abbrev pub IsBareTriple : List ℕ → ℕ → ℕ → ℕ → Type 0
 IsBareTriple text m n p = IsTripleFront text m n p []

@@ -6,7 +6,7 @@
 ghost use Rattle.std.specs.Prelude.{IfNone, IfSome};
 ghost use Rattle.semver_base.specs.Characters.{dot};
 ghost use Rattle.semver_base.specs.Grammar.{IsAfter};
-ghost use Rattle.semver_base.specs.ShortTexts.{AreShort, IsShortNumbers, IsBareNumber, IsShort, IsTripleFront, LacksShortNumbers, LacksShortNumber};
+ghost use Rattle.semver_base.specs.ShortTexts.{AreShort, IsShortNumbers, IsBareNumber, IsShort, IsTripleFront, LacksShortNumbers, LacksShortNumber, LacksShortTriple};
 
 // A number below this, times ten plus a digit, is a `u64`.
 const LIMIT: u64 = 1_000_000_000_000_000_000;
@@ -89,8 +89,9 @@ pub fn short_numbers(text: &[u8]) -> Option<ShortNumbers>
 // Parses three leading numbers, and returns them with the rest.
 #[inline(always)]
 fn triple(text: &[u8]) -> Option<(Numbers, &[u8])>
-    ensures { IfSome result
+    ensures numbers { IfSome result
         (λ r. IsTripleFront text.now r.0.major r.0.minor r.0.patch r.1.now) }
+    ensures none { IfNone result (LacksShortTriple text.now) }
 {
     let (major, rest) = number(text)?;
     let (minor, rest) = number(after_dot(rest)?)?;
@@ -103,11 +104,13 @@ fn triple(text: &[u8]) -> Option<(Numbers, &[u8])>
     Some((numbers, rest))
 }
 
-/// Parses three leading numbers, and returns them with the rest of the text.
+/// Parses three leading numbers, and returns them with the rest of the text; `None` exactly if it doesn't begin with three numbers of at
+/// most 19 digits each.
 #[inline(always)]
 pub fn split_numbers(text: &str) -> Option<(Numbers, &str)>
-    ensures { IfSome result
+    ensures numbers { IfSome result
         (λ r. IsTripleFront text.now r.0.major r.0.minor r.0.patch r.1.now) }
+    ensures none { IfNone result (LacksShortTriple text.now) }
 {
     let (numbers, rest) = triple(text.as_bytes())?;
     let (_, rest) = text.split_at(text.len() - rest.len());

@@ -2,8 +2,7 @@
 //!
 //! A range is first computed as numbers, which are cheap to move, and built where it stays.
 
-ghost use Rattle.std.specs.Prelude.{◌≡◌, ◌+◌, ◌∷◌, [], IfNone, IfSome, Some, false, true};
-ghost use Rattle.std.specs.Bool.{OnTrue};
+ghost use Rattle.std.specs.Prelude.{◌≡◌, ◌↔◌, ◌+◌, ◌∷◌, [], IfNone, IfSome, IsTrue, Some, false, true};
 ghost use Rattle.std.specs.declared.cmp.Ordering.TheVariants.{Less};
 ghost use Rattle.semver_base.specs.Meaning.{from, release};
 ghost use Rattle.semver_base.specs.PartialTable.{IsLineRange, all_fit, between, caret, equal, greater_than, less_than, lower_to_below, lowest, of_short, release_bound, release_of, release_range, tilde, upper};
@@ -33,7 +32,7 @@ impl Numbers {
     // Whether the release of these numbers is below that of others.
     #[inline(always)]
     fn is_below(self, other: Numbers) -> bool
-        ensures { OnTrue result (precedence_cmp (release_of self) (release_of other) ≡ Less) }
+        ensures { IsTrue result ↔ (precedence_cmp (release_of self) (release_of other) ≡ Less) }
     {
         if self.major != other.major {
             return self.major < other.major;
@@ -83,11 +82,13 @@ impl ReleaseBound {
 }
 
 impl ReleaseRange {
-    /// The range between two bounds, if the start is below the end.
+    /// The range between two bounds, if the start is below the end; else `None`.
     #[inline(always)]
     pub fn between(start: ReleaseBound, end: ReleaseBound) -> Option<ReleaseRange>
-        ensures { IfSome result (λ range. (range ≡ record { start = start; end = Some end })
+        ensures range { IfSome result (λ range. (range ≡ record { start = start; end = Some end })
             × (precedence_cmp (release_of start.numbers) (release_of end.numbers) ≡ Less)) }
+        ensures crossed { IfNone result
+            (precedence_cmp (release_of start.numbers) (release_of end.numbers) ≡ Less → ⊥) }
     {
         if !start.numbers.is_below(end.numbers) {
             return None;
@@ -223,21 +224,35 @@ impl ShortNumbers {
     }
 
     /// The end at the highest version that these numbers name, as for [`Partial::as_upper_bound`](crate::partial::Partial);
-    /// `None` if it is too large.
+    /// `None` exactly if it is too large.
     #[inline(always)]
     pub fn upper_bound(self) -> Option<ReleaseBound>
         ensures end { IfSome result (λ end. release_bound end ≡ (upper (of_short self)).end) }
         ensures fits { IfSome result (λ _. all_fit (upper (of_short self)).sums ≡ true) }
+        ensures too_large { IfNone result (all_fit (upper (of_short self)).sums ≡ false) }
     {
-        self.equal_range()?.end
+        match self {
+            ShortNumbers::One(major) => Some(ReleaseBound::exclusive(Numbers {
+                major: major.checked_add(1)?,
+                minor: 0,
+                patch: 0,
+            })),
+            ShortNumbers::Two(major, minor) => Some(ReleaseBound::exclusive(Numbers {
+                major,
+                minor: minor.checked_add(1)?,
+                patch: 0,
+            })),
+            ShortNumbers::Three(numbers) => Some(ReleaseBound::inclusive(numbers)),
+        }
     }
 
-    /// The start of the range of `>=` and these numbers if `kind` is inclusive, of `>` if it is exclusive; `None` if it is too
-    /// large.
+    /// The start of the range of `>=` and these numbers if `kind` is inclusive, of `>` if it is exclusive; `None` exactly if it is
+    /// too large.
     #[inline(always)]
     pub fn greater_than(self, kind: VersionBoundKind) -> Option<ReleaseBound>
-        ensures { IfSome result (λ start.
+        ensures range { IfSome result (λ start.
             IsLineRange (greater_than kind (of_short self)) (between (release_bound start) Unbounded)) }
+        ensures too_large { IfNone result (all_fit (greater_than kind (of_short self)).sums ≡ false) }
     {
         match kind {
             VersionBoundKind::Inclusive => Some(ReleaseBound::inclusive(self.lowest())),
@@ -251,12 +266,13 @@ impl ShortNumbers {
         }
     }
 
-    /// The end of the range of `<=` and these numbers if `kind` is inclusive, of `<` if it is exclusive; `None` if it is too
-    /// large.
+    /// The end of the range of `<=` and these numbers if `kind` is inclusive, of `<` if it is exclusive; `None` exactly if it is
+    /// too large.
     #[inline(always)]
     pub fn less_than(self, kind: VersionBoundKind) -> Option<ReleaseBound>
-        ensures { IfSome result (λ end. IsLineRange (less_than kind (of_short self))
+        ensures range { IfSome result (λ end. IsLineRange (less_than kind (of_short self))
             (between (from (release 0 0 0)) (release_bound end))) }
+        ensures too_large { IfNone result (all_fit (less_than kind (of_short self)).sums ≡ false) }
     {
         match kind {
             VersionBoundKind::Inclusive => self.upper_bound(),

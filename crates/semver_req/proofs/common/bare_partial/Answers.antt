@@ -3,7 +3,7 @@ use Rattle.semver_req.proofs.ShortComparators.{numbers_seen}
 use Rattle.semver_req.proofs.common.bare_partial.Goals as goal
 
 pub returns-in-Some : goal.returns-in-Some
-returns-in-Some c = numbers_seen c.args.flavour c.in-Some.ensures (rw c.strictness.ensures at c.in_ok-qualifier.ensures)
+returns-in-Some c = numbers_seen c.args.flavour c.in-Some.ensures.numbers (rw c.strictness.ensures at c.in_ok-qualifier.ensures)
 
 pub returns-in_default-dotted_component : goal.returns-in_default-dotted_component
 returns-in_default-dotted_component c = rw (c.assembled-only.ensures, c.new.ensures) (one_read c.args.flavour c.in-Some-component.ensures c.in_default-dotted_component.ensures)

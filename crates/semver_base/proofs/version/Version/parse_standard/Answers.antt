@@ -50,17 +50,17 @@ returns-in-Err-clause-answer c =
 pub returns-in-Some-clause-read : goal.returns-in-Some-clause-read
 returns-in-Some-clause-read c =
     let nil : c.in-Some.rest.now ≡ [] = nil_from_length c.in-Some.rest.now (grind (arith, nat_tests)) in
-    let plain = short_version {numbers = c.in-Some.numbers} (rw nil at c.in-Some.ensures) in
+    let plain = short_version {numbers = c.in-Some.numbers} (rw nil at c.in-Some.ensures.numbers) in
     rw (plain.trimmed, c.release.ensures) (read_outcome plain.version)
 
 pub returns-in-Some-clause-reads_back : goal.returns-in-Some-clause-reads_back
 returns-in-Some-clause-reads_back c =
     let nil : c.in-Some.rest.now ≡ [] = nil_from_length c.in-Some.rest.now (grind (arith, nat_tests)) in
-    let plain = short_version {numbers = c.in-Some.numbers} (rw nil at c.in-Some.ensures) in
+    let plain = short_version {numbers = c.in-Some.numbers} (rw nil at c.in-Some.ensures.numbers) in
     read_back c.args.text.now c.release.result (rw c.release.ensures (read_outcome plain.version))
 
 pub returns-in-Some-clause-answer : goal.returns-in-Some-clause-answer
 returns-in-Some-clause-answer c =
     let nil : c.in-Some.rest.now ≡ [] = nil_from_length c.in-Some.rest.now (grind (arith, nat_tests)) in
-    let plain = short_version {numbers = c.in-Some.numbers} (rw nil at c.in-Some.ensures) in
+    let plain = short_version {numbers = c.in-Some.numbers} (rw nil at c.in-Some.ensures.numbers) in
     rw plain.trimmed (read_answer (λ (error : ParserError Versions). error.source) c.args.text.now c.release.result (rw c.release.ensures plain.version))
