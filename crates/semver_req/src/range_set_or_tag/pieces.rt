@@ -244,6 +244,7 @@ impl RangeOrInvalid {
     /// followed by `||`, is the range without bounds; comparators with separators between them, and at most one at the end,
     /// are the intersection of their ranges; two partial versions around a `-` are npm's hyphen range; anything else is
     /// invalid. Fails only out of memory.
+    #[inline(always)]
     pub fn parse(
         alloc: Global,
         piece: &str,
