@@ -33,6 +33,8 @@ use Rattle.semver_req.specs.declared.range_set_or_tag.pieces.RangeOrInvalid.{Ran
 use Rattle.semver_req.specs.declared.range_set_or_tag.pieces.RangeOrInvalid.TheVariants as read
 use Rattle.semver_req.specs.declared.range_set_or_tag.RangeSetOrTag.{RangeSetOrTag}
 use Rattle.semver_req.specs.declared.range_set_or_tag.RangeSetOrTag.TheVariants as inner
+use Rattle.semver_req.specs.Written.{IsFront, comparator_of}
+use Rattle.semver_req.specs.declared.common.comparator.Written.{Written}
 use Rattle.semver_req.proofs.PieceReadings.{whitespace_piece, piece_one}
 
 -- ---- one piece
@@ -110,6 +112,14 @@ module _ (f : Flavour) where
   list_retained (last_item {a} {v} h) = one_retained a v h
   list_retained (closed_item {a} {v} h s) = one_retained a v h
   list_retained (more_items {b} {v} {vs} h s more) = many_retained b v vs more
+
+  -- one comparator and nothing more
+  pub only_read : {piece rest : List ℕ} {written : Written} {answer : RangeOrInvalid} (front : IsFront (IsComparator f) piece written rest) → (length rest == 0) ≡ true
+      → answer ≡ joined (comparator_of written.operator front.partial ∷ []) → IsWholeRead (IsComparators f) piece (Some answer)
+  only_read {written = written} front empty seen =
+      let cs = comparator_of written.operator front.partial ∷ [] in
+      let whole : IsComparators f _ cs = last_item (whole_of front.longest empty) in
+      (cs, whole, seen ∙ ap (read_as cs) (sym (list_retained whole)))
 
   -- comparators and nothing more
   pub list_read : {piece rest : List ℕ} {cs : List Comparator} {answer : RangeOrInvalid} → IsLongest (IsComparators f) piece cs rest → answer ≡ joined cs → (length rest == 0) ≡ true → IsWholeRead (IsComparators f) piece (Some answer)

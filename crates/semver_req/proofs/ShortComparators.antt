@@ -53,7 +53,7 @@ use Rattle.semver_req.specs.Partials.{IsComponent, IsPartial, IsBarePartial, is_
 use Rattle.semver_req.specs.Pieces.{HasNoBar, IsCutting, IsFilled, IsHyphenPair, IsUpper, normal, npm, one_piece}
 use Rattle.semver_req.specs.PieceReading.{as_retained, numbers_fit, sums_fit}
 use Rattle.semver_req.specs.PieceSteps.{IsAdded, IsWholeRead}
-use Rattle.semver_req.specs.ShortComparators.{IsFewer, IsShortEnd, IsShortHyphen, IsShortPartial, IsShortPiece, IsShortComparator, IsShortStart, IsUnclosed, no_wildcard, with_wildcard}
+use Rattle.semver_req.specs.ShortComparators.{IsFewer, IsShortEnd, IsShortHyphen, IsShortPartial, IsShortPiece, IsShortComparator, IsShortStart, IsUnclosed, no_wildcard, with_wildcard, with_wildcards}
 use Rattle.semver_req.specs.Written.{IsFront, IsOperatorCut, IsNonPrimitive, comparator_of}
 use Rattle.semver_req.specs.declared.common.comparator.Operator.{Operator}
 use Rattle.semver_req.specs.declared.common.comparator.Operator.TheVariants as operator
@@ -140,18 +140,20 @@ short_bare f (short_numbers.Two m n) p = two_read f (number_seen f p.major) refl
 short_bare f (short_numbers.Three n) t = numbers_seen f t (no_qualifier (strictness_of f))
 
 -- a wildcard behind them
-wild_seen : (f : Flavour) (b : ℕ) → is_wildcard f b ≡ true → IsSeen sized_component (IsComponent f) (b ∷ []) (Fits Wildcard) []
-wild_seen f b wild = record { value = Wildcard; longest = component_wildcard f b (b ∷ []) [] wild refl; seen = refl }
+wild_seen : (f : Flavour) (b : ℕ) (rest : List ℕ) → is_wildcard f b ≡ true → IsSeen sized_component (IsComponent f) (b ∷ rest) (Fits Wildcard) rest
+wild_seen f b rest wild = record { value = Wildcard; longest = component_wildcard f b (b ∷ rest) rest wild refl; seen = refl }
 
 short_wild : (f : Flavour) (front : List ℕ) (b : ℕ) (n : ShortNumbers) → IsShortNumbers front n → IsFewer n → is_wildcard f b ≡ true → IsSeen sized_partial (IsBarePartial f) (front ++ (46 ∷ b ∷ [])) (Fits (of_short n)) []
-short_wild f front b (short_numbers.One m) p few wild = two_read f (number_seen f (bare_before (46 ∷ b ∷ []) (b ∷ []) refl p)) refl (wild_seen f b wild) nothing_more
+short_wild f front b (short_numbers.One m) p few wild = two_read f (number_seen f (bare_before (46 ∷ b ∷ []) (b ∷ []) refl p)) refl (wild_seen f b [] wild) nothing_more
 short_wild f front b (short_numbers.Two m n) p few wild =
-    three_read f (number_seen f (bare_before (46 ∷ b ∷ []) (p.from_minor ++ (46 ∷ b ∷ [])) refl p.major)) refl (number_seen f (bare_before (46 ∷ b ∷ []) (b ∷ []) refl p.minor)) refl (wild_seen f b wild) (no_qualifier (strictness_of f))
+    three_read f (number_seen f (bare_before (46 ∷ b ∷ []) (p.from_minor ++ (46 ∷ b ∷ [])) refl p.major)) refl (number_seen f (bare_before (46 ∷ b ∷ []) (b ∷ []) refl p.minor)) refl (wild_seen f b [] wild) (no_qualifier (strictness_of f))
 short_wild f front b (short_numbers.Three n) p few wild = absurd few
 
 partial_seen : (f : Flavour) {text : List ℕ} (n : ShortNumbers) → IsShortPartial f text n → IsSeen sized_partial (IsBarePartial f) text (Fits (of_short n)) []
 partial_seen f n (no_wildcard h) = short_bare f n h
 partial_seen f n (with_wildcard front b e h few wild) = rw e (short_wild f front b n h few wild)
+partial_seen f n (with_wildcards front b c e h wild last) =
+    rw e (three_read f (number_seen f (bare_before (46 ∷ b ∷ 46 ∷ c ∷ []) (b ∷ 46 ∷ c ∷ []) refl h)) refl (wild_seen f b (46 ∷ c ∷ []) wild) refl (wild_seen f c [] last) (no_qualifier (strictness_of f)))
 
 short_begins : {text : List ℕ} (n : ShortNumbers) → IsShortNumbers text n → (b : ℕ) (more : List ℕ) → text ≡ b ∷ more → is_ascii_digit b ≡ true
 short_begins (short_numbers.One m) p = first_digit p.loose
@@ -169,6 +171,7 @@ begins_no_v n (x ∷ front) more rest h e = let byte : x ≡ 118 = ap (λ t. get
 no_led : (f : Flavour) {text : List ℕ} (n : ShortNumbers) → IsShortPartial f text n → (rest : List ℕ) → text ≡ 118 ∷ rest → ⊥
 no_led f n (no_wildcard h) rest e = cc (short_begins n h 118 rest e)
 no_led f n (with_wildcard front b is h few wild) rest e = begins_no_v n front (b ∷ []) rest h (sym is ∙ e)
+no_led f n (with_wildcards front b c is h wild last) rest e = begins_no_v n front (b ∷ 46 ∷ c ∷ []) rest h (sym is ∙ e)
 
 short_seen : (f : Flavour) {text : List ℕ} (n : ShortNumbers) → IsShortPartial f text n → IsSeen sized_partial (IsPartial f) text (Fits (of_short n)) []
 short_seen Npm {text} n t = not_led text (Some (Fits (of_short n), [])) (no_led Npm n t) (partial_seen Npm n t)
@@ -232,6 +235,10 @@ partial_solid f text n (with_wildcard front b e h few wild) =
     let solid = short_solid front n h in
     let last : list_all is_solid_byte (46 ∷ b ∷ []) ≡ true = rw (wild_solid f b wild) refl in
     rw e (list_all-append is_solid_byte front (46 ∷ b ∷ []) solid.0 last, omega (arith, solid.1, length-append front (46 ∷ b ∷ [])))
+partial_solid f text n (with_wildcards front b c e h wild last) =
+    let solid = short_solid front n h in
+    let behind : list_all is_solid_byte (46 ∷ b ∷ 46 ∷ c ∷ []) ≡ true = rw (wild_solid f b wild, wild_solid f c last) refl in
+    rw e (list_all-append is_solid_byte front (46 ∷ b ∷ 46 ∷ c ∷ []) solid.0 behind, omega (arith, solid.1, length-append front (46 ∷ b ∷ 46 ∷ c ∷ [])))
 
 solid_by : (m : Operator) (text rest : List ℕ) → IsOperatorCut text m rest → IsSolid rest → IsSolid text
 solid_by operator.Tilde text rest e h = rw e (h.0, omega arith)
@@ -252,6 +259,7 @@ strict_wild Specifier b h = h
 strict_partial : (f : Flavour) {text : List ℕ} {n : ShortNumbers} → IsShortPartial f text n → IsShortPartial Specifier text n
 strict_partial f (no_wildcard h) = no_wildcard h
 strict_partial f (with_wildcard front b e h few wild) = with_wildcard front b e h few (strict_wild f b wild)
+strict_partial f (with_wildcards front b c e h wild last) = with_wildcards front b c e h (strict_wild f b wild) (strict_wild f c last)
 
 abbrev as_strict : (f : Flavour) {text : List ℕ} {range : VersionRange} → IsShortComparator f text range → IsShortComparator Specifier text range
 as_strict f p = record { operator = p.operator; rest = p.rest; numbers = p.numbers; cut = p.cut; short_partial = strict_partial f p.short_partial; line = p.line }

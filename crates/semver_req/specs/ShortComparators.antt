@@ -28,11 +28,14 @@ IsFewer (short_numbers.One m) = Unit {0}
 IsFewer (short_numbers.Two m n) = Unit {0}
 IsFewer (short_numbers.Three n) = ⊥
 
--- the whole text is one to three numbers, or one or two and a wildcard behind them
+-- the whole text is one to three numbers, one or two and a wildcard behind them, or one and two wildcards
 pub data IsShortPartial (f : Flavour) : List ℕ → ShortNumbers → Type 0 where
   no_wildcard : {text : List ℕ} {numbers : ShortNumbers} → IsShortNumbers text numbers → IsShortPartial f text numbers
   with_wildcard : (front : List ℕ) (b : ℕ) {text : List ℕ} {numbers : ShortNumbers} → text ≡ front ++ (dot ∷ b ∷ [])
       → IsShortNumbers front numbers → IsFewer numbers → is_wildcard f b ≡ true → IsShortPartial f text numbers
+  with_wildcards : (front : List ℕ) (b c : ℕ) {text : List ℕ} {m : ℕ} → text ≡ front ++ (dot ∷ b ∷ dot ∷ c ∷ [])
+      → IsShortNumbers front (short_numbers.One m) → is_wildcard f b ≡ true → is_wildcard f c ≡ true
+      → IsShortPartial f text (short_numbers.One m)
 
 -- the whole text is `~`, `^` or nothing and such numbers, with this range
 pub record IsShortComparator (f : Flavour) (text : List ℕ) (range : VersionRange) : Type 0 where

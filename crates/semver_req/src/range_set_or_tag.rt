@@ -19,7 +19,7 @@ use crate::tag::is_valid_npm_tag;
 use pieces::read_pieces;
 pub use pieces::{FirstPiece, RangeOrInvalid, first_piece, next_piece};
 use semver_base::failure::{ParseFailure, Rejection};
-use semver_base::range::VersionRangeSet;
+use semver_base::range::{VersionRange, VersionRangeSet};
 use semver_base::string::{
     CowVec, SmallStackString, StringAppendable, StringType, append_displayed,
 };
@@ -51,7 +51,7 @@ fn tag_or(alloc: Global, text: &str, rejection: Rejection) -> Result<RangeSetOrT
     Err(ParseFailure::of_rejection(alloc, rejection))
 }
 
-// The range of a short text. `None` says nothing about the text.
+// The range of a short text, or of `*`. `None` says nothing about the text.
 #[inline(always)]
 fn short_set(
     alloc: Global,
@@ -60,10 +60,11 @@ fn short_set(
 ) -> Result<Option<RangeSetOrTag>, AllocError>
     ensures { IsCutting flavour → IfOk result (λ r. IfSome r (IsReading flavour text.now)) }
 {
-    let Some(range) = short_piece(text, flavour) else {
-        return Ok(None);
+    let ranges = match short_piece(text, flavour) {
+        Some(range) => CowVec::of_one(alloc, range.into_range(alloc))?,
+        None if text == "*" => CowVec::of_one(alloc, VersionRange::all())?,
+        None => return Ok(None),
     };
-    let ranges = CowVec::of_one(alloc, range.into_range(alloc))?;
     Ok(Some(RangeSetOrTag::RangeSet(VersionRangeSet(ranges))))
 }
 

@@ -69,14 +69,20 @@ fn before_wildcard(text: &[u8], flavour: Flavour) -> Option<&[u8]>
     }
 }
 
-// Parses the whole text as one to three numbers, or one or two and a wildcard behind them.
+// Parses the whole text as one to three numbers, one or two and a wildcard behind them, or one and two wildcards.
 #[inline(always)]
 fn short_partial(text: &[u8], flavour: Flavour) -> Option<ShortNumbers>
     ensures { IfSome result (IsShortPartial flavour text.now) }
 {
-    match before_wildcard(text, flavour) {
-        Some(front) => fewer(short_numbers(front)?),
-        None => short_numbers(text),
+    let Some(front) = before_wildcard(text, flavour) else {
+        return short_numbers(text);
+    };
+    match before_wildcard(front, flavour) {
+        Some(front) => match short_numbers(front)? {
+            ShortNumbers::One(major) => Some(ShortNumbers::One(major)),
+            _ => None,
+        },
+        None => fewer(short_numbers(front)?),
     }
 }
 

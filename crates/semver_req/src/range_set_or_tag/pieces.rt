@@ -1,8 +1,8 @@
 //! How npm's and the normalized grammar split a text at each `||`, and how they parse each piece.
 
-ghost use Rattle.std.specs.Prelude.{◌≡◌, ◌↔◌, ◌++◌, ◌∷◌, [], IfErr, IfOk, IsTrue, List, MatchOption, None, OnOk};
+ghost use Rattle.std.specs.Prelude.{◌≡◌, ◌↔◌, ◌++◌, ◌∷◌, [], IfErr, IfOk, IsTrue, List, MatchOption, None, OnOk, ℕ};
 ghost use Rattle.semver_base.specs.Comparators.{Comparator};
-ghost use Rattle.semver_base.specs.Grammar.{ReadsAs, answer_of};
+ghost use Rattle.semver_base.specs.Grammar.{IsSeen};
 ghost use Rattle.semver_base.specs.declared.failure.Rejection.TheVariants.{BoundTooLarge};
 ghost use Rattle.semver_base.specs.declared.lexical.values.Measured.TheVariants.{Fits};
 ghost use Rattle.semver_base.specs.declared.partial.Partial.{Partial};
@@ -10,7 +10,8 @@ ghost use Rattle.semver_req.specs.Partials.{sized_partial};
 ghost use Rattle.semver_req.specs.PieceReading.{IsPieceRead, as_retained, joined, retained_of};
 ghost use Rattle.semver_req.specs.PieceSteps.{AreAllRead, IsAdded, IsEverything, IsFirstPiece, IsHyphenRead, IsNextPiece, IsWholeRead, both_now};
 ghost use Rattle.semver_req.specs.Pieces.{HasNoBar, IsComparators, IsCutAt, IsCutting, IsFilled, IsHyphen, hyphen};
-ghost use Rattle.semver_req.specs.Written.{comparator_of};
+ghost use Rattle.semver_req.specs.Comparators.{IsComparator};
+ghost use Rattle.semver_req.specs.Written.{IsFront, comparator_of};
 ghost use Rattle.semver_req.specs.declared.range_set_or_tag.pieces.RangeOrInvalid.TheVariants.{Invalid};
 
 use crate::common::comparator::{Written, comparator_front};
@@ -107,29 +108,29 @@ impl RangeOrInvalid {
         }
     }
 
-    // Parses leading comparators with separators between them.
-    #[inline(always)]
+    // Parses the rest of leading comparators with separators between them, of which this is the first. In a call of its own, since most pieces
+    // are one comparator.
+    #[inline(never)]
     fn comparators(
         alloc: Global,
+        first: Written,
         text: &str,
         flavour: Flavour,
-    ) -> Result<Option<(RangeOrInvalid, &str)>, ParseFailure>
-        ensures value { IfOk result
-            (λ r. ReadsAs joined (IsComparators flavour) text.now (answer_of r)) }
+    ) -> Result<(RangeOrInvalid, &str), ParseFailure>
+        ensures value { (piece : List ℕ) → IsFront (IsComparator flavour) piece first text.now
+            → IfOk result (λ r. IsSeen joined (IsComparators flavour) piece r.0 r.1.now) }
         ensures memory { IfErr result (λ failure. failure ≡ None) }
     {
-        let Some((first, mut rest)) = comparator_front(alloc, text, flavour)? else {
-            return Ok(None);
-        };
         let mut read = RangeOrInvalid::of_one(alloc, first)?;
+        let mut rest = text;
         while let Some(next) = after_separator(rest, flavour) {
             let Some((written, more)) = comparator_front(alloc, next, flavour)? else {
-                return Ok(Some((read, next)));
+                return Ok((read, next));
             };
             read = read.and(alloc, written)?;
             rest = more;
         }
-        Ok(Some((read, rest)))
+        Ok((read, rest))
     }
 
     // Parses the whole piece as comparators.
@@ -142,9 +143,13 @@ impl RangeOrInvalid {
         ensures value { IfOk result (IsWholeRead (IsComparators flavour) piece.now) }
         ensures memory { IfErr result (λ failure. failure ≡ None) }
     {
-        let Some((read, rest)) = RangeOrInvalid::comparators(alloc, piece, flavour)? else {
+        let Some((first, rest)) = comparator_front(alloc, piece, flavour)? else {
             return Ok(None);
         };
+        if rest.is_empty() {
+            return Ok(Some(RangeOrInvalid::of_one(alloc, first)?));
+        }
+        let (read, rest) = RangeOrInvalid::comparators(alloc, first, rest, flavour)?;
         if !rest.is_empty() {
             return Ok(None);
         }
@@ -239,6 +244,7 @@ impl RangeOrInvalid {
     /// followed by `||`, is the range without bounds; comparators with separators between them, and at most one at the end,
     /// are the intersection of their ranges; two partial versions around a `-` are npm's hyphen range; anything else is
     /// invalid. Fails only out of memory.
+    #[inline(always)]
     pub fn parse(
         alloc: Global,
         piece: &str,
