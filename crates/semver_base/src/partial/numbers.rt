@@ -252,7 +252,8 @@ impl ShortNumbers {
     pub fn greater_than(self, kind: VersionBoundKind) -> Option<ReleaseBound>
         ensures range { IfSome result (λ start.
             IsLineRange (greater_than kind (of_short self)) (between (release_bound start) Unbounded)) }
-        ensures too_large { IfNone result (all_fit (greater_than kind (of_short self)).sums ≡ false) }
+        ensures too_large { IfNone result
+            (all_fit (greater_than kind (of_short self)).sums ≡ false) }
     {
         match kind {
             VersionBoundKind::Inclusive => Some(ReleaseBound::inclusive(self.lowest())),
