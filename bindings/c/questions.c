@@ -329,10 +329,31 @@ static void may_be_tag(const text *t) {
     check(semver_may_be_tag(BYTES(t[0])), FIT, NULL, 0);
 }
 
+/* Compares what a call wrote with a field of the answer. */
+static void check_field(int32_t code, text wanted) {
+    if (memory_is_short && code == SEMVER_NO_MEMORY) return;
+    if (code == SEMVER_YES && needed == wanted.len && memcmp(out, wanted.at, wanted.len) == 0) return;
+    printf("%.*s: %.*s\n", (int)row.len, (const char *)row.at, (int)needed, (const char *)out);
+    failed = 1;
+}
+
+/* An answer has the name, the range and its canonical form behind the JSON. */
 static void package(const text *t) {
-    text rest = expected;
-    if (is(cut(&rest, US), "yes")) expected.len = before(rest, US).len + 4; /* the parts behind the JSON are for Rust */
+    semver_req r = {0};
+    text rest = expected, all = expected;
+    if (is(cut(&rest, US), "yes")) expected.len = before(rest, US).len + 4;
     check_text(semver_package(grammar, BYTES(t[0]), OUT));
+    int32_t code = semver_package_read(grammar, BYTES(t[0]), &r, OUT);
+    if (code == SEMVER_YES) {
+        cut(&rest, US);
+        check_field(code, cut(&rest, US));
+        check_field(semver_req_text(&r, OUT), cut(&rest, US));
+        check_field(semver_req_normal(&r, OUT), cut(&rest, US));
+        semver_req_free(&r);
+    } else {
+        check_text(code);
+    }
+    expected = all;
 }
 
 /* A question's name; how many of a grammar and pre-releases stand before its texts; and the calls that answer it: of texts, of two

@@ -204,6 +204,11 @@ typedef struct {
 int32_t semver_req_read(uint32_t grammar, const uint8_t *text, size_t text_len, semver_req *handle,
                         uint8_t *out, size_t out_len, size_t *needed);
 
+/* Parses a package with a range, such as @scope/name@^1.2: YES, with its name, and the handle, which has none, gets the range. The grammar
+ * is that of the range. For any other code the handle still has none. */
+int32_t semver_package_read(uint32_t grammar, const uint8_t *text, size_t text_len, semver_req *handle,
+                            uint8_t *out, size_t out_len, size_t *needed);
+
 /* Parses a version into a handle that has none: YES, with its text as displayed. For any other code it still has none. */
 int32_t semver_version_read(const uint8_t *text, size_t text_len, semver_ver *handle,
                             uint8_t *out, size_t out_len, size_t *needed);

@@ -7,6 +7,7 @@ use Rattle.semver_req.specs.Requirement.{Requirement, inner_means_with, inner_ov
 use Rattle.semver_req.specs.declared.range_set_or_tag.RangeSetOrTag.{RangeSetOrTag}
 use Rattle.semver_req.specs.declared.range_set_or_tag.RangeSetOrTag.TheVariants as inner
 use Rattle.semver_req.specs.Resolve.{IsBestMatch, IsOnlyMatch}
+use Rattle.deno_semver.specs.declared.package.values.PackageReq.{PackageReq}
 use Rattle.answers.specs.Asking.{Is}
 use Rattle.answers.specs.Filtering.{better_line, line_passes, list_matches}
 use Rattle.answers.specs.Questions.{match_of}
@@ -30,6 +31,11 @@ pub record IsHeld {X : Type 0} (Asked : Result X CallFault → Type 0) (held : O
       ⊎ ((outcome : Result X CallFault) × Asked outcome × HoldsOutcome outcome held code)
   pub only : (outcome : Result X CallFault) → Asked outcome
       → ((code ≡ no_memory) × (held ≡ None)) ⊎ HoldsOutcome outcome held code
+
+-- the package of this name whose range is held
+abbrev pub package_held : List ℕ → Option Requirement → Option PackageReq
+package_held name (Some req) = Some (record { name = name; version_req = req })
+package_held name None = None
 
 -- does a version match a range
 abbrev pub IsHeldMatch : ℕ → Option Requirement → Option Version → ℤ → Type 0

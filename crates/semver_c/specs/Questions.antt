@@ -7,12 +7,13 @@ use Rattle.semver_base.specs.declared.version.Version.{Version}
 use Rattle.semver_req.specs.Requirement.{Requirement, tag_of}
 use Rattle.semver_req.specs.declared.common.values.Flavour.{Flavour}
 use Rattle.deno_semver.specs.ExportName.{export_name}
+use Rattle.deno_semver.specs.declared.package.values.PackageReq.{PackageReq}
 use Rattle.semver_req.specs.Viable.{IsErrorPlace, IsVersionText}
 use Rattle.answers.specs.Asking.{Fault, Given, Is}
 use Rattle.answers.specs.Errors.{IsErrorsText}
 use Rattle.answers.specs.ExplainedJson.{Explains}
 use Rattle.answers.specs.Filtering.{Filter, VersionLines}
-use Rattle.package_answers.specs.Packages.{PackageParts}
+use Rattle.package_answers.specs.Packages.{IsPackage, PackageParts}
 use Rattle.answers.specs.Parts.{RangeParts, VersionParts}
 use Rattle.package_answers.specs.Names.{NameWithVersionParts}
 use Rattle.answers.specs.Questions.{BestMatch, Canonical, Common, Displayed, Equivalent, LowestMatch, Matches, Orders, Outside, Overlaps, match_of}
@@ -27,6 +28,7 @@ use Rattle.semver_c.specs.Arguments.{CallFault, Called, IsGrammar, IsText, pre_r
 use Rattle.semver_c.specs.Codes.{match_code}
 use Rattle.semver_c.specs.declared.codes.Code.{Code}
 use Rattle.semver_c.specs.declared.questions.Numbers.{Numbers}
+use Rattle.semver_c.specs.declared.questions.ReadPackage.{ReadPackage}
 
 -- ---- arguments before the question
 
@@ -112,6 +114,14 @@ SortsOf versions = OfText versions (λ text. Sorts Ascending (lines text))
 -- `semver_package`
 abbrev pub PackageBy : ℕ → List ℕ → Result (List ℕ) CallFault → Type 0
 PackageBy g text = ByOne g text PackageParts
+
+-- `semver_package_read`
+abbrev pub PackageOf : ℕ → List ℕ → Result PackageReq CallFault → Type 0
+PackageOf g text = ByOne g text IsPackage
+
+-- the package that was read
+abbrev pub whole_package : ReadPackage → PackageReq
+whole_package read = record { name = read.name; version_req = read.range.value }
 
 -- `semver_reference`
 abbrev pub ReferenceOf : List ℕ → Result (List ℕ) CallFault → Type 0

@@ -16,8 +16,8 @@ ghost use Rattle.deno_semver.specs.ReqOrder.{inner_cmp};
 ghost use Rattle.answers.specs.Asking.{Is};
 ghost use Rattle.answers.specs.declared.questions.End.TheVariants as end;
 ghost use Rattle.semver_c.specs.Codes.{IsCode, IsOneReply, IsPlaceReply, IsPlaced, IsReply, IsUntouched, IsUntouchedWithoutValue, always_yes, as_place, best_code, best_place, bool_code, filter_code, filter_numbers, lowest_code, lowest_text, match_code, no_place, no_text, number_of, order_code, text_code, text_of, three_numbers, unqualified_code, yes};
-ghost use Rattle.semver_c.specs.Held.{IsHeld, IsHeldBest, IsHeldEqual, IsHeldFilter, IsHeldMatch, IsHeldOrder, IsHeldOverlap, IsHeldSort, lines_of};
-ghost use Rattle.semver_c.specs.Questions.{BestLine, CanonicalBy, CommonBy, CommonOfAll, DependencyBy, DisplayedOf, EquivalentBy, ErrorsBy, ExplainsBy, ExportNameOf, Filters, Fits, LowestBy, LowestLine, MatchesHeld, NameWithVersionOf, NumbersOf, OrdersOf, OutsideBy, OverlapsBy, PackageBy, RangeBy, RangesBy, ReferenceOf, SortsOf, TagBy, VersionErrorOf, VersionListOf, VersionOf, VersionPartsOf, VersionReferenceOf};
+ghost use Rattle.semver_c.specs.Held.{IsHeld, IsHeldBest, IsHeldEqual, IsHeldFilter, IsHeldMatch, IsHeldOrder, IsHeldOverlap, IsHeldSort, lines_of, package_held};
+ghost use Rattle.semver_c.specs.Questions.{BestLine, CanonicalBy, CommonBy, CommonOfAll, DependencyBy, DisplayedOf, EquivalentBy, ErrorsBy, ExplainsBy, ExportNameOf, Filters, Fits, LowestBy, LowestLine, MatchesHeld, NameWithVersionOf, NumbersOf, OrdersOf, OutsideBy, OverlapsBy, PackageBy, PackageOf, RangeBy, RangesBy, ReferenceOf, SortsOf, TagBy, VersionErrorOf, VersionListOf, VersionOf, VersionPartsOf, VersionReferenceOf};
 ghost use Rattle.semver_c.specs.declared.codes.Code.TheVariants as code;
 
 mod arguments;
@@ -38,8 +38,8 @@ use questions::{
     equivalent_ranges, errors_of, explanation_of, export_name_of, filter, filter_held, fits,
     held_canonical, held_displayed, is_tag, lowest, lowest_line, match_code, matches_held,
     name_with_version_of, names_tag, numbers_of, order_of, outside, overlap, package_of, ranges_of,
-    read_list, read_range, read_version, reference_of, release, sorted_held, sorted_lines,
-    version_error_of, version_parts_of, version_reference_of,
+    read_list, read_package_of, read_range, read_version, reference_of, release, sorted_held,
+    sorted_lines, version_error_of, version_parts_of, version_reference_of,
 };
 use reports::{
     code_of_bool, code_of_match, code_of_order, code_or_problem, put, put_place, report_best,
@@ -537,6 +537,30 @@ pub extern "C" fn semver_req_read(
     match read_range(alloc, grammar, text) {
         Ok(read) => {
             put(read.canonical.as_str(), out, needed);
+            *handle = RequirementHandle::keep(read.range);
+            Code::Yes.number()
+        }
+        Err(problem) => report_problem(&problem, out, needed),
+    }
+}
+
+/// Parses a package: yes, with its name; an empty handle holds its range, of which the grammar is.
+#[unsafe(no_mangle)]
+pub extern "C" fn semver_package_read(
+    alloc: Global,
+    grammar: u32,
+    text: &[u8],
+    handle: &mut RequirementHandle,
+    out: &mut [u8],
+    needed: &mut usize,
+) -> i32
+    requires { handle.old.value ≡ None }
+    ensures { (name : List ℕ) × IsPlaced name out.old out.new needed.new
+        × IsHeld (PackageOf grammar text.now) (package_held name handle.new.value) result }
+{
+    match read_package_of(alloc, grammar, text) {
+        Ok(read) => {
+            put(read.name.as_str(), out, needed);
             *handle = RequirementHandle::keep(read.range);
             Code::Yes.number()
         }

@@ -13,7 +13,7 @@ ghost use Rattle.answers.specs.declared.sorting.Order.TheVariants as sorting;
 ghost use Rattle.semver_c.specs.Arguments.{IsAnswer, IsOneAnswer, pre_release_of};
 ghost use Rattle.semver_c.specs.Codes.{match_code};
 ghost use Rattle.semver_c.specs.Held.{IsListBest, list_lines};
-ghost use Rattle.semver_c.specs.Questions.{BestLine, CanonicalBy, CommonBy, CommonOfAll, DependencyBy, DisplayedOf, EquivalentBy, ErrorsBy, ExplainsBy, ExportNameOf, Filters, Fits, LowestBy, LowestLine, MatchesHeld, NameWithVersionOf, NumbersOf, OrdersOf, OutsideBy, OverlapsBy, PackageBy, RangeBy, RangesBy, ReferenceOf, SortsOf, TagBy, VersionErrorOf, VersionListOf, VersionOf, VersionPartsOf, VersionReferenceOf, version_numbers};
+ghost use Rattle.semver_c.specs.Questions.{BestLine, CanonicalBy, CommonBy, CommonOfAll, DependencyBy, DisplayedOf, EquivalentBy, ErrorsBy, ExplainsBy, ExportNameOf, Filters, Fits, LowestBy, LowestLine, MatchesHeld, NameWithVersionOf, NumbersOf, OrdersOf, OutsideBy, OverlapsBy, PackageBy, PackageOf, RangeBy, RangesBy, ReferenceOf, SortsOf, TagBy, VersionErrorOf, VersionListOf, VersionOf, VersionPartsOf, VersionReferenceOf, version_numbers, whole_package};
 
 use crate::arguments::{Problem, flavour, line_list, pre_release, text};
 use crate::codes::Code;
@@ -30,9 +30,10 @@ use answers::questions::{
 use answers::reading::{range, version};
 use answers::sorting::{Order, sort, sorted_lines as sorted_list};
 use deno_semver::jsr::normalized_export_name;
+use deno_semver::package::PackageName;
 use deno_semver::{PreRelease, Version, VersionReq};
 use package_answers::names::name_with_version_parts;
-use package_answers::packages::package_parts;
+use package_answers::packages::{package_parts, read_package};
 use package_answers::references::reference_parts;
 use package_answers::specifiers::{dependency_parts, version_reference_parts};
 use semver_base::string::CowVec;
@@ -397,6 +398,27 @@ pub fn read_range(alloc: Global, grammar: u32, bytes: &[u8]) -> Result<ReadRange
     let canonical = parsed.to_string_normalized(alloc)?;
     let range = boxed(alloc, parsed)?;
     Ok(ReadRange { range, canonical })
+}
+
+/// A package, whose range is on the heap.
+#[derive(Drop)]
+pub struct ReadPackage {
+    pub name: PackageName,
+    pub range: Box<VersionReq>,
+}
+
+/// Parses a package.
+pub fn read_package_of(alloc: Global, grammar: u32, bytes: &[u8]) -> Result<ReadPackage, Problem>
+    ensures { IsAnswer (PackageOf grammar bytes.now) whole_package result }
+{
+    let flavour = flavour(grammar)?;
+    let text = text(bytes)?;
+    let package = read_package(alloc, flavour, text)?;
+    let range = boxed(alloc, package.version_req)?;
+    Ok(ReadPackage {
+        name: package.name,
+        range,
+    })
 }
 
 /// A version on the heap, with its text as displayed.
