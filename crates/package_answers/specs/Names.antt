@@ -1,5 +1,5 @@
 -- The name with a version that a text parses to, and its parts as JSON.
-use Rattle.std.specs.Prelude.{◌≡◌, ◌⊎◌, ℕ, List, None, Some, Result, Ok, Err, codes}
+use Rattle.std.specs.Prelude.{◌≡◌, ◌⊎◌, ℕ, List, None, Some, Result, Err, codes}
 use Rattle.serde_json.specs.Data.{Data, member, no_members, object, string}
 use Rattle.serde_json.specs.Written.{compact_text}
 use Rattle.semver_base.specs.Failure.{rejection_message}

@@ -38,7 +38,7 @@ use Rattle.semver_base.specs.declared.range.RangeBound.TheVariants as bound
 use Rattle.semver_base.specs.declared.range.VersionBoundKind.{VersionBoundKind}
 use Rattle.semver_base.specs.declared.range.VersionBoundKind.TheVariants as kind
 use Rattle.semver_base.specs.declared.range.VersionRange.{VersionRange}
-use Rattle.semver_base.proofs.Bytes.{list_all-append, list_all-wider, prefixed_some_text}
+use Rattle.semver_base.proofs.Bytes.{list_all-append, list_all-wider}
 use Rattle.semver_base.proofs.Fronts.{fronts, longer, prefixed_other, same, shorter}
 use Rattle.semver_base.proofs.Numbers.{loose_begins, loose_goes, loose_some, number_is_loose}
 use Rattle.semver_base.proofs.WordReadings.{number_one}

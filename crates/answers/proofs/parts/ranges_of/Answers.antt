@@ -1,4 +1,4 @@
-use Rattle.std.proofs.Common.{◌≡◌, ◌∙◌, ap, rules, string_bytes, sym}
+use Rattle.std.proofs.Common.{◌≡◌, ◌∙◌, ap, rules, sym}
 use Rattle.serde_json.specs.Written.{compact_text}
 use Rattle.answers.specs.Parts.{ranges_answer, ranges_json}
 use Rattle.answers.specs.declared.asking.Answer.TheVariants.{Value}

@@ -1,4 +1,4 @@
-use Rattle.std.proofs.Common.{Ok, Err, None, refl}
+use Rattle.std.proofs.Common.{Ok, Err}
 use Rattle.std.specs.Str.{trim}
 use Rattle.semver_base.specs.VersionGrammar.{IsVersionOutcome}
 use Rattle.semver_base.specs.declared.failure.Rejection.{Rejection}

@@ -1,6 +1,3 @@
-use Rattle.std.proofs.Common.{rules}
-use Rattle.std.specs.Prelude.{◌≡◌, IfOk}
-use Rattle.serde_json.specs.View.{view}
 use Rattle.package_answers.proofs.references.reference_json.Goals as goal
 
 pub returns : goal.returns

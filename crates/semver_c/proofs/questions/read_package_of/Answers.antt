@@ -1,11 +1,11 @@
-use Rattle.std.proofs.Common.{ℕ, List, Ok, Result, ap, refl}
+use Rattle.std.proofs.Common.{Ok, Result, ap, refl}
 use Rattle.semver_req.specs.Requirement.{Requirement}
 use Rattle.deno_semver.specs.declared.package.values.PackageReq.{PackageReq}
 use Rattle.semver_c.specs.Arguments.{CallFault}
 use Rattle.semver_c.specs.declared.questions.ReadPackage.{ReadPackage}
 use Rattle.semver_c.specs.Questions.{whole_package}
 use Rattle.semver_c.specs.declared.arguments.Problem.TheVariants as problem
-use Rattle.semver_c.proofs.Asking.{by_answer, by_grammar, by_memory, by_no_grammar, by_no_text, by_problem, by_text}
+use Rattle.semver_c.proofs.Asking.{by_answer, by_grammar, by_no_grammar, by_no_text, by_problem, by_text}
 use Rattle.semver_c.proofs.questions.read_package_of.Goals as goal
 
 pub returns-in_err-flavour : goal.returns-in_err-flavour
