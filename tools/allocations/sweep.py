@@ -23,7 +23,7 @@ TEXTS = (
     "@scope/name@^1.0.0-a.b.c",
 )
 # Calls whose first argument says what is asked: rows of each are chosen, and each example is asked.
-KINDS = ("example", "order-of", "equal-of", "written", "json")
+KINDS = ("example", "order-of", "equal-of", "written", "json", "stored", "error-place")
 # On texts that are stored in the value, which never take memory.
 NEEDS_NONE = ("example in-value",)
 # What a call answers out of memory. One answers whether a parser ran out of it, too; it is swept with the texts alone, with nothing

@@ -227,7 +227,7 @@ def rows(texts, versions):
         for name, grammar in GRAMMARS.items():
             yield json.dumps([["error-place", name, given], [str(place(grammar, given))]])
     for given in versions:
-        yield json.dumps([["version-error-place", given], [str(place(VERSION, given))]])
+        yield json.dumps([["error-place", "version", given], [str(place(VERSION, given))]])
 
 
 def asked_of_ranges(texts):

@@ -1,4 +1,5 @@
-//! Asks the crate each row of the project's table (docs/TABLE.md) that concerns it, with the feature `serde`, which reads the rows.
+//! Asks the crate each row of the project's table (docs/TABLE.md) that concerns it, and those of `ranges.rows`, with the feature
+//! `serde`, which reads the rows.
 #![cfg(feature = "serde")]
 
 use deno_semver_proved::jsr::{
@@ -244,13 +245,13 @@ fn order_of(kind: &str, one: &str, other: &str) -> Option<Answer> {
         ordering(parse(one).ok()?.cmp(&parse(other).ok()?))
     }
     match kind {
-        "text" | "small-text" => ordering(StackString::from(one).cmp(&other.into())),
+        "text" => ordering(StackString::from(one).cmp(&other.into())),
         "version" => order(Version::parse_standard, one, other),
         "package" => order(PackageReq::from_str_loose, one, other),
         "dependency" => order(JsrDepPackageReq::from_str_loose, one, other),
         "name-version" => order(PackageNv::from_str, one, other),
         "jsr-version" => order(JsrPackageNvReference::from_str, one, other),
-        "npm-version" | "version-reference" => order(NpmPackageNvReference::from_str, one, other),
+        "npm-version" => order(NpmPackageNvReference::from_str, one, other),
         _ => None,
     }
 }
@@ -338,7 +339,7 @@ fn ask(question: &[Option<String>]) -> Option<Answer> {
         ["overlap", grammar, one, other] => {
             yes_or_no(requirement(grammar, one).ok()?.intersects(&requirement(grammar, other).ok()?))
         }
-        ["version" | "npm-version", text] => match Version::parse_standard(text) {
+        ["version", text] => match Version::parse_standard(text) {
             Ok(version) => {
                 assert_eq!(Version::from_parts((*version).clone()).as_ref(), Ok(&version));
                 answer(&["read", &version.to_string()])
@@ -373,7 +374,9 @@ fn is_right(answer: &Answer, wanted: &Answer) -> bool {
 
 #[test]
 fn table() {
-    let table = std::fs::read_to_string(concat!(env!("CARGO_MANIFEST_DIR"), "/../../crates/conformance/stdin")).expect("a table");
+    let read = |path| std::fs::read_to_string(path).expect("a table");
+    let table = read(concat!(env!("CARGO_MANIFEST_DIR"), "/../../crates/conformance/stdin"))
+        + &read(concat!(env!("CARGO_MANIFEST_DIR"), "/tests/ranges.rows"));
     let (mut asked, mut differ) = (BTreeMap::<String, usize>::new(), 0);
     for line in table.lines().filter(|line| line.starts_with('[')) {
         let [question, wanted]: [Answer; 2] = serde_json::from_str(line).expect("a row");

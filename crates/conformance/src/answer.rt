@@ -8,11 +8,11 @@ use std::fmt::Display;
 /// An argument of a call or a part of an answer: a text or null.
 pub type Item = Option<String>;
 
-/// Why a row has no answer.
-#[derive(Drop)]
+/// Why a call stopped.
+#[derive(Clone, Copy)]
 pub enum Fault {
-    /// A text or a bound is invalid.
-    Rejected(ParseFailure),
+    /// A text is invalid, and the answer says why.
+    Rejected,
     /// The call ran out of memory.
     OutOfMemory,
     /// The call takes other arguments.
@@ -36,22 +36,11 @@ impl From<AllocError> for Fault {
     }
 }
 
-impl From<ParseFailure> for Fault {
-    fn from(failure: ParseFailure) -> Fault {
-        if failure.is_memory() {
-            drop(failure);
-            Fault::OutOfMemory
-        } else {
-            Fault::Rejected(failure)
-        }
-    }
-}
-
 /// The report of a call.
 #[derive(Drop)]
 pub struct Answer {
-    alloc: Global,
-    items: Vec<Item>,
+    pub alloc: Global,
+    pub items: Vec<Item>,
 }
 
 impl Answer {
@@ -61,30 +50,6 @@ impl Answer {
             alloc,
             items: Vec::new(alloc),
         }
-    }
-
-    /// The answer for a fault of a call, or the fault if it has none.
-    pub fn of_fault(alloc: Global, fault: Fault) -> OrFault<Answer> {
-        let mut answer = Answer::new(alloc);
-        match fault {
-            Fault::Rejected(failure) => {
-                answer.texts(&["rejected", failure.message()])?;
-                answer.optional(failure.code_snippet())?;
-            }
-            Fault::OutOfMemory => answer.text("out of memory")?,
-            fault => return Err(fault),
-        }
-        Ok(answer)
-    }
-
-    /// The allocator of the items.
-    pub fn alloc(&self) -> Global {
-        self.alloc
-    }
-
-    /// The items so far.
-    pub fn items(&self) -> &Vec<Item> {
-        &self.items
     }
 
     fn push(&mut self, item: Item) -> Reported {
@@ -118,15 +83,18 @@ impl Answer {
         }
     }
 
-    /// Reports a text made for the answer.
-    pub fn made(&mut self, text: Result<String, AllocError>) -> Reported {
-        let text = text?;
+    /// Reports the value as displayed.
+    pub fn displayed<T: Display>(&mut self, value: &T) -> Reported {
+        let text = format!(in self.alloc; "{value}")?;
         self.push(Some(text))
     }
 
-    /// Reports the value as displayed.
-    pub fn displayed<T: Display>(&mut self, value: &T) -> Reported {
-        self.made(format!(in self.alloc; "{value}"))
+    /// Reports the value that a call made, as displayed.
+    pub fn made<T: Display + Drop>(&mut self, value: Result<T, AllocError>) -> Reported {
+        let value = value?;
+        let reported = self.displayed(&value);
+        drop(value);
+        reported
     }
 
     /// Reports `yes` or `no`.
@@ -144,52 +112,31 @@ impl Answer {
     }
 }
 
-/// A value or a parser's error.
-pub trait Report: Drop {
-    /// Whether this is the error of a parser that ran out of memory.
-    fn is_memory(&self) -> bool {
-        false
-    }
-
-    /// Copies the value or error.
-    fn copied(&self) -> Result<Self, AllocError>;
-
+/// The error of a parser.
+pub trait ParserError: Drop {
+    /// Reports `rejected` and why. Fails if the parser ran out of memory.
     fn report(&self, answer: &mut Answer) -> Reported;
 }
 
-/// The value, if the text of an argument is valid.
-pub fn parsed<T, E: Report>(read: Result<T, E>) -> OrFault<T> {
-    match read {
+impl ParserError for ParseFailure {
+    fn report(&self, answer: &mut Answer) -> Reported {
+        if self.is_memory() {
+            return Err(Fault::OutOfMemory);
+        }
+        answer.texts(&["rejected", self.message()])?;
+        answer.optional(self.code_snippet())
+    }
+}
+
+/// The value that a parser returned. Its error is reported.
+pub fn valid<T, E: ParserError>(parsed: Result<T, E>, answer: &mut Answer) -> OrFault<T> {
+    match parsed {
         Ok(value) => Ok(value),
         Err(error) => {
-            let is_memory = error.is_memory();
+            let reported = error.report(answer);
             drop(error);
-            Err(if is_memory {
-                Fault::OutOfMemory
-            } else {
-                Fault::OtherArguments
-            })
+            reported?;
+            Err(Fault::Rejected)
         }
-    }
-}
-
-/// Reports a copy of the value or of the error.
-pub fn report_either<T: Report, E: Report>(read: Result<T, E>, answer: &mut Answer) -> Reported {
-    match read {
-        Ok(value) => report_copy(value, answer),
-        Err(error) => report_copy(error, answer),
-    }
-}
-
-fn report_copy<T: Report>(value: T, answer: &mut Answer) -> Reported {
-    let (is_memory, copy) = (value.is_memory(), value.copied());
-    drop(value);
-    let copy = copy?;
-    let reported = copy.report(answer);
-    drop(copy);
-    if is_memory {
-        Err(Fault::OutOfMemory)
-    } else {
-        reported
     }
 }

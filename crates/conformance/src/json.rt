@@ -1,8 +1,8 @@
 //! Calls on the JSON of values.
 
-use crate::answer::{Answer, Fault, Item, OrFault, Reported, parsed};
-use crate::arguments::{pair, triple};
-use crate::parse::Parse;
+use crate::answer::{Answer, Fault, Item, OrFault, ParserError, Reported, valid};
+use crate::arguments::pair;
+use crate::kinds::Parse;
 use deno_semver::json::{JsonError, JsonForm};
 use deno_semver::jsr::{JsrDepPackageReq, JsrPackageNvReference};
 use deno_semver::npm::NpmPackageNvReference;
@@ -12,7 +12,19 @@ use deno_semver::{
     VersionBoundKind, VersionRange, VersionRangeSet, VersionReq,
 };
 use serde_json::{Category, Value};
-use std::alloc::{AllocError, Global};
+use std::alloc::Global;
+
+impl ParserError for JsonError {
+    fn report(&self, answer: &mut Answer) -> Reported {
+        match self {
+            JsonError::Memory => Err(Fault::OutOfMemory),
+            JsonError::Json => {
+                answer.text("rejected")?;
+                answer.displayed(self)
+            }
+        }
+    }
+}
 
 /// Parses JSON.
 pub fn value_of(alloc: Global, text: &str) -> OrFault<Value> {
@@ -23,18 +35,10 @@ pub fn value_of(alloc: Global, text: &str) -> OrFault<Value> {
     }
 }
 
-/// The JSON of a value, as text.
-pub fn text_of<T: JsonForm>(alloc: Global, value: &T) -> Result<String, AllocError> {
-    let json = value.to_json(alloc)?;
-    let text = json.to_string(alloc);
-    drop(json);
-    text
-}
-
 /// `json`: `read` and the JSON of the value of a type that a JSON text parses to; or `rejected` and the error's line.
 pub fn json(arguments: &[Item], answer: &mut Answer) -> Reported {
     let (of_type, text) = pair(arguments)?;
-    let json = value_of(answer.alloc(), text)?;
+    let json = value_of(answer.alloc, text)?;
     let reported = form_of(of_type, &json, answer);
     drop(json);
     reported
@@ -62,46 +66,25 @@ fn form_of(of_type: &str, json: &Value, answer: &mut Answer) -> Reported {
 }
 
 fn form<T: JsonForm>(json: &Value, answer: &mut Answer) -> Reported {
-    let alloc = answer.alloc();
-    match T::from_json(alloc, json) {
-        Ok(value) => {
-            let text = text_of(alloc, &value);
-            drop(value);
-            answer.text("read")?;
-            answer.made(text)
-        }
-        Err(JsonError::Memory) => Err(Fault::OutOfMemory),
-        Err(error) => {
-            answer.text("rejected")?;
-            answer.displayed(&error)
-        }
-    }
+    let value = valid(T::from_json(answer.alloc, json), answer)?;
+    answer.text("read")?;
+    let json = value.to_json(answer.alloc)?;
+    answer.made(json.to_string(answer.alloc))
 }
 
 /// `stored`: whether the value of a text equals the one that its JSON parses to.
 pub fn stored(arguments: &[Item], answer: &mut Answer) -> Reported {
-    let (of_type, grammar, text) = triple(arguments)?;
-    let alloc = answer.alloc();
-    match (of_type, grammar) {
-        ("PackageReq", "strict") => store(parsed(PackageReq::from_str(alloc, text))?, answer),
-        ("PackageReq", "loose") => store(PackageReq::parse(alloc, text)?, answer),
-        ("JsrDepPackageReq", "strict") => {
-            store(parsed(JsrDepPackageReq::from_str(alloc, text))?, answer)
-        }
-        ("JsrDepPackageReq", "loose") => store(JsrDepPackageReq::parse(alloc, text)?, answer),
+    let (kind, text) = pair(arguments)?;
+    match kind {
+        "package" => store::<PackageReq>(text, answer),
+        "dependency" => store::<JsrDepPackageReq>(text, answer),
         _ => Err(Fault::OtherArguments),
     }
 }
 
-fn store<T: JsonForm + PartialEq>(value: T, answer: &mut Answer) -> Reported {
-    let json = value.to_json(answer.alloc())?;
-    let again = T::from_json(answer.alloc(), &json);
-    drop(json);
-    let equal = match again {
-        Ok(again) => again == value,
-        Err(JsonError::Json) => false,
-        Err(JsonError::Memory) => return Err(Fault::OutOfMemory),
-    };
-    drop(value);
-    answer.yes_or_no(equal)
+fn store<T: JsonForm + Parse>(text: &str, answer: &mut Answer) -> Reported {
+    let value = T::parse(text, answer)?;
+    let json = value.to_json(answer.alloc)?;
+    let again = valid(T::from_json(answer.alloc, &json), answer)?;
+    answer.yes_or_no(again == value)
 }

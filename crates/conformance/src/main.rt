@@ -21,8 +21,6 @@ mod kinds;
 mod met;
 mod notation;
 mod packages;
-mod parse;
-mod ranges;
 mod requirements;
 mod table;
 mod versions;
@@ -34,9 +32,9 @@ use std::process::ExitCode;
 use table::Problem;
 
 // Reads all bytes.
-fn read_all<R: Read + Drop>(alloc: Global, mut parser: R) -> Result<Vec<u8>, Problem> {
+fn read_all<R: Read + Drop>(alloc: Global, mut input: R) -> Result<Vec<u8>, Problem> {
     let mut bytes = Vec::new(alloc);
-    match parser.read_to_end(&mut bytes) {
+    match input.read_to_end(&mut bytes) {
         Ok(_) => Ok(bytes),
         Err(e) if e.kind() == ErrorKind::OutOfMemory => Err(Problem::OutOfMemory),
         Err(_) => Err(Problem::Unread),

@@ -3,12 +3,11 @@
 //! A bound is `>=1.0.0`, `>1.0.0`, `<=1.0.0` or `<1.0.0`, or `*` if it is absent. A range is its start and its end with a
 //! space between, without those that are absent, or `*`. A set is its ranges with ` || ` between, or the empty text.
 
-use crate::answer::{Fault, OrFault};
-use crate::arguments::both;
-use crate::parse::Parse;
-use semver_base::range::{RangeBound, VersionBoundKind, VersionRange, VersionRangeSet};
-use semver_base::string::CowVec;
-use semver_base::version::Version;
+use crate::answer::{Answer, Fault, OrFault, Reported, valid};
+use crate::kinds::Parse;
+use deno_semver::{
+    ParseFailure, RangeBound, Version, VersionBoundKind, VersionRange, VersionRangeSet,
+};
 use std::alloc::{AllocError, Global};
 
 /// The text of a bound: its operator begins with `>` for a start, `<` for an end.
@@ -24,78 +23,54 @@ pub fn bound(alloc: Global, sign: char, bound: &RangeBound) -> Result<String, Al
 
 /// The text of a range.
 pub fn range(alloc: Global, range: &VersionRange) -> Result<String, AllocError> {
-    let start = bound(alloc, '>', &range.start)?;
-    let end = bound(alloc, '<', &range.end)?;
     match (&range.start, &range.end) {
-        (RangeBound::Unbounded, _) => Ok(end),
-        (_, RangeBound::Unbounded) => Ok(start),
-        (_, _) => format!(in alloc; "{start} {end}"),
+        (RangeBound::Unbounded, end) => bound(alloc, '<', end),
+        (start, RangeBound::Unbounded) => bound(alloc, '>', start),
+        (start, end) => {
+            let (start, end) = (bound(alloc, '>', start)?, bound(alloc, '<', end)?);
+            format!(in alloc; "{start} {end}")
+        }
     }
+}
+
+/// Reports a range, or why there is none.
+pub fn report(found: Result<VersionRange, ParseFailure>, answer: &mut Answer) -> Reported {
+    let found = valid(found, answer)?;
+    answer.made(range(answer.alloc, &found))
 }
 
 /// The text of a set of ranges.
 pub fn set(alloc: Global, set: &VersionRangeSet) -> Result<String, AllocError> {
     let mut text = String::new(alloc);
     for each in set.0.iter() {
-        push_range(alloc, &mut text, each)?;
+        if !text.is_empty() {
+            text.push_str(" || ")?;
+        }
+        text.push_str(range(alloc, each)?.as_str())?;
     }
     Ok(text)
 }
 
-// Appends the range, after the separator if it isn't the first.
-fn push_range(alloc: Global, text: &mut String, each: &VersionRange) -> Result<(), AllocError> {
-    if !text.is_empty() {
-        text.push_str(" || ")?;
-    }
-    text.push_str(range(alloc, each)?.as_str())
-}
-
-/// Parses a bound whose text begins with this operator, or an absent one.
-pub fn bound_of(alloc: Global, sign: char, text: &str) -> OrFault<RangeBound> {
+// Parses a bound whose text begins with this operator, or an absent one.
+fn bound_of(sign: char, text: &str, answer: &mut Answer) -> OrFault<RangeBound> {
     if text == "*" {
         return Ok(RangeBound::Unbounded);
     }
     let text = text.strip_prefix(sign).ok_or(Fault::OtherArguments)?;
     match text.strip_prefix('=') {
-        Some(version) => Ok(RangeBound::inclusive(Version::parse(alloc, version)?)),
-        None => Ok(RangeBound::exclusive(Version::parse(alloc, text)?)),
+        Some(version) => Ok(RangeBound::inclusive(Version::parse(version, answer)?)),
+        None => Ok(RangeBound::exclusive(Version::parse(text, answer)?)),
     }
 }
 
 /// Parses a range.
-pub fn range_of(alloc: Global, text: &str) -> OrFault<VersionRange> {
+pub fn range_of(text: &str, answer: &mut Answer) -> OrFault<VersionRange> {
     let (start, end) = match text.split_once(' ') {
         Some(bounds) => bounds,
         None if text.starts_with('<') => ("*", text),
         None => (text, "*"),
     };
-    let bounds = both(bound_of(alloc, '>', start), bound_of(alloc, '<', end))?;
-    Ok(VersionRange {
-        start: bounds.one,
-        end: bounds.other,
-    })
-}
-
-/// Parses a set of ranges.
-pub fn set_of(alloc: Global, text: &str) -> OrFault<VersionRangeSet> {
-    let mut ranges = CowVec::new(alloc);
-    if text.is_empty() {
-        return Ok(VersionRangeSet(ranges));
-    }
-    for range in text.split(" || ") {
-        ranges.push(range_of(alloc, range)?)?;
-    }
-    Ok(VersionRangeSet(ranges))
-}
-
-impl Parse for VersionRange {
-    fn parse(alloc: Global, text: &str) -> OrFault<VersionRange> {
-        range_of(alloc, text)
-    }
-}
-
-impl Parse for VersionRangeSet {
-    fn parse(alloc: Global, text: &str) -> OrFault<VersionRangeSet> {
-        set_of(alloc, text)
-    }
+    let start = bound_of('>', start, answer)?;
+    let end = bound_of('<', end, answer)?;
+    Ok(VersionRange { start, end })
 }

@@ -1,114 +1,164 @@
-//! Calls on requirements.
+//! Calls on version requirements.
 
-use crate::answer::{Answer, Fault, Item, OrFault, Reported};
-use crate::arguments::{
-    Rule, both, flavour, only, optional_pre_release, pair, pre_release, requirement, requirements,
-    triple,
-};
+use crate::answer::{Answer, Fault, Item, OrFault, Reported, valid};
+use crate::arguments::{pair, pre_release, push, triple};
+use crate::kinds::Parse;
 use crate::notation;
-use crate::parse::Parse;
-use deno_semver::errors::{
-    Expected, InvalidPiece, error_place, expected_after, invalid_pieces, may_follow,
-};
-use deno_semver::npm::is_valid_npm_tag;
+use deno_semver::errors::{error_place, invalid_pieces, version_error_place};
 use deno_semver::package::PackageReq;
-use deno_semver::{IntoVersionReq, PreRelease, RangeSetOrTag, Version, VersionReq};
-use std::alloc::{AllocError, Global};
+use deno_semver::{Partial, PreRelease, RangeSetOrTag, Version, VersionBoundKind, VersionReq};
+use semver_base::lexical::values::Measured;
+use semver_req::common;
+use semver_req::common::values::Flavour;
+use std::alloc::Global;
 
-/// `tag`: whether a text is a valid tag.
-pub fn tag(arguments: &[Item], answer: &mut Answer) -> Reported {
-    answer.yes_or_no(is_valid_npm_tag(only(arguments)?))
-}
-
-/// `requirement`, `ranges` or `normal`: a call on one requirement.
-pub fn of_one(call: &str, arguments: &[Item], answer: &mut Answer) -> Reported {
-    let (grammar, text) = pair(arguments)?;
-    let requirement = requirement(answer.alloc(), grammar, text)?;
-    let reported = match call {
-        "requirement" => kept(&requirement, answer),
-        "ranges" => ranges(&requirement, answer),
-        _ => canonical(&requirement, answer),
-    };
-    drop(requirement);
-    reported
-}
-
-// `ranges`, or `tag` and the tag; and the text stored in the requirement.
-fn kept(requirement: &VersionReq, answer: &mut Answer) -> Reported {
-    let text = requirement.version_text();
-    match requirement.inner() {
-        RangeSetOrTag::RangeSet(_) => answer.texts(&["ranges", text]),
-        RangeSetOrTag::Tag(tag) => answer.texts(&["tag", tag.as_str(), text]),
+/// The grammar of this name.
+pub fn flavour(grammar: &str) -> OrFault<Flavour> {
+    match grammar {
+        "npm" => Ok(Flavour::Npm),
+        "normal" => Ok(Flavour::Normal),
+        "strict" => Ok(Flavour::Specifier),
+        _ => Err(Fault::OtherArguments),
     }
 }
 
-// The ranges of a copy of the requirement, and the text stored in the copy.
-fn ranges(requirement: &VersionReq, answer: &mut Answer) -> Reported {
-    let copy = requirement.copy()?;
-    let set = copy.range().ok_or(Fault::OtherArguments)?;
-    answer.made(notation::set(answer.alloc(), set))?;
-    answer.text(copy.version_text())
+/// Parses a version requirement by the grammar of this name.
+pub fn requirement(grammar: &str, text: &str, answer: &mut Answer) -> OrFault<VersionReq> {
+    let parsed = VersionReq::parse(answer.alloc, text, flavour(grammar)?);
+    valid(parsed, answer)
 }
 
-// `ranges` or `tag`, and the canonical form.
-fn canonical(requirement: &VersionReq, answer: &mut Answer) -> Reported {
+// Parses several version requirements.
+fn requirements(grammar: &str, texts: &[Item], answer: &mut Answer) -> OrFault<Vec<VersionReq>> {
+    let mut requirements = Vec::new(answer.alloc);
+    for text in texts {
+        let text = text.as_deref().ok_or(Fault::OtherArguments)?;
+        push(&mut requirements, requirement(grammar, text, answer))?;
+    }
+    Ok(requirements)
+}
+
+/// `requirement` or `normal`: a call on one requirement.
+pub fn of_one(call: &str, arguments: &[Item], answer: &mut Answer) -> Reported {
+    let (grammar, text) = pair(arguments)?;
+    let requirement = requirement(grammar, text, answer)?;
+    if call == "requirement" {
+        return stored(requirement.copy()?, answer);
+    }
     let is_tag = requirement.tag().is_some();
     answer.text(if is_tag { "tag" } else { "ranges" })?;
-    answer.made(requirement.to_string_normalized(answer.alloc()))
+    answer.made(requirement.to_string_normalized(answer.alloc))
+}
+
+// The ranges, or `tag` and the tag; and the text stored in the requirement.
+fn stored(requirement: VersionReq, answer: &mut Answer) -> Reported {
+    match requirement.inner() {
+        RangeSetOrTag::RangeSet(set) => answer.made(notation::set(answer.alloc, set))?,
+        RangeSetOrTag::Tag(tag) => answer.texts(&["tag", tag.as_str()])?,
+    }
+    answer.text(requirement.version_text())
 }
 
 /// `same-requirement` or `overlap`: whether two requirements are equal, or overlap.
 pub fn of_two(call: &str, arguments: &[Item], answer: &mut Answer) -> Reported {
     let (grammar, one, other) = triple(arguments)?;
-    let alloc = answer.alloc();
-    let one = requirement(alloc, grammar, one);
-    let asked = both(one, requirement(alloc, grammar, other))?;
-    let holds = match call {
-        "same-requirement" => asked.one == asked.other,
-        _ => asked.one.intersects(&asked.other),
+    let one = requirement(grammar, one, answer)?;
+    let other = requirement(grammar, other, answer)?;
+    answer.yes_or_no(match call {
+        "same-requirement" => one == other,
+        _ => one.intersects(&other),
+    })
+}
+
+/// `fits`: whether a version matches, by the rule for pre-releases in the arguments, else by npm's; or `tag` and the tag.
+pub fn fits(arguments: &[Item], answer: &mut Answer) -> Reported {
+    let [Some(grammar), Some(text), Some(version), rest @ ..] = arguments else {
+        return Err(Fault::OtherArguments);
     };
-    drop(asked);
-    answer.yes_or_no(holds)
+    let with = match rest {
+        [] => None,
+        [Some(word)] => Some(pre_release(word.as_str()).ok_or(Fault::OtherArguments)?),
+        _ => return Err(Fault::OtherArguments),
+    };
+    let requirement = requirement(grammar.as_str(), text.as_str(), answer)?;
+    let version = Version::parse(version.as_str(), answer)?;
+    if let Some(tag) = requirement.tag() {
+        return answer.texts(&["tag", tag]);
+    }
+    answer.yes_or_no(match with {
+        None => requirement.matches(&version),
+        Some(with) => requirement.matches_with(&version, with),
+    })
 }
 
 /// `reread`: whether the other grammar parses the canonical form to an equal requirement, and the canonical form of that.
 pub fn reread(arguments: &[Item], answer: &mut Answer) -> Reported {
     let (grammar, text, other) = triple(arguments)?;
-    let alloc = answer.alloc();
-    let again = again(alloc, grammar, text, other);
-    let asked = both(requirement(alloc, grammar, text), again)?;
-    let equal = asked.one == asked.other;
-    let text = asked.other.to_string_normalized(alloc);
-    drop(asked);
-    answer.text(if equal { "equal" } else { "differs" })?;
-    answer.made(text)
+    let first = requirement(grammar, text, answer)?;
+    let normal = first.to_string_normalized(answer.alloc)?;
+    let again = requirement(other, normal.as_str(), answer)?;
+    answer.text(if first == again { "equal" } else { "differs" })?;
+    answer.made(again.to_string_normalized(answer.alloc))
 }
 
-fn again(alloc: Global, grammar: &str, text: &str, other: &str) -> OrFault<VersionReq> {
-    let first = requirement(alloc, grammar, text)?;
-    let text = first.to_string_normalized(alloc);
-    drop(first);
-    requirement(alloc, other, text?.as_str())
+/// A call on the lowest version that requirements match, or on containment; `tag` if one of them is a tag.
+pub fn lowest(call: &str, arguments: &[Item], answer: &mut Answer) -> Reported {
+    let [Some(grammar), Some(with), texts @ ..] = arguments else {
+        return Err(Fault::OtherArguments);
+    };
+    let with = pre_release(with.as_str()).ok_or(Fault::OtherArguments)?;
+    let all = requirements(grammar.as_str(), texts, answer)?;
+    let reported = of_all(call, all.as_slice(), with, answer);
+    drop(all);
+    reported
 }
 
-/// `error-place`: the index at which a text leaves the grammar.
+// `min-version`, `common-version`, `common-of-all`: the lowest version that the only one, both, or all match. `version-outside`:
+// the lowest version that the first matches and the second doesn't. `is-subset`: whether the second matches each version that
+// the first matches. `is-equivalent`: whether both match the same.
+fn of_all(call: &str, all: &[VersionReq], with: PreRelease, answer: &mut Answer) -> Reported {
+    let [own, others @ ..] = all else {
+        return Err(Fault::OtherArguments);
+    };
+    if own.tag().is_some() || !VersionReq::have_no_tag(others) {
+        return answer.text("tag");
+    }
+    let alloc = answer.alloc;
+    let lowest = match others {
+        _ if call == "common-of-all" => own.common_version_of_all(alloc, others, with)?,
+        [] if call == "min-version" => own.min_version(alloc, with)?,
+        [other] if other.tag().is_none() => match call {
+            "common-version" => own.common_version(alloc, other, with)?,
+            "version-outside" => own.version_outside(alloc, other, with)?,
+            "is-subset" => return answer.yes_or_no(own.is_subset(alloc, other, with)?),
+            "is-equivalent" => return answer.yes_or_no(own.is_equivalent(alloc, other, with)?),
+            _ => return Err(Fault::OtherArguments),
+        },
+        _ => return Err(Fault::OtherArguments),
+    };
+    match lowest {
+        None => answer.text("none"),
+        Some(version) => answer.displayed(&version),
+    }
+}
+
+/// `error-place`: the index at which a text leaves the grammar of versions or of requirements.
 pub fn place_of_error(arguments: &[Item], answer: &mut Answer) -> Reported {
     let (grammar, text) = pair(arguments)?;
-    let place = error_place(answer.alloc(), text, flavour(grammar)?)?;
+    let found = match grammar {
+        "version" => version_error_place(answer.alloc, text),
+        _ => error_place(answer.alloc, text, flavour(grammar)?),
+    };
+    let place = valid(found, answer)?;
     answer.displayed(&place)
 }
 
 /// `invalid-pieces`: of each invalid alternative, its start, its end, where it is wrong, and why the parser rejects it.
 pub fn pieces_of_error(arguments: &[Item], answer: &mut Answer) -> Reported {
     let (grammar, text) = pair(arguments)?;
-    let pieces = invalid_pieces(answer.alloc(), text, flavour(grammar)?)?;
-    let reported = report_pieces(pieces.as_slice(), answer);
-    drop(pieces);
-    reported
-}
-
-fn report_pieces(pieces: &[InvalidPiece], answer: &mut Answer) -> Reported {
-    for piece in pieces {
+    let found = invalid_pieces(answer.alloc, text, flavour(grammar)?);
+    let pieces = valid(found, answer)?;
+    for piece in &pieces {
         answer.displayed(&piece.start)?;
         answer.displayed(&piece.end)?;
         answer.displayed(&piece.place)?;
@@ -117,145 +167,42 @@ fn report_pieces(pieces: &[InvalidPiece], answer: &mut Answer) -> Reported {
     Ok(())
 }
 
-/// `may-follow`: whether some text of the grammar begins with the one text and then the other.
-pub fn follows(arguments: &[Item], answer: &mut Answer) -> Reported {
-    let (grammar, prefix, next) = triple(arguments)?;
-    let follows = may_follow(answer.alloc(), prefix, next, flavour(grammar)?)?;
-    answer.yes_or_no(follows)
-}
-
-/// `expected`: a text of each kind that may follow a prefix, and `end` if a text may end behind it.
-pub fn expected(arguments: &[Item], answer: &mut Answer) -> Reported {
-    let (grammar, prefix) = pair(arguments)?;
-    let expected = expected_after(answer.alloc(), prefix, flavour(grammar)?)?;
-    let reported = report_expected(&expected, answer);
-    drop(expected);
-    reported
-}
-
-fn report_expected(expected: &Expected, answer: &mut Answer) -> Reported {
-    for kind in expected.kinds.iter() {
-        answer.text(kind.text())?;
-    }
-    if expected.may_end {
-        answer.text("end")?;
-    }
-    Ok(())
-}
-
-/// `fits`: whether a version matches, by the rule for pre-releases in the arguments, else by npm's; or `tag` and the tag.
-pub fn fits(arguments: &[Item], answer: &mut Answer) -> Reported {
-    let [Some(grammar), Some(text), Some(version), rest @ ..] = arguments else {
+/// `partial`: the bound or the range that a copy of a partial version means at a place.
+pub fn partial(arguments: &[Item], answer: &mut Answer) -> Reported {
+    let (place, text) = pair(arguments)?;
+    let parsed = common::partial_front(answer.alloc, text, Flavour::Npm)?;
+    let Some((Measured::Fits(partial), _)) = parsed else {
         return Err(Fault::OtherArguments);
     };
-    let with = optional_pre_release(rest)?;
-    let alloc = answer.alloc();
-    let requirement = requirement(alloc, grammar.as_str(), text.as_str());
-    let asked = both(requirement, Version::parse(alloc, version.as_str()))?;
-    let reported = fit(&asked.one, &asked.other, with, answer);
-    drop(asked);
-    reported
+    let copy = partial.copy();
+    drop(partial);
+    report_at(place, &copy?, answer)
 }
 
-fn fit(req: &VersionReq, version: &Version, with: Rule, answer: &mut Answer) -> Reported {
-    if let Some(tag) = req.tag() {
-        return answer.texts(&["tag", tag]);
-    }
-    answer.yes_or_no(match with {
-        None => req.matches(version),
-        Some(with) => req.matches_with(version, with),
-    })
-}
-
-/// `pinned`: the text and the canonical form of the requirement that a version is turned into, and whether another version
-/// matches.
-pub fn pinned(arguments: &[Item], answer: &mut Answer) -> Reported {
-    let (version, other) = pair(arguments)?;
-    let alloc = answer.alloc();
-    let asked = both(pinned_to(alloc, version), Version::parse(alloc, other))?;
-    let reported = report_pinned(&asked.one, &asked.other, answer);
-    drop(asked);
-    reported
-}
-
-fn pinned_to(alloc: Global, version: &str) -> OrFault<VersionReq> {
-    Ok(Version::parse(alloc, version)?.into_req(alloc)?)
-}
-
-fn report_pinned(pinned: &VersionReq, version: &Version, answer: &mut Answer) -> Reported {
-    answer.text(pinned.version_text())?;
-    answer.made(pinned.to_string_normalized(answer.alloc()))?;
-    answer.yes_or_no(pinned.tag().is_none() && pinned.matches(version))
-}
-
-/// A call on the lowest version that requirements match, or on containment; `tag` if one of them is a tag.
-pub fn lowest(call: &str, arguments: &[Item], answer: &mut Answer) -> Reported {
-    let [Some(grammar), Some(with), Some(text), others @ ..] = arguments else {
-        return Err(Fault::OtherArguments);
+// Reports the bound, or the range of a partial version after this operator or kind.
+fn report_at(place: &str, partial: &Partial, answer: &mut Answer) -> Reported {
+    let alloc = answer.alloc;
+    let range = match place {
+        "lower" => {
+            let bound = valid(partial.as_lower_bound(alloc), answer)?;
+            return answer.made(notation::bound(alloc, '>', &bound));
+        }
+        "upper" => {
+            let bound = valid(partial.as_upper_bound(alloc), answer)?;
+            return answer.made(notation::bound(alloc, '<', &bound));
+        }
+        "tilde" => partial.as_tilde_version_range(alloc),
+        "caret" => partial.as_caret_version_range(alloc),
+        "equal" => partial.as_equal_range(alloc),
+        "from-inclusive" => partial.as_greater_range(alloc, VersionBoundKind::Inclusive),
+        "from-exclusive" => partial.as_greater_range(alloc, VersionBoundKind::Exclusive),
+        ">=" => partial.as_greater_than(alloc, VersionBoundKind::Inclusive),
+        ">" => partial.as_greater_than(alloc, VersionBoundKind::Exclusive),
+        "<=" => partial.as_less_than(alloc, VersionBoundKind::Inclusive),
+        "<" => partial.as_less_than(alloc, VersionBoundKind::Exclusive),
+        _ => return Err(Fault::OtherArguments),
     };
-    let with = pre_release(with.as_str()).ok_or(Fault::OtherArguments)?;
-    let (alloc, grammar) = (answer.alloc(), grammar.as_str());
-    let own = requirement(alloc, grammar, text.as_str());
-    let asked = both(own, requirements(alloc, grammar, others))?;
-    let reported = of_all(call, &asked.one, asked.other.as_slice(), with, answer);
-    drop(asked);
-    reported
-}
-
-// `common-of-all`: the lowest version that all match. `min-version`: the lowest version that the only one matches.
-fn of_all(
-    call: &str,
-    own: &VersionReq,
-    others: &[VersionReq],
-    with: PreRelease,
-    answer: &mut Answer,
-) -> Reported {
-    let alloc = answer.alloc();
-    if own.tag().is_some() || !VersionReq::have_no_tag(others) {
-        return answer.text("tag");
-    }
-    match others {
-        _ if call == "common-of-all" => {
-            version_or_none(own.common_version_of_all(alloc, others, with), answer)
-        }
-        [] if call == "min-version" => version_or_none(own.min_version(alloc, with), answer),
-        [other] => of_pair(call, own, other, with, answer),
-        _ => Err(Fault::OtherArguments),
-    }
-}
-
-// `common-version`: the lowest version that both match. `version-outside`: the lowest version that the first matches and the
-// second doesn't. `is-subset`: whether the second matches each version that the first matches. `is-equivalent`: whether both
-// match the same.
-fn of_pair(
-    call: &str,
-    own: &VersionReq,
-    other: &VersionReq,
-    with: PreRelease,
-    answer: &mut Answer,
-) -> Reported {
-    let alloc = answer.alloc();
-    if own.tag().is_some() || other.tag().is_some() {
-        return answer.text("tag");
-    }
-    match call {
-        "common-version" => version_or_none(own.common_version(alloc, other, with), answer),
-        "version-outside" => version_or_none(own.version_outside(alloc, other, with), answer),
-        "is-subset" => answer.yes_or_no(own.is_subset(alloc, other, with)?),
-        "is-equivalent" => answer.yes_or_no(own.is_equivalent(alloc, other, with)?),
-        _ => Err(Fault::OtherArguments),
-    }
-}
-
-fn version_or_none(lowest: Result<Option<Version>, AllocError>, answer: &mut Answer) -> Reported {
-    match lowest? {
-        None => answer.text("none"),
-        Some(version) => {
-            let reported = answer.displayed(&version);
-            drop(version);
-            reported
-        }
-    }
+    notation::report(range, answer)
 }
 
 /// `ample`: whether every parser has enough memory for a text, alone and with up to so many `1` after it.
@@ -264,31 +211,27 @@ pub fn ample(arguments: &[Item], answer: &mut Answer) -> Reported {
     let Ok(count) = count.parse::<usize>() else {
         return Err(Fault::OtherArguments);
     };
-    let answered = is_ample(answer.alloc(), text, count)?;
-    answer.yes_or_no(answered)
-}
-
-fn is_ample(alloc: Global, text: &str, count: usize) -> Result<bool, AllocError> {
-    let mut longer = String::from_str(alloc, text)?;
-    let mut answered = is_answered(alloc, longer.as_str());
-    for _ in 0..count {
+    let mut longer = String::from_str(answer.alloc, text)?;
+    let mut is_ample = true;
+    for _ in 0..=count {
+        is_ample = is_ample && is_answered(answer.alloc, longer.as_str());
         longer.push('1')?;
-        answered = answered && is_answered(alloc, longer.as_str());
     }
-    Ok(answered)
+    answer.yes_or_no(is_ample)
 }
 
+// Whether no parser runs out of memory.
 fn is_answered(alloc: Global, text: &str) -> bool {
-    has_memory(requirement(alloc, "npm", text))
-        && has_memory(requirement(alloc, "normal", text))
-        && has_memory(requirement(alloc, "strict", text))
-        && has_memory(Version::parse(alloc, text))
-        && has_memory(PackageReq::parse(alloc, text))
+    let mut answer = Answer::new(alloc);
+    has_memory(requirement("npm", text, &mut answer))
+        && has_memory(requirement("normal", text, &mut answer))
+        && has_memory(requirement("strict", text, &mut answer))
+        && has_memory(Version::parse(text, &mut answer))
+        && has_memory(PackageReq::parse(text, &mut answer))
 }
 
-// Whether parsing gave a value or a rejection.
-fn has_memory<T: Drop>(read: OrFault<T>) -> bool {
-    let has_memory = !matches!(read, Err(Fault::OutOfMemory));
-    drop(read);
+fn has_memory<T: Drop>(parsed: OrFault<T>) -> bool {
+    let has_memory = !matches!(parsed, Err(Fault::OutOfMemory));
+    drop(parsed);
     has_memory
 }

@@ -90,7 +90,7 @@ impl Tally {
     }
 }
 
-// A line of the table, with its number from 1.
+// A row of the table, neither a heading nor only whitespace, with the number of its line from 1.
 #[derive(Clone, Copy)]
 struct Line<'a> {
     number: usize,
@@ -98,11 +98,6 @@ struct Line<'a> {
 }
 
 impl Line<'_> {
-    // Whether the line is a row, neither a heading nor only whitespace.
-    fn is_row(&self) -> bool {
-        !self.text.starts_with(b"#") && !self.text.trim_ascii().is_empty()
-    }
-
     // Prints the line, and below it a message in two parts.
     fn print<W: Write>(&self, said: &str, more: &str, out: &mut W) -> Result<(), Problem> {
         let number = self.number;
@@ -113,40 +108,37 @@ impl Line<'_> {
     }
 }
 
-// A row that was run: the call with its arguments, the answer in the table, and the call's own.
-#[derive(Drop)]
-struct Asked {
-    question: Vec<Item>,
-    expected: Vec<Item>,
-    answer: Answer,
+// What the call answers.
+fn answer(alloc: Global, call: &str, arguments: &[Item]) -> OrFault<Vec<Item>> {
+    let mut answer = Answer::new(alloc);
+    match calls::ask(call, arguments, &mut answer) {
+        Ok(()) | Err(Fault::Rejected) => Ok(answer.items),
+        Err(Fault::OutOfMemory) => {
+            answer.items.clear();
+            answer.text("out of memory")?;
+            Ok(answer.items)
+        }
+        Err(fault) => {
+            drop(answer);
+            Err(fault)
+        }
+    }
 }
 
-fn ask(alloc: Global, line: &[u8]) -> OrFault<Asked> {
-    let (question, expected): (Vec<Item>, Vec<Item>) = match serde_json::from_slice(alloc, line) {
+// Runs the row in this text, and counts it. Returns the call's answer if it isn't that of the table.
+fn run(alloc: Global, text: &[u8], tally: &mut Tally) -> OrFault<Option<Vec<Item>>> {
+    let (question, expected): (Vec<Item>, Vec<Item>) = match serde_json::from_slice(alloc, text) {
         Ok(row) => row,
         Err(e) if e.classify() == Category::Memory => return Err(Fault::Unreported),
         Err(_) => return Err(Fault::NoRow),
     };
-    let answer = answer(alloc, question.as_slice())?;
-    Ok(Asked {
-        question,
-        expected,
-        answer,
-    })
-}
-
-fn answer(alloc: Global, question: &[Item]) -> OrFault<Answer> {
-    let [Some(call), arguments @ ..] = question else {
+    let [Some(call), arguments @ ..] = question.as_slice() else {
         return Err(Fault::NoCall);
     };
-    let mut answer = Answer::new(alloc);
-    match calls::ask(call.as_str(), arguments, &mut answer) {
-        Ok(()) => Ok(answer),
-        Err(fault) => {
-            drop(answer);
-            Answer::of_fault(alloc, fault)
-        }
-    }
+    let items = answer(alloc, call.as_str(), arguments)?;
+    let differs = !is_met(expected.as_slice(), items.as_slice());
+    tally.add(alloc, call.as_str(), differs)?;
+    Ok(if differs { Some(items) } else { None })
 }
 
 /// Runs each row of the table, and prints on `out` the rows that differ, the lines that can't be parsed, and the counts of
@@ -156,9 +148,9 @@ pub fn compare<W: Write>(alloc: Global, table: &[u8], out: &mut W) -> Result<boo
     let mut tally = Tally { counts, unreadable };
     for (place, text) in table.split(|byte| *byte == b'\n').enumerate() {
         let number = place.saturating_add(1);
-        let line = Line { number, text };
-        if line.is_row() {
-            compare_line(alloc, line, &mut tally, out)?;
+        let is_row = !text.starts_with(b"#") && !text.trim_ascii().is_empty();
+        if is_row {
+            compare_line(alloc, Line { number, text }, &mut tally, out)?;
         }
     }
     tally.print(out)?;
@@ -171,41 +163,19 @@ fn compare_line<W: Write>(
     tally: &mut Tally,
     out: &mut W,
 ) -> Result<(), Problem> {
-    let fault = match ask(alloc, line.text) {
-        Ok(asked) => {
-            let compared = compare_answer(alloc, line, &asked, tally, out);
-            drop(asked);
-            return compared;
+    let why = match run(alloc, line.text, tally) {
+        Ok(None) => return Ok(()),
+        Ok(Some(items)) => {
+            let Ok(items) = serde_json::to_string(alloc, &items) else {
+                return Err(Problem::OutOfMemory);
+            };
+            return line.print("answered ", items.as_str(), out);
         }
-        Err(fault) => fault,
+        Err(Fault::NoRow) => "no JSON array of two arrays of texts or nulls",
+        Err(Fault::NoCall) => "no call has this name",
+        Err(Fault::OtherArguments) => "the call takes other arguments",
+        Err(_) => return Err(Problem::OutOfMemory),
     };
     tally.unreadable = tally.unreadable.saturating_add(1);
-    let why = match fault {
-        Fault::NoRow => "no JSON array of two arrays of texts or nulls",
-        Fault::NoCall => "no call has this name",
-        Fault::OtherArguments => "the call takes other arguments",
-        _ => return Err(Problem::OutOfMemory),
-    };
     line.print("can't be read: ", why, out)
-}
-
-fn compare_answer<W: Write>(
-    alloc: Global,
-    line: Line<'_>,
-    asked: &Asked,
-    tally: &mut Tally,
-    out: &mut W,
-) -> Result<(), Problem> {
-    let items = asked.answer.items();
-    let differs = !is_met(asked.expected.as_slice(), items.as_slice());
-    if let [Some(call), ..] = asked.question.as_slice() {
-        tally.add(alloc, call.as_str(), differs)?;
-    }
-    if !differs {
-        return Ok(());
-    }
-    match serde_json::to_string(alloc, items) {
-        Ok(items) => line.print("answered ", items.as_str(), out),
-        Err(_) => Err(Problem::OutOfMemory),
-    }
 }

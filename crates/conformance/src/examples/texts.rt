@@ -1,80 +1,34 @@
 //! Building and growing texts, and copying and growing lists.
 
-use super::{Holds, is_text};
-use semver_base::string::{CowItem, CowVec, SmallStackString, StackString, StringType};
+use crate::answer::{Answer, Reported};
+use deno_semver::{CowVec, SmallStackString, StackString, StringType};
 use std::alloc::{AllocError, Global};
 use std::borrow::CowStr;
 
-/// Whether texts are the same however they are made: copied, taken over, or converted.
-pub fn made(alloc: Global) -> Holds {
-    let holds = is_made(alloc, "")?
-        && is_made(alloc, "ééééééééééé")?
-        && is_made(alloc, "éééééééééééé")?
-        && is_text(SmallStackString::from_static(alloc, "latest"), "latest")?;
-    Ok(holds)
+// Texts that are stored in the value, and beside it.
+const TEXTS: [&str; 2] = ["ééééééééééé", "éééééééééééé"];
+
+/// A text made in each way: copied, taken over, or converted.
+pub fn made(answer: &mut Answer) -> Reported {
+    let alloc = answer.alloc;
+    answer.made(SmallStackString::from_static(alloc, "latest"))?;
+    for text in &TEXTS {
+        let owned = String::from_str(alloc, text)?;
+        answer.made(StackString::from_string(alloc, owned))?;
+        let owned = CowStr::Owned(String::from_str(alloc, text)?);
+        answer.made(StackString::from_cow(alloc, owned))?;
+        answer.made(StackString::from_cow(alloc, CowStr::Borrowed(text)))?;
+        let copied = StackString::from_str(alloc, text)?;
+        answer.made(copied.copy())?;
+        answer.made(copied.to_string(alloc))?;
+        answer.made(copied.into_string(alloc))?;
+    }
+    Ok(())
 }
 
-fn is_made(alloc: Global, text: &str) -> Result<bool, AllocError> {
-    let owned = String::from_str(alloc, text)?;
-    let cow = CowStr::Owned(String::from_str(alloc, text)?);
-    let holds = is_text(StackString::from_string(alloc, owned), text)?
-        && is_text(StackString::from_cow(alloc, cow), text)?
-        && is_text(StackString::from_cow(alloc, CowStr::Borrowed(text)), text)?
-        && is_text(StackString::from_str(alloc, text)?.copy(), text)?
-        && is_text(StackString::from_str(alloc, text)?.to_string(alloc), text)?
-        && is_text(StackString::from_str(alloc, text)?.into_string(alloc), text)?;
-    Ok(holds)
-}
-
-/// Whether texts that grow beyond what is stored in the value hold what was pushed.
-pub fn pushed(alloc: Global) -> Holds {
-    let holds = keeps::<SmallStackString>(alloc, "aaaaaaaaaaaaaa", "é", "aaaaaaaaaaaaaaé")?
-        && keeps::<StackString>(
-            alloc,
-            "abcdefghijklmnopqrstuv",
-            "wx",
-            "abcdefghijklmnopqrstuvwx",
-        )?
-        && is_text(by_character::<String>(alloc, "1", "é²"), "1é²")?;
-    Ok(holds)
-}
-
-/// Whether texts that fit into the value hold what was pushed, for which they take no memory.
-pub fn in_value(alloc: Global) -> Holds {
-    let holds = keeps::<SmallStackString>(alloc, "1234567890", "12345", "123456789012345")?
-        && keeps::<SmallStackString>(alloc, "", "ééééééé", "ééééééé")?
-        && keeps::<StackString>(
-            alloc,
-            "1234567890",
-            "abcdefghijklm",
-            "1234567890abcdefghijklm",
-        )?
-        && keeps::<StackString>(alloc, "éééééé", "ééééé", "ééééééééééé")?;
-    Ok(holds)
-}
-
-// Whether the start with the text pushed to it, at once or by character, is the whole, copied too.
-fn keeps<T: StringType + CowItem + PartialEq>(
-    alloc: Global,
-    start: &str,
-    text: &str,
-    whole: &str,
-) -> Result<bool, AllocError> {
-    let one: T = at_once(alloc, start, text)?;
-    let copy = one.copy()?;
-    let other: T = by_character(alloc, start, text)?;
-    Ok(one.as_str() == whole && one == other && copy == other)
-}
-
-fn at_once<T: StringType>(alloc: Global, start: &str, text: &str) -> Result<T, AllocError> {
+// The start with the text pushed to it by character.
+fn pushed<T: StringType>(alloc: Global, start: &str, text: &str) -> Result<T, AllocError> {
     let mut pushed = T::with_capacity(alloc, start.len())?;
-    pushed.push_str(start)?;
-    pushed.push_str(text)?;
-    Ok(pushed)
-}
-
-fn by_character<T: StringType>(alloc: Global, start: &str, text: &str) -> Result<T, AllocError> {
-    let mut pushed = T::with_capacity(alloc, 0)?;
     pushed.push_str(start)?;
     for character in text.chars() {
         pushed.push(character)?;
@@ -82,12 +36,23 @@ fn by_character<T: StringType>(alloc: Global, start: &str, text: &str) -> Result
     Ok(pushed)
 }
 
-// Whether the item at the place is this text.
-fn is_item(items: &CowVec<SmallStackString>, place: usize, text: &str) -> bool {
-    match items.get(place) {
-        Some(item) => item.eq_str(text),
-        None => false,
-    }
+/// Texts that grow beyond what is stored in the value, and one in which texts are replaced.
+pub fn grown(answer: &mut Answer) -> Reported {
+    let alloc = answer.alloc;
+    answer.made(pushed::<SmallStackString>(alloc, "aaaaaaaaaaaaaa", "é"))?;
+    answer.made(pushed::<StackString>(alloc, "abcdefghijklmnopqrstuv", "wx"))?;
+    answer.made(pushed::<String>(alloc, "1", "é²"))?;
+    let replaced = SmallStackString::from_str(alloc, "abcdefghijklmnopqrstuvwxyzabcdefghijklmn")?;
+    answer.made(replaced.replace(alloc, "a", "0123456789"))?;
+    answer.made(replaced.replace(alloc, "abc", ""))
+}
+
+/// Texts that fit into the value, for which they take no memory.
+pub fn in_value(answer: &mut Answer) -> Reported {
+    let small = pushed::<SmallStackString>(answer.alloc, "1234567890", "12345")?;
+    answer.text(small.copy()?.as_str())?;
+    let text = pushed::<StackString>(answer.alloc, "éééééé", "ééééé")?;
+    answer.text(text.copy()?.as_str())
 }
 
 fn many(alloc: Global, count: usize) -> Result<CowVec<SmallStackString>, AllocError> {
@@ -98,21 +63,27 @@ fn many(alloc: Global, count: usize) -> Result<CowVec<SmallStackString>, AllocEr
     Ok(items)
 }
 
-/// Whether pushing to a copy of a list leaves the list unchanged.
-pub fn grown(alloc: Global) -> Holds {
-    let items = many(alloc, 1_000)?;
-    let mut longer = items.copy()?;
-    longer.push(SmallStackString::from_str(alloc, "last")?)?;
-    let holds = longer.len() == 1_001
-        && is_item(&longer, 999, "item")
-        && is_item(&longer, 1_000, "last")
-        && items.len() == 1_000
-        && items.get(1_000).is_none();
-    Ok(holds)
+// Reports the length of a list, and its last item.
+fn report_list(items: &CowVec<SmallStackString>, answer: &mut Answer) -> Reported {
+    answer.displayed(&items.len())?;
+    match items.get(items.len().saturating_sub(1)) {
+        Some(item) => answer.text(item.as_str()),
+        None => answer.optional(None),
+    }
 }
 
-/// Whether copies of lists, which share their items, succeed without memory.
-pub fn copy_succeeds(alloc: Global) -> Holds {
-    let (one, two, many) = (many(alloc, 1)?, many(alloc, 2)?, many(alloc, 1_000)?);
-    Ok(one.copy().is_ok() && two.copy().is_ok() && many.copy().is_ok())
+/// Whether copies of lists, which share their items, succeed without memory; a list to whose copy an item was pushed, and that
+/// copy.
+pub fn lists(answer: &mut Answer) -> Reported {
+    for count in [1, 2] {
+        let items = many(answer.alloc, count)?;
+        answer.yes_or_no(items.copy().is_ok())?;
+    }
+    let items = many(answer.alloc, 1_000)?;
+    let Ok(mut longer) = items.copy() else {
+        return answer.text("no");
+    };
+    longer.push(SmallStackString::from_str(answer.alloc, "last")?)?;
+    report_list(&items, answer)?;
+    report_list(&longer, answer)
 }
