@@ -113,12 +113,12 @@ impl Answer {
 }
 
 /// The error of a parser.
-pub trait ParserError: Drop {
+pub trait ReportError: Drop {
     /// Reports `rejected` and why. Fails if the parser ran out of memory.
     fn report(&self, answer: &mut Answer) -> Reported;
 }
 
-impl ParserError for ParseFailure {
+impl ReportError for ParseFailure {
     fn report(&self, answer: &mut Answer) -> Reported {
         if self.is_memory() {
             return Err(Fault::OutOfMemory);
@@ -129,7 +129,7 @@ impl ParserError for ParseFailure {
 }
 
 /// The value that a parser returned. Its error is reported.
-pub fn valid<T, E: ParserError>(parsed: Result<T, E>, answer: &mut Answer) -> OrFault<T> {
+pub fn valid<T, E: ReportError>(parsed: Result<T, E>, answer: &mut Answer) -> OrFault<T> {
     match parsed {
         Ok(value) => Ok(value),
         Err(error) => {

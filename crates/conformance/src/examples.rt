@@ -6,7 +6,7 @@ mod parts;
 mod ranges;
 mod texts;
 
-use crate::answer::{Answer, Fault, Item, ParserError, Reported};
+use crate::answer::{Answer, Fault, Item, ReportError, Reported};
 use crate::arguments::only;
 use std::fmt::Display;
 
@@ -41,7 +41,7 @@ pub fn example(arguments: &[Item], answer: &mut Answer) -> Reported {
 }
 
 // Reports the value that a parser returned, or its error and the error's line.
-fn shown<T: Display + Drop, E: ParserError + Display>(
+fn shown<T: Display + Drop, E: ReportError + Display>(
     parsed: Result<T, E>,
     answer: &mut Answer,
 ) -> Reported {

@@ -1,6 +1,6 @@
 //! Calls on the JSON of values.
 
-use crate::answer::{Answer, Fault, Item, OrFault, ParserError, Reported, valid};
+use crate::answer::{Answer, Fault, Item, OrFault, ReportError, Reported, valid};
 use crate::arguments::pair;
 use crate::kinds::Parse;
 use deno_semver::json::{JsonError, JsonForm};
@@ -14,7 +14,7 @@ use deno_semver::{
 use serde_json::{Category, Value};
 use std::alloc::Global;
 
-impl ParserError for JsonError {
+impl ReportError for JsonError {
     fn report(&self, answer: &mut Answer) -> Reported {
         match self {
             JsonError::Memory => Err(Fault::OutOfMemory),

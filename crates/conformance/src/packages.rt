@@ -1,6 +1,6 @@
 //! Calls on packages, names with versions, dependencies, and references.
 
-use crate::answer::{Answer, Fault, Item, OrFault, ParserError, Reported, valid};
+use crate::answer::{Answer, Fault, Item, OrFault, ReportError, Reported, valid};
 use crate::arguments::{only, pair};
 use deno_semver::jsr::{
     JsrDepPackageReq, JsrDepPackageReqParseError, JsrRegistry, normalized_export_name,
@@ -25,14 +25,14 @@ fn kind(error: &PackageReqPartsParseError) -> OrFault<&'static str> {
     }
 }
 
-impl ParserError for PackageReqParseError {
+impl ReportError for PackageReqParseError {
     fn report(&self, answer: &mut Answer) -> Reported {
         let copy = self.copy()?;
         answer.texts(&["rejected", kind(&copy.source)?])
     }
 }
 
-impl ParserError for JsrDepPackageReqParseError {
+impl ReportError for JsrDepPackageReqParseError {
     fn report(&self, answer: &mut Answer) -> Reported {
         match &self.copy()? {
             JsrDepPackageReqParseError::NotExpectedScheme(scheme) => {
@@ -44,7 +44,7 @@ impl ParserError for JsrDepPackageReqParseError {
     }
 }
 
-impl ParserError for PackageReqReferenceParseError {
+impl ReportError for PackageReqReferenceParseError {
     fn report(&self, answer: &mut Answer) -> Reported {
         match &self.copy()? {
             PackageReqReferenceParseError::NotExpectedScheme(_) => {
@@ -70,14 +70,14 @@ fn reject(message: &str, answer: &mut Answer) -> Reported {
     answer.texts(&["rejected", message])
 }
 
-impl ParserError for PackageNvParseError {
+impl ReportError for PackageNvParseError {
     fn report(&self, answer: &mut Answer) -> Reported {
         let copy = self.copy()?;
         reject(copy.message.as_str(), answer)
     }
 }
 
-impl ParserError for PackageNvReferenceParseError {
+impl ReportError for PackageNvReferenceParseError {
     fn report(&self, answer: &mut Answer) -> Reported {
         let copy = self.copy()?;
         reject(copy.message.as_str(), answer)

@@ -1,7 +1,7 @@
 //! Failures made by hand, and the lines that errors print.
 
 use super::shown;
-use crate::answer::{Answer, ParserError, Reported};
+use crate::answer::{Answer, ReportError, Reported};
 use deno_semver::json::JsonError;
 use deno_semver::jsr::{
     JsrDepPackageReq, JsrDepPackageReqParseError, JsrPackageNvReference, JsrPackageReqReference,
