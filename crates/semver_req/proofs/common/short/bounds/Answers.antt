@@ -18,4 +18,4 @@ returns c =
     λ cuts.
     let start = rw c.as_bytes-2.ensures.value at c.in_ok-start.ensures in
     let end = rw c.as_bytes-3.ensures.value at c.in_ok-upper_bound.ensures in
-    IfSome_then c.between.result c.between.ensures (λ range h. piece_wider c.args.flavour cuts (rw h.0 (pair_piece c.in-Some.ensures start end h.1)))
+    IfSome_then c.between.result c.between.ensures.range (λ range h. piece_wider c.args.flavour cuts (rw h.0 (pair_piece c.in-Some.ensures start end h.1)))
