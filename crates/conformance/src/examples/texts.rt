@@ -8,7 +8,7 @@ use std::borrow::CowStr;
 // Texts that are stored in the value, and beside it.
 const TEXTS: [&str; 2] = ["ééééééééééé", "éééééééééééé"];
 
-/// A text made in each way: copied, taken over, or converted.
+/// A text made in each way: taken over, copied and compared to the copy, or converted.
 pub fn made(answer: &mut Answer) -> Reported {
     let alloc = answer.alloc;
     answer.made(SmallStackString::from_static(alloc, "latest"))?;
@@ -19,7 +19,10 @@ pub fn made(answer: &mut Answer) -> Reported {
         answer.made(StackString::from_cow(alloc, owned))?;
         answer.made(StackString::from_cow(alloc, CowStr::Borrowed(text)))?;
         let copied = StackString::from_str(alloc, text)?;
-        answer.made(copied.copy())?;
+        let copy = copied.copy()?;
+        answer.yes_or_no(copy.eq_str(text))?;
+        answer.order(copied.cmp(&copy))?;
+        drop(copy);
         answer.made(copied.to_string(alloc))?;
         answer.made(copied.into_string(alloc))?;
     }
