@@ -2,7 +2,6 @@
 
 use crate::answer::{Answer, Fault, Item, OrFault, Reported, valid};
 use crate::arguments::triple;
-use crate::notation;
 use deno_semver::jsr::{JsrDepPackageReq, JsrPackageNvReference, JsrPackageReqReference};
 use deno_semver::npm::{NpmPackageNvReference, NpmPackageReqReference};
 use deno_semver::package::{
@@ -35,12 +34,6 @@ impl Parse for Version {
 impl Parse for RangeSetOrTag {
     fn parse(text: &str, answer: &mut Answer) -> OrFault<RangeSetOrTag> {
         valid(RangeSetOrTag::parse_npm(answer.alloc, text), answer)
-    }
-}
-
-impl Parse for VersionRange {
-    fn parse(text: &str, answer: &mut Answer) -> OrFault<VersionRange> {
-        notation::range_of(text, answer)
     }
 }
 

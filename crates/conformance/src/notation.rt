@@ -63,14 +63,15 @@ fn bound_of(sign: char, text: &str, answer: &mut Answer) -> OrFault<RangeBound> 
     }
 }
 
-/// Parses a range.
-pub fn range_of(text: &str, answer: &mut Answer) -> OrFault<VersionRange> {
-    let (start, end) = match text.split_once(' ') {
-        Some(bounds) => bounds,
-        None if text.starts_with('<') => ("*", text),
-        None => (text, "*"),
-    };
-    let start = bound_of('>', start, answer)?;
-    let end = bound_of('<', end, answer)?;
-    Ok(VersionRange { start, end })
+impl Parse for VersionRange {
+    fn parse(text: &str, answer: &mut Answer) -> OrFault<VersionRange> {
+        let (start, end) = match text.split_once(' ') {
+            Some(bounds) => bounds,
+            None if text.starts_with('<') => ("*", text),
+            None => (text, "*"),
+        };
+        let start = bound_of('>', start, answer)?;
+        let end = bound_of('<', end, answer)?;
+        Ok(VersionRange { start, end })
+    }
 }
