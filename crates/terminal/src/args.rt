@@ -77,387 +77,363 @@ impl Options {
 
 // ---- arguments
 
-fn flag<'a>(alloc: Global, name: &'a str, short: char, help: &'a str) -> Arg<'a> {
-    Arg::new(alloc, name)
-        .short(short)
-        .long(name)
-        .action(ArgAction::SetTrue)
-        .help(help)
+/// How an argument is given.
+#[derive(Clone, Copy)]
+enum Form {
+    /// An option without a value, and its short name.
+    Flag(Option<char>),
+    /// The same, which doesn't go with `--json`.
+    FlagWithoutJson(Option<char>),
+    /// An option whose value is a grammar.
+    Grammar,
+    /// An option whose value is a range, any number of times.
+    MoreRanges,
+    /// A text.
+    Text,
+    /// At least so many texts.
+    Texts(usize),
 }
 
-fn long_flag<'a>(alloc: Global, name: &'a str, help: &'a str) -> Arg<'a> {
-    Arg::new(alloc, name)
-        .long(name)
-        .action(ArgAction::SetTrue)
-        .help(help)
+/// An argument of a command.
+#[derive(Clone, Copy)]
+struct Argument {
+    name: &'static str,
+    form: Form,
+    help: &'static str,
 }
 
-fn text<'a>(alloc: Global, name: &'a str, help: &'a str) -> Arg<'a> {
-    Arg::new(alloc, name).required(true).help(help)
+const JSON: Argument = Argument {
+    name: "json",
+    form: Form::Flag(Some('j')),
+    help: "Print JSON",
+};
+
+const QUIET: Argument = Argument {
+    name: "quiet",
+    form: Form::FlagWithoutJson(Some('q')),
+    help: "Print no result, only errors",
+};
+
+const GRAMMAR: Argument = Argument {
+    name: "grammar",
+    form: Form::Grammar,
+    help: "The grammar of ranges: npm's, the normalized one, or that of package specifiers",
+};
+
+const PRE: Argument = Argument {
+    name: "pre",
+    form: Form::Flag(Some('p')),
+    help: "Match every pre-release between the bounds",
+};
+
+const NULL: Argument = Argument {
+    name: "null",
+    form: Form::Flag(Some('0')),
+    help: "End lines of input and output with a NUL byte",
+};
+
+const TAGS: Argument = Argument {
+    name: "tags",
+    form: Form::Flag(None),
+    help: "Read git's tags: refs/tags/v1.2.3 is 1.2.3",
+};
+
+const SKIP_INVALID: Argument = Argument {
+    name: "skip-invalid",
+    form: Form::Flag(None),
+    help: "Pass over what isn't a version",
+};
+
+const REVERSE: Argument = Argument {
+    name: "reverse",
+    form: Form::Flag(Some('r')),
+    help: "Print the highest version first",
+};
+
+const GITHUB: Argument = Argument {
+    name: "github",
+    form: Form::FlagWithoutJson(None),
+    help: "Print GitHub Actions annotations",
+};
+
+const CANONICAL: Argument = Argument {
+    name: "canonical",
+    form: Form::Flag(Some('c')),
+    help: "Print every range with its canonical form",
+};
+
+const STRICT: Argument = Argument {
+    name: "strict",
+    form: Form::Flag(None),
+    help: "Exit with 1 on a warning",
+};
+
+const RANGE: Argument = Argument {
+    name: "RANGE",
+    form: Form::Text,
+    help: "The range",
+};
+
+const RANGES: Argument = Argument {
+    name: "RANGE",
+    form: Form::Texts(1),
+    help: "The ranges",
+};
+
+const TWO_RANGES: Argument = Argument {
+    name: "RANGE",
+    form: Form::Texts(2),
+    help: "The ranges, two or more",
+};
+
+const MORE_RANGES: Argument = Argument {
+    name: "range",
+    form: Form::MoreRanges,
+    help: "Another range, which a version has to match too",
+};
+
+const NEW: Argument = Argument {
+    name: "NEW",
+    form: Form::Text,
+    help: "The new range",
+};
+
+const OLD: Argument = Argument {
+    name: "OLD",
+    form: Form::Text,
+    help: "The old range",
+};
+
+const VERSIONS: Argument = Argument {
+    name: "VERSION",
+    form: Form::Texts(0),
+    help: "A version; without any, or for -, standard input: a version per line, or a JSON array",
+};
+
+const FILES: Argument = Argument {
+    name: "FILE",
+    form: Form::Texts(0),
+    help: "A package.json, deno.json, import map, or a range per line; without any, or for -, standard input",
+};
+
+const PACKAGE: Argument = Argument {
+    name: "TEXT",
+    form: Form::Text,
+    help: "The package, such as @scope/name@^1.2",
+};
+
+const REFERENCE: Argument = Argument {
+    name: "TEXT",
+    form: Form::Text,
+    help: "The reference, such as jsr:@scope/name@1/mod.ts",
+};
+
+fn option<'a>(alloc: Global, argument: &Argument, short: Option<char>) -> Arg<'a> {
+    let option = Arg::new(alloc, argument.name).long(argument.name);
+    match short {
+        Some(short) => option.short(short),
+        None => option,
+    }
 }
 
-// One or more ranges, or two or more.
-fn ranges<'a>(alloc: Global, count: usize, help: &'a str) -> Arg<'a> {
-    text(alloc, "RANGE", help)
-        .num_args(count..)
-        .action(ArgAction::Append)
-}
-
-fn versions<'a>(alloc: Global) -> Arg<'a> {
-    Arg::new(alloc, "VERSION")
-        .num_args(0..)
-        .action(ArgAction::Append)
-        .help(
-            "A version; without any, or for -, standard input: a version per line, or a JSON array",
-        )
-}
-
-fn files<'a>(alloc: Global) -> Arg<'a> {
-    Arg::new(alloc, "FILE")
-        .num_args(0..)
-        .action(ArgAction::Append)
-        .help(
-            "A package.json, deno.json, import map, or a range per line; without any, or for -, standard input",
-        )
-}
-
-fn more_ranges<'a>(alloc: Global) -> Arg<'a> {
-    Arg::new(alloc, "range")
-        .short('r')
-        .long("range")
-        .value_name("RANGE")
-        .action(ArgAction::Append)
-        .help("Another range, which a version has to match too")
-}
-
-fn grammar<'a>(alloc: Global) -> Arg<'a> {
-    Arg::new(alloc, "grammar")
-        .short('g')
-        .long("grammar")
-        .value_name("GRAMMAR")
-        .value_parser(GRAMMARS.as_slice())
-        .default_value("npm")
-        .help("The grammar of ranges: npm's, the normalized one, or that of package specifiers")
-}
-
-fn json<'a>(alloc: Global) -> Arg<'a> {
-    flag(alloc, "json", 'j', "Print JSON")
-}
-
-fn quiet<'a>(alloc: Global) -> Result<Arg<'a>, AllocError> {
-    flag(alloc, "quiet", 'q', "Print no result, only errors").conflicts_with("json")
-}
-
-fn pre<'a>(alloc: Global) -> Arg<'a> {
-    flag(
-        alloc,
-        "pre",
-        'p',
-        "Match every pre-release between the bounds",
-    )
+fn arg<'a>(alloc: Global, argument: &Argument) -> Result<Arg<'a>, AllocError> {
+    let arg = match argument.form {
+        Form::Flag(short) => option(alloc, argument, short).action(ArgAction::SetTrue),
+        Form::FlagWithoutJson(short) => option(alloc, argument, short)
+            .action(ArgAction::SetTrue)
+            .conflicts_with("json")?,
+        Form::Grammar => option(alloc, argument, Some('g'))
+            .value_name("GRAMMAR")
+            .value_parser(GRAMMARS.as_slice())
+            .default_value("npm"),
+        Form::MoreRanges => option(alloc, argument, Some('r'))
+            .value_name("RANGE")
+            .action(ArgAction::Append),
+        Form::Text => Arg::new(alloc, argument.name).required(true),
+        Form::Texts(count) => Arg::new(alloc, argument.name)
+            .required(count > 0)
+            .num_args(count..)
+            .action(ArgAction::Append),
+    };
+    Ok(arg.help(argument.help))
 }
 
 // ---- commands
 
-fn command<'a>(
-    alloc: Global,
-    name: &'a str,
-    about: &'a str,
-    examples: &'a str,
-) -> Result<Command<'a>, AllocError> {
-    Command::new(alloc, name)
-        .about(about)
-        .after_help(examples)
-        .version(VERSION)
-        .arg(json(alloc))
+/// A command: what it is for, its arguments, and examples.
+#[derive(Clone, Copy)]
+struct Entry {
+    name: &'static str,
+    about: &'static str,
+    arguments: &'static [Argument],
+    examples: &'static str,
 }
 
-// A command on ranges.
-fn on_ranges<'a>(
-    alloc: Global,
-    name: &'a str,
-    about: &'a str,
-    examples: &'a str,
-) -> Result<Command<'a>, AllocError> {
-    command(alloc, name, about, examples)?.arg(grammar(alloc))
-}
+// The arguments of a command that matches versions against ranges.
+const MATCHING: &[Argument] = &[
+    JSON,
+    GRAMMAR,
+    PRE,
+    QUIET,
+    RANGE,
+    NULL,
+    TAGS,
+    SKIP_INVALID,
+    VERSIONS,
+    MORE_RANGES,
+];
 
-// A command on ranges with which pre-releases can match.
-fn with_pre<'a>(
-    alloc: Global,
-    name: &'a str,
-    about: &'a str,
-    examples: &'a str,
-) -> Result<Command<'a>, AllocError> {
-    on_ranges(alloc, name, about, examples)?.arg(pre(alloc))
-}
-
-// Adds how a list of versions is read.
-fn listing<'a>(alloc: Global, command: Command<'a>) -> Result<Command<'a>, AllocError> {
-    command
-        .arg(flag(
-            alloc,
-            "null",
-            '0',
-            "End lines of input and output with a NUL byte",
-        ))?
-        .arg(long_flag(alloc, "tags", "Read git's tags: refs/tags/v1.2.3 is 1.2.3"))?
-        .arg(long_flag(alloc, "skip-invalid", "Pass over what isn't a version"))?
-        .arg(versions(alloc))
-}
-
-// A command that matches versions against a range.
-fn matching<'a>(
-    alloc: Global,
-    name: &'a str,
-    about: &'a str,
-    examples: &'a str,
-) -> Result<Command<'a>, AllocError> {
-    let command = with_pre(alloc, name, about, examples)?
-        .arg(quiet(alloc)?)?
-        .arg(text(alloc, "RANGE", "The range"))?;
-    listing(alloc, command)
-}
-
-fn explain<'a>(alloc: Global) -> Result<Command<'a>, AllocError> {
-    with_pre(
-        alloc,
-        "explain",
-        "Explain what ranges mean",
-        "\
-Examples:
-  ranges explain '>=1.2 <2 || 3.x'
-  ranges explain --json '^1.2.3-beta'",
-    )?
-    .arg(ranges(alloc, 1, "The ranges"))
-}
-
-fn normal<'a>(alloc: Global) -> Result<Command<'a>, AllocError> {
-    on_ranges(
-        alloc,
-        "normal",
-        "Print the canonical form of ranges",
-        "\
-Examples:
-  ranges normal '>=1.2 <2 || 3.x'
-  ranges normal '1.x' '~2.3.0'",
-    )?
-    .arg(ranges(alloc, 1, "The ranges"))
-}
-
-fn min<'a>(alloc: Global) -> Result<Command<'a>, AllocError> {
-    with_pre(
-        alloc,
-        "min",
-        "Print the lowest version that a range matches",
-        "\
-Examples:
-  ranges min '>1.2.3'
-  ranges min --pre '>1.2.3'",
-    )?
-    .arg(text(alloc, "RANGE", "The range"))
-}
-
-fn filter<'a>(alloc: Global) -> Result<Command<'a>, AllocError> {
-    matching(
-        alloc,
-        "filter",
-        "Print the versions that match, in the order given",
-        "\
-Examples:
-  ranges filter '^1.2' 1.1.9 1.2.0 1.10.0
-  npm view react versions --json | ranges filter '^18'",
-    )?
-    .arg(more_ranges(alloc))
-}
-
-fn best<'a>(alloc: Global) -> Result<Command<'a>, AllocError> {
-    matching(
-        alloc,
-        "best",
-        "Print the highest version that matches",
-        "\
-Examples:
-  ranges best '^1.2' 1.2.0 1.10.0 1.9.9
-  git ls-remote --tags origin | ranges best --tags --skip-invalid '^1.2'",
-    )?
-    .arg(more_ranges(alloc))
-}
-
-fn outdated<'a>(alloc: Global) -> Result<Command<'a>, AllocError> {
-    matching(
-        alloc,
-        "outdated",
-        "Print the highest version that matches, and the highest of all",
-        "\
-Examples:
-  ranges outdated '^1.2' 1.2.0 1.10.0 2.0.0
-  npm view react versions --json | ranges outdated '^17'",
-    )
-}
-
-fn sort<'a>(alloc: Global) -> Result<Command<'a>, AllocError> {
-    let command = command(
-        alloc,
-        "sort",
-        "Sort versions by precedence",
-        "\
-Examples:
-  ranges sort 1.10.0 1.9.0 1.9.0-rc.1
-  git tag | ranges sort --reverse --tags --skip-invalid",
-    )?
-    .arg(flag(alloc, "reverse", 'r', "Print the highest version first"))?;
-    listing(alloc, command)
-}
-
-fn overlap<'a>(alloc: Global) -> Result<Command<'a>, AllocError> {
-    on_ranges(
-        alloc,
-        "overlap",
-        "Check whether the bounds of every two of the ranges overlap",
-        "\
-Examples:
-  ranges overlap '^1.2' '>=1.5 <3'
-  ranges overlap --quiet '^1.2' '~1.4' '1.4.x'",
-    )?
-    .arg(quiet(alloc)?)?
-    .arg(ranges(alloc, 2, "The ranges, two or more"))
-}
-
-fn common<'a>(alloc: Global) -> Result<Command<'a>, AllocError> {
-    with_pre(
-        alloc,
-        "common",
-        "Print the lowest version that all ranges match",
-        "\
-Examples:
-  ranges common '^1.2' '~1.4 || ^2'
-  ranges common --pre '>1.0.0' '<1.0.1'",
-    )?
-    .arg(quiet(alloc)?)?
-    .arg(ranges(alloc, 2, "The ranges, two or more"))
-}
-
-fn within<'a>(alloc: Global) -> Result<Command<'a>, AllocError> {
-    with_pre(
-        alloc,
-        "within",
-        "Check whether OLD matches each version that NEW matches",
-        "\
-Examples:
-  ranges within '^1.3' '^1.2'
-  ranges within '>=1.3' '^1.2'",
-    )?
-    .arg(quiet(alloc)?)?
-    .arg(text(alloc, "NEW", "The new range"))?
-    .arg(text(alloc, "OLD", "The old range"))
-}
-
-fn check<'a>(alloc: Global) -> Result<Command<'a>, AllocError> {
-    command(
-        alloc,
-        "check",
-        "Check the ranges of package.json, deno.json and import maps",
-        "\
+const COMMANDS: [Entry; 13] = [
+    Entry {
+        name: "check",
+        about: "Check the ranges of package.json, deno.json and import maps",
+        arguments: &[JSON, GITHUB, CANONICAL, STRICT, QUIET, FILES],
+        examples: "\
 Examples:
   ranges check package.json deno.json
   ranges check --strict --canonical packages/*/package.json",
-    )?
-    .arg(long_flag(alloc, "github", "Print GitHub Actions annotations").conflicts_with("json")?)?
-    .arg(flag(
-        alloc,
-        "canonical",
-        'c',
-        "Print every range with its canonical form",
-    ))?
-    .arg(long_flag(alloc, "strict", "Exit with 1 on a warning"))?
-    .arg(quiet(alloc)?)?
-    .arg(files(alloc))
-}
-
-fn package<'a>(alloc: Global) -> Result<Command<'a>, AllocError> {
-    on_ranges(
-        alloc,
-        "package",
-        "Print the parts of a package with a range",
-        "\
+    },
+    Entry {
+        name: "explain",
+        about: "Explain what ranges mean",
+        arguments: &[JSON, GRAMMAR, PRE, RANGES],
+        examples: "\
+Examples:
+  ranges explain '>=1.2 <2 || 3.x'
+  ranges explain --json '^1.2.3-beta'",
+    },
+    Entry {
+        name: "normal",
+        about: "Print the canonical form of ranges",
+        arguments: &[JSON, GRAMMAR, RANGES],
+        examples: "\
+Examples:
+  ranges normal '>=1.2 <2 || 3.x'
+  ranges normal '1.x' '~2.3.0'",
+    },
+    Entry {
+        name: "min",
+        about: "Print the lowest version that a range matches",
+        arguments: &[JSON, GRAMMAR, PRE, RANGE],
+        examples: "\
+Examples:
+  ranges min '>1.2.3'
+  ranges min --pre '>1.2.3'",
+    },
+    Entry {
+        name: "common",
+        about: "Print the lowest version that all ranges match",
+        arguments: &[JSON, GRAMMAR, PRE, QUIET, TWO_RANGES],
+        examples: "\
+Examples:
+  ranges common '^1.2' '~1.4 || ^2'
+  ranges common --pre '>1.0.0' '<1.0.1'",
+    },
+    Entry {
+        name: "within",
+        about: "Check whether OLD matches each version that NEW matches",
+        arguments: &[JSON, GRAMMAR, PRE, QUIET, NEW, OLD],
+        examples: "\
+Examples:
+  ranges within '^1.3' '^1.2'
+  ranges within '>=1.3' '^1.2'",
+    },
+    Entry {
+        name: "overlap",
+        about: "Check whether the bounds of every two of the ranges overlap",
+        arguments: &[JSON, GRAMMAR, QUIET, TWO_RANGES],
+        examples: "\
+Examples:
+  ranges overlap '^1.2' '>=1.5 <3'
+  ranges overlap --quiet '^1.2' '~1.4' '1.4.x'",
+    },
+    Entry {
+        name: "filter",
+        about: "Print the versions that match, in the order given",
+        arguments: MATCHING,
+        examples: "\
+Examples:
+  ranges filter '^1.2' 1.1.9 1.2.0 1.10.0
+  npm view react versions --json | ranges filter '^18'",
+    },
+    Entry {
+        name: "best",
+        about: "Print the highest version that matches",
+        arguments: MATCHING,
+        examples: "\
+Examples:
+  ranges best '^1.2' 1.2.0 1.10.0 1.9.9
+  git ls-remote --tags origin | ranges best --tags --skip-invalid '^1.2'",
+    },
+    Entry {
+        name: "outdated",
+        about: "Print the highest version that matches, and the highest of all",
+        arguments: &[
+            JSON,
+            GRAMMAR,
+            PRE,
+            QUIET,
+            RANGE,
+            NULL,
+            TAGS,
+            SKIP_INVALID,
+            VERSIONS,
+        ],
+        examples: "\
+Examples:
+  ranges outdated '^1.2' 1.2.0 1.10.0 2.0.0
+  npm view react versions --json | ranges outdated '^17'",
+    },
+    Entry {
+        name: "sort",
+        about: "Sort versions by precedence",
+        arguments: &[JSON, REVERSE, NULL, TAGS, SKIP_INVALID, VERSIONS],
+        examples: "\
+Examples:
+  ranges sort 1.10.0 1.9.0 1.9.0-rc.1
+  git tag | ranges sort --reverse --tags --skip-invalid",
+    },
+    Entry {
+        name: "package",
+        about: "Print the parts of a package with a range",
+        arguments: &[JSON, GRAMMAR, PACKAGE],
+        examples: "\
 Examples:
   ranges package '@scope/name@^1.2'
   ranges package --json react",
-    )?
-    .arg(text(alloc, "TEXT", "The package, such as @scope/name@^1.2"))
-}
-
-fn reference<'a>(alloc: Global) -> Result<Command<'a>, AllocError> {
-    command(
-        alloc,
-        "reference",
-        "Print the parts of a reference to a package",
-        "\
+    },
+    Entry {
+        name: "reference",
+        about: "Print the parts of a reference to a package",
+        arguments: &[JSON, REFERENCE],
+        examples: "\
 Examples:
   ranges reference jsr:@scope/name@1/mod.ts
   ranges reference --json npm:preact",
-    )?
-    .arg(text(
-        alloc,
-        "TEXT",
-        "The reference, such as jsr:@scope/name@1/mod.ts",
-    ))
-}
+    },
+];
 
-// ---- the program
-
-// Adds a command to the program.
-fn with<'a>(
-    program: Result<Command<'a>, AllocError>,
-    command: Result<Command<'a>, AllocError>,
-) -> Result<Command<'a>, AllocError> {
-    program?.subcommand(command?)
-}
-
-// Adds the commands on ranges alone.
-fn with_ranges<'a>(
-    alloc: Global,
-    program: Result<Command<'a>, AllocError>,
-) -> Result<Command<'a>, AllocError> {
-    let program = with(program, check(alloc));
-    let program = with(program, explain(alloc));
-    let program = with(program, normal(alloc));
-    let program = with(program, min(alloc));
-    let program = with(program, common(alloc));
-    let program = with(program, within(alloc));
-    with(program, overlap(alloc))
-}
-
-// Adds the commands for lists of versions.
-fn with_lists<'a>(
-    alloc: Global,
-    program: Result<Command<'a>, AllocError>,
-) -> Result<Command<'a>, AllocError> {
-    let program = with(program, filter(alloc));
-    let program = with(program, best(alloc));
-    let program = with(program, outdated(alloc));
-    with(program, sort(alloc))
-}
-
-// Adds the commands for texts of packages.
-fn with_packages<'a>(
-    alloc: Global,
-    program: Result<Command<'a>, AllocError>,
-) -> Result<Command<'a>, AllocError> {
-    let program = with(program, package(alloc));
-    with(program, reference(alloc))
+fn command<'a>(alloc: Global, entry: &Entry) -> Result<Command<'a>, AllocError> {
+    let mut command = Command::new(alloc, entry.name)
+        .about(entry.about)
+        .after_help(entry.examples)
+        .version(VERSION);
+    for argument in entry.arguments {
+        command = command.arg(arg(alloc, argument)?)?;
+    }
+    Ok(command)
 }
 
 /// The program's commands.
 pub fn program<'a>(alloc: Global) -> Result<Command<'a>, AllocError> {
-    let program = Command::new(alloc, "ranges")
+    let mut program = Command::new(alloc, "ranges")
         .about("Explain version ranges of npm and JSR packages, and find the versions that match")
         .after_help(STATUSES)
         .version(VERSION)
         .subcommand_required(true)
         .arg_required_else_help(true);
-    let program = with_ranges(alloc, Ok(program));
-    let program = with_lists(alloc, program);
-    with_packages(alloc, program)
+    for entry in &COMMANDS {
+        program = program.subcommand(command(alloc, entry)?)?;
+    }
+    Ok(program)
 }
