@@ -1,9 +1,10 @@
 //! What is legal in a range, and surely not meant.
 
+use crate::explaining::only_version;
 use answers::asking::{Answer, Problem};
 use answers::explained::{Matches, Meaning, Piece};
 use answers::questions::version_outside;
-use deno_semver::{PreRelease, RangeBound, VersionRange};
+use deno_semver::{PreRelease, RangeBound};
 use semver_req::common::values::Flavour;
 use std::alloc::{AllocError, Global};
 
@@ -12,14 +13,6 @@ const MANY: usize = 32;
 
 /// A warning about a range.
 pub type Warnings = Vec<String>;
-
-// Whether the range is one version.
-fn is_one_version(range: &VersionRange) -> bool {
-    match (&range.start, &range.end) {
-        (RangeBound::Version(start), RangeBound::Version(end)) => start.version == end.version,
-        _ => false,
-    }
-}
 
 // What is odd about an alternative that is a range.
 fn of_range(alloc: Global, text: &str, matches: &Matches) -> Result<Option<String>, AllocError> {
@@ -33,7 +26,10 @@ fn of_range(alloc: Global, text: &str, matches: &Matches) -> Result<Option<Strin
     let RangeBound::Version(start) = &matches.range.start else {
         return Ok(None);
     };
-    if start.version.pre.is_empty() || !matches.pre_of_start || is_one_version(&matches.range) {
+    if start.version.pre.is_empty()
+        || !matches.pre_of_start
+        || only_version(&matches.range).is_some()
+    {
         return Ok(None);
     }
     let (major, minor, patch) = (

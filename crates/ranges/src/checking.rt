@@ -2,8 +2,9 @@
 
 use crate::advice::{npm_warning, warnings};
 use crate::errors::{add_error, errors_behind, errors_of};
+use crate::explaining::is_left_out;
 use answers::asking::Problem;
-use answers::explained::{Explanation, Meaning, Piece, explain};
+use answers::explained::{Explanation, Piece, explain};
 use answers::object::Object;
 use clap::ArgMatches;
 use deno_semver::PreRelease;
@@ -15,7 +16,6 @@ use std::alloc::{AllocError, Global};
 use std::io::{BufRead, ErrorKind, Read, Write};
 use std::rt::Files;
 use std::{fs, io};
-use terminal::args::Options;
 use terminal::console::{Console, Status, Stop, print_line};
 use terminal::hints::{is_protocol, question};
 use terminal::manifest::{Entry, Kind, entries};
@@ -247,11 +247,6 @@ fn warn<O: Write, E: Write>(
     report.add(console, entry, finding)
 }
 
-// Whether an alternative is left out.
-fn is_left_out(piece: &Piece) -> bool {
-    matches!(piece.meaning, Meaning::LeftOut(_))
-}
-
 // Where the range that an entry's text is, or ends with, is wrong.
 fn errors_in(alloc: Global, entry: &Entry, range: &str) -> Result<Vec<InvalidPiece>, AllocError> {
     let before = entry.text.len().saturating_sub(range.len());
@@ -318,16 +313,15 @@ fn range_of(text: &str) -> Option<&str> {
     }
 }
 
-// Checks a range by npm's grammar.
+// Checks the range that an entry's text is, or ends with.
 fn check_range<O: Write, E: Write>(
     console: &mut Console<O, E>,
     report: &mut Report<'_>,
     entry: &Entry,
+    flavour: Flavour,
+    range: &str,
 ) -> Result<(), Stop> {
-    let Some(range) = range_of(entry.text.as_str()) else {
-        return Ok(());
-    };
-    match explain(console.alloc, Flavour::Npm, PreRelease::Restricted, range) {
+    match explain(console.alloc, flavour, PreRelease::Restricted, range) {
         Ok(Explanation::Tag(tag)) => match question(tag.as_str()) {
             Some(question) => warn(console, report, entry, question),
             None => Ok(()),
@@ -352,27 +346,6 @@ fn check_range<O: Write, E: Write>(
     }
 }
 
-// Checks the range of a specifier, which is valid.
-fn check_requirement<O: Write, E: Write>(
-    console: &mut Console<O, E>,
-    report: &mut Report<'_>,
-    entry: &Entry,
-    range: &str,
-) -> Result<(), Stop> {
-    let flavour = Flavour::Specifier;
-    match explain(console.alloc, flavour, PreRelease::Restricted, range) {
-        Ok(Explanation::Tag(tag)) => match question(tag.as_str()) {
-            Some(question) => warn(console, report, entry, question),
-            None => Ok(()),
-        },
-        Ok(Explanation::Ranges { pieces, normal }) => {
-            check_pieces(console, report, entry, pieces.as_slice(), normal.as_str())
-        }
-        Err(Problem::Invalid(_)) => Ok(()),
-        Err(Problem::OutOfMemory) => Err(Stop::OutOfMemory),
-    }
-}
-
 // Checks a specifier; one that isn't of npm or JSR is passed over.
 fn check_specifier<O: Write, E: Write>(
     console: &mut Console<O, E>,
@@ -386,7 +359,7 @@ fn check_specifier<O: Write, E: Write>(
     match read_reference(console.alloc, text) {
         Ok(reference) => {
             let range = reference.reference.req.version_req.version_text();
-            check_requirement(console, report, entry, range)
+            check_range(console, report, entry, Flavour::Specifier, range)
         }
         Err(Problem::Invalid(invalid)) => {
             let errors = errors_of(console.alloc, Flavour::Specifier, text, &invalid)?;
@@ -411,7 +384,11 @@ fn check_entries<O: Write, E: Write>(
     for entry in entries {
         report.position = report.position.at(text, entry.start);
         match entry.kind {
-            Kind::Range => check_range(console, report, entry)?,
+            Kind::Range => {
+                if let Some(range) = range_of(entry.text.as_str()) {
+                    check_range(console, report, entry, Flavour::Npm, range)?;
+                }
+            }
             Kind::Specifier => check_specifier(console, report, entry)?,
             Kind::Mistake(message) => {
                 let finding = Finding {
@@ -474,8 +451,8 @@ fn check_file<R: Input + Files + AllocGlobal, O: Write, E: Write>(
     check_entries(console, report, text, entries.as_slice())
 }
 
-fn format_of(matches: &ArgMatches<'_>, options: Options) -> Format {
-    if options.json {
+fn format_of(matches: &ArgMatches<'_>) -> Format {
+    if matches.get_flag("json") {
         Format::Json
     } else if matches.get_flag("github") {
         Format::GitHub
@@ -489,7 +466,6 @@ pub fn check<R: Input + Files + AllocGlobal, O: Write, E: Write>(
     rt: &R,
     console: &mut Console<O, E>,
     matches: &ArgMatches<'_>,
-    options: Options,
 ) -> Result<Status, Stop> {
     let start = Position {
         index: 0,
@@ -497,7 +473,7 @@ pub fn check<R: Input + Files + AllocGlobal, O: Write, E: Write>(
         column: 1,
     };
     let mut report = Report {
-        format: format_of(matches, options),
+        format: format_of(matches),
         canonical: matches.get_flag("canonical"),
         file: "-",
         position: start,

@@ -11,14 +11,12 @@ use semver_req::error_places::pieces::InvalidPiece;
 use serde_json::Value;
 use std::alloc::{AllocError, Global};
 use std::io::Write;
-use terminal::args::Options;
 use terminal::console::{Console, Status, Stop, print_line};
 use terminal::shown::Shown;
 
 /// Reports which of the arguments is invalid, and where, or that memory ran out.
 pub fn reject<O: Write, E: Write>(
     console: &mut Console<O, E>,
-    options: Options,
     arguments: &[&str],
     problem: &Problem,
 ) -> Result<Status, Stop> {
@@ -26,8 +24,8 @@ pub fn reject<O: Write, E: Write>(
         return Err(Stop::OutOfMemory);
     };
     let argument = arguments.get(invalid.place).copied().unwrap_or("");
-    let errors = errors_of(console.alloc, options.flavour, argument, invalid)?;
-    if options.json {
+    let errors = errors_of(console.alloc, console.options.flavour, argument, invalid)?;
+    if console.options.json {
         let json = error_json(console.alloc, argument, invalid, errors.as_slice());
         console.json(json)?;
         return Ok(Status::Rejected);
@@ -40,10 +38,9 @@ pub fn reject<O: Write, E: Write>(
 /// Prints the tag that a range is.
 pub fn print_tag<O: Write, E: Write>(
     console: &mut Console<O, E>,
-    options: Options,
     tag: &str,
 ) -> Result<Status, Stop> {
-    if options.json {
+    if console.options.json {
         let json = field_json(console.alloc, "tag", Some(tag));
         console.json(json)?;
     } else {
@@ -56,14 +53,13 @@ pub fn print_tag<O: Write, E: Write>(
 /// Prints the version, or that there is none.
 pub fn print_version<O: Write, E: Write>(
     console: &mut Console<O, E>,
-    options: Options,
     version: Option<&str>,
 ) -> Result<Status, Stop> {
-    if options.json {
+    if console.options.json {
         let json = field_json(console.alloc, "version", version);
         console.json(json)?;
     } else {
-        let (version, end) = (version.unwrap_or("none"), options.input.line_end());
+        let (version, end) = (version.unwrap_or("none"), console.options.line_end());
         write!(console.out, "{version}{end}")?;
     }
     match version {
@@ -75,10 +71,9 @@ pub fn print_version<O: Write, E: Write>(
 // Prints whether a range allows no more than another, or the lowest version that it alone allows.
 fn print_within<O: Write, E: Write>(
     console: &mut Console<O, E>,
-    options: Options,
     first: Option<&str>,
 ) -> Result<Status, Stop> {
-    if options.json {
+    if console.options.json {
         let json = within_json(console.alloc, first);
         console.json(json)?;
     } else {
@@ -138,11 +133,15 @@ fn print_first<O: Write>(out: &mut O, first: Option<&str>) -> Result<(), Stop> {
     }
 }
 
-// The text of a version, if there is one.
-fn shown(alloc: Global, version: &Option<Version>) -> Result<Option<String>, AllocError> {
-    match version {
-        Some(version) => Ok(Some(text_of_version(alloc, version)?)),
-        None => Ok(None),
+// The text of the lowest version, if there is one; a tag is printed.
+fn lowest_text<O: Write, E: Write>(
+    console: &mut Console<O, E>,
+    answer: &Answer<Option<Version>>,
+) -> Result<Result<Option<String>, Status>, Stop> {
+    match answer {
+        Answer::Value(Some(lowest)) => Ok(Ok(Some(text_of_version(console.alloc, lowest)?))),
+        Answer::Value(None) => Ok(Ok(None)),
+        Answer::Tag(tag) => Ok(Err(print_tag(console, tag.as_str())?)),
     }
 }
 
@@ -150,26 +149,19 @@ fn shown(alloc: Global, version: &Option<Version>) -> Result<Option<String>, All
 pub fn common<O: Write, E: Write>(
     console: &mut Console<O, E>,
     matches: &ArgMatches<'_>,
-    options: Options,
 ) -> Result<Status, Stop> {
     let texts = matches.get_strs("RANGE").unwrap_or(&[]);
-    match common_version(console.alloc, options.flavour, options.pre_release, texts) {
-        Ok(answer) => print_common(console, options, &answer),
-        Err(problem) => reject(console, options, texts, &problem),
-    }
-}
-
-fn print_common<O: Write, E: Write>(
-    console: &mut Console<O, E>,
-    options: Options,
-    answer: &Answer<Option<Version>>,
-) -> Result<Status, Stop> {
-    match answer {
-        Answer::Value(lowest) => {
-            let lowest = shown(console.alloc, lowest)?;
-            print_version(console, options, lowest.as_deref())
-        }
-        Answer::Tag(tag) => print_tag(console, options, tag.as_str()),
+    match common_version(
+        console.alloc,
+        console.options.flavour,
+        console.options.pre_release,
+        texts,
+    ) {
+        Ok(answer) => match lowest_text(console, &answer)? {
+            Ok(lowest) => print_version(console, lowest.as_deref()),
+            Err(status) => Ok(status),
+        },
+        Err(problem) => reject(console, texts, &problem),
     }
 }
 
@@ -177,33 +169,21 @@ fn print_common<O: Write, E: Write>(
 pub fn within<O: Write, E: Write>(
     console: &mut Console<O, E>,
     matches: &ArgMatches<'_>,
-    options: Options,
 ) -> Result<Status, Stop> {
     let new = matches.get_str("NEW").unwrap_or("");
     let old = matches.get_str("OLD").unwrap_or("");
     match version_outside(
         console.alloc,
-        options.flavour,
-        options.pre_release,
+        console.options.flavour,
+        console.options.pre_release,
         new,
         old,
     ) {
-        Ok(answer) => print_outside(console, options, &answer),
-        Err(problem) => reject(console, options, &[new, old], &problem),
-    }
-}
-
-fn print_outside<O: Write, E: Write>(
-    console: &mut Console<O, E>,
-    options: Options,
-    answer: &Answer<Option<Version>>,
-) -> Result<Status, Stop> {
-    match answer {
-        Answer::Value(lowest) => {
-            let lowest = shown(console.alloc, lowest)?;
-            print_within(console, options, lowest.as_deref())
-        }
-        Answer::Tag(tag) => print_tag(console, options, tag.as_str()),
+        Ok(answer) => match lowest_text(console, &answer)? {
+            Ok(lowest) => print_within(console, lowest.as_deref()),
+            Err(status) => Ok(status),
+        },
+        Err(problem) => reject(console, &[new, old], &problem),
     }
 }
 
@@ -223,18 +203,17 @@ fn first_apart(ranges: &[VersionReq]) -> Option<(usize, usize)> {
 pub fn overlap<O: Write, E: Write>(
     console: &mut Console<O, E>,
     matches: &ArgMatches<'_>,
-    options: Options,
 ) -> Result<Status, Stop> {
     let texts = matches.get_strs("RANGE").unwrap_or(&[]);
-    match ranges(console.alloc, options.flavour, texts) {
+    match ranges(console.alloc, console.options.flavour, texts) {
         Ok(ranges) => {
             let apart = match first_apart(ranges.as_slice()) {
                 Some((one, other)) => texts.get(one).copied().zip(texts.get(other).copied()),
                 None => None,
             };
-            print_overlap(console, options, apart)
+            print_overlap(console, apart)
         }
-        Err(problem) => reject(console, options, texts, &problem),
+        Err(problem) => reject(console, texts, &problem),
     }
 }
 
@@ -253,10 +232,9 @@ fn overlap_json(alloc: Global, apart: Option<(&str, &str)>) -> Result<Value, All
 
 fn print_overlap<O: Write, E: Write>(
     console: &mut Console<O, E>,
-    options: Options,
     apart: Option<(&str, &str)>,
 ) -> Result<Status, Stop> {
-    if options.json {
+    if console.options.json {
         let json = overlap_json(console.alloc, apart);
         console.json(json)?;
     } else {
@@ -278,29 +256,27 @@ fn print_overlap<O: Write, E: Write>(
 pub fn normal<O: Write, E: Write>(
     console: &mut Console<O, E>,
     matches: &ArgMatches<'_>,
-    options: Options,
 ) -> Result<Status, Stop> {
     let mut status = Status::Answered;
     for text in matches.get_strs("RANGE").unwrap_or(&[]) {
-        status = status.worse(print_normal(console, options, text)?);
+        status = status.worse(print_normal(console, text)?);
     }
     Ok(status)
 }
 
 fn print_normal<O: Write, E: Write>(
     console: &mut Console<O, E>,
-    options: Options,
     text: &str,
 ) -> Result<Status, Stop> {
-    let range = match range(console.alloc, options.flavour, 0, text) {
+    let range = match range(console.alloc, console.options.flavour, 0, text) {
         Ok(range) => range,
-        Err(problem) => return reject(console, options, &[text], &problem),
+        Err(problem) => return reject(console, &[text], &problem),
     };
     if let Some(tag) = range.tag() {
-        return print_tag(console, options, tag);
+        return print_tag(console, tag);
     }
     let normal = range.to_string_normalized(console.alloc)?;
-    if options.json {
+    if console.options.json {
         let json = field_json(console.alloc, "normal", Some(normal.as_str()));
         console.json(json)?;
     } else {

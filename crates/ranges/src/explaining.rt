@@ -9,7 +9,6 @@ use deno_semver::{PreRelease, RangeBound, Version, VersionBound, VersionBoundKin
 use semver_req::error_places::pieces::InvalidPiece;
 use std::fmt;
 use std::io::Write;
-use terminal::args::Options;
 use terminal::console::{Console, Status, Stop, Style, print_line};
 use terminal::pointing::print_error;
 use terminal::shown::Shown;
@@ -55,8 +54,8 @@ fn bound<W: fmt::Write>(
     write!(f, "{operator}{equal}{}", bound.version)
 }
 
-// The version at which the range both starts and ends.
-fn only_version(range: &VersionRange) -> Option<&Version> {
+/// The version at which the range both starts and ends.
+pub fn only_version(range: &VersionRange) -> Option<&Version> {
     match (&range.start, &range.end) {
         (RangeBound::Version(start), RangeBound::Version(end)) if start.version == end.version => {
             Some(&start.version)
@@ -143,18 +142,14 @@ fn what_matches<W: fmt::Write>(
     write!(f, "{colored}{bounds}{end}, {pre_releases}, lowest {lowest}")
 }
 
-// Whether an alternative is left out.
-fn is_left_out(piece: &Piece) -> bool {
+/// Whether an alternative is left out.
+pub fn is_left_out(piece: &Piece) -> bool {
     matches!(piece.meaning, Meaning::LeftOut(_))
 }
 
 // Prints that a range is a tag.
-fn report_tag<O: Write, E: Write>(
-    console: &mut Console<O, E>,
-    options: Options,
-    tag: &str,
-) -> Result<Status, Stop> {
-    if !options.json {
+fn report_tag<O: Write, E: Write>(console: &mut Console<O, E>, tag: &str) -> Result<Status, Stop> {
+    if !console.options.json {
         print_line(
             &mut console.out,
             format_args!("\"{tag}\": a tag, a name that a registry gives a version"),
@@ -162,17 +157,16 @@ fn report_tag<O: Write, E: Write>(
         console.question(tag);
         return Ok(Status::Tag);
     }
-    print_tag(console, options, tag)
+    print_tag(console, tag)
 }
 
 // Prints each alternative on a line, an invalid one with its error, and the canonical form; or all as JSON.
 fn report_pieces<O: Write, E: Write>(
     console: &mut Console<O, E>,
-    options: Options,
     explained: Explained<'_>,
 ) -> Result<Status, Stop> {
-    let pre_release = options.pre_release;
-    if options.json {
+    let pre_release = console.options.pre_release;
+    if console.options.json {
         let Explained {
             pieces,
             errors,
@@ -216,15 +210,14 @@ fn print_pieces<O: Write>(
 
 fn report_explanation<O: Write, E: Write>(
     console: &mut Console<O, E>,
-    options: Options,
     text: &str,
     explanation: &Explanation,
 ) -> Result<Status, Stop> {
     match explanation {
-        Explanation::Tag(tag) => report_tag(console, options, tag.as_str()),
+        Explanation::Tag(tag) => report_tag(console, tag.as_str()),
         Explanation::Ranges { pieces, normal } => {
             let errors = if pieces.iter().any(is_left_out) {
-                errors(console.alloc, options.flavour, text)?
+                errors(console.alloc, console.options.flavour, text)?
             } else {
                 Vec::new(console.alloc)
             };
@@ -234,7 +227,7 @@ fn report_explanation<O: Write, E: Write>(
                 errors: errors.as_slice(),
                 normal: normal.as_str(),
             };
-            report_pieces(console, options, explained)
+            report_pieces(console, explained)
         }
     }
 }
@@ -244,22 +237,22 @@ fn report_explanation<O: Write, E: Write>(
 pub fn report<O: Write, E: Write>(
     console: &mut Console<O, E>,
     matches: &ArgMatches<'_>,
-    options: Options,
 ) -> Result<Status, Stop> {
     let mut status = Status::Answered;
     for text in matches.get_strs("RANGE").unwrap_or(&[]) {
-        status = status.worse(report_one(console, options, text)?);
+        status = status.worse(report_one(console, text)?);
     }
     Ok(status)
 }
 
-fn report_one<O: Write, E: Write>(
-    console: &mut Console<O, E>,
-    options: Options,
-    text: &str,
-) -> Result<Status, Stop> {
-    match explain(console.alloc, options.flavour, options.pre_release, text) {
-        Ok(explanation) => report_explanation(console, options, text, &explanation),
-        Err(problem) => reject(console, options, &[text], &problem),
+fn report_one<O: Write, E: Write>(console: &mut Console<O, E>, text: &str) -> Result<Status, Stop> {
+    match explain(
+        console.alloc,
+        console.options.flavour,
+        console.options.pre_release,
+        text,
+    ) {
+        Ok(explanation) => report_explanation(console, text, &explanation),
+        Err(problem) => reject(console, &[text], &problem),
     }
 }

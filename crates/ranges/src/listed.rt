@@ -27,7 +27,7 @@ impl Printed {
     fn new(options: Options) -> Printed {
         Printed {
             json: options.json,
-            end: options.input.line_end(),
+            end: options.line_end(),
             is_first: true,
         }
     }
@@ -182,16 +182,15 @@ fn range_texts<'a>(alloc: Global, matches: &ArgMatches<'a>) -> Result<Vec<&'a st
 fn on_ranges<O: Write, E: Write>(
     console: &mut Console<O, E>,
     matches: &ArgMatches<'_>,
-    options: Options,
 ) -> Result<Result<Vec<VersionReq>, Status>, Stop> {
     let texts = range_texts(console.alloc, matches)?;
-    let parsed = ranges(console.alloc, options.flavour, texts.as_slice());
+    let parsed = ranges(console.alloc, console.options.flavour, texts.as_slice());
     match parsed {
         Ok(parsed) => match parsed.iter().find_map(|range| range.tag()) {
-            Some(tag) => Ok(Err(print_tag(console, options, tag)?)),
+            Some(tag) => Ok(Err(print_tag(console, tag)?)),
             None => Ok(Ok(parsed)),
         },
-        Err(problem) => Ok(Err(reject(console, options, texts.as_slice(), &problem)?)),
+        Err(problem) => Ok(Err(reject(console, texts.as_slice(), &problem)?)),
     }
 }
 
@@ -200,19 +199,18 @@ pub fn filter<R: Input, O: Write, E: Write>(
     rt: &R,
     console: &mut Console<O, E>,
     matches: &ArgMatches<'_>,
-    options: Options,
 ) -> Result<Status, Stop> {
-    let ranges = match on_ranges(console, matches, options)? {
+    let ranges = match on_ranges(console, matches)? {
         Ok(ranges) => ranges,
         Err(status) => return Ok(status),
     };
     let mut filter = Filtering {
         ranges: ranges.as_slice(),
-        pre_release: options.pre_release,
-        printed: Printed::new(options),
+        pre_release: console.options.pre_release,
+        printed: Printed::new(console.options),
     };
     let versions = matches.get_strs("VERSION");
-    let all = take_all(rt, console, options.input, versions, &mut filter)?;
+    let all = take_all(rt, console, versions, &mut filter)?;
     filter.printed.finish(console)?;
     let status = if filter.printed.is_first {
         Status::Nothing
@@ -227,28 +225,17 @@ pub fn best<R: Input, O: Write, E: Write>(
     rt: &R,
     console: &mut Console<O, E>,
     matches: &ArgMatches<'_>,
-    options: Options,
 ) -> Result<Status, Stop> {
-    match on_ranges(console, matches, options)? {
-        Ok(ranges) => best_by(rt, console, matches, options, ranges.as_slice()),
-        Err(status) => Ok(status),
-    }
-}
-
-fn best_by<R: Input, O: Write, E: Write>(
-    rt: &R,
-    console: &mut Console<O, E>,
-    matches: &ArgMatches<'_>,
-    options: Options,
-    ranges: &[VersionReq],
-) -> Result<Status, Stop> {
-    let Some((first, others)) = ranges.split_first() else {
+    let ranges = match on_ranges(console, matches)? {
+        Ok(ranges) => ranges,
+        Err(status) => return Ok(status),
+    };
+    let Some((first, others)) = ranges.as_slice().split_first() else {
         return Ok(Status::Usage);
     };
-    let mut listed = Listed::new(console.alloc, others, options.pre_release);
-    let versions = matches.get_strs("VERSION");
-    let all = take_all(rt, console, options.input, versions, &mut listed)?;
-    let status = print_version(console, options, listed.highest(first))?;
+    let mut listed = Listed::new(console.alloc, others, console.options.pre_release);
+    let all = take_all(rt, console, matches.get_strs("VERSION"), &mut listed)?;
+    let status = print_version(console, listed.highest(first))?;
     Ok(ended(all, status))
 }
 
@@ -257,48 +244,31 @@ pub fn outdated<R: Input, O: Write, E: Write>(
     rt: &R,
     console: &mut Console<O, E>,
     matches: &ArgMatches<'_>,
-    options: Options,
 ) -> Result<Status, Stop> {
-    match on_ranges(console, matches, options)? {
-        Ok(ranges) => outdated_by(rt, console, matches, options, ranges.as_slice()),
-        Err(status) => Ok(status),
-    }
-}
-
-fn outdated_by<R: Input, O: Write, E: Write>(
-    rt: &R,
-    console: &mut Console<O, E>,
-    matches: &ArgMatches<'_>,
-    options: Options,
-    ranges: &[VersionReq],
-) -> Result<Status, Stop> {
-    let [range, ..] = ranges else {
+    let ranges = match on_ranges(console, matches)? {
+        Ok(ranges) => ranges,
+        Err(status) => return Ok(status),
+    };
+    let [range, ..] = ranges.as_slice() else {
         return Ok(Status::Usage);
     };
     let any = match answers::reading::range(console.alloc, Flavour::Npm, 0, "*") {
         Ok(any) => any,
         Err(_) => return Err(Stop::OutOfMemory),
     };
-    let mut listed = Listed::new(console.alloc, &[], options.pre_release);
-    let versions = matches.get_strs("VERSION");
-    let all = take_all(rt, console, options.input, versions, &mut listed)?;
-    let status = print_outdated(
-        console,
-        options,
-        listed.highest(range),
-        listed.highest(&any),
-    )?;
+    let mut listed = Listed::new(console.alloc, &[], console.options.pre_release);
+    let all = take_all(rt, console, matches.get_strs("VERSION"), &mut listed)?;
+    let status = print_outdated(console, listed.highest(range), listed.highest(&any))?;
     Ok(ended(all, status))
 }
 
 // Prints both versions; the status is 1 if there is a higher one than that which matches.
 fn print_outdated<O: Write, E: Write>(
     console: &mut Console<O, E>,
-    options: Options,
     matching: Option<&str>,
     highest: Option<&str>,
 ) -> Result<Status, Stop> {
-    if options.json {
+    if console.options.json {
         let json = Object::new(console.alloc)
             .put_text("highest", highest)
             .put_text("matching", matching)
@@ -307,7 +277,7 @@ fn print_outdated<O: Write, E: Write>(
     } else {
         let matching = matching.unwrap_or("none");
         let highest = highest.unwrap_or("none");
-        let end = options.input.line_end();
+        let end = console.options.line_end();
         write!(console.out, "{matching} {highest}{end}")?;
     }
     if highest.is_none() || matching == highest {
@@ -322,21 +292,19 @@ pub fn sort<R: Input, O: Write, E: Write>(
     rt: &R,
     console: &mut Console<O, E>,
     matches: &ArgMatches<'_>,
-    options: Options,
 ) -> Result<Status, Stop> {
-    let mut listed = Listed::new(console.alloc, &[], options.pre_release);
+    let mut listed = Listed::new(console.alloc, &[], console.options.pre_release);
     let versions = matches.get_strs("VERSION");
-    let all = take_all(rt, console, options.input, versions, &mut listed)?;
-    print_sorted(console, options, listed)?;
+    let all = take_all(rt, console, versions, &mut listed)?;
+    print_sorted(console, listed)?;
     Ok(ended(all, Status::Answered))
 }
 
 fn print_sorted<O: Write, E: Write>(
     console: &mut Console<O, E>,
-    options: Options,
     listed: Listed<'_>,
 ) -> Result<(), Stop> {
-    let order = if options.reverse {
+    let order = if console.options.reverse {
         Order::Descending
     } else {
         Order::Ascending
@@ -347,7 +315,7 @@ fn print_sorted<O: Write, E: Write>(
         ..
     } = listed;
     let places = sorted_places(console.alloc, versions, order)?;
-    let mut printed = Printed::new(options);
+    let mut printed = Printed::new(console.options);
     for place in places.iter() {
         if let Some(text) = texts.get(*place) {
             printed.add(console, text.as_str())?;

@@ -27,23 +27,20 @@ use terminal::args::{Options, program};
 use terminal::console::{Console, Status, Stop, Style, Terminal};
 use terminal::shown::Shown;
 
-// Runs the given command.
+// Runs the command of this name.
 fn answer<R: Input + Files + AllocGlobal, O: Write, E: Write>(
     rt: &R,
     console: &mut Console<O, E>,
+    name: &str,
     matches: &ArgMatches<'_>,
 ) -> Result<Status, Stop> {
-    let Some((name, matches)) = matches.subcommand() else {
-        return Ok(Status::Usage);
-    };
-    let options = Options::of(matches);
     match name {
-        "check" => checking::check(rt, console, matches, options),
-        "filter" => listed::filter(rt, console, matches, options),
-        "best" => listed::best(rt, console, matches, options),
-        "outdated" => listed::outdated(rt, console, matches, options),
-        "sort" => listed::sort(rt, console, matches, options),
-        name => answer_texts(console, name, matches, options),
+        "check" => checking::check(rt, console, matches),
+        "filter" => listed::filter(rt, console, matches),
+        "best" => listed::best(rt, console, matches),
+        "outdated" => listed::outdated(rt, console, matches),
+        "sort" => listed::sort(rt, console, matches),
+        name => answer_texts(console, name, matches),
     }
 }
 
@@ -52,16 +49,15 @@ fn answer_texts<O: Write, E: Write>(
     console: &mut Console<O, E>,
     name: &str,
     matches: &ArgMatches<'_>,
-    options: Options,
 ) -> Result<Status, Stop> {
     match name {
-        "explain" => explaining::report(console, matches, options),
-        "normal" => comparing::normal(console, matches, options),
-        "common" | "min" => comparing::common(console, matches, options),
-        "within" => comparing::within(console, matches, options),
-        "overlap" => comparing::overlap(console, matches, options),
-        "package" => packaged::report_package(console, matches, options),
-        "reference" => packaged::report_reference(console, matches, options),
+        "explain" => explaining::report(console, matches),
+        "normal" => comparing::normal(console, matches),
+        "common" | "min" => comparing::common(console, matches),
+        "within" => comparing::within(console, matches),
+        "overlap" => comparing::overlap(console, matches),
+        "package" => packaged::report_package(console, matches),
+        "reference" => packaged::report_reference(console, matches),
         _ => Ok(Status::Usage),
     }
 }
@@ -102,40 +98,36 @@ fn arguments<R: Env + AllocGlobal>(rt: &R) -> io::Result<Vec<String>> {
     Ok(arguments)
 }
 
-// Runs the given command, and flushes its output.
+// Runs the command of this name, and flushes its output.
 fn flushed_answer<R: Input + Files + AllocGlobal, O: Write, E: Write>(
     rt: &R,
     console: &mut Console<O, E>,
+    name: &str,
     matches: &ArgMatches<'_>,
 ) -> Result<Status, Stop> {
-    let status = answer(rt, console, matches)?;
+    let status = answer(rt, console, name, matches)?;
     console.out.flush()?;
     Ok(status)
 }
 
-// Whether the command is to print no result.
-fn is_quiet(matches: &ArgMatches<'_>) -> bool {
-    match matches.subcommand() {
-        Some((_, matches)) => matches.get_flag("quiet"),
-        None => false,
-    }
-}
-
-// Runs the given command with a buffered console.
+// Runs the given command with a buffered console; one that is quiet prints nowhere.
 fn write_answer<R: Runtime + AllocGlobal, E: Write + Drop>(
     rt: &R,
     err: E,
     terminal: Terminal,
     matches: &ArgMatches<'_>,
 ) -> Result<Status, Stop> {
-    let alloc = rt.alloc();
-    if is_quiet(matches) {
-        let mut console = Console::new(alloc, io::sink(), err, terminal);
-        return flushed_answer(rt, &mut console, matches);
+    let Some((name, matches)) = matches.subcommand() else {
+        return Ok(Status::Usage);
+    };
+    let (alloc, options) = (rt.alloc(), Options::of(matches));
+    if options.quiet {
+        let mut console = Console::new(alloc, io::sink(), err, terminal, options);
+        return flushed_answer(rt, &mut console, name, matches);
     }
     let out = BufWriter::new(alloc, io::writer(rt))?;
-    let mut console = Console::new(alloc, out, err, terminal);
-    flushed_answer(rt, &mut console, matches)
+    let mut console = Console::new(alloc, out, err, terminal, options);
+    flushed_answer(rt, &mut console, name, matches)
 }
 
 // Parses the arguments and runs their command.

@@ -7,7 +7,6 @@ use deno_semver::package::{PackageKind, PackageReq};
 use package_answers::packages::{package_json, read_package, scope_and_name};
 use package_answers::references::{Reference, read_reference, reference_json};
 use std::io::Write;
-use terminal::args::Options;
 use terminal::console::{Console, Status, Stop, print_line};
 use terminal::shown::Shown;
 
@@ -50,10 +49,9 @@ fn print_reference<O: Write, E: Write>(
 
 fn answer_package<O: Write, E: Write>(
     console: &mut Console<O, E>,
-    options: Options,
     req: &PackageReq,
 ) -> Result<Status, Stop> {
-    if options.json {
+    if console.options.json {
         console.json(package_json(console.alloc, req))?;
     } else {
         print_package(console, req)?;
@@ -63,10 +61,9 @@ fn answer_package<O: Write, E: Write>(
 
 fn answer_reference<O: Write, E: Write>(
     console: &mut Console<O, E>,
-    options: Options,
     read: &Reference,
 ) -> Result<Status, Stop> {
-    if options.json {
+    if console.options.json {
         console.json(reference_json(console.alloc, read))?;
     } else {
         print_reference(console, read)?;
@@ -78,12 +75,11 @@ fn answer_reference<O: Write, E: Write>(
 pub fn report_package<O: Write, E: Write>(
     console: &mut Console<O, E>,
     matches: &ArgMatches<'_>,
-    options: Options,
 ) -> Result<Status, Stop> {
     let text = matches.get_str("TEXT").unwrap_or("");
-    match read_package(console.alloc, options.flavour, text) {
-        Ok(req) => answer_package(console, options, &req),
-        Err(problem) => reject(console, options, &[text], &problem),
+    match read_package(console.alloc, console.options.flavour, text) {
+        Ok(req) => answer_package(console, &req),
+        Err(problem) => reject(console, &[text], &problem),
     }
 }
 
@@ -91,11 +87,10 @@ pub fn report_package<O: Write, E: Write>(
 pub fn report_reference<O: Write, E: Write>(
     console: &mut Console<O, E>,
     matches: &ArgMatches<'_>,
-    options: Options,
 ) -> Result<Status, Stop> {
     let text = matches.get_str("TEXT").unwrap_or("");
     match read_reference(console.alloc, text) {
-        Ok(read) => answer_reference(console, options, &read),
-        Err(problem) => reject(console, options, &[text], &problem),
+        Ok(read) => answer_reference(console, &read),
+        Err(problem) => reject(console, &[text], &problem),
     }
 }

@@ -25,26 +25,12 @@ pub struct Options {
     pub quiet: bool,
     /// Whether the highest version comes first.
     pub reverse: bool,
-    /// How versions are read.
-    pub input: InputOptions,
-}
-
-/// How versions are read and listed.
-#[derive(Clone, Copy)]
-pub struct InputOptions {
     /// Whether a NUL byte ends each line, of input and of output.
     pub null: bool,
     /// Whether versions are git's tags.
     pub tags: bool,
     /// Whether what isn't a version is passed over.
     pub skip_invalid: bool,
-}
-
-impl InputOptions {
-    /// What ends a line of output.
-    pub fn line_end(self) -> &'static str {
-        if self.null { "\0" } else { "\n" }
-    }
 }
 
 impl Options {
@@ -66,12 +52,15 @@ impl Options {
             json: matches.get_flag("json"),
             quiet: matches.get_flag("quiet"),
             reverse: matches.get_flag("reverse"),
-            input: InputOptions {
-                null: matches.get_flag("null"),
-                tags: matches.get_flag("tags"),
-                skip_invalid: matches.get_flag("skip-invalid"),
-            },
+            null: matches.get_flag("null"),
+            tags: matches.get_flag("tags"),
+            skip_invalid: matches.get_flag("skip-invalid"),
         }
+    }
+
+    /// What ends a line of output.
+    pub fn line_end(self) -> &'static str {
+        if self.null { "\0" } else { "\n" }
     }
 }
 

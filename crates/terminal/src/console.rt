@@ -1,5 +1,6 @@
 //! Where the program writes, and its exit status.
 
+use crate::args::Options;
 use crate::hints::question;
 use crate::shown::Quoted;
 use serde_json::Value;
@@ -184,24 +185,32 @@ pub struct Terminal {
     pub err: Style,
 }
 
-/// Where results and errors are written.
+/// Where the results and errors of a command are written, and its options.
 #[derive(Drop)]
 pub struct Console<O, E> {
     pub alloc: Global,
     pub out: O,
     pub err: E,
+    pub options: Options,
     pub out_style: Style,
     pub err_style: Style,
     is_typed: bool,
 }
 
 impl<O, E> Console<O, E> {
-    /// A console over two streams.
-    pub fn new(alloc: Global, out: O, err: E, terminal: Terminal) -> Console<O, E> {
+    /// A console over two streams, for a command with these options.
+    pub fn new(
+        alloc: Global,
+        out: O,
+        err: E,
+        terminal: Terminal,
+        options: Options,
+    ) -> Console<O, E> {
         Console {
             alloc,
             out,
             err,
+            options,
             out_style: terminal.out,
             err_style: terminal.err,
             is_typed: terminal.reads,

@@ -1,6 +1,5 @@
 //! The versions of a command: its arguments, or standard input, as lines or as a JSON array.
 
-use crate::args::InputOptions;
 use crate::console::{Console, Stop};
 use crate::manifest::unescaped;
 use semver_base::failure::ParseFailure;
@@ -64,11 +63,10 @@ pub fn tag_name(line: &str) -> Option<&str> {
 fn take_one<O: Write, E: Write, T: Take>(
     console: &mut Console<O, E>,
     taker: &mut T,
-    options: InputOptions,
     text: &str,
     place: Place,
 ) -> Result<bool, Stop> {
-    let name = if options.tags {
+    let name = if console.options.tags {
         tag_name(text)
     } else {
         Some(text)
@@ -78,7 +76,7 @@ fn take_one<O: Write, E: Write, T: Take>(
     };
     match taker.take(console, text)? {
         Ok(()) => Ok(true),
-        Err(failure) if options.skip_invalid && !failure.is_memory() => Ok(true),
+        Err(failure) if console.options.skip_invalid && !failure.is_memory() => Ok(true),
         Err(failure) => {
             place.reject(console, text, &failure)?;
             Ok(false)
@@ -103,7 +101,6 @@ fn between_quotes(text: &str) -> Option<&str> {
 fn take_line<O: Write, E: Write, T: Take>(
     console: &mut Console<O, E>,
     taker: &mut T,
-    options: InputOptions,
     number: u64,
     line: &[u8],
 ) -> Result<bool, Stop> {
@@ -113,7 +110,7 @@ fn take_line<O: Write, E: Write, T: Take>(
         line
     };
     let Ok(text) = str::from_utf8(bytes) else {
-        if options.skip_invalid {
+        if console.options.skip_invalid {
             return Ok(true);
         }
         let _ = console.complain(format_args!("line {number}"), "not valid UTF-8");
@@ -123,7 +120,7 @@ fn take_line<O: Write, E: Write, T: Take>(
     let place = Place::Line(number);
     // Most lines are versions as they are.
     if matches!(text.as_bytes(), [b'0'..=b'9' | b'v', ..]) {
-        return take_one(console, taker, options, text, place);
+        return take_one(console, taker, text, place);
     }
     let bare = text.trim();
     if bare.is_empty() {
@@ -132,9 +129,9 @@ fn take_line<O: Write, E: Write, T: Take>(
     match between_quotes(bare) {
         Some(raw) => {
             let text = unescaped(console.alloc, raw)?;
-            take_one(console, taker, options, text.as_str(), place)
+            take_one(console, taker, text.as_str(), place)
         }
-        None => take_one(console, taker, options, text, place),
+        None => take_one(console, taker, text, place),
     }
 }
 
@@ -142,7 +139,6 @@ fn take_line<O: Write, E: Write, T: Take>(
 fn take_json<O: Write, E: Write, T: Take>(
     console: &mut Console<O, E>,
     taker: &mut T,
-    options: InputOptions,
     json: &Value,
 ) -> Result<bool, Stop> {
     let Some(items) = json.as_array() else {
@@ -153,8 +149,8 @@ fn take_json<O: Write, E: Write, T: Take>(
     for item in items.iter() {
         number = number.saturating_add(1);
         match item.as_str() {
-            Some(text) => all &= take_one(console, taker, options, text, Place::Item(number))?,
-            None if options.skip_invalid => (),
+            Some(text) => all &= take_one(console, taker, text, Place::Item(number))?,
+            None if console.options.skip_invalid => (),
             None => {
                 let _ = console.complain(format_args!("item {number}"), "not a string");
                 all = false;
@@ -173,7 +169,6 @@ fn is_json(text: &[u8]) -> bool {
 fn take_all_json<I: BufRead, O: Write, E: Write, T: Take>(
     console: &mut Console<O, E>,
     taker: &mut T,
-    options: InputOptions,
     input: &mut I,
     number: u64,
     line: &mut Vec<u8>,
@@ -186,7 +181,7 @@ fn take_all_json<I: BufRead, O: Write, E: Write, T: Take>(
         return Ok(false);
     };
     match Value::from_str(console.alloc, text) {
-        Ok(json) => take_json(console, taker, options, &json),
+        Ok(json) => take_json(console, taker, &json),
         Err(error) if error.is_memory() => Err(Stop::OutOfMemory),
         Err(error) => {
             let number = number.saturating_add(error.line() as u64).saturating_sub(1);
@@ -200,21 +195,20 @@ fn take_all_json<I: BufRead, O: Write, E: Write, T: Take>(
 fn take_each_line<I: BufRead, O: Write, E: Write, T: Take>(
     console: &mut Console<O, E>,
     taker: &mut T,
-    options: InputOptions,
     input: &mut I,
     line: &mut Vec<u8>,
 ) -> Result<bool, Stop> {
-    let end = if options.null { 0 } else { b'\n' };
+    let end = if console.options.null { 0 } else { b'\n' };
     let (mut all, mut is_front) = (true, true);
     for number in 1..u64::MAX {
         if !read_line(input, line, end)? {
             break;
         }
         if is_front && is_json(line.as_slice()) {
-            return take_all_json(console, taker, options, input, number, line);
+            return take_all_json(console, taker, input, number, line);
         }
         is_front &= line.as_slice().trim_ascii().is_empty();
-        all &= take_line(console, taker, options, number, line.as_slice())?;
+        all &= take_line(console, taker, number, line.as_slice())?;
     }
     Ok(all)
 }
@@ -224,12 +218,11 @@ fn take_input<R: Input, O: Write, E: Write, T: Take>(
     rt: &R,
     console: &mut Console<O, E>,
     taker: &mut T,
-    options: InputOptions,
 ) -> Result<bool, Stop> {
     console.announce("versions");
     let mut input = BufReader::new(console.alloc, rt.reader())?;
     let mut line = Vec::new(console.alloc);
-    take_each_line(console, taker, options, &mut input, &mut line)
+    take_each_line(console, taker, &mut input, &mut line)
 }
 
 // Reads the next line in place of the previous one, and returns whether there is one.
@@ -254,17 +247,16 @@ fn is_input(arguments: &[&str]) -> bool {
 pub fn take_all<R: Input, O: Write, E: Write, T: Take>(
     rt: &R,
     console: &mut Console<O, E>,
-    options: InputOptions,
     arguments: Option<&[&str]>,
     taker: &mut T,
 ) -> Result<bool, Stop> {
     let arguments = arguments.unwrap_or(&[]);
     if is_input(arguments) {
-        return take_input(rt, console, taker, options);
+        return take_input(rt, console, taker);
     }
     let mut all = true;
     for text in arguments {
-        all &= take_one(console, taker, options, text, Place::Argument)?;
+        all &= take_one(console, taker, text, Place::Argument)?;
     }
     Ok(all)
 }
