@@ -15,7 +15,7 @@ WORDS = (
     (r"want(s|ed|ing)? (of |for |any )?memory|memory (is|was) wanting", "out of memory"),
     (r"normal texts?", "canonical form"),
     (r"settle[sd]?|settling", "stable"),
-    (r"(?<!at )(?<!at the )least|greatest", "lowest, highest"),
+    (r"(?<![Aa]t )(?<![Aa]t the )least|greatest", "lowest, highest"),
     (r"blanks?", "whitespace"),
     (r"stands? for|stood for", "means, parses to"),
     (r"border", "C API"),
