@@ -1,10 +1,11 @@
 -- Numbers that are parsed digit by digit, and texts of three of them with dots between.
-use Rattle.std.proofs.Common.{◌≡◌, ◌≤◌, ◌<◌, ◌+◌, ◌*◌, ◌-◌, ◌^◌, ℕ, zero, suc, true, false, List, [], ◌∷◌, ◌++◌, length, take, drop, get_or, refl, sym, ap, subst, ◌∙◌, arith, inl, inr, append-nil, length-append, length-drop, length-take-le, take-append-drop}
+use Rattle.std.proofs.Common.{◌≡◌, ◌≤◌, ◌<◌, ◌+◌, ◌*◌, ◌-◌, ◌^◌, ℕ, zero, suc, true, false, List, [], ◌∷◌, ◌++◌, length, take, drop, get_or, Option, Some, None, refl, sym, ap, subst, ◌∙◌, arith, inl, inr, append-nil, length-append, length-drop, length-take-le, take-append-drop}
 use Rattle.std.specs.Int.{IsInRange}
 use Rattle.std.specs.Prelude.{slice_index}
 use Rattle.std.specs.Char.{digit_value, is_ascii_digit}
 use Rattle.std.specs.List.{list_all}
-use Rattle.std.specs.Prelude.{IsUtf8}
+use Rattle.std.specs.Borrow.{Bor}
+use Rattle.std.specs.Prelude.{IfNone, IsUtf8}
 use Rattle.std.specs.Str.{IsAscii, IsCharBoundary, trim}
 use Rattle.std.proofs.lemmas.Str.{IsCharBoundary-from_take, IsUtf8-from_ascii}
 use Rattle.std.specs.Str.Parse.{digits_value}
@@ -19,7 +20,7 @@ use Rattle.semver_base.specs.Grammar.{IsLongest, Stops}
 use Rattle.semver_base.specs.Lexical.{IsLooseNumber, IsStrictNumber}
 use Rattle.semver_base.specs.VersionGrammar.{IsTriple}
 use Rattle.semver_base.specs.Meaning.{release}
-use Rattle.semver_base.specs.ShortTexts.{IsShortNumbers, IsBareNumber, IsBareTriple, IsShort, IsTripleFront, LacksShortNumbers, LacksShortTriple, LacksShortNumber}
+use Rattle.semver_base.specs.ShortTexts.{IsBareNumber, IsBareTriple, IsPairFront, IsShortFront, IsTripleFront, LacksDottedNumber, LacksShortNumber, LacksShortTriple}
 use Rattle.semver_base.specs.VersionParserSteps.{IsFittingNumber, IsFittingTriple, IsBareVersion, IsQualified}
 use Rattle.semver_base.specs.declared.lexical.values.Strictness.TheVariants.{Loose}
 use Rattle.semver_base.specs.declared.short.ShortNumbers.{ShortNumbers}
@@ -198,81 +199,30 @@ number_front_solid {text} {rest} {n} p h =
     let number = p.loose in
     rw number.text_is (solid_joined number.front rest (number_made.made number.front n number.stands, some_text loose_some number.front number.stands) h)
 
--- such a text is made of solid bytes
-pub short_solid : (text : List ℕ) (numbers : ShortNumbers) → IsShortNumbers text numbers → IsSolid text
-short_solid text (short_numbers.One m) p = number_front_solid p refl
-short_solid text (short_numbers.Two m n) p = number_front_solid p.major (solid_some 46 p.from_minor refl (number_front_solid p.minor refl).0).0
-short_solid text (short_numbers.Three n) p = number_front_solid p.major (solid_some 46 p.from_minor refl (number_front_solid p.minor (solid_some 46 p.from_patch refl (number_front_solid p.patch refl).0).0).0).0
+-- a text of numbers and solid bytes behind them
+pub short_solid : (text : List ℕ) (numbers : ShortNumbers) (rest : List ℕ) → IsShortFront text numbers rest → list_all is_solid_byte rest ≡ true → IsSolid text
+short_solid text (short_numbers.One m) rest p h = number_front_solid p h
+short_solid text (short_numbers.Two m n) rest p h = number_front_solid p.major (solid_some 46 p.from_minor refl (number_front_solid p.minor h).0).0
+short_solid text (short_numbers.Three n) rest p h = number_front_solid p.major (solid_some 46 p.from_minor refl (number_front_solid p.minor (solid_some 46 p.from_patch refl (number_front_solid p.patch h).0).0).0).0
 
--- ---- where a text isn't one to three short numbers
+-- ---- fewer than three leading numbers
 
--- the text isn't a short number
-abbrev pub LacksOne : List ℕ → Type 0
-LacksOne text = (n : ℕ) → IsBareNumber text n [] → IsShort n → ⊥
+pub no_number : {text : List ℕ} → LacksShortNumber text → LacksShortTriple text
+no_number none m n p rest t short = none m (dot ∷ t.from_minor) t.major short.0
 
--- nor two
-pub record LacksTwo (text : List ℕ) : Type 0 where
-  pub one : LacksOne text
-  pub two : (m n : ℕ) (rest : List ℕ) → IsBareNumber text m (dot ∷ rest) → IsBareNumber rest n [] → IsShort m → IsShort n → ⊥
+pub one_number : {text rest : List ℕ} {k : ℕ} → IsBareNumber text k rest → LacksDottedNumber rest → LacksShortTriple text
+one_number read none m n p rest t short = none t.from_minor (one_front read.loose t.major.loose).1 n (dot ∷ t.from_patch) t.minor short.1
 
--- something follows a number, and if that is a dot, then a text that lacks numbers follows it
-pub record IsNoMore (Lacks : List ℕ → Type 0) (rest : List ℕ) : Type 0 where
-  pub some : rest ≡ [] → ⊥
-  pub dotted : (more : List ℕ) → rest ≡ dot ∷ more → Lacks more
+pub two_numbers : {text rest : List ℕ} {j k : ℕ} → IsPairFront text j k rest → LacksDottedNumber rest → LacksShortTriple text
+two_numbers read none m n p rest t short =
+    let from_minor : t.from_minor ≡ read.from_minor = ap (drop 1) (one_front t.major.loose read.major.loose).1 in
+    none t.from_patch (one_front read.minor.loose (rw from_minor at t.minor.loose)).1 p rest t.patch short.2
 
-pub no_dot : {Lacks : List ℕ → Type 0} {rest : List ℕ} → (rest ≡ [] → ⊥) → ((more : List ℕ) → rest ≡ dot ∷ more → ⊥) → IsNoMore Lacks rest
-no_dot some none = record { some = some; dotted = λ more e. absurd (none more e) }
+-- ---- a dot and a number
 
-pub behind_dot : {Lacks : List ℕ → Type 0} {more : List ℕ} → Lacks more → IsNoMore Lacks (dot ∷ more)
-behind_dot {Lacks} {more} lacks = record { some = λ e. absurd (omega (arith, ap length e)); dotted = λ rest e. subst Lacks (ap (drop 1) e) lacks }
+pub no_dot : {text : List ℕ} → ((rest : List ℕ) → text ≡ dot ∷ rest → ⊥) → LacksDottedNumber text
+no_dot none more e = absurd (none more e)
 
-pub no_first : {text : List ℕ} → LacksShortNumber text → LacksShortNumbers text
-no_first none (short_numbers.One m) p short = none m [] p short
-no_first none (short_numbers.Two m n) p short = none m (dot ∷ p.from_minor) p.major short.0
-no_first none (short_numbers.Three n) p short = none n.major (dot ∷ p.from_minor) p.major short.0
-
-pub no_second : {text : List ℕ} → LacksShortNumber text → LacksTwo text
-no_second none = record { one = λ n p short. none n [] p short; two = λ m n rest at_m at_n short other. none m (dot ∷ rest) at_m short }
-
-pub no_third : {text : List ℕ} → LacksShortNumber text → LacksOne text
-no_third none n p short = none n [] p short
-
-pub more_than_third : {text rest : List ℕ} {n : ℕ} → IsBareNumber text n rest → (rest ≡ [] → ⊥) → LacksOne text
-more_than_third read some m p short = some (one_front read.loose p.loose).1
-
-pub no_more_than_second : {text rest : List ℕ} {n : ℕ} → IsBareNumber text n rest → IsNoMore LacksOne rest → LacksTwo text
-no_more_than_second read behind = record {
-  one = λ m p short. behind.some (one_front read.loose p.loose).1;
-  two = λ m n rest at_m at_n short other. behind.dotted rest (one_front read.loose at_m.loose).1 n at_n other;
-}
-
-pub no_more_than_first : {text rest : List ℕ} {n : ℕ} → IsBareNumber text n rest → IsNoMore LacksTwo rest → LacksShortNumbers text
-no_more_than_first read behind (short_numbers.One m) p short = behind.some (one_front read.loose p.loose).1
-no_more_than_first read behind (short_numbers.Two m n) p short = (behind.dotted p.from_minor (one_front read.loose p.major.loose).1).one n p.minor short.1
-no_more_than_first read behind (short_numbers.Three n) p short = (behind.dotted p.from_minor (one_front read.loose p.major.loose).1).two n.minor n.patch p.from_patch p.minor p.patch short.1 short.2
-
--- ---- no three leading numbers
-
-pub record Behind (Lacks : List ℕ → Type 0) (text : List ℕ) : Type 0 where
-  pub at_dot : (rest : List ℕ) → text ≡ dot ∷ rest → Lacks rest
-
-abbrev pub LacksSecond : List ℕ → Type 0
-LacksSecond text = (n p : ℕ) (more rest : List ℕ) → IsBareNumber text n (dot ∷ more) → IsBareNumber more p rest → IsShort n → IsShort p → ⊥
-
-pub ends_there : {Lacks : List ℕ → Type 0} {rest : List ℕ} → ((more : List ℕ) → rest ≡ dot ∷ more → ⊥) → Behind Lacks rest
-ends_there none = record { at_dot = λ more e. absurd (none more e) }
-
-pub behind : {Lacks : List ℕ → Type 0} {more : List ℕ} → Lacks more → Behind Lacks (dot ∷ more)
-behind {Lacks} lacks = record { at_dot = λ rest e. subst Lacks (ap (drop 1) e) lacks }
-
-pub triple_first : {text : List ℕ} → LacksShortNumber text → LacksShortTriple text
-triple_first none m n p rest t short = none m (dot ∷ t.from_minor) t.major short.0
-
-pub triple_behind : {text rest : List ℕ} {k : ℕ} → IsBareNumber text k rest → Behind LacksSecond rest → LacksShortTriple text
-triple_behind read lacks m n p rest t short = lacks.at_dot t.from_minor (one_front read.loose t.major.loose).1 n p t.from_patch rest t.minor t.patch short.1 short.2
-
-pub second_first : {text : List ℕ} → LacksShortNumber text → LacksSecond text
-second_first none n p more rest a b short other = none n (dot ∷ more) a short
-
-pub second_behind : {text rest : List ℕ} {k : ℕ} → IsBareNumber text k rest → Behind LacksShortNumber rest → LacksSecond text
-second_behind read lacks n p more rest a b short other = lacks.at_dot more (one_front read.loose a.loose).1 p rest b other
+pub no_number_behind : (rest : List ℕ) (read : Option (ℕ × Bor (List ℕ))) → IfNone read (LacksShortNumber rest) → IfNone read (LacksDottedNumber (dot ∷ rest))
+no_number_behind rest None none = λ more e. subst LacksShortNumber (ap (drop 1) e) none
+no_number_behind rest (Some r) none = tt

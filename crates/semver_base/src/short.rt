@@ -1,12 +1,12 @@
-//! Plain texts: numbers with dots between them and nothing else, parsed in one pass over their bytes.
+//! Leading numbers with dots between them, parsed in one pass over their bytes.
 //!
-//! Most versions and most requirements are such texts. Each parser tries this fast path first. What it returns is what the
+//! Most versions and most requirements begin with them. Each parser tries this fast path first. What it returns is what the
 //! grammar says; on `None` the parser falls back to the full grammar.
 
 ghost use Rattle.std.specs.Prelude.{IfNone, IfSome};
 ghost use Rattle.semver_base.specs.Characters.{dot};
 ghost use Rattle.semver_base.specs.Grammar.{IsAfter};
-ghost use Rattle.semver_base.specs.ShortTexts.{AreShort, IsShortNumbers, IsBareNumber, IsShort, IsTripleFront, LacksShortNumbers, LacksShortNumber, LacksShortTriple};
+ghost use Rattle.semver_base.specs.ShortTexts.{AreAll, AreShort, IsBareNumber, IsDottedNumber, IsShort, IsShortFront, IsTripleFront, LacksDottedNumber, LacksShortNumber, LacksShortTriple};
 
 // A number below this, times ten plus a digit, is a `u64`.
 const LIMIT: u64 = 1_000_000_000_000_000_000;
@@ -60,48 +60,38 @@ fn after_dot(bytes: &[u8]) -> Option<&[u8]>
     }
 }
 
-/// Parses the whole text as one to three numbers; `None` exactly if it isn't such numbers of at most 19 digits each.
+// Parses a leading `.` and such a number, and returns it with the rest.
 #[inline(always)]
-pub fn short_numbers(text: &[u8]) -> Option<ShortNumbers>
-    ensures numbers { IfSome result (IsShortNumbers text.now) }
-    ensures short { IfSome result AreShort }
-    ensures none { IfNone result (LacksShortNumbers text.now) }
+fn dotted_number(bytes: &[u8]) -> Option<(u64, &[u8])>
+    ensures number { IfSome result (λ r. IsDottedNumber bytes.now r.0 r.1.now) }
+    ensures short { IfSome result (λ r. IsShort r.0) }
+    ensures none { IfNone result (LacksDottedNumber bytes.now) }
 {
-    let (major, rest) = number(text)?;
-    if rest.is_empty() {
-        return Some(ShortNumbers::One(major));
-    }
-    let (minor, rest) = number(after_dot(rest)?)?;
-    if rest.is_empty() {
-        return Some(ShortNumbers::Two(major, minor));
-    }
-    let (patch, rest) = number(after_dot(rest)?)?;
-    if !rest.is_empty() {
-        return None;
-    }
-    Some(ShortNumbers::Three(Numbers {
-        major,
-        minor,
-        patch,
-    }))
+    number(after_dot(bytes)?)
 }
 
-// Parses three leading numbers, and returns them with the rest.
+/// Parses one to three leading numbers, as many as there are, and returns them with the rest; `None` exactly if the text doesn't begin
+/// with a number of at most 19 digits.
 #[inline(always)]
-fn triple(text: &[u8]) -> Option<(Numbers, &[u8])>
-    ensures numbers { IfSome result
-        (λ r. IsTripleFront text.now r.0.major r.0.minor r.0.patch r.1.now) }
-    ensures none { IfNone result (LacksShortTriple text.now) }
+pub fn leading_numbers(text: &[u8]) -> Option<(ShortNumbers, &[u8])>
+    ensures numbers { IfSome result (λ r. IsShortFront text.now r.0 r.1.now) }
+    ensures short { IfSome result (λ r. AreShort r.0) }
+    ensures all { IfSome result (λ r. AreAll r.0 r.1.now) }
+    ensures none { IfNone result (LacksShortNumber text.now) }
 {
     let (major, rest) = number(text)?;
-    let (minor, rest) = number(after_dot(rest)?)?;
-    let (patch, rest) = number(after_dot(rest)?)?;
+    let Some((minor, after_minor)) = dotted_number(rest) else {
+        return Some((ShortNumbers::One(major), rest));
+    };
+    let Some((patch, after_patch)) = dotted_number(after_minor) else {
+        return Some((ShortNumbers::Two(major, minor), after_minor));
+    };
     let numbers = Numbers {
         major,
         minor,
         patch,
     };
-    Some((numbers, rest))
+    Some((ShortNumbers::Three(numbers), after_patch))
 }
 
 /// Parses three leading numbers, and returns them with the rest of the text; `None` exactly if it doesn't begin with three numbers of at
@@ -112,7 +102,13 @@ pub fn split_numbers(text: &str) -> Option<(Numbers, &str)>
         (λ r. IsTripleFront text.now r.0.major r.0.minor r.0.patch r.1.now) }
     ensures none { IfNone result (LacksShortTriple text.now) }
 {
-    let (numbers, rest) = triple(text.as_bytes())?;
-    let (_, rest) = text.split_at(text.len() - rest.len());
-    Some((numbers, rest))
+    let (numbers, rest) = leading_numbers(text.as_bytes())?;
+    match numbers {
+        ShortNumbers::One(_) => None,
+        ShortNumbers::Two(_, _) => None,
+        ShortNumbers::Three(numbers) => {
+            let (_, rest) = text.split_at(text.len() - rest.len());
+            Some((numbers, rest))
+        }
+    }
 }

@@ -20,11 +20,11 @@ use Rattle.semver_base.proofs.Whitespace.{whitespace_whole}
 use Rattle.semver_base.proofs.Orders.{and_both, and_first, and_second}
 use Rattle.semver_req.specs.Comparators.{IsComparator, fits}
 use Rattle.semver_req.specs.RetainedSet.{folded, retained, retained_range, without_none}
-use Rattle.semver_req.specs.Outcome.{AreGoodOnes, none_left, good, bad, IsBad, IsGood, IsCutOutcome, IsOutcome, one_good, one_bad, npm_many, normal_many, normal_rejected, IsTagOr, tag, no_tag, Outcome, Ranges, Tag, Rejected, worked_on}
+use Rattle.semver_req.specs.Outcome.{AreGoodOnes, none_left, good, bad, IsBad, IsGood, IsCutOutcome, one_good, one_bad, npm_many, normal_many, normal_rejected, IsTagOr, tag, no_tag, Outcome, Ranges, Tag, Rejected}
 use Rattle.semver_req.specs.PieceReading.{IsFirstBad, this_bad, later_bad, IsCutRejection, is_out_of_memory, bad_piece, IsPieceRead, IsPieceRejection, outside, large_number, large_bound, as_retained, joined, retained_of, read_as, numbers_fit, sums_fit, rejection_failure}
 use Rattle.semver_req.specs.PieceSteps.{AreAllRead, AreRead, IsEverything, IsFirstPiece, IsReported, IsWholeRead, first_rejection}
 use Rattle.semver_req.specs.Pieces.{ArePieces, IsComparators, IsCutting, npm, normal, IsFilled, IsHyphen, IsPiece}
-use Rattle.semver_req.specs.Parsers.{Failure, IsReading}
+use Rattle.semver_req.specs.Parsers.{Failure, IsCutReading, IsReading}
 use Rattle.semver_req.specs.Tag.{is_valid_tag}
 use Rattle.semver_req.specs.declared.common.values.Flavour.{Flavour}
 use Rattle.semver_req.specs.declared.common.values.Flavour.TheVariants.{Npm, Normal, Specifier}
@@ -325,11 +325,6 @@ read_first {f} cutting b new piece (read.Invalid rejection) h ranges rejected on
 
 -- ---- the text
 
-cut_outcome : (f : Flavour) → IsCutting f → (text : List ℕ) (o : Outcome) → IsCutOutcome f (worked_on f text) o → IsOutcome f text o
-cut_outcome Npm npm text o h = h
-cut_outcome Normal normal text o h = h
-cut_outcome Specifier cutting text o h = elim cutting [ ]
-
 one_tree : {f : Flavour} {text p : List ℕ} {b : Bool} {t : List (List Comparator)} → AreGoodOnes f b (p ∷ []) t → length t ≡ 1 → ArePieces text b (p ∷ []) → IsCutOutcome f text (Ranges t)
 one_tree (good g none_left) size k = one_good k g
 one_tree (bad g none_left) size k = absurd (omega (arith, size))
@@ -377,38 +372,50 @@ module _ {f : Flavour} {text piece rest : List ℕ} {b : Bool} {all : Alternativ
 
 -- ---- the result for a text
 
-module _ {f : Flavour} (cutting : IsCutting f) (text : List ℕ) {piece rest : List ℕ} {b : Bool} {all : Alternatives} (first : IsFirstPiece (worked_on f text) piece b rest) (h : AreAllRead f piece b rest all) where
-  ranges_reading : {answer : RangeSetOrTag} → IsCutOutcome f (worked_on f text) (Ranges h.read.tree) → answer ≡ inner.RangeSet (record { 0 = all.ranges }) → IsReading f text answer
+module _ {f : Flavour} {text piece rest : List ℕ} {b : Bool} {all : Alternatives} (first : IsFirstPiece text piece b rest) (h : AreAllRead f piece b rest all) where
+  ranges_reading : {answer : RangeSetOrTag} → IsCutOutcome f text (Ranges h.read.tree) → answer ≡ inner.RangeSet (record { 0 = all.ranges }) → IsCutReading f text answer
   ranges_reading o is = record {
     outcome = Ranges h.read.tree;
-    is_outcome = cut_outcome f cutting text (Ranges h.read.tree) o;
+    is_outcome = o;
     is_read = is ∙ ap (λ (ranges : List VersionRange). inner.RangeSet (record { 0 = ranges })) h.read.retained;
   }
 
   module _ {rejection : Rejection} (some : all.rejected ≡ Some rejection) (only : all.is_only ≡ true) where
-    pub tag_read : (answer : RangeSetOrTag) → (answer ≡ inner.Tag (trim piece)) × (is_valid_tag (trim piece) ≡ true) → IsReading f text answer
-    tag_read answer t = record { outcome = Tag (trim piece); is_outcome = cut_outcome f cutting text (Tag (trim piece)) (tag_outcome first h some only (Tag (trim piece)) (tag t.1)); is_read = t.0 }
+    pub tag_read : (answer : RangeSetOrTag) → (answer ≡ inner.Tag (trim piece)) × (is_valid_tag (trim piece) ≡ true) → IsCutReading f text answer
+    tag_read answer t = record { outcome = Tag (trim piece); is_outcome = tag_outcome first h some only (Tag (trim piece)) (tag t.1); is_read = t.0 }
 
-    pub tag_rejected : (failure : Failure) → (failure ≡ None) ⊎ ((failure ≡ rejection_failure rejection) × (is_valid_tag (trim piece) ≡ false)) → (failure ≡ None) ⊎ IsOutcome f text Rejected
+    pub tag_rejected : (failure : Failure) → (failure ≡ None) ⊎ ((failure ≡ rejection_failure rejection) × (is_valid_tag (trim piece) ≡ false)) → (failure ≡ None) ⊎ IsCutOutcome f text Rejected
     tag_rejected failure (inl e) = inl e
-    tag_rejected failure (inr k) = inr (cut_outcome f cutting text Rejected (tag_outcome first h some only Rejected (no_tag k.1)))
+    tag_rejected failure (inr k) = inr (tag_outcome first h some only Rejected (no_tag k.1))
 
-    pub tag_rejection : (failure : Failure) → (failure ≡ None) ⊎ ((failure ≡ rejection_failure rejection) × (is_valid_tag (trim piece) ≡ false)) → IsCutRejection f (worked_on f text) failure
+    pub tag_rejection : (failure : Failure) → (failure ≡ None) ⊎ ((failure ≡ rejection_failure rejection) × (is_valid_tag (trim piece) ≡ false)) → IsCutRejection f text failure
     tag_rejection failure (inl e) = first_rejected first h some (inl e)
     tag_rejection failure (inr k) = first_rejected first h some (inr k.0)
 
--- the normalized parser
-module _ (text : List ℕ) {piece rest : List ℕ} {b : Bool} {all : Alternatives} (first : IsFirstPiece text piece b rest) (h : AreAllRead Normal piece b rest all) where
-  pub normal_ranges : {answer : RangeSetOrTag} → all.rejected ≡ None → answer ≡ inner.RangeSet (record { 0 = all.ranges }) → IsReading Normal text answer
-  normal_ranges none is = ranges_reading normal text first h (good_outcome first h (λ q more k m size. normal_many k m size) none) is
+-- no piece is invalid
+pub valid_ranges : {f : Flavour} (cutting : IsCutting f) {text piece rest : List ℕ} {b : Bool} {all : Alternatives} {answer : RangeSetOrTag} → IsFirstPiece text piece b rest → AreAllRead f piece b rest all
+    → all.rejected ≡ None → answer ≡ inner.RangeSet (record { 0 = all.ranges }) → IsCutReading f text answer
+valid_ranges npm first h none is = ranges_reading first h (good_outcome first h (λ q more k m size. npm_many k m) none) is
+valid_ranges normal first h none is = ranges_reading first h (good_outcome first h (λ q more k m size. normal_many k m size) none) is
 
-  pub many_rejected : {rejection : Rejection} → all.rejected ≡ Some rejection → all.is_only ≡ false → IsOutcome Normal text Rejected
-  many_rejected some more = many_outcome first h (λ q others k m is. normal_rejected k m (rw is at (reported first h some).0)) more
+-- the normalized parser rejects a text of two or more pieces for an invalid one
+pub many_rejected : {text piece rest : List ℕ} {b : Bool} {all : Alternatives} {rejection : Rejection} → IsFirstPiece text piece b rest → AreAllRead Normal piece b rest all
+    → all.rejected ≡ Some rejection → all.is_only ≡ false → IsCutOutcome Normal text Rejected
+many_rejected first h some more = many_outcome first h (λ q others k m is. normal_rejected k m (rw is at (reported first h some).0)) more
 
--- npm's parser
-module _ (text : List ℕ) {piece rest : List ℕ} {b : Bool} {all : Alternatives} (first : IsFirstPiece (trim text) piece b rest) (h : AreAllRead Npm piece b rest all) where
-  pub npm_ranges : {answer : RangeSetOrTag} → all.rejected ≡ None → answer ≡ inner.RangeSet (record { 0 = all.ranges }) → IsReading Npm text answer
-  npm_ranges none is = ranges_reading npm text first h (good_outcome first h (λ q more k m size. npm_many k m) none) is
+-- and npm's leaves it out
+pub many_ranges : {text piece rest : List ℕ} {b : Bool} {all : Alternatives} {answer : RangeSetOrTag} → IsFirstPiece text piece b rest → AreAllRead Npm piece b rest all
+    → all.is_only ≡ false → answer ≡ inner.RangeSet (record { 0 = all.ranges }) → IsCutReading Npm text answer
+many_ranges first h more is = ranges_reading first h (many_outcome first h (λ q others k m e. npm_many k m) more) is
 
-  pub npm_many_ranges : {answer : RangeSetOrTag} → all.is_only ≡ false → answer ≡ inner.RangeSet (record { 0 = all.ranges }) → IsReading Npm text answer
-  npm_many_ranges more is = ranges_reading npm text first h (many_outcome first h (λ q others k m e. npm_many k m) more) is
+pub only_normal : (f : Flavour) → IsCutting f → (f ≡ Npm → ⊥) → f ≡ Normal
+only_normal f npm other = absurd (other refl)
+only_normal f normal other = refl
+
+-- ---- the text of each grammar
+
+pub normal_reading : {text : List ℕ} (answer : RangeSetOrTag) → IsCutReading Normal text answer → IsReading Normal text answer
+normal_reading answer h = record { outcome = h.outcome; is_outcome = h.is_outcome; is_read = h.is_read }
+
+pub npm_reading : {text : List ℕ} (answer : RangeSetOrTag) → IsCutReading Npm (trim text) answer → IsReading Npm text answer
+npm_reading answer h = record { outcome = h.outcome; is_outcome = h.is_outcome; is_read = h.is_read }

@@ -1,10 +1,10 @@
 -- What the grammars make of plain texts.
-use Rattle.std.proofs.Common.{◌≡◌, ◌≤◌, ◌^◌, ◌==◌, ℕ, zero, suc, Bool, true, false, List, [], ◌∷◌, ◌++◌, length, get_or, Option, Some, None, refl, sym, subst, ap, ◌∙◌, arith, inl, inr, append-nil, append_assoc, length-append}
-use Rattle.std.specs.Char.{is_ascii, is_ascii_digit, is_not_whitespace}
+use Rattle.std.proofs.Common.{◌≡◌, ◌<◌, ◌^◌, ◌==◌, ℕ, zero, suc, Bool, true, false, List, [], ◌∷◌, ◌++◌, length, Option, Some, None, refl, sym, subst, ap, ◌∙◌, arith, inl, inr, append-nil, append_assoc, length-append}
+use Rattle.std.specs.Char.{is_ascii_digit, is_not_whitespace}
 use Rattle.std.specs.List.{list_all}
-use Rattle.std.specs.Str.{trim}
 use Rattle.std.proofs.lemmas.Bool.{lt-ltb, or_left}
 use Rattle.std.proofs.lemmas.Bool.Decides.{nat_tests}
+use Rattle.std.proofs.lemmas.List.{nil_from_length}
 use Rattle.std.proofs.lemmas.Str.{NoCharPasses-nil}
 use Rattle.std.proofs.lemmas.Str.Pattern.{IsSplitOnceResult, split_parts}
 use Rattle.std.specs.Borrow.{Bor}
@@ -20,11 +20,9 @@ use Rattle.semver_base.specs.Overlap.{ends_at_zero}
 use Rattle.semver_base.specs.Lexical.{IsWhitespace, IsLooseNumber, IsNumber, IsQualifier}
 use Rattle.semver_base.specs.PartialTable.{Line, all_fit, between, greater_than, less_than, number_fits, of_short, release_bound, release_of, release_range}
 use Rattle.semver_base.specs.Precedence.{precedence_cmp}
-use Rattle.semver_base.specs.ShortTexts.{IsShortNumbers, IsBareNumber, IsTripleFront}
+use Rattle.semver_base.specs.ShortTexts.{IsShortFront, IsBareNumber, IsTripleFront}
 use Rattle.semver_base.specs.declared.lexical.values.Measured.TheVariants.{Fits}
 use Rattle.semver_base.specs.declared.lexical.values.Qualifier.{Qualifier}
-use Rattle.semver_base.specs.declared.lexical.values.Strictness.{Strictness}
-use Rattle.semver_base.specs.declared.lexical.values.Strictness.TheVariants.{Loose, Strict}
 use Rattle.semver_base.specs.declared.partial.XRange.TheVariants.{Val, Wildcard}
 use Rattle.semver_base.specs.declared.partial.Partial.{Partial}
 use Rattle.semver_base.specs.declared.partial.numbers.ReleaseBound.{ReleaseBound}
@@ -39,21 +37,20 @@ use Rattle.semver_base.specs.declared.range.VersionBoundKind.{VersionBoundKind}
 use Rattle.semver_base.specs.declared.range.VersionBoundKind.TheVariants as kind
 use Rattle.semver_base.specs.declared.range.VersionRange.{VersionRange}
 use Rattle.semver_base.proofs.Bytes.{list_all-append, list_all-wider}
-use Rattle.semver_base.proofs.Fronts.{fronts, longer, prefixed_other, same, shorter}
-use Rattle.semver_base.proofs.Numbers.{loose_begins, loose_goes, loose_some, number_is_loose}
-use Rattle.semver_base.proofs.WordReadings.{number_one}
+use Rattle.semver_base.proofs.Fronts.{prefixed_other}
+use Rattle.semver_base.proofs.Numbers.{loose_begins, loose_some}
 use Rattle.semver_base.proofs.WrittenVersions.{after}
 use Rattle.semver_base.proofs.ShortTexts.{short_solid, IsSolid}
 use Rattle.semver_base.proofs.Qualifiers.{no_qualifier}
-use Rattle.semver_base.proofs.Solid.{EndsSolid, StartsSolid, ends_after, ends_solid, is_solid_byte, starts_before, starts_solid, trim_same}
+use Rattle.semver_base.proofs.Solid.{is_solid_byte}
 use Rattle.semver_req.specs.Comparators.{IsComparator, IsPrimitive, numbers}
-use Rattle.semver_req.specs.RetainedSet.{retained_range, without_none}
+use Rattle.semver_req.specs.RetainedSet.{retained, retained_range, without_none}
 use Rattle.semver_req.specs.Outcome.{one_good, Ranges}
 use Rattle.semver_req.specs.Partials.{IsComponent, IsPartial, IsBarePartial, is_wildcard, partial_fits, sized_component, sized_partial, strictness_of}
 use Rattle.semver_req.specs.Pieces.{HasNoBar, IsCutting, IsFilled, IsHyphenPair, IsUpper, normal, npm, one_piece}
 use Rattle.semver_req.specs.PieceReading.{as_retained, numbers_fit, sums_fit}
 use Rattle.semver_req.specs.PieceSteps.{IsAdded, IsWholeRead}
-use Rattle.semver_req.specs.ShortComparators.{IsFewer, IsShortEnd, IsShortHyphen, IsShortPartial, IsShortPiece, IsShortComparator, IsShortStart, IsUnclosed, no_wildcard, with_wildcard, with_wildcards}
+use Rattle.semver_req.specs.ShortComparators.{AreWildcards, IsFewer, IsGap, IsShortEnd, IsShortHyphen, IsShortPartial, IsShortPiece, IsShortComparator, IsShortStart, IsUnclosed, IsWildcardFront, no_wildcard, one_wildcard, two_wildcards}
 use Rattle.semver_req.specs.Written.{IsFront, IsOperatorCut, IsNonPrimitive, comparator_of}
 use Rattle.semver_req.specs.declared.common.comparator.Operator.{Operator}
 use Rattle.semver_req.specs.declared.common.comparator.Operator.TheVariants as operator
@@ -64,7 +61,7 @@ use Rattle.semver_req.specs.declared.range_set_or_tag.pieces.RangeOrInvalid.{Ran
 use Rattle.semver_req.specs.declared.range_set_or_tag.pieces.RangeOrInvalid.TheVariants as read
 use Rattle.semver_req.specs.declared.range_set_or_tag.RangeSetOrTag.{RangeSetOrTag}
 use Rattle.semver_req.specs.declared.range_set_or_tag.RangeSetOrTag.TheVariants as inner
-use Rattle.semver_req.specs.Parsers.{IsReading}
+use Rattle.semver_req.specs.Parsers.{IsCutReading, IsReading}
 use Rattle.semver_req.proofs.Components.{component_read, component_wildcard, wildcard_no_digit}
 use Rattle.semver_req.proofs.Fitting.{comparator_all, fitting, numbers_all}
 use Rattle.semver_req.proofs.Folding.{upper_ends}
@@ -86,30 +83,6 @@ first_digit {text} {rest} {n} p b more e = go p.front (sym e ∙ p.text_is) p.st
     go : (front : List ℕ) → b ∷ more ≡ front ++ rest → IsLooseNumber front n → is_ascii_digit b ≡ true
     go [] split h = absurd (loose_some.some n h)
     go (x ∷ front) split h = let same_byte : b ≡ x = cc split in rw same_byte (loose_begins.begins x (record { more = front; value = n; stands = h }))
-
-no_dot : (x : ℕ) → 46 ≡ x → is_ascii_digit x ≡ true → ⊥
-no_dot x e h = grind (arith, nat_tests)
-
--- a number before a dot
-before_dot : (s : Strictness) (front : List ℕ) {m : ℕ} (more : List ℕ) → IsNumber s front m → IsLongest (IsNumber s) (front ++ (46 ∷ more)) m (46 ∷ more)
-before_dot s front {m} more h = record { front = front; text_is = refl; stands = h; longest = go }
-  where
-    go : (a b : List ℕ) (w : ℕ) → front ++ (46 ∷ more) ≡ a ++ b → IsNumber s a w → (length a ≤ length front) × (length a ≡ length front → w ≡ m)
-    go a b w e k = elim (fronts front a (46 ∷ more) b e) [
-      | same one two ↦ (omega (arith, ap length one), λ l. (number_one s).one a w m k (rw one at h))
-      | shorter x rest one two ↦
-          let byte : 46 ≡ x = cc two in
-          absurd (no_dot x byte (loose_goes.goes x (record { front = front; more = rest; short_value = m; long_value = w; short = number_is_loose s front m h; long = rw one at (number_is_loose s a w k) })))
-      | longer x rest one two ↦ (omega (arith, ap length one, length-append a (x ∷ rest)), λ l. absurd (omega (arith, l, ap length one, length-append a (x ∷ rest))))
-    ]
-
-bare_before : {text rest : List ℕ} {m : ℕ} (suffix more : List ℕ) → rest ++ suffix ≡ 46 ∷ more → IsBareNumber text m rest → IsBareNumber (text ++ suffix) m (rest ++ suffix)
-bare_before {text} {rest} {m} suffix more e p = record { loose = extend Loose p.loose; strict = extend Strict p.strict; fits = p.fits }
-  where
-    extend : (s : Strictness) → IsLongest (IsNumber s) text m rest → IsLongest (IsNumber s) (text ++ suffix) m (rest ++ suffix)
-    extend s q =
-        let whole : text ++ suffix ≡ q.front ++ (46 ∷ more) = ap (λ t. t ++ suffix) q.text_is ∙ (append_assoc q.front rest suffix ∙ ap (λ t. q.front ++ t) e) in
-        rw (whole, e) (before_dot s q.front more q.stands)
 
 by_flavour : (f : Flavour) {text rest : List ℕ} {n : ℕ} → IsBareNumber text n rest → IsLongest (IsNumber (strictness_of f)) text n rest
 by_flavour Npm p = p.loose
@@ -134,44 +107,44 @@ numbers_seen f t qualifier = three_read f (number_seen f t.major) refl (number_s
 nothing_more : {V : Type 0} {A : List ℕ → V → Type 0} → HasNone (Prefixed 46 A) []
 nothing_more = prefixed_other (λ rest e. cc e)
 
-short_bare : (f : Flavour) {text : List ℕ} (n : ShortNumbers) → IsShortNumbers text n → IsSeen sized_partial (IsBarePartial f) text (Fits (of_short n)) []
-short_bare f (short_numbers.One m) p = one_read f (number_seen f p) nothing_more
-short_bare f (short_numbers.Two m n) p = two_read f (number_seen f p.major) refl (number_seen f p.minor) nothing_more
-short_bare f (short_numbers.Three n) t = numbers_seen f t (no_qualifier (strictness_of f))
-
--- a wildcard behind them
+-- a wildcard
 wild_seen : (f : Flavour) (b : ℕ) (rest : List ℕ) → is_wildcard f b ≡ true → IsSeen sized_component (IsComponent f) (b ∷ rest) (Fits Wildcard) rest
 wild_seen f b rest wild = record { value = Wildcard; longest = component_wildcard f b (b ∷ rest) rest wild refl; seen = refl }
 
-short_wild : (f : Flavour) (front : List ℕ) (b : ℕ) (n : ShortNumbers) → IsShortNumbers front n → IsFewer n → is_wildcard f b ≡ true → IsSeen sized_partial (IsBarePartial f) (front ++ (46 ∷ b ∷ [])) (Fits (of_short n)) []
-short_wild f front b (short_numbers.One m) p few wild = two_read f (number_seen f (bare_before (46 ∷ b ∷ []) (b ∷ []) refl p)) refl (wild_seen f b [] wild) nothing_more
-short_wild f front b (short_numbers.Two m n) p few wild =
-    three_read f (number_seen f (bare_before (46 ∷ b ∷ []) (p.from_minor ++ (46 ∷ b ∷ [])) refl p.major)) refl (number_seen f (bare_before (46 ∷ b ∷ []) (b ∷ []) refl p.minor)) refl (wild_seen f b [] wild) (no_qualifier (strictness_of f))
-short_wild f front b (short_numbers.Three n) p few wild = absurd few
+nothing : (rest : List ℕ) → true ≡ (length rest == 0) → rest ≡ []
+nothing rest is = nil_from_length rest (grind (arith, nat_tests))
+
+pub none_behind : {f : Flavour} {n : ShortNumbers} (rest : List ℕ) → true ≡ (length rest == 0) → AreWildcards f n rest
+none_behind rest is = rw (nothing rest is) no_wildcard
+
+pub one_behind : {f : Flavour} {n : ShortNumbers} {text : List ℕ} (rest : List ℕ) → IsWildcardFront f text rest → true ≡ (length rest == 0) → IsFewer n → AreWildcards f n text
+one_behind rest first is fewer = rw (first.text_is, nothing rest is) (one_wildcard first.wildcard fewer first.is_wildcard)
+
+pub two_behind : {f : Flavour} {m : ℕ} {text : List ℕ} (more rest : List ℕ) → IsWildcardFront f text more → IsWildcardFront f more rest → true ≡ (length rest == 0) → AreWildcards f (short_numbers.One m) text
+two_behind more rest first second is = rw (first.text_is, second.text_is, nothing rest is) (two_wildcards first.wildcard second.wildcard first.is_wildcard second.is_wildcard)
+
+-- numbers, and wildcards behind them
+front_seen : (f : Flavour) {text rest : List ℕ} (n : ShortNumbers) → IsShortFront text n rest → AreWildcards f n rest → IsSeen sized_partial (IsBarePartial f) text (Fits (of_short n)) []
+front_seen f (short_numbers.One m) p no_wildcard = one_read f (number_seen f p) nothing_more
+front_seen f (short_numbers.Two m n) p no_wildcard = two_read f (number_seen f p.major) refl (number_seen f p.minor) nothing_more
+front_seen f (short_numbers.Three n) t no_wildcard = numbers_seen f t (no_qualifier (strictness_of f))
+front_seen f (short_numbers.One m) p (one_wildcard b fewer wild) = two_read f (number_seen f p) refl (wild_seen f b [] wild) nothing_more
+front_seen f (short_numbers.Two m n) p (one_wildcard b fewer wild) = three_read f (number_seen f p.major) refl (number_seen f p.minor) refl (wild_seen f b [] wild) (no_qualifier (strictness_of f))
+front_seen f (short_numbers.Three n) t (one_wildcard b fewer wild) = absurd fewer
+front_seen f (short_numbers.One m) p (two_wildcards b c wild last) =
+    three_read f (number_seen f p) refl (wild_seen f b (46 ∷ c ∷ []) wild) refl (wild_seen f c [] last) (no_qualifier (strictness_of f))
 
 partial_seen : (f : Flavour) {text : List ℕ} (n : ShortNumbers) → IsShortPartial f text n → IsSeen sized_partial (IsBarePartial f) text (Fits (of_short n)) []
-partial_seen f n (no_wildcard h) = short_bare f n h
-partial_seen f n (with_wildcard front b e h few wild) = rw e (short_wild f front b n h few wild)
-partial_seen f n (with_wildcards front b c e h wild last) =
-    rw e (three_read f (number_seen f (bare_before (46 ∷ b ∷ 46 ∷ c ∷ []) (b ∷ 46 ∷ c ∷ []) refl h)) refl (wild_seen f b (46 ∷ c ∷ []) wild) refl (wild_seen f c [] last) (no_qualifier (strictness_of f)))
+partial_seen f n p = front_seen f n p.front p.wildcards
 
-short_begins : {text : List ℕ} (n : ShortNumbers) → IsShortNumbers text n → (b : ℕ) (more : List ℕ) → text ≡ b ∷ more → is_ascii_digit b ≡ true
-short_begins (short_numbers.One m) p = first_digit p.loose
-short_begins (short_numbers.Two m n) p = first_digit p.major.loose
-short_begins (short_numbers.Three n) t = first_digit t.major.loose
-
--- it doesn't begin with a `v`
-dot_no_v : (more rest : List ℕ) → 46 ∷ more ≡ 118 ∷ rest → ⊥
-dot_no_v more rest e = omega (arith, ap (λ t. get_or t 0 0) e)
-
-begins_no_v : (n : ShortNumbers) (front more rest : List ℕ) → IsShortNumbers front n → front ++ (46 ∷ more) ≡ 118 ∷ rest → ⊥
-begins_no_v n [] more rest h e = dot_no_v more rest e
-begins_no_v n (x ∷ front) more rest h e = let byte : x ≡ 118 = ap (λ t. get_or t 0 0) e in cc (rw byte at (short_begins n h x front refl))
+-- it begins with a digit, so not with a `v`
+short_begins : {text : List ℕ} (n : ShortNumbers) (rest : List ℕ) → IsShortFront text n rest → (b : ℕ) (more : List ℕ) → text ≡ b ∷ more → is_ascii_digit b ≡ true
+short_begins (short_numbers.One m) rest p = first_digit p.loose
+short_begins (short_numbers.Two m n) rest p = first_digit p.major.loose
+short_begins (short_numbers.Three n) rest t = first_digit t.major.loose
 
 no_led : (f : Flavour) {text : List ℕ} (n : ShortNumbers) → IsShortPartial f text n → (rest : List ℕ) → text ≡ 118 ∷ rest → ⊥
-no_led f n (no_wildcard h) rest e = cc (short_begins n h 118 rest e)
-no_led f n (with_wildcard front b is h few wild) rest e = begins_no_v n front (b ∷ []) rest h (sym is ∙ e)
-no_led f n (with_wildcards front b c is h wild last) rest e = begins_no_v n front (b ∷ 46 ∷ c ∷ []) rest h (sym is ∙ e)
+no_led f n p rest e = cc (short_begins n p.rest p.front 118 rest e)
 
 short_seen : (f : Flavour) {text : List ℕ} (n : ShortNumbers) → IsShortPartial f text n → IsSeen sized_partial (IsPartial f) text (Fits (of_short n)) []
 short_seen Npm {text} n t = not_led text (Some (Fits (of_short n), [])) (no_led Npm n t) (partial_seen Npm n t)
@@ -229,16 +202,13 @@ wild_solid Npm b h = grind (arith, nat_tests)
 wild_solid Normal b h = grind (arith, nat_tests)
 wild_solid Specifier b h = grind (arith, nat_tests)
 
+wildcards_solid : (f : Flavour) {n : ShortNumbers} {rest : List ℕ} → AreWildcards f n rest → list_all is_solid_byte rest ≡ true
+wildcards_solid f no_wildcard = refl
+wildcards_solid f (one_wildcard b fewer wild) = rw (wild_solid f b wild) refl
+wildcards_solid f (two_wildcards b c wild last) = rw (wild_solid f b wild, wild_solid f c last) refl
+
 partial_solid : (f : Flavour) (text : List ℕ) (n : ShortNumbers) → IsShortPartial f text n → IsSolid text
-partial_solid f text n (no_wildcard h) = short_solid text n h
-partial_solid f text n (with_wildcard front b e h few wild) =
-    let solid = short_solid front n h in
-    let last : list_all is_solid_byte (46 ∷ b ∷ []) ≡ true = rw (wild_solid f b wild) refl in
-    rw e (list_all-append is_solid_byte front (46 ∷ b ∷ []) solid.0 last, omega (arith, solid.1, length-append front (46 ∷ b ∷ [])))
-partial_solid f text n (with_wildcards front b c e h wild last) =
-    let solid = short_solid front n h in
-    let behind : list_all is_solid_byte (46 ∷ b ∷ 46 ∷ c ∷ []) ≡ true = rw (wild_solid f b wild, wild_solid f c last) refl in
-    rw e (list_all-append is_solid_byte front (46 ∷ b ∷ 46 ∷ c ∷ []) solid.0 behind, omega (arith, solid.1, length-append front (46 ∷ b ∷ 46 ∷ c ∷ [])))
+partial_solid f text n p = short_solid text n p.rest p.front (wildcards_solid f p.wildcards)
 
 solid_by : (m : Operator) (text rest : List ℕ) → IsOperatorCut text m rest → IsSolid rest → IsSolid text
 solid_by operator.Tilde text rest e h = rw e (h.0, omega arith)
@@ -256,10 +226,13 @@ strict_wild Npm b h = h
 strict_wild Normal b h = or_left ((b == 42) || (b == 120)) (b == 88) (or_left (b == 42) (b == 120) h)
 strict_wild Specifier b h = h
 
+strict_wildcards : (f : Flavour) {n : ShortNumbers} {rest : List ℕ} → AreWildcards f n rest → AreWildcards Specifier n rest
+strict_wildcards f no_wildcard = no_wildcard
+strict_wildcards f (one_wildcard b fewer wild) = one_wildcard b fewer (strict_wild f b wild)
+strict_wildcards f (two_wildcards b c wild last) = two_wildcards b c (strict_wild f b wild) (strict_wild f c last)
+
 strict_partial : (f : Flavour) {text : List ℕ} {n : ShortNumbers} → IsShortPartial f text n → IsShortPartial Specifier text n
-strict_partial f (no_wildcard h) = no_wildcard h
-strict_partial f (with_wildcard front b e h few wild) = with_wildcard front b e h few (strict_wild f b wild)
-strict_partial f (with_wildcards front b c e h wild last) = with_wildcards front b c e h (strict_wild f b wild) (strict_wild f c last)
+strict_partial f p = record { rest = p.rest; front = p.front; wildcards = strict_wildcards f p.wildcards }
 
 abbrev as_strict : (f : Flavour) {text : List ℕ} {range : VersionRange} → IsShortComparator f text range → IsShortComparator Specifier text range
 as_strict f p = record { operator = p.operator; rest = p.rest; numbers = p.numbers; cut = p.cut; short_partial = strict_partial f p.short_partial; line = p.line }
@@ -276,32 +249,20 @@ is_plain_byte b = is_solid_byte b || (b == 32)
 solid_plain : (b : ℕ) → is_solid_byte b ≡ true → is_plain_byte b ≡ true
 solid_plain b h = rw h refl
 
-plain_ascii : (b : ℕ) → is_plain_byte b ≡ true → is_ascii b ≡ true
-plain_ascii b h = grind (arith, nat_tests)
-
 plain_no_bar : (b : ℕ) → is_plain_byte b ≡ true → is_no_bar b ≡ true
 plain_no_bar b h = grind (arith, nat_tests)
 
 record IsSpaced (text : List ℕ) : Type 0 where
   bytes : list_all is_plain_byte text ≡ true
-  starts : StartsSolid text
-  ends : EndsSolid text
 
 unspaced : {text : List ℕ} → IsSolid text → IsSpaced text
-unspaced {text} h = record { bytes = list_all-wider is_solid_byte is_plain_byte solid_plain text h.0; starts = starts_solid text h.1 h.0; ends = ends_solid text h.1 h.0 }
+unspaced {text} h = record { bytes = list_all-wider is_solid_byte is_plain_byte solid_plain text h.0 }
 
 spaced : {front back : List ℕ} → IsSpaced front → IsSpaced back → IsSpaced (front ++ 32 ∷ back)
-spaced {front} {back} h k = record {
-  bytes = list_all-append is_plain_byte front (32 ∷ back) h.bytes k.bytes;
-  starts = starts_before front (32 ∷ back) h.starts;
-  ends = ends_after front (32 ∷ back) (ends_after (32 ∷ []) back k.ends);
-}
+spaced {front} {back} h k = record { bytes = list_all-append is_plain_byte front (32 ∷ back) h.bytes k.bytes }
 
 without_bar : {text : List ℕ} → IsSpaced text → HasNoBar text
 without_bar {text} h = no_bar text (list_all-wider is_plain_byte is_no_bar plain_no_bar text h.bytes)
-
-nothing_around : {text : List ℕ} → IsSpaced text → trim text ≡ text
-nothing_around {text} h = trim_same text (list_all-wider is_plain_byte is_ascii plain_ascii text h.bytes) h.starts h.ends
 
 -- a comparator without a comparison operator, as a piece
 pub comparator_piece : (f : Flavour) → IsCutting f → {text : List ℕ} {range : VersionRange} → IsShortComparator f text range → IsShortPiece f text range
@@ -316,7 +277,6 @@ comparator_piece f cuts {text} {range} p =
       is = all_retained (comparator p ∷ []) range (rw (fitting (short_front f p)).numbers_fit refl) (rw p.line.fits refl) whole;
       is_kept = rw whole (specifier_ends strict);
       no_bar = without_bar (unspaced (text_solid f p));
-      trimmed = nothing_around (unspaced (text_solid f p));
     }
 
 -- ---- comparisons, as pieces
@@ -335,43 +295,52 @@ comparison kind n = OfPrimitive kind (of_short n)
 record IsComparison (text : List ℕ) (kind : PrimitiveKind) (n : ShortNumbers) : Type 0 where
   stands : IsComparator Normal text (comparison kind n)
   numbers : numbers_fit (comparison kind n) ≡ true
-  solid : IsSolid text
+  spaced : IsSpaced text
 
-kind_solid : (kind : PrimitiveKind) → list_all is_solid_byte (primitive_kind_text kind) ≡ true
-kind_solid GreaterThan = refl
-kind_solid LessThan = refl
-kind_solid GreaterThanOrEqual = refl
-kind_solid LessThanOrEqual = refl
-kind_solid Equal = refl
+kind_solid : (kind : PrimitiveKind) → IsSolid (primitive_kind_text kind)
+kind_solid GreaterThan = (refl, omega arith)
+kind_solid LessThan = (refl, omega arith)
+kind_solid GreaterThanOrEqual = (refl, omega arith)
+kind_solid LessThanOrEqual = (refl, omega arith)
+kind_solid Equal = (refl, omega arith)
 
-compares : (kind : PrimitiveKind) {text : List ℕ} (rest : List ℕ) (n : ShortNumbers) → text ≡ primitive_kind_text kind ++ rest → IsShortNumbers rest n → IsComparison text kind n
-compares kind {text} rest n e h = record {
+joined_solid : (front back : List ℕ) → IsSolid front → IsSolid back → IsSolid (front ++ back)
+joined_solid front back h k = (list_all-append is_solid_byte front back h.0 k.0, omega (arith, h.1, length-append front back))
+
+-- an operator and a partial version with an optional space between them
+gap_spaced : (front gap back : List ℕ) → IsGap gap → IsSolid front → IsSolid back → IsSpaced (front ++ (gap ++ back))
+gap_spaced front gap back (inl e) h k = rw e (unspaced (joined_solid front back h k))
+gap_spaced front gap back (inr e) h k = rw e (spaced (unspaced h) (unspaced k))
+
+gap_whitespace : (gap : List ℕ) → IsGap gap → IsWhitespace gap tt
+gap_whitespace gap (inl e) = rw e no_whitespace
+gap_whitespace gap (inr e) = rw e space_alone
+
+compares : (kind : PrimitiveKind) {text : List ℕ} (gap rest : List ℕ) (n : ShortNumbers) → IsGap gap → text ≡ primitive_kind_text kind ++ (gap ++ rest) → IsShortPartial Normal rest n → IsComparison text kind n
+compares kind {text} gap rest n is_gap e h = record {
   stands = that (this (record { value = (kind, of_short n); stands = both; is = refl }));
   numbers = comparator_all (operator.Primitive kind) (of_short n) ∙ whole.1;
-  solid = rw e (list_all-append is_solid_byte (primitive_kind_text kind) rest (kind_solid kind) solid.0, omega (arith, solid.1, length-append (primitive_kind_text kind) rest));
+  spaced = rw e (gap_spaced (primitive_kind_text kind) gap rest is_gap (kind_solid kind) (partial_solid Normal rest n h));
 }
   where
     whole : IsPartial Normal rest (of_short n) × (partial_fits (of_short n) ≡ true)
-    whole = short_whole Normal n (no_wildcard h)
+    whole = short_whole Normal n h
 
-    solid : IsSolid rest
-    solid = short_solid rest n h
-
-    unspaced : After IsWhitespace (IsPartial Normal) rest (of_short n)
-    unspaced = record {
+    behind : After IsWhitespace (IsPartial Normal) (gap ++ rest) (of_short n)
+    behind = record {
       value = (tt, of_short n);
-      stands = record { first = []; second = rest; text_is = refl; in_first = no_whitespace; in_second = whole.0; seam = tt };
+      stands = record { first = gap; second = rest; text_is = refl; in_first = gap_whitespace gap is_gap; in_second = whole.0; seam = tt };
       is = refl;
     }
 
     both : IsPrimitive Normal text (kind, of_short n)
-    both = record { first = primitive_kind_text kind; second = rest; text_is = e; in_first = refl; in_second = unspaced; seam = tt }
+    both = record { first = primitive_kind_text kind; second = gap ++ rest; text_is = e; in_first = refl; in_second = behind; seam = tt }
 
 starts : {text : List ℕ} {start : RangeBound} (p : IsShortStart text start) → IsComparison text (greater p.kind) p.numbers
-starts p = compares (greater p.kind) p.rest p.numbers p.text_is p.short_numbers
+starts p = compares (greater p.kind) p.gap p.rest p.numbers p.is_gap p.text_is p.short_partial
 
 ends : {text : List ℕ} {end : RangeBound} (p : IsShortEnd text end) → IsComparison text (less p.kind) p.numbers
-ends p = compares (less p.kind) p.rest p.numbers p.text_is p.short_numbers
+ends p = compares (less p.kind) p.gap p.rest p.numbers p.is_gap p.text_is p.short_partial
 
 greater_line : (k : VersionBoundKind) (p : Partial) → primitive_line (greater k) p ≡ greater_than k p
 greater_line kind.Inclusive p = refl
@@ -442,8 +411,7 @@ start_piece {text} {start} p =
       closed = closed_item c.stands one_whitespace;
       is = all_retained (start_comparator p ∷ []) (between (release_bound start) bound.Unbounded) (rw c.numbers refl) (rw (start_fits p) refl) (rw (start_is p) refl);
       is_kept = refl;
-      no_bar = without_bar (unspaced c.solid);
-      trimmed = nothing_around (unspaced c.solid);
+      no_bar = without_bar c.spaced;
     }
 
 -- one end
@@ -460,8 +428,7 @@ end_piece {text} {zero} {end} p at_zero below =
           (sym (less_stays zero.kind end.kind (release_of zero.numbers) (release_of end.numbers) below)
           ∙ (ap (λ (b : RangeBound). clamped everything (between b (release_bound end))) (sym at_zero) ∙ ap (clamped everything) (sym (end_is p))));
       is_kept = above_zero end.kind zero.numbers.major zero.numbers.minor zero.numbers.patch end.numbers.major end.numbers.minor end.numbers.patch below;
-      no_bar = without_bar (unspaced c.solid);
-      trimmed = nothing_around (unspaced c.solid);
+      no_bar = without_bar c.spaced;
     }
 
 -- a start and an end
@@ -478,9 +445,11 @@ pair_piece {text} {front} {back} {start} {end} e p q below =
       is = all_retained (start_comparator p ∷ end_comparator q ∷ []) (between (release_bound start) (release_bound end)) (rw (c.numbers, d.numbers) refl) (rw (start_fits p, end_fits q) refl)
           (rw (start_is p, end_is q) (sym (bounded start.kind end.kind start.numbers end.numbers below)));
       is_kept = above_zero end.kind start.numbers.major start.numbers.minor start.numbers.patch end.numbers.major end.numbers.minor end.numbers.patch below;
-      no_bar = rw e (without_bar (spaced (unspaced c.solid) (unspaced d.solid)));
-      trimmed = rw e (nothing_around (spaced (unspaced c.solid) (unspaced d.solid)));
+      no_bar = rw e (without_bar (spaced c.spaced d.spaced));
     }
+
+pub behind_nothing : (front : List ℕ) {back : List ℕ} {range : VersionRange} → true ≡ (length front == 0) → IsShortPiece Normal (60 ∷ back) range → IsShortPiece Normal (front ++ 60 ∷ back) range
+behind_nothing front is h = rw (nothing front is) h
 
 -- a piece of the normalized grammar is one of npm's
 pub piece_wider : (f : Flavour) → IsCutting f → {text : List ℕ} {range : VersionRange} → IsShortPiece Normal text range → IsShortPiece f text range
@@ -492,14 +461,13 @@ piece_wider f npm {text} p = record {
   is = p.is;
   is_kept = p.is_kept;
   no_bar = p.no_bar;
-  trimmed = p.trimmed;
 }
 piece_wider f normal p = p
 
--- a text at its first space
-pub parts_at_whitespace : (text : List ℕ) (r : Option (Bor (List ℕ) × Bor (List ℕ))) → IsSplitOnceResult 32 text r → IfSome r (λ p. text ≡ p.0.now ++ 32 ∷ p.1.now)
-parts_at_whitespace text None h = tt
-parts_at_whitespace text (Some p) h = (split_parts 32 text (Some p) h (omega arith)).0
+-- a text at its first byte of one kind
+pub parts_at : (b : ℕ) → b < 128 → (text : List ℕ) (r : Option (Bor (List ℕ) × Bor (List ℕ))) → IsSplitOnceResult b text r → IfSome r (λ p. text ≡ p.0.now ++ b ∷ p.1.now)
+parts_at b ascii text None h = tt
+parts_at b ascii text (Some p) h = (split_parts b text (Some p) h ascii).0
 
 -- ---- hyphen ranges of few numbers
 
@@ -529,7 +497,6 @@ hyphen_piece {text} {front} {back} {range} e p = record {
   is = all_retained (c ∷ []) range (rw (both_fit (of_short p.lower) (of_short p.upper) a.1 b.1) refl) (rw p.line.fits refl) p.line.is;
   is_kept = rw p.line.is (upper_ends q q.major q.minor q.patch);
   no_bar = rw e (without_bar whole);
-  trimmed = rw e (nothing_around whole);
 }
   where
     q : Partial
@@ -575,19 +542,17 @@ piece_added {f} {followed} {piece} {range = range} {old = old} u p is ranges rej
 only_retained : (found range : VersionRange) → range ≡ found → ends_at_zero range.end ≡ false → without_none (found ∷ []) ≡ range ∷ []
 only_retained found range e ends = rw (sym e, ends) refl
 
+retained_cut : (f : Flavour) → IsCutting f → (cs : List Comparator) → retained f (cs ∷ []) ≡ without_none (retained_range cs ∷ [])
+retained_cut f npm cs = refl
+retained_cut f normal cs = refl
+
 -- the whole text
-pub piece_reading : (f : Flavour) → IsCutting f → {text : List ℕ} {range : VersionRange} (answer : RangeSetOrTag) → IsShortPiece f text range → answer ≡ inner.RangeSet (record { 0 = range ∷ [] }) → IsReading f text answer
-piece_reading f npm {text} {range} answer p answered =
-    let good = filled_read Npm false text (p.first ∷ p.others, p.filled, p.is) in
-    record {
-      outcome = Ranges (good.0 ∷ []);
-      is_outcome = rw p.trimmed (one_good (one_piece p.no_bar) good.1);
-      is_read = answered ∙ ap (λ (r : List VersionRange). inner.RangeSet (record { 0 = r })) (sym (only_retained (retained_range good.0) range good.2 p.is_kept));
-    }
-piece_reading f normal {text} {range} answer p answered =
-    let good = filled_read Normal false text (p.first ∷ p.others, p.filled, p.is) in
+pub piece_reading : (f : Flavour) → IsCutting f → {text : List ℕ} {range : VersionRange} (answer : RangeSetOrTag) → IsShortPiece f text range → answer ≡ inner.RangeSet (record { 0 = range ∷ [] }) → IsCutReading f text answer
+piece_reading f cuts {text} {range} answer p answered =
+    let good = filled_read f false text (p.first ∷ p.others, p.filled, p.is) in
+    let only = retained_cut f cuts good.0 ∙ only_retained (retained_range good.0) range good.2 p.is_kept in
     record {
       outcome = Ranges (good.0 ∷ []);
       is_outcome = one_good (one_piece p.no_bar) good.1;
-      is_read = answered ∙ ap (λ (r : List VersionRange). inner.RangeSet (record { 0 = r })) (sym (only_retained (retained_range good.0) range good.2 p.is_kept));
+      is_read = answered ∙ ap (λ (r : List VersionRange). inner.RangeSet (record { 0 = r })) (sym only);
     }

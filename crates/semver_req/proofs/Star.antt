@@ -11,11 +11,14 @@ use Rattle.semver_base.specs.declared.partial.XRange.TheVariants.{Wildcard}
 use Rattle.semver_base.specs.declared.range.VersionRange.{VersionRange}
 use Rattle.semver_base.proofs.Readings.{in_place}
 use Rattle.semver_req.specs.Outcome.{IsSpecifierRange, Ranges, whole}
-use Rattle.semver_req.specs.Pieces.{npm, normal}
+use Rattle.semver_req.specs.Parsers.{IsCutReading}
+use Rattle.semver_req.specs.Pieces.{IsCutting, npm, normal}
 use Rattle.semver_req.specs.Rereading.{StarIsAnyVersion}
+use Rattle.semver_req.specs.declared.common.values.Flavour.{Flavour}
+use Rattle.semver_req.specs.declared.range_set_or_tag.RangeSetOrTag.TheVariants as inner
 use Rattle.semver_req.specs.declared.common.values.Flavour.TheVariants.{Npm, Normal, Specifier}
 use Rattle.semver_req.proofs.ComparatorReadings.{comparator_goes, comparator_one}
-use Rattle.semver_req.proofs.WrittenSets.{set_outcome, set_trimmed}
+use Rattle.semver_req.proofs.WrittenSets.{cut_outcome, set_outcome, set_trimmed}
 
 -- ---- in npm's and the normalized grammar it is the canonical form of everything
 
@@ -43,6 +46,10 @@ star_read = that (record {
 
 star_longest : IsLongest IsSpecifierRange (codes "*") (Bare any_partial) []
 star_longest = in_place (comparator_one Specifier) (comparator_goes Specifier) (codes "*") [] star_read tt
+
+pub star_alternatives : (f : Flavour) → IsCutting f → IsCutReading f (codes "*") (inner.RangeSet (record { 0 = any_set }))
+star_alternatives f npm = record { outcome = Ranges (shortest_tree any_set); is_outcome = cut_outcome Npm npm any_set writable; is_read = refl }
+star_alternatives f normal = record { outcome = Ranges (shortest_tree any_set); is_outcome = cut_outcome Normal normal any_set writable; is_read = refl }
 
 pub star_any : StarIsAnyVersion
 star_any Npm = record {

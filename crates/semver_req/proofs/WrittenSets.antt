@@ -196,7 +196,7 @@ many_outcome f npm r q others h = npm_many (first_cut (range_cut r q others h.0)
 many_outcome f normal r q others h = normal_many (first_cut (range_cut r q others h.0) (more_pieces q others h.1)) (good_ones Normal normal true (r ∷ q ∷ others) h) (as_many (r ∷ q ∷ others))
 
 -- the text of a set is split into the shortest forms of its ranges
-cut_outcome : (f : Flavour) → IsCutting f → (ranges : List VersionRange) → AreWritableRanges ranges → IsCutOutcome f (set_text ranges) (Ranges (shortest_tree ranges))
+pub cut_outcome : (f : Flavour) → IsCutting f → (ranges : List VersionRange) → AreWritableRanges ranges → IsCutOutcome f (set_text ranges) (Ranges (shortest_tree ranges))
 cut_outcome f cut [] h = one_good (one_piece (no_bar (codes "<0.0.0") refl)) (inl (none_piece f cut, all_comparators_fit _ (one none_written)))
 cut_outcome f cut (r ∷ []) h = rw append-nil (one_good (one_piece (no_bar (range_text r) (range_no_bar r h.0))) (inl (range_piece f cut r h.0, range_fits r h.0)))
 cut_outcome f cut (r ∷ q ∷ others) h = many_outcome f cut r q others h

@@ -7,7 +7,7 @@ use Rattle.semver_base.specs.Meaning.{tree_means_with}
 use Rattle.semver_base.specs.declared.range.PreRelease.{PreRelease}
 use Rattle.semver_base.specs.declared.version.Version.{Version}
 use Rattle.semver_req.specs.RetainedSet.{IsReadSet, retained}
-use Rattle.semver_req.specs.Outcome.{IsOutcome, Outcome, Ranges, Rejected, Tag, tree_ranges, worked_on}
+use Rattle.semver_req.specs.Outcome.{IsCutOutcome, IsOutcome, Outcome, Ranges, Rejected, Tag, tree_ranges, worked_on}
 use Rattle.semver_req.specs.Requirement.{Requirement, inner_means_with}
 use Rattle.semver_req.specs.declared.common.values.Flavour.{Flavour}
 use Rattle.semver_req.specs.declared.common.values.Flavour.TheVariants.{Npm, Normal, Specifier}
@@ -28,6 +28,12 @@ IsRead f Rejected answer = ⊥
 pub record IsReading (f : Flavour) (text : List ℕ) (answer : RangeSetOrTag) : Type 0 where
   pub outcome : Outcome
   pub is_outcome : IsOutcome f text outcome
+  pub is_read : IsRead f outcome answer
+
+-- some outcome of the text parses to this, where npm's parser has trimmed it
+pub record IsCutReading (f : Flavour) (text : List ℕ) (answer : RangeSetOrTag) : Type 0 where
+  pub outcome : Outcome
+  pub is_outcome : IsCutOutcome f text outcome
   pub is_read : IsRead f outcome answer
 
 -- the result for a text with this outcome, or out of memory; source is the failure in the error

@@ -1,12 +1,11 @@
 -- Comparators and pieces of plain texts.
 use Rattle.std.specs.Prelude.{◌≡◌, ◌⊎◌, ℕ, List, [], ◌∷◌, ◌++◌, false, true}
-use Rattle.std.specs.Str.{trim}
 use Rattle.semver_base.specs.Characters.{dot, space}
 use Rattle.semver_base.specs.Comparators.{Comparator, Hyphen, comparator_line, greater, less, primitive_kind_text}
 use Rattle.semver_base.specs.Meaning.{from, release}
 use Rattle.semver_base.specs.Overlap.{ends_at_zero}
 use Rattle.semver_base.specs.PartialTable.{IsLineRange, between, greater_than, less_than, of_short}
-use Rattle.semver_base.specs.ShortTexts.{IsShortNumbers}
+use Rattle.semver_base.specs.ShortTexts.{IsShortFront}
 use Rattle.semver_base.specs.declared.range.RangeBound.{RangeBound}
 use Rattle.semver_base.specs.declared.range.RangeBound.TheVariants.{Unbounded}
 use Rattle.semver_base.specs.declared.range.VersionBoundKind.{VersionBoundKind}
@@ -19,7 +18,7 @@ use Rattle.semver_req.specs.Pieces.{HasNoBar, IsFilled}
 use Rattle.semver_req.specs.Written.{IsOperatorCut, comparator_of}
 use Rattle.semver_req.specs.declared.common.comparator.Operator.{Operator}
 use Rattle.semver_req.specs.declared.common.values.Flavour.{Flavour}
-use Rattle.semver_req.specs.declared.common.values.Flavour.TheVariants.{Npm}
+use Rattle.semver_req.specs.declared.common.values.Flavour.TheVariants.{Normal, Npm}
 use Rattle.semver_req.specs.declared.range_set_or_tag.pieces.RangeOrInvalid.TheVariants as read
 
 -- a wildcard may follow
@@ -28,14 +27,23 @@ IsFewer (short_numbers.One m) = Unit {0}
 IsFewer (short_numbers.Two m n) = Unit {0}
 IsFewer (short_numbers.Three n) = ⊥
 
--- the whole text is one to three numbers, one or two and a wildcard behind them, or one and two wildcards
-pub data IsShortPartial (f : Flavour) : List ℕ → ShortNumbers → Type 0 where
-  no_wildcard : {text : List ℕ} {numbers : ShortNumbers} → IsShortNumbers text numbers → IsShortPartial f text numbers
-  with_wildcard : (front : List ℕ) (b : ℕ) {text : List ℕ} {numbers : ShortNumbers} → text ≡ front ++ (dot ∷ b ∷ [])
-      → IsShortNumbers front numbers → IsFewer numbers → is_wildcard f b ≡ true → IsShortPartial f text numbers
-  with_wildcards : (front : List ℕ) (b c : ℕ) {text : List ℕ} {m : ℕ} → text ≡ front ++ (dot ∷ b ∷ dot ∷ c ∷ [])
-      → IsShortNumbers front (short_numbers.One m) → is_wildcard f b ≡ true → is_wildcard f c ≡ true
-      → IsShortPartial f text (short_numbers.One m)
+-- the text begins with a dot and a wildcard, and rest follows
+pub record IsWildcardFront (f : Flavour) (text rest : List ℕ) : Type 0 where
+  pub wildcard : ℕ
+  pub text_is : text ≡ dot ∷ wildcard ∷ rest
+  pub is_wildcard : is_wildcard f wildcard ≡ true
+
+-- nothing follows the numbers, or a wildcard for the last number, or for each of the last two
+pub data AreWildcards (f : Flavour) : ShortNumbers → List ℕ → Type 0 where
+  no_wildcard : {numbers : ShortNumbers} → AreWildcards f numbers []
+  one_wildcard : (b : ℕ) {numbers : ShortNumbers} → IsFewer numbers → is_wildcard f b ≡ true → AreWildcards f numbers (dot ∷ b ∷ [])
+  two_wildcards : (b c : ℕ) {m : ℕ} → is_wildcard f b ≡ true → is_wildcard f c ≡ true → AreWildcards f (short_numbers.One m) (dot ∷ b ∷ dot ∷ c ∷ [])
+
+-- the whole text is one to three numbers, and wildcards for those that are missing, or none
+pub record IsShortPartial (f : Flavour) (text : List ℕ) (numbers : ShortNumbers) : Type 0 where
+  pub rest : List ℕ
+  pub front : IsShortFront text numbers rest
+  pub wildcards : AreWildcards f numbers rest
 
 -- the whole text is `~`, `^` or nothing and such numbers, with this range
 pub record IsShortComparator (f : Flavour) (text : List ℕ) (range : VersionRange) : Type 0 where
@@ -48,22 +56,37 @@ pub record IsShortComparator (f : Flavour) (text : List ℕ) (range : VersionRan
 
 -- ---- pieces
 
--- the whole text is `>` or `>=` and one to three numbers, whose range begins so
+abbrev pub less_sign : ℕ
+less_sign = 60
+
+-- nothing, or a space
+abbrev pub IsGap : List ℕ → Type 0
+IsGap gap = (gap ≡ []) ⊎ (gap ≡ space ∷ [])
+
+-- the text without a leading space, if there is one
+abbrev pub IsAfterGap : List ℕ → List ℕ → Type 0
+IsAfterGap text rest = (gap : List ℕ) × IsGap gap × (text ≡ gap ++ rest)
+
+-- the whole text is `>` or `>=`, an optional space and such numbers, whose range begins so
 pub record IsShortStart (text : List ℕ) (start : RangeBound) : Type 0 where
   pub kind : VersionBoundKind
   pub rest : List ℕ
   pub numbers : ShortNumbers
-  pub text_is : text ≡ primitive_kind_text (greater kind) ++ rest
-  pub short_numbers : IsShortNumbers rest numbers
+  pub gap : List ℕ
+  pub is_gap : IsGap gap
+  pub text_is : text ≡ primitive_kind_text (greater kind) ++ (gap ++ rest)
+  pub short_partial : IsShortPartial Normal rest numbers
   pub line : IsLineRange (greater_than kind (of_short numbers)) (between start Unbounded)
 
--- the whole text is `<` or `<=` and one to three numbers, whose range ends so
+-- the whole text is `<` or `<=`, an optional space and such numbers, whose range ends so
 pub record IsShortEnd (text : List ℕ) (end : RangeBound) : Type 0 where
   pub kind : VersionBoundKind
   pub rest : List ℕ
   pub numbers : ShortNumbers
-  pub text_is : text ≡ primitive_kind_text (less kind) ++ rest
-  pub short_numbers : IsShortNumbers rest numbers
+  pub gap : List ℕ
+  pub is_gap : IsGap gap
+  pub text_is : text ≡ primitive_kind_text (less kind) ++ (gap ++ rest)
+  pub short_partial : IsShortPartial Normal rest numbers
   pub line : IsLineRange (less_than kind (of_short numbers)) (between (from (release 0 0 0)) end)
 
 -- two partial versions around ` - ` have this range
@@ -74,8 +97,7 @@ pub record IsShortHyphen (front back : List ℕ) (range : VersionRange) : Type 0
   pub in_back : IsShortPartial Npm back upper
   pub line : IsLineRange (comparator_line (Hyphen (of_short lower) (of_short upper))) range
 
--- the whole text is a piece without `||` and whitespace around it, which may also be followed by a space, and parses to this range, which a
--- set keeps
+-- the whole text is a piece without `||`, which may also be followed by a space, and parses to this range, which a set keeps
 pub record IsShortPiece (f : Flavour) (text : List ℕ) (range : VersionRange) : Type 0 where
   pub first : Comparator
   pub others : List Comparator
@@ -84,7 +106,6 @@ pub record IsShortPiece (f : Flavour) (text : List ℕ) (range : VersionRange) :
   pub is : read.Range range ≡ as_retained (first ∷ others)
   pub is_kept : ends_at_zero range.end ≡ false
   pub no_bar : HasNoBar text
-  pub trimmed : trim text ≡ text
 
 -- shorter is the text, or the text without one trailing space
 abbrev pub IsUnclosed : List ℕ → List ℕ → Type 0

@@ -11,6 +11,7 @@ ghost use Rattle.semver_req.specs.PieceReading.{IsCutRejection};
 ghost use Rattle.semver_req.specs.Parsers.{IsParserAnswer};
 ghost use Rattle.semver_req.specs.declared.common.values.Flavour.TheVariants.{Npm};
 
+use crate::common::values::Flavour;
 use crate::range_set_or_tag::RangeSetOrTag;
 use crate::req::VersionReq;
 pub use crate::tag::is_valid_npm_tag;
@@ -50,8 +51,9 @@ pub fn parse_npm_version_req(
     ensures reads { IsParserAnswer (λ e. e.source) Npm text.now result }
     ensures rejection { IfErr result (λ e. IsCutRejection Npm (trim text.now) e.source) }
 {
-    let raw_text = SmallStackString::from_str(alloc, text.trim())?;
-    let inner = RangeSetOrTag::parse_npm(alloc, text)?;
+    let text = text.trim();
+    let raw_text = SmallStackString::from_str(alloc, text)?;
+    let inner = RangeSetOrTag::parse_alternatives(alloc, text, Flavour::Npm)?;
     Ok(VersionReq::from_raw_text_and_inner(raw_text, inner))
 }
 

@@ -3,9 +3,9 @@
 ghost use Rattle.std.specs.Prelude.{◌≡◌, ◌⊎◌, IfErr, IfOk, IfSome, None, Some, true, false};
 ghost use Rattle.std.specs.Bool.{OnFalse};
 ghost use Rattle.std.specs.Str.{trim};
-ghost use Rattle.semver_req.specs.Outcome.{IsOutcome, Rejected};
+ghost use Rattle.semver_req.specs.Outcome.{IsCutOutcome, IsOutcome, Rejected};
 ghost use Rattle.semver_req.specs.PieceReading.{IsCutRejection, rejection_failure};
-ghost use Rattle.semver_req.specs.Parsers.{IsReading};
+ghost use Rattle.semver_req.specs.Parsers.{IsCutReading, IsReading};
 ghost use Rattle.semver_req.specs.Pieces.{IsCutting};
 ghost use Rattle.semver_req.specs.Requirement.{MatchNoVersion, OverlapAsTags, inner_overlap, inner_text};
 ghost use Rattle.semver_req.specs.Tag.{is_valid_tag};
@@ -58,7 +58,7 @@ fn short_set(
     text: &str,
     flavour: Flavour,
 ) -> Result<Option<RangeSetOrTag>, AllocError>
-    ensures { IsCutting flavour → IfOk result (λ r. IfSome r (IsReading flavour text.now)) }
+    ensures { IsCutting flavour → IfOk result (λ r. IfSome r (IsCutReading flavour text.now)) }
 {
     let ranges = match short_piece(text, flavour) {
         Some(range) => CowVec::of_one(alloc, range.into_range(alloc))?,
@@ -82,27 +82,7 @@ impl RangeSetOrTag {
             (λ failure. (failure ≡ None) ⊎ IsOutcome Normal text.now Rejected) }
         ensures rejection { IfErr result (IsCutRejection Normal text.now) }
     {
-        match short_set(alloc, text, Flavour::Normal)? {
-            Some(inner) => Ok(inner),
-            None => RangeSetOrTag::parse_pieces(alloc, text),
-        }
-    }
-
-    // Parses a text by the normalized grammar, piece by piece.
-    #[inline(never)]
-    fn parse_pieces(alloc: Global, text: &str) -> Result<RangeSetOrTag, ParseFailure>
-        ensures reading { IfOk result (IsReading Normal text.now) }
-        ensures rejected { IfErr result
-            (λ failure. (failure ≡ None) ⊎ IsOutcome Normal text.now Rejected) }
-        ensures rejection { IfErr result (IsCutRejection Normal text.now) }
-    {
-        let first = first_piece(text);
-        let all = read_pieces(alloc, first, Flavour::Normal)?;
-        match all.rejected {
-            None => Ok(RangeSetOrTag::RangeSet(VersionRangeSet(all.ranges))),
-            Some(rejection) if all.is_only => tag_or(alloc, first.piece.trim(), rejection),
-            Some(rejection) => Err(ParseFailure::of_rejection(alloc, rejection)),
-        }
+        RangeSetOrTag::parse_alternatives(alloc, text, Flavour::Normal)
     }
 
     /// Parses a text by npm's grammar, which trims it and then splits it at each `||`: into the ranges of its valid pieces,
@@ -118,26 +98,52 @@ impl RangeSetOrTag {
             (λ failure. (failure ≡ None) ⊎ IsOutcome Npm text.now Rejected) }
         ensures rejection { IfErr result (IsCutRejection Npm (trim text.now)) }
     {
-        match short_set(alloc, text, Flavour::Npm)? {
+        RangeSetOrTag::parse_alternatives(alloc, text.trim(), Flavour::Npm)
+    }
+
+    /// Parses a text by the normalized grammar, or a trimmed one by npm's.
+    #[inline(always)]
+    pub(crate) fn parse_alternatives(
+        alloc: Global,
+        text: &str,
+        flavour: Flavour,
+    ) -> Result<RangeSetOrTag, ParseFailure>
+        requires { IsCutting flavour }
+        ensures reading { IfOk result (IsCutReading flavour text.now) }
+        ensures rejected { IfErr result
+            (λ failure. (failure ≡ None) ⊎ IsCutOutcome flavour text.now Rejected) }
+        ensures rejection { IfErr result (IsCutRejection flavour text.now) }
+    {
+        match short_set(alloc, text, flavour)? {
             Some(inner) => Ok(inner),
-            None => RangeSetOrTag::parse_npm_pieces(alloc, text),
+            None => RangeSetOrTag::parse_pieces(alloc, text, flavour),
         }
     }
 
-    // Parses a text by npm's grammar, piece by piece.
+    // Parses such a text piece by piece.
     #[inline(never)]
-    fn parse_npm_pieces(alloc: Global, text: &str) -> Result<RangeSetOrTag, ParseFailure>
-        ensures reading { IfOk result (IsReading Npm text.now) }
+    fn parse_pieces(
+        alloc: Global,
+        text: &str,
+        flavour: Flavour,
+    ) -> Result<RangeSetOrTag, ParseFailure>
+        requires { IsCutting flavour }
+        ensures reading { IfOk result (IsCutReading flavour text.now) }
         ensures rejected { IfErr result
-            (λ failure. (failure ≡ None) ⊎ IsOutcome Npm text.now Rejected) }
-        ensures rejection { IfErr result (IsCutRejection Npm (trim text.now)) }
+            (λ failure. (failure ≡ None) ⊎ IsCutOutcome flavour text.now Rejected) }
+        ensures rejection { IfErr result (IsCutRejection flavour text.now) }
     {
-        let first = first_piece(text.trim());
-        let all = read_pieces(alloc, first, Flavour::Npm)?;
-        match all.rejected {
-            None => Ok(RangeSetOrTag::RangeSet(VersionRangeSet(all.ranges))),
-            Some(rejection) if all.is_only => tag_or(alloc, first.piece.trim(), rejection),
-            Some(_) => Ok(RangeSetOrTag::RangeSet(VersionRangeSet(all.ranges))),
+        let first = first_piece(text);
+        let all = read_pieces(alloc, first, flavour)?;
+        let Some(rejection) = all.rejected else {
+            return Ok(RangeSetOrTag::RangeSet(VersionRangeSet(all.ranges)));
+        };
+        if all.is_only {
+            return tag_or(alloc, first.piece.trim(), rejection);
+        }
+        match flavour {
+            Flavour::Npm => Ok(RangeSetOrTag::RangeSet(VersionRangeSet(all.ranges))),
+            _ => Err(ParseFailure::of_rejection(alloc, rejection)),
         }
     }
 

@@ -61,12 +61,15 @@ fn only(alloc: Global, range: VersionRange) -> Result<VersionRangeSet, AllocErro
     Ok(VersionRangeSet(CowVec::of_one(alloc, range)?))
 }
 
-// Parses the text by the full grammar.
+// Parses the text by the full grammar; `*` at once.
 #[inline(never)]
 fn read(alloc: Global, text: &str) -> Result<RangeSetOrTag, ParseFailure>
     ensures reading { IfOk result (IsReading Flavour.Specifier text.now) }
     ensures rejection { IfErr result (IsSpecifierRejection text.now) }
 {
+    if text == "*" {
+        return Ok(RangeSetOrTag::RangeSet(only(alloc, VersionRange::all())?));
+    }
     let Some((written, rest)) = non_primitive_front(alloc, text, Flavour::Specifier)? else {
         return whole_text_as_tag(alloc, text, Rejection::UnexpectedCharacter);
     };

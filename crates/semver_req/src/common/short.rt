@@ -4,22 +4,23 @@
 //! Most pieces are such texts. What this parses is a piece by the grammar, and a text has only one meaning; so each parser
 //! tries this first, and falls back to the full grammar on `None`.
 
-ghost use Rattle.std.specs.Prelude.{◌≡◌, ◌++◌, ◌∷◌, [], IfSome, ℕ, true};
-ghost use Rattle.semver_base.specs.Characters.{dot, hyphen_sign, space};
+ghost use Rattle.std.specs.Prelude.{◌≡◌, ◌++◌, ◌∷◌, [], IfSome, IsTrue};
+ghost use Rattle.semver_base.specs.Characters.{hyphen_sign, space};
 ghost use Rattle.semver_base.specs.Comparators.{comparator_line};
+ghost use Rattle.semver_base.specs.Grammar.{IsAfter};
 ghost use Rattle.semver_base.specs.PartialTable.{IsLineRange, of_short, release_bound, release_range};
 ghost use Rattle.semver_req.specs.Partials.{is_wildcard};
 ghost use Rattle.semver_req.specs.Pieces.{IsCutting};
-ghost use Rattle.semver_req.specs.ShortComparators.{IsFewer, IsShortEnd, IsShortHyphen, IsShortPartial, IsShortPiece, IsShortComparator, IsShortStart, IsUnclosed};
+ghost use Rattle.semver_req.specs.ShortComparators.{AreWildcards, IsAfterGap, IsFewer, IsShortEnd, IsShortHyphen, IsShortPartial, IsShortPiece, IsShortComparator, IsShortStart, IsUnclosed, IsWildcardFront, less_sign};
 ghost use Rattle.semver_req.specs.Written.{comparator_of};
-ghost use Rattle.semver_req.specs.declared.common.values.Flavour.TheVariants.{Normal};
+ghost use Rattle.semver_req.specs.declared.common.values.Flavour.TheVariants.{Normal, Npm};
 
 use crate::common::comparator::{Operator, split_operator};
 use crate::common::values::Flavour;
 use semver_base::lexical::after;
 use semver_base::partial::{ReleaseBound, ReleaseRange};
 use semver_base::range::VersionBoundKind;
-use semver_base::short::{Numbers, ShortNumbers, short_numbers};
+use semver_base::short::{Numbers, ShortNumbers, leading_numbers};
 
 // The range of the operator and the numbers, if its bounds fit; `None` for a comparison operator.
 #[inline(always)]
@@ -45,44 +46,58 @@ fn is_wildcard(byte: u8, flavour: Flavour) -> bool
     }
 }
 
-// One or two numbers, which a wildcard may follow.
+// Whether a wildcard may follow the numbers.
 #[inline(always)]
-fn fewer(numbers: ShortNumbers) -> Option<ShortNumbers>
-    ensures { IfSome result (λ fewer. (fewer ≡ numbers) × IsFewer fewer) }
+fn are_fewer(numbers: ShortNumbers) -> bool
+    ensures { IsTrue result → IsFewer numbers }
 {
     match numbers {
-        ShortNumbers::Three(_) => None,
-        numbers => Some(numbers),
+        ShortNumbers::One(_) | ShortNumbers::Two(_, _) => true,
+        ShortNumbers::Three(_) => false,
     }
 }
 
-// The text before a `.` and a wildcard at its end.
+// Strips a leading `.` and a wildcard.
 #[inline(always)]
-fn before_wildcard(text: &[u8], flavour: Flavour) -> Option<&[u8]>
-    ensures { IfSome result (λ front. (b : ℕ) × (text.now ≡ front.now ++ dot ∷ b ∷ [])
-        × (is_wildcard flavour b ≡ true)) }
+fn after_wildcard(text: &[u8], flavour: Flavour) -> Option<&[u8]>
+    ensures { IfSome result (λ rest. IsWildcardFront flavour text.now rest.now) }
 {
-    let (last, rest) = text.split_last()?;
-    match rest {
-        [front @ .., b'.'] if is_wildcard(*last, flavour) => Some(front),
+    match text {
+        [b'.', b, rest @ ..] if is_wildcard(*b, flavour) => Some(rest),
         _ => None,
     }
 }
 
-// Parses the whole text as one to three numbers, one or two and a wildcard behind them, or one and two wildcards.
+// Whether the rest is nothing, or wildcards for numbers that are missing.
+#[inline(always)]
+fn are_wildcards(numbers: ShortNumbers, rest: &[u8], flavour: Flavour) -> bool
+    ensures { IsTrue result → AreWildcards flavour numbers rest.now }
+{
+    if rest.is_empty() {
+        return true;
+    }
+    let Some(rest) = after_wildcard(rest, flavour) else {
+        return false;
+    };
+    if rest.is_empty() {
+        return are_fewer(numbers);
+    }
+    match (numbers, after_wildcard(rest, flavour)) {
+        (ShortNumbers::One(_), Some(rest)) => rest.is_empty(),
+        _ => false,
+    }
+}
+
+// Parses the whole text as one to three numbers, and wildcards for those that are missing, or none.
 #[inline(always)]
 fn short_partial(text: &[u8], flavour: Flavour) -> Option<ShortNumbers>
     ensures { IfSome result (IsShortPartial flavour text.now) }
 {
-    let Some(front) = before_wildcard(text, flavour) else {
-        return short_numbers(text);
-    };
-    match before_wildcard(front, flavour) {
-        Some(front) => match short_numbers(front)? {
-            ShortNumbers::One(major) => Some(ShortNumbers::One(major)),
-            _ => None,
-        },
-        None => fewer(short_numbers(front)?),
+    let (numbers, rest) = leading_numbers(text)?;
+    if are_wildcards(numbers, rest, flavour) {
+        Some(numbers)
+    } else {
+        None
     }
 }
 
@@ -97,7 +112,37 @@ pub(crate) fn short_range(text: &str, flavour: Flavour) -> Option<ReleaseRange>
     numbers_range(operator, numbers)
 }
 
-// Parses the whole text as `>` or `>=` and one to three numbers.
+// Strips a leading space.
+#[inline(always)]
+fn after_space(text: &[u8]) -> Option<&[u8]>
+    ensures { IsAfter space text.now result }
+{
+    match text {
+        [b' ', rest @ ..] => Some(rest),
+        _ => None,
+    }
+}
+
+// Strips one leading space, if there is one.
+#[inline(always)]
+fn after_gap(text: &[u8]) -> &[u8]
+    ensures { IsAfterGap text.now result.now }
+{
+    match after_space(text) {
+        Some(rest) => rest,
+        None => text,
+    }
+}
+
+// Strips a trailing space.
+#[inline(always)]
+fn before_space(text: &str) -> Option<&str>
+    ensures { IfSome result (λ front. text.now ≡ front.now ++ space ∷ []) }
+{
+    text.strip_suffix(' ')
+}
+
+// Parses the whole text as `>` or `>=`, an optional space and such numbers.
 #[inline(always)]
 fn lower_bound(text: &[u8]) -> Option<ReleaseBound>
     ensures { IfSome result (λ start. IsShortStart text.now (release_bound start)) }
@@ -107,36 +152,47 @@ fn lower_bound(text: &[u8]) -> Option<ReleaseBound>
         [b'>', rest @ ..] => (VersionBoundKind::Exclusive, rest),
         _ => return None,
     };
-    short_numbers(rest)?.greater_than(kind)
+    short_partial(after_gap(rest), Flavour::Normal)?.greater_than(kind)
 }
 
-// Parses the whole text as `<` or `<=` and one to three numbers.
+// Parses the whole text, which stands behind a `<`, as an optional `=`, an optional space and such numbers.
 #[inline(always)]
 fn upper_bound(text: &[u8]) -> Option<ReleaseBound>
-    ensures { IfSome result (λ end. IsShortEnd text.now (release_bound end)) }
+    ensures { IfSome result (λ end. IsShortEnd (less_sign ∷ text.now) (release_bound end)) }
 {
     let (kind, rest) = match text {
-        [b'<', b'=', rest @ ..] => (VersionBoundKind::Inclusive, rest),
-        [b'<', rest @ ..] => (VersionBoundKind::Exclusive, rest),
-        _ => return None,
+        [b'=', rest @ ..] => (VersionBoundKind::Inclusive, rest),
+        _ => (VersionBoundKind::Exclusive, text),
     };
-    short_numbers(rest)?.less_than(kind)
+    short_partial(after_gap(rest), Flavour::Normal)?.less_than(kind)
 }
 
-// The range of the whole text, if it is such a start or an end above 0.0.0.
+// The range of the whole text, if it is such a start.
 #[inline(always)]
-fn one_bound(text: &[u8]) -> Option<ReleaseRange>
+fn from_bound(text: &str) -> Option<ReleaseRange>
     ensures { IfSome result (λ range. IsShortPiece Normal text.now (release_range range)) }
 {
-    if let Some(start) = lower_bound(text) {
-        return Some(ReleaseRange { start, end: None });
+    let start = lower_bound(text.as_bytes())?;
+    Some(ReleaseRange { start, end: None })
+}
+
+// The range of the whole text, if it is such an end above 0.0.0, or a start and an end above it. The text is split at its first `<`.
+#[inline(always)]
+fn to_bound(front: &str, back: &str) -> Option<ReleaseRange>
+    ensures { IfSome result (λ range.
+        IsShortPiece Normal (front.now ++ less_sign ∷ back.now) (release_range range)) }
+{
+    let end = upper_bound(back.as_bytes())?;
+    if front.is_empty() {
+        let zero = Numbers {
+            major: 0,
+            minor: 0,
+            patch: 0,
+        };
+        return ReleaseRange::between(ReleaseBound::inclusive(zero), end);
     }
-    let zero = Numbers {
-        major: 0,
-        minor: 0,
-        patch: 0,
-    };
-    ReleaseRange::between(ReleaseBound::inclusive(zero), upper_bound(text)?)
+    let start = lower_bound(before_space(front)?.as_bytes())?;
+    ReleaseRange::between(start, end)
 }
 
 // Splits the text at the first space.
@@ -145,6 +201,14 @@ fn at_whitespace(text: &str) -> Option<(&str, &str)>
     ensures { IfSome result (λ p. text.now ≡ p.0.now ++ space ∷ p.1.now) }
 {
     text.split_once(' ')
+}
+
+// Splits the text at the first `<`.
+#[inline(always)]
+fn at_less(text: &str) -> Option<(&str, &str)>
+    ensures { IfSome result (λ p. text.now ≡ p.0.now ++ less_sign ∷ p.1.now) }
+{
+    text.split_once('<')
 }
 
 // Strips a leading `- `.
@@ -169,6 +233,19 @@ fn short_hyphen(front: &[u8], back: &[u8]) -> Option<ReleaseRange>
     })
 }
 
+// Splits npm's hyphen range at its first space.
+#[inline(always)]
+fn hyphen_ends(text: &str, flavour: Flavour) -> Option<(&str, &str)>
+    ensures { IfSome result (λ p. (flavour ≡ Npm)
+        × (text.now ≡ p.0.now ++ space ∷ hyphen_sign ∷ space ∷ p.1.now)) }
+{
+    if flavour != Flavour::Npm {
+        return None;
+    }
+    let (front, back) = at_whitespace(text)?;
+    Some((front, after_hyphen(back)?))
+}
+
 // The range of the whole text, if it is one or two bounds, or a hyphen range of npm's grammar. In a call of its own, so that plain texts
 // don't pay for it.
 #[inline(never)]
@@ -176,19 +253,16 @@ fn bounds(text: &str, flavour: Flavour) -> Option<ReleaseRange>
     ensures { IsCutting flavour
         → IfSome result (λ range. IsShortPiece flavour text.now (release_range range)) }
 {
-    let Some((front, back)) = at_whitespace(text) else {
-        return one_bound(text.as_bytes());
-    };
-    if flavour == Flavour::Npm {
-        if let Some(back) = after_hyphen(back) {
-            return short_hyphen(front.as_bytes(), back.as_bytes());
-        }
+    if let Some((front, back)) = at_less(text) {
+        return to_bound(front, back);
     }
-    let start = lower_bound(front.as_bytes())?;
-    ReleaseRange::between(start, upper_bound(back.as_bytes())?)
+    match hyphen_ends(text, flavour) {
+        Some((front, back)) => short_hyphen(front.as_bytes(), back.as_bytes()),
+        None => from_bound(text),
+    }
 }
 
-/// The range of a piece, if it is the whole text and short: a comparator as for [`short_range`], one or two comparisons of one to three
+/// The range of a piece, if it is the whole text and short: a comparator as for [`short_range`], one or two comparisons of such
 /// numbers, or npm's hyphen range. `None` says nothing about the text.
 #[inline(always)]
 pub(crate) fn short_piece(text: &str, flavour: Flavour) -> Option<ReleaseRange>
@@ -206,5 +280,5 @@ pub(crate) fn short_piece(text: &str, flavour: Flavour) -> Option<ReleaseRange>
 pub(crate) fn unclosed(text: &str) -> &str
     ensures { IsUnclosed text.now result.now }
 {
-    text.strip_suffix(' ').unwrap_or(text)
+    before_space(text).unwrap_or(text)
 }

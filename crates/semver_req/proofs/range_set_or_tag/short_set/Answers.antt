@@ -6,7 +6,7 @@ use Rattle.semver_base.specs.declared.range.VersionRange.{VersionRange}
 use Rattle.semver_req.specs.declared.range_set_or_tag.RangeSetOrTag.{RangeSetOrTag}
 use Rattle.semver_req.specs.declared.range_set_or_tag.RangeSetOrTag.TheVariants as inner
 use Rattle.semver_req.proofs.ShortComparators.{piece_reading}
-use Rattle.semver_req.proofs.Star.{star_any}
+use Rattle.semver_req.proofs.Star.{star_alternatives}
 use Rattle.semver_req.proofs.range_set_or_tag.short_set.Goals.{in-Some+in_ok-ranges-in-Some, in-None+in_ok-ranges-in-None}
 use Rattle.semver_req.proofs.range_set_or_tag.short_set.Goals as goal
 
@@ -21,5 +21,5 @@ returns c =
       | in-None+in_ok-ranges-in-None w ↦
           let star : c.args.text.now ≡ codes "*" = (pointwise_decides unsigned_Decides c.args.text.now (codes "*")).0 (sym w.if-eq.ensures) in
           let any = w.ranges-is ∙ rw w.all.ensures at w.in_ok-ranges-in-None.ensures in
-          rw (star, any) (star_any c.args.flavour).reading
+          rw (star, any) (star_alternatives c.args.flavour cuts)
     ]

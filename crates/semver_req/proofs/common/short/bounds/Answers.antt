@@ -1,21 +1,15 @@
 use Rattle.std.proofs.lemmas.Option.{IfSome_then}
-use Rattle.semver_req.proofs.ShortComparators.{hyphen_piece, only_npm, pair_piece, piece_wider}
+use Rattle.semver_req.proofs.ShortComparators.{hyphen_piece, piece_wider}
 use Rattle.semver_req.proofs.common.short.bounds.Goals as goal
 
-pub returns-in_default : goal.returns-in_default
-returns-in_default c = λ cuts. IfSome_then c.one_bound.result (rw c.as_bytes.ensures.value at c.one_bound.ensures) (λ range h. piece_wider c.args.flavour cuts h)
+pub returns-in-Some : goal.returns-in-Some
+returns-in-Some c = λ cuts. rw c.in-Some.ensures (IfSome_then c.to_bound.result c.to_bound.ensures (λ range h. piece_wider c.args.flavour cuts h))
 
-pub returns-in-Some-after_hyphen : goal.returns-in-Some-after_hyphen
-returns-in-Some-after_hyphen c =
+pub returns-in-Some-hyphen_ends : goal.returns-in-Some-hyphen_ends
+returns-in-Some-hyphen_ends c =
     λ cuts.
-    let is = only_npm c.args.flavour cuts (λ e. let other = rw e at c.if-eq.ensures in cc other) in
-    let whole = rw c.in-Some-after_hyphen.ensures at c.in-Some.ensures in
-    let read = rw (c.as_bytes-in-Some-after_hyphen.ensures.value, c.as_bytes-in-Some-after_hyphen-2.ensures.value) at c.short_hyphen.ensures in
-    IfSome_then c.short_hyphen.result read (λ range h. rw is (hyphen_piece whole h))
+    let read = rw (c.as_bytes.ensures.value, c.as_bytes-in-Some-hyphen_ends.ensures.value) at c.short_hyphen.ensures in
+    IfSome_then c.short_hyphen.result read (λ range h. rw c.in-Some-hyphen_ends.ensures.0 (hyphen_piece c.in-Some-hyphen_ends.ensures.1 h))
 
-pub returns : goal.returns
-returns c =
-    λ cuts.
-    let start = rw c.as_bytes-2.ensures.value at c.in_ok-start.ensures in
-    let end = rw c.as_bytes-3.ensures.value at c.in_ok-upper_bound.ensures in
-    IfSome_then c.between.result c.between.ensures.range (λ range h. piece_wider c.args.flavour cuts (rw h.0 (pair_piece c.in-Some.ensures start end h.1)))
+pub returns-in-None : goal.returns-in-None
+returns-in-None c = λ cuts. IfSome_then c.from_bound.result c.from_bound.ensures (λ range h. piece_wider c.args.flavour cuts h)

@@ -1,13 +1,10 @@
-use Rattle.std.proofs.Common.{None}
-use Rattle.std.specs.Str.{trim}
-use Rattle.semver_req.specs.PieceReading.{IsCutRejection, is_out_of_memory}
+use Rattle.std.proofs.lemmas.Result.{IfOk-weaker}
 use Rattle.semver_req.specs.Pieces.{npm}
-use Rattle.semver_req.specs.declared.common.values.Flavour.TheVariants.{Npm}
-use Rattle.semver_req.proofs.ParserAnswers.{err_reports}
+use Rattle.semver_req.proofs.PiecesRead.{npm_reading}
 use Rattle.semver_req.proofs.range_set_or_tag.RangeSetOrTag.parse_npm.Goals as goal
 
-pub returns-in_err-inner-clause-rejection : goal.returns-in_err-inner-clause-rejection
-returns-in_err-inner-clause-rejection c = err_reports (λ e. e) c.from_residual.result None (IsCutRejection Npm (trim c.args.text.now)) c.from_residual.ensures.1 is_out_of_memory
+pub parse_alternatives-requires : goal.parse_alternatives-requires
+parse_alternatives-requires c = npm
 
-pub returns-in-Some-clause-reading : goal.returns-in-Some-clause-reading
-returns-in-Some-clause-reading c = rw c.in-Some.is at (c.in_ok-inner.ensures npm)
+pub returns-clause-reading : goal.returns-clause-reading
+returns-clause-reading c = IfOk-weaker c.parse_alternatives.result _ _ npm_reading (rw c.trim.ensures.trim at c.parse_alternatives.ensures.reading)
