@@ -8,6 +8,7 @@ pub mod NameAndVersion
 pub mod NvReferences
 pub mod NvText
 pub mod PackageFaults
+pub mod PackagePlaces
 pub mod PackageText
 pub mod References
 pub mod ReferencesBack

@@ -1,5 +1,5 @@
 -- How the text of a package splits, in one way.
-use Rattle.std.proofs.Common.{◌≡◌, ◌<◌, ◌≤◌, ◌+◌, ◌==◌, ◌≢◌, ℕ, true, List, [], ◌∷◌, ◌++◌, length, take, drop, get_or, Option, Some, None, refl, sym, ap, ◌∙◌, arith, append_assoc, length-append}
+use Rattle.std.proofs.Common.{◌≡◌, false, ◌<◌, ◌≤◌, ◌+◌, ◌==◌, ◌≢◌, ℕ, true, List, [], ◌∷◌, ◌++◌, length, take, drop, get_or, Option, Some, None, refl, sym, ap, ◌∙◌, arith, append_assoc, length-append}
 use Rattle.std.specs.List.{list_all}
 use Rattle.std.specs.Prelude.{IsUtf8}
 use Rattle.std.specs.Str.{IsCharBoundary, NoCharPasses}
@@ -111,6 +111,33 @@ package_one {text} x y h k =
     let paths = path_one h.tail x.path y.path h.path (rw lasts.1 k.path) in
     parts_same rests.0 named.0 named.1 paths
 
+-- ---- a name without a scope
+
+bare_start : (first tail : List ℕ) → 0 < length first → starts_with_at first ≡ false → starts_with_at (first ++ tail) ≡ false
+bare_start [] tail some h = absurd (omega (arith, some))
+bare_start (b ∷ first) tail some h = h
+
+pub bare_cut : {text body first tail name path : List ℕ} {version : Option (List ℕ)} → body ≡ without_slash text → CutsRun (is_not 47) body first tail → 0 < length first → starts_with_at first ≡ false
+    → IsNamePart first name version → IsPathPart tail path → IsCut text name version tail path
+bare_cut {body = body} {first} {tail} {name} body_is run some at named path = record {
+  scope = None;
+  last = name;
+  parts = record {
+    rest = body;
+    scope = (rw (sym body_is, run.text_is) (bare_start first tail some at), sym body_is);
+    last = first;
+    tail = tail;
+    rest_is = run.text_is;
+    last_some = some;
+    last_is = run.pass;
+    named = named;
+    path = path;
+  };
+  name_is = refl;
+  path_is = path;
+  tail_is = refl;
+}
+
 -- ---- a text that lacks a part has no split
 
 starts_no : (xs ys : List ℕ) → 0 < length xs → list_all (is_not 47) xs ≡ true → LacksPart (xs ++ ys) → ⊥
@@ -208,6 +235,7 @@ module _ (text : List ℕ) {body first tail path last more : List ℕ} (is_body 
       };
       name_is = whole_is ∙ front_is;
       path_is = is_path;
+      tail_is = refl;
     }
 
   pub scope_alone : length last ≡ 0 → IsScopeAlone (without_slash text)

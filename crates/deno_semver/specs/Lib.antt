@@ -14,6 +14,7 @@ pub mod NvReferenceOrder
 pub mod NvReferenceReading
 pub mod OneOutcome
 pub mod PackageOutcome
+pub mod PackagePlaces
 pub mod PackageReading
 pub mod PackageSteps
 pub mod PackageText

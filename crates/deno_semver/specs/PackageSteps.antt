@@ -11,6 +11,7 @@ pub record IsCut (text name : List ℕ) (version : Option (List ℕ)) (tail path
   pub parts : IsPackageText text (record { scope = scope; name = last; version = version; path = path })
   pub name_is : name ≡ scoped_name scope last
   pub path_is : IsPathPart tail path
+  pub tail_is : parts.tail ≡ tail
 
 -- the part that is missing
 abbrev pub IsUncut : List ℕ → PackageReqPartsParseError → Type 0

@@ -1,5 +1,5 @@
 -- The package that a text parses to, its parts, and what is wrong with an invalid text.
-use Rattle.std.specs.Prelude.{◌≡◌, ◌⊎◌, ◌==◌, ◌+◌, ℕ, List, [], ◌∷◌, Option, None, Some, Result, codes, drop, length, if◌then◌else◌}
+use Rattle.std.specs.Prelude.{◌≡◌, ◌⊎◌, ◌==◌, ◌+◌, ℕ, List, [], ◌∷◌, true, false, Option, None, Some, Result, codes, drop, length, if◌then◌else◌}
 use Rattle.std.specs.List.{take_while}
 use Rattle.serde_json.specs.Data.{Data, member, no_members, object, string}
 use Rattle.serde_json.specs.Written.{compact_text}
@@ -8,6 +8,10 @@ use Rattle.semver_req.specs.Parsers.{Failure}
 use Rattle.semver_req.specs.Requirement.{inner_text}
 use Rattle.semver_req.specs.declared.common.values.Flavour.{Flavour}
 use Rattle.deno_semver.specs.Cuts.{is_not}
+use Rattle.semver_req.specs.InvalidPieces.{AreInvalidBehind}
+use Rattle.semver_req.specs.declared.error_places.pieces.InvalidPiece.{InvalidPiece}
+use Rattle.deno_semver.specs.PackagePlaces.{IsRequirementAt, LacksRequirement}
+use Rattle.deno_semver.specs.PackageText.{lacks_at}
 use Rattle.deno_semver.specs.PackageOutcome.{IsPackageOutcome, IsPackageRejection}
 use Rattle.deno_semver.specs.declared.package.errors.PackageReqParseError.{PackageReqParseError}
 use Rattle.deno_semver.specs.declared.package.errors.PackageReqPartsParseError.{PackageReqPartsParseError}
@@ -68,3 +72,16 @@ parts_failure parts.Memory = None
 abbrev pub IsPackageFailure : Flavour → List ℕ → Failure → Type 0
 IsPackageFailure f text failure = (failure ≡ None)
     ⊎ ((error : PackageReqParseError) × IsPackageRejection f text error × (failure ≡ parts_failure error.source))
+
+-- ---- places of errors
+
+-- the invalid alternatives of the range in the text of a package, which stands behind so many bytes; none if it has no range
+pub data AreRangeErrors (f : Flavour) (before : ℕ) (text : List ℕ) : List InvalidPiece → Type 0 where
+  of_range : {start : ℕ} {range : List ℕ} {errors : List InvalidPiece} → IsRequirementAt text start range
+      → AreInvalidBehind f (before + start) range errors → AreRangeErrors f before text errors
+  no_range : LacksRequirement text → AreRangeErrors f before text []
+
+-- those of a package; where an `@` is missing before a scope, that is all that is wrong
+pub data ArePackageErrors (f : Flavour) (text : List ℕ) : List InvalidPiece → Type 0 where
+  lacks : lacks_at text ≡ true → ArePackageErrors f text []
+  of_package : {errors : List InvalidPiece} → lacks_at text ≡ false → AreRangeErrors f 0 text errors → ArePackageErrors f text errors

@@ -1,8 +1,10 @@
 -- The package reference that a text parses to, its parts, and what is wrong with an invalid text.
-use Rattle.std.specs.Prelude.{◌≡◌, ◌⊎◌, ◌++◌, ℕ, List, Option, None, Some, Result, Ok, Err, codes}
+use Rattle.std.specs.Prelude.{◌≡◌, ◌⊎◌, ◌++◌, ℕ, List, [], Option, None, Some, Result, Ok, Err, codes, length}
 use Rattle.serde_json.specs.Data.{Data, member, no_members, object, string}
 use Rattle.serde_json.specs.Written.{compact_text}
 use Rattle.semver_req.specs.Parsers.{Failure}
+use Rattle.semver_req.specs.declared.common.values.Flavour.TheVariants.{Specifier}
+use Rattle.semver_req.specs.declared.error_places.pieces.InvalidPiece.{InvalidPiece}
 use Rattle.deno_semver.specs.ExportName.{export_name}
 use Rattle.deno_semver.specs.Kind.{scheme_of}
 use Rattle.deno_semver.specs.ReferenceOutcome as reference
@@ -12,7 +14,7 @@ use Rattle.deno_semver.specs.declared.package.kind.PackageKind.{PackageKind}
 use Rattle.deno_semver.specs.declared.package.kind.PackageKind.TheVariants.{Jsr, Npm}
 use Rattle.deno_semver.specs.declared.package.reference_errors.PackageReqReferenceParseError.{PackageReqReferenceParseError}
 use Rattle.answers.specs.Asking.{Fault, Given, Is}
-use Rattle.package_answers.specs.Packages.{package_json, parts_failure}
+use Rattle.package_answers.specs.Packages.{AreRangeErrors, package_json, parts_failure}
 use Rattle.answers.specs.Object.{text_or_null}
 use Rattle.answers.specs.Reading.{Parsed}
 use Rattle.answers.specs.declared.asking.Kind.TheVariants as kind
@@ -74,3 +76,11 @@ abbrev pub IsReferenceFailure : List ℕ → Failure → Type 0
 IsReferenceFailure text failure = (failure ≡ None)
     ⊎ ((registry : PackageKind) × (error : PackageReqReferenceParseError) × IsRegistryOf text registry
     × IsReferenceRejection registry text error × (failure ≡ reference_failure (unboxed error)))
+
+-- ---- places of errors
+
+-- the invalid alternatives of the range in the text of a reference; none without a scheme
+pub data AreReferenceErrors (text : List ℕ) : List InvalidPiece → Type 0 where
+  behind_scheme : (kind : PackageKind) {body : List ℕ} {errors : List InvalidPiece} → text ≡ scheme_of kind ++ body
+      → AreRangeErrors Specifier (length (scheme_of kind)) body errors → AreReferenceErrors text errors
+  no_scheme : LacksScheme Jsr text → LacksScheme Npm text → AreReferenceErrors text []

@@ -1,20 +1,23 @@
 //! The text of a package, such as `@scope/name@^1.2`.
 
-ghost use Rattle.std.specs.Prelude.{◌≡◌, ◌⊎◌, IfErr, IfOk, None, Ok, Result, string_bytes};
+ghost use Rattle.std.specs.Prelude.{◌≡◌, ◌⊎◌, ◌+◌, ◌<◌, ◌^◌, IfErr, IfOk, None, Ok, Result, length, string_bytes};
 ghost use Rattle.std.specs.Option.{option_copied};
 ghost use Rattle.serde_json.specs.View.{view};
 ghost use Rattle.deno_semver.specs.PackageOutcome.{Fault, IsPackageAnswer, IsPackageOutcome, IsPackageRejection};
 ghost use Rattle.deno_semver.specs.declared.package.values.PackageReq.{PackageReq};
 ghost use Rattle.answers.specs.Asking.{IsAnswer, IsFailureAt};
-ghost use Rattle.package_answers.specs.Packages.{IsPackage, IsPackageFailure, PackageParts, last_part, package_json, parts_failure, scope_part};
+ghost use Rattle.package_answers.specs.Packages.{ArePackageErrors, AreRangeErrors, IsPackage, IsPackageFailure, PackageParts, last_part, package_json, parts_failure, scope_part};
 ghost use Rattle.answers.specs.Object.{text_or_null};
 ghost use Rattle.answers.specs.declared.asking.Kind.TheVariants as kind;
 
 use answers::asking::{Kind, Problem};
 use answers::object::{Object, json_text};
 use deno_semver::ParseFailure;
-use deno_semver::package::{PackageReq, PackageReqParseError, PackageReqPartsParseError};
+use deno_semver::package::{
+    PackageReq, PackageReqParseError, PackageReqPartsParseError, lacks_at, version_req_text,
+};
 use semver_req::common::values::Flavour;
+use semver_req::error_places::pieces::{InvalidPiece, invalid_pieces_behind};
 use serde_json::Value;
 use std::alloc::{AllocError, Global};
 
@@ -103,4 +106,39 @@ pub fn package_parts(alloc: Global, flavour: Flavour, text: &str) -> Result<Stri
 {
     let req = read_package(alloc, flavour, text)?;
     Ok(json_text(alloc, package_json(alloc, &req))?)
+}
+
+/// The invalid alternatives of the range in the text of a package that stands behind so many bytes, which the indexes count, too. There are
+/// none if the text has no range.
+pub(crate) fn range_errors(
+    alloc: Global,
+    flavour: Flavour,
+    before: usize,
+    text: &str,
+) -> Result<Vec<InvalidPiece>, AllocError>
+    requires { before + length text.now < 2 ^ 64 }
+    ensures { IfOk result (λ errors. AreRangeErrors flavour before text.now errors.items) }
+{
+    let Some((start, range)) = version_req_text(text) else {
+        return Ok(Vec::new(alloc));
+    };
+    match invalid_pieces_behind(alloc, before + start, range, flavour) {
+        Ok(errors) => Ok(errors),
+        // Only out of memory.
+        Err(_) => Err(AllocError),
+    }
+}
+
+/// The invalid alternatives of the range in the text of a package, in their order, with what is wrong in each and where in that text.
+pub fn package_errors(
+    alloc: Global,
+    flavour: Flavour,
+    text: &str,
+) -> Result<Vec<InvalidPiece>, AllocError>
+    ensures { IfOk result (λ errors. ArePackageErrors flavour text.now errors.items) }
+{
+    if lacks_at(text) {
+        return Ok(Vec::new(alloc));
+    }
+    range_errors(alloc, flavour, 0, text)
 }

@@ -7,16 +7,18 @@ ghost use Rattle.deno_semver.specs.ReferenceOutcome.{IsReferenceAnswer, IsRefere
 ghost use Rattle.deno_semver.specs.declared.package.reference.PackageReqReference.{PackageReqReference};
 ghost use Rattle.answers.specs.Asking.{IsAnswer, IsFailureAt};
 ghost use Rattle.answers.specs.Object.{text_or_null};
-ghost use Rattle.package_answers.specs.References.{IsReference, IsReferenceFailure, IsRegistryOf, ReferenceParts, export_of, kind_text, reference_failure, reference_json};
+ghost use Rattle.package_answers.specs.References.{AreReferenceErrors, IsReference, IsReferenceFailure, IsRegistryOf, ReferenceParts, export_of, kind_text, reference_failure, reference_json};
 ghost use Rattle.answers.specs.declared.asking.Kind.TheVariants as kind;
 
-use crate::packages::{package_json, parts_failure};
+use crate::packages::{package_json, parts_failure, range_errors};
 use answers::asking::{Kind, Problem};
 use answers::object::{Object, json_text, text_json};
 use deno_semver::ParseFailure;
 use deno_semver::jsr::{JsrPackageReqReference, normalized_export_name};
 use deno_semver::npm::NpmPackageReqReference;
 use deno_semver::package::{PackageKind, PackageReqReference, PackageReqReferenceParseError};
+use semver_req::common::values::Flavour;
+use semver_req::error_places::pieces::InvalidPiece;
 use serde_json::Value;
 use std::alloc::{AllocError, Global};
 
@@ -169,4 +171,15 @@ pub fn reference_parts(alloc: Global, text: &str) -> Result<String, Problem>
 {
     let read = read_reference(alloc, text)?;
     Ok(json_text(alloc, reference_json(alloc, &read))?)
+}
+
+/// The invalid alternatives of the range in the text of a reference, in their order, with what is wrong in each and where in that text.
+pub fn reference_errors(alloc: Global, text: &str) -> Result<Vec<InvalidPiece>, AllocError>
+    ensures { IfOk result (λ errors. AreReferenceErrors text.now errors.items) }
+{
+    let kind = registry_of(text);
+    match kind.after_scheme(text) {
+        Some(body) => range_errors(alloc, Flavour::Specifier, text.len() - body.len(), body),
+        None => Ok(Vec::new(alloc)),
+    }
 }

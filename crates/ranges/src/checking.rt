@@ -1,7 +1,7 @@
 //! `ranges check`: the ranges of package.json, deno.json, import maps and lists of ranges.
 
 use crate::advice::{npm_warning, warnings};
-use crate::errors::{add_error, errors_behind, errors_of};
+use crate::errors::{add_error, errors_at_end, errors_of};
 use crate::explaining::is_left_out;
 use answers::asking::Problem;
 use answers::explained::{Explanation, Piece, explain};
@@ -247,12 +247,6 @@ fn warn<O: Write, E: Write>(
     report.add(console, entry, finding)
 }
 
-// Where the range that an entry's text is, or ends with, is wrong.
-fn errors_in(alloc: Global, entry: &Entry, range: &str) -> Result<Vec<InvalidPiece>, AllocError> {
-    let before = entry.text.len().saturating_sub(range.len());
-    errors_behind(alloc, Flavour::Npm, before, range)
-}
-
 // Reports that npm leaves alternatives out, and where each is wrong.
 fn check_left_out<O: Write, E: Write>(
     console: &mut Console<O, E>,
@@ -264,7 +258,7 @@ fn check_left_out<O: Write, E: Write>(
     if !pieces.iter().any(is_left_out) {
         return Ok(());
     }
-    let errors = errors_in(console.alloc, entry, range)?;
+    let errors = errors_at_end(console.alloc, Flavour::Npm, entry.text.as_str(), range)?;
     let finding = Finding {
         level: Level::Warning,
         message: "npm leaves out an alternative that isn't a range",
@@ -334,7 +328,7 @@ fn check_range<O: Write, E: Write>(
             check_pieces(console, report, entry, pieces.as_slice(), normal.as_str())
         }
         Err(Problem::Invalid(_)) => {
-            let errors = errors_in(console.alloc, entry, range)?;
+            let errors = errors_at_end(console.alloc, Flavour::Npm, entry.text.as_str(), range)?;
             let finding = Finding {
                 level: Level::Error,
                 message: "not a version range",

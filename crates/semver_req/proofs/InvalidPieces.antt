@@ -2,15 +2,17 @@
 use Rattle.std.proofs.Common.{◌≡◌, ◌<◌, ◌+◌, ◌-◌, ◌==◌, ℕ, Bool, true, false, List, [], ◌∷◌, ◌++◌, length, refl, sym, ap, subst, ◌∙◌, arith, append_assoc, append-nil, length-append}
 use Rattle.std.proofs.lemmas.Bool.Decides.{nat_tests}
 use Rattle.std.proofs.lemmas.List.{nil_from_length}
+use Rattle.std.specs.Str.{IsTrimStart, trim_end, trim_start}
 use Rattle.semver_base.specs.Comparators.{Comparator}
 use Rattle.semver_base.specs.Grammar.{IsLongest}
 use Rattle.semver_base.specs.Lexical.{IsWhitespace}
+use Rattle.semver_base.proofs.Whitespace.{whitespace_longest}
 use Rattle.semver_req.specs.Comparators.{fits}
 use Rattle.semver_req.specs.Outcome.{IsSpecifierRange}
 use Rattle.semver_req.specs.Pieces.{AreMorePieces, no_piece, last_piece, cut_piece, ArePieces, one_piece, first_cut, HasNoBar, IsCutAt, IsTrimmed}
 use Rattle.semver_req.specs.declared.common.values.Flavour.{Flavour}
-use Rattle.semver_req.specs.declared.common.values.Flavour.TheVariants.{Specifier}
-use Rattle.semver_req.specs.InvalidPieces.{AreErrors, AreErrorsOf, IsErrorAt, IsErrorOf, IsStrictError, StartAt, none_left, good, bad, range, no_range}
+use Rattle.semver_req.specs.declared.common.values.Flavour.TheVariants.{Npm, Specifier}
+use Rattle.semver_req.specs.InvalidPieces.{AreErrors, AreErrorsOf, AreTrimmedErrors, IsErrorAt, IsErrorOf, IsStrictError, StartAt, none_left, good, bad, range, no_range}
 use Rattle.semver_req.specs.declared.error_places.pieces.InvalidPiece.{InvalidPiece}
 
 one_more : (f : Flavour) (before : ℕ) (text : List ℕ) (b : Bool) (start : ℕ) (piece : List ℕ) (more : List (List ℕ)) (these others : List InvalidPiece)
@@ -74,10 +76,16 @@ module _ (f : Flavour) (before : ℕ) (text : List ℕ) where
     pub further : (piece rest_of : List ℕ) → IsCutAt from piece rest_of → text ≡ ((front ++ whitespace.front) ++ (piece ++ (124 ∷ 124 ∷ []))) ++ rest_of
     further piece rest_of c = behind ∙ (ap (λ t. (front ++ whitespace.front) ++ t) (c.text_is ∙ sym (append_assoc piece (124 ∷ 124 ∷ []) rest_of)) ∙ sym (append_assoc (front ++ whitespace.front) (piece ++ (124 ∷ 124 ∷ [])) rest_of))
 
+-- ---- npm's text, trimmed
+
+pub trimmed_errors : {before : ℕ} {text rest trimmed : List ℕ} {errors : List InvalidPiece} → IsTrimStart text rest → rest ≡ trim_start text → trimmed ≡ trim_end rest
+    → AreErrorsOf Npm (before + (length text - length rest)) trimmed errors → AreTrimmedErrors Npm before text errors
+trimmed_errors {text = text} {rest} h start end errors = record { rest = rest; whitespace = whitespace_longest text rest h; errors_of = rw (end ∙ ap trim_end start) at errors }
+
 -- ---- the strict grammar
 
-pub no_error : {text : List ℕ} {errors : List InvalidPiece} → errors ≡ [] → ((c : Comparator) × IsSpecifierRange text c × (fits c ≡ true)) → IsStrictError text errors
-no_error {text} e h = rw e (range h.0 h.1 h.2)
+pub no_error : {before : ℕ} {text : List ℕ} {errors : List InvalidPiece} → errors ≡ [] → ((c : Comparator) × IsSpecifierRange text c × (fits c ≡ true)) → IsStrictError before text errors
+no_error e h = rw e (range h.0 h.1 h.2)
 
-pub strict_error : {text : List ℕ} {empty errors : List InvalidPiece} {e : InvalidPiece} → empty ≡ [] → errors ≡ empty ++ (e ∷ []) → IsErrorOf Specifier 0 text e → IsStrictError text errors
-strict_error {text} nil is there = rw (is, nil) (no_range there)
+pub strict_error : {before : ℕ} {text : List ℕ} {empty errors : List InvalidPiece} {e : InvalidPiece} → empty ≡ [] → errors ≡ empty ++ (e ∷ []) → IsErrorOf Specifier before text e → IsStrictError before text errors
+strict_error nil is there = rw (is, nil) (no_range there)

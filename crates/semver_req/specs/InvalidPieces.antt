@@ -49,22 +49,26 @@ pub record AreErrorsOf (f : Flavour) (before : ℕ) (text : List ℕ) (errors : 
   pub are_pieces : ArePieces text followed pieces
   pub among : AreErrors f before text followed pieces errors
 
--- those of a text that is trimmed before
-pub record AreTrimmedErrors (f : Flavour) (text : List ℕ) (errors : List InvalidPiece) : Type 0 where
+-- those of a text that is trimmed first
+pub record AreTrimmedErrors (f : Flavour) (before : ℕ) (text : List ℕ) (errors : List InvalidPiece) : Type 0 where
   pub rest : List ℕ
   pub whitespace : IsLongest IsWhitespace text tt rest
-  pub errors_of : AreErrorsOf f (length text - length rest) (trim text) errors
+  pub errors_of : AreErrorsOf f (before + (length text - length rest)) (trim text) errors
 
 -- the whole text, if it isn't a range of the strict grammar that fits
-pub data IsStrictError (text : List ℕ) : List InvalidPiece → Type 0 where
-  range : (c : Comparator) → IsSpecifierRange text c → fits c ≡ true → IsStrictError text []
-  no_range : {e : InvalidPiece} → IsErrorOf Specifier 0 text e → IsStrictError text (e ∷ [])
+pub data IsStrictError (before : ℕ) (text : List ℕ) : List InvalidPiece → Type 0 where
+  range : (c : Comparator) → IsSpecifierRange text c → fits c ≡ true → IsStrictError before text []
+  no_range : {e : InvalidPiece} → IsErrorOf Specifier before text e → IsStrictError before text (e ∷ [])
 
--- the invalid alternatives of a text in the grammar of a flavour; the strict one has no alternatives
+-- the invalid alternatives of a text in the grammar of a flavour, with so many bytes before it; the strict one has no alternatives
+abbrev pub AreInvalidBehind : Flavour → ℕ → List ℕ → List InvalidPiece → Type 0
+AreInvalidBehind Npm before text errors = AreTrimmedErrors Npm before text errors
+AreInvalidBehind Normal before text errors = AreErrorsOf Normal before text errors
+AreInvalidBehind Specifier before text errors = IsStrictError before text errors
+
+-- with none before it
 abbrev pub AreInvalidPieces : Flavour → List ℕ → List InvalidPiece → Type 0
-AreInvalidPieces Npm text errors = AreTrimmedErrors Npm text errors
-AreInvalidPieces Normal text errors = AreErrorsOf Normal 0 text errors
-AreInvalidPieces Specifier text errors = IsStrictError text errors
+AreInvalidPieces f text errors = AreInvalidBehind f 0 text errors
 
 -- ---- steps
 

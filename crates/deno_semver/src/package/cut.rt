@@ -1,11 +1,12 @@
 //! How the text of a package is split.
 
-ghost use Rattle.std.specs.Prelude.{◌≡◌, ◌⊎◌, IfErr, IfOk, ◌==◌};
+ghost use Rattle.std.specs.Prelude.{◌≡◌, ◌⊎◌, ◌==◌, IfErr, IfNone, IfOk, IfSome};
 ghost use Rattle.std.specs.List.{list_any};
 ghost use Rattle.std.specs.Option.{option_copied};
 ghost use Rattle.semver_base.specs.Characters.{slash};
 ghost use Rattle.semver_base.specs.Grammar.{CutsRun, Stops};
 ghost use Rattle.deno_semver.specs.Cuts.{is_not};
+ghost use Rattle.deno_semver.specs.PackagePlaces.{IsRequirementAt, LacksRequirement};
 ghost use Rattle.deno_semver.specs.PackageSteps.{IsCut, IsUncut};
 ghost use Rattle.deno_semver.specs.PackageText.{IsNamePart, IsPathPart, lacks_at, starts_with_at, without_slash};
 
@@ -112,8 +113,26 @@ fn holds_slash(bytes: &[u8]) -> bool
     bytes.contains(&b'/')
 }
 
+/// Returns the text of the version requirement in a package's text, and the index at which it begins; `None` if there is none.
+///
+/// It follows the last `@` of the name, and ends before the next `/`.
+pub fn version_req_text(text: &str) -> Option<(usize, &str)>
+    ensures requirement { IfSome result (λ r. IsRequirementAt text.now r.0 r.1.now) }
+    ensures none { IfNone result (LacksRequirement text.now) }
+{
+    let Ok(cut) = parts_of(text) else {
+        return None;
+    };
+    let Some(version) = cut.version else {
+        return None;
+    };
+    Some((text.len() - cut.tail.len() - version.len(), version))
+}
+
 /// Whether the text contains a `/` and doesn't begin with `@`.
-pub(crate) fn lacks_at(text: &str) -> bool
+///
+/// The parsers of a package report that of an invalid text, whatever else is wrong.
+pub fn lacks_at(text: &str) -> bool
     ensures { result ≡ lacks_at text.now }
 {
     holds_slash(text.as_bytes()) && !starts_with_at(text)

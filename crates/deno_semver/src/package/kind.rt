@@ -29,8 +29,8 @@ impl PackageKind {
         }
     }
 
-    /// What follows the registry's scheme, if the text begins with it.
-    pub(crate) fn after_scheme(self, text: &str) -> Option<&str>
+    /// Returns what follows the registry's scheme, if the text begins with it.
+    pub fn after_scheme(self, text: &str) -> Option<&str>
         ensures { IsAfterScheme self text.now result }
     {
         text.strip_prefix(self.scheme_with_colon())

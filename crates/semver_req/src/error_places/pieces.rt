@@ -3,7 +3,7 @@
 ghost use Rattle.std.specs.Prelude.{◌≡◌, ◌++◌, ◌+◌, ◌<◌, ◌^◌, ◌∷◌, [], IfErr, IfOk, List, MatchOption, None, OnErr, OnOk, length, true};
 ghost use Rattle.semver_base.specs.Comparators.{Comparator};
 ghost use Rattle.semver_req.specs.Causes.{IsRejected, IsStrictRejection};
-ghost use Rattle.semver_req.specs.InvalidPieces.{AreErrorsOf, AreInvalidPieces, IsErrorAt, IsErrorOf, IsStrictError};
+ghost use Rattle.semver_req.specs.InvalidPieces.{AreErrorsOf, AreInvalidBehind, AreInvalidPieces, IsErrorAt, IsErrorOf, IsStrictError};
 ghost use Rattle.semver_req.specs.declared.error_places.pieces.InvalidPiece.{InvalidPiece};
 ghost use Rattle.semver_req.specs.Comparators.{fits};
 ghost use Rattle.semver_req.specs.Outcome.{IsSpecifierRange};
@@ -163,16 +163,21 @@ fn strict_rejection(alloc: Global, text: &str) -> Result<Option<Rejection>, Pars
     }
 }
 
-// The error of a text that isn't a range of the strict grammar.
-fn strict_errors(alloc: Global, text: &str) -> Result<Vec<InvalidPiece>, ParseFailure>
-    ensures value { IfOk result (λ errors. IsStrictError text.now errors.items) }
+// The error of a text that isn't a range of the strict grammar, with so many bytes before it.
+fn strict_errors(
+    alloc: Global,
+    before: usize,
+    text: &str,
+) -> Result<Vec<InvalidPiece>, ParseFailure>
+    requires { before + length text.now < 2 ^ 64 }
+    ensures value { IfOk result (λ errors. IsStrictError before text.now errors.items) }
     ensures memory { IfErr result (λ failure. failure ≡ None) }
 {
     let mut errors = Vec::new(alloc);
     let Some(rejection) = strict_rejection(alloc, text)? else {
         return Ok(errors);
     };
-    let error = error_of(alloc, 0, text, rejection, Flavour::Specifier)?;
+    let error = error_of(alloc, before, text, rejection, Flavour::Specifier)?;
     push(&mut errors, error)?;
     Ok(errors)
 }
@@ -189,13 +194,28 @@ pub fn invalid_pieces(
     ensures value { IfOk result (λ errors. AreInvalidPieces flavour text.now errors.items) }
     ensures memory { IfErr result (λ failure. failure ≡ None) }
 {
+    invalid_pieces_behind(alloc, 0, text, flavour)
+}
+
+/// The invalid alternatives as for [`invalid_pieces`], of a text that stands behind so many bytes, which the indexes count, too.
+pub fn invalid_pieces_behind(
+    alloc: Global,
+    before: usize,
+    text: &str,
+    flavour: Flavour,
+) -> Result<Vec<InvalidPiece>, ParseFailure>
+    requires { before + length text.now < 2 ^ 64 }
+    ensures value { IfOk result
+        (λ errors. AreInvalidBehind flavour before text.now errors.items) }
+    ensures memory { IfErr result (λ failure. failure ≡ None) }
+{
     match flavour {
         Flavour::Npm => {
-            let rest = after_whitespace(text);
-            let before = text.len() - rest.len();
-            errors_of(alloc, before, text.trim(), Flavour::Npm)
+            let rest = text.trim_start();
+            let before = before + (text.len() - rest.len());
+            errors_of(alloc, before, rest.trim_end(), Flavour::Npm)
         }
-        Flavour::Normal => errors_of(alloc, 0, text, Flavour::Normal),
-        Flavour::Specifier => strict_errors(alloc, text),
+        Flavour::Normal => errors_of(alloc, before, text, Flavour::Normal),
+        Flavour::Specifier => strict_errors(alloc, before, text),
     }
 }

@@ -1,7 +1,7 @@
 use Rattle.std.proofs.Common.{◌≡◌, ◌<◌, ◌==◌, ◌∙◌, List, ℕ, Bool, length, true, false, sym, inr, refl, arith, rules}
 use Rattle.std.specs.Option.{option_copied}
 use Rattle.std.proofs.lemmas.Bool.Decides.{nat_tests}
-use Rattle.deno_semver.proofs.PackageText.{front_boundary, scope_alone, scoped_cut}
+use Rattle.deno_semver.proofs.PackageText.{bare_cut, front_boundary, scope_alone, scoped_cut}
 use Rattle.deno_semver.proofs.package.cut.parts_of.Goals as goal
 
 some_left : (xs : List ℕ) (b : Bool) → b ≡ (length xs == 0) → b ≡ false → 0 < length xs
@@ -9,6 +9,10 @@ some_left xs b e f = grind (arith, nat_tests)
 
 none_left : (xs : List ℕ) (b : Bool) → b ≡ (length xs == 0) → b ≡ true → length xs ≡ 0
 none_left xs b e f = grind (arith, nat_tests)
+
+pub returns-then-not-starts_with_at-clause-cut : goal.returns-then-not-starts_with_at-clause-cut
+returns-then-not-starts_with_at-clause-cut c =
+    bare_cut c.without_slash-body.ensures c.segment_and_rest.ensures (some_left _ _ c.is_empty.ensures c.if-is_empty.false) (sym c.starts_with_at.ensures ∙ c.if-not-starts_with_at.true) c.name_and_version.ensures (c.path_of.ensures c.segment_and_rest.ensures.stops)
 
 pub returns-clause-cut : goal.returns-clause-cut
 returns-clause-cut c =
