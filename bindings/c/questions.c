@@ -381,6 +381,8 @@ static const struct call {
     {"may_be_tag", 0, .ask = may_be_tag},
     {"package", 1, .ask = package},
     {"reference", 0, .text = semver_reference},
+    {"package_errors", 1, .req = semver_package_errors},
+    {"reference_errors", 0, .text = semver_reference_errors},
     {"version_parts", 0, .text = semver_version_parts},
     {"ranges", 1, .req = semver_ranges},
     {"explain", 2, .ask = explain},

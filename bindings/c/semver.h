@@ -168,6 +168,12 @@ int32_t semver_package(uint32_t grammar, const uint8_t *text, size_t text_len, u
  * strict one. */
 int32_t semver_reference(const uint8_t *text, size_t text_len, uint8_t *out, size_t out_len, size_t *needed);
 
+/* What is wrong with the range of a package, or of a reference, as JSON: YES, with an array as of semver_errors, by indexes into the text of
+ * the package. It is empty if something else is wrong, or nothing. */
+int32_t semver_package_errors(uint32_t grammar, const uint8_t *text, size_t text_len, uint8_t *out, size_t out_len, size_t *needed);
+
+int32_t semver_reference_errors(const uint8_t *text, size_t text_len, uint8_t *out, size_t out_len, size_t *needed);
+
 /* The parts of a name with a version, such as @scope/name@1.2.3: YES. The members are "name", without its scope, "scope", without its
  * @ or null, and "version". */
 int32_t semver_name_with_version(const uint8_t *text, size_t text_len, uint8_t *out, size_t out_len, size_t *needed);

@@ -17,8 +17,8 @@ PRE = {"restricted": False, "admitted": True}
 # How many options, a grammar and which pre-releases match, stand before the texts of a call.
 OPTIONS = {
     **dict.fromkeys(("fits", "filter", "best", "lowest", "within", "equivalent", "common", "common_all", "min_version", "explain"), 2),
-    **dict.fromkeys(("overlap", "normal", "package", "equal", "is_tag", "ranges", "dependency", "errors"), 1),
-    **dict.fromkeys(("sort", "compare", "order", "version", "version_error", "may_be_tag", "reference"), 0),
+    **dict.fromkeys(("overlap", "normal", "package", "equal", "is_tag", "ranges", "dependency", "errors", "package_errors"), 1),
+    **dict.fromkeys(("sort", "compare", "order", "version", "version_error", "may_be_tag", "reference", "reference_errors"), 0),
     **dict.fromkeys(("version_parts", "name_with_version", "version_reference", "export_name"), 0),
 }
 
@@ -77,6 +77,15 @@ def range_errors(text, options):
         return [error]
     except semver.TagError:
         return None
+
+
+def package_errors(call, text, **options):
+    """The error that is raised, if it has a place; None for a valid text, of which no function returns the alternatives that are left out."""
+    try:
+        call(text, **options)
+    except semver.InvalidPackage as error:
+        return [] if error.start is None else [error]
+    return None
 
 
 def version_error(text):
@@ -188,6 +197,10 @@ def of_parts(name, texts, options):
         return parts(explanation_json(semver.explain(*texts, **options)))
     if name == "errors":
         errors = range_errors(*texts, options)
+        return None if errors is None else parts([error_json(it) for it in errors])
+    if name in ("package_errors", "reference_errors"):
+        call = semver.parse_package if name == "package_errors" else semver.parse_reference
+        errors = package_errors(call, *texts, **options)
         return None if errors is None else parts([error_json(it) for it in errors])
     if name == "version_error":
         return ["yes", str(version_error(*texts))]

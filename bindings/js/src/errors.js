@@ -37,8 +37,8 @@ for (const [name, kind] of Object.entries({ RangeSyntaxError, VersionSyntaxError
 // where it's invalid.
 export const VERSION = { Problem: VersionSyntaxError, parse: (grammar, source) => wasm.version(write(source)), place: placeInVersion };
 export const RANGE = { Problem: RangeSyntaxError, parse: (grammar, source) => wasm.normal(grammar, write(source)), place: placeInRange };
-export const PACKAGE = { Problem: PackageSyntaxError, parse: (grammar, source) => wasm.package(grammar, write(source)) };
-export const REFERENCE = { Problem: PackageSyntaxError, parse: (grammar, source) => wasm.reference(write(source)) };
+export const PACKAGE = { Problem: PackageSyntaxError, parse: (grammar, source) => wasm.package(grammar, write(source)), place: placeInPackage };
+export const REFERENCE = { Problem: PackageSyntaxError, parse: (grammar, source) => wasm.reference(write(source)), place: placeInReference };
 export const NAME_WITH_VERSION = { Problem: PackageSyntaxError, parse: (grammar, source) => wasm.name_with_version(write(source)) };
 export const VERSION_REFERENCE = { Problem: PackageSyntaxError, parse: (grammar, source) => wasm.version_reference(write(source)) };
 export const DEPENDENCY = { Problem: PackageSyntaxError, parse: (grammar, source) => wasm.dependency(grammar, write(source)) };
@@ -49,9 +49,22 @@ function placeInVersion(grammar, source) {
 }
 
 function placeInRange(grammar, source) {
-  if (wasm.errors(grammar, write(source)) !== YES) throw outOfMemory();
+  return firstPlace(wasm.errors(grammar, write(source)), source);
+}
+
+function placeInPackage(grammar, source) {
+  return firstPlace(wasm.package_errors(grammar, write(source)), source);
+}
+
+function placeInReference(grammar, source) {
+  return firstPlace(wasm.reference_errors(write(source)), source);
+}
+
+/** The place of the first of the errors that a call wrote, if there is one. */
+function firstPlace(code, source) {
+  if (code !== YES) throw outOfMemory();
   const [first] = json();
-  return withIndexes(first, indexesOfBytes(source));
+  return first && withIndexes(first, indexesOfBytes(source));
 }
 
 /** An error of the library's JSON, with indexes of the text instead of bytes. */

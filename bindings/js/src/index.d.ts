@@ -39,7 +39,7 @@ export interface Options extends GrammarOptions {
 export interface Diagnosis {
   /** What is wrong. */
   readonly message: string;
-  /** The index at which a range or a version goes wrong; undefined of other texts, and where a text has a lone surrogate. */
+  /** The index at which a range, also of a package, or a version goes wrong; undefined of other texts, and where a text has a lone surrogate. */
   readonly start?: number;
   /** The index at which the version ends, or the alternative of a range with the whitespace behind it; undefined where `start` is. */
   readonly end?: number;

@@ -71,6 +71,7 @@ const WITH_GRAMMAR = {
     const errors = error ? [error] : semver.explain(range, o).alternatives.flatMap((it) => it.error ?? []);
     return ['yes', JSON.stringify(errors.map(errorJson))];
   },
+  package_errors: (o, text) => placeOf(() => semver.parsePackage(text, o)),
   equal: (o, one, other) => yesIf(new Range(one, o).equals(new Range(other, o))),
   is_tag: (o, range) => yesIf(new Range(range, o).tag !== undefined),
   package: (o, text) => {
@@ -83,6 +84,12 @@ const WITH_GRAMMAR = {
     return ['yes', sortedJson({ kind, normal: canonical, package: packageJson(its) })];
   },
 };
+
+/** The error that a call throws, if it has a place. */
+function placeOf(call) {
+  const error = thrown(call);
+  return ['yes', JSON.stringify(error?.start === undefined ? [] : [errorJson(error)])];
+}
 
 /** The place of what a list finds. */
 function listBest(o, range, text, method) {
@@ -108,6 +115,7 @@ const CALLS = {
   },
   may_be_tag: (text) => yesIf(semver.mayBeTag(text)),
   reference: (text) => ['yes', referenceJson(semver.parseReference(text))],
+  reference_errors: (text) => placeOf(() => semver.parseReference(text)),
   name_with_version: (text) => ['yes', sortedJson(nameJson(semver.parseNameWithVersion(text)))],
   version_reference: (text) => {
     const parts = semver.parseVersionReference(text);
@@ -146,6 +154,7 @@ function problem(error, texts) {
 function isOther(name, [first, second]) {
   if (name === 'may_be_tag') return !isEncodable(first); // no
   if (name === 'version_parts') return /\d{16}/.test(first); // a RangeError: a number of JavaScript doesn't hold it
+  if (name === 'package_errors') return !thrown(() => semver.parsePackage(second, { grammar: first })); // alternatives that are left out
   return name === 'errors' && thrown(() => semver.minVersion(second, { grammar: first }))?.name === 'TagError'; // a tag isn't an error
 }
 

@@ -85,6 +85,8 @@ EXPORT(int32_t, version_error)(uint32_t a) { return semver_version_error(ONE, &f
 EXPORT(int32_t, version_parts)(uint32_t a) { WRITES(semver_version_parts(ONE, OUT)); }
 EXPORT(int32_t, package)(uint32_t grammar, uint32_t a) { WRITES(semver_package(grammar, ONE, OUT)); }
 EXPORT(int32_t, reference)(uint32_t a) { WRITES(semver_reference(ONE, OUT)); }
+EXPORT(int32_t, package_errors)(uint32_t grammar, uint32_t a) { WRITES(semver_package_errors(grammar, ONE, OUT)); }
+EXPORT(int32_t, reference_errors)(uint32_t a) { WRITES(semver_reference_errors(ONE, OUT)); }
 EXPORT(int32_t, name_with_version)(uint32_t a) { WRITES(semver_name_with_version(ONE, OUT)); }
 EXPORT(int32_t, version_reference)(uint32_t a) { WRITES(semver_version_reference(ONE, OUT)); }
 EXPORT(int32_t, dependency)(uint32_t grammar, uint32_t a) { WRITES(semver_dependency(grammar, ONE, OUT)); }

@@ -51,6 +51,8 @@ _OF_TEXTS: Dict[str, Tuple[Any, ...]] = {
     "ranges": (c_uint32, *_TEXT, *_OUT),
     "explain": (c_uint32, *_TEXT, c_uint32, *_OUT),
     "errors": (c_uint32, *_TEXT, *_OUT),
+    "package_errors": (c_uint32, *_TEXT, *_OUT),
+    "reference_errors": (*_TEXT, *_OUT),
     "version_error": (*_TEXT, _PLACE),
     "name_with_version": (*_TEXT, *_OUT),
     "version_reference": (*_TEXT, *_OUT),
@@ -177,11 +179,16 @@ def _fail_unless_invalid(code: int, text: str, index: Optional[int] = None) -> N
         raise TagError("The range is a tag.", text, index)
 
 
-def invalid_range(text: str, message: str, parts: Dict[str, Any], index: Optional[int] = None) -> InvalidRange:
-    """The error of a range with these parts, whose indexes are those of bytes."""
+def _place(text: str, parts: Dict[str, Any]) -> Tuple[int, int, Tuple[str, ...]]:
+    """The place of an error with these parts, whose indexes are those of bytes, and what could be there."""
     source = text.encode()
     start, end = (len(source[: parts[name]].decode()) for name in ("start", "end"))
-    return InvalidRange(message, text, index, start, end, tuple(parts["expected"]))
+    return start, end, tuple(parts["expected"])
+
+
+def invalid_range(text: str, message: str, parts: Dict[str, Any], index: Optional[int] = None) -> InvalidRange:
+    """The error of a range with these parts."""
+    return InvalidRange(message, text, index, *_place(text, parts))
 
 
 def fail_range(code: int, text: str, grammar: int, index: Optional[int] = None) -> NoReturn:
@@ -202,7 +209,11 @@ def fail_version(code: int, text: str, index: Optional[int] = None) -> NoReturn:
     raise InvalidVersion(message, text, index, len(source[: place.value].decode()), len(text))
 
 
-def fail_package(code: int, text: str, message: str) -> NoReturn:
-    """Raises what a code other than that of an answer means for a package."""
+def fail_package(code: int, text: str, message: str, errors: str = "", *options: int) -> NoReturn:
+    """Raises what a code other than that of an answer means for a package; the call `errors` finds where its range is invalid."""
     _fail_unless_invalid(code, text)
-    raise InvalidPackage(message, text)
+    source = text.encode()
+    found = json.loads(_written(errors, *options, source, len(source))) if errors else []
+    if not found:
+        raise InvalidPackage(message, text)
+    raise InvalidPackage(message, text, None, *_place(text, found[0]))

@@ -436,8 +436,11 @@ class Dependency(NamedTuple):
 def _parts(call: str, text: str, *options: int) -> Dict[str, Any]:
     source = encoded(text, "text", InvalidPackage)
     code, written = read(call, *options, source, len(source))
-    parts: Dict[str, Any] = json.loads(written) if code == YES else fail_package(code, text, written)
-    return parts
+    if code == YES:
+        parts: Dict[str, Any] = json.loads(written)
+        return parts
+    errors = f"{call}_errors" if call in ("package", "reference") else ""
+    return fail_package(code, text, written, errors, *options)
 
 
 def _name_with_version(parts: Dict[str, Any]) -> NameWithVersion:

@@ -101,6 +101,12 @@ class Errors(unittest.TestCase):
         with self.assertRaises(semver.InvalidPackage) as caught:
             semver.parse_package("@a")
         self.assertEqual((caught.exception.start, caught.exception.end, caught.exception.expected), (None, None, ()))
+        with self.assertRaises(semver.InvalidPackage) as caught:
+            semver.parse_package("@é/name@1..2")
+        self.assertEqual((caught.exception.start, caught.exception.end), (10, 12))
+        with self.assertRaises(semver.InvalidPackage) as caught:
+            semver.parse_reference("npm:name@^/path")
+        self.assertEqual((caught.exception.start, caught.exception.expected), (10, ("digit", "x", "*")))
 
     def test_places_in_ranges(self):
         for text, grammar, start, end in (

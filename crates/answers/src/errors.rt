@@ -3,6 +3,7 @@
 ghost use Rattle.std.specs.Prelude.{◌≡◌, IfOk, map, string_bytes};
 ghost use Rattle.serde_json.specs.Data.{string};
 ghost use Rattle.serde_json.specs.View.{view};
+ghost use Rattle.serde_json.specs.Written.{compact_text};
 ghost use Rattle.semver_req.specs.InvalidPieces.{AreInvalidPieces};
 ghost use Rattle.semver_req.specs.Viable.{IsErrorPlace, IsVersionText};
 ghost use Rattle.answers.specs.Errors.{IsErrorsText, error_json, errors_json, expected_json, expected_names, kind_name};
@@ -87,6 +88,13 @@ fn errors_json(alloc: Global, errors: &[InvalidPiece]) -> Result<Value, AllocErr
     Ok(Value::Array(items))
 }
 
+/// Returns errors as the text of a JSON array.
+pub fn errors_text(alloc: Global, errors: &[InvalidPiece]) -> Result<String, AllocError>
+    ensures { IfOk result (λ text. string_bytes text ≡ compact_text (errors_json errors.now)) }
+{
+    json_text(alloc, errors_json(alloc, errors))
+}
+
 /// The invalid alternatives of the text of a range, in their order, with what is wrong in each and where. A tag isn't a range, so it is
 /// one, too.
 pub fn errors(
@@ -123,5 +131,5 @@ pub fn errors_of_range(
     ensures { IfOk result (λ text. IsErrorsText flavour range_text.now (string_bytes text)) }
 {
     let errors = errors(alloc, flavour, range_text)?;
-    json_text(alloc, errors_json(alloc, errors.as_slice()))
+    errors_text(alloc, errors.as_slice())
 }

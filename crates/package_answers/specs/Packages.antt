@@ -18,6 +18,7 @@ use Rattle.deno_semver.specs.declared.package.errors.PackageReqPartsParseError.{
 use Rattle.deno_semver.specs.declared.package.errors.PackageReqPartsParseError.TheVariants as parts
 use Rattle.deno_semver.specs.declared.package.values.PackageReq.{PackageReq}
 use Rattle.answers.specs.Asking.{Fault, Given, Is}
+use Rattle.answers.specs.Errors.{errors_json}
 use Rattle.answers.specs.Object.{text_or_null}
 use Rattle.answers.specs.Reading.{Parsed}
 use Rattle.answers.specs.declared.asking.Kind.TheVariants as kind
@@ -85,3 +86,8 @@ pub data AreRangeErrors (f : Flavour) (before : ℕ) (text : List ℕ) : List In
 pub data ArePackageErrors (f : Flavour) (text : List ℕ) : List InvalidPiece → Type 0 where
   lacks : lacks_at text ≡ true → ArePackageErrors f text []
   of_package : {errors : List InvalidPiece} → lacks_at text ≡ false → AreRangeErrors f 0 text errors → ArePackageErrors f text errors
+
+-- the text is that of these errors as JSON
+abbrev pub IsPackageErrorsText : Flavour → List ℕ → List ℕ → Type 0
+IsPackageErrorsText f text json =
+    (errors : List InvalidPiece) × ArePackageErrors f text errors × (json ≡ compact_text (errors_json errors))

@@ -14,6 +14,7 @@ use Rattle.deno_semver.specs.declared.package.kind.PackageKind.{PackageKind}
 use Rattle.deno_semver.specs.declared.package.kind.PackageKind.TheVariants.{Jsr, Npm}
 use Rattle.deno_semver.specs.declared.package.reference_errors.PackageReqReferenceParseError.{PackageReqReferenceParseError}
 use Rattle.answers.specs.Asking.{Fault, Given, Is}
+use Rattle.answers.specs.Errors.{errors_json}
 use Rattle.package_answers.specs.Packages.{AreRangeErrors, package_json, parts_failure}
 use Rattle.answers.specs.Object.{text_or_null}
 use Rattle.answers.specs.Reading.{Parsed}
@@ -84,3 +85,8 @@ pub data AreReferenceErrors (text : List ℕ) : List InvalidPiece → Type 0 whe
   behind_scheme : (kind : PackageKind) {body : List ℕ} {errors : List InvalidPiece} → text ≡ scheme_of kind ++ body
       → AreRangeErrors Specifier (length (scheme_of kind)) body errors → AreReferenceErrors text errors
   no_scheme : LacksScheme Jsr text → LacksScheme Npm text → AreReferenceErrors text []
+
+-- the text is that of these errors as JSON
+abbrev pub IsReferenceErrorsText : List ℕ → List ℕ → Type 0
+IsReferenceErrorsText text json =
+    (errors : List InvalidPiece) × AreReferenceErrors text errors × (json ≡ compact_text (errors_json errors))

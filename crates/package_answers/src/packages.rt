@@ -6,11 +6,12 @@ ghost use Rattle.serde_json.specs.View.{view};
 ghost use Rattle.deno_semver.specs.PackageOutcome.{Fault, IsPackageAnswer, IsPackageOutcome, IsPackageRejection};
 ghost use Rattle.deno_semver.specs.declared.package.values.PackageReq.{PackageReq};
 ghost use Rattle.answers.specs.Asking.{IsAnswer, IsFailureAt};
-ghost use Rattle.package_answers.specs.Packages.{ArePackageErrors, AreRangeErrors, IsPackage, IsPackageFailure, PackageParts, last_part, package_json, parts_failure, scope_part};
+ghost use Rattle.package_answers.specs.Packages.{ArePackageErrors, AreRangeErrors, IsPackage, IsPackageErrorsText, IsPackageFailure, PackageParts, last_part, package_json, parts_failure, scope_part};
 ghost use Rattle.answers.specs.Object.{text_or_null};
 ghost use Rattle.answers.specs.declared.asking.Kind.TheVariants as kind;
 
 use answers::asking::{Kind, Problem};
+use answers::errors::errors_text;
 use answers::object::{Object, json_text};
 use deno_semver::ParseFailure;
 use deno_semver::package::{
@@ -141,4 +142,16 @@ pub fn package_errors(
         return Ok(Vec::new(alloc));
     }
     range_errors(alloc, flavour, 0, text)
+}
+
+/// Returns those errors as the text of a JSON array.
+pub fn package_errors_text(
+    alloc: Global,
+    flavour: Flavour,
+    text: &str,
+) -> Result<String, AllocError>
+    ensures { IfOk result (λ json. IsPackageErrorsText flavour text.now (string_bytes json)) }
+{
+    let errors = package_errors(alloc, flavour, text)?;
+    errors_text(alloc, errors.as_slice())
 }

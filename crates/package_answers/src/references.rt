@@ -7,11 +7,12 @@ ghost use Rattle.deno_semver.specs.ReferenceOutcome.{IsReferenceAnswer, IsRefere
 ghost use Rattle.deno_semver.specs.declared.package.reference.PackageReqReference.{PackageReqReference};
 ghost use Rattle.answers.specs.Asking.{IsAnswer, IsFailureAt};
 ghost use Rattle.answers.specs.Object.{text_or_null};
-ghost use Rattle.package_answers.specs.References.{AreReferenceErrors, IsReference, IsReferenceFailure, IsRegistryOf, ReferenceParts, export_of, kind_text, reference_failure, reference_json};
+ghost use Rattle.package_answers.specs.References.{AreReferenceErrors, IsReference, IsReferenceErrorsText, IsReferenceFailure, IsRegistryOf, ReferenceParts, export_of, kind_text, reference_failure, reference_json};
 ghost use Rattle.answers.specs.declared.asking.Kind.TheVariants as kind;
 
 use crate::packages::{package_json, parts_failure, range_errors};
 use answers::asking::{Kind, Problem};
+use answers::errors::errors_text;
 use answers::object::{Object, json_text, text_json};
 use deno_semver::ParseFailure;
 use deno_semver::jsr::{JsrPackageReqReference, normalized_export_name};
@@ -182,4 +183,12 @@ pub fn reference_errors(alloc: Global, text: &str) -> Result<Vec<InvalidPiece>, 
         Some(body) => range_errors(alloc, Flavour::Specifier, text.len() - body.len(), body),
         None => Ok(Vec::new(alloc)),
     }
+}
+
+/// Returns those errors as the text of a JSON array.
+pub fn reference_errors_text(alloc: Global, text: &str) -> Result<String, AllocError>
+    ensures { IfOk result (λ json. IsReferenceErrorsText text.now (string_bytes json)) }
+{
+    let errors = reference_errors(alloc, text)?;
+    errors_text(alloc, errors.as_slice())
 }

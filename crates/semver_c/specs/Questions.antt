@@ -13,12 +13,12 @@ use Rattle.answers.specs.Asking.{Fault, Given, Is}
 use Rattle.answers.specs.Errors.{IsErrorsText}
 use Rattle.answers.specs.ExplainedJson.{Explains}
 use Rattle.answers.specs.Filtering.{Filter, VersionLines}
-use Rattle.package_answers.specs.Packages.{IsPackage, PackageParts}
+use Rattle.package_answers.specs.Packages.{IsPackage, IsPackageErrorsText, PackageParts}
 use Rattle.answers.specs.Parts.{RangeParts, VersionParts}
 use Rattle.package_answers.specs.Names.{NameWithVersionParts}
 use Rattle.answers.specs.Questions.{BestMatch, Canonical, Common, Displayed, Equivalent, LowestMatch, Matches, Orders, Outside, Overlaps, match_of}
 use Rattle.answers.specs.Reading.{IsRange, IsVersion}
-use Rattle.package_answers.specs.References.{ReferenceParts}
+use Rattle.package_answers.specs.References.{IsReferenceErrorsText, ReferenceParts}
 use Rattle.answers.specs.Sorting.{Sorts}
 use Rattle.package_answers.specs.Specifiers.{DependencyParts, VersionReferenceParts}
 use Rattle.answers.specs.declared.asking.Answer.{Answer}
@@ -142,6 +142,14 @@ ExplainsBy number g range = ByOne g range (λ f text. Explains (pre_release_of n
 -- what is wrong with a range, and where
 abbrev pub ErrorsBy : ℕ → List ℕ → Result (List ℕ) CallFault → Type 0
 ErrorsBy g range = ByOne g range (λ f text outcome. (json : List ℕ) × IsErrorsText f text json × (outcome ≡ Ok json))
+
+-- what is wrong with the range of a package, and where
+abbrev pub PackageErrorsBy : ℕ → List ℕ → Result (List ℕ) CallFault → Type 0
+PackageErrorsBy g text = ByOne g text (λ f text outcome. (json : List ℕ) × IsPackageErrorsText f text json × (outcome ≡ Ok json))
+
+-- of a reference
+abbrev pub ReferenceErrorsOf : List ℕ → Result (List ℕ) CallFault → Type 0
+ReferenceErrorsOf text = OfText text (λ text outcome. (json : List ℕ) × IsReferenceErrorsText text json × (outcome ≡ Ok json))
 
 -- where a text stops being a version
 abbrev pub VersionErrorOf : List ℕ → Result ℕ CallFault → Type 0

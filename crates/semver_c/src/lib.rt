@@ -17,7 +17,7 @@ ghost use Rattle.answers.specs.Asking.{Is};
 ghost use Rattle.answers.specs.declared.questions.End.TheVariants as end;
 ghost use Rattle.semver_c.specs.Codes.{IsCode, IsOneReply, IsPlaceReply, IsPlaced, IsReply, IsUntouched, IsUntouchedWithoutValue, always_yes, as_place, best_code, best_place, bool_code, filter_code, filter_numbers, lowest_code, lowest_text, match_code, no_place, no_text, number_of, order_code, text_code, text_of, three_numbers, unqualified_code, yes};
 ghost use Rattle.semver_c.specs.Held.{IsHeld, IsHeldBest, IsHeldEqual, IsHeldFilter, IsHeldMatch, IsHeldOrder, IsHeldOverlap, IsHeldSort, lines_of, package_held};
-ghost use Rattle.semver_c.specs.Questions.{BestLine, CanonicalBy, CommonBy, CommonOfAll, DependencyBy, DisplayedOf, EquivalentBy, ErrorsBy, ExplainsBy, ExportNameOf, Filters, Fits, LowestBy, LowestLine, MatchesHeld, NameWithVersionOf, NumbersOf, OrdersOf, OutsideBy, OverlapsBy, PackageBy, PackageOf, RangeBy, RangesBy, ReferenceOf, SortsOf, TagBy, VersionErrorOf, VersionListOf, VersionOf, VersionPartsOf, VersionReferenceOf};
+ghost use Rattle.semver_c.specs.Questions.{BestLine, CanonicalBy, CommonBy, CommonOfAll, DependencyBy, DisplayedOf, EquivalentBy, ErrorsBy, ExplainsBy, ExportNameOf, Filters, Fits, LowestBy, LowestLine, MatchesHeld, NameWithVersionOf, NumbersOf, OrdersOf, OutsideBy, OverlapsBy, PackageBy, PackageErrorsBy, PackageOf, RangeBy, RangesBy, ReferenceErrorsOf, ReferenceOf, SortsOf, TagBy, VersionErrorOf, VersionListOf, VersionOf, VersionPartsOf, VersionReferenceOf};
 ghost use Rattle.semver_c.specs.declared.codes.Code.TheVariants as code;
 
 mod arguments;
@@ -37,8 +37,9 @@ use questions::{
     best_held, best_line, canonical_form, common, common_of_all, dependency_of, displayed_version,
     equivalent_ranges, errors_of, explanation_of, export_name_of, filter, filter_held, fits,
     held_canonical, held_displayed, is_tag, lowest, lowest_line, match_code, matches_held,
-    name_with_version_of, names_tag, numbers_of, order_of, outside, overlap, package_of, ranges_of,
-    read_list, read_package_of, read_range, read_version, reference_of, release, sorted_held,
+    name_with_version_of, names_tag, numbers_of, order_of, outside, overlap, package_errors_of, package_of,
+    ranges_of, read_list, read_package_of, read_range, read_version, reference_errors_of,
+    reference_of, release, sorted_held,
     sorted_lines, version_error_of, version_parts_of, version_reference_of,
 };
 use reports::{
@@ -372,6 +373,35 @@ pub extern "C" fn semver_reference(
         out.old out.new needed.new result }
 {
     report_text(reference_of(alloc, text), out, needed)
+}
+
+/// The errors of a package's range, as JSON: yes. There are none if it has no range.
+#[unsafe(no_mangle)]
+pub extern "C" fn semver_package_errors(
+    alloc: Global,
+    grammar: u32,
+    text: &[u8],
+    out: &mut [u8],
+    needed: &mut usize,
+) -> i32
+    ensures { IsOneReply (PackageErrorsBy grammar text.now) always_yes (λ text. text)
+        out.old out.new needed.new result }
+{
+    report_text(package_errors_of(alloc, grammar, text), out, needed)
+}
+
+/// The errors of a reference's range, as JSON: yes. There are none if it has no range.
+#[unsafe(no_mangle)]
+pub extern "C" fn semver_reference_errors(
+    alloc: Global,
+    text: &[u8],
+    out: &mut [u8],
+    needed: &mut usize,
+) -> i32
+    ensures { IsOneReply (ReferenceErrorsOf text.now) always_yes (λ text. text)
+        out.old out.new needed.new result }
+{
+    report_text(reference_errors_of(alloc, text), out, needed)
 }
 
 /// The parts of a version, as JSON: yes.

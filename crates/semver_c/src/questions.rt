@@ -13,7 +13,7 @@ ghost use Rattle.answers.specs.declared.sorting.Order.TheVariants as sorting;
 ghost use Rattle.semver_c.specs.Arguments.{IsAnswer, IsOneAnswer, pre_release_of};
 ghost use Rattle.semver_c.specs.Codes.{match_code};
 ghost use Rattle.semver_c.specs.Held.{IsListBest, list_lines};
-ghost use Rattle.semver_c.specs.Questions.{BestLine, CanonicalBy, CommonBy, CommonOfAll, DependencyBy, DisplayedOf, EquivalentBy, ErrorsBy, ExplainsBy, ExportNameOf, Filters, Fits, LowestBy, LowestLine, MatchesHeld, NameWithVersionOf, NumbersOf, OrdersOf, OutsideBy, OverlapsBy, PackageBy, PackageOf, RangeBy, RangesBy, ReferenceOf, SortsOf, TagBy, VersionErrorOf, VersionListOf, VersionOf, VersionPartsOf, VersionReferenceOf, version_numbers, whole_package};
+ghost use Rattle.semver_c.specs.Questions.{BestLine, CanonicalBy, CommonBy, CommonOfAll, DependencyBy, DisplayedOf, EquivalentBy, ErrorsBy, ExplainsBy, ExportNameOf, Filters, Fits, LowestBy, LowestLine, MatchesHeld, NameWithVersionOf, NumbersOf, OrdersOf, OutsideBy, OverlapsBy, PackageBy, PackageErrorsBy, PackageOf, RangeBy, RangesBy, ReferenceErrorsOf, ReferenceOf, SortsOf, TagBy, VersionErrorOf, VersionListOf, VersionOf, VersionPartsOf, VersionReferenceOf, version_numbers, whole_package};
 
 use crate::arguments::{Problem, flavour, line_list, pre_release, text};
 use crate::codes::Code;
@@ -33,8 +33,8 @@ use deno_semver::jsr::normalized_export_name;
 use deno_semver::package::PackageName;
 use deno_semver::{PreRelease, Version, VersionReq};
 use package_answers::names::name_with_version_parts;
-use package_answers::packages::{package_parts, read_package};
-use package_answers::references::reference_parts;
+use package_answers::packages::{package_errors_text, package_parts, read_package};
+use package_answers::references::{reference_errors_text, reference_parts};
 use package_answers::specifiers::{dependency_parts, version_reference_parts};
 use semver_base::string::CowVec;
 use std::alloc::{AllocError, Global};
@@ -63,6 +63,23 @@ pub fn errors_of(alloc: Global, grammar: u32, range: &[u8]) -> Result<String, Pr
     let flavour = flavour(grammar)?;
     let range = text(range)?;
     Ok(errors_of_range(alloc, flavour, range)?)
+}
+
+/// What is wrong with the range of the package, and where?
+pub fn package_errors_of(alloc: Global, grammar: u32, package: &[u8]) -> Result<String, Problem>
+    ensures { IsOneAnswer (PackageErrorsBy grammar package.now) (λ text. string_bytes text) result }
+{
+    let flavour = flavour(grammar)?;
+    let package = text(package)?;
+    Ok(package_errors_text(alloc, flavour, package)?)
+}
+
+/// What is wrong with the range of the reference, and where?
+pub fn reference_errors_of(alloc: Global, reference: &[u8]) -> Result<String, Problem>
+    ensures { IsOneAnswer (ReferenceErrorsOf reference.now) (λ text. string_bytes text) result }
+{
+    let reference = text(reference)?;
+    Ok(reference_errors_text(alloc, reference)?)
 }
 
 /// Where does the text stop being a version?
