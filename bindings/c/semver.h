@@ -42,6 +42,9 @@ enum {
     SEMVER_STRICT = 2      /* the grammar of package specifiers: ~, ^ or nothing before one partial version */
 };
 
+/* kinds of text, of which semver_why asks */
+enum { SEMVER_PACKAGE = 0, SEMVER_REFERENCE = 1 };
+
 /* pre-releases: by npm's rule, or every one between the bounds */
 enum { SEMVER_RESTRICTED = 0, SEMVER_ADMITTED = 1 };
 
@@ -54,7 +57,7 @@ enum {
     SEMVER_INVALID_RANGE = -2,   /* a range, a package or a reference is invalid */
     SEMVER_INVALID_VERSION = -3,
     SEMVER_NOT_UTF8 = -4,        /* bytes aren't valid UTF-8 */
-    SEMVER_NO_GRAMMAR = -5,      /* no grammar has this number */
+    SEMVER_NO_GRAMMAR = -5,      /* no grammar has this number, or no kind of text (semver_why) */
     SEMVER_NO_MEMORY = -6        /* out of memory */
 };
 
@@ -162,6 +165,14 @@ int32_t semver_version_parts(const uint8_t *version, size_t version_len, uint8_t
  * canonical form of the range, "requirement", the text it was parsed from, and "scope", without its @ or null. The grammar is that
  * of the range. */
 int32_t semver_package(uint32_t grammar, const uint8_t *text, size_t text_len, uint8_t *out, size_t out_len, size_t *needed);
+
+/* Why the text of a package (SEMVER_PACKAGE) or of a reference (SEMVER_REFERENCE) is invalid: YES; or NO, if it is valid. The members are
+ * "kind", "message", the error message of semver_package or semver_reference, "snippet", the part of the text that is wrong or null, and
+ * "suggested", a text to write instead or null. The kinds are "NoPackageName", "InvalidPackageName", "MissingAtSymbol",
+ * "SpecifierVersionReq", "NpmVersionReq" and "NormalizedVersionReq"; for a reference also "NotExpectedScheme" and
+ * "InvalidPathWithVersion", the one that has a suggested text. The grammar is that of a package's range. The range of a reference has the
+ * strict one, whichever is given. */
+int32_t semver_why(uint32_t what, uint32_t grammar, const uint8_t *text, size_t text_len, uint8_t *out, size_t out_len, size_t *needed);
 
 /* The parts of a reference to a package, such as jsr:@scope/name@1/mod.ts: YES. The members are "export", the export of a JSR
  * package and else null, "kind", "jsr" or "npm", "package", as of semver_package, and "path" or null. The grammar of its range is the

@@ -51,8 +51,12 @@ pub fn package_json(alloc: Global, req: &PackageReq) -> Result<Value, AllocError
         .into_json()
 }
 
-// Parses a package.
-fn parse(alloc: Global, flavour: Flavour, text: &str) -> Result<PackageReq, PackageReqParseError>
+/// Parses a package.
+pub(crate) fn parse(
+    alloc: Global,
+    flavour: Flavour,
+    text: &str,
+) -> Result<PackageReq, PackageReqParseError>
     ensures read { IfOk result (λ req. IsPackageOutcome flavour text.now (Ok req)) }
     ensures rejected { IfErr result (IsPackageRejection flavour text.now) }
     ensures answer { (outcome : Result PackageReq Fault)

@@ -100,8 +100,8 @@ pub(crate) fn registry_of(text: &str) -> PackageKind
     }
 }
 
-// Parses a reference to a package of the registry.
-fn parse(
+/// Parses a reference to a package of the registry.
+pub(crate) fn parse(
     alloc: Global,
     kind: PackageKind,
     text: &str,
@@ -124,8 +124,11 @@ fn parse(
     }
 }
 
-// What is wrong with the text of a reference.
-fn reference_failure(alloc: Global, error: &PackageReqReferenceParseError) -> ParseFailure
+/// What is wrong with the text of a reference.
+pub(crate) fn reference_failure(
+    alloc: Global,
+    error: &PackageReqReferenceParseError,
+) -> ParseFailure
     ensures { (result ≡ None) ⊎ (result ≡ reference_failure (unboxed error.now)) }
 {
     match error {

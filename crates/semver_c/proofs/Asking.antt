@@ -10,9 +10,10 @@ use Rattle.answers.proofs.Givens.{by_fault, by_value, out_of_memory}
 use Rattle.answers.specs.Asking.{Fault, Given, IsOutcomeOf, OutOfMemory, fault_of, invalid, valid}
 use Rattle.answers.specs.declared.asking.Problem.{Problem as Unanswered}
 use Rattle.answers.specs.declared.asking.Problem.TheVariants as unanswered
-use Rattle.semver_c.specs.Arguments.{CallFault, Called, IsAnswer, IsGrammar, IsOneAnswer, IsText, NoGrammar, NotUtf8, call_fault, called, called_outcome, grammar, grammar_number, memory, no_grammar, no_text, outcome_of, text}
+use Rattle.semver_c.specs.Arguments.{CallFault, Called, IsAnswer, IsGrammar, IsOneAnswer, IsSubject, IsText, NoGrammar, NotUtf8, call_fault, called, called_outcome, grammar, grammar_number, memory, no_grammar, no_subject, no_text, outcome_of, subject, subject_number, text}
 use Rattle.semver_c.specs.declared.arguments.Problem.{Problem}
 use Rattle.semver_c.specs.declared.arguments.Problem.TheVariants as problem
+use Rattle.semver_c.specs.declared.arguments.Subject.{Subject}
 
 -- ---- grammars
 
@@ -126,6 +127,14 @@ module _ {E Y : Type 0} (value : E → Y) where
 -- ---- questions that may have several outcomes
 
 module _ {E Y : Type 0} (value : E → Y) where
+  module _ (number : ℕ) (Asked : Subject → Result Y CallFault → Type 0) where
+    pub one_by_subject : (s : Subject) → number ≡ subject_number s → (r : Result E Problem) → IsOneAnswer (Asked s) value r → IsOneAnswer (Given (IsSubject number) Asked) value r
+    one_by_subject s e r (inl none) = inl none
+    one_by_subject s e r (inr a) = inr (valid (subject e) a)
+
+    pub one_by_no_subject : (r : Result E Problem) (p : Problem) → IsErrAnd r (λ e. e ≡ p) → (p ≡ problem.NoGrammar) × (1 < number) → IsOneAnswer (Given (IsSubject number) Asked) value r
+    one_by_no_subject r p is h = inr (subst (Given (IsSubject number) Asked) (sym (exit value r p is ∙ ap (λ (q : Problem). Err (call_fault q)) h.0)) (invalid (no_subject h.1)))
+
   module _ (number : ℕ) (Asked : Flavour → Result Y CallFault → Type 0) where
     pub one_by_grammar : (f : Flavour) → number ≡ grammar_number f → (r : Result E Problem) → IsOneAnswer (Asked f) value r → IsOneAnswer (Given (IsGrammar number) Asked) value r
     one_by_grammar f e r (inl none) = inl none

@@ -9,10 +9,12 @@ use Rattle.semver_req.specs.declared.common.values.Flavour.TheVariants.{Npm, Nor
 use Rattle.answers.specs.Asking.{Fault, Invalid, IsOutcomeOf, OutOfMemory, failure_of, fault_of}
 use Rattle.semver_c.specs.declared.arguments.Problem.{Problem}
 use Rattle.semver_c.specs.declared.arguments.Problem.TheVariants as problem
+use Rattle.semver_c.specs.declared.arguments.Subject.{Subject}
+use Rattle.semver_c.specs.declared.arguments.Subject.TheVariants.{Package, Reference}
 
 -- ---- outcomes
 
--- why a call has no result: the question about its texts has none, no grammar has the number, or bytes aren't valid UTF-8
+-- why a call has no result: the question about its texts has none, no grammar or no subject has the number, or bytes aren't valid UTF-8
 pub data CallFault : Type 0 where
   Unanswered : Fault → CallFault
   NoGrammar : CallFault
@@ -80,6 +82,16 @@ grammar_number Specifier = 2
 pub data IsGrammar (number : ℕ) : Result Flavour CallFault → Type 0 where
   grammar : {f : Flavour} → number ≡ grammar_number f → IsGrammar number (Ok f)
   no_grammar : 2 < number → IsGrammar number (Err NoGrammar)
+
+-- the numbers of what a text is: 0 a package, 1 a reference
+abbrev pub subject_number : Subject → ℕ
+subject_number Package = 0
+subject_number Reference = 1
+
+-- the subject with this number
+pub data IsSubject (number : ℕ) : Result Subject CallFault → Type 0 where
+  subject : {s : Subject} → number ≡ subject_number s → IsSubject number (Ok s)
+  no_subject : 1 < number → IsSubject number (Err NoGrammar)
 
 -- bytes that are a text
 pub data IsText (bytes : List ℕ) : Result (List ℕ) CallFault → Type 0 where

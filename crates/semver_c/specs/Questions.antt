@@ -13,6 +13,7 @@ use Rattle.answers.specs.Asking.{Fault, Given, Is}
 use Rattle.answers.specs.Errors.{IsErrorsText}
 use Rattle.answers.specs.ExplainedJson.{Explains}
 use Rattle.answers.specs.Filtering.{Filter, VersionLines}
+use Rattle.package_answers.specs.Faults.{IsPackageFault, IsReferenceFault}
 use Rattle.package_answers.specs.Packages.{IsPackage, IsPackageErrorsText, PackageParts}
 use Rattle.answers.specs.Parts.{RangeParts, VersionParts}
 use Rattle.package_answers.specs.Names.{NameWithVersionParts}
@@ -24,8 +25,10 @@ use Rattle.package_answers.specs.Specifiers.{DependencyParts, VersionReferencePa
 use Rattle.answers.specs.declared.asking.Answer.{Answer}
 use Rattle.answers.specs.declared.questions.Best.{Best}
 use Rattle.answers.specs.declared.sorting.Order.TheVariants.{Ascending}
-use Rattle.semver_c.specs.Arguments.{CallFault, Called, IsGrammar, IsText, pre_release_of}
+use Rattle.semver_c.specs.Arguments.{CallFault, Called, IsGrammar, IsSubject, IsText, pre_release_of}
 use Rattle.semver_c.specs.Codes.{match_code}
+use Rattle.semver_c.specs.declared.arguments.Subject.{Subject}
+use Rattle.semver_c.specs.declared.arguments.Subject.TheVariants.{Package, Reference}
 use Rattle.semver_c.specs.declared.codes.Code.{Code}
 use Rattle.semver_c.specs.declared.questions.Numbers.{Numbers}
 use Rattle.semver_c.specs.declared.questions.ReadPackage.{ReadPackage}
@@ -118,6 +121,16 @@ PackageBy g text = ByOne g text PackageParts
 -- `semver_package_read`
 abbrev pub PackageOf : ℕ → List ℕ → Result PackageReq CallFault → Type 0
 PackageOf g text = ByOne g text IsPackage
+
+-- none for a valid text of the subject; for an invalid one the JSON of its error
+abbrev pub IsFaultOf : Subject → Flavour → List ℕ → Option (List ℕ) → Type 0
+IsFaultOf Package f text = IsPackageFault f text
+IsFaultOf Reference f text = IsReferenceFault text
+
+-- `semver_why`
+abbrev pub WhyBy : ℕ → ℕ → List ℕ → Result (Option (List ℕ)) CallFault → Type 0
+WhyBy what g text = Given (IsSubject what)
+    (λ s. ByOne g text (λ f t outcome. (fault : Option (List ℕ)) × IsFaultOf s f t fault × (outcome ≡ Ok fault)))
 
 -- the package that was read
 abbrev pub whole_package : ReadPackage → PackageReq

@@ -3,7 +3,7 @@
 ghost use Rattle.std.specs.Prelude.{◌≡◌, ◌<◌, Err, IfOk, IsUtf8, map, MatchResult};
 ghost use Rattle.std.specs.Str.Lines.{lines};
 ghost use Rattle.answers.specs.declared.asking.Problem.TheVariants as unanswered;
-ghost use Rattle.semver_c.specs.Arguments.{call_fault, fault_place, grammar_number, pre_release_of, problem_message};
+ghost use Rattle.semver_c.specs.Arguments.{call_fault, fault_place, grammar_number, pre_release_of, problem_message, subject_number};
 ghost use Rattle.semver_c.specs.Codes.{fault_code};
 ghost use Rattle.semver_c.specs.declared.arguments.Problem.TheVariants as problem;
 
@@ -19,7 +19,7 @@ use std::str;
 pub enum Problem {
     /// The question about its texts has no result.
     Unanswered(Unanswered),
-    /// No grammar has this number.
+    /// No grammar, or no subject, has this number.
     NoGrammar,
     NotUtf8,
 }
@@ -85,6 +85,25 @@ pub fn flavour(number: u32) -> Result<Flavour, Problem>
         0 => Ok(Flavour::Npm),
         1 => Ok(Flavour::Normal),
         2 => Ok(Flavour::Specifier),
+        _ => Err(Problem::NoGrammar),
+    }
+}
+
+/// What a text is: a package, or a reference to one.
+#[derive(Clone, Copy, Debug, PartialEq, Eq)]
+pub enum Subject {
+    Package,
+    Reference,
+}
+
+/// The subject of this number.
+pub fn subject_of(number: u32) -> Result<Subject, Problem>
+    ensures { MatchResult result (λ subject. number ≡ subject_number subject)
+        (λ error. (error ≡ problem.NoGrammar) × (1 < number)) }
+{
+    match number {
+        0 => Ok(Subject::Package),
+        1 => Ok(Subject::Reference),
         _ => Err(Problem::NoGrammar),
     }
 }

@@ -15,9 +15,9 @@ ghost use Rattle.semver_req.specs.Tag.{is_valid_tag};
 ghost use Rattle.deno_semver.specs.ReqOrder.{inner_cmp};
 ghost use Rattle.answers.specs.Asking.{Is};
 ghost use Rattle.answers.specs.declared.questions.End.TheVariants as end;
-ghost use Rattle.semver_c.specs.Codes.{IsCode, IsOneReply, IsPlaceReply, IsPlaced, IsReply, IsUntouched, IsUntouchedWithoutValue, always_yes, as_place, best_code, best_place, bool_code, filter_code, filter_numbers, lowest_code, lowest_text, match_code, no_place, no_text, number_of, order_code, text_code, text_of, three_numbers, unqualified_code, yes};
+ghost use Rattle.semver_c.specs.Codes.{IsCode, IsOneReply, IsPlaceReply, IsPlaced, IsReply, IsUntouched, IsUntouchedWithoutValue, always_yes, as_place, best_code, best_place, bool_code, filter_code, filter_numbers, found_code, found_text, lowest_code, lowest_text, match_code, no_place, no_text, number_of, order_code, text_code, text_of, three_numbers, unqualified_code, yes};
 ghost use Rattle.semver_c.specs.Held.{IsHeld, IsHeldBest, IsHeldEqual, IsHeldFilter, IsHeldMatch, IsHeldOrder, IsHeldOverlap, IsHeldSort, lines_of, package_held};
-ghost use Rattle.semver_c.specs.Questions.{BestLine, CanonicalBy, CommonBy, CommonOfAll, DependencyBy, DisplayedOf, EquivalentBy, ErrorsBy, ExplainsBy, ExportNameOf, Filters, Fits, LowestBy, LowestLine, MatchesHeld, NameWithVersionOf, NumbersOf, OrdersOf, OutsideBy, OverlapsBy, PackageBy, PackageErrorsBy, PackageOf, RangeBy, RangesBy, ReferenceErrorsOf, ReferenceOf, SortsOf, TagBy, VersionErrorOf, VersionListOf, VersionOf, VersionPartsOf, VersionReferenceOf};
+ghost use Rattle.semver_c.specs.Questions.{BestLine, CanonicalBy, CommonBy, CommonOfAll, DependencyBy, DisplayedOf, EquivalentBy, ErrorsBy, ExplainsBy, ExportNameOf, Filters, Fits, LowestBy, LowestLine, MatchesHeld, NameWithVersionOf, NumbersOf, OrdersOf, OutsideBy, OverlapsBy, PackageBy, PackageErrorsBy, PackageOf, RangeBy, RangesBy, ReferenceErrorsOf, ReferenceOf, SortsOf, TagBy, VersionErrorOf, VersionListOf, VersionOf, VersionPartsOf, VersionReferenceOf, WhyBy};
 ghost use Rattle.semver_c.specs.declared.codes.Code.TheVariants as code;
 
 mod arguments;
@@ -37,15 +37,15 @@ use questions::{
     best_held, best_line, canonical_form, common, common_of_all, dependency_of, displayed_version,
     equivalent_ranges, errors_of, explanation_of, export_name_of, filter, filter_held, fits,
     held_canonical, held_displayed, is_tag, lowest, lowest_line, match_code, matches_held,
-    name_with_version_of, names_tag, numbers_of, order_of, outside, overlap, package_errors_of, package_of,
-    ranges_of, read_list, read_package_of, read_range, read_version, reference_errors_of,
-    reference_of, release, sorted_held,
-    sorted_lines, version_error_of, version_parts_of, version_reference_of,
+    name_with_version_of, names_tag, numbers_of, order_of, outside, overlap, package_errors_of,
+    package_of, ranges_of, read_list, read_package_of, read_range, read_version,
+    reference_errors_of, reference_of, release, sorted_held, sorted_lines, version_error_of,
+    version_parts_of, version_reference_of, why_invalid,
 };
 use reports::{
     code_of_bool, code_of_match, code_of_order, code_or_problem, put, put_place, report_best,
-    report_bool, report_filter, report_lowest, report_match, report_name, report_numbers,
-    report_place, report_places, report_problem, report_text, report_text_or_tag,
+    report_bool, report_filter, report_found_text, report_lowest, report_match, report_name,
+    report_numbers, report_place, report_places, report_problem, report_text, report_text_or_tag,
 };
 use semver_req::laws::equal_requirements;
 use std::alloc::Global;
@@ -359,6 +359,23 @@ pub extern "C" fn semver_package(
         out.old out.new needed.new result }
 {
     report_text(package_of(alloc, grammar, text), out, needed)
+}
+
+/// Why the text of a package, at 0, or of a reference, at 1, is invalid, as JSON: yes; no, if it is valid. The grammar is that of a
+/// package's range; that of a reference's is the strict one.
+#[unsafe(no_mangle)]
+pub extern "C" fn semver_why(
+    alloc: Global,
+    what: u32,
+    grammar: u32,
+    text: &[u8],
+    out: &mut [u8],
+    needed: &mut usize,
+) -> i32
+    ensures { IsOneReply (WhyBy what grammar text.now) found_code found_text
+        out.old out.new needed.new result }
+{
+    report_found_text(why_invalid(alloc, what, grammar, text), out, needed)
 }
 
 /// The parts of a reference to a JSR or npm package, as JSON: yes. The grammar of its range is the strict one.

@@ -2,6 +2,7 @@
 
 ghost use Rattle.std.specs.Prelude.{◌≡◌, IfOk, is_some, string_bytes};
 ghost use Rattle.std.specs.Cow.{cow_str_bytes};
+ghost use Rattle.std.specs.Option.{option_map};
 ghost use Rattle.semver_base.specs.Meaning.{release};
 ghost use Rattle.semver_base.specs.VersionText.{version_text};
 ghost use Rattle.semver_req.specs.Requirement.{inner_text, tag_of};
@@ -13,9 +14,9 @@ ghost use Rattle.answers.specs.declared.sorting.Order.TheVariants as sorting;
 ghost use Rattle.semver_c.specs.Arguments.{IsAnswer, IsOneAnswer, pre_release_of};
 ghost use Rattle.semver_c.specs.Codes.{match_code};
 ghost use Rattle.semver_c.specs.Held.{IsListBest, list_lines};
-ghost use Rattle.semver_c.specs.Questions.{BestLine, CanonicalBy, CommonBy, CommonOfAll, DependencyBy, DisplayedOf, EquivalentBy, ErrorsBy, ExplainsBy, ExportNameOf, Filters, Fits, LowestBy, LowestLine, MatchesHeld, NameWithVersionOf, NumbersOf, OrdersOf, OutsideBy, OverlapsBy, PackageBy, PackageErrorsBy, PackageOf, RangeBy, RangesBy, ReferenceErrorsOf, ReferenceOf, SortsOf, TagBy, VersionErrorOf, VersionListOf, VersionOf, VersionPartsOf, VersionReferenceOf, version_numbers, whole_package};
+ghost use Rattle.semver_c.specs.Questions.{BestLine, CanonicalBy, CommonBy, CommonOfAll, DependencyBy, DisplayedOf, EquivalentBy, ErrorsBy, ExplainsBy, ExportNameOf, Filters, Fits, IsFaultOf, LowestBy, LowestLine, MatchesHeld, NameWithVersionOf, NumbersOf, OrdersOf, OutsideBy, OverlapsBy, PackageBy, PackageErrorsBy, PackageOf, RangeBy, RangesBy, ReferenceErrorsOf, ReferenceOf, SortsOf, TagBy, VersionErrorOf, VersionListOf, VersionOf, VersionPartsOf, VersionReferenceOf, WhyBy, version_numbers, whole_package};
 
-use crate::arguments::{Problem, flavour, line_list, pre_release, text};
+use crate::arguments::{Problem, Subject, flavour, line_list, pre_release, subject_of, text};
 use crate::codes::Code;
 use crate::handles::VersionList;
 use answers::asking::Answer;
@@ -32,11 +33,13 @@ use answers::sorting::{Order, sort, sorted_lines as sorted_list};
 use deno_semver::jsr::normalized_export_name;
 use deno_semver::package::PackageName;
 use deno_semver::{PreRelease, Version, VersionReq};
+use package_answers::faults::{package_fault, reference_fault};
 use package_answers::names::name_with_version_parts;
 use package_answers::packages::{package_errors_text, package_parts, read_package};
 use package_answers::references::{reference_errors_text, reference_parts};
 use package_answers::specifiers::{dependency_parts, version_reference_parts};
 use semver_base::string::CowVec;
+use semver_req::common::values::Flavour;
 use std::alloc::{AllocError, Global};
 use std::borrow::CowStr;
 use std::cmp::Ordering;
@@ -66,12 +69,12 @@ pub fn errors_of(alloc: Global, grammar: u32, range: &[u8]) -> Result<String, Pr
 }
 
 /// What is wrong with the range of the package, and where?
-pub fn package_errors_of(alloc: Global, grammar: u32, package: &[u8]) -> Result<String, Problem>
-    ensures { IsOneAnswer (PackageErrorsBy grammar package.now) (λ text. string_bytes text) result }
+pub fn package_errors_of(alloc: Global, grammar: u32, bytes: &[u8]) -> Result<String, Problem>
+    ensures { IsOneAnswer (PackageErrorsBy grammar bytes.now) (λ text. string_bytes text) result }
 {
     let flavour = flavour(grammar)?;
-    let package = text(package)?;
-    Ok(package_errors_text(alloc, flavour, package)?)
+    let text = text(bytes)?;
+    Ok(package_errors_text(alloc, flavour, text)?)
 }
 
 /// What is wrong with the range of the reference, and where?
@@ -328,6 +331,38 @@ pub fn package_of(alloc: Global, grammar: u32, bytes: &[u8]) -> Result<String, P
     let flavour = flavour(grammar)?;
     let text = text(bytes)?;
     Ok(package_parts(alloc, flavour, text)?)
+}
+
+// Why the text of the subject is invalid, if it is.
+fn fault_of(
+    alloc: Global,
+    subject: Subject,
+    flavour: Flavour,
+    text: &str,
+) -> Result<Option<String>, AllocError>
+    ensures { IfOk result
+        (λ answer. IsFaultOf subject flavour text.now (option_map string_bytes answer)) }
+{
+    match subject {
+        Subject::Package => package_fault(alloc, flavour, text),
+        Subject::Reference => reference_fault(alloc, text),
+    }
+}
+
+/// Why is the text of a package or a reference invalid?
+pub fn why_invalid(
+    alloc: Global,
+    what: u32,
+    grammar: u32,
+    bytes: &[u8],
+) -> Result<Option<String>, Problem>
+    ensures { IsOneAnswer (WhyBy what grammar bytes.now)
+        (λ answer. option_map string_bytes answer) result }
+{
+    let subject = subject_of(what)?;
+    let flavour = flavour(grammar)?;
+    let text = text(bytes)?;
+    Ok(fault_of(alloc, subject, flavour, text)?)
 }
 
 /// What are the parts of the reference?

@@ -2,10 +2,11 @@
 
 ghost use Rattle.std.specs.Prelude.{◌≡◌, ◌⊎◌, IfOk, List, ℕ, map, string_bytes};
 ghost use Rattle.std.specs.Cow.{cow_str_bytes};
+ghost use Rattle.std.specs.Option.{option_map};
 ghost use Rattle.semver_base.specs.VersionText.{version_text};
 ghost use Rattle.answers.specs.Filtering.{list_answer};
 ghost use Rattle.semver_c.specs.Arguments.{call_fault, outcome_of, problem_message, problem_place};
-ghost use Rattle.semver_c.specs.Codes.{IsPlaced, IsReported, IsUntouched, IsUntouchedWithoutValue, always_yes, as_place, as_value, best_code, best_place, bool_code, code_of, fault_code, filter_code, filter_numbers, line_code, lowest_code, lowest_text, match_code, no_memory, no_text, number_of, order_code, place_after, text_code, text_of, three_numbers, unqualified_code};
+ghost use Rattle.semver_c.specs.Codes.{IsPlaced, IsReported, IsUntouched, IsUntouchedWithoutValue, always_yes, as_place, as_value, best_code, best_place, bool_code, code_of, fault_code, filter_code, filter_numbers, found_code, found_text, line_code, lowest_code, lowest_text, match_code, no_memory, no_text, number_of, order_code, place_after, text_code, text_of, three_numbers, unqualified_code};
 
 use crate::arguments::Problem;
 use crate::codes::Code;
@@ -144,6 +145,29 @@ pub fn report_text(answer: Result<String, Problem>, out: &mut [u8], needed: &mut
         Ok(text) => {
             put(text.as_str(), out, needed);
             Code::Yes.number()
+        }
+        Err(problem) => report_problem(&problem, out, needed),
+    }
+}
+
+/// Reports a text with yes, or that there is none with no.
+pub fn report_found_text(
+    answer: Result<Option<String>, Problem>,
+    out: &mut [u8],
+    needed: &mut usize,
+) -> i32
+    ensures { IsReported found_code found_text
+        (outcome_of (λ answer. option_map string_bytes answer) answer)
+        out.old out.new needed.new result }
+{
+    match answer {
+        Ok(Some(text)) => {
+            put(text.as_str(), out, needed);
+            Code::Yes.number()
+        }
+        Ok(None) => {
+            put("", out, needed);
+            Code::No.number()
         }
         Err(problem) => report_problem(&problem, out, needed),
     }

@@ -8,14 +8,14 @@ pub returns-in_err-flavour : goal.returns-in_err-flavour
 returns-in_err-flavour c =
     one_by_no_grammar string_bytes c.args.grammar _ c.from_residual.result c.in_err-flavour.field-0.0 c.from_residual.ensures.1 c.in_err-flavour.ensures
 
-pub returns-in_err-package : goal.returns-in_err-package
-returns-in_err-package c =
-    one_by_grammar string_bytes c.args.grammar _ c.in_ok-flavour.flavour c.in_ok-flavour.ensures (c.from_residual-in_err-package.result) (one_by_no_text string_bytes c.args.package.now _ c.from_residual-in_err-package.result c.in_err-package.field-0.0 c.from_residual-in_err-package.ensures.1 c.in_err-package.ensures)
+pub returns-in_err-text : goal.returns-in_err-text
+returns-in_err-text c =
+    one_by_grammar string_bytes c.args.grammar _ c.in_ok-flavour.flavour c.in_ok-flavour.ensures (c.from_residual-in_err-text.result) (one_by_no_text string_bytes c.args.bytes.now _ c.from_residual-in_err-text.result c.in_err-text.field-0.0 c.from_residual-in_err-text.ensures.1 c.in_err-text.ensures)
 
 pub returns-in_err-package_errors_text : goal.returns-in_err-package_errors_text
 returns-in_err-package_errors_text c =
-    one_by_memory string_bytes (PackageErrorsBy c.args.grammar c.args.package.now) (c.from_residual-in_err-package_errors_text.result) _ c.from_residual-in_err-package_errors_text.ensures.1 refl
+    one_by_memory string_bytes (PackageErrorsBy c.args.grammar c.args.bytes.now) (c.from_residual-in_err-package_errors_text.result) _ c.from_residual-in_err-package_errors_text.ensures.1 refl
 
 pub returns : goal.returns
 returns c =
-    one_by_grammar string_bytes c.args.grammar _ c.in_ok-flavour.flavour c.in_ok-flavour.ensures (Ok c.in_ok-package_errors_text.field-0) (one_by_text string_bytes c.args.package.now _ c.in_ok-package.package.now c.in_ok-package.ensures (Ok c.in_ok-package_errors_text.field-0) (inr (called (string_bytes c.in_ok-package_errors_text.field-0, c.in_ok-package_errors_text.ensures, refl))))
+    one_by_grammar string_bytes c.args.grammar _ c.in_ok-flavour.flavour c.in_ok-flavour.ensures (Ok c.in_ok-package_errors_text.field-0) (one_by_text string_bytes c.args.bytes.now _ c.in_ok-text.text.now c.in_ok-text.ensures (Ok c.in_ok-package_errors_text.field-0) (inr (called (string_bytes c.in_ok-package_errors_text.field-0, c.in_ok-package_errors_text.ensures, refl))))

@@ -1,0 +1,159 @@
+//! Why the text of a package or a reference is invalid, as JSON.
+
+ghost use Rattle.std.specs.Prelude.{◌≡◌, IfOk, Result, is_err, is_some, string_bytes};
+ghost use Rattle.std.specs.Option.{option_copied, option_map};
+ghost use Rattle.serde_json.specs.View.{view};
+ghost use Rattle.deno_semver.specs.PackageOutcome.{Fault, IsPackageOutcome};
+ghost use Rattle.deno_semver.specs.ReferenceOutcome.{ReferenceFault, unboxed};
+ghost use Rattle.deno_semver.specs.declared.package.values.PackageReq.{PackageReq};
+ghost use Rattle.package_answers.specs.Faults.{IsFaultText, IsPackageFault, IsPartsText, IsReferenceFaultText, IsReferenceFault, fault_json, parts_kind, reference_kind, suggestion};
+ghost use Rattle.package_answers.specs.References.{IsRegistryOutcome};
+ghost use Rattle.package_answers.specs.declared.references.Reference.{Reference};
+
+use crate::packages::{parse as parse_package, parts_failure};
+use crate::references::{parse as parse_reference, reference_failure, registry_of};
+use answers::object::{Object, json_text};
+use deno_semver::ParseFailure;
+use deno_semver::package::{PackageReqPartsParseError, PackageReqReferenceParseError};
+use semver_req::common::values::Flavour;
+use serde_json::Value;
+use std::alloc::{AllocError, Global};
+
+// The kind of a package's error.
+fn parts_kind(error: &PackageReqPartsParseError) -> &'static str
+    ensures { result.now ≡ parts_kind error.now }
+{
+    match error {
+        PackageReqPartsParseError::NoPackageName => "NoPackageName",
+        PackageReqPartsParseError::InvalidPackageName => "InvalidPackageName",
+        PackageReqPartsParseError::MissingAtSymbol => "MissingAtSymbol",
+        PackageReqPartsParseError::SpecifierVersionReq(_) => "SpecifierVersionReq",
+        PackageReqPartsParseError::NpmVersionReq(_) => "NpmVersionReq",
+        PackageReqPartsParseError::NormalizedVersionReq(_) => "NormalizedVersionReq",
+        PackageReqPartsParseError::Memory => "Memory",
+    }
+}
+
+// The kind of a reference's error.
+fn reference_kind(error: &PackageReqReferenceParseError) -> &'static str
+    ensures { result.now ≡ reference_kind (unboxed error.now) }
+{
+    match error {
+        PackageReqReferenceParseError::NotExpectedScheme(_) => "NotExpectedScheme",
+        PackageReqReferenceParseError::Invalid(error) => parts_kind(&error.source),
+        PackageReqReferenceParseError::InvalidPathWithVersion(_) => "InvalidPathWithVersion",
+        PackageReqReferenceParseError::Memory => "Memory",
+    }
+}
+
+// The text that a reference's error suggests, if it suggests one.
+fn suggestion(
+    alloc: Global,
+    error: &PackageReqReferenceParseError,
+) -> Result<Option<String>, AllocError>
+    ensures { IfOk result
+        (λ text. option_map string_bytes text ≡ suggestion (unboxed error.now)) }
+{
+    match error {
+        PackageReqReferenceParseError::NotExpectedScheme(_) => Ok(None),
+        PackageReqReferenceParseError::Invalid(_) => Ok(None),
+        PackageReqReferenceParseError::InvalidPathWithVersion(error) => {
+            let (scheme, suggested) = (error.kind.scheme_with_colon(), &error.suggested);
+            Ok(Some(format!(in alloc; "{scheme}{suggested}")?))
+        }
+        PackageReqReferenceParseError::Memory => Ok(None),
+    }
+}
+
+// An error as JSON.
+fn fault_json(
+    alloc: Global,
+    kind: &str,
+    failure: &ParseFailure,
+    suggested: Option<&str>,
+) -> Result<Value, AllocError>
+    ensures { IfOk result (λ json. view json
+        ≡ fault_json kind.now failure.now (option_copied suggested.entry)) }
+{
+    Object::new(alloc)
+        .put_text("kind", Some(kind))
+        .put_text("message", Some(failure.message()))
+        .put_text("snippet", failure.code_snippet())
+        .put_text("suggested", suggested)
+        .into_json()
+}
+
+// The text of an error's JSON. There is none for out of memory.
+fn fault_text(
+    alloc: Global,
+    kind: &str,
+    failure: &ParseFailure,
+    suggested: Option<&str>,
+) -> Result<String, AllocError>
+    ensures { IfOk result (λ json.
+        IsFaultText kind.now failure.now (option_copied suggested.entry) (string_bytes json)) }
+{
+    if failure.is_memory() {
+        return Err(AllocError);
+    }
+    json_text(alloc, fault_json(alloc, kind, failure, suggested))
+}
+
+// The text of the JSON of a package's error.
+fn parts_text(alloc: Global, error: PackageReqPartsParseError) -> Result<String, AllocError>
+    ensures { IfOk result (λ json. IsPartsText error (string_bytes json)) }
+{
+    let kind = parts_kind(&error);
+    let failure = parts_failure(alloc, error);
+    fault_text(alloc, kind, &failure, None)
+}
+
+// The text of the JSON of a reference's error.
+fn reference_error_text(
+    alloc: Global,
+    error: &PackageReqReferenceParseError,
+) -> Result<String, AllocError>
+    ensures { IfOk result
+        (λ json. IsReferenceFaultText (unboxed error.now) (string_bytes json)) }
+{
+    let failure = reference_failure(alloc, error);
+    let suggested = suggestion(alloc, error)?;
+    fault_text(alloc, reference_kind(error), &failure, suggested.as_deref())
+}
+
+/// Returns why the text of a package is invalid, with this grammar for its range, as the text of a JSON object; none for a valid package.
+///
+/// The members are the kind of the error, its message, its code snippet or null, and the suggested text, here null.
+pub fn package_fault(
+    alloc: Global,
+    flavour: Flavour,
+    text: &str,
+) -> Result<Option<String>, AllocError>
+    ensures is { IfOk result
+        (λ answer. IsPackageFault flavour text.now (option_map string_bytes answer)) }
+    ensures only { (outcome : Result PackageReq Fault)
+        → IsPackageOutcome flavour text.now outcome
+        → IfOk result (λ answer. is_some answer ≡ is_err outcome) }
+{
+    match parse_package(alloc, flavour, text) {
+        Ok(_req) => Ok(None),
+        Err(error) => Ok(Some(parts_text(alloc, error.source)?)),
+    }
+}
+
+/// Returns why the text of a reference is invalid, as [`package_fault`] does; none for a valid reference.
+///
+/// The text that is suggested for a version in the path is the reference with its version after the name.
+pub fn reference_fault(alloc: Global, text: &str) -> Result<Option<String>, AllocError>
+    ensures is { IfOk result
+        (λ answer. IsReferenceFault text.now (option_map string_bytes answer)) }
+    ensures only { (outcome : Result Reference ReferenceFault)
+        → IsRegistryOutcome text.now outcome
+        → IfOk result (λ answer. is_some answer ≡ is_err outcome) }
+{
+    let kind = registry_of(text);
+    match parse_reference(alloc, kind, text) {
+        Ok(_reference) => Ok(None),
+        Err(error) => Ok(Some(reference_error_text(alloc, &error)?)),
+    }
+}
