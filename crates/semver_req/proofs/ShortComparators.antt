@@ -1,14 +1,14 @@
 -- What the grammars make of plain texts.
 use Rattle.std.proofs.Common.{◌≡◌, ◌<◌, ◌^◌, ◌==◌, ℕ, zero, suc, Bool, true, false, List, [], ◌∷◌, ◌++◌, length, Option, Some, None, refl, sym, subst, ap, ◌∙◌, arith, inl, inr, append-nil, append_assoc, length-append}
 use Rattle.std.specs.Char.{is_ascii_digit, is_not_whitespace}
-use Rattle.std.specs.List.{list_all}
+use Rattle.std.specs.List.{list_all, list_any}
 use Rattle.std.proofs.lemmas.Bool.{lt-ltb, or_left}
 use Rattle.std.proofs.lemmas.Bool.Decides.{nat_tests}
 use Rattle.std.proofs.lemmas.List.{nil_from_length}
 use Rattle.std.proofs.lemmas.Str.{NoCharPasses-nil}
 use Rattle.std.proofs.lemmas.Str.Pattern.{IsSplitOnceResult, split_parts}
 use Rattle.std.specs.Borrow.{Bor}
-use Rattle.std.specs.Prelude.{◌||◌, IfSome, codes}
+use Rattle.std.specs.Prelude.{◌||◌, IfSome, codes, not}
 use Rattle.std.specs.Cmp.{nat_cmp_is}
 use Rattle.std.specs.Ordering.{nat_cmp}
 use Rattle.std.specs.declared.cmp.Ordering.TheVariants.{Greater, Less}
@@ -69,7 +69,7 @@ use Rattle.semver_req.proofs.Joining.{fitting_partial}
 use Rattle.semver_req.proofs.Operators.{non_primitive_some}
 use Rattle.semver_req.proofs.Partials.{not_led, one_read, three_read, two_read}
 use Rattle.semver_req.proofs.PiecesRead.{filled_read, reported_same}
-use Rattle.semver_req.proofs.SpecifierRetained.{specifier_ends, specifier_retained}
+use Rattle.semver_req.proofs.SpecifierRetained.{is_non_primitive, non_primitive_ends, non_primitive_retained, specifier_ends, specifier_retained}
 use Rattle.semver_req.proofs.SpecifierRanges.{whole_reading}
 use Rattle.semver_req.proofs.Stabilizing.{less_stays}
 use Rattle.semver_req.proofs.Wider.{npm_led, pieces_wider}
@@ -277,6 +277,41 @@ comparator_piece f cuts {text} {range} p =
       is = all_retained (comparator p ∷ []) range (rw (fitting (short_front f p)).numbers_fit refl) (rw p.line.fits refl) whole;
       is_kept = rw whole (specifier_ends strict);
       no_bar = without_bar (unspaced (text_solid f p));
+    }
+
+-- ---- one comparator, as a piece
+
+kind_non_primitive : (f : Flavour) {text : List ℕ} {c : Comparator} → IsNonPrimitive f text c → is_non_primitive c ≡ true
+kind_non_primitive f (this (this m)) = ap is_non_primitive m.is
+kind_non_primitive f (this (that m)) = ap is_non_primitive m.is
+kind_non_primitive f (that m) = ap is_non_primitive m.is
+
+as_comparator : (f : Flavour) → IsCutting f → (text : List ℕ) (c : Comparator) → IsNonPrimitive f text c → IsComparator f text c
+as_comparator f npm text c h = is_npm text c h
+as_comparator f normal text c h = is_normal text c h
+
+either_false : (x y : Bool) → (x || y) ≡ false → (not x ≡ true) × (y ≡ false)
+either_false true y h = absurd (cc h)
+either_false false y h = (refl, h)
+
+no_bar_bytes : (text : List ℕ) → list_any (λ b. b == 124) text ≡ false → list_all is_no_bar text ≡ true
+no_bar_bytes [] h = refl
+no_bar_bytes (b ∷ text) h = let both = either_false (b == 124) (list_any (λ x. x == 124) text) h in rw (both.0, no_bar_bytes text both.1) refl
+
+pub single_piece : (f : Flavour) → IsCutting f → (text : List ℕ) {c : Comparator} {rest : List ℕ} {range : VersionRange} → false ≡ list_any (λ b. b == 124) text → IsLongest (IsNonPrimitive f) text c rest → true ≡ (length rest == 0)
+    → list_all numbers_fit (c ∷ []) ≡ true → list_all sums_fit (c ∷ []) ≡ true → range ≡ comparator_range c → IsShortPiece f text range
+single_piece f cuts text {c} {rest} {range} bars longest empty numbers sums is =
+    let stands = whole_front (rw (nothing rest empty) at longest) in
+    let kind = kind_non_primitive f stands in
+    let whole = is ∙ sym (non_primitive_retained c kind) in
+    record {
+      first = c;
+      others = [];
+      filled = alone f cuts text c (as_comparator f cuts text c stands);
+      closed = alone_closed f cuts text c (as_comparator f cuts text c stands);
+      is = all_retained (c ∷ []) range numbers sums whole;
+      is_kept = rw is (non_primitive_ends c kind);
+      no_bar = no_bar text (no_bar_bytes text (sym bars));
     }
 
 -- ---- comparisons, as pieces

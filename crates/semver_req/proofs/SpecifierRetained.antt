@@ -72,7 +72,7 @@ equal_stays (Val major) (Val minor) (Val patch) pre build = version_stays (lowes
 -- ---- comparators of the strict parser
 
 -- without a leading comparison operator
-abbrev is_non_primitive : Comparator → Bool
+abbrev pub is_non_primitive : Comparator → Bool
 is_non_primitive (OfPrimitive primitive_kind p) = false
 is_non_primitive c = true
 
@@ -81,14 +81,14 @@ non_primitive (this (this m)) = ap is_non_primitive m.is
 non_primitive (this (that m)) = ap is_non_primitive m.is
 non_primitive (that m) = ap is_non_primitive m.is
 
-non_primitive_retained : (c : Comparator) → is_non_primitive c ≡ true → retained_range (c ∷ []) ≡ comparator_range c
+pub non_primitive_retained : (c : Comparator) → is_non_primitive c ≡ true → retained_range (c ∷ []) ≡ comparator_range c
 non_primitive_retained (Tilde p) h = tilde_stays p.major p.minor p.patch p.pre p.build
 non_primitive_retained (Caret p) h = caret_stays p.major p.minor p.patch p.pre p.build
 non_primitive_retained (OfPrimitive primitive_kind p) h = cc h
 non_primitive_retained (Bare p) h = equal_stays p.major p.minor p.patch p.pre p.build
 non_primitive_retained (Hyphen p q) h = refl
 
-non_primitive_ends : (c : Comparator) → is_non_primitive c ≡ true → ends_at_zero (comparator_range c).end ≡ false
+pub non_primitive_ends : (c : Comparator) → is_non_primitive c ≡ true → ends_at_zero (comparator_range c).end ≡ false
 non_primitive_ends (Tilde p) h = tilde_ends p p.major p.minor
 non_primitive_ends (Caret p) h = caret_ends p p.major p.minor p.patch
 non_primitive_ends (OfPrimitive primitive_kind p) h = cc h

@@ -42,8 +42,8 @@ pub type NpmVersionReqParseError = ParserError<NpmRequirements>;
 /// The text is trimmed, and the requirement keeps the trimmed text. A text without `||` that is outside the grammar, or has a
 /// number or a bound larger than 18446744073709551615, is a tag if it is a valid one; otherwise it fails with "Unexpected
 /// character.", "Number is too large." or "Version bound is too large.". Of several alternatives the invalid ones are left
-/// out ([`RangeSetOrTag::parse_npm`]). Also fails out of memory. No piece is parsed more than twice by the full grammar,
-/// after a fast path for comparators of few numbers; each comparator takes over the bounds kept so far.
+/// out ([`RangeSetOrTag::parse_npm`]). Also fails out of memory. No piece is parsed more than three times by the full
+/// grammar, after a fast path for comparators of few numbers; each comparator takes over the bounds kept so far.
 pub fn parse_npm_version_req(
     alloc: Global,
     text: &str,

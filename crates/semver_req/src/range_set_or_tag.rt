@@ -1,24 +1,29 @@
 //! What a requirement means, version ranges or a tag, and its parsers by npm's and the normalized grammar.
 
-ghost use Rattle.std.specs.Prelude.{◌≡◌, ◌⊎◌, IfErr, IfOk, IfSome, None, Some, true, false};
+ghost use Rattle.std.specs.Prelude.{◌≡◌, ◌⊎◌, ◌==◌, IfErr, IfOk, IfSome, None, Some, true, false};
 ghost use Rattle.std.specs.Bool.{OnFalse};
+ghost use Rattle.std.specs.List.{list_any};
 ghost use Rattle.std.specs.Str.{trim};
+ghost use Rattle.semver_base.specs.Characters.{bar};
 ghost use Rattle.semver_req.specs.Outcome.{IsCutOutcome, IsOutcome, Rejected};
 ghost use Rattle.semver_req.specs.PieceReading.{IsCutRejection, rejection_failure};
 ghost use Rattle.semver_req.specs.Parsers.{IsCutReading, IsReading};
 ghost use Rattle.semver_req.specs.Pieces.{IsCutting};
 ghost use Rattle.semver_req.specs.Requirement.{MatchNoVersion, OverlapAsTags, inner_overlap, inner_text};
+ghost use Rattle.semver_req.specs.ShortComparators.{IsShortPiece};
 ghost use Rattle.semver_req.specs.Tag.{is_valid_tag};
 ghost use Rattle.semver_req.specs.declared.common.values.Flavour.TheVariants.{Normal, Npm};
 
 mod pieces;
 
+use crate::common::comparator::{Written, non_primitive_front};
 use crate::common::short::short_piece;
 use crate::common::values::Flavour;
 use crate::tag::is_valid_npm_tag;
 use pieces::read_pieces;
 pub use pieces::{FirstPiece, RangeOrInvalid, first_piece, next_piece};
 use semver_base::failure::{ParseFailure, Rejection};
+use semver_base::lexical::values::Measured;
 use semver_base::range::{VersionRange, VersionRangeSet};
 use semver_base::string::{
     CowVec, SmallStackString, StringAppendable, StringType, append_displayed,
@@ -66,6 +71,43 @@ fn short_set(
         None => return Ok(None),
     };
     Ok(Some(RangeSetOrTag::RangeSet(VersionRangeSet(ranges))))
+}
+
+// Whether a `|` is among the bytes.
+#[inline(always)]
+fn holds_bar(bytes: &[u8]) -> bool
+    ensures { result ≡ list_any (λ b. b == bar) bytes.now }
+{
+    bytes.contains(&b'|')
+}
+
+// The range of one comparator without a comparison operator, if that is the whole text and its numbers and bounds fit. `None` says
+// nothing about the text.
+#[inline(always)]
+fn single(alloc: Global, text: &str, flavour: Flavour) -> Result<Option<VersionRange>, AllocError>
+    ensures { IsCutting flavour → IfOk result (λ r. IfSome r (IsShortPiece flavour text.now)) }
+{
+    if holds_bar(text.as_bytes()) {
+        return Ok(None);
+    }
+    let Some((written, rest)) = non_primitive_front(alloc, text, flavour)? else {
+        return Ok(None);
+    };
+    let Written { operator, partial } = written;
+    let Measured::Fits(partial) = partial else {
+        return Ok(None);
+    };
+    if !rest.is_empty() {
+        drop(partial);
+        return Ok(None);
+    }
+    let range = operator.range(alloc, &partial);
+    drop(partial);
+    match range {
+        Ok(range) => Ok(Some(range)),
+        Err(failure) if failure.is_memory() => Err(AllocError),
+        Err(_) => Ok(None),
+    }
 }
 
 impl RangeSetOrTag {
@@ -120,7 +162,7 @@ impl RangeSetOrTag {
         }
     }
 
-    // Parses such a text piece by piece.
+    // Parses such a text piece by piece, if it isn't one comparator.
     #[inline(never)]
     fn parse_pieces(
         alloc: Global,
@@ -133,6 +175,10 @@ impl RangeSetOrTag {
             (λ failure. (failure ≡ None) ⊎ IsCutOutcome flavour text.now Rejected) }
         ensures rejection { IfErr result (IsCutRejection flavour text.now) }
     {
+        if let Some(range) = single(alloc, text, flavour)? {
+            let ranges = CowVec::of_one(alloc, range)?;
+            return Ok(RangeSetOrTag::RangeSet(VersionRangeSet(ranges)));
+        }
         let first = first_piece(text);
         let all = read_pieces(alloc, first, flavour)?;
         let Some(rejection) = all.rejected else {
