@@ -63,8 +63,8 @@ for (const [kind, semver] of [['ES modules', modules], ['CommonJS', common]]) {
     assert.deepEqual(semver.parseReference('npm:preact'), { kind: 'npm', package: preact, path: null, export: null });
     assert.ok(attempt(() => semver.parsePackage('@')) instanceof PackageSyntaxError);
     assert.ok(attempt(() => semver.parseReference('preact')) instanceof PackageSyntaxError);
-    const { start, end } = attempt(() => semver.parsePackage('@é/name@1..2'));
-    assert.deepEqual([start, end], [10, 12]);
+    const { start, end } = attempt(() => semver.parsePackage('@é/name@^1..2'));
+    assert.deepEqual([start, end], [11, 13]);
     const named = { scope: 'scope', name: 'name', version: '1.2.3' };
     assert.deepEqual(semver.parseNameWithVersion('@scope/name@1.2.3'), named);
     const reference = { kind: 'jsr', package: named, path: 'mod.ts', export: './mod.ts' };

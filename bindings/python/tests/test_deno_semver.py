@@ -102,8 +102,8 @@ class Errors(unittest.TestCase):
             semver.parse_package("@a")
         self.assertEqual((caught.exception.start, caught.exception.end, caught.exception.expected), (None, None, ()))
         with self.assertRaises(semver.InvalidPackage) as caught:
-            semver.parse_package("@é/name@1..2")
-        self.assertEqual((caught.exception.start, caught.exception.end), (10, 12))
+            semver.parse_package("@é/name@^1..2")
+        self.assertEqual((caught.exception.start, caught.exception.end), (11, 13))
         with self.assertRaises(semver.InvalidPackage) as caught:
             semver.parse_reference("npm:name@^/path")
         self.assertEqual((caught.exception.start, caught.exception.expected), (10, ("digit", "x", "*")))
