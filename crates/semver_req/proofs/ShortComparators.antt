@@ -552,12 +552,6 @@ hyphen_piece {text} {front} {back} {range} e p = record {
     b : IsPartial Npm back q × (partial_fits q ≡ true)
     b = short_whole Npm p.upper p.in_back
 
--- ---- which grammar splits
-
-pub only_npm : (f : Flavour) → IsCutting f → (f ≡ Normal → ⊥) → f ≡ Npm
-only_npm f npm other = refl
-only_npm f normal other = absurd (other refl)
-
 -- ---- what a short piece parses to
 
 -- alone, or with a space behind it
