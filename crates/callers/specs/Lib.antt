@@ -4,4 +4,3 @@ pub mod Lockfile
 pub mod Packages
 pub mod References
 pub mod Stored
-pub mod Versions

@@ -10,4 +10,3 @@ pub mod packages;
 pub mod requirements;
 pub mod stored;
 pub mod texts;
-pub mod versions;

@@ -2,16 +2,16 @@
 
 ghost use Rattle.std.specs.Prelude.{◌≡◌};
 ghost use Rattle.semver_req.specs.declared.common.values.Flavour.TheVariants.{Npm, Specifier};
-ghost use Rattle.deno_semver.specs.declared.package.kind.PackageKind.TheVariants as kind;
 ghost use Rattle.callers.specs.Packages.{AllowsPackage};
 ghost use Rattle.callers.specs.References.{AllowsReference};
 ghost use Rattle.callers.specs.declared.packages.Unanswered.TheVariants as why;
 ghost use Rattle.callers.specs.declared.packages.UnansweredReference.TheVariants as unanswered;
 
 use crate::requirements::{Allowance, allowance_by};
-use deno_semver::jsr::JsrPackageReqReference;
-use deno_semver::npm::{NpmPackageReqReference, NpmVersionParseError, parse_npm_version};
-use deno_semver::package::{PackageReq, PackageReqParseError, PackageReqReferenceParseError};
+use deno_semver::npm::{NpmVersionParseError, parse_npm_version};
+use deno_semver::package::{
+    PackageReq, PackageReqParseError, PackageReqReferenceParseError, Registry, RegistryReqReference,
+};
 use semver_req::laws::retained_sets_mean_their_trees;
 use std::alloc::Global;
 
@@ -92,34 +92,20 @@ impl From<NpmVersionParseError> for UnansweredReference {
     }
 }
 
-/// Does the reference to an npm package, such as `npm:@scope/name@^1.2/mod.js`, allow the version?
+/// Does the reference to a package of the registry, such as `npm:@scope/name@^1.2/mod.js`, allow the version?
 ///
 /// For every tree of comparators that the range's part of the text has, exactly if the tree means the version; a tag is
 /// returned as one. Fails with the first fault of the reference, or of the version if the reference is valid, or out of
 /// memory.
-pub fn npm_reference_allows(
+pub fn reference_allows<R: Registry>(
     alloc: Global,
     text: &str,
     version: &str,
 ) -> Result<Allowance, UnansweredReference>
-    ensures { AllowsReference kind.Npm text.now version.now result }
+    ensures { AllowsReference R.kind text.now version.now result }
 {
     retained_sets_mean_their_trees();
-    let reference = NpmPackageReqReference::from_str(alloc, text)?;
-    let version = parse_npm_version(alloc, version)?;
-    Ok(allowance_by(&reference.req().version_req, &version))
-}
-
-/// The same ([`npm_reference_allows`]) for a reference to a JSR package, such as `jsr:@scope/name@^1.2/mod.ts`.
-pub fn jsr_reference_allows(
-    alloc: Global,
-    text: &str,
-    version: &str,
-) -> Result<Allowance, UnansweredReference>
-    ensures { AllowsReference kind.Jsr text.now version.now result }
-{
-    retained_sets_mean_their_trees();
-    let reference = JsrPackageReqReference::from_str(alloc, text)?;
+    let reference = RegistryReqReference::<R>::from_str(alloc, text)?;
     let version = parse_npm_version(alloc, version)?;
     Ok(allowance_by(&reference.req().version_req, &version))
 }

@@ -1,10 +1,9 @@
 //! What does pushing one text after another write?
 
-ghost use Rattle.std.specs.Prelude.{◌≡◌, ◌++◌, ◌∷◌, IfOk, OnOk, string_bytes};
+ghost use Rattle.std.specs.Prelude.{◌≡◌, ◌++◌, ◌∷◌, IfOk};
 ghost use Rattle.semver_base.specs.Characters.{at_sign};
-ghost use Rattle.semver_base.specs.VersionText.{version_text};
 
-use deno_semver::{StringAppendable, StringType, Version};
+use deno_semver::{StringAppendable, StringType};
 use std::alloc::{AllocError, Global};
 
 /// What is `name@text`, with the text of any value, in any kind of text? The three parts, in order.
@@ -22,14 +21,4 @@ pub fn named<T: StringType, A: StringAppendable>(
     text.push('@')?;
     value.append_to(alloc, &mut text)?;
     Ok(text)
-}
-
-/// What is `name@version`? The name, an `@`, and the version's text.
-///
-/// Fails only out of memory.
-pub fn named_version(alloc: Global, name: &str, version: &Version) -> Result<String, AllocError>
-    ensures { IfOk result
-        (λ text. string_bytes text ≡ name.now ++ (at_sign ∷ version_text version.now)) }
-{
-    named::<String, Version>(alloc, name, version)
 }

@@ -5,7 +5,7 @@ use Rattle.std.specs.Bool.{Decides}
 use Rattle.std.specs.Option.{option_eq}
 use Rattle.std.specs.String.{string_eq}
 use Rattle.std.specs.declared.alloc.Global.{Global}
-use Rattle.semver_base.proofs.Equality.{both_reported, text_reported, reported_as}
+use Rattle.semver_base.specs.Sameness.{both_reported, text_reported, reported_as}
 use Rattle.conformance.specs.RowAnswer.{item_text}
 
 item_equal : (x y : Option (String Global)) → Decides (option_eq string_eq x y) (item_text x ≡ item_text y)

@@ -1,5 +1,4 @@
 pub mod Dependencies
-pub mod Equality
 pub mod ExportNames
 pub mod InnerReading
 pub mod JsonOnce

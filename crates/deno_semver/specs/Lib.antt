@@ -28,3 +28,4 @@ pub mod Specifier
 pub mod Stored
 pub mod StoredList
 pub mod Ties
+pub mod Sameness

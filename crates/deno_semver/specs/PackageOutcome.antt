@@ -1,14 +1,12 @@
 -- What the text of a package parses to, and why it is rejected. Sources: npm's package specifiers; which fault comes first is
 -- the crate `deno_semver`'s choice.
 use Rattle.std.specs.Prelude.{◌≡◌, ◌<◌, ◌∷◌, ◌⊎◌, [], ℕ, List, length, Option, Some, None, Result, Ok, Err, MatchResult, IsErrAnd, codes, if◌then◌else◌}
-use Rattle.std.specs.Str.{trim}
 use Rattle.semver_base.specs.Characters.{slash}
 use Rattle.semver_base.specs.declared.failure.ParserError.{ParserError}
 use Rattle.semver_req.specs.Outcome.{IsOutcome, Rejected}
-use Rattle.semver_req.specs.PieceReading.{IsCutRejection}
 use Rattle.semver_req.specs.Parsers.{Failure, IsReadFrom}
 use Rattle.semver_req.specs.Requirement.{Requirement, wildcard}
-use Rattle.semver_req.specs.SpecifierRejections.{IsSpecifierRejection}
+use Rattle.semver_req.specs.TextRejection.{IsTextRejection}
 use Rattle.semver_req.specs.declared.common.values.Flavour.{Flavour}
 use Rattle.semver_req.specs.declared.common.values.Flavour.TheVariants.{Npm, Normal, Specifier}
 use Rattle.deno_semver.specs.PackageText.{IsPackageText, IsScopeAlone, LacksPart, PackageParts, lacks_at, scoped_name, without_slash}
@@ -59,12 +57,6 @@ pub data IsPackageOutcome (f : Flavour) (text : List ℕ) : Result PackageReq Fa
 
 -- ---- results
 
--- why the grammar of a flavour rejects the version's text
-abbrev pub IsRejectionOf : Flavour → List ℕ → Failure → Type 0
-IsRejectionOf Specifier text = IsSpecifierRejection text
-IsRejectionOf Npm text = IsCutRejection Npm (trim text)
-IsRejectionOf Normal text = IsCutRejection Normal text
-
 -- a parser's error with this failure
 abbrev pub failed : {P : Type 0} → Failure → ParserError P
 failed failure = record { source = failure; parsed = record {} }
@@ -84,7 +76,7 @@ abbrev pub Reports : Flavour → Fault → PackageReqPartsParseError → Type 0
 Reports f NoName e = e ≡ parts.NoPackageName
 Reports f BadName e = e ≡ parts.InvalidPackageName
 Reports f (BadVersion version) e =
-    (failure : Failure) × (failure ≡ None → ⊥) × IsRejectionOf f version failure × (e ≡ rejected_by f failure)
+    (failure : Failure) × (failure ≡ None → ⊥) × IsTextRejection f version failure × (e ≡ rejected_by f failure)
 Reports f (HasPath path) e = e ≡ parts.SpecifierVersionReq (failed (path_failure path))
 Reports f NoAt e = e ≡ parts.MissingAtSymbol
 

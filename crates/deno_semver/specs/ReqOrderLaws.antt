@@ -19,7 +19,7 @@ use Rattle.semver_base.specs.declared.version.Version.{Version}
 use Rattle.semver_req.specs.Requirement.{tag_of}
 use Rattle.semver_req.specs.declared.range_set_or_tag.RangeSetOrTag.{RangeSetOrTag}
 use Rattle.semver_req.specs.declared.range_set_or_tag.RangeSetOrTag.TheVariants as inner
-use Rattle.semver_req.proofs.Equality.{inner_eq, inner_reported}
+use Rattle.semver_req.specs.Sameness.{inner_eq, inner_reported}
 use Rattle.deno_semver.specs.Equal.{AreEqualReqs}
 use Rattle.deno_semver.specs.ReqOrder.{bound_kinds_cmp, bound_place, bound_versions_cmp, build_of, builds_cmp, end_cmp, inner_cmp, kind_place, range_cmp, ranges_of, req_cmp, start_cmp, text_cmp, version_bound_of}
 use Rattle.deno_semver.specs.Ties.{then_ties}

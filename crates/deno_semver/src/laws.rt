@@ -2,44 +2,68 @@
 //!
 //! `==` of each type in this crate holds exactly if the two values are the same, as contracts see them; of package
 //! requirements, if the names are the same and the version requirements mean the same. A caller whose proof needs this calls
-//! the type's law in place of `==`. Equal values hash alike: `equal_hash_alike` of `semver_base` says so of each type that
-//! has `Hash`.
+//! `Same::is_same` of `semver_base`, or a function here, in place of `==`. Equal values hash alike: `equal_hash_alike` of
+//! `semver_base` says so of each type that has `Hash`.
 
 ghost use Rattle.std.specs.Prelude.{◌≡◌, ◌↔◌, IsTrue};
+ghost use Rattle.std.proofs.Common.{rules};
 ghost use Rattle.deno_semver.specs.Equal.{AreEqualDependencies, AreEqualReferences};
 ghost use Rattle.deno_semver.specs.Json.{IsJsonOfRange, IsJsonOfSet, IsJsonOfVersionReq, IsStringOf, IsTextOfDependency, IsTextOfNv, IsTextOfReference, IsTextOfReq, IsTextOfVersion};
 ghost use Rattle.deno_semver.specs.OneOutcome.{DependenciesHaveOneOutcome, NamesWithVersionsHaveOneOutcome, PackageTextsHaveOneCut, PackageTextsHaveOneOutcome, ReferencesHaveOneOutcome, ParsesToOne, VersionReferencesHaveOneOutcome};
 ghost use Rattle.deno_semver.specs.ReferenceOutcome.{unboxed};
+ghost use Rattle.deno_semver.specs.Sameness.{nv_reference_reported, nv_reported};
 ghost use Rattle.deno_semver.specs.Stored.{StoredRequirementsAreReadAgain};
 ghost use Rattle.deno_semver.specs.StoredList.{IsJsonOfReqs};
 ghost use Rattle.deno_semver.specs.declared.package.kind.PackageKind.{PackageKind};
 
 use crate::json::JsonError;
-use crate::jsr::{JsrDepPackageReq, JsrPackageNvReference, JsrPackageReqReference};
-use crate::npm::{NpmPackageNvReference, NpmPackageReqReference};
+use crate::jsr::JsrDepPackageReq;
 use crate::package::{
     PackageKind, PackageNv, PackageNvReference, PackageReq, PackageReqPartsParseError,
     PackageReqReference, PackageReqReferenceInvalidParseError,
-    PackageReqReferenceInvalidWithVersionParseError, PackageReqReferenceParseError, SpecifierError,
+    PackageReqReferenceInvalidWithVersionParseError, PackageReqReferenceParseError,
+    RegistryNvReference, RegistryReqReference, SpecifierError,
 };
-use semver_base::laws::version_texts_have_one_outcome;
+use semver_base::laws::{Same, version_texts_have_one_outcome};
 use semver_req::laws::{
     normal_texts_keep_their_meaning, one_rereading_stabilizes, read_requirements_are_answers,
     requirements_hold_no_separator, star_is_any_version, tags_read_back, texts_have_one_outcome,
 };
 
-/// Whether two registries are the same.
-pub fn same_kinds(one: &PackageKind, other: &PackageKind) -> bool
-    ensures { IsTrue result ↔ (one.now ≡ other.now) }
-{
-    one == other
+impl Same for PackageKind {
+    ghost decides = { Prim.search rules };
 }
 
-/// Whether two names with versions are the same, builds included.
-pub fn same_names_and_versions(one: &PackageNv, other: &PackageNv) -> bool
-    ensures { IsTrue result ↔ (one.now ≡ other.now) }
-{
-    one == other
+impl Same for PackageNv {
+    ghost decides = { nv_reported };
+}
+
+impl Same for PackageNvReference {
+    ghost decides = { nv_reference_reported };
+}
+
+impl<R> Same for RegistryNvReference<R> {
+    ghost decides = { nv_reference_reported };
+}
+
+impl Same for PackageReqPartsParseError {
+    ghost decides = { Prim.search rules };
+}
+
+impl Same for PackageReqReferenceInvalidParseError {
+    ghost decides = { Prim.search rules };
+}
+
+impl Same for PackageReqReferenceInvalidWithVersionParseError {
+    ghost decides = { Prim.search rules };
+}
+
+impl Same for SpecifierError {
+    ghost decides = { Prim.search rules };
+}
+
+impl Same for JsonError {
+    ghost decides = { Prim.search rules };
 }
 
 /// Whether two package requirements are equal: their names are the same and they mean the same, whatever texts they were
@@ -51,20 +75,6 @@ pub fn equal_package_requirements(one: &PackageReq, other: &PackageReq) -> bool
     one == other
 }
 
-/// Whether two errors are the same.
-pub fn same_parts_errors(one: &PackageReqPartsParseError, other: &PackageReqPartsParseError) -> bool
-    ensures { IsTrue result ↔ (one.now ≡ other.now) }
-{
-    one == other
-}
-
-/// Whether two JSON errors are the same.
-pub fn same_json_errors(one: &JsonError, other: &JsonError) -> bool
-    ensures { IsTrue result ↔ (one.now ≡ other.now) }
-{
-    one == other
-}
-
 /// Whether two references are equal: their package requirements are equal, and their paths are the same.
 pub fn equal_references(one: &PackageReqReference, other: &PackageReqReference) -> bool
     ensures { IsTrue result ↔ AreEqualReferences one.now other.now }
@@ -72,43 +82,12 @@ pub fn equal_references(one: &PackageReqReference, other: &PackageReqReference) 
     one == other
 }
 
-/// Whether two references to JSR packages are equal.
-pub fn equal_jsr_references(one: &JsrPackageReqReference, other: &JsrPackageReqReference) -> bool
-    ensures { IsTrue result ↔ AreEqualReferences one.now other.now }
-{
-    one == other
-}
-
-/// Whether two references to npm packages are equal.
-pub fn equal_npm_references(one: &NpmPackageReqReference, other: &NpmPackageReqReference) -> bool
-    ensures { IsTrue result ↔ AreEqualReferences one.now other.now }
-{
-    one == other
-}
-
-/// Whether two references to versions are the same, builds included.
-pub fn same_version_references(one: &PackageNvReference, other: &PackageNvReference) -> bool
-    ensures { IsTrue result ↔ (one.now ≡ other.now) }
-{
-    one == other
-}
-
-/// Whether two references to versions of JSR packages are the same, builds included.
-pub fn same_jsr_version_references(
-    one: &JsrPackageNvReference,
-    other: &JsrPackageNvReference,
+/// Whether two references to packages of a registry are equal.
+pub fn equal_registry_references<R>(
+    one: &RegistryReqReference<R>,
+    other: &RegistryReqReference<R>,
 ) -> bool
-    ensures { IsTrue result ↔ (one.now ≡ other.now) }
-{
-    one == other
-}
-
-/// Whether two references to versions of npm packages are the same, builds included.
-pub fn same_npm_version_references(
-    one: &NpmPackageNvReference,
-    other: &NpmPackageNvReference,
-) -> bool
-    ensures { IsTrue result ↔ (one.now ≡ other.now) }
+    ensures { IsTrue result ↔ AreEqualReferences one.now other.now }
 {
     one == other
 }
@@ -126,33 +105,6 @@ pub fn same_reference_errors(
     other: &PackageReqReferenceParseError,
 ) -> bool
     ensures { IsTrue result ↔ (unboxed one.now ≡ unboxed other.now) }
-{
-    one == other
-}
-
-/// Whether two errors are the same.
-pub fn same_invalid_errors(
-    one: &PackageReqReferenceInvalidParseError,
-    other: &PackageReqReferenceInvalidParseError,
-) -> bool
-    ensures { IsTrue result ↔ (one.now ≡ other.now) }
-{
-    one == other
-}
-
-/// Whether two errors are the same.
-pub fn same_path_errors(
-    one: &PackageReqReferenceInvalidWithVersionParseError,
-    other: &PackageReqReferenceInvalidWithVersionParseError,
-) -> bool
-    ensures { IsTrue result ↔ (one.now ≡ other.now) }
-{
-    one == other
-}
-
-/// Whether two errors are the same.
-pub fn same_url_errors(one: &SpecifierError, other: &SpecifierError) -> bool
-    ensures { IsTrue result ↔ (one.now ≡ other.now) }
 {
     one == other
 }

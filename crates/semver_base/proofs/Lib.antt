@@ -3,7 +3,6 @@ pub mod Bytes
 pub mod ClampLemmas
 pub mod ClampMeaning
 pub mod Containment
-pub mod Equality
 pub mod Fronts
 pub mod Identifiers
 pub mod LowestAbove

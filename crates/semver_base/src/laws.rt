@@ -1,7 +1,7 @@
 //! Laws of equality and hashing, each as the contract of a call.
 //!
 //! `==` on each type of this crate is true exactly if the two values are the same, as contracts see them; on `CowVec` and
-//! `Measured`, if `==` on their contents is. A caller whose proof needs that calls the type's law instead of `==`.
+//! `Measured`, if `==` on their contents is. A caller whose proof needs that calls [`Same::is_same`] instead of `==`.
 //!
 //! Equal values hash alike: they write the same to every `Hasher`. `equal_hash_alike` says so for each type with `Hash`.
 //!
@@ -9,10 +9,13 @@
 //! ensure.
 
 ghost use Rattle.std.specs.Prelude.{◌≡◌, ◌↔◌, IsTrue};
+ghost use Rattle.std.proofs.Common.{rules};
+ghost use Rattle.std.specs.Cmp.Lexicographic.{pointwise_decides};
 ghost use Rattle.semver_base.specs.Clamp.{ClampedRangesMeanBoth};
+ghost use Rattle.semver_base.specs.Sameness.{ReportsSame, kind_reported, range_bound_reported, range_reported, range_set_reported, text_reported, version_bound_reported};
 ghost use Rattle.semver_base.specs.LowestVersion.{ReadVersionsAreReadable};
 ghost use Rattle.semver_base.specs.NormalTable.{IsNormalTable};
-ghost use Rattle.semver_base.specs.Sameness.{ReportsSame};
+ghost use Rattle.semver_base.specs.PrecedenceLaws.{version_reported};
 ghost use Rattle.semver_base.specs.VersionText.{VersionTextsAreBare, VersionTextsHaveOneOutcome, VersionTextsReadBack};
 
 use crate::failure::{ParseFailure, ParserError, Rejection};
@@ -21,120 +24,85 @@ use crate::partial::{PrimitiveKind, XRange};
 use crate::range::{
     PreRelease, RangeBound, VersionBound, VersionBoundKind, VersionRange, VersionRangeSet,
 };
-use crate::string::{CowVec, SmallStackString};
+use crate::string::{CowVec, ShortText};
 use crate::version::Version;
 use std::hash::Hash;
 
-/// Whether two texts are the same.
-pub fn same_texts(one: &SmallStackString, other: &SmallStackString) -> bool
-    ensures { IsTrue result ↔ (one.now ≡ other.now) }
-{
-    one == other
+/// A type whose `==` is true exactly if two values are the same, as contracts see them.
+pub trait Same: PartialEq {
+    /// Whether two values are the same, as `==` says.
+    fn is_same(&self, other: &Self) -> bool
+        ensures { IsTrue result ↔ (self.now ≡ other.now) }
+    {
+        self == other
+    }
+
+    /// `==` decides that.
+    ghost decides: { ReportsSame Self.eq };
 }
 
-/// Whether two lists are the same, if `==` on their items is sameness.
-pub fn same_lists<T: PartialEq>(one: &CowVec<T>, other: &CowVec<T>) -> bool
-    ensures { ReportsSame T.eq → (IsTrue result ↔ (one.now ≡ other.now)) }
-{
-    one == other
+impl<const LIMIT: usize> Same for ShortText<LIMIT> {
+    ghost decides = { text_reported };
 }
 
-/// Whether two [`Rejection`]s are the same.
-pub fn same_rejections(one: &Rejection, other: &Rejection) -> bool
-    ensures { IsTrue result ↔ (one.now ≡ other.now) }
-{
-    one == other
+impl<T: Same> Same for CowVec<T> {
+    ghost decides = { pointwise_decides T.decides };
 }
 
-/// Whether two failures are the same: both are out of memory, or have the same message and snippet.
-pub fn same_failures(one: &ParseFailure, other: &ParseFailure) -> bool
-    ensures { IsTrue result ↔ (one.now ≡ other.now) }
-{
-    one == other
+impl Same for Rejection {
+    ghost decides = { Prim.search rules };
 }
 
-/// Whether two grammars are the same.
-pub fn same_strictness(one: &Strictness, other: &Strictness) -> bool
-    ensures { IsTrue result ↔ (one.now ≡ other.now) }
-{
-    one == other
+impl Same for ParseFailure {
+    ghost decides = { Prim.search rules };
 }
 
-/// Whether two parsed values are the same, if `==` on their contents is sameness.
-pub fn same_measured<T: PartialEq>(one: &Measured<T>, other: &Measured<T>) -> bool
-    ensures { ReportsSame T.eq → (IsTrue result ↔ (one.now ≡ other.now)) }
-{
-    one == other
+impl<P> Same for ParserError<P> {
+    ghost decides = { Prim.search rules };
 }
 
-/// Whether two versions are the same, builds included.
-pub fn same_versions(one: &Version, other: &Version) -> bool
-    ensures { IsTrue result ↔ (one.now ≡ other.now) }
-{
-    one == other
+impl Same for Strictness {
+    ghost decides = { Prim.search rules };
 }
 
-/// Whether two errors of a parser are the same.
-pub fn same_errors<P>(one: &ParserError<P>, other: &ParserError<P>) -> bool
-    ensures { IsTrue result ↔ (one.now ≡ other.now) }
-{
-    one == other
+impl<T: Same> Same for Measured<T> {
+    ghost decides = { Prim.search (rules, T.decides) };
 }
 
-/// Whether two kinds of bound are the same.
-pub fn same_bound_kinds(one: &VersionBoundKind, other: &VersionBoundKind) -> bool
-    ensures { IsTrue result ↔ (one.now ≡ other.now) }
-{
-    one == other
+impl Same for Version {
+    ghost decides = { version_reported };
 }
 
-/// Whether two rules about pre-releases are the same.
-pub fn same_pre_releases(one: &PreRelease, other: &PreRelease) -> bool
-    ensures { IsTrue result ↔ (one.now ≡ other.now) }
-{
-    one == other
+impl Same for VersionBoundKind {
+    ghost decides = { kind_reported };
 }
 
-/// Whether two bounds at versions are the same, kinds included.
-pub fn same_version_bounds(one: &VersionBound, other: &VersionBound) -> bool
-    ensures { IsTrue result ↔ (one.now ≡ other.now) }
-{
-    one == other
+impl Same for PreRelease {
+    ghost decides = { Prim.search rules };
 }
 
-/// Whether two bounds are the same; an absent bound is the same only as another absent one.
-pub fn same_range_bounds(one: &RangeBound, other: &RangeBound) -> bool
-    ensures { IsTrue result ↔ (one.now ≡ other.now) }
-{
-    one == other
+impl Same for VersionBound {
+    ghost decides = { version_bound_reported };
 }
 
-/// Whether two ranges have the same bounds; two that include the same versions may differ.
-pub fn same_ranges(one: &VersionRange, other: &VersionRange) -> bool
-    ensures { IsTrue result ↔ (one.now ≡ other.now) }
-{
-    one == other
+impl Same for RangeBound {
+    ghost decides = { range_bound_reported };
 }
 
-/// Whether two sets have the same ranges in the same order.
-pub fn same_range_sets(one: &VersionRangeSet, other: &VersionRangeSet) -> bool
-    ensures { IsTrue result ↔ (one.now ≡ other.now) }
-{
-    one == other
+impl Same for VersionRange {
+    ghost decides = { range_reported };
 }
 
-/// Whether two components are the same.
-pub fn same_components(one: &XRange, other: &XRange) -> bool
-    ensures { IsTrue result ↔ (one.now ≡ other.now) }
-{
-    one == other
+impl Same for VersionRangeSet {
+    ghost decides = { range_set_reported };
 }
 
-/// Whether two operators are the same.
-pub fn same_primitive_kinds(one: &PrimitiveKind, other: &PrimitiveKind) -> bool
-    ensures { IsTrue result ↔ (one.now ≡ other.now) }
-{
-    one == other
+impl Same for XRange {
+    ghost decides = { Prim.search rules };
+}
+
+impl Same for PrimitiveKind {
+    ghost decides = { Prim.search rules };
 }
 
 /// Whether two values are equal; equal values write the same to every hasher.

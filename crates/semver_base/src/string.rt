@@ -17,7 +17,7 @@ mod append;
 mod inline_items;
 mod list;
 
-pub use append::{StringAppendable, StringType, append_displayed, displayed};
+pub use append::{StringAppendable, StringType, displayed};
 use arrayvec::ArrayString;
 pub use list::{CowItem, CowVec};
 use std::alloc::{AllocError, Global};
@@ -408,6 +408,8 @@ impl<const LIMIT: usize> StringAppendable for ShortText<LIMIT> {
     fn append_to<T: StringType>(&self, _alloc: Global, target: &mut T) -> Result<(), AllocError> {
         target.push_str(self.as_str())
     }
+
+    ghost displays = { λ s. refl };
 }
 
 impl<const LIMIT: usize> CowItem for ShortText<LIMIT> {

@@ -3,7 +3,6 @@ pub mod WhitespaceBehind
 pub mod ComparatorReadings
 pub mod Components
 pub mod Cuts
-pub mod Equality
 pub mod Fitting
 pub mod Folding
 pub mod Hyphens

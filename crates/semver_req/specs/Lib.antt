@@ -22,3 +22,4 @@ pub mod Kinds
 pub mod Causes
 pub mod Resolve
 pub mod ResolveSteps
+pub mod Sameness

@@ -1,34 +1,31 @@
 //! Laws of requirements and of their grammars, each as the contract of a call.
 //!
 //! `==` on each type of this crate is true exactly if the two values are the same, as contracts see them; on requirements, if
-//! their ranges or tags are. A caller whose proof needs that calls the type's law instead of `==`. Equal values hash alike:
-//! `equal_hash_alike` of `semver_base` says so for each type with `Hash`.
+//! their ranges or tags are. A caller whose proof needs that calls `Same::is_same` of `semver_base`, or [`equal_requirements`], instead
+//! of `==`. Equal values hash alike: `equal_hash_alike` of `semver_base` says so for each type with `Hash`.
 //!
 //! The laws of the grammars are about texts and ranges alone. Their calls do nothing: a caller cites what they ensure.
 
 ghost use Rattle.std.specs.Prelude.{◌≡◌, ◌↔◌, IsTrue};
+ghost use Rattle.std.proofs.Common.{rules};
 ghost use Rattle.semver_req.specs.RetainedSet.{RetainedSetsMeanTheirTrees};
 ghost use Rattle.semver_req.specs.Outcome.{TextsHaveOneOutcome};
 ghost use Rattle.semver_req.specs.Pieces.{NormalPiecesAreNpms};
 ghost use Rattle.semver_req.specs.Parsers.{ReadRequirementsAreAnswers};
+ghost use Rattle.semver_req.specs.Sameness.{inner_reported};
 ghost use Rattle.semver_req.specs.Rereading.{NormalTextsAreEquivalent, NormalTextsHoldNoSeparator, NormalTextsKeepTheirMeaning, OneRereadingStabilizes, RangesAreWrittenAsPieces, ReadRangesAreWritable, StableSetsAreTheirTexts, StarIsAnyVersion, TagsHoldNoSeparator, TagsReadBack};
 
 use crate::common::values::Flavour;
 use crate::range_set_or_tag::RangeSetOrTag;
 use crate::req::VersionReq;
+use semver_base::laws::Same;
 
-/// Whether two grammars are the same.
-pub fn same_flavours(one: &Flavour, other: &Flavour) -> bool
-    ensures { IsTrue result ↔ (one.now ≡ other.now) }
-{
-    one == other
+impl Same for Flavour {
+    ghost decides = { Prim.search rules };
 }
 
-/// Whether two requirements mean the same: the same ranges in the same order, or the same tag.
-pub fn same_inner(one: &RangeSetOrTag, other: &RangeSetOrTag) -> bool
-    ensures { IsTrue result ↔ (one.now ≡ other.now) }
-{
-    one == other
+impl Same for RangeSetOrTag {
+    ghost decides = { inner_reported };
 }
 
 /// Whether two requirements are equal: their ranges or tags are, whatever texts they were parsed from.

@@ -1,6 +1,6 @@
 //! What a requirement means, version ranges or a tag, and its parsers by npm's and the normalized grammar.
 
-ghost use Rattle.std.specs.Prelude.{◌≡◌, ◌⊎◌, ◌==◌, IfErr, IfOk, IfSome, None, Some, true, false};
+ghost use Rattle.std.specs.Prelude.{◌≡◌, ◌⊎◌, ◌==◌, IfErr, IfOk, IfSome, None, Some, true, false, refl};
 ghost use Rattle.std.specs.Bool.{OnFalse};
 ghost use Rattle.std.specs.List.{list_any};
 ghost use Rattle.std.specs.Str.{trim};
@@ -25,9 +25,7 @@ pub use pieces::{FirstPiece, RangeOrInvalid, first_piece, next_piece};
 use semver_base::failure::{ParseFailure, Rejection};
 use semver_base::lexical::values::Measured;
 use semver_base::range::{VersionRange, VersionRangeSet};
-use semver_base::string::{
-    CowVec, SmallStackString, StringAppendable, StringType, append_displayed,
-};
+use semver_base::string::{CowVec, SmallStackString, StringAppendable};
 use std::alloc::{AllocError, Global};
 use std::fmt;
 
@@ -238,7 +236,5 @@ impl fmt::Display for RangeSetOrTag {
 impl StringAppendable for RangeSetOrTag {
     ghost text = { inner_text };
 
-    fn append_to<T: StringType>(&self, alloc: Global, target: &mut T) -> Result<(), AllocError> {
-        append_displayed(self, alloc, target)
-    }
+    ghost displays = { λ x. refl };
 }

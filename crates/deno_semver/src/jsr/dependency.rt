@@ -9,7 +9,7 @@ ghost use Rattle.deno_semver.specs.declared.jsr.dependency.JsrDepPackageReq.{Jsr
 ghost use Rattle.deno_semver.specs.declared.package.kind.PackageKind.TheVariants as kind;
 
 use crate::package::{PackageKind, PackageReq, PackageReqParseError, package_req};
-use semver_base::string::{StackString, StringAppendable, StringType, append_displayed, displayed};
+use semver_base::string::{StackString, StringAppendable, displayed};
 use semver_req::common::values::Flavour;
 use std::alloc::{AllocError, Global};
 use std::cmp::Ordering;
@@ -226,9 +226,7 @@ impl fmt::Display for JsrDepPackageReq {
 impl StringAppendable for JsrDepPackageReq {
     ghost text = { dependency_text };
 
-    fn append_to<T: StringType>(&self, alloc: Global, target: &mut T) -> Result<(), AllocError> {
-        append_displayed(self, alloc, target)
-    }
+    ghost displays = { λ x. refl };
 }
 
 impl PartialOrd for JsrDepPackageReq {

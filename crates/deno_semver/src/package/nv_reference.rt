@@ -14,9 +14,7 @@ use super::name_version::{PackageNvParseError, memory, nv_at_front, unexpected};
 use super::sub_path::copied_sub_path;
 use super::values::{PackageNv, PackageSubPath};
 use semver_base::lexical::after;
-use semver_base::string::{
-    SmallStackString, StackString, StringAppendable, StringType, append_displayed,
-};
+use semver_base::string::{SmallStackString, StackString, StringAppendable};
 use std::alloc::{AllocError, Global};
 use std::cmp::Ordering;
 use std::fmt;
@@ -151,9 +149,7 @@ impl fmt::Display for PackageNvReference {
 impl StringAppendable for PackageNvReference {
     ghost text = { nv_reference_text };
 
-    fn append_to<T: StringType>(&self, alloc: Global, target: &mut T) -> Result<(), AllocError> {
-        append_displayed(self, alloc, target)
-    }
+    ghost displays = { λ x. refl };
 }
 
 impl PartialOrd for PackageNvReference {

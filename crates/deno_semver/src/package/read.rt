@@ -2,8 +2,7 @@
 
 ghost use Rattle.std.specs.Prelude.{◌≡◌, ◌⊎◌, IfErr, IfOk, Ok, Result, Some};
 ghost use Rattle.std.specs.Option.{option_copied};
-ghost use Rattle.semver_req.specs.declared.common.values.Flavour.TheVariants.{Normal, Npm, Specifier};
-ghost use Rattle.deno_semver.specs.PackageOutcome.{Fault, IsPackageAnswer, IsPackageOutcome, IsPackageRejection, IsVersionReq, IsOutOfMemory};
+ghost use Rattle.deno_semver.specs.PackageOutcome.{Fault, IsPackageAnswer, IsPackageOutcome, IsPackageRejection, IsOutOfMemory, IsVersionReq, rejected_by};
 ghost use Rattle.deno_semver.specs.PackageReading.{IsPartsRejection, IsPathError, IsReadPackage, IsVersionRejection, ReportsSource, reported_source};
 ghost use Rattle.deno_semver.specs.ReferenceReading.{IsFrontError, IsReadWithPath};
 ghost use Rattle.deno_semver.specs.declared.package.values.PackageReq.{PackageReq};
@@ -11,56 +10,21 @@ ghost use Rattle.deno_semver.specs.declared.package.values.PackageReq.{PackageRe
 use super::cut::{Cut, lacks_at, parts_of};
 use super::errors::{PackageReqParseError, PackageReqPartsParseError};
 use super::values::{PackageName, PackageReq};
-use semver_base::failure::{ParseFailure, ParserError};
+use semver_base::failure::ParseFailure;
 use semver_base::string::StackString;
 use semver_req::common::values::Flavour;
 use semver_req::laws::texts_have_one_outcome;
 use semver_req::req::{VersionReq, wildcard_version_req};
 use std::alloc::Global;
-use std::marker::PhantomData;
 
-// Parses a version requirement by the strict grammar.
-fn specifier(alloc: Global, text: &str) -> Result<VersionReq, PackageReqPartsParseError>
-    ensures read { IfOk result (IsVersionReq Specifier (Some text.now)) }
-    ensures rejected { IfErr result (IsVersionRejection Specifier text.now) }
+// The error for a version's text that the grammar of a flavour rejects.
+fn version_error(flavour: Flavour, source: ParseFailure) -> PackageReqPartsParseError
+    ensures { result ≡ rejected_by flavour source }
 {
-    match VersionReq::parse_from_specifier(alloc, text) {
-        Ok(req) => Ok(req),
-        Err(error) if error.is_memory() => {
-            drop(error);
-            Err(PackageReqPartsParseError::Memory)
-        }
-        Err(error) => Err(PackageReqPartsParseError::SpecifierVersionReq(error)),
-    }
-}
-
-// Parses a version requirement by npm's grammar.
-fn npm(alloc: Global, text: &str) -> Result<VersionReq, PackageReqPartsParseError>
-    ensures read { IfOk result (IsVersionReq Npm (Some text.now)) }
-    ensures rejected { IfErr result (IsVersionRejection Npm text.now) }
-{
-    match VersionReq::parse_from_npm(alloc, text) {
-        Ok(req) => Ok(req),
-        Err(error) if error.is_memory() => {
-            drop(error);
-            Err(PackageReqPartsParseError::Memory)
-        }
-        Err(error) => Err(PackageReqPartsParseError::NpmVersionReq(error)),
-    }
-}
-
-// Parses a version requirement by the normalized grammar.
-fn normalized(alloc: Global, text: &str) -> Result<VersionReq, PackageReqPartsParseError>
-    ensures read { IfOk result (IsVersionReq Normal (Some text.now)) }
-    ensures rejected { IfErr result (IsVersionRejection Normal text.now) }
-{
-    match VersionReq::parse_from_normalized(alloc, text) {
-        Ok(req) => Ok(req),
-        Err(error) if error.is_memory() => {
-            drop(error);
-            Err(PackageReqPartsParseError::Memory)
-        }
-        Err(error) => Err(PackageReqPartsParseError::NormalizedVersionReq(error)),
+    match flavour {
+        Flavour::Specifier => PackageReqPartsParseError::SpecifierVersionReq(source.into()),
+        Flavour::Npm => PackageReqPartsParseError::NpmVersionReq(source.into()),
+        Flavour::Normal => PackageReqPartsParseError::NormalizedVersionReq(source.into()),
     }
 }
 
@@ -73,10 +37,13 @@ fn version_req(
     ensures read { IfOk result (IsVersionReq flavour (Some text.now)) }
     ensures rejected { IfErr result (IsVersionRejection flavour text.now) }
 {
-    match flavour {
-        Flavour::Npm => npm(alloc, text),
-        Flavour::Normal => normalized(alloc, text),
-        Flavour::Specifier => specifier(alloc, text),
+    match VersionReq::parse(alloc, text, flavour) {
+        Ok(req) => Ok(req),
+        Err(failure) if failure.is_memory() => {
+            drop(failure);
+            Err(PackageReqPartsParseError::Memory)
+        }
+        Err(failure) => Err(version_error(flavour, failure)),
     }
 }
 
@@ -107,10 +74,7 @@ fn path_error(alloc: Global, tail: &str) -> PackageReqPartsParseError
         drop(source);
         return PackageReqPartsParseError::Memory;
     }
-    PackageReqPartsParseError::SpecifierVersionReq(ParserError {
-        source,
-        parsed: PhantomData,
-    })
+    version_error(Flavour::Specifier, source)
 }
 
 // The package requirement made of a name and a version's text.

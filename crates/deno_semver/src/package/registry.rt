@@ -21,7 +21,7 @@ use super::reference_errors::PackageReqReferenceParseError;
 use super::specifier::{SpecifierError, specifier_of};
 use super::sub_path::sub_path_text;
 use super::values::{PackageNv, PackageReq};
-use semver_base::string::{StringAppendable, StringType, append_displayed};
+use semver_base::string::StringAppendable;
 use std::alloc::{AllocError, Global};
 use std::cmp::Ordering;
 use std::fmt;
@@ -157,9 +157,7 @@ impl<R: Registry> fmt::Display for RegistryReqReference<R> {
 impl<R: Registry> StringAppendable for RegistryReqReference<R> {
     ghost text = { λ reference. with_scheme R.kind (reference_text reference) };
 
-    fn append_to<T: StringType>(&self, alloc: Global, target: &mut T) -> Result<(), AllocError> {
-        append_displayed(self, alloc, target)
-    }
+    ghost displays = { λ x. refl };
 }
 
 /// A reference to one version of a package of the registry and, optionally, to the path of a module in it.
@@ -286,9 +284,7 @@ impl<R: Registry> fmt::Display for RegistryNvReference<R> {
 impl<R: Registry> StringAppendable for RegistryNvReference<R> {
     ghost text = { λ reference. with_scheme R.kind (nv_reference_text reference) };
 
-    fn append_to<T: StringType>(&self, alloc: Global, target: &mut T) -> Result<(), AllocError> {
-        append_displayed(self, alloc, target)
-    }
+    ghost displays = { λ x. refl };
 }
 
 impl<R: Registry> PartialOrd for RegistryNvReference<R> {

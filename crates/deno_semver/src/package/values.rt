@@ -7,12 +7,10 @@ ghost use Rattle.deno_semver.specs.NameAndVersion.{nv_text, scope_of};
 ghost use Rattle.deno_semver.specs.NvOrder.{nv_cmp, nv_po, nv_ties, nv_total};
 ghost use Rattle.deno_semver.specs.RequirementText.{req_text};
 
-use semver_base::string::{
-    SmallStackString, StackString, StringAppendable, StringType, append_displayed,
-};
+use semver_base::string::{SmallStackString, StackString, StringAppendable};
 use semver_base::version::Version;
 use semver_req::req::VersionReq;
-use std::alloc::{AllocError, Global};
+use std::alloc::AllocError;
 use std::cmp::Ordering;
 use std::fmt;
 
@@ -60,9 +58,7 @@ impl fmt::Display for PackageReq {
 impl StringAppendable for PackageReq {
     ghost text = { req_text };
 
-    fn append_to<T: StringType>(&self, alloc: Global, target: &mut T) -> Result<(), AllocError> {
-        append_displayed(self, alloc, target)
-    }
+    ghost displays = { λ x. refl };
 }
 
 /// A package's name and one of its versions.
@@ -113,9 +109,7 @@ impl fmt::Display for PackageNv {
 impl StringAppendable for PackageNv {
     ghost text = { nv_text };
 
-    fn append_to<T: StringType>(&self, alloc: Global, target: &mut T) -> Result<(), AllocError> {
-        append_displayed(self, alloc, target)
-    }
+    ghost displays = { λ x. refl };
 }
 
 impl PartialOrd for PackageNv {

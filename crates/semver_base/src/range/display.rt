@@ -1,6 +1,6 @@
 //! Formatting of ranges and range sets.
 
-ghost use Rattle.std.specs.Prelude.{◌≡◌, ◌+◌, ◌++◌, ◌==◌, ◌∷◌, [], Some, codes};
+ghost use Rattle.std.specs.Prelude.{◌≡◌, ◌+◌, ◌++◌, ◌==◌, ◌∷◌, [], Some, codes, refl};
 ghost use Rattle.std.specs.Fmt.{DisplaysOnOk};
 ghost use Rattle.std.specs.List.{flat_map};
 ghost use Rattle.semver_base.specs.Forms.{form_comparators};
@@ -10,7 +10,7 @@ ghost use Rattle.semver_base.specs.Shortest.{ending, is_release_of, shortest_bet
 ghost use Rattle.semver_base.specs.VersionText.{version_text};
 
 use crate::range::{RangeBound, VersionBound, VersionBoundKind, VersionRange, VersionRangeSet};
-use crate::string::{StringAppendable, StringType, append_displayed};
+use crate::string::StringAppendable;
 use crate::version::{Version, is_unqualified};
 use std::alloc::{AllocError, Global};
 use std::fmt;
@@ -240,9 +240,7 @@ impl fmt::Display for VersionRange {
 impl StringAppendable for VersionRange {
     ghost text = { range_text };
 
-    fn append_to<T: StringType>(&self, alloc: Global, target: &mut T) -> Result<(), AllocError> {
-        append_displayed(self, alloc, target)
-    }
+    ghost displays = { λ x. refl };
 }
 
 // Writes the ranges, each with ` || ` before it.
@@ -273,7 +271,5 @@ impl fmt::Display for VersionRangeSet {
 impl StringAppendable for VersionRangeSet {
     ghost text = { λ set. set_text set.0 };
 
-    fn append_to<T: StringType>(&self, alloc: Global, target: &mut T) -> Result<(), AllocError> {
-        append_displayed(self, alloc, target)
-    }
+    ghost displays = { λ x. refl };
 }

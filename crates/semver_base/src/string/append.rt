@@ -1,6 +1,6 @@
 //! Growable texts, and values that can be appended to them.
 
-ghost use Rattle.std.specs.Prelude.{List, ℕ, ◌≡◌, ◌++◌, [], IfOk, IfSome, OnOk, OnErr, encode_utf8, string_bytes};
+ghost use Rattle.std.specs.Prelude.{List, ℕ, ◌≡◌, ◌++◌, [], IfOk, IfSome, OnOk, OnErr, Some, encode_utf8, string_bytes};
 
 use std::alloc::{AllocError, Global};
 use std::fmt;
@@ -51,15 +51,22 @@ impl StringType for String {
     }
 }
 
-/// A value whose text can be appended to another.
-pub trait StringAppendable {
+/// A value that is displayed as a text, which can be appended to another.
+pub trait StringAppendable: fmt::Display {
     /// The bytes of the value's text.
     ghost text: { Self → List ℕ };
 
     /// Appends exactly the value's text. On failure the target is unchanged.
     fn append_to<T: StringType>(&self, alloc: Global, target: &mut T) -> Result<(), AllocError>
         ensures ok { OnOk result (T.text target.new ≡ T.text target.old ++ text self.now) }
-        ensures err { OnErr result (T.text target.new ≡ T.text target.old) };
+        ensures err { OnErr result (T.text target.new ≡ T.text target.old) }
+    {
+        let text = displayed(alloc, self)?;
+        target.push_str(text.as_str())
+    }
+
+    /// The value is displayed as its text.
+    ghost displays: { (x : Self) → Self.output x ≡ Some (text x) };
 }
 
 // The initial capacity, enough for most texts of requirements and packages.
@@ -72,18 +79,4 @@ pub fn displayed<D: fmt::Display>(alloc: Global, value: &D) -> Result<String, Al
     let mut text = String::with_capacity(alloc, ROOM)?;
     text.write(value)?;
     Ok(text)
-}
-
-/// Appends the displayed value. On failure the target is unchanged.
-pub fn append_displayed<D: fmt::Display, T: StringType>(
-    value: &D,
-    alloc: Global,
-    target: &mut T,
-) -> Result<(), AllocError>
-    ensures ok { OnOk result
-        (IfSome (D.output value.now) (λ text. T.text target.new ≡ T.text target.old ++ text)) }
-    ensures err { OnErr result (T.text target.new ≡ T.text target.old) }
-{
-    let text = displayed(alloc, value)?;
-    target.push_str(text.as_str())
 }

@@ -1,5 +1,5 @@
-use Rattle.semver_base.proofs.Equality.{both_reported, text_eq, text_reported, reported_by}
-use Rattle.semver_req.proofs.Equality.{inner_eq, inner_reported}
+use Rattle.semver_base.specs.Sameness.{both_reported, text_eq, text_reported, reported_by}
+use Rattle.semver_req.specs.Sameness.{inner_eq, inner_reported}
 use Rattle.deno_semver.proofs.laws.equal_package_requirements.Goals as goal
 
 pub returns : goal.returns

@@ -1,5 +1,5 @@
-use Rattle.semver_base.proofs.Equality.{reported_by}
-use Rattle.deno_semver.proofs.Equality.{reference_reported}
+use Rattle.semver_base.specs.Sameness.{reported_by}
+use Rattle.deno_semver.specs.Sameness.{reference_reported}
 use Rattle.deno_semver.proofs.laws.equal_references.Goals as goal
 
 pub returns : goal.returns

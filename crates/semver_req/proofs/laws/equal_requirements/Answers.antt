@@ -1,5 +1,5 @@
-use Rattle.semver_base.proofs.Equality.{reported_by}
-use Rattle.semver_req.proofs.Equality.{inner_reported}
+use Rattle.semver_base.specs.Sameness.{reported_by}
+use Rattle.semver_req.specs.Sameness.{inner_reported}
 use Rattle.semver_req.proofs.laws.equal_requirements.Goals as goal
 
 pub returns : goal.returns

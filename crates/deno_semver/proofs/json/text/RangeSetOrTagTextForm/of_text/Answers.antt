@@ -6,4 +6,4 @@ pub returns-in-Ok-clause-answer : goal.returns-in-Ok-clause-answer
 returns-in-Ok-clause-answer c x h = one_reading c.texts_have_one_outcome.ensures Normal c.args.text.now c.in-Ok.inner x c.in-Ok.ensures.reading h
 
 pub returns-in-Err-clause-answer : goal.returns-in-Err-clause-answer
-returns-in-Err-clause-answer c x h = reported_as_memory c.texts_have_one_outcome.ensures Normal c.args.text.now _ c.is_memory-is_memory.result c.of_parser.result c.in-Err.ensures.rejected c.is_memory-is_memory.ensures c.of_parser.ensures x h
+returns-in-Err-clause-answer c x h = reported_as_memory c.texts_have_one_outcome.ensures Normal c.args.text.now _ c.is_memory.result c.of_parser.result c.in-Err.ensures.rejected c.is_memory.ensures c.of_parser.ensures x h

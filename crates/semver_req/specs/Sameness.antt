@@ -2,7 +2,7 @@
 use Rattle.std.proofs.Common.{◌≡◌, ℕ, List, Bool, ap}
 use Rattle.std.specs.Bool.{Decides}
 use Rattle.semver_base.specs.declared.range.VersionRangeSet.{VersionRangeSet}
-use Rattle.semver_base.proofs.Equality.{range_set_eq, range_set_reported, text_eq, text_reported, reported_as}
+use Rattle.semver_base.specs.Sameness.{range_set_eq, range_set_reported, text_eq, text_reported, reported_as}
 use Rattle.semver_req.specs.contracts.range_set_or_tag.RangeSetOrTagPartialEq.TheImpl as inner_impl
 use Rattle.semver_req.specs.declared.range_set_or_tag.RangeSetOrTag.{RangeSetOrTag}
 use Rattle.semver_req.specs.declared.range_set_or_tag.RangeSetOrTag.TheVariants as inner

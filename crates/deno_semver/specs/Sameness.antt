@@ -4,8 +4,8 @@ use Rattle.std.specs.Bool.{Decides}
 use Rattle.std.specs.Option.{option_eq}
 use Rattle.semver_base.specs.PrecedenceLaws.{version_eq, version_reported}
 use Rattle.semver_base.specs.declared.version.Version.{Version}
-use Rattle.semver_base.proofs.Equality.{both_reported, text_eq, text_reported, reported_as}
-use Rattle.semver_req.proofs.Equality.{inner_eq, inner_reported}
+use Rattle.semver_base.specs.Sameness.{both_reported, text_eq, text_reported, reported_as}
+use Rattle.semver_req.specs.Sameness.{inner_eq, inner_reported}
 use Rattle.deno_semver.specs.DependencyOrder.{dependency_eq}
 use Rattle.deno_semver.specs.Equal.{AreEqualDependencies, AreEqualReferences, AreEqualReqs}
 use Rattle.deno_semver.specs.Kind.{kind_eq}
@@ -47,7 +47,7 @@ nv_of n v = record { name = n; version = v }
 same_nv : {n m : List ℕ} {v w : Version} → n ≡ m → v ≡ w → nv_of n v ≡ nv_of m w
 same_nv e f = rw (e, f) refl
 
-nv_reported : (x y : PackageNv) → Decides (nv_eq x y) (x ≡ y)
+pub nv_reported : (x y : PackageNv) → Decides (nv_eq x y) (x ≡ y)
 nv_reported x y = reported_as (nv_eq x y) (λ h. same_nv h.0 h.1) (λ e. (ap (λ (nv : PackageNv). nv.name) e, ap (λ (nv : PackageNv). nv.version) e))
     (both_reported (text_eq x.name y.name) (version_eq x.version y.version) (text_reported x.name y.name) (version_reported x.version y.version))
 

@@ -1,6 +1,0 @@
-use Rattle.semver_base.proofs.Equality.{reported_by}
-use Rattle.deno_semver.proofs.Equality.{reference_reported}
-use Rattle.deno_semver.proofs.laws.equal_jsr_references.Goals as goal
-
-pub returns : goal.returns
-returns c = reported_by _ _ c.eq.ensures (reference_reported c.args.one.now c.args.other.now)

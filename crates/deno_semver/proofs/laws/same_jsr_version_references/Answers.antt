@@ -1,6 +1,0 @@
-use Rattle.semver_base.proofs.Equality.{reported_by}
-use Rattle.deno_semver.proofs.Equality.{nv_reference_reported}
-use Rattle.deno_semver.proofs.laws.same_jsr_version_references.Goals as goal
-
-pub returns : goal.returns
-returns c = reported_by _ _ c.eq.ensures (nv_reference_reported c.args.one.now c.args.other.now)

@@ -1,5 +1,0 @@
-use Rattle.semver_base.proofs.Equality.{range_reported, reported_by}
-use Rattle.semver_base.proofs.laws.same_ranges.Goals as goal
-
-pub returns : goal.returns
-returns c = reported_by _ _ c.eq.ensures (range_reported c.args.one.now c.args.other.now)
