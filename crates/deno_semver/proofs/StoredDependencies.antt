@@ -3,7 +3,7 @@ use Rattle.std.proofs.Common.{◌≡◌, ℕ, List, ◌++◌, Ok, refl, sym, sub
 use Rattle.std.specs.Prelude.{IsUtf8, codes}
 use Rattle.serde_json.specs.Data.{string}
 use Rattle.semver_req.specs.declared.common.values.Flavour.TheVariants.{Npm}
-use Rattle.deno_semver.specs.DependencyOrder.{normal_dependency_text}
+use Rattle.deno_semver.specs.DependencyText.{normal_dependency_text}
 use Rattle.deno_semver.specs.DependencyOutcome.{IsDependencyOutcome, is_dependency}
 use Rattle.deno_semver.specs.Json.{IsStringOf, IsTextOfDependency, IsTextOfReq}
 use Rattle.deno_semver.specs.Kind.{scheme_of}

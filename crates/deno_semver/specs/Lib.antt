@@ -1,5 +1,5 @@
 pub mod Cuts
-pub mod DependencyOrder
+pub mod DependencyText
 pub mod DependencyOutcome
 pub mod Equal
 pub mod ExportName
@@ -8,9 +8,7 @@ pub mod JsonAnswers
 pub mod Kind
 pub mod NameAndVersion
 pub mod NameAndVersionSteps
-pub mod NvOrder
 pub mod NvReference
-pub mod NvReferenceOrder
 pub mod NvReferenceReading
 pub mod OneOutcome
 pub mod PackageOutcome
@@ -27,5 +25,4 @@ pub mod RequirementText
 pub mod Specifier
 pub mod Stored
 pub mod StoredList
-pub mod Ties
 pub mod Sameness

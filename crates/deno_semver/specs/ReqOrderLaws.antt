@@ -22,7 +22,6 @@ use Rattle.semver_req.specs.declared.range_set_or_tag.RangeSetOrTag.TheVariants 
 use Rattle.semver_req.specs.Sameness.{inner_eq, inner_reported}
 use Rattle.deno_semver.specs.Equal.{AreEqualReqs}
 use Rattle.deno_semver.specs.ReqOrder.{bound_kinds_cmp, bound_place, bound_versions_cmp, build_of, builds_cmp, end_cmp, inner_cmp, kind_place, range_cmp, ranges_of, req_cmp, start_cmp, text_cmp, version_bound_of}
-use Rattle.deno_semver.specs.Ties.{then_ties}
 use Rattle.deno_semver.specs.declared.package.values.PackageReq.{PackageReq}
 
 -- ---- it is total
@@ -162,6 +161,12 @@ pub same_req : (x y : PackageReq) → AreEqualReqs x y → req_cmp x y ≡ Equal
 same_req x y h = rw (h.0, h.1) (tied_itself req_total y)
 
 -- ---- it ties exactly if `==` holds
+
+-- `&&` of two tests, each of which says whether a comparison ties
+then_ties : (a b : Bool) (r s : Ordering) → a ≡ is_eq r → b ≡ is_eq s → (a && b) ≡ is_eq (ordering_then r s)
+then_ties a b Less s e f = rw e refl
+then_ties a b Equal s e f = rw (e, f) refl
+then_ties a b Greater s e f = rw e refl
 
 inner_ties : (x y : RangeSetOrTag) → inner_eq x y ≡ is_eq (inner_cmp x y)
 inner_ties x y = both_ways (inner_eq x y) (is_eq (inner_cmp x y))

@@ -1,17 +1,16 @@
--- The derived `==` of references and dependencies says whether they are equal. Each `.._told` is about one `==`.
-use Rattle.std.proofs.Common.{◌≡◌, ◌&&◌, ℕ, List, Option, None, Some, refl, ap}
+-- The derived `==` of names with versions, references and dependencies says whether they are equal. Each `.._eq` is the `==` of its type, and each
+-- `.._reported` says so of it.
+use denote.Enum.Bare.{sameb}
+use Rattle.std.proofs.Common.{Bool, ◌≡◌, ◌&&◌, ℕ, List, Option, None, Some, refl, ap}
 use Rattle.std.specs.Bool.{Decides}
 use Rattle.std.specs.Option.{option_eq}
 use Rattle.semver_base.specs.PrecedenceLaws.{version_eq, version_reported}
 use Rattle.semver_base.specs.declared.version.Version.{Version}
 use Rattle.semver_base.specs.Sameness.{both_reported, text_eq, text_reported, reported_as}
 use Rattle.semver_req.specs.Sameness.{inner_eq, inner_reported}
-use Rattle.deno_semver.specs.DependencyOrder.{dependency_eq}
 use Rattle.deno_semver.specs.Equal.{AreEqualDependencies, AreEqualReferences, AreEqualReqs}
-use Rattle.deno_semver.specs.Kind.{kind_eq}
-use Rattle.deno_semver.specs.NvOrder.{nv_eq}
-use Rattle.deno_semver.specs.NvReferenceOrder.{nv_reference_eq}
 use Rattle.deno_semver.specs.ReqOrderLaws.{req_eq}
+use Rattle.deno_semver.specs.contracts.package.kind.PackageKind.{the_type}
 use Rattle.deno_semver.specs.declared.jsr.dependency.JsrDepPackageReq.{JsrDepPackageReq}
 use Rattle.deno_semver.specs.declared.package.kind.PackageKind.{PackageKind}
 use Rattle.deno_semver.specs.declared.package.kind.PackageKind.TheVariants.{Jsr, Npm}
@@ -26,6 +25,9 @@ path_reported None (Some y) = (λ e. cc e, λ e. cc e)
 path_reported (Some x) None = (λ e. cc e, λ e. cc e)
 path_reported (Some x) (Some y) = reported_as (text_eq x y) (ap Some) (λ e. cc e) (text_reported x y)
 
+abbrev kind_eq : PackageKind → PackageKind → Bool
+kind_eq = sameb the_type
+
 pub kind_reported : (x y : PackageKind) → Decides (kind_eq x y) (x ≡ y)
 kind_reported Jsr Jsr = (λ e. refl, λ e. refl)
 kind_reported Jsr Npm = (λ e. cc e, λ e. cc e)
@@ -38,6 +40,9 @@ req_reported x y = both_reported (text_eq x.name y.name) (inner_eq x.version_req
 pub reference_reported : (x y : PackageReqReference) → Decides (req_eq x.req y.req && option_eq text_eq x.sub_path y.sub_path) (AreEqualReferences x y)
 reference_reported x y = both_reported (req_eq x.req y.req) (option_eq text_eq x.sub_path y.sub_path) (req_reported x.req y.req) (path_reported x.sub_path y.sub_path)
 
+abbrev dependency_eq : JsrDepPackageReq → JsrDepPackageReq → Bool
+dependency_eq x y = kind_eq x.kind y.kind && req_eq x.req y.req
+
 pub dependency_reported : (x y : JsrDepPackageReq) → Decides (dependency_eq x y) (AreEqualDependencies x y)
 dependency_reported x y = both_reported (kind_eq x.kind y.kind) (req_eq x.req y.req) (kind_reported x.kind y.kind) (req_reported x.req y.req)
 
@@ -46,6 +51,9 @@ nv_of n v = record { name = n; version = v }
 
 same_nv : {n m : List ℕ} {v w : Version} → n ≡ m → v ≡ w → nv_of n v ≡ nv_of m w
 same_nv e f = rw (e, f) refl
+
+abbrev nv_eq : PackageNv → PackageNv → Bool
+nv_eq x y = text_eq x.name y.name && version_eq x.version y.version
 
 pub nv_reported : (x y : PackageNv) → Decides (nv_eq x y) (x ≡ y)
 nv_reported x y = reported_as (nv_eq x y) (λ h. same_nv h.0 h.1) (λ e. (ap (λ (nv : PackageNv). nv.name) e, ap (λ (nv : PackageNv). nv.version) e))
@@ -56,6 +64,9 @@ reference_of nv path = record { nv = nv; sub_path = path }
 
 same_reference : {n m : PackageNv} {p q : Option (List ℕ)} → n ≡ m → p ≡ q → reference_of n p ≡ reference_of m q
 same_reference e f = rw (e, f) refl
+
+abbrev nv_reference_eq : PackageNvReference → PackageNvReference → Bool
+nv_reference_eq x y = nv_eq x.nv y.nv && option_eq text_eq x.sub_path y.sub_path
 
 pub nv_reference_reported : (x y : PackageNvReference) → Decides (nv_reference_eq x y) (x ≡ y)
 nv_reference_reported x y = reported_as (nv_reference_eq x y) (λ h. same_reference h.0 h.1) (λ e. (ap (λ (r : PackageNvReference). r.nv) e, ap (λ (r : PackageNvReference). r.sub_path) e))

@@ -11,7 +11,7 @@ use Rattle.semver_req.specs.Rereading.{is_orderly, keeps_meaning}
 use Rattle.semver_req.specs.declared.common.values.Flavour.TheVariants.{Npm}
 use Rattle.semver_req.specs.declared.range_set_or_tag.RangeSetOrTag.{RangeSetOrTag}
 use Rattle.semver_req.specs.declared.range_set_or_tag.RangeSetOrTag.TheVariants as inner
-use Rattle.deno_semver.specs.DependencyOrder.{normal_dependency_text}
+use Rattle.deno_semver.specs.DependencyText.{normal_dependency_text}
 use Rattle.deno_semver.specs.Equal.{AreEqualDependencies, AreEqualReqs}
 use Rattle.deno_semver.specs.Json.{IsStringOf, IsTextOfDependency, IsTextOfReq}
 use Rattle.deno_semver.specs.PackageOutcome.{IsPackageOutcome}

@@ -6,7 +6,7 @@ use Rattle.semver_base.specs.Failure.{rejection_message}
 use Rattle.semver_base.specs.declared.failure.Rejection.{Rejection}
 use Rattle.semver_req.specs.Parsers.{Failure}
 use Rattle.semver_req.specs.declared.common.values.Flavour.{Flavour}
-use Rattle.deno_semver.specs.DependencyOrder.{normal_dependency_text}
+use Rattle.deno_semver.specs.DependencyText.{normal_dependency_text}
 use Rattle.deno_semver.specs.DependencyOutcome.{IsDependencyOutcome, IsDependencyRejection}
 use Rattle.deno_semver.specs.NvReference.{IsNvReferenceOutcome}
 use Rattle.deno_semver.specs.declared.jsr.dependency.JsrDepPackageReq.{JsrDepPackageReq}

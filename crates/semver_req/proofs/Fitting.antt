@@ -1,5 +1,5 @@
 -- Which leading comparators have numbers that fit.
-use Rattle.std.proofs.Common.{◌≡◌, ℕ, true, false, List, ◌++◌, refl, sym, ap, ◌∙◌, inl, inr}
+use Rattle.std.proofs.Common.{◌≡◌, ℕ, true, false, List, [], ◌++◌, append-nil, refl, sym, ap, ◌∙◌, inl, inr}
 use Rattle.std.specs.Prelude.{◌&&◌}
 use Rattle.std.proofs.lemmas.Bool.{cases_Bool}
 use Rattle.std.proofs.lemmas.List.Folds.{list_all-append}
@@ -58,3 +58,7 @@ module _ {R : List ℕ → Comparator → Type 0} {text rest : List ℕ} {m : Op
     | inl fit ↦ let seen : TooLarge ≡ Fits f.partial = sym e ∙ (f.seen ∙ rw fit refl) in absurd (cc seen)
     | inr over ↦ record { longest = f.longest; number_large = comparator_all m f.partial ∙ over }
   ]
+
+-- the longest prefix is the whole text if nothing is left
+pub whole_front : {V : Type 0} {A : List ℕ → V → Type 0} {text : List ℕ} {c : V} → IsLongest A text c [] → A text c
+whole_front p = let whole = p.text_is ∙ append-nil p.front in rw whole p.stands

@@ -51,9 +51,11 @@ use Rattle.semver_req.specs.Pieces.{HasNoBar, IsCutting, IsFilled, IsHyphenPair,
 use Rattle.semver_req.specs.PieceReading.{as_retained, numbers_fit, sums_fit}
 use Rattle.semver_req.specs.PieceSteps.{IsAdded, IsWholeRead}
 use Rattle.semver_req.specs.ShortComparators.{AreWildcards, IsFewer, IsGap, IsShortEnd, IsShortHyphen, IsShortPartial, IsShortPiece, IsShortComparator, IsShortStart, IsUnclosed, IsWildcardFront, no_wildcard, one_wildcard, two_wildcards}
+use Rattle.semver_req.specs.Single.{IsSingle, is_range}
 use Rattle.semver_req.specs.Written.{IsFront, IsOperatorCut, IsNonPrimitive, comparator_of}
 use Rattle.semver_req.specs.declared.common.comparator.Operator.{Operator}
 use Rattle.semver_req.specs.declared.common.comparator.Operator.TheVariants as operator
+use Rattle.semver_req.specs.declared.common.single.Single.TheVariants.{Range}
 use Rattle.semver_req.specs.declared.common.values.Flavour.{Flavour}
 use Rattle.semver_req.specs.declared.common.values.Flavour.TheVariants.{Npm, Normal, Specifier}
 use Rattle.semver_req.specs.declared.range_set_or_tag.pieces.Alternatives.{Alternatives}
@@ -63,14 +65,14 @@ use Rattle.semver_req.specs.declared.range_set_or_tag.RangeSetOrTag.{RangeSetOrT
 use Rattle.semver_req.specs.declared.range_set_or_tag.RangeSetOrTag.TheVariants as inner
 use Rattle.semver_req.specs.Parsers.{IsCutReading, IsReading}
 use Rattle.semver_req.proofs.Components.{component_read, component_wildcard, wildcard_no_digit}
-use Rattle.semver_req.proofs.Fitting.{comparator_all, fitting, numbers_all}
+use Rattle.semver_req.proofs.Fitting.{comparator_all, fitting, numbers_all, whole_front}
 use Rattle.semver_req.proofs.Folding.{upper_ends}
 use Rattle.semver_req.proofs.Joining.{fitting_partial}
 use Rattle.semver_req.proofs.Operators.{non_primitive_some}
 use Rattle.semver_req.proofs.Partials.{not_led, one_read, three_read, two_read}
 use Rattle.semver_req.proofs.PiecesRead.{filled_read, reported_same}
 use Rattle.semver_req.proofs.SpecifierRetained.{is_non_primitive, non_primitive_ends, non_primitive_retained, specifier_ends, specifier_retained}
-use Rattle.semver_req.proofs.SpecifierRanges.{whole_reading}
+use Rattle.semver_req.proofs.SpecifierRanges.{range_reading}
 use Rattle.semver_req.proofs.Stabilizing.{less_stays}
 use Rattle.semver_req.proofs.Wider.{npm_led, pieces_wider}
 use Rattle.semver_req.proofs.WrittenSets.{is_no_bar, no_bar, one_whitespace}
@@ -158,7 +160,7 @@ short_front f p = non_primitive_some f p.operator p.cut (short_seen f p.numbers 
 
 -- the strict parser's ranges
 pub specifier_reading : {text : List ℕ} {range : VersionRange} (answer : RangeSetOrTag) → IsShortComparator Specifier text range → answer ≡ inner.RangeSet (record { 0 = range ∷ [] }) → IsReading Specifier text answer
-specifier_reading {range = range} answer p answered = whole_reading (fitting (short_front Specifier p)) range answer p.line.fits refl p.line.is answered
+specifier_reading {range = range} answer p answered = let f = fitting (short_front Specifier p) in range_reading (rw p.line.is (is_range f.longest f.numbers_fit p.line.fits)) answer answered
 
 -- ---- pieces
 
@@ -170,9 +172,6 @@ no_whitespace = NoCharPasses-nil is_not_whitespace
 
 space_alone : IsWhitespace (32 ∷ []) tt
 space_alone = one_whitespace.1
-
-whole_front : {V : Type 0} {A : List ℕ → V → Type 0} {text : List ℕ} {c : V} → IsLongest A text c [] → A text c
-whole_front p = let whole = p.text_is ∙ append-nil p.front in rw whole p.stands
 
 is_normal : (text : List ℕ) (c : Comparator) → IsNonPrimitive Normal text c → IsComparator Normal text c
 is_normal text c (this h) = this h
@@ -298,19 +297,17 @@ no_bar_bytes : (text : List ℕ) → list_any (λ b. b == 124) text ≡ false �
 no_bar_bytes [] h = refl
 no_bar_bytes (b ∷ text) h = let both = either_false (b == 124) (list_any (λ x. x == 124) text) h in rw (both.0, no_bar_bytes text both.1) refl
 
-pub single_piece : (f : Flavour) → IsCutting f → (text : List ℕ) {c : Comparator} {rest : List ℕ} {range : VersionRange} → false ≡ list_any (λ b. b == 124) text → IsLongest (IsNonPrimitive f) text c rest → true ≡ (length rest == 0)
-    → list_all numbers_fit (c ∷ []) ≡ true → list_all sums_fit (c ∷ []) ≡ true → range ≡ comparator_range c → IsShortPiece f text range
-single_piece f cuts text {c} {rest} {range} bars longest empty numbers sums is =
-    let stands = whole_front (rw (nothing rest empty) at longest) in
+pub single_piece : (f : Flavour) → IsCutting f → (text : List ℕ) {range : VersionRange} → false ≡ list_any (λ b. b == 124) text → IsSingle f text (Range range) → IsShortPiece f text range
+single_piece f cuts text bars (is_range {c} longest numbers sums) =
+    let stands = whole_front longest in
     let kind = kind_non_primitive f stands in
-    let whole = is ∙ sym (non_primitive_retained c kind) in
     record {
       first = c;
       others = [];
       filled = alone f cuts text c (as_comparator f cuts text c stands);
       closed = alone_closed f cuts text c (as_comparator f cuts text c stands);
-      is = all_retained (c ∷ []) range numbers sums whole;
-      is_kept = rw is (non_primitive_ends c kind);
+      is = all_retained (c ∷ []) (comparator_range c) (rw numbers refl) (rw sums refl) (sym (non_primitive_retained c kind));
+      is_kept = non_primitive_ends c kind;
       no_bar = no_bar text (no_bar_bytes text (sym bars));
     }
 

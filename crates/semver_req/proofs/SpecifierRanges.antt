@@ -2,33 +2,28 @@
 use Rattle.std.proofs.Common.{◌≡◌, ◌<◌, ℕ, Bool, true, false, List, [], ◌∷◌, length, Some, None, Result, Ok, Err, refl, sym, ap, ◌∙◌, arith, inl, inr, ◌==◌}
 use Rattle.std.specs.Prelude.{◌||◌, ◌&&◌, ◌⊎◌, IfErr}
 use Rattle.std.specs.Result.{IsErrAnd}
-use Rattle.std.proofs.lemmas.Bool.{or_left, or_right}
+use Rattle.std.proofs.lemmas.Bool.{and_from, and_left, and_right, or_left, or_right}
 use Rattle.std.proofs.lemmas.Bool.Decides.{nat_tests}
-use Rattle.std.proofs.lemmas.List.{nil_from_length}
-use Rattle.semver_base.specs.Comparators.{Comparator, comparator_line, comparator_range}
+use Rattle.semver_base.specs.Comparators.{Comparator}
 use Rattle.semver_base.specs.Failure.{message_of, rejection_message}
 use Rattle.semver_base.specs.Grammar.{HasNone, that, this}
 use Rattle.semver_base.specs.Lexical.{IsWhitespace}
-use Rattle.semver_base.specs.PartialTable.{IsBoundRejection, all_fit}
 use Rattle.semver_base.specs.declared.failure.Rejection.{Rejection}
-use Rattle.semver_base.specs.declared.failure.Rejection.TheVariants.{BoundTooLarge, NumberTooLarge, UnexpectedCharacter}
-use Rattle.semver_base.specs.declared.partial.Partial.{Partial}
+use Rattle.semver_base.specs.declared.failure.Rejection.TheVariants.{UnexpectedCharacter}
 use Rattle.semver_base.specs.declared.range.VersionRange.{VersionRange}
 use Rattle.semver_base.proofs.Whitespace.{whitespace_made, is_whitespace_byte}
 use Rattle.semver_base.proofs.Bytes.{BeginsBy, Disjoint, begins_from_made, begins_wider, either_begins, mapped_begins, none_by_byte, prefixed_begins}
 use Rattle.semver_base.proofs.Fronts.{NonEmpty}
-use Rattle.semver_req.specs.Comparators.{fits}
 use Rattle.semver_req.specs.Outcome.{IsSpecifierOutcome, IsSpecifierRange, IsTagOr, Outcome, Ranges, Rejected, Tag, left_over, no_fit, no_front, no_tag, tag, whole}
 use Rattle.semver_req.specs.Parsers.{Failure, IsReading}
+use Rattle.semver_req.specs.Single.{IsSingle, absent, is_followed, is_range, over_bound, over_number}
 use Rattle.semver_req.specs.SpecifierRejections.{IsNoTag, IsSpecifierRejection, whitespace_no_tag, whitespace_text, empty_constraint, large_bound, large_number, is_out_of_memory, no_memory_left, no_range, other_no_tag, something_follows, unexpected_character}
 use Rattle.semver_req.specs.Tag.{is_valid_tag}
-use Rattle.semver_req.specs.Written.{comparator_of}
-use Rattle.semver_req.specs.declared.common.comparator.Operator.{Operator}
+use Rattle.semver_req.specs.declared.common.single.Single.TheVariants.{Absent, Followed, Range, TooLarge}
 use Rattle.semver_req.specs.declared.common.values.Flavour.TheVariants.{Specifier}
 use Rattle.semver_req.specs.declared.range_set_or_tag.RangeSetOrTag.{RangeSetOrTag}
 use Rattle.semver_req.specs.declared.range_set_or_tag.RangeSetOrTag.TheVariants as inner
 use Rattle.semver_req.proofs.Components.{is_component_byte}
-use Rattle.semver_req.proofs.Fitting.{FittingFront, LargeFront}
 use Rattle.semver_req.proofs.OneOutcome.{some_or_none}
 use Rattle.semver_req.proofs.Partials.{partial_begins, partial_some}
 use Rattle.semver_req.proofs.SpecifierRetained.{specifier_retained}
@@ -73,61 +68,37 @@ whitespace_of text rejection failure (inr e) v b = rw e (whitespace_no_tag v b)
 tag_reading : {text : List ℕ} {answer : RangeSetOrTag} → ((o : Outcome) → IsTagOr text o → IsSpecifierOutcome text o) → (answer ≡ inner.Tag text) × (is_valid_tag text ≡ true) → IsReading Specifier text answer
 tag_reading {text} to h = record { outcome = Tag text; is_outcome = to (Tag text) (tag h.1); is_read = h.0 }
 
-module _ {text : List ℕ} (none : HasNone IsSpecifierRange text) where
-  pub none_reading : (answer : RangeSetOrTag) → (answer ≡ inner.Tag text) × (is_valid_tag text ≡ true) → IsReading Specifier text answer
-  none_reading answer = tag_reading (λ o t. no_front none t)
-
-  pub none_rejection : (failure : Failure) → IsNoTag text UnexpectedCharacter failure → IsSpecifierRejection text failure
-  none_rejection failure no_memory_left = is_out_of_memory
-  none_rejection failure (whitespace_no_tag v b) = whitespace_text none v b
-  none_rejection failure (other_no_tag v b) = no_range none v b
-
-and_false : (a b : Bool) → a ≡ false → (a && b) ≡ false
-and_false a b e = rw e refl
-
-and_true : (a b : Bool) → a ≡ true → (a && b) ≡ b
-and_true a b e = rw e refl
-
-module _ {text rest : List ℕ} {m : Operator} {p : Partial} (f : LargeFront IsSpecifierRange text m p rest) where
-  unfit : fits (comparator_of m p) ≡ false
-  unfit = and_false _ _ f.number_large
-
-  pub number_reading : (answer : RangeSetOrTag) → (answer ≡ inner.Tag text) × (is_valid_tag text ≡ true) → IsReading Specifier text answer
-  number_reading answer = tag_reading (λ o t. no_fit f.longest unfit t)
-
-  pub number_rejection : (failure : Failure) → IsNoTag text NumberTooLarge failure → IsSpecifierRejection text failure
-  number_rejection failure no_memory_left = is_out_of_memory
-  number_rejection failure (whitespace_no_tag v b) = some_or_none f.longest (no_whitespace_none text b)
-  number_rejection failure (other_no_tag v b) = large_number f.longest f.number_large v
-
-module _ {text rest : List ℕ} {m : Operator} {p : Partial} (f : FittingFront IsSpecifierRange text m p rest) where
-  fits_by : (b : Bool) → all_fit (comparator_line (comparator_of m p)).sums ≡ b → fits (comparator_of m p) ≡ b
-  fits_by b e = and_true _ _ f.numbers_fit ∙ e
-
-  -- some bound is too large, and it isn't out of memory
-  over : (cause : Failure) → IsBoundRejection (comparator_line (comparator_of m p)).sums cause → (cause ≡ None → ⊥) → all_fit (comparator_line (comparator_of m p)).sums ≡ false
-  over cause (inl e) other = absurd (other e)
-  over cause (inr h) other = h.1
-
-  module _ (cause : Failure) (rejected : IsBoundRejection (comparator_line (comparator_of m p)).sums cause) (other : cause ≡ None → ⊥) where
-    pub bound_reading : (answer : RangeSetOrTag) → (answer ≡ inner.Tag text) × (is_valid_tag text ≡ true) → IsReading Specifier text answer
-    bound_reading answer = tag_reading (λ o t. no_fit f.longest (fits_by false (over cause rejected other)) t)
-
-    pub bound_rejection : (failure : Failure) → IsNoTag text BoundTooLarge failure → IsSpecifierRejection text failure
-    bound_rejection failure no_memory_left = is_out_of_memory
-    bound_rejection failure (whitespace_no_tag v b) = some_or_none f.longest (no_whitespace_none text b)
-    bound_rejection failure (other_no_tag v b) = large_bound f.longest f.numbers_fit (over cause rejected other) v
-
-  pub whole_reading : (range : VersionRange) (answer : RangeSetOrTag) → all_fit (comparator_line (comparator_of m p)).sums ≡ true → (length rest == 0) ≡ true → range ≡ comparator_range (comparator_of m p) → answer ≡ inner.RangeSet (record { 0 = range ∷ [] }) → IsReading Specifier text answer
-  whole_reading range answer e empty is answered = record {
-    outcome = Ranges ((comparator_of m p ∷ []) ∷ []);
-    is_outcome = whole (let nil : rest ≡ [] = nil_from_length rest (grind (arith, nat_tests)) in rw nil at f.longest) (fits_by true e);
-    is_read = answered ∙ ap (λ (r : VersionRange). inner.RangeSet (record { 0 = r ∷ [] })) (is ∙ sym (specifier_retained f.longest.stands));
+module _ {text : List ℕ} where
+  pub range_reading : {range : VersionRange} → IsSingle Specifier text (Range range) → (answer : RangeSetOrTag) → answer ≡ inner.RangeSet (record { 0 = range ∷ [] }) → IsReading Specifier text answer
+  range_reading (is_range {c} longest numbers sums) answer answered = record {
+    outcome = Ranges ((c ∷ []) ∷ []);
+    is_outcome = whole longest (and_from _ _ numbers sums);
+    is_read = answered ∙ ap (λ (r : VersionRange). inner.RangeSet (record { 0 = r ∷ [] })) (sym (specifier_retained longest.stands));
   }
 
-  pub follows_rejection : all_fit (comparator_line (comparator_of m p)).sums ≡ true → (length rest == 0) ≡ false → (failure : Failure) → (failure ≡ None) ⊎ (failure ≡ unexpected_character) → IsSpecifierRejection text failure
-  follows_rejection e full failure (inl h) = rw h is_out_of_memory
-  follows_rejection e full failure (inr h) = rw h (something_follows f.longest (fits_by true e) (let some : 0 < length rest = grind (arith, nat_tests) in some))
+  pub followed_rejection : IsSingle Specifier text Followed → (failure : Failure) → (failure ≡ None) ⊎ (failure ≡ unexpected_character) → IsSpecifierRejection text failure
+  followed_rejection (is_followed longest numbers sums some) failure (inl h) = rw h is_out_of_memory
+  followed_rejection (is_followed longest numbers sums some) failure (inr h) = rw h (something_follows longest (and_from _ _ numbers sums) some)
+
+  pub absent_reading : IsSingle Specifier text Absent → (answer : RangeSetOrTag) → (answer ≡ inner.Tag text) × (is_valid_tag text ≡ true) → IsReading Specifier text answer
+  absent_reading (absent none) answer = tag_reading (λ o t. no_front none t)
+
+  pub absent_rejection : IsSingle Specifier text Absent → (failure : Failure) → IsNoTag text UnexpectedCharacter failure → IsSpecifierRejection text failure
+  absent_rejection (absent none) failure no_memory_left = is_out_of_memory
+  absent_rejection (absent none) failure (whitespace_no_tag v b) = whitespace_text none v b
+  absent_rejection (absent none) failure (other_no_tag v b) = no_range none v b
+
+  pub large_reading : {why : Rejection} → IsSingle Specifier text (TooLarge why) → (answer : RangeSetOrTag) → (answer ≡ inner.Tag text) × (is_valid_tag text ≡ true) → IsReading Specifier text answer
+  large_reading (over_number longest large) answer = tag_reading (λ o t. no_fit longest (and_left _ _ large) t)
+  large_reading (over_bound longest numbers large) answer = tag_reading (λ o t. no_fit longest (and_right _ _ large) t)
+
+  pub large_rejection : {why : Rejection} → IsSingle Specifier text (TooLarge why) → (failure : Failure) → IsNoTag text why failure → IsSpecifierRejection text failure
+  large_rejection (over_number longest large) failure no_memory_left = is_out_of_memory
+  large_rejection (over_number longest large) failure (whitespace_no_tag v b) = some_or_none longest (no_whitespace_none text b)
+  large_rejection (over_number longest large) failure (other_no_tag v b) = large_number longest large v
+  large_rejection (over_bound longest numbers large) failure no_memory_left = is_out_of_memory
+  large_rejection (over_bound longest numbers large) failure (whitespace_no_tag v b) = some_or_none longest (no_whitespace_none text b)
+  large_rejection (over_bound longest numbers large) failure (other_no_tag v b) = large_bound longest numbers large v
 
 -- ---- failures
 
@@ -142,8 +113,8 @@ rejection_outcome is_out_of_memory = inl refl
 rejection_outcome (something_follows p f some) = inr (left_over p f some)
 rejection_outcome (whitespace_text n v b) = inr (no_front n (no_tag v))
 rejection_outcome (no_range n v b) = inr (no_front n (no_tag v))
-rejection_outcome (large_number p l v) = inr (no_fit p (and_false _ _ l) (no_tag v))
-rejection_outcome (large_bound p f l v) = inr (no_fit p (and_true _ _ f ∙ l) (no_tag v))
+rejection_outcome (large_number p l v) = inr (no_fit p (and_left _ _ l) (no_tag v))
+rejection_outcome (large_bound p f l v) = inr (no_fit p (and_right _ _ l) (no_tag v))
 
 pub whitespace_rejection : {text : List ℕ} {failure : Failure} → IsWhitespace text tt → IsSpecifierRejection text failure → (failure ≡ None) ⊎ (failure ≡ empty_constraint)
 whitespace_rejection b is_out_of_memory = inl refl

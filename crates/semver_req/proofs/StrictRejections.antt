@@ -1,37 +1,29 @@
 -- Why a text isn't a range of the strict grammar.
-use Rattle.std.proofs.Common.{◌≡◌, ℕ, true, false, List, [], length, None, ◌∙◌, inl, inr, arith, append-nil, ◌==◌}
+use Rattle.std.proofs.Common.{◌≡◌, ℕ, true, List}
 use Rattle.std.proofs.lemmas.Bool.{and_from}
-use Rattle.std.proofs.lemmas.Bool.Decides.{nat_tests}
-use Rattle.std.proofs.lemmas.List.{nil_from_length}
-use Rattle.semver_base.specs.Comparators.{Comparator, comparator_line}
-use Rattle.semver_base.specs.PartialTable.{IsBoundRejection, all_fit}
-use Rattle.semver_base.specs.declared.failure.Rejection.TheVariants.{BoundTooLarge, NumberTooLarge, UnexpectedCharacter}
-use Rattle.semver_base.specs.declared.partial.Partial.{Partial}
-use Rattle.semver_req.specs.Comparators.{comparator_numbers, fits}
+use Rattle.semver_base.specs.Comparators.{Comparator}
+use Rattle.semver_base.specs.Lexical.{IsWhitespace}
+use Rattle.semver_base.specs.declared.failure.Rejection.{Rejection}
+use Rattle.semver_base.specs.declared.failure.Rejection.TheVariants.{UnexpectedCharacter}
+use Rattle.semver_base.specs.declared.range.VersionRange.{VersionRange}
+use Rattle.semver_req.specs.Causes.{IsStrictRejection, followed, front_bound, front_number, no_range}
+use Rattle.semver_req.specs.Comparators.{fits}
 use Rattle.semver_req.specs.Outcome.{IsSpecifierRange}
-use Rattle.semver_req.specs.Parsers.{Failure}
-use Rattle.semver_req.specs.Written.{comparator_of}
-use Rattle.semver_req.specs.declared.common.comparator.Operator.{Operator}
-use Rattle.semver_req.proofs.Fitting.{FittingFront, LargeFront}
-use Rattle.semver_req.specs.Causes.{IsStrictRejection, followed, front_bound, front_number}
+use Rattle.semver_req.specs.Single.{IsSingle, absent, is_followed, is_range, over_bound, over_number}
+use Rattle.semver_req.specs.declared.common.single.Single.TheVariants.{Absent, Followed, Range, TooLarge}
+use Rattle.semver_req.specs.declared.common.values.Flavour.TheVariants.{Specifier}
+use Rattle.semver_req.proofs.Fitting.{whole_front}
 
-module _ {text rest : List ℕ} {m : Operator} {p : Partial} where
-  pub number_rejection : LargeFront IsSpecifierRange text m p rest → IsStrictRejection text NumberTooLarge
-  number_rejection f = front_number f.longest f.number_large
+module _ {text : List ℕ} where
+  pub whole_range : {range : VersionRange} → IsSingle Specifier text (Range range) → (c : Comparator) × IsSpecifierRange text c × (fits c ≡ true)
+  whole_range (is_range {c} longest numbers sums) = (c, whole_front longest, and_from _ _ numbers sums)
 
-  module _ (f : FittingFront IsSpecifierRange text m p rest) where
-    all_sums : all_fit (comparator_line (comparator_of m p)).sums ≡ true → fits (comparator_of m p) ≡ true
-    all_sums h = and_from (all_fit (comparator_numbers (comparator_of m p))) (all_fit (comparator_line (comparator_of m p)).sums) f.numbers_fit h
+  pub absent_rejection : IsSingle Specifier text Absent → (IsWhitespace text tt → ⊥) → IsStrictRejection text UnexpectedCharacter
+  absent_rejection (absent none) not = no_range none not
 
-    pub whole_range : all_fit (comparator_line (comparator_of m p)).sums ≡ true → (length rest == 0) ≡ true → (c : Comparator) × IsSpecifierRange text c × (fits c ≡ true)
-    whole_range h empty =
-        let nil : rest ≡ [] = nil_from_length rest (grind (arith, nat_tests)) in
-        let whole : text ≡ f.longest.front = f.longest.text_is ∙ (rw nil (append-nil f.longest.front)) in
-        (comparator_of m p, rw whole f.longest.stands, all_sums h)
+  pub followed_rejection : IsSingle Specifier text Followed → IsStrictRejection text UnexpectedCharacter
+  followed_rejection (is_followed longest numbers sums some) = followed longest (and_from _ _ numbers sums) some
 
-    pub followed_rejection : all_fit (comparator_line (comparator_of m p)).sums ≡ true → (length rest == 0) ≡ false → IsStrictRejection text UnexpectedCharacter
-    followed_rejection h full = followed f.longest (all_sums h) (grind (arith, nat_tests))
-
-    pub bound_rejection : (failure : Failure) → IsBoundRejection (comparator_line (comparator_of m p)).sums failure → (failure ≡ None → ⊥) → IsStrictRejection text BoundTooLarge
-    bound_rejection failure (inl e) never = absurd (never e)
-    bound_rejection failure (inr h) never = front_bound f.longest f.numbers_fit h.1
+  pub large_rejection : {why : Rejection} → IsSingle Specifier text (TooLarge why) → IsStrictRejection text why
+  large_rejection (over_number longest large) = front_number longest large
+  large_rejection (over_bound longest numbers large) = front_bound longest numbers large

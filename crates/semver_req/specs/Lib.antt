@@ -6,6 +6,7 @@ pub mod Partials
 pub mod PieceReading
 pub mod PieceSteps
 pub mod Pieces
+pub mod Single
 pub mod ShortComparators
 pub mod Parsers
 pub mod Requirement

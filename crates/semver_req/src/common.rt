@@ -16,6 +16,7 @@ pub mod comparator;
 pub mod hyphen;
 pub mod separators;
 pub(crate) mod short;
+pub(crate) mod single;
 pub mod values;
 
 use semver_base::lexical;

@@ -16,14 +16,13 @@ ghost use Rattle.semver_req.specs.declared.common.values.Flavour.TheVariants.{No
 
 mod pieces;
 
-use crate::common::comparator::{Written, non_primitive_front};
 use crate::common::short::short_piece;
+use crate::common::single::{Single, parse_single};
 use crate::common::values::Flavour;
 use crate::tag::is_valid_npm_tag;
 use pieces::read_pieces;
 pub use pieces::{FirstPiece, RangeOrInvalid, first_piece, next_piece};
 use semver_base::failure::{ParseFailure, Rejection};
-use semver_base::lexical::values::Measured;
 use semver_base::range::{VersionRange, VersionRangeSet};
 use semver_base::string::{CowVec, SmallStackString, StringAppendable};
 use std::alloc::{AllocError, Global};
@@ -82,29 +81,22 @@ fn holds_bar(bytes: &[u8]) -> bool
 // The range of one comparator without a comparison operator, if that is the whole text and its numbers and bounds fit. `None` says
 // nothing about the text.
 #[inline(always)]
-fn single(alloc: Global, text: &str, flavour: Flavour) -> Result<Option<VersionRange>, AllocError>
+fn single_range(
+    alloc: Global,
+    text: &str,
+    flavour: Flavour,
+) -> Result<Option<VersionRange>, AllocError>
     ensures { IsCutting flavour → IfOk result (λ r. IfSome r (IsShortPiece flavour text.now)) }
 {
     if holds_bar(text.as_bytes()) {
         return Ok(None);
     }
-    let Some((written, rest)) = non_primitive_front(alloc, text, flavour)? else {
-        return Ok(None);
-    };
-    let Written { operator, partial } = written;
-    let Measured::Fits(partial) = partial else {
-        return Ok(None);
-    };
-    if !rest.is_empty() {
-        drop(partial);
-        return Ok(None);
-    }
-    let range = operator.range(alloc, &partial);
-    drop(partial);
-    match range {
-        Ok(range) => Ok(Some(range)),
-        Err(failure) if failure.is_memory() => Err(AllocError),
-        Err(_) => Ok(None),
+    let found = parse_single(alloc, text, flavour)?;
+    match found {
+        Single::Range(range) => Ok(Some(range)),
+        Single::Absent => Ok(None),
+        Single::Followed => Ok(None),
+        Single::TooLarge(_) => Ok(None),
     }
 }
 
@@ -173,7 +165,7 @@ impl RangeSetOrTag {
             (λ failure. (failure ≡ None) ⊎ IsCutOutcome flavour text.now Rejected) }
         ensures rejection { IfErr result (IsCutRejection flavour text.now) }
     {
-        if let Some(range) = single(alloc, text, flavour)? {
+        if let Some(range) = single_range(alloc, text, flavour)? {
             let ranges = CowVec::of_one(alloc, range)?;
             return Ok(RangeSetOrTag::RangeSet(VersionRangeSet(ranges)));
         }

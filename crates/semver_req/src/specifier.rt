@@ -6,15 +6,14 @@ ghost use Rattle.semver_req.specs.Parsers.{IsParserAnswer, IsReading};
 ghost use Rattle.semver_req.specs.SpecifierRejections.{IsNoTag, IsSpecifierRejection, empty_constraint};
 ghost use Rattle.semver_req.specs.Tag.{is_valid_tag};
 
-use crate::common::comparator::{Written, non_primitive_front};
 use crate::common::short::short_range;
+use crate::common::single::{Single, parse_single};
 use crate::common::values::Flavour;
 use crate::range_set_or_tag::RangeSetOrTag;
 use crate::req::VersionReq;
 use crate::tag::is_valid_npm_tag;
 use semver_base::failure::{ParseFailure, Parsed, ParserError, Rejection};
 use semver_base::lexical::is_all_whitespace;
-use semver_base::lexical::values::Measured;
 use semver_base::range::{VersionRange, VersionRangeSet};
 use semver_base::string::{CowVec, SmallStackString};
 use std::alloc::{AllocError, Global};
@@ -70,23 +69,12 @@ fn read(alloc: Global, text: &str) -> Result<RangeSetOrTag, ParseFailure>
     if text == "*" {
         return Ok(RangeSetOrTag::RangeSet(only(alloc, VersionRange::all())?));
     }
-    let Some((written, rest)) = non_primitive_front(alloc, text, Flavour::Specifier)? else {
-        return whole_text_as_tag(alloc, text, Rejection::UnexpectedCharacter);
-    };
-    let Written { operator, partial } = written;
-    let Measured::Fits(partial) = partial else {
-        return whole_text_as_tag(alloc, text, Rejection::NumberTooLarge);
-    };
-    let range = operator.range(alloc, &partial);
-    drop(partial);
-    match range {
-        Ok(range) if rest.is_empty() => Ok(RangeSetOrTag::RangeSet(only(alloc, range)?)),
-        Ok(range) => {
-            drop(range);
-            Err(ParseFailure::of_rejection(alloc, Rejection::UnexpectedCharacter))
-        }
-        Err(failure) if failure.is_memory() => Err(failure),
-        Err(_) => whole_text_as_tag(alloc, text, Rejection::BoundTooLarge),
+    let found = parse_single(alloc, text, Flavour::Specifier)?;
+    match found {
+        Single::Range(range) => Ok(RangeSetOrTag::RangeSet(only(alloc, range)?)),
+        Single::Absent => whole_text_as_tag(alloc, text, Rejection::UnexpectedCharacter),
+        Single::Followed => Err(ParseFailure::of_rejection(alloc, Rejection::UnexpectedCharacter)),
+        Single::TooLarge(rejection) => whole_text_as_tag(alloc, text, rejection),
     }
 }
 

@@ -4,7 +4,7 @@ ghost use Rattle.std.specs.Prelude.{◌≡◌, IfOk, IsUtf8, List, Ok, string_by
 ghost use Rattle.serde_json.specs.Data.{string};
 ghost use Rattle.serde_json.specs.View.{view};
 ghost use Rattle.semver_req.specs.declared.common.values.Flavour.TheVariants.{Npm};
-ghost use Rattle.deno_semver.specs.DependencyOrder.{normal_dependency_text};
+ghost use Rattle.deno_semver.specs.DependencyText.{normal_dependency_text};
 ghost use Rattle.deno_semver.specs.DependencyOutcome.{IsDependencyOutcome};
 ghost use Rattle.deno_semver.specs.Json.{IsStringOf, IsTextItself, IsTextOfDependency, IsTextOfInner, IsTextOfKind, IsTextOfNv, IsTextOfReference, IsTextOfReq, IsTextOfVersion, kind_text};
 ghost use Rattle.deno_semver.specs.JsonAnswers.{IsJsonAnswer};

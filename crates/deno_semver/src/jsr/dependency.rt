@@ -1,9 +1,8 @@
 //! Dependencies of JSR packages.
 
 ghost use Rattle.std.specs.Prelude.{◌≡◌, ◌↔◌, IfErr, IfOk, IsTrue, Ok, Result, Some, refl};
-ghost use Rattle.std.specs.Ordering.{as_partial_cmp};
 ghost use Rattle.semver_req.specs.declared.common.values.Flavour.TheVariants.{Normal, Npm, Specifier};
-ghost use Rattle.deno_semver.specs.DependencyOrder.{dependency_cmp, dependency_po, dependency_text, dependency_ties, dependency_total, normal_dependency_text};
+ghost use Rattle.deno_semver.specs.DependencyText.{dependency_text, normal_dependency_text};
 ghost use Rattle.deno_semver.specs.DependencyOutcome.{DependencyFault, IsAfterEither, IsDependencyAnswer, IsDependencyOutcome, IsDependencyRejection, IsOfPackageError, IsSameError, IsReportedScheme, reported_scheme};
 ghost use Rattle.deno_semver.specs.declared.jsr.dependency.JsrDepPackageReq.{JsrDepPackageReq};
 ghost use Rattle.deno_semver.specs.declared.package.kind.PackageKind.TheVariants as kind;
@@ -12,7 +11,6 @@ use crate::package::{PackageKind, PackageReq, PackageReqParseError, package_req}
 use semver_base::string::{StackString, StringAppendable, displayed};
 use semver_req::common::values::Flavour;
 use std::alloc::{AllocError, Global};
-use std::cmp::Ordering;
 use std::fmt;
 use thiserror::Error;
 
@@ -69,7 +67,7 @@ impl JsrDepPackageReqParseError {
 /// A package requirement for npm or JSR on which a JSR package depends.
 ///
 /// Ordered by registry, JSR below npm, and then by package requirement.
-#[derive(Debug, PartialEq, Eq, Hash, Drop)]
+#[derive(Debug, PartialEq, Eq, PartialOrd, Ord, Hash, Drop)]
 pub struct JsrDepPackageReq {
     pub kind: PackageKind,
     pub req: PackageReq,
@@ -227,31 +225,4 @@ impl StringAppendable for JsrDepPackageReq {
     ghost text = { dependency_text };
 
     ghost displays = { λ x. refl };
-}
-
-impl PartialOrd for JsrDepPackageReq {
-    ghost partial_cmp = { as_partial_cmp dependency_cmp };
-
-    ghost laws = { dependency_po };
-
-    fn partial_cmp(&self, other: &JsrDepPackageReq) -> Option<Ordering> {
-        Some(self.cmp(other))
-    }
-}
-
-impl Ord for JsrDepPackageReq {
-    ghost cmp = { dependency_cmp };
-
-    ghost total = { dependency_total };
-
-    ghost matches_partial_cmp = { λ a b. refl };
-
-    ghost matches_eq = { dependency_ties };
-
-    fn cmp(&self, other: &JsrDepPackageReq) -> Ordering {
-        match self.kind.cmp(&other.kind) {
-            Ordering::Equal => self.req.cmp(&other.req),
-            unequal => unequal,
-        }
-    }
 }

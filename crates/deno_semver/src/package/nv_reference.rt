@@ -1,10 +1,8 @@
 //! References to packages: a name and version, and the path of a module in the package.
 
 ghost use Rattle.std.specs.Prelude.{◌≡◌, ◌↔◌, [], IfErr, IfOk, IsTrue, Ok, Result, Some, refl};
-ghost use Rattle.std.specs.Ordering.{as_partial_cmp};
 ghost use Rattle.semver_base.specs.declared.failure.Rejection.{Rejection};
 ghost use Rattle.deno_semver.specs.NvReference.{IsNvReferenceAnswer, IsNvReferenceOutcome, IsNvReferenceRejection, NvReferenceReadsBack, nv_error, nv_reference_text};
-ghost use Rattle.deno_semver.specs.NvReferenceOrder.{nv_reference_cmp, nv_reference_po, nv_reference_ties, nv_reference_total};
 ghost use Rattle.deno_semver.specs.NvReferenceReading.{IsWithRest};
 ghost use Rattle.deno_semver.specs.declared.package.nv_reference.PackageNvReference.{PackageNvReference};
 
@@ -16,7 +14,6 @@ use super::values::{PackageNv, PackageSubPath};
 use semver_base::lexical::after;
 use semver_base::string::{SmallStackString, StackString, StringAppendable};
 use std::alloc::{AllocError, Global};
-use std::cmp::Ordering;
 use std::fmt;
 use thiserror::Error;
 
@@ -53,7 +50,7 @@ impl PackageNvReferenceParseError {
 /// A reference to one version of a package and, optionally, to the path of a module in it.
 ///
 /// Ordered by name and version, and then by path as text, an absent path first.
-#[derive(Debug, PartialEq, Eq, Hash, Drop)]
+#[derive(Debug, PartialEq, Eq, PartialOrd, Ord, Hash, Drop)]
 pub struct PackageNvReference {
     pub nv: PackageNv,
     pub sub_path: Option<PackageSubPath>,
@@ -150,31 +147,4 @@ impl StringAppendable for PackageNvReference {
     ghost text = { nv_reference_text };
 
     ghost displays = { λ x. refl };
-}
-
-impl PartialOrd for PackageNvReference {
-    ghost partial_cmp = { as_partial_cmp nv_reference_cmp };
-
-    ghost laws = { nv_reference_po };
-
-    fn partial_cmp(&self, other: &PackageNvReference) -> Option<Ordering> {
-        Some(self.cmp(other))
-    }
-}
-
-impl Ord for PackageNvReference {
-    ghost cmp = { nv_reference_cmp };
-
-    ghost total = { nv_reference_total };
-
-    ghost matches_partial_cmp = { λ a b. refl };
-
-    ghost matches_eq = { nv_reference_ties };
-
-    fn cmp(&self, other: &PackageNvReference) -> Ordering {
-        match self.nv.cmp(&other.nv) {
-            Ordering::Equal => self.sub_path.cmp(&other.sub_path),
-            unequal => unequal,
-        }
-    }
 }

@@ -2,10 +2,8 @@
 
 ghost use Rattle.std.specs.Prelude.{◌≡◌, IfErr, IfOk, Ok, Result, Some, refl};
 ghost use Rattle.std.specs.Option.{option_copied};
-ghost use Rattle.std.specs.Ordering.{as_partial_cmp};
 ghost use Rattle.semver_base.specs.declared.failure.Rejection.{Rejection};
 ghost use Rattle.deno_semver.specs.NvReference.{IsNvReferenceAnswer, IsNvReferenceOutcome, IsNvReferenceRejection, NvReferenceReadsBack, nv_reference_text};
-ghost use Rattle.deno_semver.specs.NvReferenceOrder.{nv_reference_cmp, nv_reference_po, nv_reference_ties, nv_reference_total};
 ghost use Rattle.deno_semver.specs.ReferenceOutcome.{IsReferenceAnswer, IsReferenceOutcome, IsReferenceRejection, ReferenceFault, ReferenceReadsBack};
 ghost use Rattle.deno_semver.specs.ReferenceText.{reference_text, with_scheme};
 ghost use Rattle.deno_semver.specs.Specifier.{IsSpecifier, specifier_text};
@@ -23,7 +21,6 @@ use super::sub_path::sub_path_text;
 use super::values::{PackageNv, PackageReq};
 use semver_base::string::StringAppendable;
 use std::alloc::{AllocError, Global};
-use std::cmp::Ordering;
 use std::fmt;
 use std::marker::{Model, PhantomData};
 use url::Url;
@@ -164,7 +161,7 @@ impl<R: Registry> StringAppendable for RegistryReqReference<R> {
 ///
 /// Ordered by name and version, and then by path as text, an absent path first.
 #[derive(Drop)]
-#[derive_where(Debug, PartialEq, Eq, Hash)]
+#[derive_where(Debug, PartialEq, Eq, PartialOrd, Ord, Hash)]
 pub struct RegistryNvReference<R> {
     reference: PackageNvReference,
     #[derive_where(skip)]
@@ -285,28 +282,4 @@ impl<R: Registry> StringAppendable for RegistryNvReference<R> {
     ghost text = { λ reference. with_scheme R.kind (nv_reference_text reference) };
 
     ghost displays = { λ x. refl };
-}
-
-impl<R: Registry> PartialOrd for RegistryNvReference<R> {
-    ghost partial_cmp = { as_partial_cmp nv_reference_cmp };
-
-    ghost laws = { nv_reference_po };
-
-    fn partial_cmp(&self, other: &RegistryNvReference<R>) -> Option<Ordering> {
-        Some(self.cmp(other))
-    }
-}
-
-impl<R: Registry> Ord for RegistryNvReference<R> {
-    ghost cmp = { nv_reference_cmp };
-
-    ghost total = { nv_reference_total };
-
-    ghost matches_partial_cmp = { λ a b. refl };
-
-    ghost matches_eq = { nv_reference_ties };
-
-    fn cmp(&self, other: &RegistryNvReference<R>) -> Ordering {
-        self.reference.cmp(&other.reference)
-    }
 }

@@ -2,16 +2,13 @@
 
 ghost use Rattle.std.specs.Prelude.{◌≡◌, IfOk, Some, refl};
 ghost use Rattle.std.specs.Option.{option_copied};
-ghost use Rattle.std.specs.Ordering.{as_partial_cmp};
 ghost use Rattle.deno_semver.specs.NameAndVersion.{nv_text, scope_of};
-ghost use Rattle.deno_semver.specs.NvOrder.{nv_cmp, nv_po, nv_ties, nv_total};
 ghost use Rattle.deno_semver.specs.RequirementText.{req_text};
 
 use semver_base::string::{SmallStackString, StackString, StringAppendable};
 use semver_base::version::Version;
 use semver_req::req::VersionReq;
 use std::alloc::AllocError;
-use std::cmp::Ordering;
 use std::fmt;
 
 /// A package's name, with its scope if it has one.
@@ -64,7 +61,7 @@ impl StringAppendable for PackageReq {
 /// A package's name and one of its versions.
 ///
 /// Ordered by name as text, and then by version.
-#[derive(Debug, PartialEq, Eq, Hash, Drop)]
+#[derive(Debug, PartialEq, Eq, PartialOrd, Ord, Hash, Drop)]
 pub struct PackageNv {
     pub name: PackageName,
     pub version: Version,
@@ -110,31 +107,4 @@ impl StringAppendable for PackageNv {
     ghost text = { nv_text };
 
     ghost displays = { λ x. refl };
-}
-
-impl PartialOrd for PackageNv {
-    ghost partial_cmp = { as_partial_cmp nv_cmp };
-
-    ghost laws = { nv_po };
-
-    fn partial_cmp(&self, other: &PackageNv) -> Option<Ordering> {
-        Some(self.cmp(other))
-    }
-}
-
-impl Ord for PackageNv {
-    ghost cmp = { nv_cmp };
-
-    ghost total = { nv_total };
-
-    ghost matches_partial_cmp = { λ a b. refl };
-
-    ghost matches_eq = { nv_ties };
-
-    fn cmp(&self, other: &PackageNv) -> Ordering {
-        match self.name.cmp(&other.name) {
-            Ordering::Equal => self.version.cmp(&other.version),
-            unequal => unequal,
-        }
-    }
 }

@@ -9,12 +9,11 @@ ghost use Rattle.semver_req.specs.Comparators.{fits};
 ghost use Rattle.semver_req.specs.Outcome.{IsSpecifierRange};
 ghost use Rattle.semver_req.specs.Pieces.{HasNoBar, IsCutAt, IsCutting};
 
-use crate::common::comparator::{Written, non_primitive_front};
+use crate::common::single::{Single, parse_single};
 use crate::common::values::Flavour;
 use crate::error_places::causes::{Cause, cause_of};
 use crate::range_set_or_tag::RangeOrInvalid;
 use semver_base::failure::{ParseFailure, Rejection};
-use semver_base::lexical::values::Measured;
 use semver_base::lexical::{after_whitespace, is_all_whitespace};
 use std::alloc::{AllocError, Global};
 
@@ -138,28 +137,16 @@ fn strict_rejection(alloc: Global, text: &str) -> Result<Option<Rejection>, Pars
         (IsStrictRejection text.now)) }
     ensures memory { IfErr result (λ failure. failure ≡ None) }
 {
-    let Some((written, rest)) = non_primitive_front(alloc, text, Flavour::Specifier)? else {
-        if is_all_whitespace(text) {
-            return Ok(Some(Rejection::EmptyConstraint));
-        }
-        return Ok(Some(Rejection::UnexpectedCharacter));
-    };
-    let Written { operator, partial } = written;
-    let Measured::Fits(partial) = partial else {
-        return Ok(Some(Rejection::NumberTooLarge));
-    };
-    let range = operator.range(alloc, &partial);
-    drop(partial);
-    match range {
-        Ok(range) => {
+    let found = parse_single(alloc, text, Flavour::Specifier)?;
+    match found {
+        Single::Range(range) => {
             drop(range);
-            if rest.is_empty() {
-                return Ok(None);
-            }
-            Ok(Some(Rejection::UnexpectedCharacter))
+            Ok(None)
         }
-        Err(failure) if failure.is_memory() => Err(failure),
-        Err(_) => Ok(Some(Rejection::BoundTooLarge)),
+        Single::Absent if is_all_whitespace(text) => Ok(Some(Rejection::EmptyConstraint)),
+        Single::Absent => Ok(Some(Rejection::UnexpectedCharacter)),
+        Single::Followed => Ok(Some(Rejection::UnexpectedCharacter)),
+        Single::TooLarge(rejection) => Ok(Some(rejection)),
     }
 }
 

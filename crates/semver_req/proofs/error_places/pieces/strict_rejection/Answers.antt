@@ -1,24 +1,19 @@
-use Rattle.std.proofs.Common.{refl, sym}
-use Rattle.semver_req.proofs.Fitting.{fitting, too_large}
-use Rattle.semver_req.specs.Causes.{no_range, whitespace}
-use Rattle.semver_req.proofs.StrictRejections.{bound_rejection, followed_rejection, number_rejection, whole_range}
+use Rattle.std.proofs.Common.{refl}
+use Rattle.semver_req.specs.Causes.{whitespace}
+use Rattle.semver_req.proofs.StrictRejections.{absent_rejection, followed_rejection, large_rejection, whole_range}
 use Rattle.semver_req.proofs.error_places.pieces.strict_rejection.Goals as goal
 
-pub returns-then-is_all_whitespace-clause-value : goal.returns-then-is_all_whitespace-clause-value
-returns-then-is_all_whitespace-clause-value c = whitespace (c.if-is_all_whitespace.ensures.0 refl)
+pub returns-in-Range-clause-value : goal.returns-in-Range-clause-value
+returns-in-Range-clause-value c = whole_range (rw c.in-Range.is at c.in_ok-found.ensures)
 
-pub returns-in_default-clause-value : goal.returns-in_default-clause-value
-returns-in_default-clause-value c = no_range (rw c.in_default.is at c.in_ok-written.ensures) (λ w. cc (c.if-is_all_whitespace.ensures.1 w))
+pub returns-in-Absent-clause-value : goal.returns-in-Absent-clause-value
+returns-in-Absent-clause-value c = whitespace (c.if-is_all_whitespace.ensures.0 refl)
 
-pub returns-in_default-partial-clause-value : goal.returns-in_default-partial-clause-value
-returns-in_default-partial-clause-value c = number_rejection (too_large c.in_default-partial.is (rw c.in-Some.is at c.in_ok-written.ensures))
+pub returns-in-Absent-2-clause-value : goal.returns-in-Absent-2-clause-value
+returns-in-Absent-2-clause-value c = absent_rejection (rw c.in-Absent-2.is at c.in_ok-found.ensures) (λ w. cc (c.if-is_all_whitespace.ensures.1 w))
 
-pub returns-then-is_empty-clause-value : goal.returns-then-is_empty-clause-value
-returns-then-is_empty-clause-value c = whole_range (fitting (rw (c.in-Some.is, c.in-Fits.is) at c.in_ok-written.ensures)) c.in-Ok.ensures.fits (sym c.if-is_empty.ensures)
+pub returns-in-Followed-clause-value : goal.returns-in-Followed-clause-value
+returns-in-Followed-clause-value c = followed_rejection (rw c.in-Followed.is at c.in_ok-found.ensures)
 
-pub returns-else-is_empty-clause-value : goal.returns-else-is_empty-clause-value
-returns-else-is_empty-clause-value c = followed_rejection (fitting (rw (c.in-Some.is, c.in-Fits.is) at c.in_ok-written.ensures)) c.in-Ok.ensures.fits (sym c.if-is_empty.ensures)
-
-pub returns-in-Err-2-clause-value : goal.returns-in-Err-2-clause-value
-returns-in-Err-2-clause-value c =
-    bound_rejection (fitting (rw (c.in-Some.is, c.in-Fits.is) at c.in_ok-written.ensures)) c.in-Err.failure c.in-Err.ensures.rejected (λ e. cc (c.if-is_memory.ensures.1 e))
+pub returns-in-TooLarge-clause-value : goal.returns-in-TooLarge-clause-value
+returns-in-TooLarge-clause-value c = large_rejection (rw c.in-TooLarge.is at c.in_ok-found.ensures)
