@@ -66,17 +66,9 @@ BestOf end flag read versions = UnlessTag (tag_of read)
     (λ outcome. (best : Option Best) × IsBest end (inner_means_with flag read) versions best × (outcome ≡ Ok (Value best)))
 
 -- the same of texts
-abbrev pub EndMatch : End → PreRelease → Flavour → List ℕ → List (List ℕ) → Result (Answer (Option Best)) Fault → Type 0
-EndMatch end flag f range versions =
+abbrev pub BestMatch : End → PreRelease → Flavour → List ℕ → List (List ℕ) → Result (Answer (Option Best)) Fault → Type 0
+BestMatch end flag f range versions =
     Given (IsRange f 0 range) (λ req. Given (Each IsVersion 0 versions) (BestOf end flag req.inner))
-
--- the highest version that matches
-abbrev pub BestMatch : PreRelease → Flavour → List ℕ → List (List ℕ) → Result (Answer (Option Best)) Fault → Type 0
-BestMatch = EndMatch Highest
-
--- the lowest one
-abbrev pub LowestMatch : PreRelease → Flavour → List ℕ → List (List ℕ) → Result (Answer (Option Best)) Fault → Type 0
-LowestMatch = EndMatch Lowest
 
 -- ---- do two ranges overlap
 

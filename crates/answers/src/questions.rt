@@ -14,7 +14,7 @@ ghost use Rattle.semver_req.specs.TextRejection.{IsTextRejection};
 ghost use Rattle.semver_req.specs.Resolve.{IsBestMatch, IsOnlyMatch};
 ghost use Rattle.answers.specs.Asking.{IsAnswer, IsFailureAt};
 ghost use Rattle.answers.specs.declared.asking.Kind.TheVariants as kind;
-ghost use Rattle.answers.specs.Questions.{BestMatch, BestOf, Canonical, Common, CommonOf, Displayed, EndMatch, Equivalent, EquivalentOf, LowestMatch, Matches, Orders, Outside, OutsideOf, Overlaps, better, first_tag, match_of};
+ghost use Rattle.answers.specs.Questions.{BestMatch, BestOf, Canonical, Common, CommonOf, Displayed, Equivalent, EquivalentOf, Matches, Orders, Outside, OutsideOf, Overlaps, better, first_tag, match_of};
 ghost use Rattle.answers.specs.Reading.{IsFailureAmong, texts_of};
 
 use crate::asking::{Answer, Problem};
@@ -142,8 +142,8 @@ fn best_of(
     }
 }
 
-// Which of the versions at this end of the order matches the range?
-fn end_match(
+/// Which of the versions is the highest or lowest that matches the range? Of those that differ only in the build, the first.
+pub fn best_match(
     alloc: Global,
     end: End,
     flavour: Flavour,
@@ -152,7 +152,7 @@ fn end_match(
     version_texts: &[&str],
 ) -> Result<Answer<Option<Best>>, Problem>
     ensures answer { IsAnswer
-        (EndMatch end pre_release flavour range_text.now (texts_of version_texts.now))
+        (BestMatch end pre_release flavour range_text.now (texts_of version_texts.now))
         (λ answer. answer) result }
     ensures failure { IfErr result
         (λ p. IsFailureAt kind.Range 0 (IsTextRejection flavour range_text.now) p
@@ -162,46 +162,6 @@ fn end_match(
     let range = range(alloc, flavour, 0, range_text)?;
     let versions = versions(alloc, version_texts)?;
     best_of(alloc, end, pre_release, &range, versions)
-}
-
-/// Which of the versions is the highest that matches the range? Of those that differ only in the build, the first.
-pub fn best_match(
-    alloc: Global,
-    flavour: Flavour,
-    pre_release: PreRelease,
-    range_text: &str,
-    version_texts: &[&str],
-) -> Result<Answer<Option<Best>>, Problem>
-    ensures answer { IsAnswer
-        (BestMatch pre_release flavour range_text.now (texts_of version_texts.now))
-        (λ answer. answer) result }
-    ensures failure { IfErr result
-        (λ p. IsFailureAt kind.Range 0 (IsTextRejection flavour range_text.now) p
-        ⊎ IsFailureAmong kind.Version (λ text. IsVersionRejection (trim text))
-        (texts_of version_texts.now) p) }
-{
-    let end = End::Highest;
-    end_match(alloc, end, flavour, pre_release, range_text, version_texts)
-}
-
-/// Which of the versions is the lowest that matches the range? Of those that differ only in the build, the first.
-pub fn lowest_match(
-    alloc: Global,
-    flavour: Flavour,
-    pre_release: PreRelease,
-    range_text: &str,
-    version_texts: &[&str],
-) -> Result<Answer<Option<Best>>, Problem>
-    ensures answer { IsAnswer
-        (LowestMatch pre_release flavour range_text.now (texts_of version_texts.now))
-        (λ answer. answer) result }
-    ensures failure { IfErr result
-        (λ p. IsFailureAt kind.Range 0 (IsTextRejection flavour range_text.now) p
-        ⊎ IsFailureAmong kind.Version (λ text. IsVersionRejection (trim text))
-        (texts_of version_texts.now) p) }
-{
-    let end = End::Lowest;
-    end_match(alloc, end, flavour, pre_release, range_text, version_texts)
 }
 
 /// Do the two ranges overlap, by their bounds? Two tags overlap if they are the same, a tag and versions never.

@@ -7,6 +7,7 @@ use Rattle.semver_req.specs.declared.common.values.Flavour.{Flavour}
 use Rattle.semver_req.specs.declared.common.values.Flavour.TheVariants.{Npm}
 use Rattle.answers.specs.Asking as fault
 use Rattle.answers.specs.Asking.{Fault, Invalid, IsOutcomeOf}
+use Rattle.answers.specs.declared.questions.End.TheVariants.{Highest}
 use Rattle.answers.specs.Questions.{BestMatch, Canonical, Matches, Overlaps}
 use Rattle.answers.specs.declared.asking.Answer.{Answer}
 use Rattle.answers.specs.declared.asking.Answer.TheVariants as answer
@@ -201,7 +202,7 @@ four_fits_pre command parser requirement version is result h = same_answer _ (Is
     from reported (asks_nothing n) = absurd (n (form_fits_pre same))
 
 pub versions_best : (command parser requirement : List ℕ) (versions : List (List ℕ)) → 0 < length versions → command ≡ codes "best" → (result : Result Line Problem)
-    → IsAnswer (ByParser parser (λ f. Prints reported_best (BestMatch Restricted f requirement versions))) result → IsAnswer (IsAsked (of_versions command parser requirement versions)) result
+    → IsAnswer (ByParser parser (λ f. Prints reported_best (BestMatch Highest Restricted f requirement versions))) result → IsAnswer (IsAsked (of_versions command parser requirement versions)) result
 versions_best command parser requirement [] some is result h = absurd (omega (arith, some))
 versions_best command parser requirement (version ∷ others) some is result h = same_answer _ (IsAsked arguments) (λ reported a. asks_best same a) from result h
   where
@@ -211,11 +212,11 @@ versions_best command parser requirement (version ∷ others) some is result h =
     same : arguments ≡ codes "best" ∷ parser ∷ requirement ∷ version ∷ others
     same = ap (λ (x : List ℕ). of_versions x parser requirement (version ∷ others)) is
 
-    from : (reported : Reported) → IsAsked arguments reported → ByParser parser (λ f. Prints reported_best (BestMatch Restricted f requirement (version ∷ others))) reported
+    from : (reported : Reported) → IsAsked arguments reported → ByParser parser (λ f. Prints reported_best (BestMatch Highest Restricted f requirement (version ∷ others))) reported
     from reported (asks_best {parser = r} {requirement = q} {version = v} {versions = vs} e a) =
-        subst (λ (x : List ℕ). ByParser x (λ f. Prints reported_best (BestMatch Restricted f requirement (version ∷ others))) reported) (sym (same_argument arguments _ 1 e))
-        (subst (λ (x : List ℕ). ByParser r (λ f. Prints reported_best (BestMatch Restricted f x (version ∷ others))) reported) (sym (same_argument arguments _ 2 e))
-        (subst (λ (x : List (List ℕ)). ByParser r (λ f. Prints reported_best (BestMatch Restricted f q x)) reported) (sym (same_rest arguments _ e)) a))
+        subst (λ (x : List ℕ). ByParser x (λ f. Prints reported_best (BestMatch Highest Restricted f requirement (version ∷ others))) reported) (sym (same_argument arguments _ 1 e))
+        (subst (λ (x : List ℕ). ByParser r (λ f. Prints reported_best (BestMatch Highest Restricted f x (version ∷ others))) reported) (sym (same_argument arguments _ 2 e))
+        (subst (λ (x : List (List ℕ)). ByParser r (λ f. Prints reported_best (BestMatch Highest Restricted f q x)) reported) (sym (same_rest arguments _ e)) a))
     from reported (asks_fits e a) = absurd (apart command 0 (codes "best") (codes "fits") is (same_argument arguments _ 0 e) refl)
     from reported (asks_fits_pre e a) = absurd (apart command 0 (codes "best") (codes "fits-pre") is (same_argument arguments _ 0 e) refl)
     from reported (asks_normal e a) = absurd (apart command 0 (codes "best") (codes "normal") is (same_argument arguments _ 0 e) refl)

@@ -4,6 +4,7 @@ use Rattle.semver_base.specs.declared.range.PreRelease.TheVariants.{Restricted, 
 use Rattle.semver_req.specs.declared.common.values.Flavour.{Flavour}
 use Rattle.semver_req.specs.declared.common.values.Flavour.TheVariants.{Npm, Normal, Specifier}
 use Rattle.answers.specs.Asking.{Fault, Invalid}
+use Rattle.answers.specs.declared.questions.End.TheVariants.{Highest}
 use Rattle.answers.specs.Questions.{BestMatch, Canonical, Matches, Overlaps}
 use Rattle.answers.specs.declared.asking.Kind.{Kind}
 use Rattle.npmver.specs.Reported.{Reported, OutOfMemory, Rejected, Text, Usage, status_of, reported_answer, reported_best, reported_by, reported_match, reported_whether}
@@ -54,7 +55,7 @@ pub data IsAsked (arguments : List (List ℕ)) : Reported → Type 0 where
       → ByParser parser (λ f. Prints reported_match (Matches Admitted f requirement version)) reported → IsAsked arguments reported
   asks_best : {parser requirement version : List ℕ} {versions : List (List ℕ)} {reported : Reported}
       → arguments ≡ codes "best" ∷ parser ∷ requirement ∷ version ∷ versions
-      → ByParser parser (λ f. Prints reported_best (BestMatch Restricted f requirement (version ∷ versions))) reported → IsAsked arguments reported
+      → ByParser parser (λ f. Prints reported_best (BestMatch Highest Restricted f requirement (version ∷ versions))) reported → IsAsked arguments reported
   asks_normal : {parser requirement : List ℕ} {reported : Reported} → arguments ≡ codes "normal" ∷ parser ∷ requirement ∷ []
       → ByParser parser (λ f. Prints Text (Canonical f requirement)) reported → IsAsked arguments reported
   asks_meet : {one other : List ℕ} {reported : Reported} → arguments ≡ codes "meet" ∷ one ∷ other ∷ [] → Prints reported_whether (Overlaps Npm one other) reported

@@ -25,7 +25,7 @@ ghost use Rattle.npmver.specs.Reported.{Text, status_of, reported_answer, report
 ghost use Rattle.npmver.specs.declared.Problem.TheVariants as problem;
 
 use answers::asking::{Answer, Problem as Unanswered};
-use answers::questions::{Best, best_match, canonical, matches, overlaps, text_of_version};
+use answers::questions::{Best, End, best_match, canonical, matches, overlaps, text_of_version};
 use semver_base::range::PreRelease;
 use semver_req::common::values::Flavour;
 use semver_req::range_set_or_tag::PackageTag;
@@ -247,7 +247,7 @@ fn best(
     versions: &[String],
 ) -> Result<Line, Problem>
     ensures { IsAnswer (ByParser parser.now (λ f. Prints reported_best
-        (BestMatch PreRelease.Restricted f requirement.now (map string_bytes versions.now)))) result }
+        (BestMatch End.Highest PreRelease.Restricted f requirement.now (map string_bytes versions.now)))) result }
 {
     let Some(flavour) = flavour_of(parser) else {
         return Err(Problem::Usage);
@@ -255,6 +255,7 @@ fn best(
     let versions = slices(alloc, versions)?;
     let answer = best_match(
         alloc,
+        End::Highest,
         flavour,
         PreRelease::Restricted,
         requirement,

@@ -1,6 +1,6 @@
 use Rattle.std.proofs.lemmas.Result.{err_from_is_err_and}
 use Rattle.answers.proofs.Givens.{by_fault, by_value}
-use Rattle.answers.proofs.questions.end_match.Goals as goal
+use Rattle.answers.proofs.questions.best_match.Goals as goal
 
 pub returns-in_err-range-clause-answer : goal.returns-in_err-range-clause-answer
 returns-in_err-range-clause-answer c =
