@@ -1,2 +1,3 @@
 pub mod Outcomes
+pub mod PackagePlaces
 pub mod ReferencePlaces

@@ -1,3 +1,4 @@
+pub mod Errors
 pub mod Faults
 pub mod Names
 pub mod Packages

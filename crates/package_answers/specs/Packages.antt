@@ -1,5 +1,5 @@
 -- The package that a text parses to, its parts, and what is wrong with an invalid text.
-use Rattle.std.specs.Prelude.{◌≡◌, ◌⊎◌, ◌==◌, ◌+◌, ℕ, List, [], ◌∷◌, true, false, Option, None, Some, Result, codes, drop, length, if◌then◌else◌}
+use Rattle.std.specs.Prelude.{◌≡◌, ◌⊎◌, ◌==◌, ◌+◌, ℕ, List, [], ◌∷◌, Option, None, Some, Result, Ok, Err, codes, drop, length, if◌then◌else◌}
 use Rattle.std.specs.List.{take_while}
 use Rattle.serde_json.specs.Data.{Data, member, no_members, object, string}
 use Rattle.serde_json.specs.Written.{compact_text}
@@ -11,17 +11,19 @@ use Rattle.deno_semver.specs.Cuts.{is_not}
 use Rattle.semver_req.specs.InvalidPieces.{AreInvalidBehind}
 use Rattle.semver_req.specs.declared.error_places.pieces.InvalidPiece.{InvalidPiece}
 use Rattle.deno_semver.specs.PackagePlaces.{IsRequirementAt, LacksRequirement}
-use Rattle.deno_semver.specs.PackageText.{lacks_at}
-use Rattle.deno_semver.specs.PackageOutcome.{IsPackageOutcome, IsPackageRejection}
+use Rattle.deno_semver.specs.PackageOutcome as outcome
+use Rattle.deno_semver.specs.PackageOutcome.{BadVersion, IsPackageOutcome, IsPackageRejection, Reports}
 use Rattle.deno_semver.specs.declared.package.errors.PackageReqParseError.{PackageReqParseError}
 use Rattle.deno_semver.specs.declared.package.errors.PackageReqPartsParseError.{PackageReqPartsParseError}
 use Rattle.deno_semver.specs.declared.package.errors.PackageReqPartsParseError.TheVariants as parts
 use Rattle.deno_semver.specs.declared.package.values.PackageReq.{PackageReq}
 use Rattle.answers.specs.Asking.{Fault, Given, Is}
-use Rattle.answers.specs.Errors.{errors_json}
 use Rattle.answers.specs.Object.{text_or_null}
 use Rattle.answers.specs.Reading.{Parsed}
 use Rattle.answers.specs.declared.asking.Kind.TheVariants as kind
+use Rattle.package_answers.specs.Errors.{IsFaultAt, IsPartError, package_errors_json}
+use Rattle.package_answers.specs.declared.errors.PackageErrors.{PackageErrors}
+use Rattle.package_answers.specs.declared.errors.PackageErrors.TheVariants as errors
 
 -- ---- a name and its scope
 
@@ -82,12 +84,21 @@ pub data AreRangeErrors (f : Flavour) (before : ℕ) (text : List ℕ) : List In
       → AreInvalidBehind f (before + start) range errors → AreRangeErrors f before text errors
   no_range : LacksRequirement text → AreRangeErrors f before text []
 
--- those of a package; where an `@` is missing before a scope, that is all that is wrong
-pub data ArePackageErrors (f : Flavour) (text : List ℕ) : List InvalidPiece → Type 0 where
-  lacks : lacks_at text ≡ true → ArePackageErrors f text []
-  of_package : {errors : List InvalidPiece} → lacks_at text ≡ false → AreRangeErrors f 0 text errors → ArePackageErrors f text errors
+-- they are these
+abbrev pub AreOfRange : Flavour → ℕ → List ℕ → PackageErrors → Type 0
+AreOfRange f before text (errors.Range pieces) = AreRangeErrors f before text pieces.items
+AreOfRange f before text (errors.Part e) = ⊥
+
+-- what is wrong with the text of a package, by its outcome: the errors of its range, or where it has another fault
+pub data ArePackageErrors (f : Flavour) (text : List ℕ) (errors : PackageErrors) : Type 0 where
+  valid : {req : PackageReq} → IsPackageOutcome f text (Ok req) → AreOfRange f 0 text errors → ArePackageErrors f text errors
+  bad_version : {version : List ℕ} → IsPackageOutcome f text (Err (BadVersion version)) → AreOfRange f 0 text errors
+      → ArePackageErrors f text errors
+  other_fault : {fault : outcome.Fault} (error : PackageReqPartsParseError) → IsPackageOutcome f text (Err fault)
+      → Reports f fault error → IsPartError (IsFaultAt text fault) (parts_failure error) errors
+      → ArePackageErrors f text errors
 
 -- the text is that of these errors as JSON
 abbrev pub IsPackageErrorsText : Flavour → List ℕ → List ℕ → Type 0
-IsPackageErrorsText f text json =
-    (errors : List InvalidPiece) × ArePackageErrors f text errors × (json ≡ compact_text (errors_json errors))
+IsPackageErrorsText f text json = (errors : PackageErrors) × ArePackageErrors f text errors
+    × (json ≡ compact_text (package_errors_json (length text) errors))

@@ -1,24 +1,31 @@
 -- The package reference that a text parses to, its parts, and what is wrong with an invalid text.
-use Rattle.std.specs.Prelude.{◌≡◌, ◌⊎◌, ◌++◌, ℕ, List, [], Option, None, Some, Result, Ok, Err, codes, length}
+use Rattle.std.specs.Prelude.{◌≡◌, ◌⊎◌, ◌++◌, ◌∷◌, ◌+◌, ℕ, List, true, Option, None, Some, Result, Ok, Err, codes, length}
+use Rattle.std.specs.List.{list_all}
 use Rattle.serde_json.specs.Data.{Data, member, no_members, object, string}
 use Rattle.serde_json.specs.Written.{compact_text}
+use Rattle.semver_base.specs.Characters.{at_sign}
 use Rattle.semver_req.specs.Parsers.{Failure}
 use Rattle.semver_req.specs.declared.common.values.Flavour.TheVariants.{Specifier}
-use Rattle.semver_req.specs.declared.error_places.pieces.InvalidPiece.{InvalidPiece}
+use Rattle.deno_semver.specs.Cuts.{is_not}
 use Rattle.deno_semver.specs.ExportName.{export_name}
 use Rattle.deno_semver.specs.Kind.{scheme_of}
+use Rattle.deno_semver.specs.PackageOutcome as outcome
+use Rattle.deno_semver.specs.PackageOutcome.{BadVersion}
 use Rattle.deno_semver.specs.ReferenceOutcome as reference
-use Rattle.deno_semver.specs.ReferenceOutcome.{IsReferenceOutcome, IsReferenceRejection, ReferenceError, ReferenceFault, unboxed}
+use Rattle.deno_semver.specs.ReferenceOutcome.{BadText, IsReferenceOutcome, IsReferenceRejection, OtherScheme, ReferenceError, ReferenceFault, ReportsReference, VersionInPath, unboxed}
 use Rattle.deno_semver.specs.ReferenceText.{LacksScheme}
 use Rattle.deno_semver.specs.declared.package.kind.PackageKind.{PackageKind}
 use Rattle.deno_semver.specs.declared.package.kind.PackageKind.TheVariants.{Jsr, Npm}
 use Rattle.deno_semver.specs.declared.package.reference_errors.PackageReqReferenceParseError.{PackageReqReferenceParseError}
 use Rattle.answers.specs.Asking.{Fault, Given, Is}
-use Rattle.answers.specs.Errors.{errors_json}
-use Rattle.package_answers.specs.Packages.{AreRangeErrors, package_json, parts_failure}
+use Rattle.package_answers.specs.Packages.{AreOfRange, package_json, parts_failure}
 use Rattle.answers.specs.Object.{text_or_null}
 use Rattle.answers.specs.Reading.{Parsed}
 use Rattle.answers.specs.declared.asking.Kind.TheVariants as kind
+use Rattle.package_answers.specs.Errors.{IsFaultAt, IsPartError, package_errors_json}
+use Rattle.package_answers.specs.declared.errors.PackageErrors.{PackageErrors}
+use Rattle.package_answers.specs.declared.errors.Part.{Part}
+use Rattle.package_answers.specs.declared.errors.Part.TheVariants.{Scheme}
 use Rattle.package_answers.specs.declared.references.Reference.{Reference}
 
 -- ---- the parts
@@ -80,13 +87,35 @@ IsReferenceFailure text failure = (failure ≡ None)
 
 -- ---- places of errors
 
--- the invalid alternatives of the range in the text of a reference; none without a scheme
-pub data AreReferenceErrors (text : List ℕ) : List InvalidPiece → Type 0 where
-  behind_scheme : (kind : PackageKind) {body : List ℕ} {errors : List InvalidPiece} → text ≡ scheme_of kind ++ body
-      → AreRangeErrors Specifier (length (scheme_of kind)) body errors → AreReferenceErrors text errors
-  no_scheme : LacksScheme Jsr text → LacksScheme Npm text → AreReferenceErrors text []
+-- where the text of a reference has a fault, and the part that is missing there; a version isn't allowed in the path
+pub data IsReferenceFaultAt (text : List ℕ) : ReferenceFault → Option Part → ℕ → Type 0 where
+  no_scheme : IsReferenceFaultAt text OtherScheme (Some Scheme) 0
+  behind_scheme : (kind : PackageKind) {body : List ℕ} {fault : outcome.Fault} {missing : Option Part} {place : ℕ}
+      → text ≡ scheme_of kind ++ body → IsFaultAt body fault missing place
+      → IsReferenceFaultAt text (BadText fault) missing (length (scheme_of kind) + place)
+  -- at the last `@`
+  at_version : (before version : List ℕ) {current suggested : List ℕ} → text ≡ before ++ (at_sign ∷ version)
+      → list_all (is_not at_sign) version ≡ true
+      → IsReferenceFaultAt text (VersionInPath current suggested) None (length before)
+
+-- the errors of the range behind the scheme
+pub record AreBehindScheme (kind : PackageKind) (text : List ℕ) (errors : PackageErrors) : Type 0 where
+  pub body : List ℕ
+  pub text_is : text ≡ scheme_of kind ++ body
+  pub are : AreOfRange Specifier (length (scheme_of kind)) body errors
+
+-- what is wrong with the text of a reference, by its outcome: the errors of its range, or where it has another fault
+pub data AreReferenceErrors (text : List ℕ) (errors : PackageErrors) : Type 0 where
+  valid : {read : Reference} → IsRegistryOutcome text (Ok read) → AreBehindScheme read.kind text errors
+      → AreReferenceErrors text errors
+  bad_version : (kind : PackageKind) {version : List ℕ} → IsRegistryOutcome text (Err (BadText (BadVersion version)))
+      → AreBehindScheme kind text errors → AreReferenceErrors text errors
+  other_fault : (kind : PackageKind) {fault : ReferenceFault} (error : PackageReqReferenceParseError)
+      → IsRegistryOutcome text (Err fault) → ReportsReference kind text fault error
+      → IsPartError (IsReferenceFaultAt text fault) (reference_failure (unboxed error)) errors
+      → AreReferenceErrors text errors
 
 -- the text is that of these errors as JSON
 abbrev pub IsReferenceErrorsText : List ℕ → List ℕ → Type 0
-IsReferenceErrorsText text json =
-    (errors : List InvalidPiece) × AreReferenceErrors text errors × (json ≡ compact_text (errors_json errors))
+IsReferenceErrorsText text json = (errors : PackageErrors) × AreReferenceErrors text errors
+    × (json ≡ compact_text (package_errors_json (length text) errors))

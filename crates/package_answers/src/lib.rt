@@ -1,6 +1,7 @@
 //! Questions about the texts of packages, names with versions, references and dependencies, and their parts as JSON.
 #![tactic(auto)]
 
+pub mod errors;
 pub mod faults;
 pub mod names;
 pub mod packages;

@@ -1,24 +1,26 @@
 //! The text of a package, such as `@scope/name@^1.2`.
 
-ghost use Rattle.std.specs.Prelude.{◌≡◌, ◌⊎◌, ◌+◌, ◌<◌, ◌^◌, IfErr, IfOk, None, Ok, Result, length, string_bytes};
+ghost use Rattle.std.specs.Prelude.{◌≡◌, ◌≢◌, ◌⊎◌, ◌+◌, ◌<◌, ◌≤◌, ◌^◌, List, ℕ, IfErr, IfOk, IfSome, MatchOption, None, Ok, Result, length, string_bytes};
 ghost use Rattle.std.specs.Option.{option_copied};
 ghost use Rattle.serde_json.specs.View.{view};
-ghost use Rattle.deno_semver.specs.PackageOutcome.{Fault, IsPackageAnswer, IsPackageOutcome, IsPackageRejection};
+ghost use Rattle.deno_semver.specs.PackageOutcome.{BadVersion, Fault, IsPackageAnswer, IsPackageOutcome, IsPackageRejection, Reports};
 ghost use Rattle.deno_semver.specs.declared.package.values.PackageReq.{PackageReq};
 ghost use Rattle.answers.specs.Asking.{IsAnswer, IsFailureAt};
-ghost use Rattle.package_answers.specs.Packages.{ArePackageErrors, AreRangeErrors, IsPackage, IsPackageErrorsText, IsPackageFailure, PackageParts, last_part, package_json, parts_failure, scope_part};
+ghost use Rattle.package_answers.specs.Errors.{IsFaultAt, IsPartError};
+ghost use Rattle.package_answers.specs.Packages.{AreOfRange, ArePackageErrors, IsPackage, IsPackageErrorsText, IsPackageFailure, PackageParts, last_part, package_json, parts_failure, scope_part};
 ghost use Rattle.answers.specs.Object.{text_or_null};
 ghost use Rattle.answers.specs.declared.asking.Kind.TheVariants as kind;
 
+use crate::errors::{PackageErrors, Part, PartError, errors_text};
 use answers::asking::{Kind, Problem};
-use answers::errors::errors_text;
 use answers::object::{Object, json_text};
 use deno_semver::ParseFailure;
 use deno_semver::package::{
-    PackageReq, PackageReqParseError, PackageReqPartsParseError, lacks_at, version_req_text,
+    PackageReq, PackageReqParseError, PackageReqPartsParseError, version_req_text,
 };
+use semver_base::lexical::after;
 use semver_req::common::values::Flavour;
-use semver_req::error_places::pieces::{InvalidPiece, invalid_pieces_behind};
+use semver_req::error_places::pieces::invalid_pieces_behind;
 use serde_json::Value;
 use std::alloc::{AllocError, Global};
 
@@ -120,32 +122,96 @@ pub(crate) fn range_errors(
     flavour: Flavour,
     before: usize,
     text: &str,
-) -> Result<Vec<InvalidPiece>, AllocError>
+) -> Result<PackageErrors, AllocError>
     requires { before + length text.now < 2 ^ 64 }
-    ensures { IfOk result (λ errors. AreRangeErrors flavour before text.now errors.items) }
+    ensures { IfOk result (AreOfRange flavour before text.now) }
 {
     let Some((start, range)) = version_req_text(text) else {
-        return Ok(Vec::new(alloc));
+        return Ok(PackageErrors::Range(Vec::new(alloc)));
     };
     match invalid_pieces_behind(alloc, before + start, range, flavour) {
-        Ok(errors) => Ok(errors),
+        Ok(errors) => Ok(PackageErrors::Range(errors)),
         // Only out of memory.
         Err(_) => Err(AllocError),
     }
 }
 
-/// The invalid alternatives of the range in the text of a package, in their order, with what is wrong in each and where in that text.
+/// Where the text of a package has the fault that its parser reports, and which part is missing there; `None` if its range is invalid.
+pub(crate) fn fault_place(
+    text: &str,
+    error: &PackageReqPartsParseError,
+) -> Option<(usize, Option<Part>)>
+    ensures place { (f : Flavour) (fault : Fault) → Reports f fault error.now
+        → MatchOption result ((version : List ℕ) × (fault ≡ BadVersion version))
+        (λ at. IsFaultAt text.now fault at.1 at.0) }
+    ensures within { IfSome result (λ at. at.0 ≤ length text.now) }
+{
+    let body = after(text, '/').unwrap_or(text);
+    match error {
+        PackageReqPartsParseError::MissingAtSymbol => Some((0, Some(Part::At))),
+        PackageReqPartsParseError::NoPackageName => {
+            Some((text.len() - body.len(), Some(Part::Name)))
+        }
+        PackageReqPartsParseError::InvalidPackageName => match body.split_once('/') {
+            Some((_scope, rest)) => Some((text.len() - rest.len(), Some(Part::Name))),
+            None => Some((text.len(), Some(Part::Slash))),
+        },
+        PackageReqPartsParseError::SpecifierVersionReq(error) => {
+            // Only the error of a path has a snippet, which begins with its `/`.
+            match error.source.code_snippet() {
+                Some(path) => Some((text.len().saturating_sub(path.len()), None)),
+                None => None,
+            }
+        }
+        _ => None,
+    }
+}
+
+/// The error of a part at this place; without a place, those of the range in the text of a package that stands behind so many bytes.
+pub(crate) fn errors_at(
+    alloc: Global,
+    place: Option<(usize, Option<Part>)>,
+    failure: ParseFailure,
+    flavour: Flavour,
+    before: usize,
+    text: &str,
+) -> Result<PackageErrors, AllocError>
+    requires { before + length text.now < 2 ^ 64 }
+    ensures reported { IfOk result (λ _errors. failure ≢ None) }
+    ensures errors { IfOk result (λ errors. MatchOption place
+        (AreOfRange flavour before text.now errors)
+        (λ at. IsPartError (λ missing place. (missing ≡ at.1) × (place ≡ at.0)) failure errors)) }
+{
+    if failure.is_memory() {
+        return Err(AllocError);
+    }
+    match place {
+        Some((place, missing)) => Ok(PackageErrors::Part(PartError {
+            place,
+            missing,
+            failure,
+        })),
+        None => range_errors(alloc, flavour, before, text),
+    }
+}
+
+/// What is wrong with the text of a package, and where: the invalid alternatives of its range, in their order, or the part that it lacks.
+/// A tag isn't a range, and a path isn't allowed.
 pub fn package_errors(
     alloc: Global,
     flavour: Flavour,
     text: &str,
-) -> Result<Vec<InvalidPiece>, AllocError>
-    ensures { IfOk result (λ errors. ArePackageErrors flavour text.now errors.items) }
+) -> Result<PackageErrors, AllocError>
+    ensures { IfOk result (ArePackageErrors flavour text.now) }
 {
-    if lacks_at(text) {
-        return Ok(Vec::new(alloc));
+    match parse(alloc, flavour, text) {
+        Ok(_req) => range_errors(alloc, flavour, 0, text),
+        Err(error) => {
+            let place = fault_place(text, &error.source);
+            let failure = parts_failure(alloc, error.source);
+            errors_at(alloc, place, failure, flavour, 0, text)
+        }
     }
-    range_errors(alloc, flavour, 0, text)
 }
 
 /// Returns those errors as the text of a JSON array.
@@ -157,5 +223,5 @@ pub fn package_errors_text(
     ensures { IfOk result (λ json. IsPackageErrorsText flavour text.now (string_bytes json)) }
 {
     let errors = package_errors(alloc, flavour, text)?;
-    errors_text(alloc, errors.as_slice())
+    errors_text(alloc, text.len(), &errors)
 }

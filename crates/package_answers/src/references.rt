@@ -1,25 +1,26 @@
 //! The text of a reference to a package, such as `jsr:@scope/name@1/mod.ts`.
 
-ghost use Rattle.std.specs.Prelude.{◌≡◌, ◌⊎◌, IfErr, IfOk, None, Ok, Result, string_bytes};
+ghost use Rattle.std.specs.Prelude.{◌≡◌, ◌⊎◌, ◌≤◌, ◌++◌, Err, List, ℕ, IfErr, IfOk, MatchOption, None, Ok, Result, length, string_bytes};
 ghost use Rattle.std.specs.Option.{option_copied};
 ghost use Rattle.serde_json.specs.View.{view};
-ghost use Rattle.deno_semver.specs.ReferenceOutcome.{IsReferenceAnswer, IsReferenceOutcome, IsReferenceRejection, ReferenceFault, unboxed};
+ghost use Rattle.deno_semver.specs.Kind.{scheme_of};
+ghost use Rattle.deno_semver.specs.PackageOutcome.{BadVersion};
+ghost use Rattle.deno_semver.specs.ReferenceOutcome.{BadText, IsReferenceAnswer, IsReferenceOutcome, IsReferenceRejection, ReferenceFault, ReportsReference, unboxed};
 ghost use Rattle.deno_semver.specs.declared.package.reference.PackageReqReference.{PackageReqReference};
 ghost use Rattle.answers.specs.Asking.{IsAnswer, IsFailureAt};
 ghost use Rattle.answers.specs.Object.{text_or_null};
-ghost use Rattle.package_answers.specs.References.{AreReferenceErrors, IsReference, IsReferenceErrorsText, IsReferenceFailure, IsRegistryOf, ReferenceParts, export_of, kind_text, reference_failure, reference_json};
+ghost use Rattle.package_answers.specs.References.{AreReferenceErrors, IsReference, IsReferenceErrorsText, IsReferenceFailure, IsReferenceFaultAt, IsRegistryOf, ReferenceParts, export_of, kind_text, reference_failure, reference_json};
 ghost use Rattle.answers.specs.declared.asking.Kind.TheVariants as kind;
 
-use crate::packages::{package_json, parts_failure, range_errors};
+use crate::errors::{PackageErrors, Part, errors_text};
+use crate::packages::{errors_at, fault_place, package_json, parts_failure, range_errors};
 use answers::asking::{Kind, Problem};
-use answers::errors::errors_text;
 use answers::object::{Object, json_text, text_json};
 use deno_semver::ParseFailure;
 use deno_semver::jsr::{JsrPackageReqReference, normalized_export_name};
 use deno_semver::npm::NpmPackageReqReference;
 use deno_semver::package::{PackageKind, PackageReqReference, PackageReqReferenceParseError};
 use semver_req::common::values::Flavour;
-use semver_req::error_places::pieces::InvalidPiece;
 use serde_json::Value;
 use std::alloc::{AllocError, Global};
 
@@ -177,14 +178,49 @@ pub fn reference_parts(alloc: Global, text: &str) -> Result<String, Problem>
     Ok(json_text(alloc, reference_json(alloc, &read))?)
 }
 
-/// The invalid alternatives of the range in the text of a reference, in their order, with what is wrong in each and where in that text.
-pub fn reference_errors(alloc: Global, text: &str) -> Result<Vec<InvalidPiece>, AllocError>
-    ensures { IfOk result (λ errors. AreReferenceErrors text.now errors.items) }
+// Where the text of a reference, with this body behind its scheme, has the fault that its parser reports, and which part is missing there;
+// `None` if its range is invalid.
+fn reference_place(
+    text: &str,
+    body: &str,
+    error: &PackageReqReferenceParseError,
+) -> Option<(usize, Option<Part>)>
+    requires { length body.now ≤ length text.now }
+    ensures { (kind : PackageKind) (fault : ReferenceFault)
+        → IsReferenceOutcome kind text.now (Err fault)
+        → ReportsReference kind text.now fault error.now
+        → ((behind : List ℕ) → text.now ≡ scheme_of kind ++ behind → body.now ≡ behind)
+        → MatchOption result ((version : List ℕ) × (fault ≡ BadText (BadVersion version)))
+        (λ at. IsReferenceFaultAt text.now fault at.1 at.0) }
+{
+    match error {
+        PackageReqReferenceParseError::NotExpectedScheme(_) => Some((0, Some(Part::Scheme))),
+        PackageReqReferenceParseError::Invalid(error) => match fault_place(body, &error.source) {
+            Some((place, missing)) => Some((text.len() - body.len() + place, missing)),
+            None => None,
+        },
+        PackageReqReferenceParseError::InvalidPathWithVersion(_) => match text.rsplit_once('@') {
+            Some((before, _version)) => Some((before.len(), None)),
+            None => None,
+        },
+        PackageReqReferenceParseError::Memory => None,
+    }
+}
+
+/// What is wrong with the text of a reference, and where, as for [`package_errors`](crate::packages::package_errors).
+pub fn reference_errors(alloc: Global, text: &str) -> Result<PackageErrors, AllocError>
+    ensures { IfOk result (AreReferenceErrors text.now) }
 {
     let kind = registry_of(text);
-    match kind.after_scheme(text) {
-        Some(body) => range_errors(alloc, Flavour::Specifier, text.len() - body.len(), body),
-        None => Ok(Vec::new(alloc)),
+    let body = kind.after_scheme(text).unwrap_or("");
+    let before = text.len() - body.len();
+    match parse(alloc, kind, text) {
+        Ok(_reference) => range_errors(alloc, Flavour::Specifier, before, body),
+        Err(error) => {
+            let place = reference_place(text, body, &error);
+            let failure = reference_failure(alloc, &error);
+            errors_at(alloc, place, failure, Flavour::Specifier, before, body)
+        }
     }
 }
 
@@ -193,5 +229,5 @@ pub fn reference_errors_text(alloc: Global, text: &str) -> Result<String, AllocE
     ensures { IfOk result (λ json. IsReferenceErrorsText text.now (string_bytes json)) }
 {
     let errors = reference_errors(alloc, text)?;
-    errors_text(alloc, errors.as_slice())
+    errors_text(alloc, text.len(), &errors)
 }

@@ -156,7 +156,7 @@ ExplainsBy number g range = ByOne g range (λ f text. Explains (pre_release_of n
 abbrev pub ErrorsBy : ℕ → List ℕ → Result (List ℕ) CallFault → Type 0
 ErrorsBy g range = ByOne g range (λ f text outcome. (json : List ℕ) × IsErrorsText f text json × (outcome ≡ Ok json))
 
--- what is wrong with the range of a package, and where
+-- what is wrong with a package, and where
 abbrev pub PackageErrorsBy : ℕ → List ℕ → Result (List ℕ) CallFault → Type 0
 PackageErrorsBy g text = ByOne g text (λ f text outcome. (json : List ℕ) × IsPackageErrorsText f text json × (outcome ≡ Ok json))
 

@@ -392,7 +392,7 @@ pub extern "C" fn semver_reference(
     report_text(reference_of(alloc, text), out, needed)
 }
 
-/// The errors of a package's range, as JSON: yes. There are none if it has no range.
+/// The errors of a package, as JSON: yes. There are none if it is valid and its range has none.
 #[unsafe(no_mangle)]
 pub extern "C" fn semver_package_errors(
     alloc: Global,
@@ -407,7 +407,7 @@ pub extern "C" fn semver_package_errors(
     report_text(package_errors_of(alloc, grammar, text), out, needed)
 }
 
-/// The errors of a reference's range, as JSON: yes. There are none if it has no range.
+/// The errors of a reference, as JSON: yes. There are none if it is valid and its range has none.
 #[unsafe(no_mangle)]
 pub extern "C" fn semver_reference_errors(
     alloc: Global,

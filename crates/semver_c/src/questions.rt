@@ -68,7 +68,7 @@ pub fn errors_of(alloc: Global, grammar: u32, range: &[u8]) -> Result<String, Pr
     Ok(errors_of_range(alloc, flavour, range)?)
 }
 
-/// What is wrong with the range of the package, and where?
+/// What is wrong with the package, and where?
 pub fn package_errors_of(alloc: Global, grammar: u32, bytes: &[u8]) -> Result<String, Problem>
     ensures { IsOneAnswer (PackageErrorsBy grammar bytes.now) (λ text. string_bytes text) result }
 {
@@ -77,7 +77,7 @@ pub fn package_errors_of(alloc: Global, grammar: u32, bytes: &[u8]) -> Result<St
     Ok(package_errors_text(alloc, flavour, text)?)
 }
 
-/// What is wrong with the range of the reference, and where?
+/// What is wrong with the reference, and where?
 pub fn reference_errors_of(alloc: Global, reference: &[u8]) -> Result<String, Problem>
     ensures { IsOneAnswer (ReferenceErrorsOf reference.now) (λ text. string_bytes text) result }
 {

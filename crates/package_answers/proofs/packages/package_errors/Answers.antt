@@ -1,10 +1,12 @@
-use Rattle.std.proofs.Common.{sym, ◌∙◌}
 use Rattle.std.proofs.lemmas.Result.{IfOk-weaker}
-use Rattle.package_answers.specs.Packages.{lacks, of_package}
+use Rattle.package_answers.specs.Packages.{valid}
+use Rattle.package_answers.proofs.PackagePlaces.{both, reported}
 use Rattle.package_answers.proofs.packages.package_errors.Goals as goal
 
-pub returns-then-lacks_at : goal.returns-then-lacks_at
-returns-then-lacks_at c = rw c.new.ensures.items (lacks (sym c.lacks_at.ensures ∙ c.if-lacks_at.true))
+pub returns-in-Ok : goal.returns-in-Ok
+returns-in-Ok c = IfOk-weaker c.range_errors.result _ _ (λ errors h. valid c.in-Ok.ensures.read h) c.range_errors.ensures
 
-pub returns : goal.returns
-returns c = IfOk-weaker c.range_errors.result _ _ (λ errors h. of_package (sym c.lacks_at.ensures ∙ c.if-lacks_at.false) h) c.range_errors.ensures
+pub returns-in-Err : goal.returns-in-Err
+returns-in-Err c =
+    both c.errors_at.result _ _ _ c.errors_at.ensures.reported c.errors_at.ensures.errors
+    (λ errors some are. reported c.in-Err.ensures.rejected c.parts_failure-failure.ensures some c.fault_place-place.result errors c.fault_place-place.ensures.place are)

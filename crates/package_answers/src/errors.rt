@@ -1,0 +1,98 @@
+//! Where the text of a package or a reference is invalid, and why, also as JSON.
+
+ghost use Rattle.std.specs.Prelude.{◌≡◌, IfOk, string_bytes};
+ghost use Rattle.serde_json.specs.View.{view};
+ghost use Rattle.serde_json.specs.Written.{compact_text};
+ghost use Rattle.answers.specs.Reading.{texts_of};
+ghost use Rattle.package_answers.specs.Errors.{missing_json, package_errors_json, part_errors_json, part_texts};
+
+use answers::errors::errors_text as range_errors_text;
+use answers::object::{Object, json_text, text_json};
+use deno_semver::ParseFailure;
+use semver_req::error_places::pieces::InvalidPiece;
+use serde_json::Value;
+use std::alloc::{AllocError, Global};
+
+/// A part that the text of a package or a reference may lack.
+#[derive(Clone, Copy, Debug)]
+pub enum Part {
+    /// The `@` before a scope.
+    At,
+    /// The `/` behind a scope.
+    Slash,
+    /// The name, behind its scope if it has one.
+    Name,
+    /// The scheme of a registry.
+    Scheme,
+}
+
+/// An error outside the range.
+#[derive(Debug, Drop)]
+pub struct PartError {
+    /// The index at which the text is invalid.
+    pub place: usize,
+    /// The part that is missing there; `None` if what stands there isn't allowed.
+    pub missing: Option<Part>,
+    /// What the parser reports.
+    pub failure: ParseFailure,
+}
+
+/// What is wrong with the text of a package or a reference.
+#[derive(Debug, Drop)]
+pub enum PackageErrors {
+    /// The invalid alternatives of its range.
+    Range(Vec<InvalidPiece>),
+    Part(PartError),
+}
+
+// The texts of a part.
+fn part_texts(missing: Option<Part>) -> &'static [&'static str]
+    ensures { texts_of result.now ≡ part_texts missing }
+{
+    match missing {
+        Some(Part::At) => &["@"],
+        Some(Part::Slash) => &["/"],
+        Some(Part::Name) => &["name"],
+        Some(Part::Scheme) => &["jsr:", "npm:"],
+        None => &[],
+    }
+}
+
+/// Returns what is expected where a part is missing, as JSON.
+pub fn missing_json(alloc: Global, missing: Option<Part>) -> Result<Value, AllocError>
+    ensures { IfOk result (λ json. view json ≡ missing_json missing) }
+{
+    let mut items = Vec::new(alloc);
+    for text in part_texts(missing) {
+        items.push(text_json(alloc, text)?)?;
+    }
+    Ok(Value::Array(items))
+}
+
+// The error of a part as JSON, in an array, for a text that ends here.
+fn part_errors_json(alloc: Global, end: usize, error: &PartError) -> Result<Value, AllocError>
+    ensures { IfOk result (λ json. view json ≡ part_errors_json end error.now) }
+{
+    let json = Object::new(alloc)
+        .put("end", Ok(Value::from(end)))
+        .put("expected", missing_json(alloc, error.missing))
+        .put_text("message", Some(error.failure.message()))
+        .put("start", Ok(Value::from(error.place)))
+        .into_json()?;
+    Ok(Value::Array(vec![in alloc; json]?))
+}
+
+/// Returns errors as the text of a JSON array, for a text that ends here.
+pub(crate) fn errors_text(
+    alloc: Global,
+    end: usize,
+    errors: &PackageErrors,
+) -> Result<String, AllocError>
+    ensures { IfOk result
+        (λ json. string_bytes json ≡ compact_text (package_errors_json end errors.now)) }
+{
+    match errors {
+        PackageErrors::Range(errors) => range_errors_text(alloc, errors.as_slice()),
+        PackageErrors::Part(error) => json_text(alloc, part_errors_json(alloc, end, error)),
+    }
+}
