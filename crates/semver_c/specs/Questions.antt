@@ -17,13 +17,14 @@ use Rattle.package_answers.specs.Faults.{IsPackageFault, IsReferenceFault}
 use Rattle.package_answers.specs.Packages.{IsPackage, IsPackageErrorsText, PackageParts}
 use Rattle.answers.specs.Parts.{RangeParts, VersionParts}
 use Rattle.package_answers.specs.Names.{NameWithVersionParts}
-use Rattle.answers.specs.Questions.{BestMatch, Canonical, Common, Displayed, Equivalent, LowestMatch, Matches, Orders, Outside, Overlaps, match_of}
+use Rattle.answers.specs.Questions.{BestMatch, Canonical, Common, Displayed, Equivalent, Matches, Orders, Outside, Overlaps, match_of}
 use Rattle.answers.specs.Reading.{IsRange, IsVersion}
 use Rattle.package_answers.specs.References.{IsReferenceErrorsText, ReferenceParts}
 use Rattle.answers.specs.Sorting.{Sorts}
 use Rattle.package_answers.specs.Specifiers.{DependencyParts, VersionReferenceParts}
 use Rattle.answers.specs.declared.asking.Answer.{Answer}
 use Rattle.answers.specs.declared.questions.Best.{Best}
+use Rattle.answers.specs.declared.questions.End.{End}
 use Rattle.answers.specs.declared.sorting.Order.TheVariants.{Ascending}
 use Rattle.semver_c.specs.Arguments.{CallFault, Called, IsGrammar, IsSubject, IsText, pre_release_of}
 use Rattle.semver_c.specs.Codes.{match_code}
@@ -62,13 +63,9 @@ Fits number g range version = ByTwo g range version (λ f r v. Matches (pre_rele
 abbrev pub Filters : ℕ → ℕ → List ℕ → List ℕ → Result (Answer (List (Option Bool))) CallFault → Type 0
 Filters number g range versions = ByTwo g range versions (λ f r v. Filter (pre_release_of number) f r (lines v))
 
--- `semver_best`
-abbrev pub BestLine : ℕ → ℕ → List ℕ → List ℕ → Result (Answer (Option Best)) CallFault → Type 0
-BestLine number g range versions = ByTwo g range versions (λ f r v. BestMatch (pre_release_of number) f r (lines v))
-
--- `semver_lowest`
-abbrev pub LowestLine : ℕ → ℕ → List ℕ → List ℕ → Result (Answer (Option Best)) CallFault → Type 0
-LowestLine number g range versions = ByTwo g range versions (λ f r v. LowestMatch (pre_release_of number) f r (lines v))
+-- `semver_best` and `semver_lowest`
+abbrev pub BestLine : End → ℕ → ℕ → List ℕ → List ℕ → Result (Answer (Option Best)) CallFault → Type 0
+BestLine end number g range versions = ByTwo g range versions (λ f r v. BestMatch end (pre_release_of number) f r (lines v))
 
 -- `semver_overlap`
 abbrev pub OverlapsBy : ℕ → List ℕ → List ℕ → Result Bool CallFault → Type 0

@@ -17,7 +17,7 @@ ghost use Rattle.answers.specs.Asking.{Is};
 ghost use Rattle.answers.specs.declared.questions.End.TheVariants as end;
 ghost use Rattle.semver_c.specs.Codes.{IsCode, IsOneReply, IsPlaceReply, IsPlaced, IsReply, IsUntouched, IsUntouchedWithoutValue, always_yes, as_place, best_code, best_place, bool_code, filter_code, filter_numbers, found_code, found_text, lowest_code, lowest_text, match_code, no_place, no_text, number_of, order_code, text_code, text_of, three_numbers, unqualified_code, yes};
 ghost use Rattle.semver_c.specs.Held.{IsHeld, IsHeldBest, IsHeldEqual, IsHeldFilter, IsHeldMatch, IsHeldOrder, IsHeldOverlap, IsHeldSort, lines_of, package_held};
-ghost use Rattle.semver_c.specs.Questions.{BestLine, CanonicalBy, CommonBy, CommonOfAll, DependencyBy, DisplayedOf, EquivalentBy, ErrorsBy, ExplainsBy, ExportNameOf, Filters, Fits, LowestBy, LowestLine, MatchesHeld, NameWithVersionOf, NumbersOf, OrdersOf, OutsideBy, OverlapsBy, PackageBy, PackageErrorsBy, PackageOf, RangeBy, RangesBy, ReferenceErrorsOf, ReferenceOf, SortsOf, TagBy, VersionErrorOf, VersionListOf, VersionOf, VersionPartsOf, VersionReferenceOf, WhyBy};
+ghost use Rattle.semver_c.specs.Questions.{BestLine, CanonicalBy, CommonBy, CommonOfAll, DependencyBy, DisplayedOf, EquivalentBy, ErrorsBy, ExplainsBy, ExportNameOf, Filters, Fits, LowestBy, MatchesHeld, NameWithVersionOf, NumbersOf, OrdersOf, OutsideBy, OverlapsBy, PackageBy, PackageErrorsBy, PackageOf, RangeBy, RangesBy, ReferenceErrorsOf, ReferenceOf, SortsOf, TagBy, VersionErrorOf, VersionListOf, VersionOf, VersionPartsOf, VersionReferenceOf, WhyBy};
 ghost use Rattle.semver_c.specs.declared.codes.Code.TheVariants as code;
 
 mod arguments;
@@ -36,7 +36,7 @@ use handles::{RequirementHandle, VersionHandle, VersionListHandle};
 use questions::{
     best_held, best_line, canonical_form, common, common_of_all, dependency_of, displayed_version,
     equivalent_ranges, errors_of, explanation_of, export_name_of, filter, filter_held, fits,
-    held_canonical, held_displayed, is_tag, lowest, lowest_line, match_code, matches_held,
+    held_canonical, held_displayed, is_tag, lowest, match_code, matches_held,
     name_with_version_of, names_tag, numbers_of, order_of, outside, overlap, package_errors_of,
     package_of, ranges_of, read_list, read_package_of, read_range, read_version,
     reference_errors_of, reference_of, release, sorted_held, sorted_lines, version_error_of,
@@ -296,11 +296,12 @@ pub extern "C" fn semver_best(
     pre_releases: u32,
     place: &mut usize,
 ) -> i32
-    ensures code { IsCode (BestLine pre_releases grammar range.now versions.now) best_code result }
-    ensures place { IsPlaceReply (BestLine pre_releases grammar range.now versions.now) best_place
-        place.old place.new result }
+    ensures code { IsCode (BestLine end.Highest pre_releases grammar range.now versions.now)
+        best_code result }
+    ensures place { IsPlaceReply (BestLine end.Highest pre_releases grammar range.now versions.now)
+        best_place place.old place.new result }
 {
-    let answer = best_line(alloc, grammar, range, versions, pre_releases);
+    let answer = best_line(alloc, End::Highest, grammar, range, versions, pre_releases);
     report_best(answer, place)
 }
 
@@ -316,12 +317,12 @@ pub extern "C" fn semver_lowest(
     pre_releases: u32,
     place: &mut usize,
 ) -> i32
-    ensures code { IsCode (LowestLine pre_releases grammar range.now versions.now)
+    ensures code { IsCode (BestLine end.Lowest pre_releases grammar range.now versions.now)
         best_code result }
-    ensures place { IsPlaceReply (LowestLine pre_releases grammar range.now versions.now) best_place
-        place.old place.new result }
+    ensures place { IsPlaceReply (BestLine end.Lowest pre_releases grammar range.now versions.now)
+        best_place place.old place.new result }
 {
-    let answer = lowest_line(alloc, grammar, range, versions, pre_releases);
+    let answer = best_line(alloc, End::Lowest, grammar, range, versions, pre_releases);
     report_best(answer, place)
 }
 

@@ -14,7 +14,7 @@ ghost use Rattle.answers.specs.declared.sorting.Order.TheVariants as sorting;
 ghost use Rattle.semver_c.specs.Arguments.{IsAnswer, IsOneAnswer, pre_release_of};
 ghost use Rattle.semver_c.specs.Codes.{match_code};
 ghost use Rattle.semver_c.specs.Held.{IsListBest, list_lines};
-ghost use Rattle.semver_c.specs.Questions.{BestLine, CanonicalBy, CommonBy, CommonOfAll, DependencyBy, DisplayedOf, EquivalentBy, ErrorsBy, ExplainsBy, ExportNameOf, Filters, Fits, IsFaultOf, LowestBy, LowestLine, MatchesHeld, NameWithVersionOf, NumbersOf, OrdersOf, OutsideBy, OverlapsBy, PackageBy, PackageErrorsBy, PackageOf, RangeBy, RangesBy, ReferenceErrorsOf, ReferenceOf, SortsOf, TagBy, VersionErrorOf, VersionListOf, VersionOf, VersionPartsOf, VersionReferenceOf, WhyBy, version_numbers, whole_package};
+ghost use Rattle.semver_c.specs.Questions.{BestLine, CanonicalBy, CommonBy, CommonOfAll, DependencyBy, DisplayedOf, EquivalentBy, ErrorsBy, ExplainsBy, ExportNameOf, Filters, Fits, IsFaultOf, LowestBy, MatchesHeld, NameWithVersionOf, NumbersOf, OrdersOf, OutsideBy, OverlapsBy, PackageBy, PackageErrorsBy, PackageOf, RangeBy, RangesBy, ReferenceErrorsOf, ReferenceOf, SortsOf, TagBy, VersionErrorOf, VersionListOf, VersionOf, VersionPartsOf, VersionReferenceOf, WhyBy, version_numbers, whole_package};
 
 use crate::arguments::{Problem, Subject, flavour, line_list, pre_release, subject_of, text};
 use crate::codes::Code;
@@ -25,7 +25,7 @@ use answers::explained_json::explain_as_json;
 use answers::filtering::{self, list_best, list_matches, version_lines};
 use answers::parts::{range_parts, version_parts};
 use answers::questions::{
-    Best, End, best_match, canonical, common_version, displayed, equivalent, lowest_match, matches,
+    Best, End, best_match, canonical, common_version, displayed, equivalent, matches,
     order, overlaps, text_of_version, version_outside,
 };
 use answers::reading::{range, version};
@@ -134,15 +134,16 @@ pub fn filter(
     )?)
 }
 
-/// Which of the versions, one per line, is the highest that matches the range?
+/// Which of the versions, one per line, is the highest or lowest that matches the range?
 pub fn best_line(
     alloc: Global,
+    end: End,
     grammar: u32,
     range: &[u8],
     versions: &[u8],
     pre_releases: u32,
 ) -> Result<Answer<Option<Best>>, Problem>
-    ensures { IsAnswer (BestLine pre_releases grammar range.now versions.now)
+    ensures { IsAnswer (BestLine end pre_releases grammar range.now versions.now)
         (λ answer. answer) result }
 {
     let flavour = flavour(grammar)?;
@@ -151,30 +152,7 @@ pub fn best_line(
     let lines = line_list(alloc, versions)?;
     Ok(best_match(
         alloc,
-        flavour,
-        pre_release(pre_releases),
-        range,
-        lines.as_slice(),
-    )?)
-}
-
-/// Which of the versions, one per line, is the lowest that matches the range?
-pub fn lowest_line(
-    alloc: Global,
-    grammar: u32,
-    range: &[u8],
-    versions: &[u8],
-    pre_releases: u32,
-) -> Result<Answer<Option<Best>>, Problem>
-    ensures { IsAnswer (LowestLine pre_releases grammar range.now versions.now)
-        (λ answer. answer) result }
-{
-    let flavour = flavour(grammar)?;
-    let range = text(range)?;
-    let versions = text(versions)?;
-    let lines = line_list(alloc, versions)?;
-    Ok(lowest_match(
-        alloc,
+        end,
         flavour,
         pre_release(pre_releases),
         range,
