@@ -179,8 +179,10 @@ int32_t semver_why(uint32_t what, uint32_t grammar, const uint8_t *text, size_t 
  * strict one. */
 int32_t semver_reference(const uint8_t *text, size_t text_len, uint8_t *out, size_t out_len, size_t *needed);
 
-/* What is wrong with the range of a package, or of a reference, as JSON: YES, with an array as of semver_errors, by indexes into the text of
- * the package. It is empty if something else is wrong, or nothing. */
+/* What is wrong with a package, or with a reference, as JSON: YES, with an array as of semver_errors, for the range of a valid text or an
+ * invalid range; the indexes are those of the whole text. Any other error is the only one: "end" is the text's length, "message" that of
+ * semver_package or semver_reference, and "expected" has the part that is missing at "start": "@", "/", "name", or "jsr:" and "npm:". It is
+ * empty for a path that isn't allowed, and for a version in the path. */
 int32_t semver_package_errors(uint32_t grammar, const uint8_t *text, size_t text_len, uint8_t *out, size_t out_len, size_t *needed);
 
 int32_t semver_reference_errors(const uint8_t *text, size_t text_len, uint8_t *out, size_t out_len, size_t *needed);

@@ -39,11 +39,11 @@ export interface Options extends GrammarOptions {
 export interface Diagnosis {
   /** What is wrong. */
   readonly message: string;
-  /** The index at which a range, also of a package, or a version goes wrong; undefined of other texts, and where a text has a lone surrogate. */
+  /** The index at which a range, a version, a package or a reference goes wrong; undefined of other texts, and of one with a lone surrogate. */
   readonly start?: number;
-  /** The index at which the version ends, or the alternative of a range with the whitespace behind it; undefined where `start` is. */
+  /** The index at which the text ends, or the alternative of its range with the whitespace behind it; undefined where `start` is. */
   readonly end?: number;
-  /** What could be at `start` in a range: `digit`, `letter`, `whitespace`, `end`, or a character such as `.`. */
+  /** What could be at `start`: `digit`, `letter`, `whitespace`, `end`, `name`, or a text such as `.`. Empty for a version. */
   readonly expected: readonly string[];
 }
 

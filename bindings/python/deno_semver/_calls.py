@@ -210,7 +210,7 @@ def fail_version(code: int, text: str, index: Optional[int] = None) -> NoReturn:
 
 
 def fail_package(code: int, text: str, message: str, errors: str = "", *options: int) -> NoReturn:
-    """Raises what a code other than that of an answer means for a package; the call `errors` finds where its range is invalid."""
+    """Raises what a code other than that of an answer means for a package; the call `errors` finds where it is invalid."""
     _fail_unless_invalid(code, text)
     source = text.encode()
     found = json.loads(_written(errors, *options, source, len(source))) if errors else []

@@ -11,8 +11,8 @@ class SemverError(ValueError):
     `text` is the text, and `message` what is wrong with it. `index` is its index in a list, or among the arguments of its kind.
 
     `start` is the index of the character at which the text goes wrong, and `end` that at which the invalid part ends: an alternative of a
-    range, also of one in a package, or the whole version. Both are None if they aren't known. `expected` is what could be at `start`:
-    "digit", "letter", "whitespace", "end", or a text such as "."; it is empty if that isn't known.
+    range, also of one in a package, or the whole text. Both are None if they aren't known. `expected` is what could be at `start`:
+    "digit", "letter", "whitespace", "end", "name", or a text such as "."; it is empty if that isn't known.
 
     >>> from deno_semver import Range
     >>> try:

@@ -100,7 +100,7 @@ class Errors(unittest.TestCase):
         self.assertEqual(caught.exception.index, 2)
         with self.assertRaises(semver.InvalidPackage) as caught:
             semver.parse_package("@a")
-        self.assertEqual((caught.exception.start, caught.exception.end, caught.exception.expected), (None, None, ()))
+        self.assertEqual((caught.exception.start, caught.exception.end, caught.exception.expected), (2, 2, ("/",)))
         with self.assertRaises(semver.InvalidPackage) as caught:
             semver.parse_package("@é/name@^1..2")
         self.assertEqual((caught.exception.start, caught.exception.end), (11, 13))

@@ -1,16 +1,16 @@
 //! `ranges check`: the ranges of package.json, deno.json, import maps and lists of ranges.
 
 use crate::advice::{npm_warning, warnings};
-use crate::errors::{add_error, errors_at_end, errors_of};
+use crate::errors::{add_first, errors_at_end, errors_of, print_errors};
 use crate::explaining::is_left_out;
 use answers::asking::Problem;
 use answers::explained::{Explanation, Piece, explain};
 use answers::object::Object;
 use clap::ArgMatches;
 use deno_semver::PreRelease;
+use package_answers::errors::PackageErrors;
 use package_answers::references::read_reference;
 use semver_req::common::values::Flavour;
-use semver_req::error_places::pieces::InvalidPiece;
 use serde_json::Value;
 use std::alloc::{AllocError, Global};
 use std::io::{BufRead, ErrorKind, Read, Write};
@@ -19,7 +19,6 @@ use std::{fs, io};
 use terminal::console::{Console, Status, Stop, print_line};
 use terminal::hints::{is_protocol, question};
 use terminal::manifest::{Entry, Kind, entries};
-use terminal::pointing::print_error;
 use terminal::shown::{Quoted, Shown};
 
 // How findings are printed.
@@ -62,7 +61,7 @@ struct Finding<'f> {
     level: Level,
     message: &'f str,
     /// Where the text is wrong.
-    errors: &'f [InvalidPiece],
+    errors: Option<&'f PackageErrors>,
 }
 
 // A place in a file: the line and the column, counted from 1.
@@ -158,8 +157,8 @@ impl Report<'_> {
             .put_text(finding.level.key(), Some(finding.message))
             .put_text("name", Some(entry.name.as_str()))
             .put_text("text", text);
-        if let [first, ..] = finding.errors {
-            json = add_error(alloc, json, first);
+        if let Some(errors) = finding.errors {
+            json = add_first(alloc, json, entry.text.as_str(), errors);
         }
         json.into_json()
     }
@@ -226,10 +225,10 @@ impl Report<'_> {
             write!(console.out, "{start}{}{end}: ", finding.level.name())?;
         }
         print_line(&mut console.out, message.as_str())?;
-        for error in finding.errors {
-            print_error(&mut console.out, style, entry.text.as_str(), error)?;
+        match finding.errors {
+            Some(errors) => print_errors(&mut console.out, style, entry.text.as_str(), errors),
+            None => Ok(()),
         }
-        Ok(())
     }
 }
 
@@ -242,7 +241,7 @@ fn warn<O: Write, E: Write>(
     let finding = Finding {
         level: Level::Warning,
         message,
-        errors: &[],
+        errors: None,
     };
     report.add(console, entry, finding)
 }
@@ -262,7 +261,7 @@ fn check_left_out<O: Write, E: Write>(
     let finding = Finding {
         level: Level::Warning,
         message: "npm leaves out an alternative that isn't a range",
-        errors: errors.as_slice(),
+        errors: Some(&errors),
     };
     report.add(console, entry, finding)
 }
@@ -283,7 +282,7 @@ fn check_pieces<O: Write, E: Write>(
         let finding = Finding {
             level: Level::Fine,
             message: normal,
-            errors: &[],
+            errors: None,
         };
         report.add(console, entry, finding)?;
     }
@@ -328,11 +327,11 @@ fn check_range<O: Write, E: Write>(
             check_pieces(console, report, entry, pieces.as_slice(), normal.as_str())
         }
         Err(Problem::Invalid(_)) => {
-            let errors = errors_at_end(console.alloc, Flavour::Npm, entry.text.as_str(), range)?;
+            let errors = errors_at_end(console.alloc, flavour, entry.text.as_str(), range)?;
             let finding = Finding {
                 level: Level::Error,
                 message: "not a version range",
-                errors: errors.as_slice(),
+                errors: Some(&errors),
             };
             report.add(console, entry, finding)
         }
@@ -360,7 +359,7 @@ fn check_specifier<O: Write, E: Write>(
             let finding = Finding {
                 level: Level::Error,
                 message: invalid.failure.message(),
-                errors: errors.as_slice(),
+                errors: Some(&errors),
             };
             report.add(console, entry, finding)
         }
@@ -388,7 +387,7 @@ fn check_entries<O: Write, E: Write>(
                 let finding = Finding {
                     level: Level::Error,
                     message,
-                    errors: &[],
+                    errors: None,
                 };
                 report.add(console, entry, finding)?;
             }

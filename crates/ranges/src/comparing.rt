@@ -1,13 +1,13 @@
 //! The commands that print one line.
 
-use crate::errors::{add_error, errors_of};
+use crate::errors::{add_first, errors_of, print_errors};
 use answers::asking::{Answer, InvalidArgument, Kind, Problem};
 use answers::object::Object;
 use answers::questions::{common_version, text_of_version, version_outside};
 use answers::reading::{range, ranges};
 use clap::ArgMatches;
 use deno_semver::{Version, VersionReq};
-use semver_req::error_places::pieces::InvalidPiece;
+use package_answers::errors::PackageErrors;
 use serde_json::Value;
 use std::alloc::{AllocError, Global};
 use std::io::Write;
@@ -26,12 +26,13 @@ pub fn reject<O: Write, E: Write>(
     let argument = arguments.get(invalid.place).copied().unwrap_or("");
     let errors = errors_of(console.alloc, console.options.flavour, argument, invalid)?;
     if console.options.json {
-        let json = error_json(console.alloc, argument, invalid, errors.as_slice());
+        let json = error_json(console.alloc, argument, invalid, &errors);
         console.json(json)?;
         return Ok(Status::Rejected);
     }
     let status = console.reject_text(kind_name(invalid.kind), argument, invalid.failure.message());
-    console.point(argument, errors.as_slice());
+    // What can't be written to standard error is left out.
+    let _ = print_errors(&mut console.err, console.err_style, argument, &errors);
     Ok(status)
 }
 
@@ -99,15 +100,13 @@ fn error_json(
     alloc: Global,
     argument: &str,
     invalid: &InvalidArgument,
-    errors: &[InvalidPiece],
+    errors: &PackageErrors,
 ) -> Result<Value, AllocError> {
-    let mut error = Object::new(alloc)
+    let error = Object::new(alloc)
         .put_text("kind", Some(kind_name(invalid.kind)))
         .put_text("argument", Some(argument))
         .put_text("message", Some(invalid.failure.message()));
-    if let [first, ..] = errors {
-        error = add_error(alloc, error, first);
-    }
+    let error = add_first(alloc, error, argument, errors);
     Object::new(alloc)
         .put("error", error.into_json())
         .into_json()

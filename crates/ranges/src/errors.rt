@@ -3,13 +3,16 @@
 use answers::asking::{InvalidArgument, Kind};
 use answers::errors::{errors, expected_json};
 use answers::object::Object;
+use package_answers::errors::{PackageErrors, Part, missing_json};
 use package_answers::packages::package_errors;
 use package_answers::references::reference_errors;
 use semver_req::common::values::Flavour;
-use semver_req::error_places::pieces::{InvalidPiece, invalid_pieces_behind};
+use semver_req::error_places::pieces::invalid_pieces_behind;
 use serde_json::Value;
 use std::alloc::{AllocError, Global};
-use terminal::pointing::version_errors;
+use std::io::Write;
+use terminal::console::{Stop, Style};
+use terminal::pointing::{print_caret, print_error, version_errors};
 
 /// The errors of the range that ends a text.
 pub fn errors_at_end(
@@ -17,33 +20,86 @@ pub fn errors_at_end(
     flavour: Flavour,
     text: &str,
     range: &str,
-) -> Result<Vec<InvalidPiece>, AllocError> {
+) -> Result<PackageErrors, AllocError> {
     let before = text.len().saturating_sub(range.len());
     match invalid_pieces_behind(alloc, before, range, flavour) {
-        Ok(errors) => Ok(errors),
+        Ok(errors) => Ok(PackageErrors::Range(errors)),
         // Only out of memory.
         Err(_) => Err(AllocError),
     }
 }
 
-/// Where an argument is invalid: the invalid alternatives of a range, also of one in a package, and where a version goes wrong.
+/// Where an argument is invalid: the invalid alternatives of a range, also of one in a package, the part that a package lacks, and where
+/// a version goes wrong.
 pub fn errors_of(
     alloc: Global,
     flavour: Flavour,
     text: &str,
     invalid: &InvalidArgument,
-) -> Result<Vec<InvalidPiece>, AllocError> {
+) -> Result<PackageErrors, AllocError> {
     match invalid.kind {
-        Kind::Range => errors(alloc, flavour, text),
+        Kind::Range => Ok(PackageErrors::Range(errors(alloc, flavour, text)?)),
         Kind::Package => package_errors(alloc, flavour, text),
         Kind::Reference => reference_errors(alloc, text),
-        Kind::Version => version_errors(alloc, text),
+        Kind::Version => Ok(PackageErrors::Range(version_errors(alloc, text)?)),
     }
 }
 
-/// Adds the place of an error, and what is expected there.
-pub fn add_error(alloc: Global, json: Object, error: &InvalidPiece) -> Object {
-    json.put("start", Ok(Value::from(error.place)))
-        .put("end", Ok(Value::from(error.end)))
-        .put("expected", expected_json(alloc, &error.cause))
+// What is expected where a part is missing.
+fn note(missing: Option<Part>) -> &'static str {
+    match missing {
+        Some(Part::At) => " expected `@`",
+        Some(Part::Slash) => " expected `/`",
+        Some(Part::Name) => " expected a name",
+        Some(Part::Scheme) => " expected `jsr:` or `npm:`",
+        None => "",
+    }
+}
+
+/// Prints a text with carets under the places of its errors.
+pub fn print_errors<O: Write>(
+    out: &mut O,
+    style: Style,
+    text: &str,
+    errors: &PackageErrors,
+) -> Result<(), Stop> {
+    match errors {
+        PackageErrors::Range(errors) => {
+            for error in errors {
+                print_error(out, style, text, error)?;
+            }
+            Ok(())
+        }
+        PackageErrors::Part(error) => {
+            print_caret(out, style, text, error.place, note(error.missing))
+        }
+    }
+}
+
+fn add_place(
+    json: Object,
+    start: usize,
+    end: usize,
+    expected: Result<Value, AllocError>,
+) -> Object {
+    json.put("start", Ok(Value::from(start)))
+        .put("end", Ok(Value::from(end)))
+        .put("expected", expected)
+}
+
+/// Adds the place of the first error of a text, and what is expected there.
+pub fn add_first(alloc: Global, json: Object, text: &str, errors: &PackageErrors) -> Object {
+    match errors {
+        PackageErrors::Range(errors) => match errors.as_slice() {
+            [first, ..] => {
+                let expected = expected_json(alloc, &first.cause);
+                add_place(json, first.place, first.end, expected)
+            }
+            [] => json,
+        },
+        PackageErrors::Part(error) => {
+            let expected = missing_json(alloc, error.missing);
+            add_place(json, error.place, text.len(), expected)
+        }
+    }
 }

@@ -82,6 +82,21 @@ pub fn version_errors(alloc: Global, text: &str) -> Result<Vec<InvalidPiece>, Al
     }
 }
 
+/// Prints the text with a caret under a place, and a note behind it.
+pub fn print_caret<O: Write, T: fmt::Display + Drop>(
+    out: &mut O,
+    style: Style,
+    text: &str,
+    place: usize,
+    note: T,
+) -> Result<(), Stop> {
+    let (start, end) = window(text, place);
+    let before = part(text, start, place);
+    writeln!(out, "  | {}", Shown(part(text, start, end)))?;
+    let (caret, end) = (style.caret(), style.end());
+    Ok(writeln!(out, "  | {}{caret}^{note}{end}", Padding(before))?)
+}
+
 /// Prints the text with a caret under the place of an error, what is expected there, and a hint if there is one.
 pub fn print_error<O: Write>(
     out: &mut O,
@@ -89,12 +104,9 @@ pub fn print_error<O: Write>(
     text: &str,
     error: &InvalidPiece,
 ) -> Result<(), Stop> {
-    let (start, end) = window(text, error.place);
-    let before = part(text, start, error.place);
-    writeln!(out, "  | {}", Shown(part(text, start, end)))?;
-    let (caret, end) = (style.caret(), style.end());
     let expectation = Expectation(error, text);
-    writeln!(out, "  | {}{caret}^ {expectation}{end}", Padding(before))?;
+    let note = format_args!(" {expectation}");
+    print_caret(out, style, text, error.place, note)?;
     let piece = part(text, error.start, error.end);
     match hint(piece, error.place.saturating_sub(error.start)) {
         Some(hint) => Ok(writeln!(out, "  = {hint}")?),
@@ -103,18 +115,13 @@ pub fn print_error<O: Write>(
 }
 
 impl<O: Write, E: Write> Console<O, E> {
-    /// Prints where a text is wrong. What can't be written to standard error is left out.
-    pub fn point(&mut self, text: &str, errors: &[InvalidPiece]) {
-        for error in errors {
-            let _ = print_error(&mut self.err, self.err_style, text, error);
-        }
-    }
-
     /// Reports that an argument isn't a version, and where it goes wrong.
     pub fn reject_version(&mut self, text: &str, failure: &ParseFailure) -> Result<(), Stop> {
         let errors = version_errors(self.alloc, text)?;
         let _ = self.reject_text("version", text, failure.message());
-        self.point(text, errors.as_slice());
+        for error in &errors {
+            let _ = print_error(&mut self.err, self.err_style, text, error);
+        }
         if text.starts_with(['^', '~', '<', '>'].as_slice()) {
             let _ = writeln!(self.err, "  = the range is the first argument");
         }
