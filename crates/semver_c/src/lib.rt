@@ -36,11 +36,11 @@ use handles::{RequirementHandle, VersionHandle, VersionListHandle};
 use questions::{
     best_held, best_line, canonical_form, common, common_of_all, dependency_of, displayed_version,
     equivalent_ranges, errors_of, explanation_of, export_name_of, filter, filter_held, fits,
-    held_canonical, held_displayed, is_tag, lowest, match_code, matches_held,
-    name_with_version_of, names_tag, numbers_of, order_of, outside, overlap, package_errors_of,
-    package_of, ranges_of, read_list, read_package_of, read_range, read_version,
-    reference_errors_of, reference_of, release, sorted_held, sorted_lines, version_error_of,
-    version_parts_of, version_reference_of, why_invalid,
+    held_canonical, held_displayed, is_tag, lowest, match_code, matches_held, name_with_version_of,
+    names_tag, numbers_of, order_of, outside, overlap, package_errors_of, package_of, ranges_of,
+    read_list, read_package_of, read_range, read_version, reference_errors_of, reference_of,
+    release, sorted_held, sorted_lines, version_error_of, version_parts_of, version_reference_of,
+    why_invalid,
 };
 use reports::{
     code_of_bool, code_of_match, code_of_order, code_or_problem, put, put_place, report_best,

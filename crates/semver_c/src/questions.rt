@@ -25,8 +25,8 @@ use answers::explained_json::explain_as_json;
 use answers::filtering::{self, list_best, list_matches, version_lines};
 use answers::parts::{range_parts, version_parts};
 use answers::questions::{
-    Best, End, best_match, canonical, common_version, displayed, equivalent, matches,
-    order, overlaps, text_of_version, version_outside,
+    Best, End, best_match, canonical, common_version, displayed, equivalent, matches, order,
+    overlaps, text_of_version, version_outside,
 };
 use answers::reading::{range, version};
 use answers::sorting::{Order, sort, sorted_lines as sorted_list};

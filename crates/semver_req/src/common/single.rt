@@ -25,7 +25,11 @@ pub(crate) enum Single {
 
 /// Parses the whole text as one. Fails only out of memory.
 #[inline(always)]
-pub(crate) fn parse_single(alloc: Global, text: &str, flavour: Flavour) -> Result<Single, AllocError>
+pub(crate) fn parse_single(
+    alloc: Global,
+    text: &str,
+    flavour: Flavour,
+) -> Result<Single, AllocError>
     ensures { IfOk result (IsSingle flavour text.now) }
 {
     let Some((written, rest)) = non_primitive_front(alloc, text, flavour)? else {
