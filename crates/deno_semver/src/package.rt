@@ -16,7 +16,7 @@ mod sub_path;
 mod values;
 
 pub(crate) use cut::without_slash;
-pub use cut::{lacks_at, version_req_text};
+pub use cut::version_req_text;
 pub use errors::{PackageReqParseError, PackageReqPartsParseError};
 pub use kind::PackageKind;
 pub use name_version::PackageNvParseError;

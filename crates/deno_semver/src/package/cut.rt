@@ -132,7 +132,7 @@ pub fn version_req_text(text: &str) -> Option<(usize, &str)>
 /// Whether the text contains a `/` and doesn't begin with `@`.
 ///
 /// The parsers of a package report that of an invalid text, whatever else is wrong.
-pub fn lacks_at(text: &str) -> bool
+pub(crate) fn lacks_at(text: &str) -> bool
     ensures { result ≡ lacks_at text.now }
 {
     holds_slash(text.as_bytes()) && !starts_with_at(text)
