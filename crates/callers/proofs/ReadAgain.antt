@@ -15,8 +15,8 @@ use Rattle.semver_req.specs.RetainedSet.{retained}
 use Rattle.semver_req.specs.Outcome.{IsOutcome, Outcome, Ranges, Tag}
 use Rattle.semver_req.specs.Pieces.{IsCutting}
 use Rattle.semver_req.specs.Parsers.{Failure, IsReadOrTag, IsParserAnswer, StartsFit, TagReadsBack}
-use Rattle.semver_req.specs.Requirement.{Requirement, inner_text, pinned, ranges_of}
-use Rattle.semver_req.specs.Rereading.{IsReadAsForms, IsReadAsItself, IsStableSet, IsTree, KeepsEqual, KeepsStable, KeepsTheSame, OfReadRanges, keeps_meaning}
+use Rattle.semver_req.specs.Requirement.{Requirement, inner_text}
+use Rattle.semver_req.specs.Rereading.{IsReadAsForms, IsReadAsItself, IsTree, KeepsEqual, KeepsStable, KeepsTheSame, OfReadRanges, keeps_meaning}
 use Rattle.semver_req.specs.declared.common.values.Flavour.{Flavour}
 use Rattle.semver_req.specs.declared.common.values.Flavour.TheVariants.{Normal}
 use Rattle.semver_req.specs.declared.range_set_or_tag.RangeSetOrTag.{RangeSetOrTag}
@@ -107,13 +107,3 @@ pub only_memory : {E : Type 0} (source : E → Failure) (e : E) (v : Version) (f
     → TagReadsBack f text read → OfRanges (AllowsAsBefore source v (Err e)) read → OfTag Normal (IsTagReported source (Err e)) read → source e ≡ None
 only_memory source e v f text (inner.RangeSet set) starts retained back ranges tag = ranges retained
 only_memory source e v f text (inner.Tag name) starts retained back ranges tag = tag (back starts)
-
--- ---- of one version
-
--- the requirement of a version, if it is a parsed set that is stable, is what its text parses to
-pub pinned_again : (v : Version) (req : Requirement) (again : RangeSetOrTag) → req ≡ pinned v → IsReadOrTag req.inner → IsStableSet (ranges_of req.inner).0
-    → OfRanges (λ ranges. IsReadAgain ranges again) req.inner → again ≡ (pinned v).inner
-pinned_again v req again is = subst Says (sym is) (λ read stable h. let a = h read in a.is_ranges ∙ ap as_inner (a.stays stable))
-  where
-    Says : Requirement → Type 0
-    Says r = IsReadOrTag r.inner → IsStableSet (ranges_of r.inner).0 → OfRanges (λ ranges. IsReadAgain ranges again) r.inner → again ≡ (pinned v).inner

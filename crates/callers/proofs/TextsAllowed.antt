@@ -1,10 +1,9 @@
 -- The result for the text of a requirement, from its parser's result.
 use Rattle.std.proofs.Common.{ℕ, List, Ok, refl, ap}
 use Rattle.callers.specs.Allowance.{IsAllowance, IsReported, allowance_of, yes_or_no}
-use Rattle.semver_base.specs.Meaning.{tree_means}
 use Rattle.semver_base.specs.declared.range.PreRelease.TheVariants.{Restricted}
 use Rattle.semver_base.specs.declared.version.Version.{Version}
-use Rattle.semver_req.specs.Outcome.{IsOutcome, Outcome, Ranges, Rejected, Tag, tree_ranges}
+use Rattle.semver_req.specs.Outcome.{IsOutcome, Outcome, Ranges, Rejected, Tag}
 use Rattle.semver_req.specs.Parsers.{Failure, IsRead, IsParserAnswer, MeansTrees}
 use Rattle.semver_req.specs.Requirement.{Requirement}
 use Rattle.semver_req.specs.declared.common.values.Flavour.{Flavour}
