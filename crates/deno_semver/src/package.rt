@@ -15,8 +15,8 @@ mod specifier;
 mod sub_path;
 mod values;
 
-pub(crate) use cut::without_slash;
 pub use cut::version_req_text;
+pub(crate) use cut::without_slash;
 pub use errors::{PackageReqParseError, PackageReqPartsParseError};
 pub use kind::PackageKind;
 pub use name_version::PackageNvParseError;
