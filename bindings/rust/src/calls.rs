@@ -68,6 +68,8 @@ extern "C" {
     fn semver_may_be_tag(text: In, len: usize) -> i32;
     fn semver_ranges(grammar: u32, range: In, range_len: usize, out: Out, out_len: usize, needed: Size) -> i32;
     fn semver_errors(grammar: u32, range: In, range_len: usize, out: Out, out_len: usize, needed: Size) -> i32;
+    fn semver_package_errors(grammar: u32, text: In, len: usize, out: Out, out_len: usize, needed: Size) -> i32;
+    fn semver_reference_errors(text: In, len: usize, out: Out, out_len: usize, needed: Size) -> i32;
     fn semver_version_error(version: In, version_len: usize, place: Size) -> i32;
     fn semver_package(grammar: u32, text: In, len: usize, out: Out, out_len: usize, needed: Size) -> i32;
     fn semver_reference(text: In, len: usize, out: Out, out_len: usize, needed: Size) -> i32;
@@ -241,6 +243,22 @@ pub(crate) fn ranges(grammar: Grammar, text: &str) -> String {
 pub(crate) fn errors(grammar: Grammar, text: &str) -> String {
     with_text(
         |out, len, needed| unsafe { semver_errors(grammar as u32, text.as_ptr(), text.len(), out, len, needed) },
+        |_, json| json.to_owned(),
+    )
+}
+
+/// What is wrong with a package, as JSON.
+pub(crate) fn package_errors(grammar: Grammar, text: &str) -> String {
+    with_text(
+        |out, len, needed| unsafe { semver_package_errors(grammar as u32, text.as_ptr(), text.len(), out, len, needed) },
+        |_, json| json.to_owned(),
+    )
+}
+
+/// What is wrong with a reference, as JSON.
+pub(crate) fn reference_errors(text: &str) -> String {
+    with_text(
+        |out, len, needed| unsafe { semver_reference_errors(text.as_ptr(), text.len(), out, len, needed) },
         |_, json| json.to_owned(),
     )
 }

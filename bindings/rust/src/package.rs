@@ -4,7 +4,7 @@
 //! for whole packages ([`json`]) give the same parts as JSON.
 
 use crate::calls::{self, Grammar};
-use crate::error::ParseErrorFailureError;
+use crate::error::{ParseErrorFailureError, Place};
 use crate::npm::NpmVersionReqParseError;
 use crate::string::{SmallStackString, StackString};
 use crate::version::Version;
@@ -101,7 +101,7 @@ impl PackageReq {
             Ok((_, path)) => PackageReqPartsParseError::path(path),
             Err(error) => error,
         };
-        Err(PackageReqParseError { text: text.to_owned(), source })
+        Err(PackageReqParseError { text: text.to_owned(), source, grammar })
     }
 
     fn parse_with_path(grammar: Grammar, text: &str) -> Result<(PackageReq, &str), PackageReqPartsParseError> {
@@ -402,12 +402,26 @@ pub struct PackageReqParseError {
     pub text: String,
     /// What is wrong with it.
     pub source: PackageReqPartsParseError,
+    // That of its requirement.
+    grammar: Grammar,
 }
 
 impl PackageReqParseError {
     /// What is wrong, in one line.
     pub fn message(&self) -> &str {
         self.source.message()
+    }
+
+    /// Where the text is invalid: in its requirement, or at the part that is missing, or at a path.
+    ///
+    /// ```
+    /// use deno_semver_proved::package::PackageReq;
+    ///
+    /// let place = PackageReq::from_str("@scope").unwrap_err().place().unwrap();
+    /// assert_eq!((place.start, place.expected), (6, vec!["/".to_string()]));
+    /// ```
+    pub fn place(&self) -> Option<Place> {
+        crate::json::first_error(&calls::package_errors(self.grammar, &self.text))
     }
 }
 
@@ -462,6 +476,13 @@ pub struct PackageReqReferenceInvalidParseError {
     pub source: PackageReqPartsParseError,
 }
 
+impl PackageReqReferenceInvalidParseError {
+    /// Where the text is invalid, as for [`PackageReqParseError::place`].
+    pub fn place(&self) -> Option<Place> {
+        crate::json::first_error(&calls::reference_errors(&self.specifier))
+    }
+}
+
 impl fmt::Display for PackageReqReferenceInvalidParseError {
     fn fmt(&self, f: &mut fmt::Formatter<'_>) -> fmt::Result {
         write!(f, "Invalid package specifier '{}'", self.specifier)
@@ -483,6 +504,13 @@ pub struct PackageReqReferenceInvalidWithVersionParseError {
     pub current: String,
     /// What may be meant.
     pub suggested: String,
+}
+
+impl PackageReqReferenceInvalidWithVersionParseError {
+    /// Where the version stands in the reference with its scheme.
+    pub fn place(&self) -> Option<Place> {
+        crate::json::first_error(&calls::reference_errors(&format!("{}{}", self.kind.scheme_with_colon(), self.current)))
+    }
 }
 
 impl fmt::Display for PackageReqReferenceInvalidWithVersionParseError {

@@ -138,6 +138,17 @@ fn places_in_packages() {
     assert_eq!(span(source("@a/é@^1..2")), Some((3, 5)));
     let error = source("@a/b@1/c");
     assert_eq!((error.code_snippet.as_deref(), span(error.clone())), (Some("/c"), None));
+    let whole = |text| PackageReq::from_str_loose(text).unwrap_err().place().map(|place| (place.start, place.end, place.expected.join(" ")));
+    for (text, start, expected) in [("", 0, "name"), ("@a", 2, "/"), ("@a/", 3, "name"), ("a/b", 0, "@"), ("@a/b@1/c", 6, "")] {
+        assert_eq!(whole(text), Some((start, text.len(), expected.to_string())), "{text}");
+    }
+    assert_eq!(whole("@a/b@^1..2").map(|place| place.0), Some(8));
+    let reference = |text| match JsrPackageReqReference::from_str(text).unwrap_err() {
+        PackageReqReferenceParseError::Invalid(error) => error.place().map(|place| place.start),
+        PackageReqReferenceParseError::InvalidPathWithVersion(error) => error.place().map(|place| place.start),
+        error => panic!("{text}: {error}"),
+    };
+    assert_eq!([reference("jsr:@a"), reference("jsr:@a/b@1..2"), reference("jsr:@a/b/c@1")], [Some(6), Some(11), Some(10)]);
 }
 
 #[test]
