@@ -93,6 +93,8 @@ static int32_t ask(void) {
     ASK(version, a);
     ASK(explain, FIRST, a, LAST);
     ASK(errors, FIRST, a);
+    ASK(package_errors, FIRST, a);
+    ASK(reference_errors, a);
     ASK(version_error, a);
     ASK(version_parts, a);
     ASK(package, FIRST, a);
