@@ -29,6 +29,7 @@ fn version_error(flavour: Flavour, source: ParseFailure) -> PackageReqPartsParse
 }
 
 // Parses a version requirement by the grammar of a flavour.
+#[inline(always)]
 fn version_req(
     alloc: Global,
     text: &str,
@@ -48,6 +49,7 @@ fn version_req(
 }
 
 // Parses a version requirement by the grammar of a flavour; without a text, any version matches.
+#[inline(always)]
 fn version_req_or_any(
     alloc: Global,
     text: Option<&str>,
@@ -78,6 +80,7 @@ fn path_error(alloc: Global, tail: &str) -> PackageReqPartsParseError
 }
 
 // The package requirement made of a name and a version's text.
+#[inline(always)]
 fn req_of(
     alloc: Global,
     cut: Cut<'_>,
@@ -103,6 +106,7 @@ fn req_of(
 
 /// Parses the package requirement at the start of a text. Returns it with the path after it, with its `/` and without, or the
 /// first fault; a path isn't one.
+#[inline(always)]
 pub(crate) fn read_with_path(
     alloc: Global,
     text: &str,

@@ -33,6 +33,7 @@ pub struct PackageReqReference {
 }
 
 // The path of a module, unless the path is empty or `/`.
+#[inline(always)]
 fn sub_path(alloc: Global, path: &str) -> Result<Option<PackageSubPath>, AllocError>
     ensures { IfOk result (λ sub_path. sub_path ≡ sub_path_of path.now) }
 {
