@@ -6,6 +6,7 @@ use Rattle.std.specs.List.{list_all}
 use Rattle.semver_base.specs.Failure.{rejection_message}
 use Rattle.semver_base.specs.declared.failure.Rejection.TheVariants.{BoundTooLarge}
 use Rattle.semver_base.specs.Meaning.{bound_at, everything, from, nothing, release, to_below}
+use Rattle.semver_base.specs.declared.lexical.values.Qualifier.{Qualifier}
 use Rattle.semver_base.specs.declared.short.ShortNumbers.{ShortNumbers}
 use Rattle.semver_base.specs.declared.short.ShortNumbers.TheVariants as short_numbers
 use Rattle.semver_base.specs.declared.short.Numbers.{Numbers}
@@ -105,6 +106,33 @@ release_end (Some b) = release_bound b
 -- the range from one release to another, or without an end
 abbrev pub release_range : ReleaseRange → VersionRange
 release_range r = between (release_bound r.start) (release_end r.end)
+
+-- ---- a qualifier behind three numbers
+
+-- three numbers and a qualifier, as a partial version
+abbrev pub with_qualifier : Qualifier → Numbers → Partial
+with_qualifier q n = record { major = Val n.major; minor = Val n.minor; patch = Val n.patch; pre = q.pre; build = q.build }
+
+-- the version gets the qualifier
+abbrev pub qualified : Qualifier → Version → Version
+qualified q v = record { major = v.major; minor = v.minor; patch = v.patch; pre = q.pre; build = q.build }
+
+-- a start gets it
+abbrev pub qualified_start : Qualifier → RangeBound → RangeBound
+qualified_start q bound.Unbounded = bound.Unbounded
+qualified_start q (bound.Version b) = bound_at b.kind (qualified q b.version)
+
+-- an end gets it if it includes its version
+abbrev pub qualified_end_by : Qualifier → VersionBoundKind → Version → RangeBound
+qualified_end_by q kind.Inclusive v = bound_at kind.Inclusive (qualified q v)
+qualified_end_by q kind.Exclusive v = bound_at kind.Exclusive v
+
+abbrev pub qualified_end : Qualifier → RangeBound → RangeBound
+qualified_end q bound.Unbounded = bound.Unbounded
+qualified_end q (bound.Version b) = qualified_end_by q b.kind b.version
+
+abbrev pub qualified_range : Qualifier → VersionRange → VersionRange
+qualified_range q range = between (qualified_start q range.start) (qualified_end q range.end)
 
 -- ---- from the lower bound to below a release, with the sums in it
 abbrev pub lower_to_below : Partial → Version → List ℕ → Line

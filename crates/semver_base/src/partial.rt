@@ -119,7 +119,7 @@ impl Partial {
     ///
     /// Fails with "Version bound is too large." exactly if the incremented number exceeds 18446744073709551615; otherwise
     /// only out of memory.
-    #[inline(always)]
+    #[inline(never)]
     pub fn as_tilde_version_range(&self, alloc: Global) -> Result<VersionRange, ParseFailure>
         ensures range { IfOk result (λ range. range ≡ (tilde self.now).range) }
         ensures fits { OnOk result (all_fit (tilde self.now).sums ≡ true) }
@@ -143,7 +143,7 @@ impl Partial {
     ///
     /// Fails with "Version bound is too large." exactly if the incremented number exceeds 18446744073709551615; otherwise
     /// only out of memory.
-    #[inline(always)]
+    #[inline(never)]
     pub fn as_caret_version_range(&self, alloc: Global) -> Result<VersionRange, ParseFailure>
         ensures range { IfOk result (λ range. range ≡ (caret self.now).range) }
         ensures fits { OnOk result (all_fit (caret self.now).sums ≡ true) }
@@ -214,7 +214,7 @@ impl Partial {
     ///
     /// Fails with "Version bound is too large." exactly if the incremented number exceeds 18446744073709551615; otherwise
     /// only out of memory.
-    #[inline(always)]
+    #[inline(never)]
     pub fn as_equal_range(&self, alloc: Global) -> Result<VersionRange, ParseFailure>
         ensures range { IfOk result (λ range. range ≡ (equal self.now).range) }
         ensures fits { OnOk result (all_fit (equal self.now).sums ≡ true) }

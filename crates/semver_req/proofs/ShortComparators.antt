@@ -1,24 +1,24 @@
 -- What the grammars make of plain texts.
 use Rattle.std.proofs.Common.{◌≡◌, ◌<◌, ◌^◌, ◌==◌, ℕ, zero, suc, Bool, true, false, List, [], ◌∷◌, ◌++◌, length, Option, Some, None, refl, sym, subst, ap, ◌∙◌, arith, inl, inr, append-nil, append_assoc, length-append}
 use Rattle.std.specs.Char.{is_ascii_digit, is_not_whitespace}
-use Rattle.std.specs.List.{list_all, list_any}
-use Rattle.std.proofs.lemmas.Bool.{lt-ltb, or_left}
+use Rattle.std.specs.List.{list_all}
+use Rattle.std.proofs.lemmas.Bool.{lt-ltb}
 use Rattle.std.proofs.lemmas.Bool.Decides.{nat_tests}
 use Rattle.std.proofs.lemmas.List.{nil_from_length}
 use Rattle.std.proofs.lemmas.Str.{NoCharPasses-nil}
 use Rattle.std.proofs.lemmas.Str.Pattern.{IsSplitOnceResult, split_parts}
 use Rattle.std.specs.Borrow.{Bor}
-use Rattle.std.specs.Prelude.{◌||◌, IfSome, codes, not}
+use Rattle.std.specs.Prelude.{◌+◌, ◌||◌, IfSome, codes, if◌then◌else◌, nat_lt}
 use Rattle.std.specs.Cmp.{nat_cmp_is}
 use Rattle.std.specs.Ordering.{nat_cmp}
 use Rattle.std.specs.declared.cmp.Ordering.TheVariants.{Greater, Less}
 use Rattle.semver_base.specs.Clamp.{clamped, clamped_start}
-use Rattle.semver_base.specs.Comparators.{Comparator, Hyphen, OfPrimitive, comparator_range, greater, less, primitive_kind_text, primitive_line}
+use Rattle.semver_base.specs.Comparators.{Comparator, Hyphen, OfPrimitive, comparator_line, comparator_range, greater, less, primitive_kind_text, primitive_line}
 use Rattle.semver_base.specs.Grammar.{this, that, After, HasNone, IsLongest, IsSeen, Prefixed, closed_item, last_item, more_items}
 use Rattle.semver_base.specs.Meaning.{bound_at, everything, from, release}
 use Rattle.semver_base.specs.Overlap.{ends_at_zero}
 use Rattle.semver_base.specs.Lexical.{IsWhitespace, IsLooseNumber, IsNumber, IsQualifier}
-use Rattle.semver_base.specs.PartialTable.{Line, all_fit, between, greater_than, less_than, number_fits, of_short, release_bound, release_of, release_range}
+use Rattle.semver_base.specs.PartialTable.{IsLineRange, Line, all_fit, between, greater_than, less_than, lower_to_below, number_fits, of_numbers, of_short, qualified_range, release_bound, release_of, release_range, with_qualifier}
 use Rattle.semver_base.specs.Precedence.{precedence_cmp}
 use Rattle.semver_base.specs.ShortTexts.{IsShortFront, IsBareNumber, IsTripleFront}
 use Rattle.semver_base.specs.declared.lexical.values.Measured.TheVariants.{Fits}
@@ -36,13 +36,14 @@ use Rattle.semver_base.specs.declared.range.RangeBound.TheVariants as bound
 use Rattle.semver_base.specs.declared.range.VersionBoundKind.{VersionBoundKind}
 use Rattle.semver_base.specs.declared.range.VersionBoundKind.TheVariants as kind
 use Rattle.semver_base.specs.declared.range.VersionRange.{VersionRange}
+use Rattle.semver_base.specs.declared.version.Version.{Version}
 use Rattle.semver_base.proofs.Bytes.{list_all-append, list_all-wider}
 use Rattle.semver_base.proofs.Fronts.{prefixed_other}
 use Rattle.semver_base.proofs.Numbers.{loose_begins, loose_some}
 use Rattle.semver_base.proofs.WrittenVersions.{after}
 use Rattle.semver_base.proofs.ShortTexts.{short_solid, IsSolid}
 use Rattle.semver_base.proofs.Qualifiers.{no_qualifier}
-use Rattle.semver_base.proofs.Solid.{is_solid_byte}
+use Rattle.semver_base.proofs.Solid.{is_solid_byte, qualifier_made}
 use Rattle.semver_req.specs.Comparators.{IsComparator, IsPrimitive, numbers}
 use Rattle.semver_req.specs.RetainedSet.{retained, retained_range, without_none}
 use Rattle.semver_req.specs.Outcome.{one_good, Ranges}
@@ -50,7 +51,7 @@ use Rattle.semver_req.specs.Partials.{IsComponent, IsPartial, IsBarePartial, is_
 use Rattle.semver_req.specs.Pieces.{HasNoBar, IsCutting, IsFilled, IsHyphenPair, IsUpper, normal, npm, one_piece}
 use Rattle.semver_req.specs.PieceReading.{as_retained, numbers_fit, sums_fit}
 use Rattle.semver_req.specs.PieceSteps.{IsAdded, IsWholeRead}
-use Rattle.semver_req.specs.ShortComparators.{AreWildcards, IsFewer, IsGap, IsShortEnd, IsShortHyphen, IsShortPartial, IsShortPiece, IsShortComparator, IsShortStart, IsUnclosed, IsWildcardFront, no_wildcard, one_wildcard, two_wildcards}
+use Rattle.semver_req.specs.ShortComparators.{AreWildcards, IsFewer, IsGap, IsQualifiedComparator, IsShortEnd, IsShortHyphen, IsShortPartial, IsShortPiece, IsShortComparator, IsShortStart, IsStarOrQualified, IsUnclosed, IsWildcardFront, is_qualified, is_star, no_wildcard, one_wildcard, two_wildcards}
 use Rattle.semver_req.specs.Single.{IsSingle, is_range}
 use Rattle.semver_req.specs.Written.{IsFront, IsOperatorCut, IsNonPrimitive, comparator_of}
 use Rattle.semver_req.specs.declared.common.comparator.Operator.{Operator}
@@ -71,9 +72,10 @@ use Rattle.semver_req.proofs.Joining.{fitting_partial}
 use Rattle.semver_req.proofs.Operators.{non_primitive_some}
 use Rattle.semver_req.proofs.Partials.{not_led, one_read, three_read, two_read}
 use Rattle.semver_req.proofs.PiecesRead.{filled_read, reported_same}
-use Rattle.semver_req.proofs.SpecifierRetained.{is_non_primitive, non_primitive_ends, non_primitive_retained, specifier_ends, specifier_retained}
-use Rattle.semver_req.proofs.SpecifierRanges.{range_reading}
+use Rattle.semver_req.proofs.SpecifierRetained.{is_non_primitive, non_primitive_ends, non_primitive_retained}
 use Rattle.semver_req.proofs.Stabilizing.{less_stays}
+use Rattle.semver_req.proofs.SpecifierRanges.{range_reading}
+use Rattle.semver_req.proofs.Star.{star_alternatives, star_any}
 use Rattle.semver_req.proofs.Wider.{npm_led, pieces_wider}
 use Rattle.semver_req.proofs.WrittenSets.{is_no_bar, no_bar, one_whitespace}
 
@@ -145,27 +147,54 @@ short_begins (short_numbers.One m) rest p = first_digit p.loose
 short_begins (short_numbers.Two m n) rest p = first_digit p.major.loose
 short_begins (short_numbers.Three n) rest t = first_digit t.major.loose
 
-no_led : (f : Flavour) {text : List ℕ} (n : ShortNumbers) → IsShortPartial f text n → (rest : List ℕ) → text ≡ 118 ∷ rest → ⊥
-no_led f n p rest e = cc (short_begins n p.rest p.front 118 rest e)
+as_partial : (f : Flavour) {text : List ℕ} {p : Partial} → ((b : ℕ) (more : List ℕ) → text ≡ b ∷ more → is_ascii_digit b ≡ true) → IsSeen sized_partial (IsBarePartial f) text (Fits p) []
+    → IsSeen sized_partial (IsPartial f) text (Fits p) []
+as_partial Npm {text} {p} begins seen = not_led text (Some (Fits p, [])) (λ rest e. cc (begins 118 rest e)) seen
+as_partial Normal begins seen = seen
+as_partial Specifier begins seen = seen
 
 short_seen : (f : Flavour) {text : List ℕ} (n : ShortNumbers) → IsShortPartial f text n → IsSeen sized_partial (IsPartial f) text (Fits (of_short n)) []
-short_seen Npm {text} n t = not_led text (Some (Fits (of_short n), [])) (no_led Npm n t) (partial_seen Npm n t)
-short_seen Normal n t = partial_seen Normal n t
-short_seen Specifier n t = partial_seen Specifier n t
+short_seen f n p = as_partial f (short_begins n p.rest p.front) (partial_seen f n p)
 
 -- ---- comparators
 
 pub short_front : (f : Flavour) {text : List ℕ} {range : VersionRange} (p : IsShortComparator f text range) → IsFront (IsNonPrimitive f) text (record { operator = p.operator; partial = Fits (of_short p.numbers) }) []
 short_front f p = non_primitive_some f p.operator p.cut (short_seen f p.numbers p.short_partial)
 
--- the strict parser's ranges
-pub specifier_reading : {text : List ℕ} {range : VersionRange} (answer : RangeSetOrTag) → IsShortComparator Specifier text range → answer ≡ inner.RangeSet (record { 0 = range ∷ [] }) → IsReading Specifier text answer
-specifier_reading {range = range} answer p answered = let f = fitting (short_front Specifier p) in range_reading (rw p.line.is (is_range f.longest f.numbers_fit p.line.fits)) answer answered
+pub short_single : (f : Flavour) {text : List ℕ} {range : VersionRange} → IsShortComparator f text range → IsSingle f text (Range range)
+short_single f p = let front = fitting (short_front f p) in rw p.line.is (is_range front.longest front.numbers_fit p.line.fits)
+
+-- ---- three numbers with a qualifier
+
+-- the range from a version to below a release
+lower_qualified : (q : Qualifier) (n : Numbers) (end : Version) (sums : List ℕ) {range : VersionRange} → IsLineRange (lower_to_below (of_numbers n) end sums) range
+    → IsLineRange (lower_to_below (with_qualifier q n) end sums) (qualified_range q range)
+lower_qualified q n end sums h = record { is = ap (qualified_range q) h.is; fits = h.fits }
+
+-- `^`, by whether the first two numbers are above 0
+caret_qualified : (b c : Bool) (q : Qualifier) (n : Numbers) (x y z : Version) (sx sy sz : List ℕ) {range : VersionRange}
+    → IsLineRange (if b then lower_to_below (of_numbers n) x sx else if c then lower_to_below (of_numbers n) y sy else lower_to_below (of_numbers n) z sz) range
+    → IsLineRange (if b then lower_to_below (with_qualifier q n) x sx else if c then lower_to_below (with_qualifier q n) y sy else lower_to_below (with_qualifier q n) z sz) (qualified_range q range)
+caret_qualified true c q n x y z sx sy sz h = lower_qualified q n x sx h
+caret_qualified false true q n x y z sx sy sz h = lower_qualified q n y sy h
+caret_qualified false false q n x y z sx sy sz h = lower_qualified q n z sz h
+
+pub qualified_line : (m : Operator) (q : Qualifier) (n : Numbers) (text rest : List ℕ) {range : VersionRange} → IsOperatorCut text m rest → IsLineRange (comparator_line (comparator_of m (of_numbers n))) range
+    → IsLineRange (comparator_line (comparator_of m (with_qualifier q n))) (qualified_range q range)
+qualified_line operator.Tilde q n text rest cut h = lower_qualified q n (release n.major (n.minor + 1) 0) ((n.minor + 1) ∷ []) h
+qualified_line operator.Caret q n text rest cut h =
+    caret_qualified (nat_lt 0 n.major) (nat_lt 0 n.minor) q n (release (n.major + 1) 0 0) (release 0 (n.minor + 1) 0) (release 0 0 (n.patch + 1)) ((n.major + 1) ∷ []) ((n.minor + 1) ∷ []) ((n.patch + 1) ∷ []) h
+qualified_line (operator.Primitive kind) q n text rest cut h = absurd cut
+qualified_line operator.Absent q n text rest cut h = record { is = ap (qualified_range q) h.is; fits = h.fits }
+
+module _ (f : Flavour) {text : List ℕ} {range : VersionRange} (p : IsQualifiedComparator f text range) where
+  qualified_seen : IsSeen sized_partial (IsPartial f) p.rest (Fits (with_qualifier p.qualifier p.numbers)) []
+  qualified_seen = as_partial f (short_begins (short_numbers.Three p.numbers) p.behind p.front) (numbers_seen f p.front p.longest)
+
+  qualified_single : IsSingle f text (Range range)
+  qualified_single = let front = fitting (non_primitive_some f p.operator p.cut qualified_seen) in rw p.line.is (is_range front.longest front.numbers_fit p.line.fits)
 
 -- ---- pieces
-
-abbrev comparator : {f : Flavour} {text : List ℕ} {range : VersionRange} → IsShortComparator f text range → Comparator
-comparator p = comparator_of p.operator (of_short p.numbers)
 
 no_whitespace : IsWhitespace [] tt
 no_whitespace = NoCharPasses-nil is_not_whitespace
@@ -183,10 +212,6 @@ is_npm (b ∷ rest) c (this (this m)) = this (this (record { value = m.value; st
 is_npm [] c (this (that m)) = absurd m.stands
 is_npm (b ∷ rest) c (this (that m)) = this (that (record { value = m.value; stands = after [] (b ∷ rest) None refl (m.stands.0, npm_led rest m.value m.stands.1); is = m.is }))
 is_npm text c (that m) = that (that m)
-
-item : (f : Flavour) → IsCutting f → {text : List ℕ} {range : VersionRange} (p : IsShortComparator f text range) → IsComparator f text (comparator p)
-item f npm {text} p = is_npm text (comparator p) (whole_front (fitting (short_front Npm p)).longest)
-item f normal {text} p = is_normal text (comparator p) (whole_front (fitting (short_front Normal p)).longest)
 
 alone : (f : Flavour) → IsCutting f → (text : List ℕ) (c : Comparator) → IsComparator f text c → IsFilled f text (c ∷ [])
 alone f npm text c h = that (last_item h)
@@ -209,6 +234,10 @@ wildcards_solid f (two_wildcards b c wild last) = rw (wild_solid f b wild, wild_
 partial_solid : (f : Flavour) (text : List ℕ) (n : ShortNumbers) → IsShortPartial f text n → IsSolid text
 partial_solid f text n p = short_solid text n p.rest p.front (wildcards_solid f p.wildcards)
 
+qualifier_solid : {f : Flavour} → IsCutting f → {text : List ℕ} {q : Qualifier} → IsQualifier (strictness_of f) text q → list_all is_solid_byte text ≡ true
+qualifier_solid npm {text} {q} h = qualifier_made.made text q h
+qualifier_solid normal {text} {q} h = qualifier_made.made text q h
+
 solid_by : (m : Operator) (text rest : List ℕ) → IsOperatorCut text m rest → IsSolid rest → IsSolid text
 solid_by operator.Tilde text rest e h = rw e (h.0, omega arith)
 solid_by operator.Caret text rest e h = rw e (h.0, omega arith)
@@ -218,23 +247,10 @@ solid_by operator.Absent text rest e h = rw e.0 at h
 text_solid : (f : Flavour) {text : List ℕ} {range : VersionRange} → IsShortComparator f text range → IsSolid text
 text_solid f {text} p = solid_by p.operator text p.rest p.cut (partial_solid f p.rest p.numbers p.short_partial)
 
+qualified_solid : (f : Flavour) → IsCutting f → {text : List ℕ} {range : VersionRange} → IsQualifiedComparator f text range → IsSolid text
+qualified_solid f cuts {text} p = solid_by p.operator text p.rest p.cut (short_solid p.rest (short_numbers.Three p.numbers) p.behind p.front (qualifier_solid cuts (whole_front p.longest)))
+
 -- ---- what is kept
-
-strict_wild : (f : Flavour) (b : ℕ) → is_wildcard f b ≡ true → is_wildcard Specifier b ≡ true
-strict_wild Npm b h = h
-strict_wild Normal b h = or_left ((b == 42) || (b == 120)) (b == 88) (or_left (b == 42) (b == 120) h)
-strict_wild Specifier b h = h
-
-strict_wildcards : (f : Flavour) {n : ShortNumbers} {rest : List ℕ} → AreWildcards f n rest → AreWildcards Specifier n rest
-strict_wildcards f no_wildcard = no_wildcard
-strict_wildcards f (one_wildcard b fewer wild) = one_wildcard b fewer (strict_wild f b wild)
-strict_wildcards f (two_wildcards b c wild last) = two_wildcards b c (strict_wild f b wild) (strict_wild f c last)
-
-strict_partial : (f : Flavour) {text : List ℕ} {n : ShortNumbers} → IsShortPartial f text n → IsShortPartial Specifier text n
-strict_partial f p = record { rest = p.rest; front = p.front; wildcards = strict_wildcards f p.wildcards }
-
-abbrev as_strict : (f : Flavour) {text : List ℕ} {range : VersionRange} → IsShortComparator f text range → IsShortComparator Specifier text range
-as_strict f p = record { operator = p.operator; rest = p.rest; numbers = p.numbers; cut = p.cut; short_partial = strict_partial f p.short_partial; line = p.line }
 
 -- comparators that fit, with their range
 all_retained : (cs : List Comparator) (range : VersionRange) → list_all numbers_fit cs ≡ true → list_all sums_fit cs ≡ true → range ≡ retained_range cs → read.Range range ≡ as_retained cs
@@ -263,22 +279,7 @@ spaced {front} {back} h k = record { bytes = list_all-append is_plain_byte front
 without_bar : {text : List ℕ} → IsSpaced text → HasNoBar text
 without_bar {text} h = no_bar text (list_all-wider is_plain_byte is_no_bar plain_no_bar text h.bytes)
 
--- a comparator without a comparison operator, as a piece
-pub comparator_piece : (f : Flavour) → IsCutting f → {text : List ℕ} {range : VersionRange} → IsShortComparator f text range → IsShortPiece f text range
-comparator_piece f cuts {text} {range} p =
-    let strict = whole_front (fitting (short_front Specifier (as_strict f p))).longest in
-    let whole : range ≡ retained_range (comparator p ∷ []) = p.line.is ∙ sym (specifier_retained strict) in
-    record {
-      first = comparator p;
-      others = [];
-      filled = alone f cuts text (comparator p) (item f cuts p);
-      closed = alone_closed f cuts text (comparator p) (item f cuts p);
-      is = all_retained (comparator p ∷ []) range (rw (fitting (short_front f p)).numbers_fit refl) (rw p.line.fits refl) whole;
-      is_kept = rw whole (specifier_ends strict);
-      no_bar = without_bar (unspaced (text_solid f p));
-    }
-
--- ---- one comparator, as a piece
+-- ---- comparators without a comparison operator, as pieces
 
 kind_non_primitive : (f : Flavour) {text : List ℕ} {c : Comparator} → IsNonPrimitive f text c → is_non_primitive c ≡ true
 kind_non_primitive f (this (this m)) = ap is_non_primitive m.is
@@ -289,16 +290,8 @@ as_comparator : (f : Flavour) → IsCutting f → (text : List ℕ) (c : Compara
 as_comparator f npm text c h = is_npm text c h
 as_comparator f normal text c h = is_normal text c h
 
-either_false : (x y : Bool) → (x || y) ≡ false → (not x ≡ true) × (y ≡ false)
-either_false true y h = absurd (cc h)
-either_false false y h = (refl, h)
-
-no_bar_bytes : (text : List ℕ) → list_any (λ b. b == 124) text ≡ false → list_all is_no_bar text ≡ true
-no_bar_bytes [] h = refl
-no_bar_bytes (b ∷ text) h = let both = either_false (b == 124) (list_any (λ x. x == 124) text) h in rw (both.0, no_bar_bytes text both.1) refl
-
-pub single_piece : (f : Flavour) → IsCutting f → (text : List ℕ) {range : VersionRange} → false ≡ list_any (λ b. b == 124) text → IsSingle f text (Range range) → IsShortPiece f text range
-single_piece f cuts text bars (is_range {c} longest numbers sums) =
+single_piece : (f : Flavour) → IsCutting f → (text : List ℕ) {range : VersionRange} → IsSolid text → IsSingle f text (Range range) → IsShortPiece f text range
+single_piece f cuts text solid (is_range {c} longest numbers sums) =
     let stands = whole_front longest in
     let kind = kind_non_primitive f stands in
     record {
@@ -308,8 +301,14 @@ single_piece f cuts text bars (is_range {c} longest numbers sums) =
       closed = alone_closed f cuts text c (as_comparator f cuts text c stands);
       is = all_retained (c ∷ []) (comparator_range c) (rw numbers refl) (rw sums refl) (sym (non_primitive_retained c kind));
       is_kept = non_primitive_ends c kind;
-      no_bar = no_bar text (no_bar_bytes text (sym bars));
+      no_bar = without_bar (unspaced solid);
     }
+
+pub comparator_piece : (f : Flavour) → IsCutting f → {text : List ℕ} {range : VersionRange} → IsShortComparator f text range → IsShortPiece f text range
+comparator_piece f cuts {text} p = single_piece f cuts text (text_solid f p) (short_single f p)
+
+qualified_piece : (f : Flavour) → IsCutting f → {text : List ℕ} {range : VersionRange} → IsQualifiedComparator f text range → IsShortPiece f text range
+qualified_piece f cuts {text} p = single_piece f cuts text (qualified_solid f cuts p) (qualified_single f p)
 
 -- ---- comparisons, as pieces
 
@@ -582,3 +581,12 @@ piece_reading f cuts {text} {range} answer p answered =
       is_outcome = one_good (one_piece p.no_bar) good.1;
       is_read = answered ∙ ap (λ (r : List VersionRange). inner.RangeSet (record { 0 = r })) (sym only);
     }
+
+-- `*`, or three numbers with a qualifier
+pub whole_cut : (f : Flavour) → IsCutting f → {text : List ℕ} {ranges : List VersionRange} (answer : RangeSetOrTag) → IsStarOrQualified f text ranges → answer ≡ inner.RangeSet (record { 0 = ranges }) → IsCutReading f text answer
+whole_cut f cuts answer (is_star e) answered = rw (e, answered) (star_alternatives f cuts)
+whole_cut f cuts answer (is_qualified p) answered = piece_reading f cuts answer (qualified_piece f cuts p) answered
+
+pub whole_strict : {text : List ℕ} {ranges : List VersionRange} (answer : RangeSetOrTag) → IsStarOrQualified Specifier text ranges → answer ≡ inner.RangeSet (record { 0 = ranges }) → IsReading Specifier text answer
+whole_strict answer (is_star e) answered = rw (e, answered) (star_any Specifier).reading
+whole_strict answer (is_qualified p) answered = range_reading (qualified_single Specifier p) answer answered

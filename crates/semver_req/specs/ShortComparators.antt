@@ -1,18 +1,22 @@
 -- Comparators and pieces of plain texts.
-use Rattle.std.specs.Prelude.{◌≡◌, ◌⊎◌, ℕ, List, [], ◌∷◌, ◌++◌, false, true}
+use Rattle.std.specs.Prelude.{◌≡◌, ◌⊎◌, ℕ, List, [], ◌∷◌, ◌++◌, codes, false, true}
 use Rattle.semver_base.specs.Characters.{dot, space}
 use Rattle.semver_base.specs.Comparators.{Comparator, Hyphen, comparator_line, greater, less, primitive_kind_text}
-use Rattle.semver_base.specs.Meaning.{from, release}
+use Rattle.semver_base.specs.Grammar.{IsLongest}
+use Rattle.semver_base.specs.Lexical.{IsQualifier}
+use Rattle.semver_base.specs.Meaning.{everything, from, release}
 use Rattle.semver_base.specs.Overlap.{ends_at_zero}
-use Rattle.semver_base.specs.PartialTable.{IsLineRange, between, greater_than, less_than, of_short}
-use Rattle.semver_base.specs.ShortTexts.{IsShortFront}
+use Rattle.semver_base.specs.PartialTable.{IsLineRange, between, greater_than, less_than, of_short, with_qualifier}
+use Rattle.semver_base.specs.ShortTexts.{IsShortFront, IsTripleFront}
+use Rattle.semver_base.specs.declared.lexical.values.Qualifier.{Qualifier}
 use Rattle.semver_base.specs.declared.range.RangeBound.{RangeBound}
 use Rattle.semver_base.specs.declared.range.RangeBound.TheVariants.{Unbounded}
 use Rattle.semver_base.specs.declared.range.VersionBoundKind.{VersionBoundKind}
+use Rattle.semver_base.specs.declared.short.Numbers.{Numbers}
 use Rattle.semver_base.specs.declared.short.ShortNumbers.{ShortNumbers}
 use Rattle.semver_base.specs.declared.short.ShortNumbers.TheVariants as short_numbers
 use Rattle.semver_base.specs.declared.range.VersionRange.{VersionRange}
-use Rattle.semver_req.specs.Partials.{is_wildcard}
+use Rattle.semver_req.specs.Partials.{is_wildcard, strictness_of}
 use Rattle.semver_req.specs.PieceReading.{as_retained}
 use Rattle.semver_req.specs.Pieces.{HasNoBar, IsFilled}
 use Rattle.semver_req.specs.Written.{IsOperatorCut, comparator_of}
@@ -53,6 +57,23 @@ pub record IsShortComparator (f : Flavour) (text : List ℕ) (range : VersionRan
   pub cut : IsOperatorCut text operator rest
   pub short_partial : IsShortPartial f rest numbers
   pub line : IsLineRange (comparator_line (comparator_of operator (of_short numbers))) range
+
+-- the whole text is `~`, `^` or nothing, three numbers and a qualifier, with this range
+pub record IsQualifiedComparator (f : Flavour) (text : List ℕ) (range : VersionRange) : Type 0 where
+  pub operator : Operator
+  pub rest : List ℕ
+  pub numbers : Numbers
+  pub behind : List ℕ
+  pub qualifier : Qualifier
+  pub cut : IsOperatorCut text operator rest
+  pub front : IsTripleFront rest numbers.major numbers.minor numbers.patch behind
+  pub longest : IsLongest (IsQualifier (strictness_of f)) behind qualifier []
+  pub line : IsLineRange (comparator_line (comparator_of operator (with_qualifier qualifier numbers))) range
+
+-- the whole text is `*` or such a comparator, and its range is in a list
+pub data IsStarOrQualified (f : Flavour) (text : List ℕ) : List VersionRange → Type 0 where
+  is_star : text ≡ codes "*" → IsStarOrQualified f text (everything ∷ [])
+  is_qualified : {range : VersionRange} → IsQualifiedComparator f text range → IsStarOrQualified f text (range ∷ [])
 
 -- ---- pieces
 

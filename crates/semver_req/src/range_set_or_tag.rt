@@ -1,23 +1,19 @@
 //! What a requirement means, version ranges or a tag, and its parsers by npm's and the normalized grammar.
 
-ghost use Rattle.std.specs.Prelude.{◌≡◌, ◌⊎◌, ◌==◌, IfErr, IfOk, IfSome, None, Some, true, false, refl};
+ghost use Rattle.std.specs.Prelude.{◌≡◌, ◌⊎◌, IfErr, IfOk, IfSome, None, Some, true, false, refl};
 ghost use Rattle.std.specs.Bool.{OnFalse};
-ghost use Rattle.std.specs.List.{list_any};
 ghost use Rattle.std.specs.Str.{trim};
-ghost use Rattle.semver_base.specs.Characters.{bar};
 ghost use Rattle.semver_req.specs.Outcome.{IsCutOutcome, IsOutcome, Rejected};
 ghost use Rattle.semver_req.specs.PieceReading.{IsCutRejection, rejection_failure};
 ghost use Rattle.semver_req.specs.Parsers.{IsCutReading, IsReading};
 ghost use Rattle.semver_req.specs.Pieces.{IsCutting};
 ghost use Rattle.semver_req.specs.Requirement.{MatchNoVersion, OverlapAsTags, inner_overlap, inner_text};
-ghost use Rattle.semver_req.specs.ShortComparators.{IsShortPiece};
 ghost use Rattle.semver_req.specs.Tag.{is_valid_tag};
 ghost use Rattle.semver_req.specs.declared.common.values.Flavour.TheVariants.{Normal, Npm};
 
 mod pieces;
 
-use crate::common::short::short_piece;
-use crate::common::single::{Single, parse_single};
+use crate::common::short::{short_piece, star_or_qualified};
 use crate::common::values::Flavour;
 use crate::tag::is_valid_npm_tag;
 use pieces::read_pieces;
@@ -53,7 +49,7 @@ fn tag_or(alloc: Global, text: &str, rejection: Rejection) -> Result<RangeSetOrT
     Err(ParseFailure::of_rejection(alloc, rejection))
 }
 
-// The range of a short text, or of `*`. `None` says nothing about the text.
+// The range of a short text, of `*`, or of three numbers with a qualifier. `None` says nothing about the text.
 #[inline(always)]
 fn short_set(
     alloc: Global,
@@ -64,40 +60,12 @@ fn short_set(
 {
     let ranges = match short_piece(text, flavour) {
         Some(range) => CowVec::of_one(alloc, range.into_range(alloc))?,
-        None if text == "*" => CowVec::of_one(alloc, VersionRange::all())?,
-        None => return Ok(None),
+        None => match star_or_qualified(alloc, text, flavour)? {
+            Some(ranges) => ranges,
+            None => return Ok(None),
+        },
     };
     Ok(Some(RangeSetOrTag::RangeSet(VersionRangeSet(ranges))))
-}
-
-// Whether a `|` is among the bytes.
-#[inline(always)]
-fn holds_bar(bytes: &[u8]) -> bool
-    ensures { result ≡ list_any (λ b. b == bar) bytes.now }
-{
-    bytes.contains(&b'|')
-}
-
-// The range of one comparator without a comparison operator, if that is the whole text and its numbers and bounds fit. `None` says
-// nothing about the text.
-#[inline(always)]
-fn single_range(
-    alloc: Global,
-    text: &str,
-    flavour: Flavour,
-) -> Result<Option<VersionRange>, AllocError>
-    ensures { IsCutting flavour → IfOk result (λ r. IfSome r (IsShortPiece flavour text.now)) }
-{
-    if holds_bar(text.as_bytes()) {
-        return Ok(None);
-    }
-    let found = parse_single(alloc, text, flavour)?;
-    match found {
-        Single::Range(range) => Ok(Some(range)),
-        Single::Absent => Ok(None),
-        Single::Followed => Ok(None),
-        Single::TooLarge(_) => Ok(None),
-    }
 }
 
 impl RangeSetOrTag {
@@ -152,7 +120,7 @@ impl RangeSetOrTag {
         }
     }
 
-    // Parses such a text piece by piece, if it isn't one comparator.
+    // Parses such a text piece by piece.
     #[inline(never)]
     fn parse_pieces(
         alloc: Global,
@@ -165,10 +133,6 @@ impl RangeSetOrTag {
             (λ failure. (failure ≡ None) ⊎ IsCutOutcome flavour text.now Rejected) }
         ensures rejection { IfErr result (IsCutRejection flavour text.now) }
     {
-        if let Some(range) = single_range(alloc, text, flavour)? {
-            let ranges = CowVec::of_one(alloc, range)?;
-            return Ok(RangeSetOrTag::RangeSet(VersionRangeSet(ranges)));
-        }
         let first = first_piece(text);
         let all = read_pieces(alloc, first, flavour)?;
         let Some(rejection) = all.rejected else {

@@ -6,7 +6,7 @@ ghost use Rattle.semver_req.specs.Parsers.{IsParserAnswer, IsReading};
 ghost use Rattle.semver_req.specs.SpecifierRejections.{IsNoTag, IsSpecifierRejection, empty_constraint};
 ghost use Rattle.semver_req.specs.Tag.{is_valid_tag};
 
-use crate::common::short::short_range;
+use crate::common::short::{short_range, star_or_qualified};
 use crate::common::single::{Single, parse_single};
 use crate::common::values::Flavour;
 use crate::range_set_or_tag::RangeSetOrTag;
@@ -60,16 +60,13 @@ fn only(alloc: Global, range: VersionRange) -> Result<VersionRangeSet, AllocErro
     Ok(VersionRangeSet(CowVec::of_one(alloc, range)?))
 }
 
-// Parses the text by the full grammar; `*` at once.
+// Parses the text by the full grammar.
 #[inline(never)]
 fn read(alloc: Global, text: &str) -> Result<RangeSetOrTag, ParseFailure>
     ensures reading { IfOk result (IsReading Flavour.Specifier text.now) }
     ensures rejection { IfErr result (IsSpecifierRejection text.now) }
 {
-    if text == "*" {
-        return Ok(RangeSetOrTag::RangeSet(only(alloc, VersionRange::all())?));
-    }
-    let found = parse_single(alloc, text, Flavour::Specifier)?;
+    let found = parse_single(alloc, text)?;
     match found {
         Single::Range(range) => Ok(RangeSetOrTag::RangeSet(only(alloc, range)?)),
         Single::Absent => whole_text_as_tag(alloc, text, Rejection::UnexpectedCharacter),
@@ -100,6 +97,10 @@ pub fn parse_version_req_from_specifier(
     let raw_text = SmallStackString::from_str(alloc, text)?;
     if let Some(range) = short_range(text, Flavour::Specifier) {
         let inner = RangeSetOrTag::RangeSet(only(alloc, range.into_range(alloc))?);
+        return Ok(VersionReq::from_raw_text_and_inner(raw_text, inner));
+    }
+    if let Some(ranges) = star_or_qualified(alloc, text, Flavour::Specifier)? {
+        let inner = RangeSetOrTag::RangeSet(VersionRangeSet(ranges));
         return Ok(VersionReq::from_raw_text_and_inner(raw_text, inner));
     }
     let inner = read(alloc, text)?;

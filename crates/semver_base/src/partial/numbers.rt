@@ -2,17 +2,18 @@
 //!
 //! A range is first computed as numbers, which are cheap to move, and built where it stays.
 
-ghost use Rattle.std.specs.Prelude.{◌≡◌, ◌↔◌, ◌+◌, ◌∷◌, [], IfNone, IfSome, IsTrue, Some, false, true};
+ghost use Rattle.std.specs.Prelude.{◌≡◌, ◌↔◌, ◌+◌, ◌∷◌, [], IfNone, IfOk, IfSome, IsTrue, Some, false, true};
 ghost use Rattle.std.specs.declared.cmp.Ordering.TheVariants.{Less};
 ghost use Rattle.semver_base.specs.Meaning.{from, release};
-ghost use Rattle.semver_base.specs.PartialTable.{IsLineRange, all_fit, between, caret, equal, greater_than, less_than, lower_to_below, lowest, of_short, release_bound, release_of, release_range, tilde, upper};
+ghost use Rattle.semver_base.specs.PartialTable.{IsLineRange, all_fit, between, caret, equal, greater_than, less_than, lower_to_below, lowest, of_short, qualified_range, qualified_start, release_bound, release_of, release_range, tilde, upper};
 ghost use Rattle.semver_base.specs.Precedence.{precedence_cmp};
 ghost use Rattle.semver_base.specs.declared.range.RangeBound.TheVariants.{Unbounded};
 
+use crate::lexical::values::Qualifier;
 use crate::range::{RangeBound, VersionBoundKind, VersionRange};
 use crate::short::{Numbers, ShortNumbers};
-use crate::version::release;
-use std::alloc::Global;
+use crate::version::{Version, release};
+use std::alloc::{AllocError, Global};
 
 /// A release at which a range starts or ends.
 #[derive(Clone, Copy, Debug)]
@@ -79,6 +80,26 @@ impl ReleaseBound {
         } = self.numbers;
         RangeBound::version(self.kind, release(alloc, major, minor, patch))
     }
+
+    // Builds the bound, at the version with this qualifier.
+    #[inline(always)]
+    fn with_qualifier(self, qualifier: Qualifier) -> RangeBound
+        ensures { result ≡ qualified_start qualifier (release_bound self) }
+    {
+        let Numbers {
+            major,
+            minor,
+            patch,
+        } = self.numbers;
+        let version = Version {
+            major,
+            minor,
+            patch,
+            pre: qualifier.pre,
+            build: qualifier.build,
+        };
+        RangeBound::version(self.kind, version)
+    }
 }
 
 impl ReleaseRange {
@@ -112,6 +133,29 @@ impl ReleaseRange {
             start: self.start.into_bound(alloc),
             end,
         }
+    }
+
+    /// Builds the range of a comparator with this qualifier behind its three numbers, of which this is the range without it. Fails
+    /// only out of memory.
+    #[inline(always)]
+    pub fn with_qualifier(
+        self,
+        alloc: Global,
+        qualifier: Qualifier,
+    ) -> Result<VersionRange, AllocError>
+        ensures { IfOk result (λ range. range ≡ qualified_range qualifier (release_range self)) }
+    {
+        let end = match self.end {
+            Some(end) => match end.kind {
+                VersionBoundKind::Inclusive => end.with_qualifier(qualifier.copy()?),
+                VersionBoundKind::Exclusive => end.into_bound(alloc),
+            },
+            None => RangeBound::Unbounded,
+        };
+        Ok(VersionRange {
+            start: self.start.with_qualifier(qualifier),
+            end,
+        })
     }
 }
 

@@ -1,26 +1,29 @@
 //! A fast path for plain comparators, pairs of them and hyphen ranges: numbers, operators or none, wildcards for the last number, spaces,
-//! and nothing else.
+//! and nothing else; also for `*`, and for three numbers with a pre-release or a build.
 //!
 //! Most pieces are such texts. What this parses is a piece by the grammar, and a text has only one meaning; so each parser
 //! tries this first, and falls back to the full grammar on `None`.
 
-ghost use Rattle.std.specs.Prelude.{◌≡◌, ◌++◌, ◌∷◌, [], IfSome, IsTrue};
+ghost use Rattle.std.specs.Prelude.{◌≡◌, ◌++◌, ◌∷◌, [], IfOk, IfSome, IsTrue};
 ghost use Rattle.semver_base.specs.Characters.{hyphen_sign, space};
 ghost use Rattle.semver_base.specs.Comparators.{comparator_line};
 ghost use Rattle.semver_base.specs.Grammar.{IsAfter};
 ghost use Rattle.semver_base.specs.PartialTable.{IsLineRange, of_short, release_bound, release_range};
 ghost use Rattle.semver_req.specs.Partials.{is_wildcard};
 ghost use Rattle.semver_req.specs.Pieces.{IsCutting};
-ghost use Rattle.semver_req.specs.ShortComparators.{AreWildcards, IsAfterGap, IsFewer, IsShortEnd, IsShortHyphen, IsShortPartial, IsShortPiece, IsShortComparator, IsShortStart, IsUnclosed, IsWildcardFront, less_sign};
+ghost use Rattle.semver_req.specs.ShortComparators.{AreWildcards, IsAfterGap, IsFewer, IsShortEnd, IsShortHyphen, IsShortPartial, IsShortPiece, IsShortComparator, IsShortStart, IsStarOrQualified, IsUnclosed, IsWildcardFront, less_sign};
 ghost use Rattle.semver_req.specs.Written.{comparator_of};
 ghost use Rattle.semver_req.specs.declared.common.values.Flavour.TheVariants.{Normal, Npm};
 
 use crate::common::comparator::{Operator, split_operator};
 use crate::common::values::Flavour;
+use semver_base::lexical;
 use semver_base::lexical::after;
 use semver_base::partial::{ReleaseBound, ReleaseRange};
-use semver_base::range::VersionBoundKind;
-use semver_base::short::{Numbers, ShortNumbers, leading_numbers};
+use semver_base::range::{VersionBoundKind, VersionRange};
+use semver_base::short::{Numbers, ShortNumbers, leading_numbers, split_numbers};
+use semver_base::string::CowVec;
+use std::alloc::{AllocError, Global};
 
 // The range of the operator and the numbers, if its bounds fit; `None` for a comparison operator.
 #[inline(always)]
@@ -110,6 +113,38 @@ pub(crate) fn short_range(text: &str, flavour: Flavour) -> Option<ReleaseRange>
     let (operator, rest) = split_operator(text);
     let numbers = short_partial(rest.as_bytes(), flavour)?;
     numbers_range(operator, numbers)
+}
+
+/// The range of `*`, or of `~`, `^` or nothing before three numbers and a qualifier, as a list of one, if that is the whole text and
+/// its bounds fit. `None` says nothing about the text. Fails only out of memory. In a call of its own, so that plain texts don't pay
+/// for it.
+#[inline(never)]
+pub(crate) fn star_or_qualified(
+    alloc: Global,
+    text: &str,
+    flavour: Flavour,
+) -> Result<Option<CowVec<VersionRange>>, AllocError>
+    ensures { IfOk result (λ r. IfSome r (IsStarOrQualified flavour text.now)) }
+{
+    if text == "*" {
+        return Ok(Some(CowVec::of_one(alloc, VersionRange::all())?));
+    }
+    let (operator, rest) = split_operator(text);
+    let Some((numbers, rest)) = split_numbers(rest) else {
+        return Ok(None);
+    };
+    if !matches!(rest.as_bytes(), [b'-' | b'+', ..]) {
+        return Ok(None);
+    }
+    let Some(range) = numbers_range(operator, ShortNumbers::Three(numbers)) else {
+        return Ok(None);
+    };
+    let (qualifier, rest) = lexical::qualifier(alloc, rest, flavour.strictness())?;
+    if !rest.is_empty() {
+        return Ok(None);
+    }
+    let range = range.with_qualifier(alloc, qualifier)?;
+    Ok(Some(CowVec::of_one(alloc, range)?))
 }
 
 // Strips a leading space.

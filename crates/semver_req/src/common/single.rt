@@ -1,4 +1,4 @@
-//! Texts that are one comparator without a comparison operator.
+//! Texts of the strict grammar, which are one comparator without a comparison operator.
 
 ghost use Rattle.std.specs.Prelude.{IfOk};
 ghost use Rattle.semver_req.specs.Single.{IsSingle};
@@ -25,14 +25,10 @@ pub(crate) enum Single {
 
 /// Parses the whole text as one. Fails only out of memory.
 #[inline(always)]
-pub(crate) fn parse_single(
-    alloc: Global,
-    text: &str,
-    flavour: Flavour,
-) -> Result<Single, AllocError>
-    ensures { IfOk result (IsSingle flavour text.now) }
+pub(crate) fn parse_single(alloc: Global, text: &str) -> Result<Single, AllocError>
+    ensures { IfOk result (IsSingle Flavour.Specifier text.now) }
 {
-    let Some((written, rest)) = non_primitive_front(alloc, text, flavour)? else {
+    let Some((written, rest)) = non_primitive_front(alloc, text, Flavour::Specifier)? else {
         return Ok(Single::Absent);
     };
     let Written { operator, partial } = written;

@@ -137,7 +137,7 @@ fn strict_rejection(alloc: Global, text: &str) -> Result<Option<Rejection>, Pars
         (IsStrictRejection text.now)) }
     ensures memory { IfErr result (λ failure. failure ≡ None) }
 {
-    let found = parse_single(alloc, text, Flavour::Specifier)?;
+    let found = parse_single(alloc, text)?;
     match found {
         Single::Range(range) => {
             drop(range);

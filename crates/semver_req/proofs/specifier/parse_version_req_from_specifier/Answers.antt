@@ -3,10 +3,11 @@ use Rattle.std.specs.Prelude.{◌⊎◌}
 use Rattle.semver_base.specs.Lexical.{IsWhitespace}
 use Rattle.semver_req.specs.SpecifierRejections.{IsSpecifierRejection, empty_constraint, is_out_of_memory}
 use Rattle.semver_req.specs.declared.common.values.Flavour.TheVariants.{Specifier}
+use Rattle.semver_req.specs.declared.range_set_or_tag.RangeSetOrTag.{RangeSetOrTag}
 use Rattle.semver_req.specs.declared.range_set_or_tag.RangeSetOrTag.TheVariants as inner
-use Rattle.semver_req.proofs.ShortComparators.{specifier_reading}
+use Rattle.semver_req.proofs.ShortComparators.{short_single, whole_strict}
 use Rattle.semver_req.proofs.ParserAnswers.{answers_err, answers_read, err_reports}
-use Rattle.semver_req.proofs.SpecifierRanges.{whitespace_rejection, rejection_whitespace, rejection_outcome}
+use Rattle.semver_req.proofs.SpecifierRanges.{range_reading, whitespace_rejection, rejection_whitespace, rejection_outcome}
 use Rattle.semver_req.proofs.specifier.parse_version_req_from_specifier.Goals as goal
 
 pub returns-in_err-inner-clause-reads : goal.returns-in_err-inner-clause-reads
@@ -37,5 +38,14 @@ returns-in_err-only-clause-rejection c =
 
 pub returns-in-Some-clause-reads : goal.returns-in-Some-clause-reads
 returns-in-Some-clause-reads c =
-    let plain = specifier_reading (inner.RangeSet c.in_ok-only.field-0) c.in-Some.ensures (ap inner.RangeSet (rw c.into_range.ensures at c.in_ok-only.ensures)) in
+    let plain = range_reading (short_single Specifier c.in-Some.ensures) (inner.RangeSet c.in_ok-only.field-0) (ap inner.RangeSet (rw c.into_range.ensures at c.in_ok-only.ensures)) in
     rw c.from_raw_text_and_inner.ensures (answers_read Specifier c.args.text.now (λ e. e.source) (record { raw_text = c.in_ok-raw_text.raw_text; inner = inner.RangeSet c.in_ok-only.field-0 }) c.utf8.text plain c.in_ok-raw_text.ensures.value)
+
+pub returns-in_err-ranges-clause-rejection : goal.returns-in_err-ranges-clause-rejection
+returns-in_err-ranges-clause-rejection c =
+    err_reports (λ e. e.source) c.from_residual-in_err-ranges.result None (IsSpecifierRejection c.args.text.now) c.from_residual-in_err-ranges.ensures.1 is_out_of_memory
+
+pub returns-in-Some-2-clause-reads : goal.returns-in-Some-2-clause-reads
+returns-in-Some-2-clause-reads c =
+    let set : RangeSetOrTag = inner.RangeSet (record { 0 = c.in-Some-2.ranges }) in
+    rw c.from_raw_text_and_inner-in-Some-2.ensures (answers_read Specifier c.args.text.now (λ e. e.source) (record { raw_text = c.in_ok-raw_text.raw_text; inner = set }) c.utf8.text (whole_strict set (rw c.in-Some-2.is at c.in_ok-ranges.ensures) refl) c.in_ok-raw_text.ensures.value)

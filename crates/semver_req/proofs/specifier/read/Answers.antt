@@ -1,17 +1,12 @@
-use Rattle.std.proofs.Common.{◌≡◌, sym, ap}
-use Rattle.std.specs.Cmp.{unsigned_Decides}
-use Rattle.std.specs.Cmp.Lexicographic.{pointwise_decides}
-use Rattle.std.specs.Prelude.{codes}
+use Rattle.std.proofs.Common.{ap}
 use Rattle.std.proofs.lemmas.Result.{IfErr-weaker, IfOk-weaker}
 use Rattle.semver_req.specs.SpecifierRejections.{is_out_of_memory}
-use Rattle.semver_req.specs.declared.common.values.Flavour.TheVariants.{Specifier}
 use Rattle.semver_req.specs.declared.range_set_or_tag.RangeSetOrTag.TheVariants as inner
 use Rattle.semver_req.proofs.SpecifierRanges.{absent_reading, absent_rejection, followed_rejection, large_reading, large_rejection, memory_err, range_reading}
-use Rattle.semver_req.proofs.Star.{star_any}
 use Rattle.semver_req.proofs.specifier.read.Goals as goal
 
 pub returns-in_err-found-clause-rejection : goal.returns-in_err-found-clause-rejection
-returns-in_err-found-clause-rejection c = memory_err c.from_residual-in_err-found.result _ c.from_residual-in_err-found.ensures.1 is_out_of_memory
+returns-in_err-found-clause-rejection c = memory_err c.from_residual.result _ c.from_residual.ensures.1 is_out_of_memory
 
 pub returns-in_err-only-in-Range-clause-rejection : goal.returns-in_err-only-in-Range-clause-rejection
 returns-in_err-only-in-Range-clause-rejection c = memory_err c.from_residual-in_err-only-in-Range.result _ c.from_residual-in_err-only-in-Range.ensures.1 is_out_of_memory
@@ -36,12 +31,3 @@ returns-in-TooLarge-clause-reading c =
 pub returns-in-TooLarge-clause-rejection : goal.returns-in-TooLarge-clause-rejection
 returns-in-TooLarge-clause-rejection c =
     IfErr-weaker c.whole_text_as_tag-in-TooLarge.result _ _ (large_rejection (rw c.in-TooLarge.is at c.in_ok-found.ensures)) c.whole_text_as_tag-in-TooLarge.ensures.no_tag
-
-pub returns-in_err-only-clause-rejection : goal.returns-in_err-only-clause-rejection
-returns-in_err-only-clause-rejection c = memory_err c.from_residual.result _ c.from_residual.ensures.1 is_out_of_memory
-
-pub returns-then-eq-clause-reading : goal.returns-then-eq-clause-reading
-returns-then-eq-clause-reading c =
-    let star : c.args.text.now ≡ codes "*" = (pointwise_decides unsigned_Decides c.args.text.now (codes "*")).0 (sym c.if-eq.ensures) in
-    let any = rw c.all.ensures at c.in_ok-only.ensures in
-    rw (star, any) (star_any Specifier).reading
