@@ -8,9 +8,11 @@ ghost use Rattle.semver_base.specs.PartialTable.{IsBoundRejection, all_fit, betw
 mod numbers;
 
 use crate::failure::{ParseFailure, Rejection};
+use crate::range::VersionBoundKind::{Exclusive, Inclusive};
 use crate::range::{RangeBound, VersionBoundKind, VersionRange};
 use crate::string::CowVec;
 use crate::version::{Version, VersionPreOrBuild, release};
+use XRange::{Val, Wildcard};
 pub use numbers::{ReleaseBound, ReleaseRange};
 use std::alloc::{AllocError, Global};
 
@@ -39,8 +41,8 @@ fn or_zero(component: XRange) -> u64
     ensures { result ≡ or_zero component }
 {
     match component {
-        XRange::Wildcard => 0,
-        XRange::Val(number) => number,
+        Wildcard => 0,
+        Val(number) => number,
     }
 }
 
@@ -126,14 +128,10 @@ impl Partial {
         ensures rejected { IfErr result (IsBoundRejection (tilde self.now).sums) }
     {
         match (self.major, self.minor) {
-            (XRange::Wildcard, _) => Ok(VersionRange::all()),
-            (XRange::Val(major), XRange::Wildcard) => {
-                let next = raised(alloc, major)?;
-                self.lower_to_below(alloc, next, 0, 0)
-            }
-            (XRange::Val(major), XRange::Val(minor)) => {
-                let next = raised(alloc, minor)?;
-                self.lower_to_below(alloc, major, next, 0)
+            (Wildcard, _) => Ok(VersionRange::all()),
+            (Val(major), Wildcard) => self.lower_to_below(alloc, raised(alloc, major)?, 0, 0),
+            (Val(major), Val(minor)) => {
+                self.lower_to_below(alloc, major, raised(alloc, minor)?, 0)
             }
         }
     }
@@ -150,22 +148,11 @@ impl Partial {
         ensures rejected { IfErr result (IsBoundRejection (caret self.now).sums) }
     {
         match (self.major, self.minor, self.patch) {
-            (XRange::Wildcard, _, _) => Ok(VersionRange::all()),
-            (XRange::Val(0), XRange::Val(0), XRange::Wildcard) => {
-                self.lower_to_below(alloc, 0, 1, 0)
-            }
-            (XRange::Val(0), XRange::Val(0), XRange::Val(patch)) => {
-                let next = raised(alloc, patch)?;
-                self.lower_to_below(alloc, 0, 0, next)
-            }
-            (XRange::Val(0), XRange::Val(minor), _) => {
-                let next = raised(alloc, minor)?;
-                self.lower_to_below(alloc, 0, next, 0)
-            }
-            (XRange::Val(major), _, _) => {
-                let next = raised(alloc, major)?;
-                self.lower_to_below(alloc, next, 0, 0)
-            }
+            (Wildcard, _, _) => Ok(VersionRange::all()),
+            (Val(0), Val(0), Wildcard) => self.lower_to_below(alloc, 0, 1, 0),
+            (Val(0), Val(0), Val(patch)) => self.lower_to_below(alloc, 0, 0, raised(alloc, patch)?),
+            (Val(0), Val(minor), _) => self.lower_to_below(alloc, 0, raised(alloc, minor)?, 0),
+            (Val(major), _, _) => self.lower_to_below(alloc, raised(alloc, major)?, 0, 0),
         }
     }
 
@@ -182,30 +169,21 @@ impl Partial {
         ensures fits { OnOk result (all_fit (greater_range kind self.now).sums ≡ true) }
         ensures rejected { IfErr result (IsBoundRejection (greater_range kind self.now).sums) }
     {
-        let patch = or_zero(self.patch);
-        let (start, end) = match (self.major, self.minor, self.patch) {
-            (XRange::Wildcard, _, _) => return Ok(VersionRange::all()),
-            (XRange::Val(major), XRange::Wildcard, _) => {
-                let next = raised(alloc, major)?;
-                (
-                    release(alloc, major, 0, patch),
-                    RangeBound::exclusive(release(alloc, next, 0, patch)),
-                )
+        let (minor, patch) = (or_zero(self.minor), or_zero(self.patch));
+        let Val(major) = self.major else {
+            return Ok(VersionRange::all());
+        };
+        let end = match (self.minor, self.patch) {
+            (Wildcard, _) => {
+                RangeBound::exclusive(release(alloc, raised(alloc, major)?, 0, patch))
             }
-            (XRange::Val(major), XRange::Val(minor), XRange::Wildcard) => {
-                let next = raised(alloc, minor)?;
-                (
-                    release(alloc, major, minor, 0),
-                    RangeBound::exclusive(release(alloc, major, next, 0)),
-                )
+            (Val(_), Wildcard) => {
+                RangeBound::exclusive(release(alloc, major, raised(alloc, minor)?, 0))
             }
-            (XRange::Val(major), XRange::Val(minor), XRange::Val(patch)) => (
-                release(alloc, major, minor, patch),
-                RangeBound::version(kind, release(alloc, major, minor, patch)),
-            ),
+            (Val(_), Val(_)) => RangeBound::version(kind, release(alloc, major, minor, patch)),
         };
         Ok(VersionRange {
-            start: RangeBound::version(kind, start),
+            start: RangeBound::version(kind, release(alloc, major, minor, patch)),
             end,
         })
     }
@@ -221,11 +199,11 @@ impl Partial {
         ensures rejected { IfErr result (IsBoundRejection (equal self.now).sums) }
     {
         match (self.major, self.minor, self.patch) {
-            (XRange::Val(_), XRange::Val(_), XRange::Val(_)) => Ok(VersionRange {
+            (Val(_), Val(_), Val(_)) => Ok(VersionRange {
                 start: RangeBound::inclusive(self.lowest()?),
                 end: RangeBound::inclusive(self.lowest()?),
             }),
-            _ => self.as_greater_range(alloc, VersionBoundKind::Inclusive),
+            _ => self.as_greater_range(alloc, Inclusive),
         }
     }
 
@@ -240,18 +218,16 @@ impl Partial {
         ensures rejected { IfErr result (IsBoundRejection (upper self.now).sums) }
     {
         match (self.major, self.minor, self.patch) {
-            (XRange::Wildcard, _, _) => Ok(RangeBound::Unbounded),
-            (XRange::Val(major), XRange::Wildcard, patch) => {
-                let next = raised(alloc, major)?;
-                Ok(RangeBound::exclusive(release(alloc, next, 0, or_zero(patch))))
+            (Wildcard, _, _) => Ok(RangeBound::Unbounded),
+            (Val(major), Wildcard, patch) => {
+                let end = release(alloc, raised(alloc, major)?, 0, or_zero(patch));
+                Ok(RangeBound::exclusive(end))
             }
-            (XRange::Val(major), XRange::Val(minor), XRange::Wildcard) => {
-                let next = raised(alloc, minor)?;
-                Ok(RangeBound::exclusive(release(alloc, major, next, 0)))
+            (Val(major), Val(minor), Wildcard) => {
+                let end = release(alloc, major, raised(alloc, minor)?, 0);
+                Ok(RangeBound::exclusive(end))
             }
-            (XRange::Val(_), XRange::Val(_), XRange::Val(_)) => {
-                Ok(RangeBound::inclusive(self.without_build(alloc)?))
-            }
+            (Val(_), Val(_), Val(_)) => Ok(RangeBound::inclusive(self.without_build(alloc)?)),
         }
     }
 
@@ -301,47 +277,18 @@ impl Partial {
         ensures fits { OnOk result (all_fit (greater_than kind self.now).sums ≡ true) }
         ensures rejected { IfErr result (IsBoundRejection (greater_than kind self.now).sums) }
     {
-        match kind {
-            VersionBoundKind::Inclusive => Ok(self.at_least(alloc)?),
-            VersionBoundKind::Exclusive => self.above(alloc),
-        }
-    }
-
-    // The range of `>=`.
-    fn at_least(&self, alloc: Global) -> Result<VersionRange, AllocError>
-        ensures { IfOk result
-            (λ range. range ≡ (greater_than VersionBoundKind.Inclusive self.now).range) }
-    {
-        match self.major {
-            XRange::Wildcard => Ok(VersionRange::all()),
-            XRange::Val(_) => Ok(VersionRange {
-                start: RangeBound::inclusive(self.without_build(alloc)?),
-                end: RangeBound::Unbounded,
-            }),
-        }
-    }
-
-    // The range of `>`.
-    fn above(&self, alloc: Global) -> Result<VersionRange, ParseFailure>
-        ensures range { IfOk result
-            (λ range. range ≡ (greater_than VersionBoundKind.Exclusive self.now).range) }
-        ensures fits { OnOk result
-            (all_fit (greater_than VersionBoundKind.Exclusive self.now).sums ≡ true) }
-        ensures rejected { IfErr result
-            (IsBoundRejection (greater_than VersionBoundKind.Exclusive self.now).sums) }
-    {
-        let start = match (self.major, self.minor, self.patch) {
-            (XRange::Wildcard, _, _) => return Ok(VersionRange::none(alloc)),
-            (XRange::Val(major), XRange::Wildcard, patch) => {
+        let start = match (kind, self.major, self.minor, self.patch) {
+            (Inclusive, Wildcard, _, _) => return Ok(VersionRange::all()),
+            (Exclusive, Wildcard, _, _) => return Ok(VersionRange::none(alloc)),
+            (Exclusive, Val(major), Wildcard, patch) => {
                 let next = raised(alloc, major)?;
                 RangeBound::inclusive(release(alloc, next, 0, or_zero(patch)))
             }
-            (XRange::Val(major), XRange::Val(minor), XRange::Wildcard) => {
-                let next = raised(alloc, minor)?;
-                RangeBound::inclusive(release(alloc, major, next, 0))
+            (Exclusive, Val(major), Val(minor), Wildcard) => {
+                RangeBound::inclusive(release(alloc, major, raised(alloc, minor)?, 0))
             }
-            (XRange::Val(_), XRange::Val(_), XRange::Val(_)) => {
-                RangeBound::exclusive(self.without_build(alloc)?)
+            (Inclusive, Val(_), _, _) | (Exclusive, Val(_), Val(_), Val(_)) => {
+                RangeBound::version(kind, self.without_build(alloc)?)
             }
         };
         Ok(VersionRange {
@@ -364,69 +311,34 @@ impl Partial {
         ensures fits { OnOk result (all_fit (less_than kind self.now).sums ≡ true) }
         ensures rejected { IfErr result (IsBoundRejection (less_than kind self.now).sums) }
     {
-        match kind {
-            VersionBoundKind::Inclusive => self.at_most(alloc),
-            VersionBoundKind::Exclusive => Ok(self.below(alloc)?),
-        }
-    }
-
-    // The range of `<=`.
-    fn at_most(&self, alloc: Global) -> Result<VersionRange, ParseFailure>
-        ensures range { IfOk result
-            (λ range. range ≡ (less_than VersionBoundKind.Inclusive self.now).range) }
-        ensures fits { OnOk result
-            (all_fit (less_than VersionBoundKind.Inclusive self.now).sums ≡ true) }
-        ensures rejected { IfErr result
-            (IsBoundRejection (less_than VersionBoundKind.Inclusive self.now).sums) }
-    {
-        let end = match (self.major, self.minor, self.patch) {
-            (XRange::Wildcard, _, _) => return Ok(VersionRange::all()),
-            (XRange::Val(major), XRange::Wildcard, XRange::Wildcard) => {
-                let next = raised(alloc, major)?;
-                RangeBound::exclusive(release(alloc, next, 0, 0))
+        let end = match (kind, self.major, self.minor, self.patch) {
+            (Inclusive, Wildcard, _, _) => return Ok(VersionRange::all()),
+            (Exclusive, Wildcard, _, _) => return Ok(VersionRange::none(alloc)),
+            (Inclusive, Val(major), Wildcard, Wildcard) => {
+                RangeBound::exclusive(release(alloc, raised(alloc, major)?, 0, 0))
             }
-            (XRange::Val(major), XRange::Wildcard, XRange::Val(patch)) => {
+            (Exclusive, Val(major), Wildcard, Wildcard) => {
+                RangeBound::exclusive(release(alloc, major, 0, 0))
+            }
+            (Inclusive, Val(major), Wildcard, Val(patch)) => {
                 let next = raised(alloc, major)?;
                 RangeBound::exclusive(self.version_with_pre(alloc, next, 0, patch)?)
             }
-            (XRange::Val(major), XRange::Val(minor), XRange::Wildcard) => {
-                let next = raised(alloc, minor)?;
-                RangeBound::exclusive(release(alloc, major, next, 0))
+            (Exclusive, Val(major), Wildcard, Val(patch)) => {
+                RangeBound::exclusive(self.version_with_pre(alloc, major, 0, patch)?)
             }
-            (XRange::Val(_), XRange::Val(_), XRange::Val(_)) => {
-                RangeBound::inclusive(self.without_build(alloc)?)
+            (Inclusive, Val(major), Val(minor), Wildcard) => {
+                RangeBound::exclusive(release(alloc, major, raised(alloc, minor)?, 0))
             }
+            (Exclusive, Val(major), Val(minor), Wildcard) => {
+                RangeBound::exclusive(release(alloc, major, minor, 0))
+            }
+            (_, Val(_), Val(_), Val(_)) => RangeBound::version(kind, self.without_build(alloc)?),
         };
-        Ok(from_zero(alloc, end))
-    }
-
-    // The range of `<`.
-    fn below(&self, alloc: Global) -> Result<VersionRange, AllocError>
-        ensures { IfOk result
-            (λ range. range ≡ (less_than VersionBoundKind.Exclusive self.now).range) }
-    {
-        let end = match (self.major, self.minor, self.patch) {
-            (XRange::Wildcard, _, _) => return Ok(VersionRange::none(alloc)),
-            (XRange::Val(major), XRange::Wildcard, XRange::Wildcard) => release(alloc, major, 0, 0),
-            (XRange::Val(major), XRange::Wildcard, XRange::Val(patch)) => {
-                self.version_with_pre(alloc, major, 0, patch)?
-            }
-            (XRange::Val(major), XRange::Val(minor), XRange::Wildcard) => {
-                release(alloc, major, minor, 0)
-            }
-            (XRange::Val(_), XRange::Val(_), XRange::Val(_)) => self.without_build(alloc)?,
-        };
-        Ok(from_zero(alloc, RangeBound::exclusive(end)))
-    }
-}
-
-// The range from 0.0.0 to this end.
-fn from_zero(alloc: Global, end: RangeBound) -> VersionRange
-    ensures { result ≡ between (from (release 0 0 0)) end }
-{
-    VersionRange {
-        start: RangeBound::inclusive(release(alloc, 0, 0, 0)),
-        end,
+        Ok(VersionRange {
+            start: RangeBound::inclusive(release(alloc, 0, 0, 0)),
+            end,
+        })
     }
 }
 
@@ -457,16 +369,10 @@ impl PrimitiveKind {
     {
         match self {
             PrimitiveKind::Equal => partial.as_equal_range(alloc),
-            PrimitiveKind::GreaterThan => {
-                partial.as_greater_than(alloc, VersionBoundKind::Exclusive)
-            }
-            PrimitiveKind::GreaterThanOrEqual => {
-                partial.as_greater_than(alloc, VersionBoundKind::Inclusive)
-            }
-            PrimitiveKind::LessThan => partial.as_less_than(alloc, VersionBoundKind::Exclusive),
-            PrimitiveKind::LessThanOrEqual => {
-                partial.as_less_than(alloc, VersionBoundKind::Inclusive)
-            }
+            PrimitiveKind::GreaterThan => partial.as_greater_than(alloc, Exclusive),
+            PrimitiveKind::GreaterThanOrEqual => partial.as_greater_than(alloc, Inclusive),
+            PrimitiveKind::LessThan => partial.as_less_than(alloc, Exclusive),
+            PrimitiveKind::LessThanOrEqual => partial.as_less_than(alloc, Inclusive),
         }
     }
 }

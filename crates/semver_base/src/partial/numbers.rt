@@ -73,12 +73,9 @@ impl ReleaseBound {
     fn into_bound(self, alloc: Global) -> RangeBound
         ensures { result ≡ release_bound self }
     {
-        let Numbers {
-            major,
-            minor,
-            patch,
-        } = self.numbers;
-        RangeBound::version(self.kind, release(alloc, major, minor, patch))
+        let numbers = self.numbers;
+        let version = release(alloc, numbers.major, numbers.minor, numbers.patch);
+        RangeBound::version(self.kind, version)
     }
 
     // Builds the bound, at the version with this qualifier.
@@ -86,15 +83,10 @@ impl ReleaseBound {
     fn with_qualifier(self, qualifier: Qualifier) -> RangeBound
         ensures { result ≡ qualified_start qualifier (release_bound self) }
     {
-        let Numbers {
-            major,
-            minor,
-            patch,
-        } = self.numbers;
         let version = Version {
-            major,
-            minor,
-            patch,
+            major: self.numbers.major,
+            minor: self.numbers.minor,
+            patch: self.numbers.patch,
             pre: qualifier.pre,
             build: qualifier.build,
         };
@@ -135,8 +127,8 @@ impl ReleaseRange {
         }
     }
 
-    /// Builds the range of a comparator with this qualifier behind its three numbers, of which this is the range without it. Fails
-    /// only out of memory.
+    /// Builds the range of `~`, `^` or nothing before three numbers and this qualifier, if this is the range without the qualifier.
+    /// Fails only out of memory.
     #[inline(always)]
     pub fn with_qualifier(
         self,
