@@ -2,6 +2,7 @@
 use Rattle.std.proofs.Common.{◌≡◌, ◌<◌, ◌^◌, ◌==◌, ℕ, zero, suc, Bool, true, false, List, [], ◌∷◌, ◌++◌, length, Option, Some, None, refl, sym, subst, ap, ◌∙◌, arith, inl, inr, append-nil, append_assoc, length-append}
 use Rattle.std.specs.Char.{is_ascii_digit, is_not_whitespace}
 use Rattle.std.specs.List.{list_all}
+use Rattle.std.specs.Str.{trim}
 use Rattle.std.proofs.lemmas.Bool.{lt-ltb}
 use Rattle.std.proofs.lemmas.Bool.Decides.{nat_tests}
 use Rattle.std.proofs.lemmas.List.{nil_from_length}
@@ -43,7 +44,7 @@ use Rattle.semver_base.proofs.Numbers.{loose_begins, loose_some}
 use Rattle.semver_base.proofs.WrittenVersions.{after}
 use Rattle.semver_base.proofs.ShortTexts.{short_solid, IsSolid}
 use Rattle.semver_base.proofs.Qualifiers.{no_qualifier}
-use Rattle.semver_base.proofs.Solid.{is_solid_byte, qualifier_made}
+use Rattle.semver_base.proofs.Solid.{ends_solid, is_solid_byte, qualifier_made, solid_all_ascii, starts_solid, trim_same}
 use Rattle.semver_req.specs.Comparators.{IsComparator, IsPrimitive, numbers}
 use Rattle.semver_req.specs.RetainedSet.{retained, retained_range, without_none}
 use Rattle.semver_req.specs.Outcome.{one_good, Ranges}
@@ -246,6 +247,12 @@ solid_by operator.Absent text rest e h = rw e.0 at h
 
 text_solid : (f : Flavour) {text : List ℕ} {range : VersionRange} → IsShortComparator f text range → IsSolid text
 text_solid f {text} p = solid_by p.operator text p.rest p.cut (partial_solid f p.rest p.numbers p.short_partial)
+
+-- such a text has no whitespace to trim
+pub untrimmed : (f : Flavour) {text : List ℕ} {range : VersionRange} → IsShortComparator f text range → trim text ≡ text
+untrimmed f {text} p =
+    let solid = text_solid f p in
+    trim_same text (solid_all_ascii text solid.0) (starts_solid text solid.1 solid.0) (ends_solid text solid.1 solid.0)
 
 qualified_solid : (f : Flavour) → IsCutting f → {text : List ℕ} {range : VersionRange} → IsQualifiedComparator f text range → IsSolid text
 qualified_solid f cuts {text} p = solid_by p.operator text p.rest p.cut (short_solid p.rest (short_numbers.Three p.numbers) p.behind p.front (qualifier_solid cuts (whole_front p.longest)))

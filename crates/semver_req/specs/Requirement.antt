@@ -11,6 +11,7 @@ use Rattle.semver_base.specs.PrecedenceLaws.{SamePrecedence}
 use Rattle.semver_base.specs.VersionText.{version_text}
 use Rattle.semver_base.specs.declared.range.PreRelease.{PreRelease}
 use Rattle.semver_base.specs.declared.range.PreRelease.TheVariants.{Restricted}
+use Rattle.semver_base.specs.declared.range.VersionRange.{VersionRange}
 use Rattle.semver_base.specs.declared.range.VersionRangeSet.{VersionRangeSet}
 use Rattle.semver_base.specs.declared.version.Version.{Version}
 use Rattle.semver_req.specs.declared.range_set_or_tag.RangeSetOrTag.{RangeSetOrTag}
@@ -88,11 +89,16 @@ abbrev pub inner_text : RangeSetOrTag → List ℕ
 inner_text (inner.RangeSet set) = set_text set.0
 inner_text (inner.Tag text) = text
 
+-- ---- the requirement of one range
+
+abbrev pub of_range : List ℕ → VersionRange → Requirement
+of_range text range = record { raw_text = text; inner = inner.RangeSet (record { 0 = range ∷ [] }) }
+
 -- ---- the requirement of one version
 
 -- from the version to itself, both inclusive; its text is the version's
 abbrev pub pinned : Version → Requirement
-pinned v = record { raw_text = version_text v; inner = inner.RangeSet (record { 0 = between (from v) (up_to v) ∷ [] }) }
+pinned v = of_range (version_text v) (between (from v) (up_to v))
 
 -- exactly the versions of the same precedence match
 abbrev pub PinsTo : Version → RangeSetOrTag → Type 0
@@ -102,4 +108,4 @@ PinsTo v answer = (w : Version) → IsTrue (inner_means answer w) ↔ SamePreced
 
 -- the text `*`, and one range without bounds
 abbrev pub wildcard : Requirement
-wildcard = record { raw_text = codes "*"; inner = inner.RangeSet (record { 0 = everything ∷ [] }) }
+wildcard = of_range (codes "*") everything

@@ -23,7 +23,6 @@ use semver_base::lexical;
 use semver_base::lexical::values::{Measured, Qualifier};
 use semver_base::lexical::{after, after_whitespace};
 use semver_base::partial::{Partial, XRange};
-use semver_base::short::split_numbers;
 use separators::after_operator;
 use std::alloc::{AllocError, Global};
 use values::{Flavour, Primitive, PrimitiveKind};
@@ -103,7 +102,7 @@ fn assembled(
 // A component that is missing.
 const MISSING: Measured<XRange> = Measured::Fits(XRange::Wildcard);
 
-// Parses a partial version without a `v` before it. Three plain numbers, the usual case, are parsed at once.
+// Parses a partial version without a `v` before it.
 #[inline(always)]
 fn bare_partial(
     alloc: Global,
@@ -113,17 +112,6 @@ fn bare_partial(
     ensures { IfOk result
         (λ r. ReadsAs sized_partial (IsBarePartial flavour) text.now (answer_of r)) }
 {
-    if let Some((numbers, rest)) = split_numbers(text) {
-        let (qualifier, rest) = lexical::qualifier(alloc, rest, flavour.strictness())?;
-        let partial = Partial {
-            major: XRange::Val(numbers.major),
-            minor: XRange::Val(numbers.minor),
-            patch: XRange::Val(numbers.patch),
-            pre: qualifier.pre,
-            build: qualifier.build,
-        };
-        return Ok(Some((Measured::Fits(partial), rest)));
-    }
     let Some((major, rest)) = component(text, flavour) else {
         return Ok(None);
     };

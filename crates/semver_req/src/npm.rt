@@ -11,6 +11,7 @@ ghost use Rattle.semver_req.specs.PieceReading.{IsCutRejection};
 ghost use Rattle.semver_req.specs.Parsers.{IsParserAnswer};
 ghost use Rattle.semver_req.specs.declared.common.values.Flavour.TheVariants.{Npm};
 
+use crate::common::short::short_range;
 use crate::common::values::Flavour;
 use crate::range_set_or_tag::RangeSetOrTag;
 use crate::req::VersionReq;
@@ -51,6 +52,10 @@ pub fn parse_npm_version_req(
     ensures reads { IsParserAnswer (λ e. e.source) Npm text.now result }
     ensures rejection { IfErr result (λ e. IsCutRejection Npm (trim text.now) e.source) }
 {
+    if let Some(range) = short_range(text, Flavour::Npm) {
+        let raw_text = SmallStackString::from_str(alloc, text)?;
+        return Ok(VersionReq::of_range(alloc, raw_text, range.into_range(alloc))?);
+    }
     let text = text.trim();
     let raw_text = SmallStackString::from_str(alloc, text)?;
     let inner = RangeSetOrTag::parse_alternatives(alloc, text, Flavour::Npm)?;

@@ -49,25 +49,6 @@ fn tag_or(alloc: Global, text: &str, rejection: Rejection) -> Result<RangeSetOrT
     Err(ParseFailure::of_rejection(alloc, rejection))
 }
 
-// The range of a short text, of `*`, or of three numbers with a qualifier. `None` says nothing about the text.
-#[inline(always)]
-fn short_set(
-    alloc: Global,
-    text: &str,
-    flavour: Flavour,
-) -> Result<Option<RangeSetOrTag>, AllocError>
-    ensures { IsCutting flavour → IfOk result (λ r. IfSome r (IsCutReading flavour text.now)) }
-{
-    let ranges = match short_piece(text, flavour) {
-        Some(range) => CowVec::of_one(alloc, range.into_range(alloc))?,
-        None => match star_or_qualified(alloc, text, flavour)? {
-            Some(ranges) => ranges,
-            None => return Ok(None),
-        },
-    };
-    Ok(Some(RangeSetOrTag::RangeSet(VersionRangeSet(ranges))))
-}
-
 impl RangeSetOrTag {
     /// Parses a text by the normalized grammar, which splits it at each `||`: into the ranges of its pieces, without those
     /// that end below 0.0.0, or a tag.
@@ -76,6 +57,7 @@ impl RangeSetOrTag {
     /// text is a tag if the trimmed piece is a valid one. Otherwise a text with an invalid piece fails as its first invalid
     /// piece does: with "Unexpected character." outside the grammar, with "Number is too large." or "Version bound is too
     /// large." if that is all that is wrong. Also fails out of memory.
+    #[inline(always)]
     pub fn parse(alloc: Global, text: &str) -> Result<RangeSetOrTag, ParseFailure>
         ensures reading { IfOk result (IsReading Normal text.now) }
         ensures rejected { IfErr result
@@ -114,10 +96,14 @@ impl RangeSetOrTag {
             (λ failure. (failure ≡ None) ⊎ IsCutOutcome flavour text.now Rejected) }
         ensures rejection { IfErr result (IsCutRejection flavour text.now) }
     {
-        match short_set(alloc, text, flavour)? {
-            Some(inner) => Ok(inner),
-            None => RangeSetOrTag::parse_pieces(alloc, text, flavour),
+        if let Some(range) = short_piece(text, flavour) {
+            let ranges = CowVec::of_one(alloc, range.into_range(alloc))?;
+            return Ok(RangeSetOrTag::RangeSet(VersionRangeSet(ranges)));
         }
+        if let Some(ranges) = star_or_qualified(alloc, text, flavour)? {
+            return Ok(RangeSetOrTag::RangeSet(VersionRangeSet(ranges)));
+        }
+        RangeSetOrTag::parse_pieces(alloc, text, flavour)
     }
 
     // Parses such a text piece by piece.

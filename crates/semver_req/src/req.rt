@@ -8,11 +8,13 @@ ghost use Rattle.semver_base.specs.declared.version.Version.{Version};
 ghost use Rattle.semver_req.specs.PieceReading.{IsCutRejection};
 ghost use Rattle.semver_req.specs.Parsers.{IsReadOrTag, IsParserAnswer};
 ghost use Rattle.semver_req.specs.Rereading.{IsReadAsForms, IsStableSet, KeepsEqual, KeepsStable, KeepsTheSame, MeansTheSame, OfReadRanges, OfReadVersion};
-ghost use Rattle.semver_req.specs.Requirement.{MatchNoVersion, OverlapAsTags, PinsTo, Requirement, inner_means, inner_means_with, inner_overlap, inner_text, pinned, ranges_of, set_of, tag_of, wildcard};
+ghost use Rattle.semver_req.specs.Requirement.{MatchNoVersion, OverlapAsTags, PinsTo, Requirement, inner_means, inner_means_with, inner_overlap, inner_text, of_range, pinned, ranges_of, set_of, tag_of, wildcard};
 ghost use Rattle.semver_req.specs.declared.common.values.Flavour.TheVariants.{Normal};
 
 mod lowest;
 
+use crate::common::short::short_range;
+use crate::common::values::Flavour;
 use crate::range_set_or_tag::RangeSetOrTag;
 use semver_base::failure::{Parsed, ParserError};
 use semver_base::range::{PreRelease, RangeBound, VersionRange, VersionRangeSet};
@@ -83,6 +85,20 @@ impl VersionReq {
         VersionReq { raw_text, inner }
     }
 
+    // Creates the requirement of one range.
+    #[inline(always)]
+    pub(crate) fn of_range(
+        alloc: Global,
+        raw_text: SmallStackString,
+        range: VersionRange,
+    ) -> Result<VersionReq, AllocError>
+        ensures { IfOk result (λ req. req ≡ of_range raw_text range) }
+    {
+        let ranges = CowVec::of_one(alloc, range)?;
+        let inner = RangeSetOrTag::RangeSet(VersionRangeSet(ranges));
+        Ok(VersionReq { raw_text, inner })
+    }
+
     /// Parses a requirement by the normalized grammar ([`RangeSetOrTag::parse`], which lists each error).
     pub fn parse_from_normalized(
         alloc: Global,
@@ -92,8 +108,11 @@ impl VersionReq {
         ensures rejection { IfErr result (λ e. IsCutRejection Normal text.now e.source) }
     {
         let raw_text = SmallStackString::from_str(alloc, text)?;
+        if let Some(range) = short_range(text, Flavour::Normal) {
+            return Ok(VersionReq::of_range(alloc, raw_text, range.into_range(alloc))?);
+        }
         let inner = RangeSetOrTag::parse(alloc, text)?;
-        Ok(VersionReq::from_raw_text_and_inner(raw_text, inner))
+        Ok(VersionReq { raw_text, inner })
     }
 
     /// The requirement's ranges or tag.
@@ -216,10 +235,7 @@ pub fn wildcard_version_req(alloc: Global) -> Result<VersionReq, AllocError>
     ensures { IfOk result (λ req. req ≡ wildcard) }
 {
     let raw_text = SmallStackString::from_static(alloc, "*")?;
-    let mut ranges = CowVec::new(alloc);
-    ranges.push(VersionRange::all())?;
-    let inner = RangeSetOrTag::RangeSet(VersionRangeSet(ranges));
-    Ok(VersionReq::from_raw_text_and_inner(raw_text, inner))
+    VersionReq::of_range(alloc, raw_text, VersionRange::all())
 }
 
 /// A value that can be made into a requirement.
@@ -249,9 +265,7 @@ fn pinned(alloc: Global, version: Version) -> Result<VersionReq, AllocError>
     let raw_text = SmallStackString::from_string(alloc, text)?;
     let start = RangeBound::inclusive(version.copy()?);
     let end = RangeBound::inclusive(version);
-    let ranges = CowVec::of_one(alloc, VersionRange { start, end })?;
-    let inner = RangeSetOrTag::RangeSet(VersionRangeSet(ranges));
-    Ok(VersionReq::from_raw_text_and_inner(raw_text, inner))
+    VersionReq::of_range(alloc, raw_text, VersionRange { start, end })
 }
 
 impl IntoVersionReq for Version {

@@ -14,7 +14,7 @@ use crate::req::VersionReq;
 use crate::tag::is_valid_npm_tag;
 use semver_base::failure::{ParseFailure, Parsed, ParserError, Rejection};
 use semver_base::lexical::is_all_whitespace;
-use semver_base::range::{VersionRange, VersionRangeSet};
+use semver_base::range::VersionRangeSet;
 use semver_base::string::{CowVec, SmallStackString};
 use std::alloc::{AllocError, Global};
 
@@ -52,14 +52,6 @@ fn whole_text_as_tag(
     Err(ParseFailure::of_rejection(alloc, rejection))
 }
 
-// Creates the set of one range.
-#[inline(always)]
-fn only(alloc: Global, range: VersionRange) -> Result<VersionRangeSet, AllocError>
-    ensures { IfOk result (λ set. set ≡ record { 0 = range ∷ [] }) }
-{
-    Ok(VersionRangeSet(CowVec::of_one(alloc, range)?))
-}
-
 // Parses the text by the full grammar.
 #[inline(never)]
 fn read(alloc: Global, text: &str) -> Result<RangeSetOrTag, ParseFailure>
@@ -68,7 +60,10 @@ fn read(alloc: Global, text: &str) -> Result<RangeSetOrTag, ParseFailure>
 {
     let found = parse_single(alloc, text)?;
     match found {
-        Single::Range(range) => Ok(RangeSetOrTag::RangeSet(only(alloc, range)?)),
+        Single::Range(range) => {
+            let ranges = CowVec::of_one(alloc, range)?;
+            Ok(RangeSetOrTag::RangeSet(VersionRangeSet(ranges)))
+        }
         Single::Absent => whole_text_as_tag(alloc, text, Rejection::UnexpectedCharacter),
         Single::Followed => Err(ParseFailure::of_rejection(alloc, Rejection::UnexpectedCharacter)),
         Single::TooLarge(rejection) => whole_text_as_tag(alloc, text, rejection),
@@ -96,8 +91,7 @@ pub fn parse_version_req_from_specifier(
 {
     let raw_text = SmallStackString::from_str(alloc, text)?;
     if let Some(range) = short_range(text, Flavour::Specifier) {
-        let inner = RangeSetOrTag::RangeSet(only(alloc, range.into_range(alloc))?);
-        return Ok(VersionReq::from_raw_text_and_inner(raw_text, inner));
+        return Ok(VersionReq::of_range(alloc, raw_text, range.into_range(alloc))?);
     }
     if let Some(ranges) = star_or_qualified(alloc, text, Flavour::Specifier)? {
         let inner = RangeSetOrTag::RangeSet(VersionRangeSet(ranges));

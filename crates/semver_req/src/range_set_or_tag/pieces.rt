@@ -211,19 +211,7 @@ impl RangeOrInvalid {
         Ok(Some(RangeOrInvalid::between(alloc, hyphen)?))
     }
 
-    // Parses the whole piece, which isn't empty, by npm's grammar. No piece is both a list and a hyphen range, so the order is free.
-    #[inline(always)]
-    fn npm(alloc: Global, piece: &str) -> Result<Option<RangeOrInvalid>, ParseFailure>
-        ensures value { IfOk result (IsWholeRead (IsFilled Flavour.Npm) piece.now) }
-        ensures memory { IfErr result (λ failure. failure ≡ None) }
-    {
-        if let Some(read) = RangeOrInvalid::list(alloc, piece, Flavour::Npm)? {
-            return Ok(Some(read));
-        }
-        RangeOrInvalid::hyphen(alloc, piece)
-    }
-
-    // Parses the whole piece, which isn't empty.
+    // Parses the whole piece, which isn't empty. No piece is both a list and a hyphen range of npm's, so their order is free.
     #[inline(always)]
     fn filled(
         alloc: Global,
@@ -234,7 +222,12 @@ impl RangeOrInvalid {
         ensures memory { IfErr result (λ failure. failure ≡ None) }
     {
         match flavour {
-            Flavour::Npm => RangeOrInvalid::npm(alloc, piece),
+            Flavour::Npm => {
+                if let Some(read) = RangeOrInvalid::list(alloc, piece, Flavour::Npm)? {
+                    return Ok(Some(read));
+                }
+                RangeOrInvalid::hyphen(alloc, piece)
+            }
             Flavour::Normal => RangeOrInvalid::list(alloc, piece, Flavour::Normal),
             Flavour::Specifier => Ok(None),
         }

@@ -8,12 +8,12 @@ use Rattle.semver_req.proofs.specifier.read.Goals as goal
 pub returns-in_err-found-clause-rejection : goal.returns-in_err-found-clause-rejection
 returns-in_err-found-clause-rejection c = memory_err c.from_residual.result _ c.from_residual.ensures.1 is_out_of_memory
 
-pub returns-in_err-only-in-Range-clause-rejection : goal.returns-in_err-only-in-Range-clause-rejection
-returns-in_err-only-in-Range-clause-rejection c = memory_err c.from_residual-in_err-only-in-Range.result _ c.from_residual-in_err-only-in-Range.ensures.1 is_out_of_memory
+pub returns-in_err-ranges-in-Range-clause-rejection : goal.returns-in_err-ranges-in-Range-clause-rejection
+returns-in_err-ranges-in-Range-clause-rejection c = memory_err c.from_residual-in_err-ranges-in-Range.result _ c.from_residual-in_err-ranges-in-Range.ensures.1 is_out_of_memory
 
-pub returns-in_ok-only-in-Range-clause-reading : goal.returns-in_ok-only-in-Range-clause-reading
-returns-in_ok-only-in-Range-clause-reading c =
-    range_reading (rw c.in-Range.is at c.in_ok-found.ensures) (inner.RangeSet c.in_ok-only-in-Range.field-0) (ap inner.RangeSet c.in_ok-only-in-Range.ensures)
+pub returns-in_ok-ranges-in-Range-clause-reading : goal.returns-in_ok-ranges-in-Range-clause-reading
+returns-in_ok-ranges-in-Range-clause-reading c =
+    range_reading (rw c.in-Range.is at c.in_ok-found.ensures) (inner.RangeSet (record { 0 = c.in_ok-ranges-in-Range.ranges })) (ap (λ r. inner.RangeSet (record { 0 = r })) c.in_ok-ranges-in-Range.ensures)
 
 pub returns-in-Absent-clause-reading : goal.returns-in-Absent-clause-reading
 returns-in-Absent-clause-reading c = IfOk-weaker c.whole_text_as_tag.result _ _ (absent_reading (rw c.in-Absent.is at c.in_ok-found.ensures)) c.whole_text_as_tag.ensures.tag
