@@ -69,13 +69,6 @@ impl Parsed for NormalizedRequirements {
 /// Why a text isn't a requirement of the normalized grammar, which may be out of memory.
 pub type VersionReqNormalizedParseError = ParserError<NormalizedRequirements>;
 
-// Formats the requirement's ranges or tag.
-fn normal_text(alloc: Global, requirement: &VersionReq) -> Result<String, AllocError>
-    ensures { IfOk result (λ text. string_bytes text ≡ inner_text requirement.now.inner) }
-{
-    displayed(alloc, &requirement.inner)
-}
-
 impl VersionReq {
     /// Creates a requirement from its text and its ranges or tag.
     #[inline(always)]
@@ -205,7 +198,7 @@ impl VersionReq {
         ensures stable { IfOk result
             (λ text. OfReadRanges KeepsStable self.now.inner (string_bytes text)) }
     {
-        normal_text(alloc, self)
+        displayed(alloc, self.inner())
     }
 
     /// Returns a copy. Fails only out of memory.
