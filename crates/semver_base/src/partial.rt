@@ -1,9 +1,9 @@
 //! Partial versions, whose components may be wildcards, and the ranges they mean, also after a comparison operator.
 
 ghost use Rattle.std.specs.Prelude.{◌≡◌, ◌+◌, ◌∷◌, [], IfOk, IfErr, None, OnOk, true};
-ghost use Rattle.semver_base.specs.Meaning.{from, release, to_below};
+ghost use Rattle.semver_base.specs.Meaning.{from, release};
 ghost use Rattle.semver_base.specs.Comparators.{primitive_line};
-ghost use Rattle.semver_base.specs.PartialTable.{IsBoundRejection, all_fit, between, caret, equal, greater_range, greater_than, less_than, lower_to_below, lowest, or_zero, version_with_pre, tilde, upper, without_build};
+ghost use Rattle.semver_base.specs.PartialTable.{IsBoundRejection, all_fit, caret, equal, greater_range, greater_than, less_than, lower_to_below, lowest, or_zero, version_with_pre, tilde, upper, without_build};
 
 mod numbers;
 

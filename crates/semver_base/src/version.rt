@@ -1,6 +1,6 @@
 //! Versions: parsing, formatting and precedence.
 
-ghost use Rattle.std.specs.Prelude.{◌≡◌, ◌<◌, ◌==◌, ◌&&◌, ◌∷◌, ◌↔◌, ◌⊎◌, length, refl, Result, Ok, Err, IfOk, IfErr, IfSome, IsTrue, [], None, Some, if◌then◌else◌, codes};
+ghost use Rattle.std.specs.Prelude.{◌≡◌, ◌<◌, ◌==◌, ◌&&◌, ◌∷◌, ◌↔◌, ◌⊎◌, length, refl, Result, Ok, Err, IfOk, IfErr, IfSome, [], None, Some, if◌then◌else◌, codes};
 ghost use Rattle.std.specs.Fmt.{DisplaysOnOk};
 ghost use Rattle.std.specs.Str.{trim};
 ghost use Rattle.std.specs.Cmp.{IsTotalOrder};

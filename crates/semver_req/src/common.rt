@@ -6,7 +6,7 @@
 ghost use Rattle.std.specs.Prelude.{◌≡◌, IfOk, IfSome, drop};
 ghost use Rattle.std.specs.Str.{IsCharBoundary};
 ghost use Rattle.semver_base.specs.Characters.{ampersand, bar};
-ghost use Rattle.semver_base.specs.Grammar.{IsAfterOne, IsSeen, Optional, Reads, ReadsAs, answer_of};
+ghost use Rattle.semver_base.specs.Grammar.{IsAfterOne, Reads, ReadsAs, answer_of};
 ghost use Rattle.semver_base.specs.Lexical.{IsQualifier};
 ghost use Rattle.semver_req.specs.Comparators.{IsMaybeEqual, IsPrimitive, IsPrimitiveKind, primitive_of, sized_primitive};
 ghost use Rattle.semver_req.specs.Partials.{IsComponent, IsLongestAt, IsPartial, IsBarePartial, ReadsAt, ReadsDotted, answer_at, assembled, component_of, is_wildcard, sized_component, sized_partial, strictness_of};

@@ -2,7 +2,7 @@
 
 ghost use Rattle.std.specs.Prelude.{◌≡◌, All, IfErr, IfOk, IsSorted, List, MatchResult};
 ghost use Rattle.serde_json.specs.View.{items_view, view};
-ghost use Rattle.deno_semver.specs.Json.{AreItemsOf, IsStringOf, IsTextOfReq};
+ghost use Rattle.deno_semver.specs.Json.{AreItemsOf};
 ghost use Rattle.deno_semver.specs.JsonAnswers.{IsJsonRejection};
 ghost use Rattle.deno_semver.specs.ReqOrder.{req_cmp};
 ghost use Rattle.deno_semver.specs.Stored.{IsStableReq};

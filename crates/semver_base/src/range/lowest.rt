@@ -8,7 +8,7 @@
 
 ghost use Rattle.std.specs.Prelude.{◌≡◌, ◌∷◌, ◌++◌, ◌&&◌, ◌↔◌, [], IfOk, IfSome, IsTrue, is_some};
 ghost use Rattle.std.specs.List.{list_all, list_any, AllByRecursion};
-ghost use Rattle.semver_base.specs.Candidates.{after, from_ends, from_range, from_set, from_sets, from_start, filtered, lowest_free, lowest_release, lowest_version, lower_passing, lowest_of, next_release, own_pre, passes, pre_from, with_pre, zero_identifier, zero_of, zero_pre};
+ghost use Rattle.semver_base.specs.Candidates.{after, from_ends, from_set, from_start, filtered, lowest_free, lowest_release, lowest_version, lower_passing, lowest_of, next_release, own_pre, passes, pre_from, with_pre, zero_identifier, zero_of, zero_pre};
 ghost use Rattle.semver_base.specs.Containment.{AreEquivalent, IsWithin, ReportsEquivalent, ReportsWithin};
 ghost use Rattle.semver_base.specs.LowestVersion.{HasNoBuild, IsLowestPassing, DecidesSome, all_mean_with, set_means_alone_with, sets_mean_with};
 ghost use Rattle.semver_base.specs.Meaning.{is_pre_match, range_means_with, release, set_means_with};

@@ -1,6 +1,6 @@
 //! The invalid alternatives of a text.
 
-ghost use Rattle.std.specs.Prelude.{◌≡◌, ◌++◌, ◌+◌, ◌<◌, ◌^◌, ◌∷◌, [], IfErr, IfOk, List, MatchOption, None, OnErr, OnOk, length, true};
+ghost use Rattle.std.specs.Prelude.{◌≡◌, ◌++◌, ◌+◌, ◌<◌, ◌^◌, ◌∷◌, [], IfErr, IfOk, List, MatchOption, None, OnOk, length, true};
 ghost use Rattle.semver_base.specs.Comparators.{Comparator};
 ghost use Rattle.semver_req.specs.Causes.{IsRejected, IsStrictRejection};
 ghost use Rattle.semver_req.specs.InvalidPieces.{AreErrorsOf, AreInvalidBehind, AreInvalidPieces, IsErrorAt, IsErrorOf, IsStrictError};
