@@ -25,26 +25,21 @@ mod requirements;
 mod table;
 mod versions;
 
-use std::alloc::Global;
 use std::io;
 use std::io::{BufWriter, ErrorKind, Read, Write};
 use std::process::ExitCode;
 use table::Problem;
 
-// Reads all bytes.
-fn read_all<R: Read + Drop>(alloc: Global, mut input: R) -> Result<Vec<u8>, Problem> {
-    let mut bytes = Vec::new(alloc);
-    match input.read_to_end(&mut bytes) {
-        Ok(_) => Ok(bytes),
-        Err(e) if e.kind() == ErrorKind::OutOfMemory => Err(Problem::OutOfMemory),
-        Err(_) => Err(Problem::Unread),
-    }
-}
-
 // Whether no row of the table on standard input differs.
 fn run(rt: &HostRuntime) -> Result<bool, Problem> {
     let alloc = rt.alloc();
-    let table = read_all(alloc, rt.reader())?;
+    let mut table = Vec::new(alloc);
+    if let Err(error) = rt.reader().read_to_end(&mut table) {
+        return Err(match error.kind() {
+            ErrorKind::OutOfMemory => Problem::OutOfMemory,
+            _ => Problem::Unread,
+        });
+    }
     let mut out = BufWriter::new(alloc, io::writer(rt))?;
     let agrees = table::compare(alloc, table.as_slice(), &mut out)?;
     out.flush()?;
