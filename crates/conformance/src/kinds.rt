@@ -96,7 +96,8 @@ fn of_ordered<T: Parse + Ord>(call: &str, text: &str, other: &str, to: &mut Answ
     to.order(value.cmp(&other))
 }
 
-// `equal-of`: whether the value equals that of the other text.
+// `equal-of`: whether the value equals that of the other text. `written`: the value as displayed, and with the other text before it,
+// in each type of texts.
 fn of_any<T: Parse>(call: &str, text: &str, other: &str, answer: &mut Answer) -> Reported {
     let value = T::parse(text, answer)?;
     match call {
@@ -104,17 +105,14 @@ fn of_any<T: Parse>(call: &str, text: &str, other: &str, answer: &mut Answer) ->
             let other = T::parse(other, answer)?;
             answer.yes_or_no(value == other)
         }
-        "written" => write(&value, other, answer),
+        "written" => {
+            answer.displayed(&value)?;
+            append::<String, T>(&value, other, answer)?;
+            append::<SmallStackString, T>(&value, other, answer)?;
+            append::<StackString, T>(&value, other, answer)
+        }
         _ => Err(Fault::OtherArguments),
     }
-}
-
-// `written`: the value as displayed, and with the other text before it, in each type of texts.
-fn write<T: Parse>(value: &T, start: &str, answer: &mut Answer) -> Reported {
-    answer.displayed(value)?;
-    append::<String, T>(value, start, answer)?;
-    append::<SmallStackString, T>(value, start, answer)?;
-    append::<StackString, T>(value, start, answer)
 }
 
 /// Reports the start with the value appended to it.
