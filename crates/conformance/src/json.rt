@@ -38,35 +38,29 @@ pub fn value_of(alloc: Global, text: &str) -> OrFault<Value> {
 /// `json`: `read` and the JSON of the value of a type that a JSON text parses to; or `rejected` and the error's line.
 pub fn json(arguments: &[Item], answer: &mut Answer) -> Reported {
     let (of_type, text) = pair(arguments)?;
-    let json = value_of(answer.alloc, text)?;
-    let reported = form_of(of_type, &json, answer);
-    drop(json);
-    reported
-}
-
-fn form_of(of_type: &str, json: &Value, answer: &mut Answer) -> Reported {
     match of_type {
-        "SmallStackString" => form::<SmallStackString>(json, answer),
-        "StackString" => form::<StackString>(json, answer),
-        "Version" => form::<Version>(json, answer),
-        "VersionBoundKind" => form::<VersionBoundKind>(json, answer),
-        "VersionBound" => form::<VersionBound>(json, answer),
-        "RangeBound" => form::<RangeBound>(json, answer),
-        "VersionRange" => form::<VersionRange>(json, answer),
-        "VersionRangeSet" => form::<VersionRangeSet>(json, answer),
-        "RangeSetOrTag" => form::<RangeSetOrTag>(json, answer),
-        "VersionReq" => form::<VersionReq>(json, answer),
-        "PackageReq" => form::<PackageReq>(json, answer),
-        "PackageNv" => form::<PackageNv>(json, answer),
-        "JsrPackageNvReference" => form::<JsrPackageNvReference>(json, answer),
-        "NpmPackageNvReference" => form::<NpmPackageNvReference>(json, answer),
-        "JsrDepPackageReq" => form::<JsrDepPackageReq>(json, answer),
+        "SmallStackString" => form::<SmallStackString>(text, answer),
+        "StackString" => form::<StackString>(text, answer),
+        "Version" => form::<Version>(text, answer),
+        "VersionBoundKind" => form::<VersionBoundKind>(text, answer),
+        "VersionBound" => form::<VersionBound>(text, answer),
+        "RangeBound" => form::<RangeBound>(text, answer),
+        "VersionRange" => form::<VersionRange>(text, answer),
+        "VersionRangeSet" => form::<VersionRangeSet>(text, answer),
+        "RangeSetOrTag" => form::<RangeSetOrTag>(text, answer),
+        "VersionReq" => form::<VersionReq>(text, answer),
+        "PackageReq" => form::<PackageReq>(text, answer),
+        "PackageNv" => form::<PackageNv>(text, answer),
+        "JsrPackageNvReference" => form::<JsrPackageNvReference>(text, answer),
+        "NpmPackageNvReference" => form::<NpmPackageNvReference>(text, answer),
+        "JsrDepPackageReq" => form::<JsrDepPackageReq>(text, answer),
         _ => Err(Fault::OtherArguments),
     }
 }
 
-fn form<T: JsonForm>(json: &Value, answer: &mut Answer) -> Reported {
-    let value = valid(T::from_json(answer.alloc, json), answer)?;
+fn form<T: JsonForm>(text: &str, answer: &mut Answer) -> Reported {
+    let json = value_of(answer.alloc, text)?;
+    let value = valid(T::from_json(answer.alloc, &json), answer)?;
     answer.text("read")?;
     let json = value.to_json(answer.alloc)?;
     answer.made(json.to_string(answer.alloc))
