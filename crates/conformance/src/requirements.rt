@@ -38,25 +38,22 @@ fn requirements(grammar: &str, texts: &[Item], answer: &mut Answer) -> OrFault<V
     Ok(requirements)
 }
 
-/// `requirement` or `normal`: a call on one requirement.
+/// `requirement`: the ranges of a copy, or `tag` and the tag; and the text stored in the copy. `normal`: `ranges` or `tag`, and the
+/// canonical form.
 pub fn of_one(call: &str, arguments: &[Item], answer: &mut Answer) -> Reported {
     let (grammar, text) = pair(arguments)?;
     let requirement = requirement(grammar, text, answer)?;
-    if call == "requirement" {
-        return stored(requirement.copy()?, answer);
+    if call == "normal" {
+        let is_tag = requirement.tag().is_some();
+        answer.text(if is_tag { "tag" } else { "ranges" })?;
+        return answer.made(requirement.to_string_normalized(answer.alloc));
     }
-    let is_tag = requirement.tag().is_some();
-    answer.text(if is_tag { "tag" } else { "ranges" })?;
-    answer.made(requirement.to_string_normalized(answer.alloc))
-}
-
-// The ranges, or `tag` and the tag; and the text stored in the requirement.
-fn stored(requirement: VersionReq, answer: &mut Answer) -> Reported {
-    match requirement.inner() {
+    let copy = requirement.copy()?;
+    match copy.inner() {
         RangeSetOrTag::RangeSet(set) => answer.made(notation::set(answer.alloc, set))?,
         RangeSetOrTag::Tag(tag) => answer.texts(&["tag", tag.as_str()])?,
     }
-    answer.text(requirement.version_text())
+    answer.text(copy.version_text())
 }
 
 /// `same-requirement` or `overlap`: whether two requirements are equal, or overlap.
