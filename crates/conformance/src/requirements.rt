@@ -28,16 +28,6 @@ pub fn requirement(grammar: &str, text: &str, answer: &mut Answer) -> OrFault<Ve
     valid(parsed, answer)
 }
 
-// Parses several version requirements.
-fn requirements(grammar: &str, texts: &[Item], answer: &mut Answer) -> OrFault<Vec<VersionReq>> {
-    let mut requirements = Vec::new(answer.alloc);
-    for text in texts {
-        let text = text.as_deref().ok_or(Fault::OtherArguments)?;
-        push(&mut requirements, requirement(grammar, text, answer))?;
-    }
-    Ok(requirements)
-}
-
 /// `requirement`: the ranges of a copy, or `tag` and the tag; and the text stored in the copy. `normal`: `ranges` or `tag`, and the
 /// canonical form.
 pub fn of_one(call: &str, arguments: &[Item], answer: &mut Answer) -> Reported {
@@ -104,7 +94,11 @@ pub fn lowest(call: &str, arguments: &[Item], answer: &mut Answer) -> Reported {
         return Err(Fault::OtherArguments);
     };
     let with = pre_release(with.as_str()).ok_or(Fault::OtherArguments)?;
-    let all = requirements(grammar.as_str(), texts, answer)?;
+    let mut all = Vec::new(answer.alloc);
+    for text in texts {
+        let text = text.as_deref().ok_or(Fault::OtherArguments)?;
+        push(&mut all, requirement(grammar.as_str(), text, answer))?;
+    }
     let reported = of_all(call, all.as_slice(), with, answer);
     drop(all);
     reported
@@ -205,9 +199,8 @@ fn report_at(place: &str, partial: &Partial, answer: &mut Answer) -> Reported {
 /// `ample`: whether every parser has enough memory for a text, alone and with up to so many `1` after it.
 pub fn ample(arguments: &[Item], answer: &mut Answer) -> Reported {
     let (text, count) = pair(arguments)?;
-    let Ok(count) = count.parse::<usize>() else {
-        return Err(Fault::OtherArguments);
-    };
+    let count = count.parse::<usize>().ok();
+    let count = count.ok_or(Fault::OtherArguments)?;
     let mut longer = String::from_str(answer.alloc, text)?;
     let mut is_ample = true;
     for _ in 0..=count {

@@ -1,6 +1,6 @@
 //! Calls on versions, and the choice of one among several.
 
-use crate::answer::{Answer, Fault, Item, OrFault, Reported};
+use crate::answer::{Answer, Fault, Item, Reported};
 use crate::arguments::{only, pair, pre_release, push};
 use crate::kinds::Parse;
 use crate::requirements::requirement;
@@ -34,8 +34,12 @@ pub fn satisfying(call: &str, arguments: &[Item], answer: &mut Answer) -> Report
         _ => (None, texts),
     };
     let requirement = requirement(grammar.as_str(), text.as_str(), answer)?;
-    let owned = versions(texts, answer)?;
-    let (requirement, versions) = (&requirement, owned.as_slice());
+    let mut versions = Vec::new(answer.alloc);
+    for text in texts {
+        let text = text.as_deref().ok_or(Fault::OtherArguments)?;
+        push(&mut versions, Version::parse(text, answer))?;
+    }
+    let (requirement, versions) = (&requirement, versions.as_slice());
     if let Some(tag) = requirement.tag() {
         return answer.texts(&["tag", tag]);
     }
@@ -51,13 +55,4 @@ pub fn satisfying(call: &str, arguments: &[Item], answer: &mut Answer) -> Report
         None => answer.text("none"),
         Some(place) => answer.displayed(&place),
     }
-}
-
-fn versions(texts: &[Item], answer: &mut Answer) -> OrFault<Vec<Version>> {
-    let mut versions = Vec::new(answer.alloc);
-    for text in texts {
-        let text = text.as_deref().ok_or(Fault::OtherArguments)?;
-        push(&mut versions, Version::parse(text, answer))?;
-    }
-    Ok(versions)
 }
