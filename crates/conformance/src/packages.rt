@@ -2,6 +2,7 @@
 
 use crate::answer::{Answer, Fault, Item, OrFault, ReportError, Reported, valid};
 use crate::arguments::{only, pair};
+use crate::kinds::Parse;
 use deno_semver::jsr::{
     JsrDepPackageReq, JsrDepPackageReqParseError, JsrRegistry, normalized_export_name,
 };
@@ -124,17 +125,12 @@ pub fn dependency(arguments: &[Item], answer: &mut Answer) -> Reported {
 
 /// `name-version`: what a text parses to as a name with a version.
 pub fn name_version(arguments: &[Item], answer: &mut Answer) -> Reported {
-    let parsed = PackageNv::from_str(answer.alloc, only(arguments)?);
-    let nv = valid(parsed, answer)?;
-    report_name_version(&nv, answer)
-}
-
-fn report_name_version(nv: &PackageNv, answer: &mut Answer) -> Reported {
+    let nv = PackageNv::parse(only(arguments)?, answer)?.copy()?;
     answer.texts(&["read", nv.name.as_str()])?;
     answer.displayed(&nv.version)?;
     answer.optional(nv.scope())?;
-    answer.displayed(nv)?;
-    let req = nv.copy()?.into_req(answer.alloc)?;
+    answer.displayed(&nv)?;
+    let req = nv.into_req(answer.alloc)?;
     answer.made(req.to_string_normalized(answer.alloc))
 }
 
@@ -151,12 +147,8 @@ pub fn reference(call: &str, arguments: &[Item], answer: &mut Answer) -> Reporte
 }
 
 fn reference_of<R: Registry>(text: &str, answer: &mut Answer) -> Reported {
-    let parsed = RegistryReqReference::<R>::from_str(answer.alloc, text);
-    let reference = valid(parsed, answer)?;
-    let copy = reference.copy();
-    drop(reference);
-    let copy = copy?;
-    report_reference(&copy, answer)
+    let reference = RegistryReqReference::<R>::parse(text, answer)?.copy()?;
+    report_reference(&reference, answer)
 }
 
 fn report_reference<R: Registry>(
@@ -171,12 +163,8 @@ fn report_reference<R: Registry>(
 }
 
 fn version_reference_of<R: Registry>(text: &str, answer: &mut Answer) -> Reported {
-    let parsed = RegistryNvReference::<R>::from_str(answer.alloc, text);
-    let reference = valid(parsed, answer)?;
-    let copy = reference.copy();
-    drop(reference);
-    let copy = copy?;
-    report_version_reference(&copy, answer)
+    let reference = RegistryNvReference::<R>::parse(text, answer)?.copy()?;
+    report_version_reference(&reference, answer)
 }
 
 fn report_version_reference<R: Registry>(
