@@ -4,7 +4,7 @@ use crate::answer::{Answer, Reported};
 use crate::kinds::Parse;
 use crate::notation;
 use crate::requirements::requirement;
-use deno_semver::{CowItem, PreRelease, Version, VersionRange, VersionRangeSet};
+use deno_semver::{CowItem, PreRelease, Version, VersionRange};
 use std::alloc::AllocError;
 
 /// Whether a range overlaps another, and what it and its bounds are clamped to by those of the other.
@@ -50,13 +50,9 @@ fn report_matches(range: &VersionRange, version: &Version, answer: &mut Answer) 
 pub fn sets(answer: &mut Answer) -> Reported {
     let one = requirement("npm", ">=1.0.0 <2.0.0 || >=2.0.0 <3.0.0", answer)?;
     let other = requirement("npm", ">=1.0.0 <3.0.0", answer)?;
-    match (one.range(), other.range()) {
-        (Some(set), Some(other)) => compare(set, other, answer),
-        _ => Ok(()),
-    }
-}
-
-fn compare(set: &VersionRangeSet, other: &VersionRangeSet, answer: &mut Answer) -> Reported {
+    let (Some(set), Some(other)) = (one.range(), other.range()) else {
+        return Ok(());
+    };
     let alloc = answer.alloc;
     let version = Version::parse("1.5.0-c", answer)?;
     answer.yes_or_no(set.satisfies(&version))?;
