@@ -12,7 +12,6 @@ use deno_semver::{
     IntoVersionReq, PackageTag, ParseFailure, RangeSetOrTag, SmallStackString, Version,
     VersionPreOrBuild, VersionReq, wildcard_version_req,
 };
-use url::Url;
 
 /// How an identifier that no text has compares to one of a text; a version by npm's parser, and the requirement that it is
 /// turned into.
@@ -55,26 +54,18 @@ pub fn dependencies(answer: &mut Answer) -> Reported {
 
 /// The URL of a reference, and the references that the URL parses to.
 pub fn specifiers(answer: &mut Answer) -> Reported {
+    let alloc = answer.alloc;
     let reference = JsrPackageNvReference::parse("jsr:@s/a@1.0.0/mod.ts", answer)?;
-    let made = reference.as_specifier(answer.alloc);
+    let made = reference.as_specifier(alloc);
     drop(reference);
-    match made {
-        Ok(url) => of_url(&url, answer),
-        Err(SpecifierError::Memory) => Err(Fault::OutOfMemory),
-        Err(_) => Err(Fault::OtherArguments),
-    }
-}
-
-fn of_url(url: &Url, answer: &mut Answer) -> Reported {
+    let url = match made {
+        Ok(url) => url,
+        Err(SpecifierError::Memory) => return Err(Fault::OutOfMemory),
+        Err(_) => return Err(Fault::OtherArguments),
+    };
     answer.text(url.as_str())?;
-    shown(
-        JsrPackageNvReference::from_specifier(answer.alloc, url),
-        answer,
-    )?;
-    shown(
-        JsrPackageReqReference::from_specifier(answer.alloc, url),
-        answer,
-    )
+    shown(JsrPackageNvReference::from_specifier(alloc, &url), answer)?;
+    shown(JsrPackageReqReference::from_specifier(alloc, &url), answer)
 }
 
 /// The exports of references to JSR packages.
