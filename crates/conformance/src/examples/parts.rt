@@ -19,15 +19,10 @@ pub fn qualifier_at(answer: &mut Answer) -> Reported {
     let copy = qualifier.copy();
     drop(qualifier);
     let Qualifier { pre, build } = copy?;
-    let (major, minor, patch) = (0, 0, 0);
-    let version = Version {
-        major,
-        minor,
-        patch,
-        pre,
-        build,
-    };
-    answer.made(Ok(version))?;
+    let mut version = Version::new(answer.alloc);
+    version.pre = pre;
+    version.build = build;
+    answer.displayed(&version)?;
     answer.text(&text[reached..])
 }
 
