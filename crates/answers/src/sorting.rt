@@ -49,34 +49,7 @@ impl Order {
     }
 }
 
-// The versions with their places.
-fn with_places<'a>(alloc: Global, versions: &'a [Version]) -> Result<Vec<Placed<'a>>, AllocError>
-    ensures { IfOk result (λ all. map standing all.items ≡ standing_from 0 versions.now) }
-{
-    let mut all = Vec::new(alloc);
-    for (place, version) in versions.iter().enumerate() {
-        all.push(Placed { version, place })?;
-    }
-    Ok(all)
-}
-
-// The versions of the lines with their places.
-fn lines_with_places<'a>(
-    alloc: Global,
-    lines: &'a [Option<Version>],
-) -> Result<Vec<Placed<'a>>, AllocError>
-    ensures { IfOk result (λ all. map standing all.items ≡ standing_lines 0 lines.now) }
-{
-    let mut all = Vec::new(alloc);
-    for (place, line) in lines.iter().enumerate() {
-        if let Some(version) = line {
-            all.push(Placed { version, place })?;
-        }
-    }
-    Ok(all)
-}
-
-// Puts them in order, and returns the place of each.
+// Puts placed versions in order, and returns the place of each.
 fn places_in_order(
     alloc: Global,
     mut all: Vec<Placed<'_>>,
@@ -86,15 +59,9 @@ fn places_in_order(
         (λ places. AreSortedPlaces order (map standing all.entry.items) places.items) }
 {
     all.sort_by(|one, other| order.compare_placed(one, other))?;
-    places_of(alloc, all.as_slice())
-}
-
-// The place of each.
-fn places_of(alloc: Global, all: &[Placed<'_>]) -> Result<Vec<usize>, AllocError>
-    ensures { IfOk result (λ places. places.items ≡ map (λ placed. placed.place) all.now) }
-{
+    let sorted = all.as_slice();
     let mut places = Vec::new(alloc);
-    for it in all {
+    for it in sorted {
         places.push(it.place)?;
     }
     Ok(places)
@@ -110,7 +77,11 @@ pub fn sorted_places(
     ensures { IfOk result
         (λ places. AreSortedPlaces order (standing_from 0 versions.items) places.items) }
 {
-    let all = with_places(alloc, versions.as_slice())?;
+    let listed = versions.as_slice();
+    let mut all = Vec::new(alloc);
+    for (place, version) in listed.iter().enumerate() {
+        all.push(Placed { version, place })?;
+    }
     places_in_order(alloc, all, order)
 }
 
@@ -123,7 +94,12 @@ pub fn sorted_lines(
     ensures { IfOk result
         (λ places. AreSortedPlaces order (standing_lines 0 lines.now) places.items) }
 {
-    let all = lines_with_places(alloc, lines)?;
+    let mut all = Vec::new(alloc);
+    for (place, line) in lines.iter().enumerate() {
+        if let Some(version) = line {
+            all.push(Placed { version, place })?;
+        }
+    }
     places_in_order(alloc, all, order)
 }
 

@@ -1,6 +1,6 @@
-use Rattle.std.proofs.Common.{◌∙◌, ap, subst, sym, map, rules}
+use Rattle.std.proofs.Common.{subst, sym, map, rules}
 use Rattle.std.proofs.lemmas.Fn.{always_returns_same}
-use Rattle.std.proofs.lemmas.Result.{IfOk-weaker}
+use Rattle.std.proofs.lemmas.List.{take_all}
 use Rattle.answers.specs.Sorting.{AreSortedPlaces, standing}
 use Rattle.answers.proofs.Sorted.{comes_before, placed_ranks, sorted_places}
 use Rattle.answers.proofs.sorting.places_in_order.Goals as goal
@@ -11,6 +11,5 @@ returns c =
     let all = c.args.all.items in
     let sorted = c.sort_by.new.self.items in
     let ascends = c.in_ok-sort_by.ensures.sorted (comes_before order) (placed_ranks order) (always_returns_same _ _ _ (λ a r f k. search rules)) in
-    IfOk-weaker c.places_of.result _ _
-    (λ places e. subst (AreSortedPlaces order (map standing all)) (sym (e ∙ ap (map (λ placed. placed.place)) c.as_slice.ensures.value)) (sorted_places order all sorted c.sort_by.ensures.permutation ascends))
-    c.places_of.ensures
+    let places = rw (take_all c.loop-it.it-index _ c.loop-it-test.false, c.as_slice-sorted.ensures.value) at c.loop-it.invariant in
+    subst (AreSortedPlaces order (map standing all)) (sym places) (sorted_places order all sorted c.sort_by.ensures.permutation ascends)
