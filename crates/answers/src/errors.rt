@@ -29,24 +29,16 @@ pub fn kind_name(kind: Kind) -> &'static str
     }
 }
 
-// The names of the kinds.
-fn kind_names(alloc: Global, kinds: &[Kind]) -> Result<Vec<Value>, AllocError>
-    ensures { IfOk result
-        (λ names. map view names.items ≡ map (λ kind. string (kind_name kind)) kinds.now) }
-{
-    let mut names = Vec::new(alloc);
-    for kind in kinds {
-        names.push(text_json(alloc, kind_name(*kind))?)?;
-    }
-    Ok(names)
-}
-
 // The names of what is expected.
 fn expected_names(alloc: Global, expected: &Expected) -> Result<Vec<Value>, AllocError>
     ensures { IfOk result
         (λ names. map view names.items ≡ map string (expected_names expected.now)) }
 {
-    let mut names = kind_names(alloc, expected.kinds.as_slice())?;
+    let mut names = Vec::new(alloc);
+    let kinds = expected.kinds.as_slice();
+    for kind in kinds {
+        names.push(text_json(alloc, kind_name(*kind))?)?;
+    }
     if !expected.may_end {
         return Ok(names);
     }
