@@ -5,7 +5,6 @@ ghost use Rattle.serde_json.specs.Data.{string};
 ghost use Rattle.serde_json.specs.View.{view};
 ghost use Rattle.semver_base.specs.VersionGrammar.{IsVersionRejection};
 ghost use Rattle.semver_base.specs.VersionText.{version_text};
-ghost use Rattle.semver_base.specs.declared.range.RangeBound.TheVariants as bounds;
 ghost use Rattle.semver_req.specs.TextRejection.{IsTextRejection};
 ghost use Rattle.std.specs.Fmt.{decimal};
 ghost use Rattle.std.specs.Str.{trim};
@@ -19,7 +18,7 @@ use crate::object::{Object, json_text, text_json};
 use crate::questions::text_of_version;
 use crate::reading::{range, version};
 use semver_base::failure::ParseFailure;
-use semver_base::range::{RangeBound, VersionBound, VersionBoundKind, VersionRange};
+use semver_base::range::{RangeBound, VersionBoundKind, VersionRange};
 use semver_base::version::{Version, VersionPreOrBuild};
 use semver_req::common::values::Flavour;
 use semver_req::range_set_or_tag::{PackageTag, RangeSetOrTag};
@@ -85,23 +84,16 @@ fn is_inclusive(kind: VersionBoundKind) -> bool
     }
 }
 
-// The JSON of a bound that is there.
-fn version_bound_json(alloc: Global, bound: &VersionBound) -> Result<Value, AllocError>
-    ensures { IfOk result (λ json. view json ≡ bound_json (bounds.Version bound.now)) }
-{
-    Object::new(alloc)
-        .put("inclusive", Ok(Value::from(is_inclusive(bound.kind))))
-        .put("version", displayed_json(alloc, &bound.version))
-        .into_json()
-}
-
 /// Returns a bound as JSON: its version as displayed, and whether that lies within it; null, if there is no bound.
 pub fn bound_json(alloc: Global, bound: &RangeBound) -> Result<Value, AllocError>
     ensures { IfOk result (λ json. view json ≡ bound_json bound.now) }
 {
     match bound {
         RangeBound::Unbounded => Ok(Value::Null),
-        RangeBound::Version(bound) => version_bound_json(alloc, bound),
+        RangeBound::Version(bound) => Object::new(alloc)
+            .put("inclusive", Ok(Value::from(is_inclusive(bound.kind))))
+            .put("version", displayed_json(alloc, &bound.version))
+            .into_json(),
     }
 }
 
