@@ -56,15 +56,7 @@ impl Matches {
     }
 }
 
-// The three numbers of a version.
-fn numbers_json(alloc: Global, version: &Version) -> Result<Value, AllocError>
-    ensures { IfOk result (λ json. view json ≡ string (numbers_text version.now)) }
-{
-    let (major, minor, patch) = (version.major, version.minor, version.patch);
-    Ok(Value::String(format!(in alloc; "{major}.{minor}.{patch}")?))
-}
-
-// Adds the numbers of a version, if there is one.
+// Adds the three numbers of a version, if there is one.
 fn push_numbers(
     alloc: Global,
     items: &mut Vec<Value>,
@@ -74,7 +66,9 @@ fn push_numbers(
         ++ map string (map numbers_text (option_list (option_copied version.entry)))) }
 {
     if let Some(version) = version {
-        items.push(numbers_json(alloc, version)?)?;
+        let (major, minor, patch) = (version.major, version.minor, version.patch);
+        let numbers = format!(in alloc; "{major}.{minor}.{patch}")?;
+        items.push(Value::String(numbers))?;
     }
     Ok(())
 }
