@@ -199,8 +199,7 @@ fn report_at(place: &str, partial: &Partial, answer: &mut Answer) -> Reported {
 /// `ample`: whether every parser has enough memory for a text, alone and with up to so many `1` after it.
 pub fn ample(arguments: &[Item], answer: &mut Answer) -> Reported {
     let (text, count) = pair(arguments)?;
-    let count = count.parse::<usize>().ok();
-    let count = count.ok_or(Fault::OtherArguments)?;
+    let count = count.parse::<usize>().ok().ok_or(Fault::OtherArguments)?;
     let mut longer = String::from_str(answer.alloc, text)?;
     let mut is_ample = true;
     for _ in 0..=count {
