@@ -6,7 +6,7 @@ use Rattle.semver_base.specs.declared.range.PreRelease.{PreRelease}
 use Rattle.semver_base.specs.declared.range.VersionRange.{VersionRange}
 use Rattle.semver_req.specs.Outcome.{worked_on}
 use Rattle.semver_req.specs.PieceReading.{IsPieceRead}
-use Rattle.semver_req.specs.Pieces.{AreMorePieces, ArePieces}
+use Rattle.semver_req.specs.Pieces.{ArePieces}
 use Rattle.semver_req.specs.Parsers.{IsReading}
 use Rattle.semver_req.specs.Requirement.{inner_text}
 use Rattle.semver_req.specs.declared.common.values.Flavour.{Flavour}
@@ -50,14 +50,6 @@ AreAllExplained f flag followed (text ∷ texts) (piece ∷ pieces) = IsExplaine
     × AreAllExplained f flag false texts pieces
 AreAllExplained f flag followed [] (piece ∷ pieces) = ⊥
 AreAllExplained f flag followed (text ∷ texts) [] = ⊥
-
--- the first piece, and those of what follows its `||`
-pub record AreExplainedFrom
-    (f : Flavour) (flag : PreRelease) (first : List ℕ) (followed : Bool) (rest : List ℕ) (pieces : List Piece) :
-    Type 0 where
-  pub others : List (List ℕ)
-  pub more : AreMorePieces rest others
-  pub explained : AreAllExplained f flag followed (first ∷ others) pieces
 
 -- how a text is split at its `||`, with each piece explained
 pub record AreExplained (f : Flavour) (flag : PreRelease) (text : List ℕ) (pieces : List Piece) : Type 0 where

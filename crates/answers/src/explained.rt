@@ -3,7 +3,7 @@
 ghost use Rattle.std.specs.Prelude.{◌≡◌, ◌⊎◌, Err, IfErr, IfOk};
 ghost use Rattle.semver_base.specs.NormalText.{AreWritableRanges, IsWritableRange};
 ghost use Rattle.semver_base.specs.declared.range.VersionRange.{VersionRange};
-ghost use Rattle.answers.specs.Explained.{AreExplained, AreExplainedFrom, AreAlternatives, AreWholeTexts, IsExplained, IsExplainedPiece, IsMeaningOfRange, IsWholeText};
+ghost use Rattle.answers.specs.Explained.{AreExplained, AreAlternatives, AreWholeTexts, IsExplained, IsExplainedPiece, IsMeaningOfRange, IsWholeText};
 ghost use Rattle.answers.specs.Asking.{IsFailureAt, OutOfMemory, fault_of};
 ghost use Rattle.answers.specs.Reading.{IsRange};
 ghost use Rattle.answers.specs.declared.asking.Kind.TheVariants as kind;
@@ -17,7 +17,7 @@ use semver_base::version::Version;
 use semver_req::common::values::Flavour;
 use semver_req::laws::read_ranges_are_writable;
 use semver_req::range_set_or_tag::{
-    FirstPiece, PackageTag, RangeOrInvalid, RangeSetOrTag, first_piece, next_piece,
+    PackageTag, RangeOrInvalid, RangeSetOrTag, first_piece, next_piece,
 };
 use std::alloc::{AllocError, Global};
 
@@ -118,17 +118,16 @@ impl Piece {
     }
 }
 
-// The pieces of a text whose first one is split off, each parsed by a grammar that splits at each `||`.
-fn pieces_from(
+// The pieces of a text, each parsed by a grammar that splits at each `||`.
+fn pieces_of(
     alloc: Global,
     flavour: Flavour,
     pre_release: PreRelease,
-    first: FirstPiece<'_>,
+    text: &str,
 ) -> Result<Vec<Piece>, AllocError>
-    ensures { let f = first.entry in IfOk result
-        (λ pieces. AreExplainedFrom flavour pre_release f.piece.now f.is_followed f.rest.now
-        pieces.items) }
+    ensures { IfOk result (λ pieces. AreExplained flavour pre_release text.now pieces.items) }
 {
+    let first = first_piece(text);
     let mut pieces = Vec::new(alloc);
     let head = Piece::read(alloc, flavour, pre_release, first.piece, first.is_followed)?;
     pieces.push(head)?;
@@ -139,18 +138,6 @@ fn pieces_from(
         rest = more;
     }
     Ok(pieces)
-}
-
-// The pieces of a text, each parsed by a grammar that splits at each `||`.
-fn pieces_of(
-    alloc: Global,
-    flavour: Flavour,
-    pre_release: PreRelease,
-    text: &str,
-) -> Result<Vec<Piece>, AllocError>
-    ensures { IfOk result (λ pieces. AreExplained flavour pre_release text.now pieces.items) }
-{
-    pieces_from(alloc, flavour, pre_release, first_piece(text))
 }
 
 // The text as a piece for each of these ranges; the strict grammar parses a text to one.
