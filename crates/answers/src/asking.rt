@@ -1,6 +1,6 @@
 //! The results of questions, and why a question may have none.
 
-ghost use Rattle.std.specs.Prelude.{◌≡◌, None};
+ghost use Rattle.std.specs.Prelude.{◌≡◌};
 ghost use Rattle.semver_base.specs.Failure.{message_of};
 ghost use Rattle.answers.specs.Asking.{failure_of, problem_of};
 ghost use Rattle.answers.specs.declared.asking.Problem.TheVariants as problem;

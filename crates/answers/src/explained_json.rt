@@ -6,7 +6,7 @@ ghost use Rattle.serde_json.specs.Data.{array, string};
 ghost use Rattle.serde_json.specs.View.{items_of, view};
 ghost use Rattle.semver_req.specs.TextRejection.{IsTextRejection};
 ghost use Rattle.answers.specs.Asking.{IsFailureAt, IsOneAnswer};
-ghost use Rattle.answers.specs.ExplainedJson.{Explains, alternative_json, alternatives_json, distinct, error_for, error_or_null, errors_behind, have_same_numbers, left_out_json, lowest_json, matches_json, numbers_text, option_list, pre_release_of, pre_releases, pre_releases_json, ranges_explained};
+ghost use Rattle.answers.specs.ExplainedJson.{Explains, alternative_json, alternatives_json, error_for, error_or_null, errors_behind, have_same_numbers, left_out_json, lowest_json, matches_json, numbers_text, option_list, pre_release_of, pre_releases, pre_releases_json, ranges_explained};
 ghost use Rattle.answers.specs.Filtering.{list_answer};
 ghost use Rattle.answers.specs.declared.asking.Kind.TheVariants as kind;
 
