@@ -25,17 +25,6 @@ pub struct Entry {
     pub kind: Kind,
 }
 
-impl Entry {
-    fn mistake(alloc: Global, name: String, start: usize, message: &'static str) -> Entry {
-        Entry {
-            name,
-            text: String::new(alloc),
-            start,
-            kind: Kind::Mistake(message),
-        }
-    }
-}
-
 // What the values are that are so many objects deep in a section of the file.
 fn kind_at(section: &str, depth: usize) -> Option<Kind> {
     match (section, depth) {
@@ -100,16 +89,20 @@ impl<'t> Scanner<'t> {
     // Ends the text that starts at `start` before this index: a key, an item of an array, or a value.
     fn end_text(&mut self, start: usize, end: usize) -> Result<(), AllocError> {
         let raw = self.file.get(start..end).unwrap_or("");
-        let is_value = self.is_value;
-        self.is_value = false;
-        if !is_value {
+        if !self.is_value {
             self.key = Some(raw);
             return Ok(());
         }
+        self.is_value = false;
         let (section, depth) = self.place();
-        let Some(kind) = kind_at(section, depth) else {
-            return Ok(());
-        };
+        match kind_at(section, depth) {
+            Some(kind) => self.add(raw, start, kind),
+            None => Ok(()),
+        }
+    }
+
+    // Adds an entry of the last key.
+    fn add(&mut self, raw: &str, start: usize, kind: Kind) -> Result<(), AllocError> {
         let name = unescaped(self.alloc, self.key.unwrap_or(""))?;
         let text = unescaped(self.alloc, raw)?;
         let entry = Entry {
@@ -121,22 +114,14 @@ impl<'t> Scanner<'t> {
         Ok(self.entries.push(entry)?)
     }
 
-    // Begins the value behind a key.
-    fn begin_value(&mut self, index: usize, first: char) -> Result<(), AllocError> {
-        let (section, depth) = self.place();
-        self.is_value = first == '"';
-        let Some(message) = mistake_at(section, depth, first) else {
-            return Ok(());
-        };
-        let name = unescaped(self.alloc, self.key.unwrap_or(""))?;
-        let mistake = Entry::mistake(self.alloc, name, index, message);
-        Ok(self.entries.push(mistake)?)
-    }
-
     // Takes a character outside texts.
     fn structure(&mut self, index: usize, c: char) -> Result<(), AllocError> {
         if self.is_value && !c.is_ascii_whitespace() {
-            self.begin_value(index, c)?;
+            self.is_value = c == '"';
+            let (section, depth) = self.place();
+            if let Some(message) = mistake_at(section, depth, c) {
+                self.add("", index, Kind::Mistake(message))?;
+            }
         }
         match c {
             '"' => self.text = Some(index.saturating_add(1)),
@@ -197,28 +182,25 @@ fn index_of(file: &str, line: usize, byte: usize) -> usize {
     file.floor_char_boundary(index)
 }
 
-// The one entry of a file that is a mistake itself.
-fn of_mistake(
-    alloc: Global,
-    start: usize,
-    message: &'static str,
-) -> Result<Vec<Entry>, AllocError> {
-    let mistake = Entry::mistake(alloc, String::new(alloc), start, message);
-    Ok(vec![in alloc; mistake]?)
-}
-
-// The entries of JSON, or where it is invalid. A lockfile has none.
+// The entries of JSON, or the one mistake that it is. A lockfile has none.
 fn of_text(alloc: Global, file: &str) -> Result<Vec<Entry>, AllocError> {
-    match Value::from_str(alloc, file) {
-        Ok(value) if !value.is_object() => of_mistake(alloc, 0, "expected an object"),
-        Ok(value) if value.get("lockfileVersion").is_some() => Ok(Vec::new(alloc)),
-        Ok(_) => of_json(alloc, file),
-        Err(error) if error.is_memory() => Err(AllocError),
-        Err(error) => {
-            let start = index_of(file, error.line(), error.column());
-            of_mistake(alloc, start, "not valid JSON")
-        }
-    }
+    let (start, message) = match Value::from_str(alloc, file) {
+        Ok(value) if !value.is_object() => (0, "expected an object"),
+        Ok(value) if value.get("lockfileVersion").is_some() => return Ok(Vec::new(alloc)),
+        Ok(_) => return of_json(alloc, file),
+        Err(error) if error.is_memory() => return Err(AllocError),
+        Err(error) => (
+            index_of(file, error.line(), error.column()),
+            "not valid JSON",
+        ),
+    };
+    let mistake = Entry {
+        name: String::new(alloc),
+        text: String::new(alloc),
+        start,
+        kind: Kind::Mistake(message),
+    };
+    Ok(vec![in alloc; mistake]?)
 }
 
 // Which part of JSON with comments.
@@ -275,30 +257,22 @@ impl Commented {
     fn step(&mut self, index: usize, byte: u8) {
         let part = self.part;
         self.part = self.next(byte);
-        match (part, self.part) {
-            (Part::Slash, Part::LineComment | Part::BlockComment) => {
+        match (part, self.part, byte) {
+            (Part::Slash, Part::LineComment | Part::BlockComment, _) => {
                 self.clear(index.saturating_sub(1));
                 self.clear(index);
             }
-            (Part::LineComment | Part::BlockComment | Part::Star, _) if byte != b'\n' => {
-                self.clear(index);
+            (Part::LineComment | Part::BlockComment | Part::Star, _, b'\n') => (),
+            (Part::LineComment | Part::BlockComment | Part::Star, _, _) => self.clear(index),
+            (Part::Structure, Part::Structure, b'}' | b']') => {
+                if let Some(comma) = self.comma.take() {
+                    self.clear(comma);
+                }
             }
-            (Part::Structure, Part::Structure) => self.structure(index, byte),
-            (Part::Structure, Part::Text) => self.comma = None,
-            (_, _) => (),
-        }
-    }
-
-    // Takes a byte outside texts and comments.
-    fn structure(&mut self, index: usize, byte: u8) {
-        match (byte, self.comma) {
-            (b'}' | b']', Some(comma)) => {
-                self.clear(comma);
-                self.comma = None;
-            }
-            (b',', _) => self.comma = Some(index),
-            (b' ' | b'\t' | b'\r' | b'\n', _) => (),
-            (_, _) => self.comma = None,
+            (Part::Structure, Part::Structure, b',') => self.comma = Some(index),
+            (Part::Structure, Part::Structure, b' ' | b'\t' | b'\r' | b'\n') => (),
+            (Part::Structure, Part::Structure | Part::Text, _) => self.comma = None,
+            (_, _, _) => (),
         }
     }
 }
@@ -319,32 +293,25 @@ fn of_commented(alloc: Global, file: &str) -> Result<Vec<Entry>, AllocError> {
     )
 }
 
-// The entry of a line that starts at this index, unless it is empty or a comment.
-fn of_line(alloc: Global, line: &str, start: usize) -> Result<Option<Entry>, AllocError> {
-    let text = line.trim();
-    if text.is_empty() || text.starts_with('#') {
-        return Ok(None);
-    }
-    let indent = line.len().saturating_sub(line.trim_start().len());
-    let kind = if text.starts_with("npm:") || text.starts_with("jsr:") {
-        Kind::Specifier
-    } else {
-        Kind::Range
-    };
-    Ok(Some(Entry {
-        name: String::new(alloc),
-        text: String::from_str(alloc, text)?,
-        start: start.saturating_add(indent),
-        kind,
-    }))
-}
-
-// The entries of a file with a range on each line.
+// The entries of a file with a range on each line, but for empty lines and comments.
 fn of_lines(alloc: Global, file: &str) -> Result<Vec<Entry>, AllocError> {
     let mut entries = Vec::new(alloc);
     let mut start = 0usize;
     for line in file.split('\n') {
-        if let Some(entry) = of_line(alloc, line, start)? {
+        let text = line.trim();
+        if !text.is_empty() && !text.starts_with('#') {
+            let indent = line.len().saturating_sub(line.trim_start().len());
+            let kind = if text.starts_with("npm:") || text.starts_with("jsr:") {
+                Kind::Specifier
+            } else {
+                Kind::Range
+            };
+            let entry = Entry {
+                name: String::new(alloc),
+                text: String::from_str(alloc, text)?,
+                start: start.saturating_add(indent),
+                kind,
+            };
             entries.push(entry)?;
         }
         start = start.saturating_add(line.len()).saturating_add(1);
@@ -352,18 +319,15 @@ fn of_lines(alloc: Global, file: &str) -> Result<Vec<Entry>, AllocError> {
     Ok(entries)
 }
 
-// Whether a file of this name may have comments: Deno's may, and standard input, of which no name is known.
-fn has_comments(path: &str) -> bool {
-    let name = path.rsplit('/').next().unwrap_or(path);
-    name.ends_with(".jsonc") || name.starts_with("deno.") || path == "-"
-}
-
 /// The entries of a file, in their order. JSON begins with a brace; any other file has a range on each line.
 pub fn entries(alloc: Global, path: &str, file: &str) -> Result<Vec<Entry>, AllocError> {
     let is_json = file.trim_start().starts_with(['{', '/'].as_slice());
     if !is_json && !path.ends_with(".json") {
-        of_lines(alloc, file)
-    } else if has_comments(path) {
+        return of_lines(alloc, file);
+    }
+    // Deno's files may have comments, and standard input, of which no name is known.
+    let name = path.rsplit('/').next().unwrap_or(path);
+    if name.ends_with(".jsonc") || name.starts_with("deno.") || path == "-" {
         of_commented(alloc, file)
     } else {
         of_text(alloc, file)
