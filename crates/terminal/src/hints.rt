@@ -27,12 +27,8 @@ fn ends_word(text: &str) -> bool {
 
 // Whether the text ends with a version's three numbers.
 fn ends_triple(text: &str) -> bool {
-    let version = text.rsplit(|c: char| !c.is_ascii_alphanumeric() && c != '.');
-    let mut numbers = 0;
-    for version in version.take(1) {
-        numbers = version.split('.').count();
-    }
-    numbers == 3
+    let mut versions = text.rsplit(|c: char| !c.is_ascii_alphanumeric() && c != '.');
+    versions.next().unwrap_or("").split('.').count() == 3
 }
 
 // Texts that show what is meant, and the hint for each.
@@ -57,27 +53,6 @@ const FRONTS: [(&str, &str); 4] = [
     ("V", "write `v`, or leave it out"),
 ];
 
-// A hint for the text of an alternative.
-fn hint_of(piece: &str) -> Option<&'static str> {
-    if is_protocol(piece) {
-        return Some("this is a protocol of package.json, not a range");
-    }
-    if piece.ends_with(".txt") || piece.ends_with(".json") {
-        return Some("to read versions from a file, write `<` before its name");
-    }
-    for (front, hint) in &FRONTS {
-        if piece.starts_with(*front) {
-            return Some(*hint);
-        }
-    }
-    for (phrase, hint) in &PHRASES {
-        if piece.contains(*phrase) {
-            return Some(*hint);
-        }
-    }
-    None
-}
-
 fn is_operator(c: char) -> bool {
     matches!(c, '<' | '>' | '=' | '^' | '~')
 }
@@ -100,8 +75,25 @@ fn hint_at(before: &str, next: char) -> Option<&'static str> {
 
 /// A hint for an invalid alternative that leaves its grammar at a place.
 pub fn hint(piece: &str, place: usize) -> Option<&'static str> {
-    let next = piece.get(place..)?.chars().next();
-    hint_of(piece.trim()).or(hint_at(piece.get(..place)?, next?))
+    let (before, next) = (piece.get(..place)?, piece.get(place..)?.chars().next()?);
+    let piece = piece.trim();
+    if is_protocol(piece) {
+        return Some("this is a protocol of package.json, not a range");
+    }
+    if piece.ends_with(".txt") || piece.ends_with(".json") {
+        return Some("to read versions from a file, write `<` before its name");
+    }
+    for (front, hint) in &FRONTS {
+        if piece.starts_with(*front) {
+            return Some(*hint);
+        }
+    }
+    for (phrase, hint) in &PHRASES {
+        if piece.contains(*phrase) {
+            return Some(*hint);
+        }
+    }
+    hint_at(before, next)
 }
 
 const LATEST: &str = "latest";
@@ -127,8 +119,11 @@ fn is_nearly_latest(tag: &str) -> bool {
     }
 }
 
-// What may be wrong with a tag that looks like a version.
-fn version_question(tag: &str) -> Option<&'static str> {
+/// What may be meant by a tag that looks like a typing mistake: by `latest`, or by a version.
+pub fn question(tag: &str) -> Option<&'static str> {
+    if is_nearly_latest(tag) {
+        return Some("is `latest` meant?");
+    }
     let first = tag.chars().next()?;
     let is_digit = |c: char| c.is_ascii_digit();
     let looks_like_digit = |c: char| matches!(c, 'l' | 'I' | 'O' | 'o');
@@ -152,12 +147,4 @@ fn version_question(tag: &str) -> Option<&'static str> {
     } else {
         Some("is a version meant?")
     }
-}
-
-/// What may be meant by a tag that looks like a typing mistake.
-pub fn question(tag: &str) -> Option<&'static str> {
-    if is_nearly_latest(tag) {
-        return Some("is `latest` meant?");
-    }
-    version_question(tag)
 }
