@@ -45,17 +45,6 @@ pub fn errors_of(
     }
 }
 
-// What is expected where a part is missing.
-fn note(missing: Option<Part>) -> &'static str {
-    match missing {
-        Some(Part::At) => " expected `@`",
-        Some(Part::Slash) => " expected `/`",
-        Some(Part::Name) => " expected a name",
-        Some(Part::Scheme) => " expected `jsr:` or `npm:`",
-        None => "",
-    }
-}
-
 /// Prints a text with carets under the places of its errors.
 pub fn print_errors<O: Write>(
     out: &mut O,
@@ -71,35 +60,30 @@ pub fn print_errors<O: Write>(
             Ok(())
         }
         PackageErrors::Part(error) => {
-            print_caret(out, style, text, error.place, note(error.missing))
+            let note = match error.missing {
+                Some(Part::At) => " expected `@`",
+                Some(Part::Slash) => " expected `/`",
+                Some(Part::Name) => " expected a name",
+                Some(Part::Scheme) => " expected `jsr:` or `npm:`",
+                None => "",
+            };
+            print_caret(out, style, text, error.place, note)
         }
     }
-}
-
-fn add_place(
-    json: Object,
-    start: usize,
-    end: usize,
-    expected: Result<Value, AllocError>,
-) -> Object {
-    json.put("start", Ok(Value::from(start)))
-        .put("end", Ok(Value::from(end)))
-        .put("expected", expected)
 }
 
 /// Adds the place of the first error of a text, and what is expected there.
 pub fn add_first(alloc: Global, json: Object, text: &str, errors: &PackageErrors) -> Object {
-    match errors {
+    let (start, end, expected) = match errors {
         PackageErrors::Range(errors) => match errors.as_slice() {
-            [first, ..] => {
-                let expected = expected_json(alloc, &first.cause);
-                add_place(json, first.place, first.end, expected)
-            }
-            [] => json,
+            [first, ..] => (first.place, first.end, expected_json(alloc, &first.cause)),
+            [] => return json,
         },
         PackageErrors::Part(error) => {
-            let expected = missing_json(alloc, error.missing);
-            add_place(json, error.place, text.len(), expected)
+            (error.place, text.len(), missing_json(alloc, error.missing))
         }
-    }
+    };
+    json.put("start", Ok(Value::from(start)))
+        .put("end", Ok(Value::from(end)))
+        .put("expected", expected)
 }

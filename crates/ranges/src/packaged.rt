@@ -47,40 +47,22 @@ fn print_reference<O: Write, E: Write>(
     Ok(())
 }
 
-fn answer_package<O: Write, E: Write>(
-    console: &mut Console<O, E>,
-    req: &PackageReq,
-) -> Result<Status, Stop> {
-    if console.options.json {
-        console.json(package_json(console.alloc, req))?;
-    } else {
-        print_package(console, req)?;
-    }
-    Ok(Status::Answered)
-}
-
-fn answer_reference<O: Write, E: Write>(
-    console: &mut Console<O, E>,
-    read: &Reference,
-) -> Result<Status, Stop> {
-    if console.options.json {
-        console.json(reference_json(console.alloc, read))?;
-    } else {
-        print_reference(console, read)?;
-    }
-    Ok(Status::Answered)
-}
-
 /// `ranges package TEXT`: the parts of a package requirement.
 pub fn report_package<O: Write, E: Write>(
     console: &mut Console<O, E>,
     matches: &ArgMatches<'_>,
 ) -> Result<Status, Stop> {
     let text = matches.get_str("TEXT").unwrap_or("");
-    match read_package(console.alloc, console.options.flavour, text) {
-        Ok(req) => answer_package(console, &req),
-        Err(problem) => reject(console, &[text], &problem),
+    let req = match read_package(console.alloc, console.options.flavour, text) {
+        Ok(req) => req,
+        Err(problem) => return reject(console, &[text], &problem),
+    };
+    if console.options.json {
+        console.json(package_json(console.alloc, &req))?;
+    } else {
+        print_package(console, &req)?;
     }
+    Ok(Status::Answered)
 }
 
 /// `ranges reference TEXT`: the parts of a reference to a package.
@@ -89,8 +71,14 @@ pub fn report_reference<O: Write, E: Write>(
     matches: &ArgMatches<'_>,
 ) -> Result<Status, Stop> {
     let text = matches.get_str("TEXT").unwrap_or("");
-    match read_reference(console.alloc, text) {
-        Ok(read) => answer_reference(console, &read),
-        Err(problem) => reject(console, &[text], &problem),
+    let read = match read_reference(console.alloc, text) {
+        Ok(read) => read,
+        Err(problem) => return reject(console, &[text], &problem),
+    };
+    if console.options.json {
+        console.json(reference_json(console.alloc, &read))?;
+    } else {
+        print_reference(console, &read)?;
     }
+    Ok(Status::Answered)
 }
