@@ -25,16 +25,6 @@ pub fn part(text: &str, start: usize, end: usize) -> &str {
     text.get(start..end).unwrap_or("")
 }
 
-// The part of the text that is shown for an error at the place.
-fn window(text: &str, place: usize) -> (usize, usize) {
-    if text.len() <= LONG {
-        return (0, text.len());
-    }
-    let start = text.floor_char_boundary(place.saturating_sub(BEFORE));
-    let end = text.floor_char_boundary(place.saturating_add(AFTER));
-    (start, end)
-}
-
 // What may follow in a version's text, in the order in which it is listed.
 const OF_VERSIONS: [Kind; 8] = [
     Kind::Digit,
@@ -47,24 +37,20 @@ const OF_VERSIONS: [Kind; 8] = [
     Kind::Space,
 ];
 
-// What may follow the prefix of a version.
-fn expected_in_version(alloc: Global, prefix: &str) -> Result<Expected, ParseFailure> {
-    let mut kinds = Vec::new(alloc);
-    for kind in &OF_VERSIONS {
-        if version_may_follow(alloc, prefix, kind.text())? && kinds.push(*kind).is_err() {
-            return Err(ParseFailure::memory());
-        }
-    }
-    Ok(Expected {
-        kinds,
-        may_end: false,
-    })
-}
-
 // Where a text stops being a version, and what is expected there.
 fn version_error(alloc: Global, text: &str) -> Result<InvalidPiece, ParseFailure> {
     let place = version_error_place(alloc, text)?;
-    let expected = expected_in_version(alloc, part(text, 0, place))?;
+    let mut kinds = Vec::new(alloc);
+    for kind in &OF_VERSIONS {
+        let may_follow = version_may_follow(alloc, part(text, 0, place), kind.text())?;
+        if may_follow && kinds.push(*kind).is_err() {
+            return Err(ParseFailure::memory());
+        }
+    }
+    let expected = Expected {
+        kinds,
+        may_end: false,
+    };
     Ok(InvalidPiece {
         start: 0,
         end: text.len(),
@@ -90,7 +76,12 @@ pub fn print_caret<O: Write, T: fmt::Display + Drop>(
     place: usize,
     note: T,
 ) -> Result<(), Stop> {
-    let (start, end) = window(text, place);
+    let (start, end) = if text.len() <= LONG {
+        (0, text.len())
+    } else {
+        let start = text.floor_char_boundary(place.saturating_sub(BEFORE));
+        (start, text.floor_char_boundary(place.saturating_add(AFTER)))
+    };
     let before = part(text, start, place);
     writeln!(out, "  | {}", Shown(part(text, start, end)))?;
     let (caret, end) = (style.caret(), style.end());
@@ -198,25 +189,18 @@ impl Names<'_> {
             Kind::Space => Some("whitespace"),
             Kind::And if !self.before.ends_with('&') => Some("`&&`"),
             Kind::Bar if !self.before.ends_with('|') => Some("`||`"),
-            kind => Some(quoted(kind)),
+            Kind::Dot => Some("`.`"),
+            Kind::Hyphen => Some("`-`"),
+            Kind::Plus => Some("`+`"),
+            Kind::Caret => Some("`^`"),
+            Kind::Less => Some("`<`"),
+            Kind::Greater => Some("`>`"),
+            Kind::Equals => Some("`=`"),
+            Kind::Comma => Some("`,`"),
+            Kind::And => Some("`&`"),
+            Kind::Bar => Some("`|`"),
+            kind => Some(kind.text()),
         }
-    }
-}
-
-// An operator in backquotes.
-fn quoted(kind: Kind) -> &'static str {
-    match kind {
-        Kind::Dot => "`.`",
-        Kind::Hyphen => "`-`",
-        Kind::Plus => "`+`",
-        Kind::Caret => "`^`",
-        Kind::Less => "`<`",
-        Kind::Greater => "`>`",
-        Kind::Equals => "`=`",
-        Kind::Comma => "`,`",
-        Kind::And => "`&`",
-        Kind::Bar => "`|`",
-        kind => kind.text(),
     }
 }
 
@@ -232,29 +216,16 @@ impl fmt::Display for Names<'_> {
         let kinds = self.expected.kinds.iter();
         for name in kinds.filter_map(|kind| self.name(*kind)).chain(end) {
             if let Some(last) = last.replace(name) {
-                separate(f, &mut is_first, ", ")?;
+                if !is_first {
+                    f.write_str(", ")?;
+                }
                 f.write_str(last)?;
+                is_first = false;
             }
         }
-        match last {
-            Some(last) => {
-                separate(f, &mut is_first, " or ")?;
-                f.write_str(last)
-            }
-            None => Ok(()),
+        if !is_first {
+            f.write_str(" or ")?;
         }
+        f.write_str(last.unwrap_or(""))
     }
-}
-
-// Writes a separator, but not before the first item.
-fn separate<W: fmt::Write>(
-    f: &mut fmt::Formatter<W>,
-    is_first: &mut bool,
-    separator: &str,
-) -> fmt::Result {
-    if *is_first {
-        *is_first = false;
-        return Ok(());
-    }
-    f.write_str(separator)
 }
