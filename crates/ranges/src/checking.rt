@@ -16,7 +16,7 @@ use std::alloc::{AllocError, Global};
 use std::io::{BufRead, ErrorKind, Read, Write};
 use std::rt::Files;
 use std::{fs, io};
-use terminal::console::{Console, Status, Stop, print_line};
+use terminal::console::{Console, END, ERROR, Status, Stop, WARNING, print_line};
 use terminal::hints::{is_protocol, question};
 use terminal::manifest::{Entry, Kind, entries};
 use terminal::shown::{Quoted, Shown};
@@ -213,12 +213,12 @@ impl Report<'_> {
         finding: Finding<'_>,
     ) -> Result<(), Stop> {
         let message = line(console.alloc, entry, finding.message)?;
-        let style = console.out_style;
+        let style = console.terminal.out;
         let start = match finding.level {
-            Level::Error => style.error(),
-            Level::Warning | Level::Fine => style.warning(),
+            Level::Error => style.code(ERROR),
+            Level::Warning | Level::Fine => style.code(WARNING),
         };
-        let (file, end) = (Shown(self.file), style.end());
+        let (file, end) = (Shown(self.file), style.code(END));
         let Position { line, column, .. } = self.position;
         write!(console.out, "{file}:{line}:{column}: ")?;
         if finding.level != Level::Fine {

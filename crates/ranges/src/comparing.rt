@@ -32,7 +32,7 @@ pub fn reject<O: Write, E: Write>(
     }
     let status = console.reject_text(kind_name(invalid.kind), argument, invalid.failure.message());
     // What can't be written to standard error is left out.
-    let _ = print_errors(&mut console.err, console.err_style, argument, &errors);
+    let _ = print_errors(&mut console.err, console.terminal.err, argument, &errors);
     Ok(status)
 }
 

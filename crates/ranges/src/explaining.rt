@@ -9,7 +9,7 @@ use deno_semver::{PreRelease, RangeBound, Version, VersionBound, VersionBoundKin
 use semver_req::error_places::pieces::InvalidPiece;
 use std::fmt;
 use std::io::Write;
-use terminal::console::{Console, Status, Stop, Style, print_line};
+use terminal::console::{BOUNDS, Console, END, ERROR, Status, Stop, Style, print_line};
 use terminal::pointing::print_error;
 use terminal::shown::Shown;
 
@@ -110,11 +110,16 @@ impl fmt::Display for Line<'_> {
     fn fmt<W: fmt::Write>(&self, f: &mut fmt::Formatter<W>) -> fmt::Result {
         let text = self.piece.text.as_str().trim();
         write!(f, "\"{}\": ", Shown(text))?;
-        let (style, end) = (self.style, self.style.end());
+        let (style, end) = (self.style, self.style.code(END));
         match &self.piece.meaning {
             Meaning::Range(matches) => what_matches(f, matches, self.pre_release, style),
             Meaning::LeftOut(rejection) => {
-                write!(f, "{}left out: {}{end}", style.error(), rejection.message())
+                write!(
+                    f,
+                    "{}left out: {}{end}",
+                    style.code(ERROR),
+                    rejection.message()
+                )
             }
         }
     }
@@ -127,7 +132,7 @@ fn what_matches<W: fmt::Write>(
     pre_release: PreRelease,
     style: Style,
 ) -> fmt::Result {
-    let (colored, end) = (style.bounds(), style.end());
+    let (colored, end) = (style.code(BOUNDS), style.code(END));
     let Some(lowest) = &matches.lowest else {
         return f.write_str("no version matches");
     };
@@ -176,7 +181,12 @@ fn report_pieces<O: Write, E: Write>(
         let json = ranges_explained(console.alloc, pre_release, pieces, errors, normal);
         console.json(json)?;
     } else {
-        print_pieces(&mut console.out, console.out_style, explained, pre_release)?;
+        print_pieces(
+            &mut console.out,
+            console.terminal.out,
+            explained,
+            pre_release,
+        )?;
     }
     if explained.pieces.iter().any(is_left_out) {
         Ok(Status::Rejected)

@@ -143,38 +143,29 @@ pub enum Style {
 }
 
 impl Style {
-    fn code(self, code: &'static str) -> &'static str {
+    /// The code, if the stream shows colours.
+    pub fn code(self, code: &'static str) -> &'static str {
         match self {
             Style::Plain => "",
             Style::Colored => code,
         }
     }
-
-    /// What begins an error message.
-    pub fn error(self) -> &'static str {
-        self.code("\x1b[1;31m")
-    }
-
-    /// What begins the word of a warning.
-    pub fn warning(self) -> &'static str {
-        self.code("\x1b[1;33m")
-    }
-
-    /// What begins a caret and what is expected there.
-    pub fn caret(self) -> &'static str {
-        self.code("\x1b[1;32m")
-    }
-
-    /// What begins the bounds of a range.
-    pub fn bounds(self) -> &'static str {
-        self.code("\x1b[36m")
-    }
-
-    /// What ends a coloured text.
-    pub fn end(self) -> &'static str {
-        self.code("\x1b[0m")
-    }
 }
+
+/// What begins an error message.
+pub const ERROR: &str = "\x1b[1;31m";
+
+/// What begins the word of a warning.
+pub const WARNING: &str = "\x1b[1;33m";
+
+/// What begins a caret and what is expected there.
+pub const CARET: &str = "\x1b[1;32m";
+
+/// What begins the bounds of a range.
+pub const BOUNDS: &str = "\x1b[36m";
+
+/// What ends a coloured text.
+pub const END: &str = "\x1b[0m";
 
 /// Which streams are a terminal.
 #[derive(Clone, Copy)]
@@ -191,10 +182,8 @@ pub struct Console<O, E> {
     pub alloc: Global,
     pub out: O,
     pub err: E,
+    pub terminal: Terminal,
     pub options: Options,
-    pub out_style: Style,
-    pub err_style: Style,
-    is_typed: bool,
 }
 
 impl<O, E> Console<O, E> {
@@ -210,10 +199,8 @@ impl<O, E> Console<O, E> {
             alloc,
             out,
             err,
+            terminal,
             options,
-            out_style: terminal.out,
-            err_style: terminal.err,
-            is_typed: terminal.reads,
         }
     }
 }
@@ -246,7 +233,7 @@ impl<O: Write, E: Write> Console<O, E> {
 
     /// Says on a terminal that standard input is read.
     pub fn announce(&mut self, what: &str) {
-        if self.is_typed {
+        if self.terminal.reads {
             let _ = writeln!(self.err, "ranges: reading {what} from standard input");
         }
     }
@@ -254,7 +241,8 @@ impl<O: Write, E: Write> Console<O, E> {
     /// Reports what is wrong with something, behind what was printed before.
     pub fn complain<T: Display + Drop>(&mut self, subject: T, message: &str) -> Status {
         let _ = self.out.flush();
-        let (start, end) = (self.err_style.error(), self.err_style.end());
+        let style = self.terminal.err;
+        let (start, end) = (style.code(ERROR), style.code(END));
         let _ = writeln!(self.err, "ranges: {subject}: {start}{message}{end}");
         Status::Rejected
     }

@@ -1,6 +1,6 @@
 //! Where an invalid range leaves its grammar, and what could stand there.
 
-use crate::console::{Console, Stop, Style};
+use crate::console::{CARET, Console, END, Stop, Style};
 use crate::hints::hint;
 use crate::shown::{Shown, is_escaped};
 use semver_base::failure::ParseFailure;
@@ -84,7 +84,7 @@ pub fn print_caret<O: Write, T: fmt::Display + Drop>(
     };
     let before = part(text, start, place);
     writeln!(out, "  | {}", Shown(part(text, start, end)))?;
-    let (caret, end) = (style.caret(), style.end());
+    let (caret, end) = (style.code(CARET), style.code(END));
     Ok(writeln!(out, "  | {}{caret}^{note}{end}", Padding(before))?)
 }
 
@@ -111,7 +111,7 @@ impl<O: Write, E: Write> Console<O, E> {
         let errors = version_errors(self.alloc, text)?;
         let _ = self.reject_text("version", text, failure.message());
         for error in &errors {
-            let _ = print_error(&mut self.err, self.err_style, text, error);
+            let _ = print_error(&mut self.err, self.terminal.err, text, error);
         }
         if text.starts_with(['^', '~', '<', '>'].as_slice()) {
             let _ = writeln!(self.err, "  = the range is the first argument");
