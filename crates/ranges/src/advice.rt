@@ -1,8 +1,8 @@
 //! What is legal in a range, and surely not meant.
 
-use crate::explaining::only_version;
+use crate::explaining::{Numbers, only_version};
 use answers::asking::{Answer, Problem};
-use answers::explained::{Matches, Meaning, Piece};
+use answers::explained::{Meaning, Piece};
 use answers::questions::version_outside;
 use deno_semver::{PreRelease, RangeBound};
 use semver_req::common::values::Flavour;
@@ -14,44 +14,33 @@ const MANY: usize = 32;
 /// A warning about a range.
 pub type Warnings = Vec<String>;
 
-// What is odd about an alternative that is a range.
-fn of_range(alloc: Global, text: &str, matches: &Matches) -> Result<Option<String>, AllocError> {
-    if matches.lowest.is_none() {
-        return Ok(Some(format!(in alloc; "`{text}` matches no version")?));
-    }
-    if matches!(text, "^0" | "^0.x" | "^0.*") {
-        let hint = "matches every 0.x, though each may break: name its minor version";
-        return Ok(Some(format!(in alloc; "`{text}` {hint}")?));
-    }
-    let RangeBound::Version(start) = &matches.range.start else {
-        return Ok(None);
-    };
-    if start.version.pre.is_empty()
-        || !matches.pre_of_start
-        || only_version(&matches.range).is_some()
-    {
-        return Ok(None);
-    }
-    let (major, minor, patch) = (
-        start.version.major,
-        start.version.minor,
-        start.version.patch,
-    );
-    let which = format!(in alloc; "{major}.{minor}.{patch}")?;
-    Ok(Some(format!(in alloc; "of pre-releases, `{text}` matches only those of {which}")?))
-}
-
 // What is odd about one of several alternatives, or the only one.
 fn of_piece(alloc: Global, piece: &Piece, is_only: bool) -> Result<Option<String>, AllocError> {
     let text = piece.text.as_str().trim();
-    match &piece.meaning {
-        Meaning::LeftOut(_) => Ok(None),
-        Meaning::Range(_) if text.is_empty() => {
-            let what = if is_only { "range" } else { "alternative" };
-            Ok(Some(format!(in alloc; "an empty {what} matches every version")?))
+    let Meaning::Range(matches) = &piece.meaning else {
+        return Ok(None);
+    };
+    let warning = if text.is_empty() {
+        let what = if is_only { "range" } else { "alternative" };
+        format!(in alloc; "an empty {what} matches every version")
+    } else if matches.lowest.is_none() {
+        format!(in alloc; "`{text}` matches no version")
+    } else if matches!(text, "^0" | "^0.x" | "^0.*") {
+        let hint = "matches every 0.x, though each may break: name its minor version";
+        format!(in alloc; "`{text}` {hint}")
+    } else {
+        match &matches.range.start {
+            RangeBound::Version(start)
+                if !start.version.pre.is_empty()
+                    && matches.pre_of_start
+                    && only_version(&matches.range).is_none() => {
+                let which = Numbers(&start.version);
+                format!(in alloc; "of pre-releases, `{text}` matches only those of {which}")
+            }
+            _ => return Ok(None),
         }
-        Meaning::Range(matches) => of_range(alloc, text, matches),
-    }
+    };
+    Ok(Some(warning?))
 }
 
 // Whether each match of one alternative is one of the other.

@@ -2,7 +2,7 @@
 
 use crate::advice::{npm_warning, warnings};
 use crate::errors::{add_first, errors_at_end, errors_of, print_errors};
-use crate::explaining::is_left_out;
+use crate::explaining::has_left_out;
 use answers::asking::Problem;
 use answers::explained::{Explanation, Piece, explain};
 use answers::object::Object;
@@ -254,7 +254,7 @@ fn check_left_out<O: Write, E: Write>(
     range: &str,
     pieces: &[Piece],
 ) -> Result<(), Stop> {
-    if !pieces.iter().any(is_left_out) {
+    if !has_left_out(pieces) {
         return Ok(());
     }
     let errors = errors_at_end(console.alloc, Flavour::Npm, entry.text.as_str(), range)?;

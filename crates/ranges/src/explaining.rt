@@ -13,15 +13,6 @@ use terminal::console::{BOUNDS, Console, END, ERROR, Status, Stop, Style, print_
 use terminal::pointing::print_error;
 use terminal::shown::Shown;
 
-// What is printed of a range: its text, its alternatives, the errors of the invalid ones, and its canonical form.
-#[derive(Clone, Copy)]
-struct Explained<'a> {
-    text: &'a str,
-    pieces: &'a [Piece],
-    errors: &'a [InvalidPiece],
-    normal: &'a str,
-}
-
 // The bounds of a range as comparators, such as `>=1.2.0 <2.0.0`.
 #[derive(Clone, Copy)]
 struct Bounds<'a>(&'a VersionRange);
@@ -64,9 +55,9 @@ pub fn only_version(range: &VersionRange) -> Option<&Version> {
     }
 }
 
-// The three numbers of a version.
+/// The three numbers of a version.
 #[derive(Clone, Copy)]
-struct Numbers<'a>(&'a Version);
+pub struct Numbers<'a>(pub &'a Version);
 
 impl fmt::Display for Numbers<'_> {
     fn fmt<W: fmt::Write>(&self, f: &mut fmt::Formatter<W>) -> fmt::Result {
@@ -91,8 +82,9 @@ impl fmt::Display for PreReleases<'_> {
                 let (first, second) = (Numbers(first), Numbers(second));
                 write!(f, "pre-releases of {first} and {second}")
             }
-            (Some(only), None) => write!(f, "pre-releases of {}", Numbers(only)),
-            (None, Some(only)) => write!(f, "pre-releases of {}", Numbers(only)),
+            (Some(only), None) | (None, Some(only)) => {
+                write!(f, "pre-releases of {}", Numbers(only))
+            }
             (None, None) => f.write_str("no pre-releases"),
         }
     }
@@ -110,135 +102,103 @@ impl fmt::Display for Line<'_> {
     fn fmt<W: fmt::Write>(&self, f: &mut fmt::Formatter<W>) -> fmt::Result {
         let text = self.piece.text.as_str().trim();
         write!(f, "\"{}\": ", Shown(text))?;
-        let (style, end) = (self.style, self.style.code(END));
-        match &self.piece.meaning {
-            Meaning::Range(matches) => what_matches(f, matches, self.pre_release, style),
+        let style = self.style;
+        let (error, bounds, end) = (style.code(ERROR), style.code(BOUNDS), style.code(END));
+        let matches = match &self.piece.meaning {
+            Meaning::Range(matches) => matches,
             Meaning::LeftOut(rejection) => {
-                write!(
-                    f,
-                    "{}left out: {}{end}",
-                    style.code(ERROR),
-                    rejection.message()
-                )
+                return write!(f, "{error}left out: {}{end}", rejection.message());
             }
+        };
+        let Some(lowest) = &matches.lowest else {
+            return f.write_str("no version matches");
+        };
+        if let Some(only) = only_version(&matches.range) {
+            return write!(f, "only {bounds}{only}{end}");
         }
+        let pre_releases = PreReleases {
+            matches,
+            pre_release: self.pre_release,
+        };
+        let range = Bounds(&matches.range);
+        write!(f, "{bounds}{range}{end}, {pre_releases}, lowest {lowest}")
     }
 }
 
-// What a range matches, in plain words.
-fn what_matches<W: fmt::Write>(
-    f: &mut fmt::Formatter<W>,
-    matches: &Matches,
-    pre_release: PreRelease,
-    style: Style,
-) -> fmt::Result {
-    let (colored, end) = (style.code(BOUNDS), style.code(END));
-    let Some(lowest) = &matches.lowest else {
-        return f.write_str("no version matches");
-    };
-    if let Some(only) = only_version(&matches.range) {
-        return write!(f, "only {colored}{only}{end}");
-    }
-    let bounds = Bounds(&matches.range);
-    let pre_releases = PreReleases {
-        matches,
-        pre_release,
-    };
-    write!(f, "{colored}{bounds}{end}, {pre_releases}, lowest {lowest}")
-}
-
-/// Whether an alternative is left out.
-pub fn is_left_out(piece: &Piece) -> bool {
-    matches!(piece.meaning, Meaning::LeftOut(_))
-}
-
-// Prints that a range is a tag.
-fn report_tag<O: Write, E: Write>(console: &mut Console<O, E>, tag: &str) -> Result<Status, Stop> {
-    if !console.options.json {
-        print_line(
-            &mut console.out,
-            format_args!("\"{tag}\": a tag, a name that a registry gives a version"),
-        )?;
-        console.question(tag);
-        return Ok(Status::Tag);
-    }
-    print_tag(console, tag)
+/// Whether one of the alternatives is left out.
+pub fn has_left_out(pieces: &[Piece]) -> bool {
+    pieces
+        .iter()
+        .any(|piece| matches!(piece.meaning, Meaning::LeftOut(_)))
 }
 
 // Prints each alternative on a line, an invalid one with its error, and the canonical form; or all as JSON.
 fn report_pieces<O: Write, E: Write>(
     console: &mut Console<O, E>,
-    explained: Explained<'_>,
+    text: &str,
+    pieces: &[Piece],
+    normal: &str,
 ) -> Result<Status, Stop> {
-    let pre_release = console.options.pre_release;
-    if console.options.json {
-        let Explained {
-            pieces,
-            errors,
-            normal,
-            ..
-        } = explained;
-        let json = ranges_explained(console.alloc, pre_release, pieces, errors, normal);
+    let options = console.options;
+    let (status, errors) = if has_left_out(pieces) {
+        (
+            Status::Rejected,
+            errors(console.alloc, options.flavour, text)?,
+        )
+    } else {
+        (Status::Answered, Vec::new(console.alloc))
+    };
+    let errors = errors.as_slice();
+    if options.json {
+        let json = ranges_explained(console.alloc, options.pre_release, pieces, errors, normal);
         console.json(json)?;
     } else {
-        print_pieces(
-            &mut console.out,
-            console.terminal.out,
-            explained,
-            pre_release,
-        )?;
+        print_pieces(console, text, pieces, errors)?;
+        print_line(&mut console.out, format_args!("canonical form: {normal}"))?;
     }
-    if explained.pieces.iter().any(is_left_out) {
-        Ok(Status::Rejected)
-    } else {
-        Ok(Status::Answered)
-    }
+    Ok(status)
 }
 
-fn print_pieces<O: Write>(
-    out: &mut O,
-    style: Style,
-    explained: Explained<'_>,
-    pre_release: PreRelease,
+fn print_pieces<O: Write, E: Write>(
+    console: &mut Console<O, E>,
+    text: &str,
+    pieces: &[Piece],
+    mut errors: &[InvalidPiece],
 ) -> Result<(), Stop> {
-    let mut errors = explained.errors;
-    for piece in explained.pieces {
+    let style = console.terminal.out;
+    for piece in pieces {
         let line = Line {
             piece,
-            pre_release,
+            pre_release: console.options.pre_release,
             style,
         };
-        print_line(out, line)?;
+        print_line(&mut console.out, line)?;
         let (error, behind) = next_error(&piece.meaning, errors);
         if let Some(error) = error {
-            print_error(out, style, explained.text, error)?;
+            print_error(&mut console.out, style, text, error)?;
         }
         errors = behind;
     }
-    print_line(out, format_args!("canonical form: {}", explained.normal))
+    Ok(())
 }
 
-fn report_explanation<O: Write, E: Write>(
-    console: &mut Console<O, E>,
-    text: &str,
-    explanation: &Explanation,
-) -> Result<Status, Stop> {
-    match explanation {
-        Explanation::Tag(tag) => report_tag(console, tag.as_str()),
-        Explanation::Ranges { pieces, normal } => {
-            let errors = if pieces.iter().any(is_left_out) {
-                errors(console.alloc, console.options.flavour, text)?
-            } else {
-                Vec::new(console.alloc)
-            };
-            let explained = Explained {
-                text,
-                pieces: pieces.as_slice(),
-                errors: errors.as_slice(),
-                normal: normal.as_str(),
-            };
-            report_pieces(console, explained)
+// Prints what a range is: a tag, or its alternatives.
+fn report_one<O: Write, E: Write>(console: &mut Console<O, E>, text: &str) -> Result<Status, Stop> {
+    let options = console.options;
+    match explain(console.alloc, options.flavour, options.pre_release, text) {
+        Ok(Explanation::Tag(tag)) if options.json => print_tag(console, tag.as_str()),
+        Ok(Explanation::Tag(tag)) => {
+            print_line(
+                &mut console.out,
+                format_args!("\"{tag}\": a tag, a name that a registry gives a version"),
+            )?;
+            console.question(tag.as_str());
+            Ok(Status::Tag)
         }
+        Ok(Explanation::Ranges { pieces, normal }) => {
+            report_pieces(console, text, pieces.as_slice(), normal.as_str())
+        }
+        Err(problem) => reject(console, &[text], &problem),
     }
 }
 
@@ -253,16 +213,4 @@ pub fn report<O: Write, E: Write>(
         status = status.worse(report_one(console, text)?);
     }
     Ok(status)
-}
-
-fn report_one<O: Write, E: Write>(console: &mut Console<O, E>, text: &str) -> Result<Status, Stop> {
-    match explain(
-        console.alloc,
-        console.options.flavour,
-        console.options.pre_release,
-        text,
-    ) {
-        Ok(explanation) => report_explanation(console, text, &explanation),
-        Err(problem) => reject(console, &[text], &problem),
-    }
 }
