@@ -45,14 +45,6 @@ impl Level {
             Level::Fine => "notice",
         }
     }
-
-    // What the message is, in JSON.
-    fn key(self) -> &'static str {
-        match self {
-            Level::Error | Level::Warning => "message",
-            Level::Fine => "normal",
-        }
-    }
 }
 
 // What was found in an entry.
@@ -64,6 +56,17 @@ struct Finding<'f> {
     errors: Option<&'f PackageErrors>,
 }
 
+impl<'f> Finding<'f> {
+    // A finding without the places of errors.
+    fn new(level: Level, message: &'f str) -> Finding<'f> {
+        Finding {
+            level,
+            message,
+            errors: None,
+        }
+    }
+}
+
 // A place in a file: the line and the column, counted from 1.
 #[derive(Clone, Copy)]
 struct Position {
@@ -71,6 +74,12 @@ struct Position {
     line: usize,
     column: usize,
 }
+
+const START: Position = Position {
+    index: 0,
+    line: 1,
+    column: 1,
+};
 
 impl Position {
     // The position of a later index of the file.
@@ -96,7 +105,6 @@ struct Report<'r> {
     canonical: bool,
     file: &'r str,
     position: Position,
-    is_first: bool,
     status: Status,
     /// The status of a warning.
     warning: Status,
@@ -129,22 +137,16 @@ fn line(alloc: Global, entry: &Entry, message: &str) -> Result<String, AllocErro
 }
 
 impl Report<'_> {
-    // Counts a finding.
-    fn count(&mut self, level: Level) {
-        let status = match level {
-            Level::Error => Status::Rejected,
-            Level::Warning => self.warning,
-            Level::Fine => Status::Answered,
-        };
-        self.status = self.status.worse(status);
-    }
-
     fn json(
         &self,
         alloc: Global,
         entry: &Entry,
         finding: Finding<'_>,
     ) -> Result<Value, AllocError> {
+        let key = match finding.level {
+            Level::Error | Level::Warning => "message",
+            Level::Fine => "normal",
+        };
         let text = match entry.kind {
             Kind::Mistake(_) => None,
             _ => Some(entry.text.as_str()),
@@ -154,7 +156,7 @@ impl Report<'_> {
             .put_text("file", Some(self.file))
             .put_text("level", Some(finding.level.name()))
             .put("line", Ok(Value::from(self.position.line)))
-            .put_text(finding.level.key(), Some(finding.message))
+            .put_text(key, Some(finding.message))
             .put_text("name", Some(entry.name.as_str()))
             .put_text("text", text);
         if let Some(errors) = finding.errors {
@@ -163,27 +165,24 @@ impl Report<'_> {
         json.into_json()
     }
 
-    // Prints a finding.
+    // Counts and prints a finding.
     fn add<O: Write, E: Write>(
         &mut self,
         console: &mut Console<O, E>,
         entry: &Entry,
         finding: Finding<'_>,
     ) -> Result<(), Stop> {
-        self.count(finding.level);
+        let status = match finding.level {
+            Level::Error => Status::Rejected,
+            Level::Warning => self.warning,
+            Level::Fine => Status::Answered,
+        };
+        self.status = self.status.worse(status);
         match self.format {
-            Format::Json => {
-                let json = self
-                    .json(console.alloc, entry, finding)?
-                    .to_string(console.alloc)?;
-                let separator = if self.is_first { '[' } else { ',' };
-                write!(console.out, "{separator}{json}")?;
-            }
-            Format::GitHub => self.annotate(console, entry, finding)?,
-            Format::Lines => self.print(console, entry, finding)?,
+            Format::Json => console.item(self.json(console.alloc, entry, finding)),
+            Format::GitHub => self.annotate(console, entry, finding),
+            Format::Lines => self.print(console, entry, finding),
         }
-        self.is_first = false;
-        Ok(())
     }
 
     // Prints a finding as GitHub's annotation.
@@ -226,65 +225,39 @@ impl Report<'_> {
         }
         print_line(&mut console.out, message.as_str())?;
         match finding.errors {
-            Some(errors) => print_errors(&mut console.out, style, entry.text.as_str(), errors),
+            Some(errors) => { print_errors(&mut console.out, style, entry.text.as_str(), errors) }
             None => Ok(()),
         }
     }
 }
 
+// Reports the alternatives that npm leaves out, and what is odd about the others.
 fn warn<O: Write, E: Write>(
-    console: &mut Console<O, E>,
-    report: &mut Report<'_>,
-    entry: &Entry,
-    message: &str,
-) -> Result<(), Stop> {
-    let finding = Finding {
-        level: Level::Warning,
-        message,
-        errors: None,
-    };
-    report.add(console, entry, finding)
-}
-
-// Reports that npm leaves alternatives out, and where each is wrong.
-fn check_left_out<O: Write, E: Write>(
     console: &mut Console<O, E>,
     report: &mut Report<'_>,
     entry: &Entry,
     range: &str,
     pieces: &[Piece],
 ) -> Result<(), Stop> {
-    if !has_left_out(pieces) {
-        return Ok(());
-    }
-    let errors = errors_at_end(console.alloc, Flavour::Npm, entry.text.as_str(), range)?;
-    let finding = Finding {
-        level: Level::Warning,
-        message: "npm leaves out an alternative that isn't a range",
-        errors: Some(&errors),
-    };
-    report.add(console, entry, finding)
-}
-
-// Reports what is odd about a range, or its canonical form.
-fn check_pieces<O: Write, E: Write>(
-    console: &mut Console<O, E>,
-    report: &mut Report<'_>,
-    entry: &Entry,
-    pieces: &[Piece],
-    normal: &str,
-) -> Result<(), Stop> {
-    let warnings = warnings(console.alloc, pieces)?;
-    for warning in warnings.iter() {
-        warn(console, report, entry, warning.as_str())?;
-    }
-    if report.canonical {
+    if has_left_out(pieces) {
+        let errors = errors_at_end(console.alloc, Flavour::Npm, entry.text.as_str(), range)?;
+        let message = "npm leaves out an alternative that isn't a range";
         let finding = Finding {
-            level: Level::Fine,
-            message: normal,
-            errors: None,
+            errors: Some(&errors),
+            ..Finding::new(Level::Warning, message)
         };
         report.add(console, entry, finding)?;
+    }
+    if let Some(warning) = npm_warning(range) {
+        report.add(console, entry, Finding::new(Level::Warning, warning))?;
+    }
+    let warnings = warnings(console.alloc, pieces)?;
+    for warning in warnings.iter() {
+        report.add(
+            console,
+            entry,
+            Finding::new(Level::Warning, warning.as_str()),
+        )?;
     }
     Ok(())
 }
@@ -292,10 +265,8 @@ fn check_pieces<O: Write, E: Write>(
 // The text of a range: what follows the name in `npm:name@range`, or the whole text; none if it is another protocol.
 fn range_of(text: &str) -> Option<&str> {
     if let Some(alias) = text.strip_prefix("npm:") {
-        return match alias.get(1..).unwrap_or("").rsplit_once('@') {
-            Some((_, range)) => Some(range),
-            None => None,
-        };
+        let (_, range) = alias.get(1..)?.rsplit_once('@')?;
+        return Some(range);
     }
     let is_path = text.starts_with(['.', '/', '$'].as_slice());
     let is_repository = text.contains('/') && !text.contains(' ');
@@ -316,22 +287,21 @@ fn check_range<O: Write, E: Write>(
 ) -> Result<(), Stop> {
     match explain(console.alloc, flavour, PreRelease::Restricted, range) {
         Ok(Explanation::Tag(tag)) => match question(tag.as_str()) {
-            Some(question) => warn(console, report, entry, question),
+            Some(question) => report.add(console, entry, Finding::new(Level::Warning, question)),
             None => Ok(()),
         },
         Ok(Explanation::Ranges { pieces, normal }) => {
-            check_left_out(console, report, entry, range, pieces.as_slice())?;
-            if let Some(warning) = npm_warning(range) {
-                warn(console, report, entry, warning)?;
+            warn(console, report, entry, range, pieces.as_slice())?;
+            if !report.canonical {
+                return Ok(());
             }
-            check_pieces(console, report, entry, pieces.as_slice(), normal.as_str())
+            report.add(console, entry, Finding::new(Level::Fine, normal.as_str()))
         }
         Err(Problem::Invalid(_)) => {
             let errors = errors_at_end(console.alloc, flavour, entry.text.as_str(), range)?;
             let finding = Finding {
-                level: Level::Error,
-                message: "not a version range",
                 errors: Some(&errors),
+                ..Finding::new(Level::Error, "not a version range")
             };
             report.add(console, entry, finding)
         }
@@ -357,9 +327,8 @@ fn check_specifier<O: Write, E: Write>(
         Err(Problem::Invalid(invalid)) => {
             let errors = errors_of(console.alloc, Flavour::Specifier, text, &invalid)?;
             let finding = Finding {
-                level: Level::Error,
-                message: invalid.failure.message(),
                 errors: Some(&errors),
+                ..Finding::new(Level::Error, invalid.failure.message())
             };
             report.add(console, entry, finding)
         }
@@ -384,27 +353,11 @@ fn check_entries<O: Write, E: Write>(
             }
             Kind::Specifier => check_specifier(console, report, entry)?,
             Kind::Mistake(message) => {
-                let finding = Finding {
-                    level: Level::Error,
-                    message,
-                    errors: None,
-                };
-                report.add(console, entry, finding)?;
+                report.add(console, entry, Finding::new(Level::Error, message))?;
             }
         }
     }
     Ok(())
-}
-
-// Why a file can't be read.
-fn reason(error: &io::Error) -> &'static str {
-    match error.kind() {
-        ErrorKind::NotFound => "no such file",
-        ErrorKind::PermissionDenied => "permission denied",
-        ErrorKind::IsADirectory => "is a directory",
-        ErrorKind::InvalidData => "not valid UTF-8",
-        _ => "can't be read",
-    }
 }
 
 // The text of a file, or of standard input for `-`.
@@ -429,11 +382,17 @@ fn check_file<R: Input + Files + AllocGlobal, O: Write, E: Write>(
     }
     let text = match read(rt, console.alloc, file) {
         Ok(text) => text,
-        Err(error) if error.kind() == ErrorKind::OutOfMemory => return Err(Stop::OutOfMemory),
         Err(error) => {
-            report.status = report
-                .status
-                .worse(console.complain(Shown(file), reason(&error)));
+            let reason = match error.kind() {
+                ErrorKind::OutOfMemory => return Err(Stop::OutOfMemory),
+                ErrorKind::NotFound => "no such file",
+                ErrorKind::PermissionDenied => "permission denied",
+                ErrorKind::IsADirectory => "is a directory",
+                ErrorKind::InvalidData => "not valid UTF-8",
+                _ => "can't be read",
+            };
+            let status = console.complain(Shown(file), reason);
+            report.status = report.status.worse(status);
             return Ok(());
         }
     };
@@ -444,33 +403,24 @@ fn check_file<R: Input + Files + AllocGlobal, O: Write, E: Write>(
     check_entries(console, report, text, entries.as_slice())
 }
 
-fn format_of(matches: &ArgMatches<'_>) -> Format {
-    if matches.get_flag("json") {
-        Format::Json
-    } else if matches.get_flag("github") {
-        Format::GitHub
-    } else {
-        Format::Lines
-    }
-}
-
 /// `ranges check [FILE..]`: the ranges of each file that are invalid, or legal and surely not meant.
 pub fn check<R: Input + Files + AllocGlobal, O: Write, E: Write>(
     rt: &R,
     console: &mut Console<O, E>,
     matches: &ArgMatches<'_>,
 ) -> Result<Status, Stop> {
-    let start = Position {
-        index: 0,
-        line: 1,
-        column: 1,
+    let format = if matches.get_flag("json") {
+        Format::Json
+    } else if matches.get_flag("github") {
+        Format::GitHub
+    } else {
+        Format::Lines
     };
     let mut report = Report {
-        format: format_of(matches),
+        format,
         canonical: matches.get_flag("canonical"),
         file: "-",
-        position: start,
-        is_first: true,
+        position: START,
         status: Status::Answered,
         warning: if matches.get_flag("strict") {
             Status::Nothing
@@ -480,11 +430,11 @@ pub fn check<R: Input + Files + AllocGlobal, O: Write, E: Write>(
     };
     for file in matches.get_strs("FILE").unwrap_or(&["-"]) {
         report.file = *file;
-        report.position = start;
+        report.position = START;
         check_file(rt, console, &mut report)?;
     }
-    if report.format == Format::Json {
-        print_line(&mut console.out, if report.is_first { "[]" } else { "]" })?;
+    if format == Format::Json {
+        console.end_items()?;
     }
     Ok(report.status)
 }

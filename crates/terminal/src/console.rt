@@ -184,6 +184,7 @@ pub struct Console<O, E> {
     pub err: E,
     pub terminal: Terminal,
     pub options: Options,
+    has_items: bool,
 }
 
 impl<O, E> Console<O, E> {
@@ -201,6 +202,7 @@ impl<O, E> Console<O, E> {
             err,
             terminal,
             options,
+            has_items: false,
         }
     }
 }
@@ -210,6 +212,19 @@ impl<O: Write, E: Write> Console<O, E> {
     pub fn json(&mut self, value: Result<Value, AllocError>) -> Result<(), Stop> {
         let text = json_text(self.alloc, value)?;
         print_line(&mut self.out, text.as_str())
+    }
+
+    /// Prints one more item of the JSON array that the command prints.
+    pub fn item(&mut self, value: Result<Value, AllocError>) -> Result<(), Stop> {
+        let text = value?.to_string(self.alloc)?;
+        let separator = if self.has_items { ',' } else { '[' };
+        self.has_items = true;
+        Ok(write!(self.out, "{separator}{text}")?)
+    }
+
+    /// Ends the array.
+    pub fn end_items(&mut self) -> Result<(), Stop> {
+        print_line(&mut self.out, if self.has_items { "]" } else { "[]" })
     }
 
     /// Reports an invalid argument: its kind, its text, and what is wrong.
