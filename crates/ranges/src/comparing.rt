@@ -1,18 +1,17 @@
 //! The commands that print one line.
 
 use crate::errors::{add_first, errors_of, print_errors};
-use answers::asking::{Answer, InvalidArgument, Kind, Problem};
+use answers::asking::{Answer, Kind, Problem};
 use answers::object::Object;
 use answers::questions::{common_version, text_of_version, version_outside};
 use answers::reading::{range, ranges};
 use clap::ArgMatches;
 use deno_semver::{Version, VersionReq};
-use package_answers::errors::PackageErrors;
 use serde_json::Value;
 use std::alloc::{AllocError, Global};
 use std::io::Write;
 use terminal::console::{Console, Status, Stop, print_line};
-use terminal::shown::Shown;
+use terminal::shown::{Quoted, Shown};
 
 /// Reports which of the arguments is invalid, and where, or that memory ran out.
 pub fn reject<O: Write, E: Write>(
@@ -24,13 +23,19 @@ pub fn reject<O: Write, E: Write>(
         return Err(Stop::OutOfMemory);
     };
     let argument = arguments.get(invalid.place).copied().unwrap_or("");
+    let (kind, message) = (kind_name(invalid.kind), invalid.failure.message());
     let errors = errors_of(console.alloc, console.options.flavour, argument, invalid)?;
     if console.options.json {
-        let json = error_json(console.alloc, argument, invalid, &errors);
-        console.json(json)?;
+        let error = Object::new(console.alloc)
+            .put_text("kind", Some(kind))
+            .put_text("argument", Some(argument))
+            .put_text("message", Some(message));
+        let error = add_first(console.alloc, error, argument, &errors);
+        let json = Object::new(console.alloc).put("error", error.into_json());
+        console.json(json.into_json())?;
         return Ok(Status::Rejected);
     }
-    let status = console.reject_text(kind_name(invalid.kind), argument, invalid.failure.message());
+    let status = console.complain(format_args!("{kind} {}", Quoted(argument)), message);
     // What can't be written to standard error is left out.
     let _ = print_errors(&mut console.err, console.terminal.err, argument, &errors);
     Ok(status)
@@ -42,8 +47,7 @@ pub fn print_tag<O: Write, E: Write>(
     tag: &str,
 ) -> Result<Status, Stop> {
     if console.options.json {
-        let json = field_json(console.alloc, "tag", Some(tag));
-        console.json(json)?;
+        console.json(field_json(console.alloc, "tag", Some(tag)))?;
     } else {
         print_line(&mut console.out, format_args!("tag {tag}"))?;
     }
@@ -57,16 +61,12 @@ pub fn print_version<O: Write, E: Write>(
     version: Option<&str>,
 ) -> Result<Status, Stop> {
     if console.options.json {
-        let json = field_json(console.alloc, "version", version);
-        console.json(json)?;
+        console.json(field_json(console.alloc, "version", version))?;
     } else {
         let (version, end) = (version.unwrap_or("none"), console.options.line_end());
         write!(console.out, "{version}{end}")?;
     }
-    match version {
-        Some(_) => Ok(Status::Answered),
-        None => Ok(Status::Nothing),
-    }
+    Ok(Status::of(version.is_some()))
 }
 
 // Prints whether a range allows no more than another, or the lowest version that it alone allows.
@@ -75,15 +75,19 @@ fn print_within<O: Write, E: Write>(
     first: Option<&str>,
 ) -> Result<Status, Stop> {
     if console.options.json {
-        let json = within_json(console.alloc, first);
-        console.json(json)?;
+        let json = Object::new(console.alloc).put("within", Ok(Value::Bool(first.is_none())));
+        let json = match first {
+            Some(_) => json.put_text("version", first),
+            None => json,
+        };
+        console.json(json.into_json())?;
     } else {
-        print_first(&mut console.out, first)?;
+        match first {
+            Some(version) => print_line(&mut console.out, format_args!("no {version}"))?,
+            None => print_line(&mut console.out, "yes")?,
+        }
     }
-    match first {
-        Some(_) => Ok(Status::Nothing),
-        None => Ok(Status::Answered),
-    }
+    Ok(Status::of(first.is_none()))
 }
 
 fn kind_name(kind: Kind) -> &'static str {
@@ -95,52 +99,22 @@ fn kind_name(kind: Kind) -> &'static str {
     }
 }
 
-// The JSON of an invalid argument, with the place of its first error.
-fn error_json(
-    alloc: Global,
-    argument: &str,
-    invalid: &InvalidArgument,
-    errors: &PackageErrors,
-) -> Result<Value, AllocError> {
-    let error = Object::new(alloc)
-        .put_text("kind", Some(kind_name(invalid.kind)))
-        .put_text("argument", Some(argument))
-        .put_text("message", Some(invalid.failure.message()));
-    let error = add_first(alloc, error, argument, errors);
-    Object::new(alloc)
-        .put("error", error.into_json())
-        .into_json()
-}
-
-/// The JSON of one field.
-pub fn field_json(alloc: Global, name: &str, text: Option<&str>) -> Result<Value, AllocError> {
+// The JSON of one field.
+fn field_json(alloc: Global, name: &str, text: Option<&str>) -> Result<Value, AllocError> {
     Object::new(alloc).put_text(name, text).into_json()
 }
 
-fn within_json(alloc: Global, first: Option<&str>) -> Result<Value, AllocError> {
-    let json = Object::new(alloc).put("within", Ok(Value::Bool(first.is_none())));
-    match first {
-        Some(_) => json.put_text("version", first).into_json(),
-        None => json.into_json(),
-    }
-}
-
-fn print_first<O: Write>(out: &mut O, first: Option<&str>) -> Result<(), Stop> {
-    match first {
-        Some(version) => print_line(out, format_args!("no {version}")),
-        None => print_line(out, "yes"),
-    }
-}
-
-// The text of the lowest version, if there is one; a tag is printed.
+// The text of the lowest version that was found, if there is one; with a tag or an invalid argument the command ends.
 fn lowest_text<O: Write, E: Write>(
     console: &mut Console<O, E>,
-    answer: &Answer<Option<Version>>,
-) -> Result<Result<Option<String>, Status>, Stop> {
+    texts: &[&str],
+    answer: Result<Answer<Option<Version>>, Problem>,
+) -> Result<Option<String>, Stop> {
     match answer {
-        Answer::Value(Some(lowest)) => Ok(Ok(Some(text_of_version(console.alloc, lowest)?))),
-        Answer::Value(None) => Ok(Ok(None)),
-        Answer::Tag(tag) => Ok(Err(print_tag(console, tag.as_str())?)),
+        Ok(Answer::Value(Some(lowest))) => Ok(Some(text_of_version(console.alloc, &lowest)?)),
+        Ok(Answer::Value(None)) => Ok(None),
+        Ok(Answer::Tag(tag)) => Err(Stop::Ended(print_tag(console, tag.as_str())?)),
+        Err(problem) => Err(Stop::Ended(reject(console, texts, &problem)?)),
     }
 }
 
@@ -150,18 +124,10 @@ pub fn common<O: Write, E: Write>(
     matches: &ArgMatches<'_>,
 ) -> Result<Status, Stop> {
     let texts = matches.get_strs("RANGE").unwrap_or(&[]);
-    match common_version(
-        console.alloc,
-        console.options.flavour,
-        console.options.pre_release,
-        texts,
-    ) {
-        Ok(answer) => match lowest_text(console, &answer)? {
-            Ok(lowest) => print_version(console, lowest.as_deref()),
-            Err(status) => Ok(status),
-        },
-        Err(problem) => reject(console, texts, &problem),
-    }
+    let options = console.options;
+    let answer = common_version(console.alloc, options.flavour, options.pre_release, texts);
+    let lowest = lowest_text(console, texts, answer)?;
+    print_version(console, lowest.as_deref())
 }
 
 /// `ranges within NEW OLD`: `yes`, or `no` and the lowest version that only NEW allows.
@@ -171,27 +137,24 @@ pub fn within<O: Write, E: Write>(
 ) -> Result<Status, Stop> {
     let new = matches.get_str("NEW").unwrap_or("");
     let old = matches.get_str("OLD").unwrap_or("");
-    match version_outside(
+    let options = console.options;
+    let answer = version_outside(
         console.alloc,
-        console.options.flavour,
-        console.options.pre_release,
+        options.flavour,
+        options.pre_release,
         new,
         old,
-    ) {
-        Ok(answer) => match lowest_text(console, &answer)? {
-            Ok(lowest) => print_within(console, lowest.as_deref()),
-            Err(status) => Ok(status),
-        },
-        Err(problem) => reject(console, &[new, old], &problem),
-    }
+    );
+    let lowest = lowest_text(console, &[new, old], answer)?;
+    print_within(console, lowest.as_deref())
 }
 
-// The places of the first two ranges that don't overlap.
-fn first_apart(ranges: &[VersionReq]) -> Option<(usize, usize)> {
-    for (place, range) in ranges.iter().enumerate() {
-        for (other_place, other) in ranges.iter().enumerate() {
+// The texts of the first two ranges that don't overlap.
+fn first_apart<'a>(texts: &[&'a str], ranges: &[VersionReq]) -> Option<(&'a str, &'a str)> {
+    for (place, (text, range)) in texts.iter().zip(ranges).enumerate() {
+        for (other_place, (other_text, other)) in texts.iter().zip(ranges).enumerate() {
             if place < other_place && !range.intersects(other) {
-                return Some((place, other_place));
+                return Some((*text, *other_text));
             }
         }
     }
@@ -205,13 +168,7 @@ pub fn overlap<O: Write, E: Write>(
 ) -> Result<Status, Stop> {
     let texts = matches.get_strs("RANGE").unwrap_or(&[]);
     match ranges(console.alloc, console.options.flavour, texts) {
-        Ok(ranges) => {
-            let apart = match first_apart(ranges.as_slice()) {
-                Some((one, other)) => texts.get(one).copied().zip(texts.get(other).copied()),
-                None => None,
-            };
-            print_overlap(console, apart)
-        }
+        Ok(ranges) => print_overlap(console, first_apart(texts, ranges.as_slice())),
         Err(problem) => reject(console, texts, &problem),
     }
 }
@@ -234,8 +191,7 @@ fn print_overlap<O: Write, E: Write>(
     apart: Option<(&str, &str)>,
 ) -> Result<Status, Stop> {
     if console.options.json {
-        let json = overlap_json(console.alloc, apart);
-        console.json(json)?;
+        console.json(overlap_json(console.alloc, apart))?;
     } else {
         match apart {
             Some((one, other)) => print_line(
@@ -245,10 +201,7 @@ fn print_overlap<O: Write, E: Write>(
             None => print_line(&mut console.out, "yes")?,
         }
     }
-    match apart {
-        Some(_) => Ok(Status::Nothing),
-        None => Ok(Status::Answered),
-    }
+    Ok(Status::of(apart.is_none()))
 }
 
 /// `ranges normal RANGE..`: the canonical form of each range, or its tag.
@@ -276,8 +229,7 @@ fn print_normal<O: Write, E: Write>(
     }
     let normal = range.to_string_normalized(console.alloc)?;
     if console.options.json {
-        let json = field_json(console.alloc, "normal", Some(normal.as_str()));
-        console.json(json)?;
+        console.json(field_json(console.alloc, "normal", Some(normal.as_str())))?;
     } else {
         print_line(&mut console.out, normal.as_str())?;
     }

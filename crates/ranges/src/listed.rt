@@ -6,67 +6,25 @@ use answers::reading::ranges;
 use answers::sorting::{Order, sorted_places};
 use clap::ArgMatches;
 use deno_semver::resolve::max_satisfying_with;
-use deno_semver::{ParseFailure, PreRelease, Version, VersionReq};
+use deno_semver::{PreRelease, Version, VersionReq};
 use semver_req::common::values::Flavour;
 use serde_json::Value;
-use std::alloc::{AllocError, Global};
+use std::alloc::Global;
 use std::io::Write;
-use terminal::args::Options;
-use terminal::console::{Console, Status, Stop, json_text, print_line};
+use terminal::console::{Console, Status, Stop};
 use terminal::input::{Take, take_all};
 
-// How texts are printed: a line each, or as a JSON array; and whether one was.
-#[derive(Drop)]
-struct Printed {
-    json: bool,
-    end: &'static str,
-    is_first: bool,
-}
-
-impl Printed {
-    fn new(options: Options) -> Printed {
-        Printed {
-            json: options.json,
-            end: options.line_end(),
-            is_first: true,
-        }
+// Prints the text of a version, as a line or as an item of an array.
+fn print_text<O: Write, E: Write>(console: &mut Console<O, E>, text: &str) -> Result<(), Stop> {
+    if console.options.json {
+        return console.item(Value::try_from_str(console.alloc, text));
     }
-
-    // Prints one more text, as a line or as an item of an array.
-    fn add<O: Write, E: Write>(
-        &mut self,
-        console: &mut Console<O, E>,
-        text: &str,
-    ) -> Result<(), Stop> {
-        if self.json {
-            let separator = if self.is_first { '[' } else { ',' };
-            print_item(console, separator, text)?;
-        } else {
-            console.out.write_all(text.as_bytes())?;
-            console.out.write_all(self.end.as_bytes())?;
-        }
-        self.is_first = false;
-        Ok(())
-    }
-
-    // Ends the array.
-    fn finish<O: Write, E: Write>(&self, console: &mut Console<O, E>) -> Result<(), Stop> {
-        if !self.json {
-            return Ok(());
-        }
-        let end = if self.is_first { "[]" } else { "]" };
-        print_line(&mut console.out, end)
-    }
-}
-
-// Prints an item of an array behind this separator.
-fn print_item<O: Write, E: Write>(
-    console: &mut Console<O, E>,
-    separator: char,
-    text: &str,
-) -> Result<(), Stop> {
-    let item = json_text(console.alloc, Value::try_from_str(console.alloc, text))?;
-    Ok(write!(console.out, "{separator}{item}")?)
+    console.out.write_all(text.as_bytes())?;
+    Ok(
+        console
+            .out
+            .write_all(console.options.line_end().as_bytes())?,
+    )
 }
 
 // Whether each of the ranges matches the version.
@@ -79,7 +37,7 @@ fn all_match(ranges: &[VersionReq], version: &Version, pre_release: PreRelease) 
 struct Filtering<'a> {
     ranges: &'a [VersionReq],
     pre_release: PreRelease,
-    printed: Printed,
+    has_match: bool,
 }
 
 impl Take for Filtering<'_> {
@@ -87,17 +45,13 @@ impl Take for Filtering<'_> {
         &mut self,
         console: &mut Console<O, E>,
         text: &str,
-    ) -> Result<Result<(), ParseFailure>, Stop> {
-        let version = match Version::parse_standard(console.alloc, text) {
-            Ok(version) => version,
-            Err(error) => return Ok(Err(error.source)),
-        };
-        let matches = all_match(self.ranges, &version, self.pre_release);
-        drop(version);
-        if matches {
-            self.printed.add(console, text)?;
+        version: Version,
+    ) -> Result<(), Stop> {
+        if all_match(self.ranges, &version, self.pre_release) {
+            self.has_match = true;
+            print_text(console, text)?;
         }
-        Ok(Ok(()))
+        Ok(())
     }
 }
 
@@ -120,29 +74,13 @@ impl<'a> Listed<'a> {
         }
     }
 
-    // The text at this place.
-    fn text(&self, place: Option<usize>) -> Option<&str> {
-        Some(self.texts.get(place?)?.as_str())
-    }
-
-    fn add(&mut self, alloc: Global, text: &str, version: Version) -> Result<(), AllocError> {
-        if all_match(self.ranges, &version, self.pre_release) {
-            self.versions.push(version)?;
-            let text = String::from_str(alloc, text)?;
-            self.texts.push(text)?;
-        }
-        Ok(())
-    }
-
     // The text of the highest version that the range matches; a tag matches none.
     fn highest(&self, range: &VersionReq) -> Option<&str> {
-        match range.tag() {
-            Some(_) => None,
-            None => {
-                let versions = self.versions.as_slice();
-                self.text(max_satisfying_with(versions, range, self.pre_release))
-            }
+        if range.tag().is_some() {
+            return None;
         }
+        let place = max_satisfying_with(self.versions.as_slice(), range, self.pre_release)?;
+        Some(self.texts.get(place)?.as_str())
     }
 }
 
@@ -151,46 +89,33 @@ impl Take for Listed<'_> {
         &mut self,
         console: &mut Console<O, E>,
         text: &str,
-    ) -> Result<Result<(), ParseFailure>, Stop> {
-        match Version::parse_standard(console.alloc, text) {
-            Ok(version) => Ok(Ok(self.add(console.alloc, text, version)?)),
-            Err(error) => Ok(Err(error.source)),
+        version: Version,
+    ) -> Result<(), Stop> {
+        if all_match(self.ranges, &version, self.pre_release) {
+            self.versions.push(version)?;
+            self.texts.push(String::from_str(console.alloc, text)?)?;
         }
+        Ok(())
     }
 }
 
-// The status of a command over a list, given the status if each text is a version.
-fn ended(all_versions: bool, status: Status) -> Status {
-    if all_versions {
-        status
-    } else {
-        Status::Rejected
-    }
-}
-
-// The texts of the ranges: RANGE, and then those of --range.
-fn range_texts<'a>(alloc: Global, matches: &ArgMatches<'a>) -> Result<Vec<&'a str>, AllocError> {
-    let mut texts = Vec::new(alloc);
+// Parses RANGE, and then the ranges of --range; with an invalid one or a tag the command ends.
+fn all_ranges<O: Write, E: Write>(
+    console: &mut Console<O, E>,
+    matches: &ArgMatches<'_>,
+) -> Result<Vec<VersionReq>, Stop> {
+    let mut texts = Vec::new(console.alloc);
     texts.push(matches.get_str("RANGE").unwrap_or(""))?;
     for text in matches.get_strs("range").unwrap_or(&[]) {
         texts.push(*text)?;
     }
-    Ok(texts)
-}
-
-// Parses the ranges, and runs a command on them; an invalid one, or a tag, is reported.
-fn on_ranges<O: Write, E: Write>(
-    console: &mut Console<O, E>,
-    matches: &ArgMatches<'_>,
-) -> Result<Result<Vec<VersionReq>, Status>, Stop> {
-    let texts = range_texts(console.alloc, matches)?;
     let parsed = ranges(console.alloc, console.options.flavour, texts.as_slice());
     match parsed {
         Ok(parsed) => match parsed.iter().find_map(|range| range.tag()) {
-            Some(tag) => Ok(Err(print_tag(console, tag)?)),
-            None => Ok(Ok(parsed)),
+            Some(tag) => Err(Stop::Ended(print_tag(console, tag)?)),
+            None => Ok(parsed),
         },
-        Err(problem) => Ok(Err(reject(console, texts.as_slice(), &problem)?)),
+        Err(problem) => Err(Stop::Ended(reject(console, texts.as_slice(), &problem)?)),
     }
 }
 
@@ -200,24 +125,17 @@ pub fn filter<R: Input, O: Write, E: Write>(
     console: &mut Console<O, E>,
     matches: &ArgMatches<'_>,
 ) -> Result<Status, Stop> {
-    let ranges = match on_ranges(console, matches)? {
-        Ok(ranges) => ranges,
-        Err(status) => return Ok(status),
-    };
+    let ranges = all_ranges(console, matches)?;
     let mut filter = Filtering {
         ranges: ranges.as_slice(),
         pre_release: console.options.pre_release,
-        printed: Printed::new(console.options),
+        has_match: false,
     };
-    let versions = matches.get_strs("VERSION");
-    let all = take_all(rt, console, versions, &mut filter)?;
-    filter.printed.finish(console)?;
-    let status = if filter.printed.is_first {
-        Status::Nothing
-    } else {
-        Status::Answered
-    };
-    Ok(ended(all, status))
+    let status = take_all(rt, console, matches.get_strs("VERSION"), &mut filter)?;
+    if console.options.json {
+        console.end_items()?;
+    }
+    Ok(status.worse(Status::of(filter.has_match)))
 }
 
 /// `ranges best RANGE [VERSION..]`: the highest version that matches, or `none`.
@@ -226,17 +144,13 @@ pub fn best<R: Input, O: Write, E: Write>(
     console: &mut Console<O, E>,
     matches: &ArgMatches<'_>,
 ) -> Result<Status, Stop> {
-    let ranges = match on_ranges(console, matches)? {
-        Ok(ranges) => ranges,
-        Err(status) => return Ok(status),
-    };
+    let ranges = all_ranges(console, matches)?;
     let Some((first, others)) = ranges.as_slice().split_first() else {
         return Ok(Status::Usage);
     };
     let mut listed = Listed::new(console.alloc, others, console.options.pre_release);
-    let all = take_all(rt, console, matches.get_strs("VERSION"), &mut listed)?;
-    let status = print_version(console, listed.highest(first))?;
-    Ok(ended(all, status))
+    let status = take_all(rt, console, matches.get_strs("VERSION"), &mut listed)?;
+    Ok(status.worse(print_version(console, listed.highest(first))?))
 }
 
 /// `ranges outdated RANGE [VERSION..]`: the highest version that matches, and the highest of all.
@@ -245,21 +159,17 @@ pub fn outdated<R: Input, O: Write, E: Write>(
     console: &mut Console<O, E>,
     matches: &ArgMatches<'_>,
 ) -> Result<Status, Stop> {
-    let ranges = match on_ranges(console, matches)? {
-        Ok(ranges) => ranges,
-        Err(status) => return Ok(status),
-    };
+    let ranges = all_ranges(console, matches)?;
     let [range, ..] = ranges.as_slice() else {
         return Ok(Status::Usage);
     };
-    let any = match answers::reading::range(console.alloc, Flavour::Npm, 0, "*") {
-        Ok(any) => any,
-        Err(_) => return Err(Stop::OutOfMemory),
+    let Ok(any) = answers::reading::range(console.alloc, Flavour::Npm, 0, "*") else {
+        return Err(Stop::OutOfMemory);
     };
     let mut listed = Listed::new(console.alloc, &[], console.options.pre_release);
-    let all = take_all(rt, console, matches.get_strs("VERSION"), &mut listed)?;
-    let status = print_outdated(console, listed.highest(range), listed.highest(&any))?;
-    Ok(ended(all, status))
+    let status = take_all(rt, console, matches.get_strs("VERSION"), &mut listed)?;
+    let printed = print_outdated(console, listed.highest(range), listed.highest(&any))?;
+    Ok(status.worse(printed))
 }
 
 // Prints both versions; the status is 1 if there is a higher one than that which matches.
@@ -280,11 +190,7 @@ fn print_outdated<O: Write, E: Write>(
         let end = console.options.line_end();
         write!(console.out, "{matching} {highest}{end}")?;
     }
-    if highest.is_none() || matching == highest {
-        Ok(Status::Answered)
-    } else {
-        Ok(Status::Nothing)
-    }
+    Ok(Status::of(highest.is_none() || matching == highest))
 }
 
 /// `ranges sort [VERSION..]`: the versions in the order of precedence; equal ones keep theirs.
@@ -294,16 +200,7 @@ pub fn sort<R: Input, O: Write, E: Write>(
     matches: &ArgMatches<'_>,
 ) -> Result<Status, Stop> {
     let mut listed = Listed::new(console.alloc, &[], console.options.pre_release);
-    let versions = matches.get_strs("VERSION");
-    let all = take_all(rt, console, versions, &mut listed)?;
-    print_sorted(console, listed)?;
-    Ok(ended(all, Status::Answered))
-}
-
-fn print_sorted<O: Write, E: Write>(
-    console: &mut Console<O, E>,
-    listed: Listed<'_>,
-) -> Result<(), Stop> {
+    let status = take_all(rt, console, matches.get_strs("VERSION"), &mut listed)?;
     let order = if console.options.reverse {
         Order::Descending
     } else {
@@ -315,11 +212,13 @@ fn print_sorted<O: Write, E: Write>(
         ..
     } = listed;
     let places = sorted_places(console.alloc, versions, order)?;
-    let mut printed = Printed::new(console.options);
     for place in places.iter() {
         if let Some(text) = texts.get(*place) {
-            printed.add(console, text.as_str())?;
+            print_text(console, text.as_str())?;
         }
     }
-    printed.finish(console)
+    if console.options.json {
+        console.end_items()?;
+    }
+    Ok(status)
 }

@@ -17,7 +17,6 @@ mod packaged;
 
 use clap::error::ErrorKind as Mistake;
 use clap::{ArgMatches, Error};
-use std::alloc::Global;
 use std::env::Env;
 use std::io::{BufWriter, IsTerminal, Write};
 use std::process::ExitCode;
@@ -40,17 +39,6 @@ fn answer<R: Input + Files + AllocGlobal, O: Write, E: Write>(
         "best" => listed::best(rt, console, matches),
         "outdated" => listed::outdated(rt, console, matches),
         "sort" => listed::sort(rt, console, matches),
-        name => answer_texts(console, name, matches),
-    }
-}
-
-// Runs a command whose arguments are texts alone.
-fn answer_texts<O: Write, E: Write>(
-    console: &mut Console<O, E>,
-    name: &str,
-    matches: &ArgMatches<'_>,
-) -> Result<Status, Stop> {
-    match name {
         "explain" => explaining::report(console, matches),
         "normal" => comparing::normal(console, matches),
         "common" | "min" => comparing::common(console, matches),
@@ -60,15 +48,6 @@ fn answer_texts<O: Write, E: Write>(
         "reference" => packaged::report_reference(console, matches),
         _ => Ok(Status::Usage),
     }
-}
-
-// Prints what is wrong with the arguments. What can't be written to standard error is left out.
-fn print_lines<E: Write>(alloc: Global, err: &mut E, mistake: &Error) -> Result<(), Stop> {
-    let text = format!(in alloc; "{mistake}")?;
-    for line in text.lines() {
-        let _ = writeln!(err, "{}", Shown(line));
-    }
-    Ok(())
 }
 
 // Prints the help or the version, or what is wrong with the arguments.
@@ -84,7 +63,11 @@ fn print_mistake<R: Print + AllocGlobal, E: Write>(
         }
         Mistake::OutOfMemory => Err(Stop::OutOfMemory),
         _ => {
-            print_lines(rt.alloc(), err, mistake)?;
+            let text = format!(in rt.alloc(); "{mistake}")?;
+            for line in text.lines() {
+                // What can't be written to standard error is left out.
+                let _ = writeln!(err, "{}", Shown(line));
+            }
             Ok(Status::Usage)
         }
     }
@@ -105,7 +88,10 @@ fn flushed_answer<R: Input + Files + AllocGlobal, O: Write, E: Write>(
     name: &str,
     matches: &ArgMatches<'_>,
 ) -> Result<Status, Stop> {
-    let status = answer(rt, console, name, matches)?;
+    let status = match answer(rt, console, name, matches) {
+        Err(Stop::Ended(status)) => status,
+        outcome => outcome?,
+    };
     console.out.flush()?;
     Ok(status)
 }
@@ -151,24 +137,8 @@ fn run<R: Runtime + AllocGlobal, E: Write + Drop>(
     }
 }
 
-// Reports why the program stops early.
-fn stopped<E: Write>(err: &mut E, stop: Stop) -> Status {
-    if let Some(message) = stop.message() {
-        let _ = writeln!(err, "ranges: {message}");
-    }
-    stop.status()
-}
-
-// Whether the environment asks for no colours.
-fn has_no_color<R: Env + AllocGlobal>(rt: &R) -> bool {
-    match env::var(rt, "NO_COLOR") {
-        Ok(value) => !value.is_empty(),
-        Err(_) => false,
-    }
-}
-
-fn style(is_terminal: bool, has_no_color: bool) -> Style {
-    if is_terminal && !has_no_color {
+fn style(is_terminal: bool, no_color: bool) -> Style {
+    if is_terminal && !no_color {
         Style::Colored
     } else {
         Style::Plain
@@ -176,7 +146,10 @@ fn style(is_terminal: bool, has_no_color: bool) -> Style {
 }
 
 fn main(rt: HostRuntime) -> ExitCode {
-    let no_color = has_no_color(&rt);
+    let no_color = match env::var(&rt, "NO_COLOR") {
+        Ok(value) => !value.is_empty(),
+        Err(_) => false,
+    };
     let terminal = Terminal {
         reads: rt.stdin().is_terminal(),
         out: style(rt.stdout().is_terminal(), no_color),
@@ -184,11 +157,16 @@ fn main(rt: HostRuntime) -> ExitCode {
     };
     let outcome = match arguments(&rt) {
         Ok(arguments) => run(&rt, rt.stderr(), terminal, arguments.as_slice()),
-        Err(error) => Err(Stop::of_arguments(error)),
+        Err(error) => Err(Stop::of(error, Stop::NoText)),
     };
     let status = match outcome {
         Ok(status) => status,
-        Err(stop) => stopped(&mut rt.stderr(), stop),
+        Err(stop) => {
+            if let Some(message) = stop.message() {
+                let _ = writeln!(rt.stderr(), "ranges: {message}");
+            }
+            stop.status()
+        }
     };
     ExitCode::from(status.code())
 }

@@ -41,6 +41,15 @@ impl Status {
         }
     }
 
+    /// The status of `yes` or of `no`.
+    pub fn of(is_yes: bool) -> Status {
+        if is_yes {
+            Status::Answered
+        } else {
+            Status::Nothing
+        }
+    }
+
     /// The one of two statuses with the higher code.
     pub fn worse(self, other: Status) -> Status {
         if other.code() > self.code() {
@@ -63,6 +72,8 @@ pub enum Stop {
     Closed,
     /// An argument isn't valid UTF-8.
     NoText,
+    /// The command ends early, and has printed why.
+    Ended(Status),
 }
 
 impl Stop {
@@ -72,33 +83,26 @@ impl Stop {
             Stop::OutOfMemory => Status::OutOfMemory,
             Stop::Unread | Stop::Unwritten | Stop::Closed => Status::Broken,
             Stop::NoText => Status::Usage,
+            Stop::Ended(status) => status,
         }
     }
 
-    /// The message to print; none if a pipe is closed.
+    /// The message to print; none if a pipe is closed, or if all is printed.
     pub fn message(self) -> Option<&'static str> {
         match self {
             Stop::OutOfMemory => Some("out of memory"),
             Stop::Unread => Some("standard input can't be read"),
             Stop::Unwritten => Some("standard output can't be written"),
-            Stop::Closed => None,
+            Stop::Closed | Stop::Ended(_) => None,
             Stop::NoText => Some("an argument isn't valid UTF-8"),
         }
     }
 
-    /// Why the arguments can't be read.
-    pub fn of_arguments(error: io::Error) -> Stop {
+    /// Why the program stops at an error: out of memory, or else this.
+    pub fn of(error: io::Error, other: Stop) -> Stop {
         match error.kind() {
             ErrorKind::OutOfMemory => Stop::OutOfMemory,
-            _ => Stop::NoText,
-        }
-    }
-
-    /// Why reading standard input stopped.
-    pub fn of_reading(error: io::Error) -> Stop {
-        match error.kind() {
-            ErrorKind::OutOfMemory => Stop::OutOfMemory,
-            _ => Stop::Unread,
+            _ => other,
         }
     }
 }
@@ -118,16 +122,10 @@ impl<T: Drop> From<AllocFailed<T>> for Stop {
 impl From<io::Error> for Stop {
     fn from(error: io::Error) -> Stop {
         match error.kind() {
-            ErrorKind::OutOfMemory => Stop::OutOfMemory,
             ErrorKind::BrokenPipe => Stop::Closed,
-            _ => Stop::Unwritten,
+            _ => Stop::of(error, Stop::Unwritten),
         }
     }
-}
-
-/// The text of a JSON value.
-pub fn json_text(alloc: Global, value: Result<Value, AllocError>) -> Result<String, AllocError> {
-    value?.to_string(alloc)
 }
 
 /// Prints a line.
@@ -210,7 +208,7 @@ impl<O, E> Console<O, E> {
 impl<O: Write, E: Write> Console<O, E> {
     /// Prints one JSON value on a line.
     pub fn json(&mut self, value: Result<Value, AllocError>) -> Result<(), Stop> {
-        let text = json_text(self.alloc, value)?;
+        let text = value?.to_string(self.alloc)?;
         print_line(&mut self.out, text.as_str())
     }
 
@@ -225,17 +223,6 @@ impl<O: Write, E: Write> Console<O, E> {
     /// Ends the array.
     pub fn end_items(&mut self) -> Result<(), Stop> {
         print_line(&mut self.out, if self.has_items { "]" } else { "[]" })
-    }
-
-    /// Reports an invalid argument: its kind, its text, and what is wrong.
-    pub fn reject_text(&mut self, kind: &str, text: &str, message: &str) -> Status {
-        self.complain(format_args!("{kind} {}", Quoted(text)), message)
-    }
-
-    /// Reports an invalid version in a line or item of standard input.
-    pub fn reject_input(&mut self, what: &str, number: u64, text: &str, message: &str) {
-        let text = Quoted(text);
-        let _ = self.complain(format_args!("{what} {number}: version {text}"), message);
     }
 
     /// Asks on standard error what is meant, if the tag looks like a typing mistake.

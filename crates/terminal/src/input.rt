@@ -1,55 +1,35 @@
 //! The versions of a command: its arguments, or standard input, as lines or as a JSON array.
 
-use crate::console::{Console, Stop};
+use crate::console::{Console, Status, Stop};
 use crate::manifest::unescaped;
-use semver_base::failure::ParseFailure;
+use crate::shown::Quoted;
+use semver_base::version::Version;
 use serde_json::Value;
 use std::io::{BufRead, BufReader, Write};
 
-/// The place of a text that may be a version.
+// The place of a text that may be a version.
 #[derive(Clone, Copy)]
-pub enum Place {
+enum Place {
     /// An argument of the command.
     Argument,
-    /// The line of standard input with this number, counted from 1.
-    Line(u64),
-    /// The item of the array in standard input with this number, counted from 1.
-    Item(u64),
-}
-
-impl Place {
-    // Reports that the text is invalid, or that memory ran out.
-    fn reject<O: Write, E: Write>(
-        self,
-        console: &mut Console<O, E>,
-        text: &str,
-        failure: &ParseFailure,
-    ) -> Result<(), Stop> {
-        if failure.is_memory() {
-            return Err(Stop::OutOfMemory);
-        }
-        match self {
-            Place::Argument => console.reject_version(text, failure)?,
-            Place::Line(number) => console.reject_input("line", number, text, failure.message()),
-            Place::Item(number) => console.reject_input("item", number, text, failure.message()),
-        }
-        Ok(())
-    }
+    /// The line or the item of standard input with this number, counted from 1.
+    Input(&'static str, u64),
 }
 
 /// What to do with each version.
 pub trait Take {
-    /// Takes a text; a failure says why it isn't a valid version.
+    /// Takes a version, and the text that it was parsed from.
     fn take<O: Write, E: Write>(
         &mut self,
         console: &mut Console<O, E>,
         text: &str,
-    ) -> Result<Result<(), ParseFailure>, Stop>;
+        version: Version,
+    ) -> Result<(), Stop>;
 }
 
-/// The version in a line of git: the name of a tag, alone or behind `refs/tags/` and a hash. A line that ends with `^{}` repeats
-/// the tag before it.
-pub fn tag_name(line: &str) -> Option<&str> {
+// The version in a line of git: the name of a tag, alone or behind `refs/tags/` and a hash. A line that ends with `^{}` repeats
+// the tag before it.
+fn tag_name(line: &str) -> Option<&str> {
     if line.ends_with("^{}") {
         return None;
     }
@@ -59,27 +39,40 @@ pub fn tag_name(line: &str) -> Option<&str> {
     }
 }
 
-// Takes a text, and returns whether it is a version or passed over; reports an invalid one.
+// Takes a text if it is a version; reports an invalid one, unless such are passed over.
 fn take_one<O: Write, E: Write, T: Take>(
     console: &mut Console<O, E>,
     taker: &mut T,
     text: &str,
     place: Place,
-) -> Result<bool, Stop> {
+) -> Result<Status, Stop> {
     let name = if console.options.tags {
         tag_name(text)
     } else {
         Some(text)
     };
     let Some(text) = name else {
-        return Ok(true);
+        return Ok(Status::Answered);
     };
-    match taker.take(console, text)? {
-        Ok(()) => Ok(true),
-        Err(failure) if console.options.skip_invalid && !failure.is_memory() => Ok(true),
-        Err(failure) => {
-            place.reject(console, text, &failure)?;
-            Ok(false)
+    let failure = match Version::parse_standard(console.alloc, text) {
+        Ok(version) => {
+            taker.take(console, text, version)?;
+            return Ok(Status::Answered);
+        }
+        Err(error) => error.source,
+    };
+    if failure.is_memory() {
+        return Err(Stop::OutOfMemory);
+    }
+    if console.options.skip_invalid {
+        return Ok(Status::Answered);
+    }
+    match place {
+        Place::Argument => console.reject_version(text, &failure),
+        Place::Input(what, number) => {
+            let text = Quoted(text);
+            let subject = format_args!("{what} {number}: version {text}");
+            Ok(console.complain(subject, failure.message()))
         }
     }
 }
@@ -103,7 +96,7 @@ fn take_line<O: Write, E: Write, T: Take>(
     taker: &mut T,
     number: u64,
     line: &[u8],
-) -> Result<bool, Stop> {
+) -> Result<Status, Stop> {
     let bytes = if number == 1 {
         without_mark(line)
     } else {
@@ -111,20 +104,19 @@ fn take_line<O: Write, E: Write, T: Take>(
     };
     let Ok(text) = str::from_utf8(bytes) else {
         if console.options.skip_invalid {
-            return Ok(true);
+            return Ok(Status::Answered);
         }
-        let _ = console.complain(format_args!("line {number}"), "not valid UTF-8");
-        return Ok(false);
+        return Ok(console.complain(format_args!("line {number}"), "not valid UTF-8"));
     };
     let text = text.trim_end_matches(['\n', '\r', '\0'].as_slice());
-    let place = Place::Line(number);
+    let place = Place::Input("line", number);
     // Most lines are versions as they are.
     if matches!(text.as_bytes(), [b'0'..=b'9' | b'v', ..]) {
         return take_one(console, taker, text, place);
     }
     let bare = text.trim();
     if bare.is_empty() {
-        return Ok(true);
+        return Ok(Status::Answered);
     }
     match between_quotes(bare) {
         Some(raw) => {
@@ -136,127 +128,94 @@ fn take_line<O: Write, E: Write, T: Take>(
 }
 
 // Takes the items of a JSON array of texts.
-fn take_json<O: Write, E: Write, T: Take>(
+fn take_items<O: Write, E: Write, T: Take>(
     console: &mut Console<O, E>,
     taker: &mut T,
     json: &Value,
-) -> Result<bool, Stop> {
+) -> Result<Status, Stop> {
     let Some(items) = json.as_array() else {
-        let _ = console.complain("standard input", "expected a JSON array of versions");
-        return Ok(false);
+        return Ok(console.complain("standard input", "expected a JSON array of versions"));
     };
-    let (mut all, mut number) = (true, 0u64);
+    let (mut status, mut number) = (Status::Answered, 0u64);
     for item in items.iter() {
         number = number.saturating_add(1);
-        match item.as_str() {
-            Some(text) => all &= take_one(console, taker, text, Place::Item(number))?,
-            None if console.options.skip_invalid => (),
-            None => {
-                let _ = console.complain(format_args!("item {number}"), "not a string");
-                all = false;
-            }
-        }
+        let taken = match item.as_str() {
+            Some(text) => take_one(console, taker, text, Place::Input("item", number))?,
+            None if console.options.skip_invalid => Status::Answered,
+            None => console.complain(format_args!("item {number}"), "not a string"),
+        };
+        status = status.worse(taken);
     }
-    Ok(all)
-}
-
-// Whether a text begins a JSON array or object.
-fn is_json(text: &[u8]) -> bool {
-    matches!(without_mark(text).trim_ascii_start(), [b'[' | b'{', ..])
+    Ok(status)
 }
 
 // Takes all that the input holds, of which `line` was read, as JSON that begins in the line with this number.
-fn take_all_json<I: BufRead, O: Write, E: Write, T: Take>(
+fn take_json<I: BufRead, O: Write, E: Write, T: Take>(
     console: &mut Console<O, E>,
     taker: &mut T,
     input: &mut I,
     number: u64,
     line: &mut Vec<u8>,
-) -> Result<bool, Stop> {
+) -> Result<Status, Stop> {
     if let Err(error) = input.read_to_end(line) {
-        return Err(Stop::of_reading(error));
+        return Err(Stop::of(error, Stop::Unread));
     }
     let Ok(text) = str::from_utf8(without_mark(line.as_slice())) else {
-        let _ = console.complain("standard input", "not valid UTF-8");
-        return Ok(false);
+        return Ok(console.complain("standard input", "not valid UTF-8"));
     };
     match Value::from_str(console.alloc, text) {
-        Ok(json) => take_json(console, taker, &json),
+        Ok(json) => take_items(console, taker, &json),
         Err(error) if error.is_memory() => Err(Stop::OutOfMemory),
         Err(error) => {
             let number = number.saturating_add(error.line() as u64).saturating_sub(1);
-            let _ = console.complain(format_args!("line {number}"), "not valid JSON");
-            Ok(false)
+            Ok(console.complain(format_args!("line {number}"), "not valid JSON"))
         }
     }
 }
 
-// Takes each line of the input, one at a time in `line`, and returns whether each is a version.
-fn take_each_line<I: BufRead, O: Write, E: Write, T: Take>(
+// Takes each line of the input, or all of it if it begins with a JSON array or object.
+fn take_input<I: BufRead, O: Write, E: Write, T: Take>(
     console: &mut Console<O, E>,
     taker: &mut T,
     input: &mut I,
-    line: &mut Vec<u8>,
-) -> Result<bool, Stop> {
+) -> Result<Status, Stop> {
     let end = if console.options.null { 0 } else { b'\n' };
-    let (mut all, mut is_front) = (true, true);
+    let mut line = Vec::new(console.alloc);
+    let (mut status, mut is_front) = (Status::Answered, true);
     for number in 1..u64::MAX {
-        if !read_line(input, line, end)? {
-            break;
+        line.clear();
+        match input.read_until(end, &mut line) {
+            Ok(0) => break,
+            Ok(_) => (),
+            Err(error) => return Err(Stop::of(error, Stop::Unread)),
         }
-        if is_front && is_json(line.as_slice()) {
-            return take_all_json(console, taker, input, number, line);
+        let text = without_mark(line.as_slice()).trim_ascii_start();
+        if is_front && matches!(text, [b'[' | b'{', ..]) {
+            return take_json(console, taker, input, number, &mut line);
         }
         is_front &= line.as_slice().trim_ascii().is_empty();
-        all &= take_line(console, taker, number, line.as_slice())?;
+        status = status.worse(take_line(console, taker, number, line.as_slice())?);
     }
-    Ok(all)
+    Ok(status)
 }
 
-// Takes standard input through a buffer, and returns whether each text is a version.
-fn take_input<R: Input, O: Write, E: Write, T: Take>(
-    rt: &R,
-    console: &mut Console<O, E>,
-    taker: &mut T,
-) -> Result<bool, Stop> {
-    console.announce("versions");
-    let mut input = BufReader::new(console.alloc, rt.reader())?;
-    let mut line = Vec::new(console.alloc);
-    take_each_line(console, taker, &mut input, &mut line)
-}
-
-// Reads the next line in place of the previous one, and returns whether there is one.
-fn read_line<I: BufRead>(input: &mut I, line: &mut Vec<u8>, end: u8) -> Result<bool, Stop> {
-    line.clear();
-    match input.read_until(end, line) {
-        Ok(taken) => Ok(taken != 0),
-        Err(error) => Err(Stop::of_reading(error)),
-    }
-}
-
-// Whether standard input is read: without arguments, and for `-`.
-fn is_input(arguments: &[&str]) -> bool {
-    match arguments {
-        [] => true,
-        [only] => *only == "-",
-        _ => false,
-    }
-}
-
-/// Takes each of the arguments, or what standard input holds if there are none, and returns whether each is a version.
+/// Takes each of the arguments, or what standard input holds without any and for `-`. The status is that of invalid arguments if
+/// one isn't a version.
 pub fn take_all<R: Input, O: Write, E: Write, T: Take>(
     rt: &R,
     console: &mut Console<O, E>,
     arguments: Option<&[&str]>,
     taker: &mut T,
-) -> Result<bool, Stop> {
+) -> Result<Status, Stop> {
     let arguments = arguments.unwrap_or(&[]);
-    if is_input(arguments) {
-        return take_input(rt, console, taker);
+    if arguments.is_empty() || arguments == ["-"].as_slice() {
+        console.announce("versions");
+        let mut input = BufReader::new(console.alloc, rt.reader())?;
+        return take_input(console, taker, &mut input);
     }
-    let mut all = true;
+    let mut status = Status::Answered;
     for text in arguments {
-        all &= take_one(console, taker, text, Place::Argument)?;
+        status = status.worse(take_one(console, taker, text, Place::Argument)?);
     }
-    Ok(all)
+    Ok(status)
 }

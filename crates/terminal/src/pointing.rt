@@ -1,8 +1,8 @@
 //! Where an invalid range leaves its grammar, and what could stand there.
 
-use crate::console::{CARET, Console, END, Stop, Style};
+use crate::console::{CARET, Console, END, Status, Stop, Style};
 use crate::hints::hint;
-use crate::shown::{Shown, is_escaped};
+use crate::shown::{Quoted, Shown, is_escaped};
 use semver_base::failure::ParseFailure;
 use semver_req::error_places::causes::Cause;
 use semver_req::error_places::expected::{Expected, Kind};
@@ -107,16 +107,16 @@ pub fn print_error<O: Write>(
 
 impl<O: Write, E: Write> Console<O, E> {
     /// Reports that an argument isn't a version, and where it goes wrong.
-    pub fn reject_version(&mut self, text: &str, failure: &ParseFailure) -> Result<(), Stop> {
+    pub fn reject_version(&mut self, text: &str, failure: &ParseFailure) -> Result<Status, Stop> {
         let errors = version_errors(self.alloc, text)?;
-        let _ = self.reject_text("version", text, failure.message());
+        let status = self.complain(format_args!("version {}", Quoted(text)), failure.message());
         for error in &errors {
             let _ = print_error(&mut self.err, self.terminal.err, text, error);
         }
         if text.starts_with(['^', '~', '<', '>'].as_slice()) {
             let _ = writeln!(self.err, "  = the range is the first argument");
         }
-        Ok(())
+        Ok(status)
     }
 }
 
