@@ -13,10 +13,8 @@
 #![tactic(auto)]
 
 ghost use Rattle.std.specs.Prelude.{◌≡◌, ◌⊎◌, ◌∷◌, ◌<◌, ℕ, List, [], length, Err, IfOk, MatchOption, map, string_bytes};
-
 ghost use Rattle.semver_req.specs.declared.common.values.Flavour.TheVariants as flavour;
 ghost use Rattle.answers.specs.Asking as fault;
-
 ghost use Rattle.answers.specs.Questions.{BestMatch, Canonical, Matches, Overlaps};
 ghost use Rattle.answers.specs.declared.asking.Kind.TheVariants as kind;
 ghost use Rattle.answers.specs.declared.asking.Problem.TheVariants as unanswered;

@@ -8,7 +8,6 @@ ghost use Rattle.deno_semver.specs.declared.package.values.PackageReq.{PackageRe
 ghost use Rattle.answers.specs.Asking.{IsAnswer, IsFailureAt};
 ghost use Rattle.package_answers.specs.Errors.{IsFaultAt, IsPartError};
 ghost use Rattle.package_answers.specs.Packages.{AreOfRange, ArePackageErrors, IsPackage, IsPackageErrorsText, IsPackageFailure, PackageParts, last_part, package_json, parts_failure, scope_part};
-
 ghost use Rattle.answers.specs.declared.asking.Kind.TheVariants as kind;
 
 use crate::errors::{PackageErrors, Part, PartError, errors_text};
