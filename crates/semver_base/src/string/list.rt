@@ -1,6 +1,6 @@
 //! Lists whose copies share their items until one of them grows.
 
-ghost use Rattle.std.specs.Prelude.{◌≡◌, ◌≤◌, ◌<◌, ◌^◌, ◌++◌, [], ◌∷◌, IfOk, IfSome, OnOk, OnErr, IsTrue, ◌↔◌, length, slice_get};
+ghost use Rattle.std.specs.Prelude.{◌≡◌, ◌<◌, ◌^◌, ◌++◌, [], ◌∷◌, IfOk, IfSome, OnOk, OnErr, IsTrue, ◌↔◌, length, slice_get};
 ghost use Rattle.std.specs.Cmp.Lexicographic.{lists_equiv, lists_per, pointwise};
 ghost use Rattle.std.specs.Hash as fed;
 ghost use Rattle.std.specs.Hash.{items_Alike};
@@ -25,6 +25,7 @@ pub trait CowItem {
 
 // Where a list's items are stored. One or two are stored in the shared pointer itself, and emptiness is known without
 // following a pointer.
+#[derive(Drop)]
 enum Items<T> {
     None,
     One(One<T>),
@@ -32,32 +33,30 @@ enum Items<T> {
     Many(Rc<Vec<T>>),
 }
 
-// Drops what a list shares, in a call of its own.
+// Drops the items, in a call of its own.
 #[inline(never)]
-fn release<X: Drop>(shared: X) {
-    drop(shared);
-}
-
-// Written out so that dropping a list is one call, and none if it is empty, as most are.
-impl<T: Drop> Drop for Items<T> {
-    #[inline(always)]
-    fn drop(self) {
-        match self {
-            Items::None => {}
-            Items::One(one) => release(one),
-            Items::Two(two) => release(two),
-            Items::Many(many) => release(many),
-        }
-    }
+fn release<T: Drop>(items: Items<T>) {
+    drop(items);
 }
 
 /// A list, seen in contracts as its items.
 ///
 /// Two lists are equal if they have equal items in the same order.
-#[derive(Drop)]
 pub struct CowVec<T> {
     alloc: Global,
     items: Items<T>,
+}
+
+// Written out so that dropping an empty list, as most are, is one test.
+impl<T: Drop> Drop for CowVec<T> {
+    #[inline(always)]
+    fn drop(self) {
+        let CowVec { alloc: _, items } = self;
+        match items {
+            Items::None => {}
+            shared => release(shared),
+        }
+    }
 }
 
 impl<T> Model for CowVec<T> {
@@ -166,15 +165,6 @@ fn copied<T: CowItem + Drop>(alloc: Global, items: &[T]) -> Result<Vec<T>, Alloc
     Ok(all)
 }
 
-// Copies the items and appends one more.
-fn extended<T: CowItem + Drop>(alloc: Global, items: &[T], item: T) -> Result<Vec<T>, AllocError>
-    ensures { IfOk result (λ all. all.items ≡ items.now ++ item ∷ []) }
-{
-    let mut all = copied(alloc, items)?;
-    all.push(item)?;
-    Ok(all)
-}
-
 impl<T: CowItem + Drop> CowVec<T> {
     /// Appends `item`. On failure the list is unchanged and the item is dropped.
     pub fn push(&mut self, item: T) -> Result<(), AllocError>
@@ -188,7 +178,8 @@ impl<T: CowItem + Drop> CowVec<T> {
                 return Ok(());
             }
         }
-        let items = extended(alloc, self.as_slice(), item)?;
+        let mut items = copied(alloc, self.as_slice())?;
+        items.push(item)?;
         self.items = Items::Many(Rc::new(alloc, items)?);
         Ok(())
     }
