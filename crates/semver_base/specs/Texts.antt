@@ -14,21 +14,16 @@ use Rattle.semver_base.specs.declared.string.list.Items.TheVariants as items
 -- the bytes of a text, however it is stored
 abbrev pub storage_bytes : {limit : ℕ} → Storage limit → List ℕ
 storage_bytes (storage.Inline s) = s.bytes
-storage_bytes (storage.Heap s) = string_bytes s
-
--- only a text of more than limit bytes is stored in a `String`
-abbrev pub IsInlineIfShort : {limit : ℕ} → Storage limit → Type 0
-IsInlineIfShort (storage.Inline s) = Unit {0}
-IsInlineIfShort {limit} (storage.Heap s) = limit < length (string_bytes s)
+storage_bytes (storage.Heap s zeros) = string_bytes s
 
 -- how many zeros the text begins with
 abbrev pub zeros_in_front : List ℕ → ℕ
 zeros_in_front bytes = length (take_while (λ b. b == zero_digit) bytes)
 
--- a text is stored inline if short, with its number of leading zeros
-pub record IsStored {limit : ℕ} (text : Storage limit) (zeros : ℕ) : Type 0 where
-  pub inline : IsInlineIfShort text
-  pub zeros_are : zeros ≡ zeros_in_front (storage_bytes text)
+-- only a text of more than limit bytes is stored in a `String`, with its number of leading zeros
+abbrev pub IsStored : {limit : ℕ} → Storage limit → Type 0
+IsStored (storage.Inline s) = Unit {0}
+IsStored {limit} (storage.Heap s zeros) = (limit < length (string_bytes s)) × (zeros ≡ zeros_in_front (string_bytes s))
 
 -- no item, one, two, or those of a `Vec`
 abbrev pub items_of : {T : Type 0} → Items T → List T

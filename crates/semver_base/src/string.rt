@@ -11,7 +11,7 @@ ghost use Rattle.std.specs.Cmp.Rules.{hashing};
 ghost use Rattle.std.specs.Cow.{cow_str_bytes};
 ghost use Rattle.std.specs.Hash as fed;
 ghost use Rattle.std.specs.Ordering.{nat_cmp};
-ghost use Rattle.semver_base.specs.Texts.{FitsOrIsOwned, IsInlineIfShort, IsReplaced, storage_bytes, zeros_in_front};
+ghost use Rattle.semver_base.specs.Texts.{FitsOrIsOwned, IsReplaced, IsStored, storage_bytes, zeros_in_front};
 
 mod append;
 mod inline_items;
@@ -33,8 +33,6 @@ use std::{fmt, mem};
 pub struct ShortText<const LIMIT: usize> {
     alloc: Global,
     storage: Storage<LIMIT>,
-    // How many zeros the text begins with.
-    zeros: usize,
 }
 
 /// A text that stores up to 15 bytes inline.
@@ -43,11 +41,11 @@ pub type SmallStackString = ShortText<15>;
 /// A text that stores up to 23 bytes inline.
 pub type StackString = ShortText<23>;
 
-// Where a text is stored.
+// Where a text is stored: a long one with the number of zeros that it begins with.
 #[derive(Drop)]
 enum Storage<const LIMIT: usize> {
     Inline(ArrayString<LIMIT>),
-    Heap(String),
+    Heap { text: String, zeros: usize },
 }
 
 impl<const LIMIT: usize> Model for ShortText<LIMIT> {
@@ -58,18 +56,14 @@ impl<const LIMIT: usize> Model for ShortText<LIMIT> {
 
     ghost view = { λ s. storage_bytes s.storage };
 
-    ghost invariant = { λ s. IsStored s.storage s.zeros };
+    ghost invariant = { λ s. IsStored s.storage };
 }
 
 // Written out so that dropping a text is one call.
 impl<const LIMIT: usize> Drop for ShortText<LIMIT> {
     #[inline]
     fn drop(self) {
-        let ShortText {
-            alloc: _,
-            storage,
-            zeros: _,
-        } = self;
+        let ShortText { alloc: _, storage } = self;
         drop(storage);
     }
 }
@@ -82,48 +76,6 @@ fn leading_zeros(bytes: &[u8]) -> usize
     bytes.iter().take_while(|byte| **byte == b'0').count()
 }
 
-// Counts the leading zeros, given that the first `known` bytes are zeros.
-fn zeros_from(bytes: &[u8], known: usize) -> usize
-    requires { known ≤ zeros_in_front bytes.now }
-    ensures { result ≡ zeros_in_front bytes.now }
-{
-    known + leading_zeros(&bytes[known..])
-}
-
-impl<const LIMIT: usize> Storage<LIMIT> {
-    // The text.
-    fn as_str(&self) -> &str
-        ensures { result.now ≡ storage_bytes self.now }
-    {
-        match self {
-            Storage::Inline(short) => short.as_str(),
-            Storage::Heap(long) => long.as_str(),
-        }
-    }
-
-    // Appends a text. On failure the text is unchanged.
-    fn push_str(&mut self, alloc: Global, text: &str) -> Result<(), AllocError>
-        ensures ok { OnOk result (storage_bytes self.new ≡ storage_bytes self.old ++ text.now) }
-        ensures err { OnErr result (storage_bytes self.new ≡ storage_bytes self.old) }
-        ensures inline { IsInlineIfShort self.old → IsInlineIfShort self.new }
-        ensures succeeds { IsInlineIfShort self.old
-            → length (storage_bytes self.old) + length text.now ≤ LIMIT
-            → IsOk result }
-    {
-        match self {
-            Storage::Inline(short) => {
-                if short.try_push_str(text).is_err() {
-                    let mut long = String::from_str(alloc, short.as_str())?;
-                    long.push_str(text)?;
-                    *self = Storage::Heap(long);
-                }
-                Ok(())
-            }
-            Storage::Heap(long) => long.push_str(text),
-        }
-    }
-}
-
 impl<const LIMIT: usize> ShortText<LIMIT> {
     /// Creates an empty text.
     #[inline(always)]
@@ -133,7 +85,6 @@ impl<const LIMIT: usize> ShortText<LIMIT> {
         ShortText {
             alloc,
             storage: Storage::Inline(ArrayString::new()),
-            zeros: 0,
         }
     }
 
@@ -154,14 +105,12 @@ impl<const LIMIT: usize> ShortText<LIMIT> {
     {
         let storage = match ArrayString::from(text) {
             Ok(short) => Storage::Inline(short),
-            Err(_) => Storage::Heap(String::from_str(alloc, text)?),
+            Err(_) => Storage::Heap {
+                text: String::from_str(alloc, text)?,
+                zeros: leading_zeros(text.as_bytes()),
+            },
         };
-        let zeros = leading_zeros(text.as_bytes());
-        Ok(ShortText {
-            alloc,
-            storage,
-            zeros,
-        })
+        Ok(ShortText { alloc, storage })
     }
 
     /// Creates a text from a literal, as [`ShortText::from_str`] does.
@@ -177,16 +126,14 @@ impl<const LIMIT: usize> ShortText<LIMIT> {
         ensures value { IfOk result (λ s. s ≡ string_bytes text) }
         ensures succeeds { IsOk result }
     {
-        let zeros = leading_zeros(text.as_str().as_bytes());
         let storage = match ArrayString::from(text.as_str()) {
             Ok(short) => Storage::Inline(short),
-            Err(_) => Storage::Heap(text),
+            Err(_) => {
+                let zeros = leading_zeros(text.as_str().as_bytes());
+                Storage::Heap { text, zeros }
+            }
         };
-        Ok(ShortText {
-            alloc,
-            storage,
-            zeros,
-        })
+        Ok(ShortText { alloc, storage })
     }
 
     /// Creates a text from `text`, as [`ShortText::from_str`] or [`ShortText::from_string`] does.
@@ -205,7 +152,10 @@ impl<const LIMIT: usize> ShortText<LIMIT> {
         ensures value { result.now ≡ self.now }
         ensures utf8 { IsUtf8 self.now }
     {
-        self.storage.as_str()
+        match &self.storage {
+            Storage::Inline(short) => short.as_str(),
+            Storage::Heap { text, zeros: _ } => text.as_str(),
+        }
     }
 
     // How many zeros the text begins with, in constant time.
@@ -213,7 +163,10 @@ impl<const LIMIT: usize> ShortText<LIMIT> {
     pub(crate) fn leading_zeros(&self) -> usize
         ensures { result ≡ zeros_in_front self.now }
     {
-        self.zeros
+        match &self.storage {
+            Storage::Inline(short) => leading_zeros(short.as_str().as_bytes()),
+            Storage::Heap { text: _, zeros } => *zeros,
+        }
     }
 
     /// Whether this text equals `other`.
@@ -229,9 +182,23 @@ impl<const LIMIT: usize> ShortText<LIMIT> {
         ensures err { OnErr result (self.new ≡ self.old) }
         ensures succeeds { length self.old + length text.now ≤ LIMIT → IsOk result }
     {
-        self.storage.push_str(self.alloc, text)?;
-        self.zeros = zeros_from(self.storage.as_str().as_bytes(), self.zeros);
-        Ok(())
+        let alloc = self.alloc;
+        match &mut self.storage {
+            Storage::Inline(short) => {
+                if short.try_push_str(text).is_err() {
+                    let mut long = String::from_str(alloc, short.as_str())?;
+                    long.push_str(text)?;
+                    let zeros = leading_zeros(long.as_str().as_bytes());
+                    self.storage = Storage::Heap { text: long, zeros };
+                }
+                Ok(())
+            }
+            Storage::Heap { text: long, zeros } => {
+                long.push_str(text)?;
+                *zeros += leading_zeros(&long.as_str().as_bytes()[*zeros..]);
+                Ok(())
+            }
+        }
     }
 
     /// Appends a character. On failure the text is unchanged; up to `LIMIT` bytes nothing is allocated.
@@ -289,12 +256,14 @@ impl<const LIMIT: usize> ShortText<LIMIT> {
     {
         let storage = match &self.storage {
             Storage::Inline(short) => Storage::Inline(*short),
-            Storage::Heap(long) => Storage::Heap(long.clone()?),
+            Storage::Heap { text, zeros } => Storage::Heap {
+                text: text.clone()?,
+                zeros: *zeros,
+            },
         };
         Ok(ShortText {
             alloc: self.alloc,
             storage,
-            zeros: self.zeros,
         })
     }
 
@@ -311,10 +280,9 @@ impl<const LIMIT: usize> ShortText<LIMIT> {
         ensures value { IfOk result (λ s. string_bytes s ≡ self.entry) }
         ensures succeeds { LIMIT < length self.entry → IsOk result }
     {
-        self.zeros = 0;
         match mem::replace(&mut self.storage, Storage::Inline(ArrayString::new())) {
             Storage::Inline(short) => String::from_str(alloc, short.as_str()),
-            Storage::Heap(long) => Ok(long),
+            Storage::Heap { text, zeros: _ } => Ok(text),
         }
     }
 }
