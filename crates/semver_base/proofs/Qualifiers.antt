@@ -1,11 +1,12 @@
 -- Leading pre-releases, builds and qualifiers.
 use Rattle.std.proofs.Common.{◌≡◌, ◌≤◌, ℕ, true, List, [], ◌∷◌, ◌++◌, length, Option, Some, None, refl, ap, ◌∙◌, arith, inl, inr, ◌==◌}
-use Rattle.std.specs.Prelude.{◌||◌}
+use Rattle.std.specs.Borrow.{Bor}
+use Rattle.std.specs.Prelude.{◌||◌, unwrap_or}
 use Rattle.std.specs.Char.{is_ascii_digit}
 use Rattle.std.specs.List.{list_all}
 use Rattle.std.proofs.lemmas.Bool.{and_from, or_left, or_right}
 use Rattle.std.proofs.lemmas.Bool.Decides.{nat_tests}
-use Rattle.semver_base.specs.Grammar.{IsLongest, IsSeen, HasNone, Optional, Reads}
+use Rattle.semver_base.specs.Grammar.{IsLongest, IsSeen, HasNone, Optional, Reads, answer_of}
 use Rattle.semver_base.specs.Lexical.{IsBuild, IsIdentifiers, IsLoosePre, IsPre, IsQualifier, or_none, qualifier_of}
 use Rattle.semver_base.specs.declared.lexical.values.Qualifier.{Qualifier}
 use Rattle.semver_base.specs.declared.lexical.values.Strictness.{Strictness}
@@ -103,8 +104,10 @@ plus_apart x h k = grind (arith, nat_tests)
 pub pre_build_apart : (s : Strictness) → Apart (Optional (IsPre s)) (Optional IsBuild)
 pre_build_apart s = apart_by is_identifiers_byte (λ x. x == 43) plus_apart (optional_goes (begins_from_made (pre_made s)) (goes_from_made (pre_made s))) (optional_begins (prefixed_begins 43))
 
-pub optional_read : {A : List ℕ → List (List ℕ) → Type 0} {text rest : List ℕ} {v : List (List ℕ)} → NonEmpty A → IsLongest A text v rest → IsSeen or_none (Optional A) text v rest
-optional_read {v = v} some p = record { value = Some v; longest = optional_some some p; seen = refl }
+-- what was parsed, or no identifiers and the text
+pub optional_read : {A : List ℕ → List (List ℕ) → Type 0} (text : Bor (List ℕ)) (read : Option (List (List ℕ) × Bor (List ℕ))) (v : List (List ℕ) × Bor (List ℕ)) → NonEmpty A → Reads A text.now (answer_of read) → v ≡ unwrap_or read ([], text) → IsSeen or_none (Optional A) text.now v.0 v.1.now
+optional_read text None v some none is = rw is (record { value = None; longest = optional_none none; seen = refl })
+optional_read text (Some p) v some longest is = rw is (record { value = Some p.0; longest = optional_some some longest; seen = refl })
 
 pub qualifier_read : (s : Strictness) {text middle rest : List ℕ} {pre build : List (List ℕ)} → IsSeen or_none (Optional (IsPre s)) text pre middle → IsSeen or_none (Optional IsBuild) middle build rest → IsLongest (IsQualifier s) text (record { pre = pre; build = build }) rest
 qualifier_read s p q =

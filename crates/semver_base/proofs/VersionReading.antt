@@ -1,12 +1,13 @@
 -- How the version parser's steps give the outcome of a text, and why it is the only one.
-use Rattle.std.proofs.Common.{◌≡◌, ◌≤◌, ◌<◌, ◌^◌, ℕ, Bool, true, List, [], ◌∷◌, ◌++◌, length, Option, None, Result, Ok, Err, refl, sym, ap, ◌∙◌, arith, inl, inr, ◌==◌, append_assoc, append-nil, length-append}
-use Rattle.std.specs.Prelude.{◌||◌, ◌⊎◌, slice_index}
+use Rattle.std.proofs.Common.{◌≡◌, ◌≤◌, ◌<◌, ◌^◌, ℕ, Bool, true, List, [], ◌∷◌, ◌++◌, length, Option, Some, None, Result, Ok, Err, refl, sym, ap, ◌∙◌, arith, inl, inr, ◌==◌, append_assoc, append-nil, length-append}
+use Rattle.std.specs.Borrow.{Bor}
+use Rattle.std.specs.Prelude.{◌||◌, ◌⊎◌, slice_index, unwrap_or}
 use Rattle.std.specs.Char.{is_ascii_digit}
 use Rattle.std.specs.Str.Parse.{digits_value}
 use Rattle.std.proofs.lemmas.Bool.{false_from_ne_true, or_left, or_right}
 use Rattle.std.proofs.lemmas.Bool.Decides.{nat_tests}
 use Rattle.std.proofs.lemmas.List.{nil_from_length}
-use Rattle.semver_base.specs.Grammar.{After, Followed, HasNone, IsLongest, IsSeen, Joined, Mapped, Prefixed, Optional, Run, Stops}
+use Rattle.semver_base.specs.Grammar.{After, Followed, HasNone, IsAfter, IsLongest, IsSeen, Joined, Mapped, Prefixed, Optional, Run, Stops}
 use Rattle.semver_base.specs.Lexical.{IsWhitespace, IsByte, IsLooseNumber, IsQualifier, NoDigitFollows}
 use Rattle.semver_base.specs.VersionGrammar.{AllNumbersFit, IsFirstFault, IsLead, IsNumberFault, too_large, no_dot, later, IsTriple, IsVersion, IsVersionAnswer, IsVersionOutcome, is_version, is_fault, is_outside, IsVersionRejection, LacksDot, ignored, version_failure, version_of}
 use Rattle.semver_base.specs.VersionParserSteps.{IsFaultOfNumbers, IsFittingNumber, IsFittingTriple, IsNumberRejection, IsOutsideTriple, IsReadVersion, IsTripleRejection}
@@ -17,11 +18,11 @@ use Rattle.semver_base.specs.declared.lexical.values.Strictness.TheVariants.{Loo
 use Rattle.semver_base.specs.declared.version.Version.{Version}
 use Rattle.semver_base.proofs.Readings.{Unambiguous, after_one, followed_one, joined_one, mapped_one, prefixed_one}
 use Rattle.semver_base.proofs.WordReadings.{loose_one, qualifier_one}
-use Rattle.semver_base.proofs.Fronts.{Apart, NoClash, NonEmpty, followed, followed_none_second, joined, joined_none_first, mapped, mapped_none, prefixed_none, prefixed_some, no_clash, one_front, rest_is}
+use Rattle.semver_base.proofs.Fronts.{Apart, NoClash, NonEmpty, followed, followed_none_second, joined, joined_none_first, mapped, mapped_none, optional_none, optional_some, prefixed_none, prefixed_some, no_clash, one_front, rest_is}
 use Rattle.semver_base.proofs.Bytes.{BeginsBy, Disjoint, GoesBy, MadeOf, apart_by, begins_from_made, begins_wider, goes_from_made, goes_wider, joined_begins, joined_begins_either, joined_goes_second, joined_made, joined_some_text, made_wider, mapped_begins, mapped_made, prefixed_begins, prefixed_goes, prefixed_made, prefixed_some_text, optional_begins, optional_goes, optional_made}
 use Rattle.semver_base.proofs.Lists.{run_longest}
 use Rattle.semver_base.proofs.Numbers.{loose_begins, loose_end, loose_goes, loose_some}
-use Rattle.semver_base.proofs.Identifiers.{byte_begins, byte_goes}
+use Rattle.semver_base.proofs.Identifiers.{byte_begins, byte_goes, byte_longest, byte_none, byte_some}
 use Rattle.semver_base.proofs.Whitespace.{whitespace_made, is_whitespace_byte}
 
 -- ---- the lead
@@ -51,6 +52,11 @@ after_equals_begins = mapped_begins (joined_begins_either
 
 equals_apart : Apart (Optional (IsByte 61)) (After IsWhitespace (Optional (Prefixed 118 IsWhitespace)))
 equals_apart = apart_by (λ x. x == 61) is_after_equals equals_no_whitespace equals_goes after_equals_begins
+
+-- an optional `=`, by the rest after one
+pub optional_equals : (text rest : Bor (List ℕ)) (after : Option (Bor (List ℕ))) → IsAfter 61 text.now after → rest ≡ unwrap_or after text → IsSeen ignored (Optional (IsByte 61)) text.now tt rest.now
+optional_equals text rest None other is = rw is (record { value = None; longest = optional_none (byte_none 61 text.now None refl other); seen = refl })
+optional_equals text rest (Some more) e is = rw is (record { value = Some tt; longest = optional_some (byte_some 61) (byte_longest 61 text.now more.now e); seen = refl })
 
 pub lead_read : {text first second rest : List ℕ} → IsSeen ignored (Optional (IsByte 61)) text tt first → IsLongest IsWhitespace first tt second → IsSeen ignored (Optional (Prefixed 118 IsWhitespace)) second tt rest → IsLongest IsLead text tt rest
 lead_read p q r = mapped (mapped (followed equals_apart p.longest (mapped (followed whitespace_apart q r.longest))))

@@ -6,8 +6,8 @@
 ghost use Rattle.std.specs.Prelude.{◌≡◌, ◌↔◌, ◌<◌, ◌++◌, [], ◌∷◌, IfOk, IsTrue, OnOk, length};
 ghost use Rattle.std.specs.List.{take_while};
 ghost use Rattle.std.specs.Char.{is_ascii_digit};
-ghost use Rattle.semver_base.specs.Grammar.{CutsRun, IsAfter, IsLongest, IsSeen, Optional, Reads, ReadsAs, answer_of};
-ghost use Rattle.semver_base.specs.Lexical.{IsWhitespace, IsBuild, IsIdentifiers, IsLooseNumber, IsNumber, IsPre, IsQualifier, IsStrictNumber, is_identifier_byte, measured_of, or_none, sized};
+ghost use Rattle.semver_base.specs.Grammar.{CutsRun, IsAfter, IsLongest, Reads, ReadsAs, answer_of};
+ghost use Rattle.semver_base.specs.Lexical.{IsWhitespace, IsBuild, IsIdentifiers, IsLooseNumber, IsNumber, IsPre, IsQualifier, is_identifier_byte, sized};
 
 pub mod values;
 
@@ -78,17 +78,6 @@ fn identifier_front(text: &str) -> (&str, &str)
     text.split_at(identifier_len(text.as_bytes()))
 }
 
-// The result of `parse` on digits, as a number that fits or not.
-#[inline(always)]
-fn measured(number: Option<u64>) -> Measured<u64>
-    ensures { result ≡ measured_of number }
-{
-    match number {
-        Some(number) => Measured::Fits(number),
-        None => Measured::TooLarge,
-    }
-}
-
 /// Parses one or more ASCII digits, leading zeros allowed.
 #[inline(always)]
 pub fn loose_number(text: &str) -> Option<(Measured<u64>, &str)>
@@ -98,51 +87,24 @@ pub fn loose_number(text: &str) -> Option<(Measured<u64>, &str)>
     if digits.is_empty() {
         return None;
     }
-    Some((measured(digits.parse::<u64>().ok()), rest))
-}
-
-// Parses `0`, or ASCII digits that don't begin with `0`.
-#[inline(always)]
-fn strict_number(text: &str) -> Option<(Measured<u64>, &str)>
-    ensures { ReadsAs sized IsStrictNumber text.now (answer_of result) }
-{
-    if let Some(rest) = after(text, '0') {
-        return Some((Measured::Fits(0), rest));
+    match digits.parse::<u64>() {
+        Ok(number) => Some((Measured::Fits(number), rest)),
+        Err(_) => Some((Measured::TooLarge, rest)),
     }
-    loose_number(text)
 }
 
-/// Parses a number by either grammar.
+/// Parses a number by either grammar. By the strict one, only `0` begins with `0`.
 #[inline(always)]
 pub fn number(text: &str, strictness: Strictness) -> Option<(Measured<u64>, &str)>
     ensures { ReadsAs sized (IsNumber strictness) text.now (answer_of result) }
 {
     match strictness {
         Strictness::Loose => loose_number(text),
-        Strictness::Strict => strict_number(text),
+        Strictness::Strict => match after(text, '0') {
+            Some(rest) => Some((Measured::Fits(0), rest)),
+            None => loose_number(text),
+        },
     }
-}
-
-// Creates a list of one identifier.
-#[inline(always)]
-fn one_identifier(alloc: Global, only: &str) -> Result<CowVec<SmallStackString>, AllocError>
-    ensures { IfOk result (λ ids. ids ≡ only.now ∷ []) }
-{
-    CowVec::of_one(alloc, SmallStackString::from_str(alloc, only)?)
-}
-
-// Creates a list of two identifiers.
-#[inline(always)]
-fn two_identifiers(
-    alloc: Global,
-    first: &str,
-    second: &str,
-) -> Result<CowVec<SmallStackString>, AllocError>
-    ensures { IfOk result (λ ids. ids ≡ first.now ∷ second.now ∷ []) }
-{
-    let first = SmallStackString::from_str(alloc, first)?;
-    let second = SmallStackString::from_str(alloc, second)?;
-    CowVec::of_two(alloc, first, second)
 }
 
 // Appends an identifier.
@@ -196,13 +158,16 @@ fn identifiers(
         return Ok(None);
     }
     let Some(next) = after(rest, '.') else {
-        return Ok(Some((one_identifier(alloc, first)?, rest)));
+        let only = SmallStackString::from_str(alloc, first)?;
+        return Ok(Some((CowVec::of_one(alloc, only)?, rest)));
     };
     let (second, rest) = identifier_front(next);
     if second.is_empty() || after(rest, '.').is_some() {
         return many_identifiers(alloc, text);
     }
-    Ok(Some((two_identifiers(alloc, first, second)?, rest)))
+    let first = SmallStackString::from_str(alloc, first)?;
+    let second = SmallStackString::from_str(alloc, second)?;
+    Ok(Some((CowVec::of_two(alloc, first, second)?, rest)))
 }
 
 // Parses a pre-release: identifiers after a `-`, which the loose grammar may omit.
@@ -234,30 +199,6 @@ fn build(alloc: Global, text: &str) -> Result<Option<(CowVec<SmallStackString>, 
     }
 }
 
-#[inline(always)]
-fn optional_pre(
-    alloc: Global,
-    text: &str,
-    strictness: Strictness,
-) -> Result<(CowVec<SmallStackString>, &str), AllocError>
-    ensures { IfOk result (λ r. IsSeen or_none (Optional (IsPre strictness)) text.now r.0 r.1.now) }
-{
-    match pre(alloc, text, strictness)? {
-        Some(read) => Ok(read),
-        None => Ok((CowVec::new(alloc), text)),
-    }
-}
-
-#[inline(always)]
-fn optional_build(alloc: Global, text: &str) -> Result<(CowVec<SmallStackString>, &str), AllocError>
-    ensures { IfOk result (λ r. IsSeen or_none (Optional IsBuild) text.now r.0 r.1.now) }
-{
-    match build(alloc, text)? {
-        Some(read) => Ok(read),
-        None => Ok((CowVec::new(alloc), text)),
-    }
-}
-
 /// Parses an optional pre-release and then an optional build. Fails only out of memory, as both may be absent.
 #[inline(always)]
 pub fn qualifier(
@@ -267,7 +208,7 @@ pub fn qualifier(
 ) -> Result<(Qualifier, &str), AllocError>
     ensures { IfOk result (λ r. IsLongest (IsQualifier strictness) text.now r.0 r.1.now) }
 {
-    let (pre, rest) = optional_pre(alloc, text, strictness)?;
-    let (build, rest) = optional_build(alloc, rest)?;
+    let (pre, rest) = pre(alloc, text, strictness)?.unwrap_or((CowVec::new(alloc), text));
+    let (build, rest) = build(alloc, rest)?.unwrap_or((CowVec::new(alloc), rest));
     Ok((Qualifier { pre, build }, rest))
 }

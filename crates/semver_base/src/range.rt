@@ -336,17 +336,6 @@ impl RangeBound {
         other
     }
 
-    // Stops this start at the end.
-    #[inline(always)]
-    fn into_stopped_at(self, end: &RangeBound) -> Result<RangeBound, AllocError>
-        ensures { IfOk result (λ bound. bound ≡ stopped_at self end.now) }
-    {
-        if self.is_unstopped(end) {
-            return Ok(self);
-        }
-        self.stopped_at(end)
-    }
-
     // Whether this start lies below the end, or at it with both inclusive.
     #[inline(always)]
     fn starts_before(&self, end: &RangeBound) -> bool
@@ -480,7 +469,10 @@ impl VersionRange {
         } = other;
         let start = start.clamped_start(others_start);
         let end = end.clamped_end(others_end);
-        let start = start.into_stopped_at(&end)?;
+        if start.is_unstopped(&end) {
+            return Ok(VersionRange { start, end });
+        }
+        let start = start.stopped_at(&end)?;
         Ok(VersionRange { start, end })
     }
 
@@ -602,19 +594,6 @@ impl VersionRangeSet {
         self.0.iter().any(|range| other.overlaps(range))
     }
 
-    // Whether some range overlaps some range of the other set. Usually both sets have one range.
-    #[inline(always)]
-    fn has_overlap(&self, other: &VersionRangeSet) -> bool
-        ensures { result ≡ some_overlap self.now.0 other.now.0 }
-    {
-        if let Some(range) = self.0.only()
-            && let Some(own) = other.0.only()
-        {
-            return range.intersects_range(own);
-        }
-        self.some_overlap(other)
-    }
-
     /// Whether some range of one set overlaps some range of the other. If none does, no version matches both sets.
     #[tactic(auto, using(crate::proofs::OverlapLemmas::set_no_common, crate::proofs::OverlapLemmas::some_overlap_swap))]
     pub fn intersects_set(&self, other: &VersionRangeSet) -> bool
@@ -622,6 +601,12 @@ impl VersionRangeSet {
         ensures symmetric { result ≡ some_overlap other.now.0 self.now.0 }
         ensures no_common { OnFalse result (MatchNothingTogether self.now.0 other.now.0) }
     {
-        self.has_overlap(other)
+        // Usually both sets have one range.
+        if let Some(range) = self.0.only()
+            && let Some(own) = other.0.only()
+        {
+            return range.intersects_range(own);
+        }
+        self.some_overlap(other)
     }
 }

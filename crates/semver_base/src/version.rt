@@ -6,11 +6,9 @@ ghost use Rattle.std.specs.Str.{trim};
 ghost use Rattle.std.specs.Cmp.{IsTotalOrder};
 ghost use Rattle.std.specs.Cmp.Lexicographic.{slice_cmp};
 ghost use Rattle.std.specs.Ordering.{as_partial_cmp};
-ghost use Rattle.semver_base.specs.Characters.{equals_sign, letter_v};
 ghost use Rattle.semver_base.specs.declared.failure.Rejection.{Rejection};
-ghost use Rattle.semver_base.specs.Grammar.{IsLongest, IsSeen, Optional, Prefixed};
-ghost use Rattle.semver_base.specs.Lexical.{IsWhitespace, IsByte};
-ghost use Rattle.semver_base.specs.VersionGrammar.{IsLead, IsVersionAnswer, IsVersionOutcome, IsVersionRejection, ignored, version_failure};
+ghost use Rattle.semver_base.specs.Grammar.{IsLongest};
+ghost use Rattle.semver_base.specs.VersionGrammar.{IsLead, IsVersionAnswer, IsVersionOutcome, IsVersionRejection, version_failure};
 ghost use Rattle.semver_base.specs.VersionParserSteps.{IsFittingNumber, IsFittingTriple, IsNumberRejection, IsReadVersion, IsTripleRejection};
 ghost use Rattle.semver_base.specs.Meaning.{release};
 ghost use Rattle.semver_base.specs.ShortTexts.{IsTripleFront};
@@ -206,34 +204,17 @@ pub(crate) fn release(alloc: Global, major: u64, minor: u64, patch: u64) -> Vers
     }
 }
 
-// Skips an optional leading `=`.
-#[inline(always)]
-fn after_optional_equals(text: &str) -> &str
-    ensures { IsSeen ignored (Optional (IsByte equals_sign)) text.now tt result.now }
-{
-    match lexical::after(text, '=') {
-        Some(rest) => rest,
-        None => text,
-    }
-}
-
-// Skips an optional leading `v` and any whitespace after it.
-#[inline(always)]
-fn after_v(text: &str) -> &str
-    ensures { IsSeen ignored (Optional (Prefixed letter_v IsWhitespace)) text.now tt result.now }
-{
-    match lexical::after(text, 'v') {
-        Some(rest) => lexical::after_whitespace(rest),
-        None => text,
-    }
-}
-
 // Skips the lead: an optional `=` and an optional `v`, each with optional whitespace after it.
 #[inline(always)]
 fn after_lead(text: &str) -> &str
     ensures { IsLongest IsLead text.now tt result.now }
 {
-    after_v(lexical::after_whitespace(after_optional_equals(text)))
+    let text = lexical::after(text, '=').unwrap_or(text);
+    let text = lexical::after_whitespace(text);
+    match lexical::after(text, 'v') {
+        Some(rest) => lexical::after_whitespace(rest),
+        None => text,
+    }
 }
 
 // Parses a leading number that fits.
@@ -335,21 +316,14 @@ fn read(alloc: Global, text: &str) -> Result<Version, ParseFailure>
     })
 }
 
-// Strips the leading zeros of an identifier but the last, which keeps its number, if it is one. Takes constant time, so that
-// a number with many zeros compares fast.
-fn without_zeros(identifier: &VersionPreOrBuild) -> &str
-    ensures { number_of result.now ≡ number_of identifier.now }
-{
-    let spare = identifier.leading_zeros().saturating_sub(1);
-    let (_, rest) = identifier.as_str().split_at(spare);
-    rest
-}
-
-// The number that an identifier is, if it is one.
+// The number that an identifier is, if it is one. Its leading zeros but the last are skipped in constant time, so that a
+// number with many zeros compares fast.
 fn number(identifier: &VersionPreOrBuild) -> Option<u64>
     ensures { result ≡ number_of identifier.now }
 {
-    without_zeros(identifier).parse::<u64>().ok()
+    let spare = identifier.leading_zeros().saturating_sub(1);
+    let (_, digits) = identifier.as_str().split_at(spare);
+    digits.parse::<u64>().ok()
 }
 
 fn cmp_identifier(a: &VersionPreOrBuild, b: &VersionPreOrBuild) -> Ordering

@@ -1,10 +1,9 @@
 //! Formatting of ranges and range sets.
 
-ghost use Rattle.std.specs.Prelude.{◌≡◌, ◌+◌, ◌++◌, ◌==◌, ◌∷◌, [], Some, codes, refl};
+ghost use Rattle.std.specs.Prelude.{◌≡◌, ◌+◌, ◌++◌, ◌==◌, Some, refl};
 ghost use Rattle.std.specs.Fmt.{DisplaysOnOk};
-ghost use Rattle.std.specs.List.{flat_map};
 ghost use Rattle.semver_base.specs.Forms.{form_comparators};
-ghost use Rattle.semver_base.specs.NormalText.{comparator_text, comparators_text, range_text, set_text};
+ghost use Rattle.semver_base.specs.NormalText.{comparator_text, range_text, set_text};
 ghost use Rattle.semver_base.specs.PartialTable.{between};
 ghost use Rattle.semver_base.specs.Shortest.{ending, is_release_of, shortest_between, starting};
 ghost use Rattle.semver_base.specs.VersionText.{version_text};
@@ -75,22 +74,6 @@ fn is_next_patch(start: &Version, end: &Version) -> bool
     end.major == 0 && end.minor == 0 && is_next(start.patch, end.patch) && is_unqualified(end)
 }
 
-// The first form that fits from `start` up to `end`, both inclusive.
-fn closed_form(start: &Version, end: &Version) -> Form
-    ensures { shortest_between VersionBoundKind.Inclusive VersionBoundKind.Inclusive
-        start.now end.now
-        ≡ form_comparators result VersionBoundKind.Inclusive VersionBoundKind.Inclusive
-        start.now end.now }
-{
-    if start == end {
-        return Form::Whole;
-    }
-    if is_release_of(start, 0, 0, 0) {
-        return Form::End;
-    }
-    Form::Both
-}
-
 // The first form that fits from `start` to below `end`.
 fn half_open_form(start: &Version, end: &Version) -> Form
     ensures { shortest_between VersionBoundKind.Inclusive VersionBoundKind.Exclusive
@@ -126,7 +109,13 @@ fn form_between(start: &VersionBound, end: &VersionBound) -> Form
 {
     match (start.kind, end.kind) {
         (VersionBoundKind::Inclusive, VersionBoundKind::Inclusive) => {
-            closed_form(&start.version, &end.version)
+            if start.version == end.version {
+                return Form::Whole;
+            }
+            if is_release_of(&start.version, 0, 0, 0) {
+                return Form::End;
+            }
+            Form::Both
         }
         (VersionBoundKind::Inclusive, VersionBoundKind::Exclusive) => {
             half_open_form(&start.version, &end.version)
@@ -169,21 +158,6 @@ fn write_end<W: fmt::Write>(f: &mut fmt::Formatter<W>, end: &VersionBound) -> fm
     }
 }
 
-// Writes both bounds with a space between them.
-fn write_both<W: fmt::Write>(
-    f: &mut fmt::Formatter<W>,
-    start: &VersionBound,
-    end: &VersionBound,
-) -> fmt::Result
-    ensures { DisplaysOnOk W.write_str_gives f.old result
-        (Some (comparators_text (starting start.now.kind start.now.version ∷ ending end.now.kind end.now.version ∷ [])))
-        f.new }
-{
-    write_start(f, start)?;
-    f.write_str(" ")?;
-    write_end(f, end)
-}
-
 // Writes the shortest form between two bounds.
 fn write_between<W: fmt::Write>(
     f: &mut fmt::Formatter<W>,
@@ -202,7 +176,11 @@ fn write_between<W: fmt::Write>(
         Form::Tilde => write_led(f, "~", version),
         Form::Caret => write_led(f, "^", version),
         Form::End => write_end(f, end),
-        Form::Both => write_both(f, start, end),
+        Form::Both => {
+            write_start(f, start)?;
+            f.write_str(" ")?;
+            write_end(f, end)
+        }
     }
 }
 
@@ -243,17 +221,6 @@ impl StringAppendable for VersionRange {
     ghost displays = { λ x. refl };
 }
 
-// Writes the ranges, each with ` || ` before it.
-fn write_others<W: fmt::Write>(f: &mut fmt::Formatter<W>, others: &[VersionRange]) -> fmt::Result
-    ensures { DisplaysOnOk W.write_str_gives f.old result
-        (Some (flat_map (λ range. codes " || " ++ range_text range) others.now)) f.new }
-{
-    for range in others {
-        write!(f, " || {range}")?;
-    }
-    Ok(())
-}
-
 /// Writes the ranges with ` || ` between them (node-semver, ranges joined by `||`), or `<0.0.0`, which no release matches, if
 /// there are none.
 impl fmt::Display for VersionRangeSet {
@@ -264,7 +231,10 @@ impl fmt::Display for VersionRangeSet {
             return f.write_str("<0.0.0");
         };
         fmt::Display::fmt(first, f)?;
-        write_others(f, others)
+        for range in others {
+            write!(f, " || {range}")?;
+        }
+        Ok(())
     }
 }
 

@@ -6,9 +6,9 @@
 //! each of these places on is a candidate, and the result is the lowest candidate that passes. Each candidate is compared
 //! with all ranges at most: the time grows with the square of their number.
 
-ghost use Rattle.std.specs.Prelude.{◌≡◌, ◌∷◌, ◌++◌, ◌&&◌, ◌↔◌, [], IfOk, IfSome, IsTrue, is_some};
+ghost use Rattle.std.specs.Prelude.{◌≡◌, ◌∷◌, ◌&&◌, ◌↔◌, [], IfOk, IfSome, IsTrue, is_some};
 ghost use Rattle.std.specs.List.{list_all, list_any, AllByRecursion};
-ghost use Rattle.semver_base.specs.Candidates.{after, from_ends, from_set, from_start, filtered, lowest_free, lowest_release, lowest_version, lower_passing, lowest_of, next_release, own_pre, passes, pre_from, with_pre, zero_identifier, zero_of, zero_pre};
+ghost use Rattle.semver_base.specs.Candidates.{after, from_ends, from_set, from_start, filtered, lowest_free, lowest_release, lowest_version, lower_passing, lowest_of, next_release, own_pre, passes, pre_from, with_pre, zero_identifier, zero_pre};
 ghost use Rattle.semver_base.specs.Containment.{AreEquivalent, IsWithin, ReportsEquivalent, ReportsWithin};
 ghost use Rattle.semver_base.specs.LowestVersion.{HasNoBuild, IsLowestPassing, DecidesSome, all_mean_with, set_means_alone_with, sets_mean_with};
 ghost use Rattle.semver_base.specs.Meaning.{is_pre_match, range_means_with, release, set_means_with};
@@ -60,16 +60,6 @@ fn zero_version(alloc: Global, version: &Version) -> Result<Version, AllocError>
     Ok(with_pre(alloc, version, pre))
 }
 
-// The lowest pre-release of the version's numbers, if there is a version.
-fn zero_of(alloc: Global, version: Option<Version>) -> Result<Option<Version>, AllocError>
-    ensures { IfOk result (λ lowest. lowest ≡ zero_of version) }
-{
-    match version {
-        Some(version) => Ok(Some(zero_version(alloc, &version)?)),
-        None => Ok(None),
-    }
-}
-
 // The lowest pre-release of the same numbers from a pre-release start on: itself, or with `0` appended if exclusive.
 fn pre_from(alloc: Global, start: &VersionBound) -> Result<Version, AllocError>
     ensures { IfOk result (λ v. v ≡ pre_from start.now.kind start.now.version) }
@@ -103,11 +93,13 @@ impl RangeBound {
         let RangeBound::Version(bound) = self else {
             return Ok(Some(zero_version(alloc, &release(alloc, 0, 0, 0))?));
         };
-        let is_past = bound.kind == VersionBoundKind::Exclusive;
-        if is_past && bound.version.pre.is_empty() {
-            return zero_of(alloc, next_release(alloc, &bound.version));
+        if bound.kind == VersionBoundKind::Inclusive || !bound.version.pre.is_empty() {
+            return Ok(Some(pre_from(alloc, bound)?));
         }
-        Ok(Some(pre_from(alloc, bound)?))
+        match next_release(alloc, &bound.version) {
+            Some(next) => Ok(Some(zero_version(alloc, &next)?)),
+            None => Ok(None),
+        }
     }
 
     // The lowest version from this start on that no bound has to admit, if there is one.
@@ -326,14 +318,13 @@ impl VersionRange {
     fn is_pre_match(&self, bound: &RangeBound, candidate: Option<Version>) -> bool
         ensures { result ≡ is_some (filtered (is_pre_match self.now bound.now) candidate) }
     {
-        match candidate {
-            Some(version) => {
-                !version.pre.is_empty()
-                    && bound.has_pre_with_exact_major_minor_patch(&version)
-                    && self.satisfies_with(&version, PreRelease::Restricted)
-            }
-            None => false,
+        let Some(version) = candidate else {
+            return false;
+        };
+        if version.pre.is_empty() || !bound.has_pre_with_exact_major_minor_patch(&version) {
+            return false;
         }
+        self.satisfies_with(&version, PreRelease::Restricted)
     }
 
     /// Whether some pre-release of the bound's three numbers matches, by npm's rule about pre-releases. `>=1.2.0 <2.0.0-0`
