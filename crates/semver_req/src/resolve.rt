@@ -16,18 +16,6 @@ enum End {
     Lowest,
 }
 
-impl End {
-    // Whether one version is nearer to this end than the other.
-    fn is_nearer(self, one: &Version, other: &Version) -> bool
-        ensures { result ≡ nearer self one.now other.now }
-    {
-        match self {
-            End::Highest => other.cmp_precedence(one).is_lt(),
-            End::Lowest => one.cmp_precedence(other).is_lt(),
-        }
-    }
-}
-
 // Whether the version matches and is nearer to the end than the best match so far, if any.
 fn is_better(
     version: &Version,
@@ -41,9 +29,10 @@ fn is_better(
         && exceeds (nearer end) version.now (known_of known.entry)) }
 {
     requirement.matches_with(version, pre_release)
-        && match known {
-            None => true,
-            Some((_, known)) => end.is_nearer(version, known),
+        && match (known, end) {
+            (None, _) => true,
+            (Some((_, known)), End::Highest) => known.cmp_precedence(version).is_lt(),
+            (Some((_, known)), End::Lowest) => version.cmp_precedence(known).is_lt(),
         }
 }
 
