@@ -8,8 +8,8 @@ ghost use Rattle.std.specs.Str.{IsCharBoundary};
 ghost use Rattle.semver_base.specs.Characters.{ampersand, bar};
 ghost use Rattle.semver_base.specs.Grammar.{IsAfterOne, Reads, ReadsAs, answer_of};
 ghost use Rattle.semver_base.specs.Lexical.{IsQualifier};
-ghost use Rattle.semver_req.specs.Comparators.{IsMaybeEqual, IsPrimitive, IsPrimitiveKind, primitive_of, sized_primitive};
-ghost use Rattle.semver_req.specs.Partials.{IsComponent, IsLongestAt, IsPartial, IsBarePartial, ReadsAt, ReadsDotted, answer_at, assembled, component_of, is_wildcard, sized_component, sized_partial, strictness_of};
+ghost use Rattle.semver_req.specs.Comparators.{IsMaybeEqual, IsPrimitive, IsPrimitiveKind, sized_primitive};
+ghost use Rattle.semver_req.specs.Partials.{IsComponent, IsLongestAt, IsPartial, IsBarePartial, ReadsAt, ReadsDotted, answer_at, assembled, is_wildcard, sized_component, sized_partial, strictness_of};
 ghost use Rattle.semver_req.specs.Pieces.{IsOperator, place_answer};
 
 pub mod comparator;
@@ -44,17 +44,6 @@ fn wildcard(text: &str, flavour: Flavour) -> Option<&str>
     after(text, 'X')
 }
 
-// A number as a component.
-#[inline(always)]
-fn component_of(number: Measured<u64>) -> Measured<XRange>
-    ensures { result ≡ component_of number }
-{
-    match number {
-        Measured::Fits(number) => Measured::Fits(XRange::Val(number)),
-        Measured::TooLarge => Measured::TooLarge,
-    }
-}
-
 // Parses a wildcard or a number.
 #[inline(always)]
 fn component(text: &str, flavour: Flavour) -> Option<(Measured<XRange>, &str)>
@@ -63,8 +52,10 @@ fn component(text: &str, flavour: Flavour) -> Option<(Measured<XRange>, &str)>
     if let Some(rest) = wildcard(text, flavour) {
         return Some((Measured::Fits(XRange::Wildcard), rest));
     }
-    let (value, rest) = lexical::number(text, flavour.strictness())?;
-    Some((component_of(value), rest))
+    match lexical::number(text, flavour.strictness())? {
+        (Measured::Fits(number), rest) => Some((Measured::Fits(XRange::Val(number)), rest)),
+        (Measured::TooLarge, rest) => Some((Measured::TooLarge, rest)),
+    }
 }
 
 // Parses `.` and a component.
@@ -127,18 +118,6 @@ fn bare_partial(
     Ok(Some((assembled(major, minor, patch, qualifier), rest)))
 }
 
-// Parses a partial version with an optional `v` before it.
-#[inline(always)]
-fn npm_partial(alloc: Global, text: &str) -> Result<Option<(Measured<Partial>, &str)>, AllocError>
-    ensures { IfOk result
-        (λ r. ReadsAs sized_partial (IsPartial Flavour.Npm) text.now (answer_of r)) }
-{
-    match after(text, 'v') {
-        Some(rest) => bare_partial(alloc, rest, Flavour::Npm),
-        None => bare_partial(alloc, text, Flavour::Npm),
-    }
-}
-
 /// Parses a leading partial version (node-semver's range grammar, `partial`).
 ///
 /// The value is `Measured::TooLarge` exactly if a number among the components is larger than 18446744073709551615. Fails only
@@ -151,7 +130,10 @@ pub fn partial_front(
     ensures { IfOk result (λ r. ReadsAs sized_partial (IsPartial flavour) text.now (answer_of r)) }
 {
     match flavour {
-        Flavour::Npm => npm_partial(alloc, text),
+        Flavour::Npm => match after(text, 'v') {
+            Some(rest) => bare_partial(alloc, rest, Flavour::Npm),
+            None => bare_partial(alloc, text, Flavour::Npm),
+        },
         Flavour::Normal => bare_partial(alloc, text, Flavour::Normal),
         Flavour::Specifier => bare_partial(alloc, text, Flavour::Specifier),
     }
@@ -187,33 +169,6 @@ pub fn primitive_kind_front(text: &str) -> Option<(PrimitiveKind, &str)>
     }
     let rest = after(text, '=')?;
     Some((PrimitiveKind::Equal, rest))
-}
-
-fn primitive_of(kind: PrimitiveKind, partial: Measured<Partial>) -> Measured<Primitive>
-    ensures { result ≡ primitive_of kind partial }
-{
-    match partial {
-        Measured::Fits(partial) => Measured::Fits(Primitive { kind, partial }),
-        Measured::TooLarge => Measured::TooLarge,
-    }
-}
-
-// Parses a leading operator and partial version.
-fn primitive_front(
-    alloc: Global,
-    text: &str,
-    flavour: Flavour,
-) -> Result<Option<(Measured<Primitive>, &str)>, AllocError>
-    ensures { IfOk result
-        (λ r. ReadsAs sized_primitive (IsPrimitive flavour) text.now (answer_of r)) }
-{
-    let Some((kind, rest)) = primitive_kind_front(text) else {
-        return Ok(None);
-    };
-    let Some((partial, rest)) = partial_front(alloc, after_whitespace(rest), flavour)? else {
-        return Ok(None);
-    };
-    Ok(Some((primitive_of(kind, partial), rest)))
 }
 
 /// Parses the partial version at a position in the text, and returns the position after it.
@@ -280,9 +235,16 @@ pub fn primitive(
     ensures value { IfOk result (ReadsAt sized_primitive (IsPrimitive flavour) text.now place) }
     ensures reached { IfOk result (λ r. IfSome r (λ p. IsCharBoundary text.now p.1)) }
 {
-    match primitive_front(alloc, &text[place..], flavour)? {
-        Some((value, rest)) => Ok(Some((value, text.len() - rest.len()))),
-        None => Ok(None),
+    let Some((kind, rest)) = primitive_kind_front(&text[place..]) else {
+        return Ok(None);
+    };
+    let Some((partial, rest)) = partial_front(alloc, after_whitespace(rest), flavour)? else {
+        return Ok(None);
+    };
+    let end = text.len() - rest.len();
+    match partial {
+        Measured::Fits(partial) => Ok(Some((Measured::Fits(Primitive { kind, partial }), end))),
+        Measured::TooLarge => Ok(Some((Measured::TooLarge, end))),
     }
 }
 

@@ -2,9 +2,9 @@
 
 ghost use Rattle.std.specs.Prelude.{◌≡◌, IfErr, IfOk, OnOk, true};
 ghost use Rattle.semver_base.specs.Comparators.{comparator_line, comparator_range};
-ghost use Rattle.semver_base.specs.Grammar.{IsLongest, ReadsAs, answer_of};
+ghost use Rattle.semver_base.specs.Grammar.{ReadsAs, answer_of};
 ghost use Rattle.semver_base.specs.PartialTable.{IsBoundRejection, all_fit};
-ghost use Rattle.semver_req.specs.Comparators.{IsComparator, IsEquals, IsLed};
+ghost use Rattle.semver_req.specs.Comparators.{IsComparator, IsLed};
 ghost use Rattle.semver_req.specs.Partials.{sized_partial};
 ghost use Rattle.semver_req.specs.Written.{IsOperatorCut, IsNpmFront, IsNpmOperatorCut, IsNonPrimitive, ReadsComparator, comparator_of, with_operator};
 ghost use Rattle.semver_req.specs.declared.common.values.Flavour.TheVariants.{Normal, Npm};
@@ -110,23 +110,16 @@ pub fn normal_front(alloc: Global, text: &str) -> Result<Option<(Written, &str)>
     }
 }
 
-// Strips every leading `=`.
-fn after_every_equals(text: &str) -> &str
-    ensures { IsLongest IsEquals text.now tt result.now }
-{
-    let mut rest = text;
-    while let Some(next) = after(rest, '=') {
-        rest = next;
-    }
-    rest
-}
-
 // Parses what npm's grammar has after a `~` or a `^`: any number of `=`, an optional `v` and a partial version, with optional
 // whitespace between them.
 fn led_partial(alloc: Global, text: &str) -> Result<Option<(Measured<Partial>, &str)>, AllocError>
     ensures { IfOk result (λ r. ReadsAs sized_partial IsLed text.now (answer_of r)) }
 {
-    let start = after_whitespace(after_every_equals(text));
+    let mut rest = text;
+    while let Some(next) = after(rest, '=') {
+        rest = next;
+    }
+    let start = after_whitespace(rest);
     match after(start, 'v') {
         Some(rest) => partial_front(alloc, after_whitespace(rest), Flavour::Npm),
         None => bare_partial(alloc, start, Flavour::Npm),

@@ -3,7 +3,7 @@
 ghost use Rattle.std.specs.Prelude.{IfOk};
 ghost use Rattle.semver_base.specs.Grammar.{ReadsAs, answer_of};
 ghost use Rattle.semver_req.specs.Partials.{sized_partial};
-ghost use Rattle.semver_req.specs.Pieces.{IsHyphenPair, IsHyphened, IsUpper};
+ghost use Rattle.semver_req.specs.Pieces.{IsHyphenPair, IsHyphened};
 ghost use Rattle.semver_req.specs.PieceSteps.{sized_hyphen};
 
 use crate::common::partial_front;
@@ -23,17 +23,7 @@ pub struct HyphenRange {
     pub upper: Measured<Partial>,
 }
 
-// Parses a partial version and the whitespace after it.
-fn upper(alloc: Global, text: &str) -> Result<Option<(Measured<Partial>, &str)>, AllocError>
-    ensures { IfOk result (λ r. ReadsAs sized_partial IsUpper text.now (answer_of r)) }
-{
-    match partial_front(alloc, text, Flavour::Npm)? {
-        Some((partial, rest)) => Ok(Some((partial, after_whitespace(rest)))),
-        None => Ok(None),
-    }
-}
-
-// Parses a `-` with whitespace on both sides, and the partial version after it.
+// Parses a `-` with whitespace on both sides, the partial version after it and the whitespace after that.
 fn hyphened(alloc: Global, text: &str) -> Result<Option<(Measured<Partial>, &str)>, AllocError>
     ensures { IfOk result (λ r. ReadsAs sized_partial IsHyphened text.now (answer_of r)) }
 {
@@ -46,7 +36,10 @@ fn hyphened(alloc: Global, text: &str) -> Result<Option<(Measured<Partial>, &str
     let Some(rest) = after_some_whitespace(rest) else {
         return Ok(None);
     };
-    upper(alloc, rest)
+    match partial_front(alloc, rest, Flavour::Npm)? {
+        Some((partial, rest)) => Ok(Some((partial, after_whitespace(rest)))),
+        None => Ok(None),
+    }
 }
 
 /// Parses a leading hyphen range, two partial versions around a `-` with whitespace on both sides, and the whitespace after

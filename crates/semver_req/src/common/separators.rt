@@ -4,7 +4,7 @@ ghost use Rattle.std.specs.Prelude.{◌≡◌, ◌<◌, ◌∷◌, [], false};
 ghost use Rattle.std.specs.Char.{is_whitespace};
 ghost use Rattle.semver_base.specs.Grammar.{IsText, Reads, rest_answer};
 ghost use Rattle.semver_base.specs.Lexical.{IsSomeWhitespace};
-ghost use Rattle.semver_req.specs.Pieces.{IsListOperator, IsNpmSeparator, IsOperator, IsSeparator};
+ghost use Rattle.semver_req.specs.Pieces.{IsNpmSeparator, IsOperator, IsSeparator};
 
 use crate::common::values::Flavour;
 use semver_base::lexical::{after, after_whitespace};
@@ -41,22 +41,15 @@ pub fn after_operator(text: &str, operator: char) -> Option<&str>
     }
 }
 
-// Strips a leading `&&` or `,`.
-fn after_list_operator(text: &str) -> Option<&str>
-    ensures { Reads IsListOperator text.now (rest_answer result) }
-{
-    if let Some(rest) = after(text, ',') {
-        return Some(rest);
-    }
-    after_twice(text, '&')
-}
-
 // Strips a separator of npm's comparators: `&&` or `,` with optional whitespace around it, or whitespace alone.
 fn after_npm_separator(text: &str) -> Option<&str>
     ensures { Reads IsNpmSeparator text.now (rest_answer result) }
 {
     let rest = after_whitespace(text);
-    if let Some(more) = after_list_operator(rest) {
+    if let Some(more) = after(rest, ',') {
+        return Some(after_whitespace(more));
+    }
+    if let Some(more) = after_twice(rest, '&') {
         return Some(after_whitespace(more));
     }
     if rest.len() == text.len() {

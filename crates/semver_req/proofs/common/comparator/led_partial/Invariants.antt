@@ -2,7 +2,7 @@ use Rattle.std.proofs.Common.{length}
 use denote.Text.{Utf8}
 use denote.Shadow.{shadow}
 use Rattle.semver_req.proofs.NpmComparators.{EqualsSoFar}
-use Rattle.semver_req.proofs.common.comparator.after_every_equals.Given as goal
+use Rattle.semver_req.proofs.common.comparator.led_partial.Given as goal
 
 abbrev pub invariant-loop-next : goal.invariant-loop-next
 invariant-loop-next l = record {
