@@ -384,13 +384,8 @@ module _ {f : Flavour} {text piece rest : List ℕ} {b : Bool} {all : Alternativ
     pub tag_read : (answer : RangeSetOrTag) → (answer ≡ inner.Tag (trim piece)) × (is_valid_tag (trim piece) ≡ true) → IsCutReading f text answer
     tag_read answer t = record { outcome = Tag (trim piece); is_outcome = tag_outcome first h some only (Tag (trim piece)) (tag t.1); is_read = t.0 }
 
-    pub tag_rejected : (failure : Failure) → (failure ≡ None) ⊎ ((failure ≡ rejection_failure rejection) × (is_valid_tag (trim piece) ≡ false)) → (failure ≡ None) ⊎ IsCutOutcome f text Rejected
-    tag_rejected failure (inl e) = inl e
-    tag_rejected failure (inr k) = inr (tag_outcome first h some only Rejected (no_tag k.1))
-
-    pub tag_rejection : (failure : Failure) → (failure ≡ None) ⊎ ((failure ≡ rejection_failure rejection) × (is_valid_tag (trim piece) ≡ false)) → IsCutRejection f text failure
-    tag_rejection failure (inl e) = first_rejected first h some (inl e)
-    tag_rejection failure (inr k) = first_rejected first h some (inr k.0)
+    pub tag_rejected : is_valid_tag (trim piece) ≡ false → IsCutOutcome f text Rejected
+    tag_rejected invalid = tag_outcome first h some only Rejected (no_tag invalid)
 
 -- no piece is invalid
 pub valid_ranges : {f : Flavour} (cutting : IsCutting f) {text piece rest : List ℕ} {b : Bool} {all : Alternatives} {answer : RangeSetOrTag} → IsFirstPiece text piece b rest → AreAllRead f piece b rest all

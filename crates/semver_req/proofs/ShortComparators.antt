@@ -1,5 +1,5 @@
 -- What the grammars make of plain texts.
-use Rattle.std.proofs.Common.{◌≡◌, ◌<◌, ◌^◌, ◌==◌, ℕ, zero, suc, Bool, true, false, List, [], ◌∷◌, ◌++◌, length, Option, Some, None, refl, sym, subst, ap, ◌∙◌, arith, inl, inr, append-nil, append_assoc, length-append}
+use Rattle.std.proofs.Common.{◌≡◌, ◌≢◌, ◌<◌, ◌^◌, ◌==◌, ℕ, zero, suc, Bool, true, false, List, [], ◌∷◌, ◌++◌, length, Option, Some, None, refl, sym, subst, ap, ◌∙◌, arith, inl, inr, append-nil, append_assoc, length-append}
 use Rattle.std.specs.Char.{is_ascii_digit, is_not_whitespace}
 use Rattle.std.specs.List.{list_all}
 use Rattle.std.specs.Str.{trim}
@@ -9,7 +9,7 @@ use Rattle.std.proofs.lemmas.List.{nil_from_length}
 use Rattle.std.proofs.lemmas.Str.{NoCharPasses-nil}
 use Rattle.std.proofs.lemmas.Str.Pattern.{IsSplitOnceResult, split_parts}
 use Rattle.std.specs.Borrow.{Bor}
-use Rattle.std.specs.Prelude.{◌+◌, ◌||◌, IfSome, codes, if◌then◌else◌, nat_lt}
+use Rattle.std.specs.Prelude.{◌+◌, ◌||◌, IfSome, MatchOption, codes, if◌then◌else◌, nat_lt, unwrap_or}
 use Rattle.std.specs.Cmp.{nat_cmp_is}
 use Rattle.std.specs.Ordering.{nat_cmp}
 use Rattle.std.specs.declared.cmp.Ordering.TheVariants.{Greater, Less}
@@ -558,6 +558,10 @@ hyphen_piece {text} {front} {back} {range} e p = record {
 -- ---- what a short piece parses to
 
 -- alone, or with a space behind it
+pub unclosed : (piece shorter : Bor (List ℕ)) (r : Option (Bor (List ℕ))) → MatchOption r ((front : List ℕ) → piece.now ≢ front ++ (32 ∷ [])) (λ x. piece.now ≡ x.now ++ (32 ∷ [])) → shorter ≡ unwrap_or r piece → IsUnclosed piece.now shorter.now
+unclosed piece shorter None h is = inl (ap (λ (t : Bor (List ℕ)). t.now) (sym is))
+unclosed piece shorter (Some front) h is = inr (rw is h)
+
 pub piece_filled : {f : Flavour} {piece shorter : List ℕ} {range : VersionRange} {answer : RangeOrInvalid} → IsUnclosed piece shorter → IsShortPiece f shorter range → answer ≡ read.Range range → IsWholeRead (IsFilled f) piece (Some answer)
 piece_filled (inl e) p answered = (p.first ∷ p.others, rw e p.filled, answered ∙ p.is)
 piece_filled (inr e) p answered = (p.first ∷ p.others, rw e p.closed, answered ∙ p.is)

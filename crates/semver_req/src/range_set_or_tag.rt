@@ -1,14 +1,13 @@
 //! What a requirement means, version ranges or a tag, and its parsers by npm's and the normalized grammar.
 
-ghost use Rattle.std.specs.Prelude.{◌≡◌, ◌⊎◌, IfErr, IfOk, None, Some, true, false, refl};
+ghost use Rattle.std.specs.Prelude.{◌≡◌, ◌⊎◌, IfErr, IfOk, None, Some, false, refl};
 ghost use Rattle.std.specs.Bool.{OnFalse};
 ghost use Rattle.std.specs.Str.{trim};
 ghost use Rattle.semver_req.specs.Outcome.{IsCutOutcome, IsOutcome, Rejected};
-ghost use Rattle.semver_req.specs.PieceReading.{IsCutRejection, rejection_failure};
+ghost use Rattle.semver_req.specs.PieceReading.{IsCutRejection};
 ghost use Rattle.semver_req.specs.Parsers.{IsCutReading, IsReading};
 ghost use Rattle.semver_req.specs.Pieces.{IsCutting};
 ghost use Rattle.semver_req.specs.Requirement.{MatchNoVersion, OverlapAsTags, inner_overlap, inner_text};
-ghost use Rattle.semver_req.specs.Tag.{is_valid_tag};
 ghost use Rattle.semver_req.specs.declared.common.values.Flavour.TheVariants.{Normal, Npm};
 
 mod pieces;
@@ -16,9 +15,10 @@ mod pieces;
 use crate::common::short::{short_piece, star_or_qualified};
 use crate::common::values::Flavour;
 use crate::tag::is_valid_npm_tag;
+pub(crate) use pieces::cut;
 use pieces::read_pieces;
 pub use pieces::{FirstPiece, RangeOrInvalid, first_piece, next_piece};
-use semver_base::failure::{ParseFailure, Rejection};
+use semver_base::failure::ParseFailure;
 use semver_base::range::{VersionRange, VersionRangeSet};
 use semver_base::string::{CowVec, SmallStackString, StringAppendable};
 use std::alloc::{AllocError, Global};
@@ -34,19 +34,6 @@ pub enum RangeSetOrTag {
     RangeSet(VersionRangeSet),
     /// A tag, such as `latest`: only a registry knows which version it names.
     Tag(PackageTag),
-}
-
-// Returns the text as a tag; fails with `rejection` if it isn't a valid one.
-fn tag_or(alloc: Global, text: &str, rejection: Rejection) -> Result<RangeSetOrTag, ParseFailure>
-    ensures tag { IfOk result
-        (λ inner. (inner ≡ RangeSetOrTag.Tag text.now) × (is_valid_tag text.now ≡ true)) }
-    ensures no_tag { IfErr result (λ failure. (failure ≡ None)
-        ⊎ ((failure ≡ rejection_failure rejection) × (is_valid_tag text.now ≡ false))) }
-{
-    if is_valid_npm_tag(text) {
-        return Ok(RangeSetOrTag::Tag(SmallStackString::from_str(alloc, text)?));
-    }
-    Err(ParseFailure::of_rejection(alloc, rejection))
 }
 
 impl RangeSetOrTag {
@@ -125,12 +112,14 @@ impl RangeSetOrTag {
             return Ok(RangeSetOrTag::RangeSet(VersionRangeSet(all.ranges)));
         };
         if all.is_only {
-            return tag_or(alloc, first.piece.trim(), rejection);
+            let tag = first.piece.trim();
+            if is_valid_npm_tag(tag) {
+                return Ok(RangeSetOrTag::Tag(SmallStackString::from_str(alloc, tag)?));
+            }
+        } else if flavour == Flavour::Npm {
+            return Ok(RangeSetOrTag::RangeSet(VersionRangeSet(all.ranges)));
         }
-        match flavour {
-            Flavour::Npm => Ok(RangeSetOrTag::RangeSet(VersionRangeSet(all.ranges))),
-            _ => Err(ParseFailure::of_rejection(alloc, rejection)),
-        }
+        Err(ParseFailure::of_rejection(alloc, rejection))
     }
 
     /// Whether the two overlap: two range sets as in [`VersionRangeSet::intersects_set`], two tags if they are the same, a

@@ -4,14 +4,13 @@
 //! Most pieces are such texts. What this parses is a piece by the grammar, and a text has only one meaning; so each parser
 //! tries this first, and falls back to the full grammar on `None`.
 
-ghost use Rattle.std.specs.Prelude.{◌≡◌, ◌++◌, ◌∷◌, [], IfOk, IfSome, IsTrue};
-ghost use Rattle.semver_base.specs.Characters.{hyphen_sign, space};
+ghost use Rattle.std.specs.Prelude.{◌≡◌, ◌++◌, ◌∷◌, IfOk, IfSome};
+ghost use Rattle.semver_base.specs.Characters.{space};
 ghost use Rattle.semver_base.specs.Comparators.{comparator_line};
-ghost use Rattle.semver_base.specs.Grammar.{IsAfter};
 ghost use Rattle.semver_base.specs.PartialTable.{IsLineRange, of_short, release_bound, release_range};
 ghost use Rattle.semver_req.specs.Partials.{is_wildcard};
 ghost use Rattle.semver_req.specs.Pieces.{IsCutting};
-ghost use Rattle.semver_req.specs.ShortComparators.{AreWildcards, IsAfterGap, IsFewer, IsShortEnd, IsShortHyphen, IsShortPartial, IsShortPiece, IsShortComparator, IsShortStart, IsStarOrQualified, IsUnclosed, IsWildcardFront, less_sign};
+ghost use Rattle.semver_req.specs.ShortComparators.{IsAfterGap, IsShortEnd, IsShortPartial, IsShortPiece, IsShortComparator, IsShortStart, IsStarOrQualified, IsWildcardFront, less_sign};
 ghost use Rattle.semver_req.specs.Written.{comparator_of};
 ghost use Rattle.semver_req.specs.declared.common.values.Flavour.TheVariants.{Normal, Npm};
 
@@ -49,17 +48,6 @@ fn is_wildcard(byte: u8, flavour: Flavour) -> bool
     }
 }
 
-// Whether a wildcard may follow the numbers.
-#[inline(always)]
-fn are_fewer(numbers: ShortNumbers) -> bool
-    ensures { IsTrue result → IsFewer numbers }
-{
-    match numbers {
-        ShortNumbers::One(_) | ShortNumbers::Two(_, _) => true,
-        ShortNumbers::Three(_) => false,
-    }
-}
-
 // Strips a leading `.` and a wildcard.
 #[inline(always)]
 fn after_wildcard(text: &[u8], flavour: Flavour) -> Option<&[u8]>
@@ -71,36 +59,25 @@ fn after_wildcard(text: &[u8], flavour: Flavour) -> Option<&[u8]>
     }
 }
 
-// Whether the rest is nothing, or wildcards for numbers that are missing.
-#[inline(always)]
-fn are_wildcards(numbers: ShortNumbers, rest: &[u8], flavour: Flavour) -> bool
-    ensures { IsTrue result → AreWildcards flavour numbers rest.now }
-{
-    if rest.is_empty() {
-        return true;
-    }
-    let Some(rest) = after_wildcard(rest, flavour) else {
-        return false;
-    };
-    if rest.is_empty() {
-        return are_fewer(numbers);
-    }
-    match (numbers, after_wildcard(rest, flavour)) {
-        (ShortNumbers::One(_), Some(rest)) => rest.is_empty(),
-        _ => false,
-    }
-}
-
 // Parses the whole text as one to three numbers, and wildcards for those that are missing, or none.
 #[inline(always)]
 fn short_partial(text: &[u8], flavour: Flavour) -> Option<ShortNumbers>
     ensures { IfSome result (IsShortPartial flavour text.now) }
 {
     let (numbers, rest) = leading_numbers(text)?;
-    if are_wildcards(numbers, rest, flavour) {
-        Some(numbers)
-    } else {
-        None
+    if rest.is_empty() {
+        return Some(numbers);
+    }
+    let rest = after_wildcard(rest, flavour)?;
+    if rest.is_empty() {
+        return match numbers {
+            ShortNumbers::One(_) | ShortNumbers::Two(_, _) => Some(numbers),
+            ShortNumbers::Three(_) => None,
+        };
+    }
+    match numbers {
+        ShortNumbers::One(_) if after_wildcard(rest, flavour)?.is_empty() => Some(numbers),
+        _ => None,
     }
 }
 
@@ -147,34 +124,15 @@ pub(crate) fn star_or_qualified(
     Ok(Some(CowVec::of_one(alloc, range)?))
 }
 
-// Strips a leading space.
-#[inline(always)]
-fn after_space(text: &[u8]) -> Option<&[u8]>
-    ensures { IsAfter space text.now result }
-{
-    match text {
-        [b' ', rest @ ..] => Some(rest),
-        _ => None,
-    }
-}
-
 // Strips one leading space, if there is one.
 #[inline(always)]
 fn after_gap(text: &[u8]) -> &[u8]
     ensures { IsAfterGap text.now result.now }
 {
-    match after_space(text) {
-        Some(rest) => rest,
-        None => text,
+    match text {
+        [b' ', rest @ ..] => rest,
+        _ => text,
     }
-}
-
-// Strips a trailing space.
-#[inline(always)]
-fn before_space(text: &str) -> Option<&str>
-    ensures { IfSome result (λ front. text.now ≡ front.now ++ space ∷ []) }
-{
-    text.strip_suffix(' ')
 }
 
 // Parses the whole text as `>` or `>=`, an optional space and such numbers.
@@ -202,15 +160,6 @@ fn upper_bound(text: &[u8]) -> Option<ReleaseBound>
     short_partial(after_gap(rest), Flavour::Normal)?.less_than(kind)
 }
 
-// The range of the whole text, if it is such a start.
-#[inline(always)]
-fn from_bound(text: &str) -> Option<ReleaseRange>
-    ensures { IfSome result (λ range. IsShortPiece Normal text.now (release_range range)) }
-{
-    let start = lower_bound(text.as_bytes())?;
-    Some(ReleaseRange { start, end: None })
-}
-
 // The range of the whole text, if it is such an end above 0.0.0, or a start and an end above it. The text is split at its first `<`.
 #[inline(always)]
 fn to_bound(front: &str, back: &str) -> Option<ReleaseRange>
@@ -226,59 +175,24 @@ fn to_bound(front: &str, back: &str) -> Option<ReleaseRange>
         };
         return ReleaseRange::between(ReleaseBound::inclusive(zero), end);
     }
-    let start = lower_bound(before_space(front)?.as_bytes())?;
+    let start = lower_bound(front.strip_suffix(' ')?.as_bytes())?;
     ReleaseRange::between(start, end)
 }
 
-// Splits the text at the first space.
+// The range of the whole text, if it is two short partial versions around ` - `.
 #[inline(always)]
-fn at_whitespace(text: &str) -> Option<(&str, &str)>
-    ensures { IfSome result (λ p. text.now ≡ p.0.now ++ space ∷ p.1.now) }
+fn short_hyphen(text: &str) -> Option<ReleaseRange>
+    ensures { IfSome result (λ range. IsShortPiece Npm text.now (release_range range)) }
 {
-    text.split_once(' ')
-}
-
-// Splits the text at the first `<`.
-#[inline(always)]
-fn at_less(text: &str) -> Option<(&str, &str)>
-    ensures { IfSome result (λ p. text.now ≡ p.0.now ++ less_sign ∷ p.1.now) }
-{
-    text.split_once('<')
-}
-
-// Strips a leading `- `.
-#[inline(always)]
-fn after_hyphen(text: &str) -> Option<&str>
-    ensures { IfSome result (λ back. text.now ≡ hyphen_sign ∷ space ∷ back.now) }
-{
-    after(after(text, '-')?, ' ')
-}
-
-// The range of two short partial versions around ` - `.
-#[inline(always)]
-fn short_hyphen(front: &[u8], back: &[u8]) -> Option<ReleaseRange>
-    ensures { IfSome result (λ range. IsShortHyphen front.now back.now (release_range range)) }
-{
-    let lower = short_partial(front, Flavour::Npm)?;
-    let upper = short_partial(back, Flavour::Npm)?;
+    let (front, back) = text.split_once(' ')?;
+    let back = after(after(back, '-')?, ' ')?;
+    let lower = short_partial(front.as_bytes(), Flavour::Npm)?;
+    let upper = short_partial(back.as_bytes(), Flavour::Npm)?;
     let end = upper.upper_bound()?;
     Some(ReleaseRange {
         start: ReleaseBound::inclusive(lower.lowest()),
         end: Some(end),
     })
-}
-
-// Splits npm's hyphen range at its first space.
-#[inline(always)]
-fn hyphen_ends(text: &str, flavour: Flavour) -> Option<(&str, &str)>
-    ensures { IfSome result (λ p. (flavour ≡ Npm)
-        × (text.now ≡ p.0.now ++ space ∷ hyphen_sign ∷ space ∷ p.1.now)) }
-{
-    if flavour != Flavour::Npm {
-        return None;
-    }
-    let (front, back) = at_whitespace(text)?;
-    Some((front, after_hyphen(back)?))
 }
 
 // The range of the whole text, if it is one or two bounds, or a hyphen range of npm's grammar. In a call of its own, so that plain texts
@@ -288,13 +202,16 @@ fn bounds(text: &str, flavour: Flavour) -> Option<ReleaseRange>
     ensures { IsCutting flavour
         → IfSome result (λ range. IsShortPiece flavour text.now (release_range range)) }
 {
-    if let Some((front, back)) = at_less(text) {
+    if let Some((front, back)) = text.split_once('<') {
         return to_bound(front, back);
     }
-    match hyphen_ends(text, flavour) {
-        Some((front, back)) => short_hyphen(front.as_bytes(), back.as_bytes()),
-        None => from_bound(text),
+    if flavour == Flavour::Npm {
+        if let Some(range) = short_hyphen(text) {
+            return Some(range);
+        }
     }
+    let start = lower_bound(text.as_bytes())?;
+    Some(ReleaseRange { start, end: None })
 }
 
 /// The range of a piece, if it is the whole text and short: a comparator as for [`short_range`], one or two comparisons of such
@@ -308,12 +225,4 @@ pub(crate) fn short_piece(text: &str, flavour: Flavour) -> Option<ReleaseRange>
         Some(range) => Some(range),
         None => bounds(text, flavour),
     }
-}
-
-/// Strips one trailing space, if there is one.
-#[inline(always)]
-pub(crate) fn unclosed(text: &str) -> &str
-    ensures { IsUnclosed text.now result.now }
-{
-    before_space(text).unwrap_or(text)
 }

@@ -1,6 +1,6 @@
 //! How npm's and the normalized grammar split a text at each `||`, and how they parse each piece.
 
-ghost use Rattle.std.specs.Prelude.{◌≡◌, ◌↔◌, ◌++◌, ◌∷◌, [], IfErr, IfOk, IsTrue, List, MatchOption, None, OnOk, ℕ};
+ghost use Rattle.std.specs.Prelude.{◌≡◌, ◌++◌, ◌∷◌, [], IfErr, IfOk, List, MatchOption, None, OnOk, ℕ};
 ghost use Rattle.semver_base.specs.Comparators.{Comparator};
 ghost use Rattle.semver_base.specs.Grammar.{IsSeen};
 ghost use Rattle.semver_base.specs.declared.failure.Rejection.TheVariants.{BoundTooLarge};
@@ -8,7 +8,7 @@ ghost use Rattle.semver_base.specs.declared.lexical.values.Measured.TheVariants.
 ghost use Rattle.semver_base.specs.declared.partial.Partial.{Partial};
 ghost use Rattle.semver_req.specs.Partials.{sized_partial};
 ghost use Rattle.semver_req.specs.PieceReading.{IsPieceRead, as_retained, joined, retained_of};
-ghost use Rattle.semver_req.specs.PieceSteps.{AreAllRead, IsAdded, IsEverything, IsFirstPiece, IsHyphenRead, IsNextPiece, IsWholeRead, both_now};
+ghost use Rattle.semver_req.specs.PieceSteps.{AreAllRead, IsAdded, IsFirstPiece, IsHyphenRead, IsNextPiece, IsWholeRead, both_now};
 ghost use Rattle.semver_req.specs.Pieces.{HasNoBar, IsComparators, IsCutAt, IsCutting, IsFilled, IsHyphen, hyphen};
 ghost use Rattle.semver_req.specs.Comparators.{IsComparator};
 ghost use Rattle.semver_req.specs.Written.{IsFront, comparator_of};
@@ -17,7 +17,7 @@ ghost use Rattle.semver_req.specs.declared.range_set_or_tag.pieces.RangeOrInvali
 use crate::common::comparator::{Written, comparator_front};
 use crate::common::hyphen::{HyphenRange, hyphen_front};
 use crate::common::separators::after_separator;
-use crate::common::short::{short_piece, unclosed};
+use crate::common::short::short_piece;
 use crate::common::values::Flavour;
 use semver_base::failure::{ParseFailure, Rejection};
 use semver_base::lexical::after_whitespace;
@@ -34,16 +34,6 @@ pub enum RangeOrInvalid {
     Range(VersionRange),
     /// The piece is invalid: it is outside the grammar, or a number or a bound in it is too large.
     Invalid(Rejection),
-}
-
-// Whether a piece is empty, or is whitespace followed by `||`.
-fn is_everything(piece: &str, is_followed: bool) -> bool
-    ensures { IsTrue result ↔ IsEverything is_followed piece.now }
-{
-    if is_followed {
-        return after_whitespace(piece).is_empty();
-    }
-    piece.is_empty()
 }
 
 // Why a range couldn't be made: a bound is too large, or out of memory.
@@ -247,7 +237,12 @@ impl RangeOrInvalid {
         ensures value { IfOk result (IsPieceRead flavour is_followed piece.now) }
         ensures memory { IfErr result (λ failure. failure ≡ None) }
     {
-        if is_everything(piece, is_followed) {
+        let filling = if is_followed {
+            after_whitespace(piece)
+        } else {
+            piece
+        };
+        if filling.is_empty() {
             return Ok(RangeOrInvalid::Range(VersionRange::all()));
         }
         match RangeOrInvalid::filled(alloc, piece, flavour)? {
@@ -281,7 +276,7 @@ pub struct FirstPiece<'a> {
 }
 
 // Splits the text at the leftmost `||`.
-fn cut(text: &str) -> Option<(&str, &str)>
+pub(crate) fn cut(text: &str) -> Option<(&str, &str)>
     ensures { MatchOption result (HasNoBar text.now) (λ p. IsCutAt text.now p.0.now p.1.now) }
 {
     text.split_once("||")
@@ -379,7 +374,7 @@ impl Alternatives {
         ensures memory { IfErr result (λ failure. failure ≡ None) }
     {
         if is_followed || !self.is_only {
-            if let Some(range) = short_piece(unclosed(piece), flavour) {
+            if let Some(range) = short_piece(piece.strip_suffix(' ').unwrap_or(piece), flavour) {
                 self.retain(alloc, range.into_range(alloc))?;
                 return Ok(());
             }

@@ -1,15 +1,15 @@
+use Rattle.std.proofs.Common.{◌≡◌, Some, arith, rules}
 use Rattle.std.proofs.lemmas.Option.{IfSome_then}
-use Rattle.semver_req.proofs.ShortComparators.{hyphen_piece, piece_wider}
+use Rattle.semver_req.specs.declared.common.values.Flavour.TheVariants.{Npm}
+use Rattle.semver_req.proofs.ShortComparators.{parts_at, piece_wider, start_piece}
 use Rattle.semver_req.proofs.common.short.bounds.Goals as goal
 
 pub returns-in-Some : goal.returns-in-Some
-returns-in-Some c = λ cuts. rw c.in-Some.ensures (IfSome_then c.to_bound.result c.to_bound.ensures (λ range h. piece_wider c.args.flavour cuts h))
+returns-in-Some c = λ cuts.
+    rw (parts_at 60 (omega arith) c.args.text.now (Some (c.in-Some.front, c.in-Some.back)) c.in-Some.ensures.cases) (IfSome_then c.to_bound.result c.to_bound.ensures (λ range h. piece_wider c.args.flavour cuts h))
 
-pub returns-in-Some-hyphen_ends : goal.returns-in-Some-hyphen_ends
-returns-in-Some-hyphen_ends c =
-    λ cuts.
-    let read = rw (c.as_bytes.ensures.value, c.as_bytes-in-Some-hyphen_ends.ensures.value) at c.short_hyphen.ensures in
-    IfSome_then c.short_hyphen.result read (λ range h. rw c.in-Some-hyphen_ends.ensures.0 (hyphen_piece c.in-Some-hyphen_ends.ensures.1 h))
+pub returns-in-Some-short_hyphen : goal.returns-in-Some-short_hyphen
+returns-in-Some-short_hyphen c = λ cuts. let npm : c.args.flavour ≡ Npm = search rules in rw npm c.in-Some-short_hyphen.ensures
 
-pub returns-in-None : goal.returns-in-None
-returns-in-None c = λ cuts. IfSome_then c.from_bound.result c.from_bound.ensures (λ range h. piece_wider c.args.flavour cuts h)
+pub returns : goal.returns
+returns c = λ cuts. piece_wider c.args.flavour cuts (start_piece (rw c.as_bytes.ensures.value at c.in_ok-start.ensures))

@@ -1,5 +1,6 @@
-use Rattle.std.proofs.Common.{◌++◌, ◌∷◌, ◌∙◌, [], ap, append_assoc, refl}
+use Rattle.std.proofs.Common.{◌++◌, ◌∷◌, ◌∙◌, [], Some, ap, append_assoc, arith, refl}
 use Rattle.std.proofs.lemmas.Option.{IfSome_then}
+use Rattle.std.proofs.lemmas.Str.Pattern.{strip_suffix_char}
 use Rattle.semver_req.proofs.ShortComparators.{behind_nothing, end_piece, pair_piece}
 use Rattle.semver_req.proofs.common.short.to_bound.Goals as goal
 
@@ -12,6 +13,7 @@ pub returns : goal.returns
 returns c =
     let end = rw c.as_bytes.ensures.value at c.in_ok-end.ensures in
     let start = rw c.as_bytes-2.ensures.value at c.in_ok-start.ensures in
-    let front = c.in_ok-before_space.field-0.now in
-    let whole = ap (λ t. t ++ (60 ∷ c.args.back.now)) c.in_ok-before_space.ensures ∙ append_assoc front (32 ∷ []) (60 ∷ c.args.back.now) in
+    let front = c.in_ok-strip_suffix.field-0.now in
+    let at_space = strip_suffix_char 32 c.args.front.now (Some c.in_ok-strip_suffix.field-0) c.in_ok-strip_suffix.ensures.cases (omega arith) in
+    let whole = ap (λ t. t ++ (60 ∷ c.args.back.now)) at_space ∙ append_assoc front (32 ∷ []) (60 ∷ c.args.back.now) in
     IfSome_then c.between-2.result c.between-2.ensures.range (λ range h. rw h.0 (pair_piece whole start end h.1))

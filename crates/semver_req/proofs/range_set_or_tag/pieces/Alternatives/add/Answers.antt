@@ -1,7 +1,11 @@
-use Rattle.semver_req.proofs.ShortComparators.{piece_added}
+use Rattle.std.proofs.Common.{arith}
+use Rattle.std.proofs.lemmas.Str.Pattern.{strip_suffix_char}
+use Rattle.semver_req.proofs.ShortComparators.{piece_added, unclosed}
 use Rattle.semver_req.proofs.range_set_or_tag.pieces.Alternatives.add.Goals as goal
 
 pub returns-in-Some-clause-value : goal.returns-in-Some-clause-value
 returns-in-Some-clause-value c =
     let more = c.in_ok-retain.ensures in
-    piece_added c.unclosed.ensures (c.in-Some.ensures c.requires) c.into_range.ensures more.ranges more.rejected more.is_only
+    let r = c.strip_suffix.result in
+    let shorter = unclosed c.args.piece c.unwrap_or.result r (strip_suffix_char 32 c.args.piece.now r c.strip_suffix.ensures.cases (omega arith)) c.unwrap_or.ensures in
+    piece_added shorter (c.in-Some.ensures c.requires) c.into_range.ensures more.ranges more.rejected more.is_only
