@@ -1,6 +1,6 @@
 -- The texts of one kind may follow the same prefixes.
 use Rattle.std.proofs.Common.{ℕ, Bool, List, ◌++◌, refl}
-use Rattle.std.specs.Prelude.{◌↔◌, Err, IfOk, IsTrue, Ok, Result}
+use Rattle.std.specs.Prelude.{◌↔◌, IsTrue}
 use Rattle.semver_req.specs.declared.common.values.Flavour.{Flavour}
 use Rattle.semver_req.specs.Kinds.{IsExpected, IsOfKind, capital_x, digit, itself, kind_text, letter}
 use Rattle.semver_req.specs.Viable.{IsPart, IsViablePrefix}
@@ -27,7 +27,3 @@ module _ (f : Flavour) (prefix : List ℕ) where
     each = λ holds next of_kind. each_follows kind (h.0 holds) next of_kind;
     none = λ next of_kind v. h.1 (one_follows kind next of_kind v);
   }
-
-  pub expected_of : {E : Type 0} (kind : Kind) (r : Result Bool E) → IfOk r (λ yes. IsTrue yes ↔ IsViablePrefix (IsPart f) (prefix ++ kind_text kind)) → IfOk r (IsExpected f prefix kind)
-  expected_of kind (Ok says) h = expected kind says h
-  expected_of kind (Err e) h = h

@@ -178,24 +178,6 @@ fn is_viable_range(alloc: Global, prefix: &str, sizes: Sizes) -> Result<bool, Pa
     is_range(alloc, &text, sizes)
 }
 
-// Whether some alternative, or some range of the strict grammar, begins with the prefix.
-fn is_viable_part(
-    alloc: Global,
-    prefix: &str,
-    flavour: Flavour,
-    sizes: Sizes,
-) -> Result<bool, ParseFailure>
-    ensures value { IfOk result
-        (λ yes. IsTrue yes ↔ IsViablePrefix (Sized sizes (IsPart flavour)) prefix.now) }
-    ensures memory { IfErr result (λ failure. failure ≡ None) }
-{
-    match flavour {
-        Flavour::Npm => is_viable_piece(alloc, prefix, Flavour::Npm, sizes),
-        Flavour::Normal => is_viable_piece(alloc, prefix, Flavour::Normal, sizes),
-        Flavour::Specifier => is_viable_range(alloc, prefix, sizes),
-    }
-}
-
 // Whether some text of the grammar begins with the prefix.
 fn is_viable(alloc: Global, prefix: &str, grammar: Grammar) -> Result<bool, ParseFailure>
     ensures value { IfOk result
@@ -203,7 +185,11 @@ fn is_viable(alloc: Global, prefix: &str, grammar: Grammar) -> Result<bool, Pars
     ensures memory { IfErr result (λ failure. failure ≡ None) }
 {
     match grammar {
-        Grammar::Ranges(flavour, sizes) => is_viable_part(alloc, prefix, flavour, sizes),
+        Grammar::Ranges(flavour, sizes) => match flavour {
+            Flavour::Npm => is_viable_piece(alloc, prefix, Flavour::Npm, sizes),
+            Flavour::Normal => is_viable_piece(alloc, prefix, Flavour::Normal, sizes),
+            Flavour::Specifier => is_viable_range(alloc, prefix, sizes),
+        },
         Grammar::Versions => versions::is_viable_version(alloc, prefix),
     }
 }

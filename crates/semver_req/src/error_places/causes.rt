@@ -1,15 +1,13 @@
 //! What is wrong with an invalid alternative, and where.
 
 ghost use Rattle.semver_base.specs.declared.partial.Partial.{Partial};
-ghost use Rattle.std.specs.Prelude.{◌≡◌, ◌<◌, ◌⊎◌, IfErr, IfOk, IfSome, MatchOption, None, Option, Some, ℕ};
+ghost use Rattle.std.specs.Prelude.{◌≡◌, IfErr, IfOk, None, Option, Some, ℕ};
 ghost use Rattle.semver_base.specs.declared.failure.Rejection.TheVariants as rejection;
 ghost use Rattle.semver_req.specs.Partials.{sized_partial};
 ghost use Rattle.semver_req.specs.PieceReading.{IsPieceRejection};
 ghost use Rattle.semver_req.specs.Pieces.{IsCutting};
 ghost use Rattle.semver_req.specs.Written.{comparator_of};
 ghost use Rattle.semver_req.specs.Causes.{IsBoundAt, IsCauseAt, IsFirstOutsideTag, IsRejected, overflows, rejection_of};
-ghost use Rattle.semver_req.specs.Sizes.{Sized};
-ghost use Rattle.semver_req.specs.Viable.{IsErrorPlace, IsPart};
 
 use crate::common::comparator::{Written, comparator_front};
 use crate::common::separators::after_separator;
@@ -63,14 +61,6 @@ fn outside_tag(text: &str) -> Option<usize>
     ensures { IsFirstOutsideTag text.now result }
 {
     text.find(|c: char| !is_tag_character(c))
-}
-
-// The index of the digit with which a number no longer fits.
-fn large_number(alloc: Global, piece: &str, flavour: Flavour) -> Result<usize, ParseFailure>
-    ensures place { IfOk result (IsErrorPlace (Sized Sizes.Fitting (IsPart flavour)) piece.now) }
-    ensures memory { IfErr result (λ failure. failure ≡ None) }
-{
-    longest_viable(alloc, piece, Grammar::Ranges(flavour, Sizes::Fitting))
 }
 
 // Whether the numbers of a comparator fit, and a bound of it doesn't.
@@ -134,21 +124,6 @@ fn bound_place(alloc: Global, piece: &str, flavour: Flavour) -> Result<usize, Pa
     }
 }
 
-// The index of the first character that no tag has, for an alternative that isn't a range from its start on and begins as a tag does.
-fn tag_end(outside: Option<usize>, place: usize) -> Option<usize>
-    ensures { MatchOption result ((0 < place) ⊎ IfSome outside (λ n. n ≡ 0))
-        (λ end. (place ≡ 0) × (outside ≡ Some end) × (0 < end)) }
-{
-    if place > 0 {
-        return None;
-    }
-    let end = outside?;
-    if end == 0 {
-        return None;
-    }
-    Some(end)
-}
-
 // What is wrong with an alternative that isn't in the grammar.
 fn outside_grammar(
     alloc: Global,
@@ -161,12 +136,12 @@ fn outside_grammar(
     ensures memory { IfErr result (λ failure. failure ≡ None) }
 {
     let place = error_place(alloc, piece, flavour)?;
-    match tag_end(outside, place) {
-        Some(place) => Ok(CauseAt {
-            place,
+    match outside {
+        Some(end) if place == 0 && end > 0 => Ok(CauseAt {
+            place: end,
             cause: Cause::NoTag,
         }),
-        None => {
+        _ => {
             let expected = expected_after(alloc, &piece[..place], flavour)?;
             Ok(CauseAt {
                 place,
@@ -198,7 +173,7 @@ pub(crate) fn cause_of(
             cause: Cause::Empty,
         }),
         Rejection::NumberTooLarge => Ok(CauseAt {
-            place: large_number(alloc, piece, flavour)?,
+            place: longest_viable(alloc, piece, Grammar::Ranges(flavour, Sizes::Fitting))?,
             cause: Cause::NumberTooLarge,
         }),
         Rejection::BoundTooLarge => Ok(CauseAt {

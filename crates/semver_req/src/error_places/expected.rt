@@ -1,7 +1,7 @@
 //! What may stand at a place of a text.
 
 ghost use Rattle.std.specs.Prelude.{◌≡◌, ◌↔◌, IfErr, IfOk, IsTrue, None};
-ghost use Rattle.semver_req.specs.Kinds.{AreExpected, IsExpectation, IsExpected, IsWhole, kind_text};
+ghost use Rattle.semver_req.specs.Kinds.{AreExpected, IsExpectation, IsWhole, kind_text};
 
 use crate::common::values::Flavour;
 use crate::error_places::{Sizes, is_piece, is_range, may_follow};
@@ -104,19 +104,6 @@ pub struct Expected {
     pub may_end: bool,
 }
 
-// Whether the texts of a kind may follow the prefix: all of them may, or none.
-fn is_expected(
-    alloc: Global,
-    prefix: &str,
-    kind: Kind,
-    flavour: Flavour,
-) -> Result<bool, ParseFailure>
-    ensures expected { IfOk result (IsExpected flavour prefix.now kind) }
-    ensures memory { IfErr result (λ failure. failure ≡ None) }
-{
-    may_follow(alloc, prefix, kind.text(), flavour)
-}
-
 // Which of these kinds may follow the prefix.
 fn expected_among(
     alloc: Global,
@@ -130,7 +117,7 @@ fn expected_among(
 {
     let mut found = Vec::new(alloc);
     for kind in kinds {
-        if !is_expected(alloc, prefix, *kind, flavour)? {
+        if !may_follow(alloc, prefix, kind.text(), flavour)? {
             continue;
         }
         if found.push(*kind).is_err() {

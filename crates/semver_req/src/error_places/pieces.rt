@@ -1,18 +1,15 @@
 //! The invalid alternatives of a text.
 
-ghost use Rattle.std.specs.Prelude.{◌≡◌, ◌++◌, ◌+◌, ◌<◌, ◌^◌, ◌∷◌, [], IfErr, IfOk, List, MatchOption, None, OnOk, length, true};
-ghost use Rattle.semver_base.specs.Comparators.{Comparator};
-ghost use Rattle.semver_req.specs.Causes.{IsRejected, IsStrictRejection};
+ghost use Rattle.std.specs.Prelude.{◌≡◌, ◌++◌, ◌+◌, ◌<◌, ◌^◌, ◌∷◌, [], IfErr, IfOk, List, None, OnOk, length, true};
+ghost use Rattle.semver_req.specs.Causes.{IsRejected};
 ghost use Rattle.semver_req.specs.InvalidPieces.{AreErrorsOf, AreInvalidBehind, AreInvalidPieces, IsErrorAt, IsErrorOf, IsStrictError};
 ghost use Rattle.semver_req.specs.declared.error_places.pieces.InvalidPiece.{InvalidPiece};
-ghost use Rattle.semver_req.specs.Comparators.{fits};
-ghost use Rattle.semver_req.specs.Outcome.{IsSpecifierRange};
-ghost use Rattle.semver_req.specs.Pieces.{HasNoBar, IsCutAt, IsCutting};
+ghost use Rattle.semver_req.specs.Pieces.{IsCutting};
 
 use crate::common::single::{Single, parse_single};
 use crate::common::values::Flavour;
 use crate::error_places::causes::{Cause, cause_of};
-use crate::range_set_or_tag::RangeOrInvalid;
+use crate::range_set_or_tag::{RangeOrInvalid, cut};
 use semver_base::failure::{ParseFailure, Rejection};
 use semver_base::lexical::{after_whitespace, is_all_whitespace};
 use std::alloc::{AllocError, Global};
@@ -90,13 +87,6 @@ fn add_error(
     }
 }
 
-// Splits the text at the leftmost `||`.
-fn cut(text: &str) -> Option<(&str, &str)>
-    ensures { MatchOption result (HasNoBar text.now) (λ p. IsCutAt text.now p.0.now p.1.now) }
-{
-    text.split_once("||")
-}
-
 // The errors of the alternatives of a text that is split at each `||`, with so many bytes before it.
 fn errors_of(
     alloc: Global,
@@ -130,26 +120,6 @@ fn errors_of(
     }
 }
 
-// Why the strict parser finds no range in a text; none if it does.
-fn strict_rejection(alloc: Global, text: &str) -> Result<Option<Rejection>, ParseFailure>
-    ensures value { IfOk result (λ found. MatchOption found
-        ((c : Comparator) × IsSpecifierRange text.now c × (fits c ≡ true))
-        (IsStrictRejection text.now)) }
-    ensures memory { IfErr result (λ failure. failure ≡ None) }
-{
-    let found = parse_single(alloc, text)?;
-    match found {
-        Single::Range(range) => {
-            drop(range);
-            Ok(None)
-        }
-        Single::Absent if is_all_whitespace(text) => Ok(Some(Rejection::EmptyConstraint)),
-        Single::Absent => Ok(Some(Rejection::UnexpectedCharacter)),
-        Single::Followed => Ok(Some(Rejection::UnexpectedCharacter)),
-        Single::TooLarge(rejection) => Ok(Some(rejection)),
-    }
-}
-
 // The error of a text that isn't a range of the strict grammar, with so many bytes before it.
 fn strict_errors(
     alloc: Global,
@@ -161,8 +131,16 @@ fn strict_errors(
     ensures memory { IfErr result (λ failure. failure ≡ None) }
 {
     let mut errors = Vec::new(alloc);
-    let Some(rejection) = strict_rejection(alloc, text)? else {
-        return Ok(errors);
+    let found = parse_single(alloc, text)?;
+    let rejection = match found {
+        Single::Range(range) => {
+            drop(range);
+            return Ok(errors);
+        }
+        Single::Absent if is_all_whitespace(text) => Rejection::EmptyConstraint,
+        Single::Absent => Rejection::UnexpectedCharacter,
+        Single::Followed => Rejection::UnexpectedCharacter,
+        Single::TooLarge(rejection) => rejection,
     };
     let error = error_of(alloc, before, text, rejection, Flavour::Specifier)?;
     push(&mut errors, error)?;

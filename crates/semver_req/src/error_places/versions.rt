@@ -12,31 +12,20 @@ use std::alloc::Global;
 // With one of these endings, each prefix of a version's text is a version's text.
 const ENDINGS: [&str; 6] = ["", "1", "1.1", "1.1.1", ".1", ".1.1"];
 
-// Whether the prefix with this ending is a version.
-fn is_version_with(alloc: Global, prefix: &str, ending: &str) -> Result<bool, ParseFailure>
-    ensures value { IfOk result (λ yes. IsTrue yes
-        ↔ ((version : Version) × IsVersionText (prefix.now ++ ending.now) version)) }
-    ensures memory { IfErr result (λ failure. failure ≡ None) }
-{
-    let text = format!(in alloc; "{prefix}{ending}")?;
-    match Version::parse_standard(alloc, &text) {
-        Ok(version) => {
-            drop(version);
-            Ok(true)
-        }
-        Err(error) if error.is_memory() => Err(ParseFailure::memory()),
-        Err(_error) => Ok(false),
-    }
-}
-
 // Whether some version begins with the prefix.
 pub(crate) fn is_viable_version(alloc: Global, prefix: &str) -> Result<bool, ParseFailure>
     ensures value { IfOk result (λ yes. IsTrue yes ↔ IsViablePrefix IsVersionText prefix.now) }
     ensures memory { IfErr result (λ failure. failure ≡ None) }
 {
     for ending in &ENDINGS {
-        if is_version_with(alloc, prefix, ending)? {
-            return Ok(true);
+        let text = format!(in alloc; "{prefix}{ending}")?;
+        match Version::parse_standard(alloc, &text) {
+            Ok(version) => {
+                drop(version);
+                return Ok(true);
+            }
+            Err(error) if error.is_memory() => return Err(ParseFailure::memory()),
+            Err(_error) => {}
         }
     }
     Ok(false)

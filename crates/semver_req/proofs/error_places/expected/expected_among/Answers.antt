@@ -1,5 +1,6 @@
 use Rattle.std.proofs.Common.{◌≡◌, ◌++◌, ◌∷◌, [], false, get_or, rules, true}
 use Rattle.semver_req.proofs.ErrorCauses.{next_expected, next_not}
+use Rattle.semver_req.proofs.KindTexts.{expected}
 use Rattle.semver_req.specs.Kinds.{no_kind}
 use Rattle.semver_req.specs.declared.error_places.expected.Kind.TheVariants as kind
 use Rattle.semver_req.proofs.error_places.expected.expected_among.Goals as goal
@@ -10,12 +11,12 @@ loop-kind-init c = rw c.new-found.ensures.items no_kind
 pub loop-kind-preserved-then-not-branch : goal.loop-kind-preserved-then-not-branch
 loop-kind-preserved-then-not-branch c =
     let l = c.loop-kind in
-    let isnt : c.in_ok-is_expected.field-0 ≡ false = search rules in
-    next_not c.args.flavour c.args.prefix.now c.args.kinds.now l.found.items l.kind-index _ c.loop-kind-test.true l.invariant isnt c.in_ok-is_expected.ensures.expected
+    let isnt : c.in_ok-may_follow.field-0 ≡ false = search rules in
+    next_not c.args.flavour c.args.prefix.now c.args.kinds.now l.found.items l.kind-index _ c.loop-kind-test.true l.invariant isnt (expected c.args.flavour c.args.prefix.now _ _ (rw c.text.ensures.text at c.in_ok-may_follow.ensures.follows))
 
 pub loop-kind-preserved : goal.loop-kind-preserved
 loop-kind-preserved c =
     let l = c.loop-kind in
-    let is : c.in_ok-is_expected.field-0 ≡ true = search rules in
+    let is : c.in_ok-may_follow.field-0 ≡ true = search rules in
     let pushed : c.push.new.self.items ≡ l.found.items ++ get_or c.args.kinds.now l.kind-index kind.Digit ∷ [] = search rules in
-    rw pushed (next_expected c.args.flavour c.args.prefix.now c.args.kinds.now l.found.items l.kind-index _ c.loop-kind-test.true l.invariant is c.in_ok-is_expected.ensures.expected)
+    rw pushed (next_expected c.args.flavour c.args.prefix.now c.args.kinds.now l.found.items l.kind-index _ c.loop-kind-test.true l.invariant is (expected c.args.flavour c.args.prefix.now _ _ (rw c.text.ensures.text at c.in_ok-may_follow.ensures.follows)))

@@ -1,8 +1,20 @@
+use Rattle.std.proofs.Common.{refl}
+use Rattle.semver_req.specs.Causes.{whitespace}
 use Rattle.semver_req.proofs.InvalidPieces.{no_error, strict_error}
+use Rattle.semver_req.proofs.StrictRejections.{absent_rejection, followed_rejection, large_rejection, whole_range}
 use Rattle.semver_req.proofs.error_places.pieces.strict_errors.Goals as goal
+use Rattle.semver_req.proofs.error_places.pieces.strict_errors.Goals.{in-Absent, in-Absent-2, in-Followed, in-TooLarge}
 
-pub returns-in_default-clause-value : goal.returns-in_default-clause-value
-returns-in_default-clause-value c = no_error c.new-errors.ensures.items (rw c.in_default.is at c.in_ok-rejection.ensures.value)
+pub returns-in-Range-clause-value : goal.returns-in-Range-clause-value
+returns-in-Range-clause-value c = no_error c.new-errors.ensures.items (whole_range (rw c.in-Range.is at c.in_ok-found.ensures))
+
+pub error_of-requires-clause-rejected : goal.error_of-requires-clause-rejected
+error_of-requires-clause-rejected c = elim c.match-found.branch [
+  | in-Absent w ↦ rw w.rejection-is (whitespace (w.if-is_all_whitespace.ensures.0 refl))
+  | in-Absent-2 w ↦ rw w.rejection-is (absent_rejection (rw w.in-Absent-2.is at c.in_ok-found.ensures) (λ k. cc (w.if-is_all_whitespace.ensures.1 k)))
+  | in-Followed w ↦ rw w.rejection-is (followed_rejection (rw w.in-Followed.is at c.in_ok-found.ensures))
+  | in-TooLarge w ↦ rw w.rejection-is (large_rejection (rw w.in-TooLarge.is at c.in_ok-found.ensures))
+]
 
 pub returns-clause-value : goal.returns-clause-value
 returns-clause-value c = strict_error c.new-errors.ensures.items c.in_ok-push.ensures.value c.in_ok-error.ensures.value

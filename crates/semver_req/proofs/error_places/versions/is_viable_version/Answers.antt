@@ -1,5 +1,5 @@
-use Rattle.std.proofs.Common.{◌≡◌, inl, inr, arith}
-use Rattle.std.proofs.lemmas.Bool.{both_ways, cases_lt}
+use Rattle.std.proofs.Common.{◌≡◌, ◌∙◌, Ok, arith, inl, inr}
+use Rattle.std.proofs.lemmas.Bool.{cases_lt}
 use Rattle.semver_req.proofs.VersionTexts.{none_made}
 use Rattle.semver_req.proofs.error_places.versions.is_viable_version.Goals as goal
 
@@ -11,7 +11,9 @@ loop-ending-preserved c = λ k less made. elim (cases_lt k c.loop-ending.ending-
   | inl earlier ↦ c.loop-ending.invariant k earlier made
   | inr there ↦
       let same : k ≡ c.loop-ending.ending-index = omega arith in
-      both_ways c.in_ok-is_version_with.field-0 c.if-branch.false (c.in_ok-is_version_with.ensures.value.1 (rw same at made))
+      let it = rw same at made in
+      let none = c.in-Err.ensures.answer (Ok it.0) (rw (c.deref.ensures ∙ c.in_ok-text.ensures.ok) it.1) in
+      cc (c.if-is_memory.ensures.1 none)
 ]
 
 pub returns-clause-value : goal.returns-clause-value
