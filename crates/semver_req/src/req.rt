@@ -250,21 +250,14 @@ pub trait IntoVersionReq {
             (λ req. OfReadVersion (version self) (IsStableSet (ranges_of req.inner).0)) };
 }
 
-// Creates the requirement from the version to itself.
-fn pinned(alloc: Global, version: Version) -> Result<VersionReq, AllocError>
-    ensures { IfOk result (λ req. req ≡ pinned version) }
-{
-    let text = displayed(alloc, &version)?;
-    let raw_text = SmallStackString::from_string(alloc, text)?;
-    let start = RangeBound::inclusive(version.copy()?);
-    let end = RangeBound::inclusive(version);
-    VersionReq::of_range(alloc, raw_text, VersionRange { start, end })
-}
-
 impl IntoVersionReq for Version {
     ghost version = { λ v. v };
 
     fn into_req(self, alloc: Global) -> Result<VersionReq, AllocError> {
-        pinned(alloc, self)
+        let text = displayed(alloc, &self)?;
+        let raw_text = SmallStackString::from_string(alloc, text)?;
+        let start = RangeBound::inclusive(self.copy()?);
+        let end = RangeBound::inclusive(self);
+        VersionReq::of_range(alloc, raw_text, VersionRange { start, end })
     }
 }

@@ -5,13 +5,13 @@
 //! [`VersionReq::matches`] does. Each takes whether pre-releases are restricted by npm's rule or admitted throughout, as
 //! [`VersionReq::matches_with`] does. The time grows with the square of the number of ranges of all requirements.
 
-ghost use Rattle.std.specs.Prelude.{◌≡◌, ◌↔◌, IfOk, IfSome, IsTrue, None, map, true};
+ghost use Rattle.std.specs.Prelude.{◌≡◌, ◌↔◌, IfOk, IfSome, IsTrue, None, true};
 ghost use Rattle.semver_base.specs.Containment.{AreEquivalent, IsWithin, ReportsEquivalent, ReportsWithin};
 ghost use Rattle.semver_base.specs.LowestVersion.{HasNoBuild, IsLowestPassing};
 ghost use Rattle.semver_base.specs.VersionText.{ReadsBack};
 ghost use Rattle.semver_req.specs.AnyOrder.{AllInAnyOrder, BothInAnyOrder, InAnyOrder};
 ghost use Rattle.semver_req.specs.Parsers.{AreReadOrTags, IsReadOrTag};
-ghost use Rattle.semver_req.specs.Requirement.{Requirement, all_inners_mean_with, have_no_tag, inner_means_alone_with, inner_means_with, inners_mean_with, ranges_of, tag_of};
+ghost use Rattle.semver_req.specs.Requirement.{all_inners_mean_with, have_no_tag, inner_means_alone_with, inner_means_with, inners_mean_with, ranges_of, tag_of};
 
 use crate::range_set_or_tag::RangeSetOrTag;
 use crate::req::VersionReq;
@@ -19,21 +19,6 @@ use semver_base::range::{PreRelease, VersionRangeSet};
 use semver_base::string::CowVec;
 use semver_base::version::Version;
 use std::alloc::{AllocError, Global};
-
-// The ranges of each requirement; a tag has none.
-fn all_ranges(
-    alloc: Global,
-    requirements: &[VersionReq],
-) -> Result<Vec<VersionRangeSet>, AllocError>
-    ensures { IfOk result
-        (λ sets. sets.items ≡ map (λ (req : Requirement). ranges_of req.inner) requirements.now) }
-{
-    let mut sets = Vec::new(alloc);
-    for requirement in requirements {
-        sets.push(requirement.ranges(alloc)?)?;
-    }
-    Ok(sets)
-}
 
 impl VersionReq {
     // The ranges; a tag has none.
@@ -142,7 +127,10 @@ impl VersionReq {
             → AllInAnyOrder pre_release self.now.inner others.now lowest) }
     {
         let own = self.ranges(alloc)?;
-        let sets = all_ranges(alloc, others)?;
+        let mut sets = Vec::new(alloc);
+        for other in others {
+            sets.push(other.ranges(alloc)?)?;
+        }
         own.common_version_of_all(alloc, sets.as_slice(), pre_release)
     }
 
