@@ -8,7 +8,7 @@ use Rattle.semver_base.specs.PartialTable.{IsBoundRejection, all_fit}
 use Rattle.semver_base.specs.declared.failure.Rejection.TheVariants.{BoundTooLarge}
 use Rattle.semver_base.specs.declared.lexical.values.Measured.TheVariants.{Fits, TooLarge}
 use Rattle.semver_base.specs.declared.partial.Partial.{Partial}
-use Rattle.semver_req.specs.Causes.{AreFollowed, IsBoundAt, IsStrictRejection, comparator, front_bound, hyphen_range, none_before, one_more, overflows}
+use Rattle.semver_req.specs.Causes.{AreFollowed, IsBoundAt, IsRejected, IsStrictRejection, comparator, front_bound, hyphen_range, none_before, one_more, overflows}
 use Rattle.semver_req.specs.Comparators.{IsComparator}
 use Rattle.semver_req.specs.Parsers.{Failure}
 use Rattle.semver_req.specs.Partials.{sized_partial}
@@ -77,13 +77,12 @@ module _ (f : Flavour) (cuts : IsCutting f) (text : List ℕ) where
       by Specifier k h never = elim k [ ]
 
   module _ (rejected : IsPieceRejection f text BoundTooLarge) where
-    pub no_comparator : HasNone (IsComparator f) text → IsBoundAt f text 0
+    no_comparator : HasNone (IsComparator f) text → IsBoundAt f text 0
     no_comparator n = elim rejected [
       | large_bound cs h fit large ↦ hyphen_or_list cs h large (λ list. no_list f list n)
     ]
 
-    -- the longest list overflows nowhere
-    pub none_overflows : {items : List Comparator} {rest : List ℕ} → IsLongest (IsComparators f) text items rest → list_any overflows items ≡ false → IsBoundAt f text 0
+    none_overflows : {items : List Comparator} {rest : List ℕ} → IsLongest (IsComparators f) text items rest → list_any overflows items ≡ false → IsBoundAt f text 0
     none_overflows {items} {rest} l none = elim rejected [
       | large_bound cs h fit large ↦ hyphen_or_list cs h large (λ list.
           let longest = l.longest text [] cs (sym (append-nil text)) list in
@@ -122,7 +121,21 @@ one_more_none cs c none e n = one_more_not cs c none (sym e ∙ n)
 
 -- ---- the strict grammar
 
-pub strict_bound : {text : List ℕ} → IsStrictRejection text BoundTooLarge → IsBoundAt Specifier text 0
+strict_bound : {text : List ℕ} → IsStrictRejection text BoundTooLarge → IsBoundAt Specifier text 0
 strict_bound r = elim r [
   | front_bound l fit large ↦ comparator refl none_before refl l (rw (fit, large) refl)
 ]
+
+-- ---- of each grammar
+
+pub at_none : (f : Flavour) (text : List ℕ) → IsRejected f text BoundTooLarge → HasNone (IsComparator f) text → IsBoundAt f text 0
+at_none Npm text r n = no_comparator Npm npm text r n
+at_none Normal text r n = no_comparator Normal normal text r n
+at_none Specifier text r n = strict_bound r
+
+-- the longest list overflows nowhere
+pub at_no_overflow : (f : Flavour) (text : List ℕ) → IsRejected f text BoundTooLarge → {items : List Comparator} {rest : List ℕ} → IsLongest (IsComparators f) text items rest → list_any overflows items ≡ false
+    → IsBoundAt f text 0
+at_no_overflow Npm text r l none = none_overflows Npm npm text r l none
+at_no_overflow Normal text r l none = none_overflows Normal normal text r l none
+at_no_overflow Specifier text r l none = strict_bound r

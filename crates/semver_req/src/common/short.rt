@@ -4,11 +4,10 @@
 //! Most pieces are such texts. What this parses is a piece by the grammar, and a text has only one meaning; so each parser
 //! tries this first, and falls back to the full grammar on `None`.
 
-ghost use Rattle.std.specs.Prelude.{◌≡◌, ◌++◌, ◌∷◌, IfOk, IfSome};
+ghost use Rattle.std.specs.Prelude.{◌∷◌, IfOk, IfSome};
 ghost use Rattle.semver_base.specs.Characters.{space};
 ghost use Rattle.semver_base.specs.Comparators.{comparator_line};
 ghost use Rattle.semver_base.specs.PartialTable.{IsLineRange, of_short, release_bound, release_range};
-ghost use Rattle.semver_req.specs.Partials.{is_wildcard};
 ghost use Rattle.semver_req.specs.Pieces.{IsCutting};
 ghost use Rattle.semver_req.specs.ShortComparators.{IsAfterGap, IsShortEnd, IsShortPartial, IsShortPiece, IsShortComparator, IsShortStart, IsStarOrQualified, IsWildcardFront, less_sign};
 ghost use Rattle.semver_req.specs.Written.{comparator_of};
@@ -38,23 +37,14 @@ fn numbers_range(operator: Operator, numbers: ShortNumbers) -> Option<ReleaseRan
     }
 }
 
-#[inline(always)]
-fn is_wildcard(byte: u8, flavour: Flavour) -> bool
-    ensures { result ≡ is_wildcard flavour byte }
-{
-    match flavour {
-        Flavour::Normal => byte == b'*',
-        Flavour::Npm | Flavour::Specifier => byte == b'*' || byte == b'x' || byte == b'X',
-    }
-}
-
 // Strips a leading `.` and a wildcard.
 #[inline(always)]
 fn after_wildcard(text: &[u8], flavour: Flavour) -> Option<&[u8]>
     ensures { IfSome result (λ rest. IsWildcardFront flavour text.now rest.now) }
 {
     match text {
-        [b'.', b, rest @ ..] if is_wildcard(*b, flavour) => Some(rest),
+        [b'.', b'*', rest @ ..] => Some(rest),
+        [b'.', b'x' | b'X', rest @ ..] if flavour != Flavour::Normal => Some(rest),
         _ => None,
     }
 }
@@ -160,25 +150,6 @@ fn upper_bound(text: &[u8]) -> Option<ReleaseBound>
     short_partial(after_gap(rest), Flavour::Normal)?.less_than(kind)
 }
 
-// The range of the whole text, if it is such an end above 0.0.0, or a start and an end above it. The text is split at its first `<`.
-#[inline(always)]
-fn to_bound(front: &str, back: &str) -> Option<ReleaseRange>
-    ensures { IfSome result (λ range.
-        IsShortPiece Normal (front.now ++ less_sign ∷ back.now) (release_range range)) }
-{
-    let end = upper_bound(back.as_bytes())?;
-    if front.is_empty() {
-        let zero = Numbers {
-            major: 0,
-            minor: 0,
-            patch: 0,
-        };
-        return ReleaseRange::between(ReleaseBound::inclusive(zero), end);
-    }
-    let start = lower_bound(front.strip_suffix(' ')?.as_bytes())?;
-    ReleaseRange::between(start, end)
-}
-
 // The range of the whole text, if it is two short partial versions around ` - `.
 #[inline(always)]
 fn short_hyphen(text: &str) -> Option<ReleaseRange>
@@ -203,7 +174,17 @@ fn bounds(text: &str, flavour: Flavour) -> Option<ReleaseRange>
         → IfSome result (λ range. IsShortPiece flavour text.now (release_range range)) }
 {
     if let Some((front, back)) = text.split_once('<') {
-        return to_bound(front, back);
+        let end = upper_bound(back.as_bytes())?;
+        if front.is_empty() {
+            let zero = Numbers {
+                major: 0,
+                minor: 0,
+                patch: 0,
+            };
+            return ReleaseRange::between(ReleaseBound::inclusive(zero), end);
+        }
+        let start = lower_bound(front.strip_suffix(' ')?.as_bytes())?;
+        return ReleaseRange::between(start, end);
     }
     if flavour == Flavour::Npm {
         if let Some(range) = short_hyphen(text) {

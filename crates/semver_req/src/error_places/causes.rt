@@ -4,8 +4,6 @@ ghost use Rattle.semver_base.specs.declared.partial.Partial.{Partial};
 ghost use Rattle.std.specs.Prelude.{◌≡◌, IfErr, IfOk, None, Option, Some, ℕ};
 ghost use Rattle.semver_base.specs.declared.failure.Rejection.TheVariants as rejection;
 ghost use Rattle.semver_req.specs.Partials.{sized_partial};
-ghost use Rattle.semver_req.specs.PieceReading.{IsPieceRejection};
-ghost use Rattle.semver_req.specs.Pieces.{IsCutting};
 ghost use Rattle.semver_req.specs.Written.{comparator_of};
 ghost use Rattle.semver_req.specs.Causes.{IsBoundAt, IsCauseAt, IsFirstOutsideTag, IsRejected, overflows, rejection_of};
 
@@ -87,8 +85,7 @@ fn overflows(alloc: Global, written: Written) -> Result<bool, ParseFailure>
 
 // The start of the first comparator of which a bound is too large; 0 for a hyphen range.
 fn large_bound(alloc: Global, piece: &str, flavour: Flavour) -> Result<usize, ParseFailure>
-    requires rejected { IsPieceRejection flavour piece.now rejection.BoundTooLarge }
-    requires cuts { IsCutting flavour }
+    requires { IsRejected flavour piece.now rejection.BoundTooLarge }
     ensures place { IfOk result (IsBoundAt flavour piece.now) }
     ensures memory { IfErr result (λ failure. failure ≡ None) }
 {
@@ -108,20 +105,6 @@ fn large_bound(alloc: Global, piece: &str, flavour: Flavour) -> Result<usize, Pa
         rest = more;
     }
     Ok(0)
-}
-
-// Where a bound of an alternative is too large.
-fn bound_place(alloc: Global, piece: &str, flavour: Flavour) -> Result<usize, ParseFailure>
-    requires { IsRejected flavour piece.now rejection.BoundTooLarge }
-    ensures place { IfOk result (IsBoundAt flavour piece.now) }
-    ensures memory { IfErr result (λ failure. failure ≡ None) }
-{
-    match flavour {
-        Flavour::Npm => large_bound(alloc, piece, Flavour::Npm),
-        Flavour::Normal => large_bound(alloc, piece, Flavour::Normal),
-        // The only comparator.
-        Flavour::Specifier => Ok(0),
-    }
 }
 
 // What is wrong with an alternative that isn't in the grammar.
@@ -177,7 +160,7 @@ pub(crate) fn cause_of(
             cause: Cause::NumberTooLarge,
         }),
         Rejection::BoundTooLarge => Ok(CauseAt {
-            place: bound_place(alloc, piece, flavour)?,
+            place: large_bound(alloc, piece, flavour)?,
             cause: Cause::BoundTooLarge,
         }),
         _ => outside_grammar(alloc, piece, outside, flavour),

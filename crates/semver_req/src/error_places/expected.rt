@@ -1,7 +1,7 @@
 //! What may stand at a place of a text.
 
 ghost use Rattle.std.specs.Prelude.{◌≡◌, ◌↔◌, IfErr, IfOk, IsTrue, None};
-ghost use Rattle.semver_req.specs.Kinds.{AreExpected, IsExpectation, IsWhole, kind_text};
+ghost use Rattle.semver_req.specs.Kinds.{IsExpectation, IsWhole, kind_text};
 
 use crate::common::values::Flavour;
 use crate::error_places::{Sizes, is_piece, is_range, may_follow};
@@ -104,29 +104,6 @@ pub struct Expected {
     pub may_end: bool,
 }
 
-// Which of these kinds may follow the prefix.
-fn expected_among(
-    alloc: Global,
-    prefix: &str,
-    kinds: &[Kind],
-    flavour: Flavour,
-) -> Result<Vec<Kind>, ParseFailure>
-    ensures value { IfOk result
-        (λ found. AreExpected flavour prefix.now kinds.now found.items) }
-    ensures memory { IfErr result (λ failure. failure ≡ None) }
-{
-    let mut found = Vec::new(alloc);
-    for kind in kinds {
-        if !may_follow(alloc, prefix, kind.text(), flavour)? {
-            continue;
-        }
-        if found.push(*kind).is_err() {
-            return Err(ParseFailure::memory());
-        }
-    }
-    Ok(found)
-}
-
 // Whether a text may end behind the prefix, which is then an alternative of the grammar.
 fn may_end(alloc: Global, prefix: &str, flavour: Flavour) -> Result<bool, ParseFailure>
     ensures ends { IfOk result (λ yes. IsTrue yes ↔ IsWhole flavour prefix.now) }
@@ -152,6 +129,14 @@ pub fn expected_after(
     ensures memory { IfErr result (λ failure. failure ≡ None) }
 {
     let may_end = may_end(alloc, prefix, flavour)?;
-    let kinds = expected_among(alloc, prefix, &KINDS, flavour)?;
+    let mut kinds = Vec::new(alloc);
+    for kind in &KINDS {
+        if !may_follow(alloc, prefix, kind.text(), flavour)? {
+            continue;
+        }
+        if kinds.push(*kind).is_err() {
+            return Err(ParseFailure::memory());
+        }
+    }
     Ok(Expected { kinds, may_end })
 }

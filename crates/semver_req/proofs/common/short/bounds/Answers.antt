@@ -1,15 +1,29 @@
-use Rattle.std.proofs.Common.{◌≡◌, Some, arith, rules}
+use Rattle.std.proofs.Common.{◌≡◌, ◌++◌, ◌∷◌, ◌∙◌, [], Some, ap, append_assoc, arith, refl, rules}
 use Rattle.std.proofs.lemmas.Option.{IfSome_then}
+use Rattle.std.proofs.lemmas.Str.Pattern.{strip_suffix_char}
 use Rattle.semver_req.specs.declared.common.values.Flavour.TheVariants.{Npm}
-use Rattle.semver_req.proofs.ShortComparators.{parts_at, piece_wider, start_piece}
+use Rattle.semver_req.proofs.ShortComparators.{behind_nothing, end_piece, pair_piece, parts_at, piece_wider, start_piece}
 use Rattle.semver_req.proofs.common.short.bounds.Goals as goal
+
+pub returns-then-is_empty : goal.returns-then-is_empty
+returns-then-is_empty c = λ cuts.
+    let end = rw c.as_bytes.ensures.value at c.in_ok-end.ensures in
+    rw (parts_at 60 (omega arith) c.args.text.now (Some (c.in-Some.front, c.in-Some.back)) c.in-Some.ensures.cases)
+    (IfSome_then c.between.result c.between.ensures.range (λ range h. piece_wider c.args.flavour cuts (behind_nothing c.in-Some.front.now c.if-is_empty.ensures (rw h.0 (end_piece end (rw c.inclusive.ensures refl) h.1)))))
 
 pub returns-in-Some : goal.returns-in-Some
 returns-in-Some c = λ cuts.
-    rw (parts_at 60 (omega arith) c.args.text.now (Some (c.in-Some.front, c.in-Some.back)) c.in-Some.ensures.cases) (IfSome_then c.to_bound.result c.to_bound.ensures (λ range h. piece_wider c.args.flavour cuts h))
+    let end = rw c.as_bytes.ensures.value at c.in_ok-end.ensures in
+    let start = rw c.as_bytes-in-Some.ensures.value at c.in_ok-start.ensures in
+    let front = c.in_ok-strip_suffix.field-0.now in
+    let back = c.in-Some.back.now in
+    let at_space = strip_suffix_char 32 c.in-Some.front.now (Some c.in_ok-strip_suffix.field-0) c.in_ok-strip_suffix.ensures.cases (omega arith) in
+    let at_less = parts_at 60 (omega arith) c.args.text.now (Some (c.in-Some.front, c.in-Some.back)) c.in-Some.ensures.cases in
+    let whole = at_less ∙ (ap (λ t. t ++ (60 ∷ back)) at_space ∙ append_assoc front (32 ∷ []) (60 ∷ back)) in
+    IfSome_then c.between-in-Some.result c.between-in-Some.ensures.range (λ range h. piece_wider c.args.flavour cuts (rw h.0 (pair_piece whole start end h.1)))
 
 pub returns-in-Some-short_hyphen : goal.returns-in-Some-short_hyphen
 returns-in-Some-short_hyphen c = λ cuts. let npm : c.args.flavour ≡ Npm = search rules in rw npm c.in-Some-short_hyphen.ensures
 
 pub returns : goal.returns
-returns c = λ cuts. piece_wider c.args.flavour cuts (start_piece (rw c.as_bytes.ensures.value at c.in_ok-start.ensures))
+returns c = λ cuts. piece_wider c.args.flavour cuts (start_piece (rw c.as_bytes-2.ensures.value at c.in_ok-start-2.ensures))

@@ -1,4 +1,4 @@
-use Rattle.std.proofs.Common.{◌≡◌, ◌∙◌, ◌++◌, ◌∷◌, ℕ, List, Some, ap, arith, rules}
+use Rattle.std.proofs.Common.{◌∙◌, ◌++◌, ◌∷◌, ℕ, List, Some, ap, arith, rules}
 use Rattle.semver_base.specs.PartialTable.{release_range}
 use Rattle.semver_req.specs.ShortComparators.{IsShortHyphen}
 use Rattle.semver_req.proofs.ShortComparators.{hyphen_piece, parts_at}

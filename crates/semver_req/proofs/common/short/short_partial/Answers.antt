@@ -1,4 +1,4 @@
-use Rattle.std.proofs.Common.{◌∙◌, sym, inl, inr}
+use Rattle.std.proofs.Common.{inl, inr}
 use Rattle.semver_req.specs.ShortComparators.{IsFewer}
 use Rattle.semver_req.proofs.ShortComparators.{none_behind, one_behind, two_behind}
 use Rattle.semver_req.proofs.common.short.short_partial.Goals as goal

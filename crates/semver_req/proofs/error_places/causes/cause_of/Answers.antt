@@ -7,5 +7,5 @@ returns-in-EmptyConstraint-clause-value c = (c.outside_tag-outside.result, c.out
 pub returns-in_ok-longest_viable-in-NumberTooLarge-clause-value : goal.returns-in_ok-longest_viable-in-NumberTooLarge-clause-value
 returns-in_ok-longest_viable-in-NumberTooLarge-clause-value c = (c.outside_tag-outside.result, c.outside_tag-outside.ensures, too_large c.in_ok-longest_viable-in-NumberTooLarge.ensures.place)
 
-pub returns-in_ok-bound_place-in-BoundTooLarge-clause-value : goal.returns-in_ok-bound_place-in-BoundTooLarge-clause-value
-returns-in_ok-bound_place-in-BoundTooLarge-clause-value c = (c.outside_tag-outside.result, c.outside_tag-outside.ensures, bound_too_large c.in_ok-bound_place-in-BoundTooLarge.ensures.place)
+pub returns-in_ok-large_bound-in-BoundTooLarge-clause-value : goal.returns-in_ok-large_bound-in-BoundTooLarge-clause-value
+returns-in_ok-large_bound-in-BoundTooLarge-clause-value c = (c.outside_tag-outside.result, c.outside_tag-outside.ensures, bound_too_large c.in_ok-large_bound-in-BoundTooLarge.ensures.place)

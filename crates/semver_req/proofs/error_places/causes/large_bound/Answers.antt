@@ -1,12 +1,12 @@
 use Rattle.std.proofs.Common.{[], ◌∷◌, ◌++◌, rules, refl, sym, ◌∙◌}
 use Rattle.semver_base.proofs.Lists.{so_far_more, so_far_one}
 use Rattle.semver_req.specs.Written.{comparator_of}
-use Rattle.semver_req.proofs.LargeBounds.{first_before, first_overflows, next_before, next_overflows, no_comparator, none_overflows, one_more_none}
+use Rattle.semver_req.proofs.LargeBounds.{at_no_overflow, at_none, first_before, first_overflows, next_before, next_overflows, one_more_none}
 use Rattle.semver_req.proofs.PieceReadings.{list_shorter, listing}
 use Rattle.semver_req.proofs.error_places.causes.large_bound.Goals as goal
 
 pub returns-in_default-clause-place : goal.returns-in_default-clause-place
-returns-in_default-clause-place c = no_comparator c.args.flavour c.requires.cuts c.args.piece.now c.requires.rejected (rw c.in_default.is at c.in_ok-first.ensures)
+returns-in_default-clause-place c = at_none c.args.flavour c.args.piece.now c.requires (rw c.in_default.is at c.in_ok-first.ensures)
 
 pub returns-then-branch-clause-place : goal.returns-then-branch-clause-place
 returns-then-branch-clause-place c =
@@ -45,7 +45,7 @@ loop-next-smaller c =
 pub returns-in_default-2-clause-place : goal.returns-in_default-2-clause-place
 returns-in_default-2-clause-place c =
     let i = c.loop-next.invariant in
-    none_overflows c.args.flavour c.requires.cuts c.args.piece.now c.requires.rejected (i.so_far.at_separator _ _ c.in-Some-after_separator.ensures (rw c.in_default-2.is at c.in_ok-written.ensures)) i.none
+    at_no_overflow c.args.flavour c.args.piece.now c.requires (i.so_far.at_separator _ _ c.in-Some-after_separator.ensures (rw c.in_default-2.is at c.in_ok-written.ensures)) i.none
 
 pub returns-then-branch-2-clause-place : goal.returns-then-branch-2-clause-place
 returns-then-branch-2-clause-place c =
@@ -56,4 +56,4 @@ returns-then-branch-2-clause-place c =
 pub returns-clause-place : goal.returns-clause-place
 returns-clause-place c =
     let i = c.loop-next.invariant in
-    none_overflows c.args.flavour c.requires.cuts c.args.piece.now c.requires.rejected (i.so_far.at_end c.in_default-after_separator.ensures) i.none
+    at_no_overflow c.args.flavour c.args.piece.now c.requires (i.so_far.at_end c.in_default-after_separator.ensures) i.none

@@ -1,0 +1,29 @@
+use Rattle.std.proofs.Common.{◌≡◌, ◌++◌, ◌∷◌, [], false, get_or, rules, true}
+use Rattle.std.proofs.lemmas.List.{take_all}
+use Rattle.semver_req.proofs.ErrorCauses.{next_expected, next_not}
+use Rattle.semver_req.proofs.KindTexts.{expected}
+use Rattle.semver_req.specs.Kinds.{all_kinds, no_kind}
+use Rattle.semver_req.specs.declared.error_places.expected.Kind.TheVariants as kind
+use Rattle.semver_req.proofs.error_places.expected.expected_after.Goals as goal
+
+pub loop-kind-init : goal.loop-kind-init
+loop-kind-init c = rw c.new-kinds.ensures.items no_kind
+
+pub loop-kind-preserved-then-not-branch : goal.loop-kind-preserved-then-not-branch
+loop-kind-preserved-then-not-branch c =
+    let l = c.loop-kind in
+    let isnt : c.in_ok-may_follow.field-0 ≡ false = search rules in
+    next_not c.args.flavour c.args.prefix.now all_kinds l.kinds.items l.kind-index _ c.loop-kind-test.true l.invariant isnt (expected c.args.flavour c.args.prefix.now _ _ (rw c.text.ensures.text at c.in_ok-may_follow.ensures.follows))
+
+pub loop-kind-preserved : goal.loop-kind-preserved
+loop-kind-preserved c =
+    let l = c.loop-kind in
+    let is : c.in_ok-may_follow.field-0 ≡ true = search rules in
+    let pushed : c.push.new.self.items ≡ l.kinds.items ++ get_or all_kinds l.kind-index kind.Digit ∷ [] = search rules in
+    rw pushed (next_expected c.args.flavour c.args.prefix.now all_kinds l.kinds.items l.kind-index _ c.loop-kind-test.true l.invariant is (expected c.args.flavour c.args.prefix.now _ _ (rw c.text.ensures.text at c.in_ok-may_follow.ensures.follows)))
+
+pub returns-clause-value : goal.returns-clause-value
+returns-clause-value c = record {
+  kinds = rw (take_all c.loop-kind.kind-index all_kinds c.loop-kind-test.false) at c.loop-kind.invariant;
+  ends = c.in_ok-may_end.ensures.ends;
+}

@@ -1,6 +1,0 @@
-use Rattle.std.proofs.Common.{take}
-use Rattle.semver_req.specs.Kinds.{AreExpected}
-use Rattle.semver_req.proofs.error_places.expected.expected_among.Given as goal
-
-abbrev pub invariant-loop-kind : goal.invariant-loop-kind
-invariant-loop-kind l = AreExpected l.flavour l.prefix (take l.kind-index l.kinds) l.found.items
