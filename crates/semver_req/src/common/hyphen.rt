@@ -2,8 +2,7 @@
 
 ghost use Rattle.std.specs.Prelude.{IfOk};
 ghost use Rattle.semver_base.specs.Grammar.{ReadsAs, answer_of};
-ghost use Rattle.semver_req.specs.Partials.{sized_partial};
-ghost use Rattle.semver_req.specs.Pieces.{IsHyphenPair, IsHyphened};
+ghost use Rattle.semver_req.specs.Pieces.{IsHyphenPair};
 ghost use Rattle.semver_req.specs.PieceSteps.{sized_hyphen};
 
 use crate::common::partial_front;
@@ -23,11 +22,15 @@ pub struct HyphenRange {
     pub upper: Measured<Partial>,
 }
 
-// Parses a `-` with whitespace on both sides, the partial version after it and the whitespace after that.
-fn hyphened(alloc: Global, text: &str) -> Result<Option<(Measured<Partial>, &str)>, AllocError>
-    ensures { IfOk result (λ r. ReadsAs sized_partial IsHyphened text.now (answer_of r)) }
+/// Parses a leading hyphen range, two partial versions around a `-` with whitespace on both sides, and the whitespace after
+/// it (node-semver, "Hyphen Ranges"). Fails only out of memory.
+pub fn hyphen_front(alloc: Global, text: &str) -> Result<Option<(HyphenRange, &str)>, AllocError>
+    ensures { IfOk result (λ r. ReadsAs sized_hyphen IsHyphenPair text.now (answer_of r)) }
 {
-    let Some(rest) = after_some_whitespace(text) else {
+    let Some((lower, rest)) = partial_front(alloc, text, Flavour::Npm)? else {
+        return Ok(None);
+    };
+    let Some(rest) = after_some_whitespace(rest) else {
         return Ok(None);
     };
     let Some(rest) = after(rest, '-') else {
@@ -37,21 +40,10 @@ fn hyphened(alloc: Global, text: &str) -> Result<Option<(Measured<Partial>, &str
         return Ok(None);
     };
     match partial_front(alloc, rest, Flavour::Npm)? {
-        Some((partial, rest)) => Ok(Some((partial, after_whitespace(rest)))),
-        None => Ok(None),
-    }
-}
-
-/// Parses a leading hyphen range, two partial versions around a `-` with whitespace on both sides, and the whitespace after
-/// it (node-semver, "Hyphen Ranges"). Fails only out of memory.
-pub fn hyphen_front(alloc: Global, text: &str) -> Result<Option<(HyphenRange, &str)>, AllocError>
-    ensures { IfOk result (λ r. ReadsAs sized_hyphen IsHyphenPair text.now (answer_of r)) }
-{
-    let Some((lower, rest)) = partial_front(alloc, text, Flavour::Npm)? else {
-        return Ok(None);
-    };
-    match hyphened(alloc, rest)? {
-        Some((upper, rest)) => Ok(Some((HyphenRange { lower, upper }, rest))),
+        Some((upper, rest)) => {
+            let hyphen = HyphenRange { lower, upper };
+            Ok(Some((hyphen, after_whitespace(rest))))
+        }
         None => Ok(None),
     }
 }

@@ -1,7 +1,7 @@
 //! What may stand at a place of a text.
 
-ghost use Rattle.std.specs.Prelude.{◌≡◌, ◌↔◌, IfErr, IfOk, IsTrue, None};
-ghost use Rattle.semver_req.specs.Kinds.{IsExpectation, IsWhole, kind_text};
+ghost use Rattle.std.specs.Prelude.{◌≡◌, IfErr, IfOk, None};
+ghost use Rattle.semver_req.specs.Kinds.{IsExpectation, kind_text};
 
 use crate::common::values::Flavour;
 use crate::error_places::{Sizes, is_piece, is_range, may_follow};
@@ -104,18 +104,6 @@ pub struct Expected {
     pub may_end: bool,
 }
 
-// Whether a text may end behind the prefix, which is then an alternative of the grammar.
-fn may_end(alloc: Global, prefix: &str, flavour: Flavour) -> Result<bool, ParseFailure>
-    ensures ends { IfOk result (λ yes. IsTrue yes ↔ IsWhole flavour prefix.now) }
-    ensures memory { IfErr result (λ failure. failure ≡ None) }
-{
-    match flavour {
-        Flavour::Npm => is_piece(alloc, prefix, false, Flavour::Npm, Sizes::Any),
-        Flavour::Normal => is_piece(alloc, prefix, false, Flavour::Normal, Sizes::Any),
-        Flavour::Specifier => is_range(alloc, prefix, Sizes::Any),
-    }
-}
-
 /// Returns what may stand behind a prefix: which kinds may follow it, and whether a text may end there. If one text of a kind may
 /// follow, each may.
 ///
@@ -128,7 +116,11 @@ pub fn expected_after(
     ensures value { IfOk result (IsExpectation flavour prefix.now) }
     ensures memory { IfErr result (λ failure. failure ≡ None) }
 {
-    let may_end = may_end(alloc, prefix, flavour)?;
+    let may_end = match flavour {
+        Flavour::Npm => is_piece(alloc, prefix, false, Flavour::Npm, Sizes::Any)?,
+        Flavour::Normal => is_piece(alloc, prefix, false, Flavour::Normal, Sizes::Any)?,
+        Flavour::Specifier => is_range(alloc, prefix, Sizes::Any)?,
+    };
     let mut kinds = Vec::new(alloc);
     for kind in &KINDS {
         if !may_follow(alloc, prefix, kind.text(), flavour)? {

@@ -7,7 +7,7 @@ ghost use Rattle.semver_base.specs.declared.failure.Rejection.TheVariants.{Bound
 ghost use Rattle.semver_base.specs.declared.lexical.values.Measured.TheVariants.{Fits};
 ghost use Rattle.semver_base.specs.declared.partial.Partial.{Partial};
 ghost use Rattle.semver_req.specs.Partials.{sized_partial};
-ghost use Rattle.semver_req.specs.PieceReading.{IsPieceRead, as_retained, joined, retained_of};
+ghost use Rattle.semver_req.specs.PieceReading.{IsPieceRead, joined, retained_of};
 ghost use Rattle.semver_req.specs.PieceSteps.{AreAllRead, IsAdded, IsFirstPiece, IsHyphenRead, IsNextPiece, IsWholeRead, both_now};
 ghost use Rattle.semver_req.specs.Pieces.{HasNoBar, IsComparators, IsCutAt, IsCutting, IsFilled, IsHyphen, hyphen};
 ghost use Rattle.semver_req.specs.Comparators.{IsComparator};
@@ -146,17 +146,17 @@ impl RangeOrInvalid {
         Ok(Some(read))
     }
 
-    // The range from the lower bound of the first to the upper bound of the second.
-    fn from_to(
-        alloc: Global,
-        lower: &Partial,
-        upper: &Partial,
-    ) -> Result<RangeOrInvalid, ParseFailure>
-        ensures value { (v : Partial × Partial) → Fits lower.now ≡ sized_partial v.0
-            → Fits upper.now ≡ sized_partial v.1
-            → IfOk result (λ read. read ≡ as_retained (hyphen v)) }
+    // The range of a hyphen range, if its numbers fit: from the lower bound of the first partial version to the upper bound of the second.
+    fn between(alloc: Global, hyphen: &HyphenRange) -> Result<RangeOrInvalid, ParseFailure>
+        ensures value { IfOk result (IsHyphenRead hyphen.now) }
         ensures memory { IfErr result (λ failure. failure ≡ None) }
     {
+        let Measured::Fits(lower) = &hyphen.lower else {
+            return Ok(RangeOrInvalid::Invalid(Rejection::NumberTooLarge));
+        };
+        let Measured::Fits(upper) = &hyphen.upper else {
+            return Ok(RangeOrInvalid::Invalid(Rejection::NumberTooLarge));
+        };
         let start = lower.as_lower_bound(alloc)?;
         match upper.as_upper_bound(alloc) {
             Ok(end) => Ok(RangeOrInvalid::Range(VersionRange { start, end })),
@@ -165,26 +165,6 @@ impl RangeOrInvalid {
                 no_range(failure)
             }
         }
-    }
-
-    // The range of a hyphen range, if its numbers fit.
-    fn between(alloc: Global, hyphen: HyphenRange) -> Result<RangeOrInvalid, ParseFailure>
-        ensures value { IfOk result (IsHyphenRead hyphen) }
-        ensures memory { IfErr result (λ failure. failure ≡ None) }
-    {
-        let HyphenRange { lower, upper } = hyphen;
-        let Measured::Fits(lower) = lower else {
-            drop(upper);
-            return Ok(RangeOrInvalid::Invalid(Rejection::NumberTooLarge));
-        };
-        let Measured::Fits(upper) = upper else {
-            drop(lower);
-            return Ok(RangeOrInvalid::Invalid(Rejection::NumberTooLarge));
-        };
-        let read = RangeOrInvalid::from_to(alloc, &lower, &upper);
-        drop(lower);
-        drop(upper);
-        read
     }
 
     // Parses the whole piece as a hyphen range.
@@ -198,7 +178,7 @@ impl RangeOrInvalid {
         if !rest.is_empty() {
             return Ok(None);
         }
-        Ok(Some(RangeOrInvalid::between(alloc, hyphen)?))
+        Ok(Some(RangeOrInvalid::between(alloc, &hyphen)?))
     }
 
     // Parses the whole piece, which isn't empty. No piece is both a list and a hyphen range of npm's, so their order is free.

@@ -5,6 +5,7 @@ use Rattle.semver_req.proofs.KindTexts.{expected}
 use Rattle.semver_req.specs.Kinds.{all_kinds, no_kind}
 use Rattle.semver_req.specs.declared.error_places.expected.Kind.TheVariants as kind
 use Rattle.semver_req.proofs.error_places.expected.expected_after.Goals as goal
+use Rattle.semver_req.proofs.error_places.expected.expected_after.Goals.{in-Npm+in_ok-may_end-in-Npm, in-Normal+in_ok-may_end-in-Normal, in-Specifier+in_ok-may_end-in-Specifier}
 
 pub loop-kind-init : goal.loop-kind-init
 loop-kind-init c = rw c.new-kinds.ensures.items no_kind
@@ -25,5 +26,9 @@ loop-kind-preserved c =
 pub returns-clause-value : goal.returns-clause-value
 returns-clause-value c = record {
   kinds = rw (take_all c.loop-kind.kind-index all_kinds c.loop-kind-test.false) at c.loop-kind.invariant;
-  ends = c.in_ok-may_end.ensures.ends;
+  ends = elim c.match-flavour.branch [
+    | in-Npm+in_ok-may_end-in-Npm w ↦ rw (w.may_end-is, w.in-Npm.is) w.in_ok-may_end-in-Npm.ensures.value
+    | in-Normal+in_ok-may_end-in-Normal w ↦ rw (w.may_end-is, w.in-Normal.is) w.in_ok-may_end-in-Normal.ensures.value
+    | in-Specifier+in_ok-may_end-in-Specifier w ↦ rw (w.may_end-is, w.in-Specifier.is) w.in_ok-may_end-in-Specifier.ensures.value
+  ];
 }
