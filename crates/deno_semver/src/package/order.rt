@@ -3,7 +3,7 @@
 ghost use Rattle.std.specs.Prelude.{◌≡◌, refl};
 ghost use Rattle.std.specs.Cmp.Lexicographic.{slice_cmp};
 ghost use Rattle.std.specs.Ordering.{as_partial_cmp};
-ghost use Rattle.deno_semver.specs.ReqOrder.{bound_kinds_cmp, bound_versions_cmp, build_of, builds_cmp, end_cmp, inner_cmp, kind_place, range_cmp, req_cmp, start_cmp, text_cmp};
+ghost use Rattle.deno_semver.specs.ReqOrder.{bound_kinds_cmp, build_of, builds_cmp, end_cmp, inner_cmp, kind_place, range_cmp, req_cmp, start_cmp};
 ghost use Rattle.deno_semver.specs.ReqOrderLaws.{req_po, req_ties, req_total};
 
 use super::values::PackageReq;
@@ -23,12 +23,6 @@ fn kind_place(kind: VersionBoundKind) -> u8
     }
 }
 
-fn cmp_version(a: &VersionBound, b: &VersionBound) -> Ordering
-    ensures { result ≡ bound_versions_cmp a.now b.now }
-{
-    a.version.cmp_precedence(&b.version)
-}
-
 fn cmp_kind(a: &VersionBound, b: &VersionBound) -> Ordering
     ensures { result ≡ bound_kinds_cmp a.now b.now }
 {
@@ -43,7 +37,9 @@ fn cmp_starts(a: &RangeBound, b: &RangeBound) -> Ordering
         (RangeBound::Unbounded, RangeBound::Unbounded) => Ordering::Equal,
         (RangeBound::Unbounded, RangeBound::Version(_)) => Ordering::Greater,
         (RangeBound::Version(_), RangeBound::Unbounded) => Ordering::Less,
-        (RangeBound::Version(a), RangeBound::Version(b)) => cmp_version(b, a).then(cmp_kind(a, b)),
+        (RangeBound::Version(a), RangeBound::Version(b)) => {
+            b.version.cmp_precedence(&a.version).then(cmp_kind(a, b))
+        }
     }
 }
 
@@ -55,7 +51,9 @@ fn cmp_ends(a: &RangeBound, b: &RangeBound) -> Ordering
         (RangeBound::Unbounded, RangeBound::Unbounded) => Ordering::Equal,
         (RangeBound::Unbounded, RangeBound::Version(_)) => Ordering::Greater,
         (RangeBound::Version(_), RangeBound::Unbounded) => Ordering::Less,
-        (RangeBound::Version(a), RangeBound::Version(b)) => cmp_version(a, b).then(cmp_kind(a, b)),
+        (RangeBound::Version(a), RangeBound::Version(b)) => {
+            a.version.cmp_precedence(&b.version).then(cmp_kind(a, b))
+        }
     }
 }
 
@@ -90,17 +88,11 @@ fn build_of(bound: &RangeBound) -> &[VersionPreOrBuild]
     }
 }
 
-fn cmp_build(a: &RangeBound, b: &RangeBound) -> Ordering
-    ensures { result ≡ slice_cmp text_cmp (build_of a.now) (build_of b.now) }
-{
-    build_of(a).cmp(build_of(b))
-}
-
 fn cmp_range_builds(a: &VersionRange, b: &VersionRange) -> Ordering
     ensures { result ≡ builds_cmp a.now b.now }
 {
-    match cmp_build(&a.start, &b.start) {
-        Ordering::Equal => cmp_build(&a.end, &b.end),
+    match build_of(&a.start).cmp(build_of(&b.start)) {
+        Ordering::Equal => build_of(&a.end).cmp(build_of(&b.end)),
         unequal => unequal,
     }
 }
@@ -117,11 +109,12 @@ fn cmp_builds(a: &[VersionRange], b: &[VersionRange]) -> Ordering
     a.len().cmp(&b.len())
 }
 
-// A tag before ranges, and the greater of two tags first.
-fn cmp_inner(a: &RangeSetOrTag, b: &RangeSetOrTag) -> Ordering
-    ensures { result ≡ inner_cmp a.now b.now }
+/// The order of two version requirements, in which package requirements of one name stand: tags before ranges, and of ranges those with
+/// higher starts and lower ends first. Requirements are equal in it only if they mean the same.
+pub fn cmp_version_reqs(one: &VersionReq, other: &VersionReq) -> Ordering
+    ensures { result ≡ inner_cmp one.now.inner other.now.inner }
 {
-    match (a, b) {
+    match (one.inner(), other.inner()) {
         (RangeSetOrTag::Tag(a), RangeSetOrTag::Tag(b)) => b.cmp(a),
         (RangeSetOrTag::Tag(_), RangeSetOrTag::RangeSet(_)) => Ordering::Less,
         (RangeSetOrTag::RangeSet(_), RangeSetOrTag::Tag(_)) => Ordering::Greater,
@@ -133,14 +126,6 @@ fn cmp_inner(a: &RangeSetOrTag, b: &RangeSetOrTag) -> Ordering
             }
         }
     }
-}
-
-/// The order of two version requirements, in which package requirements of one name stand: tags before ranges, and of ranges those with
-/// higher starts and lower ends first. Requirements are equal in it only if they mean the same.
-pub fn cmp_version_reqs(one: &VersionReq, other: &VersionReq) -> Ordering
-    ensures { result ≡ inner_cmp one.now.inner other.now.inner }
-{
-    cmp_inner(one.inner(), other.inner())
 }
 
 impl PartialOrd for PackageReq {
