@@ -16,7 +16,7 @@ use Rattle.semver_base.specs.declared.version.Version.{Version}
 use Rattle.semver_base.proofs.Numbers.{cuts_run}
 use Rattle.deno_semver.specs.Cuts.{is_not}
 use Rattle.deno_semver.specs.NameAndVersion.{IsNoNvText, IsNvAnswer, IsNvFront, IsNvMemory, IsNvName, IsNvOutcome, IsNvRejection, IsNvText, ReportsNvFault, is_bad, is_bad_version, is_followed, is_front, is_nv, is_uncut, is_version_byte}
-use Rattle.deno_semver.specs.NameAndVersionSteps.{IsFrontAnswer, IsFrontRejection, IsNameCut, ReportsFailure, name_len}
+use Rattle.deno_semver.specs.NameAndVersionSteps.{IsFrontAnswer, IsFrontRejection, ReportsFailure, name_len}
 use Rattle.deno_semver.specs.declared.package.values.PackageNv.{PackageNv}
 use Rattle.deno_semver.specs.declared.package.name_version.PackageNvParseError.{PackageNvParseError}
 use Rattle.deno_semver.proofs.Runs.{cut_before, run_one, run_stop}
@@ -42,6 +42,12 @@ pub name_boundary : (xs : List ℕ) (n : ℕ) → n ≡ name_len xs → IsCharBo
 name_boundary xs n e =
     let stop = name_stop xs in
     cut_before xs n (rw e stop.0) (λ h. at_low (get_or xs n 0) (rw e (stop.1 (rw e at h))))
+
+-- the text is split before the first `@` after its first byte
+pub record IsNameCut (text name rest : List ℕ) : Type 0 where
+  pub text_is : text ≡ name ++ rest
+  pub name_is : 0 < length text → IsNvName name
+  pub ends : Stops (is_not 64) rest
 
 pub name_cut : (xs name rest : List ℕ) (n : ℕ) → n ≡ name_len xs → name ≡ take n xs → rest ≡ drop n xs → IsNameCut xs name rest
 name_cut [] name rest n e f g = rw (f, g, e) (record { text_is = refl; name_is = λ h. absurd (omega (arith, h)); ends = tt })
@@ -78,6 +84,15 @@ no_version {name = name} {v = v} {r} c is run empty n w s k =
     let cut_is = c.text_is ∙ ap (λ t. name ++ t) (is ∙ ap (λ t. 64 ∷ t) run.text_is) in
     let parts = parts_one name n {v = v} {r = r} {w = w} {s = s} (c.name_is (some_text k)) k.name_is (sym cut_is ∙ k.text_is) run.pass run.stops k.version_is k.version_ends in
     absurd (grind (arith, nat_tests, ap length parts.1, k.version_some))
+
+some_version : (v : List ℕ) → (length v == 0) ≡ false → 0 < length v
+some_version v h = grind (arith, nat_tests)
+
+pub parts_of : {text name rest more v r : List ℕ} → IsNameCut text name rest → rest ≡ 64 ∷ more → CutsRun is_version_byte more v r → (length v == 0) ≡ false → IsNvText text name v r
+parts_of {name = name} {v = v} {r} c is run some =
+    let text_is = c.text_is ∙ ap (λ t. name ++ t) (is ∙ ap (λ t. 64 ∷ t) run.text_is) in
+    let name_is = c.name_is (omega (arith, ap length text_is, length-append name (64 ∷ (v ++ r)))) in
+    record { text_is = text_is; name_is = name_is; version_some = some_version v some; version_is = run.pass; version_ends = run.stops }
 
 pub no_at : {text name rest : List ℕ} → IsNameCut text name rest → ((more : List ℕ) → rest ≡ 64 ∷ more → ⊥) → IsNoNvText text
 no_at {name = name} {rest} c none n w s k = go name n (c.name_is (some_text k)) k.name_is (sym c.text_is ∙ k.text_is)

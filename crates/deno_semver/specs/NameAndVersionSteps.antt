@@ -1,12 +1,11 @@
 -- The steps of parsing names with versions.
-use Rattle.std.specs.Prelude.{◌≡◌, ◌<◌, ◌+◌, ◌++◌, ◌∷◌, ◌⊎◌, [], ℕ, List, length, Option, None, Result, Ok, Err, MatchResult, IsErrAnd}
+use Rattle.std.specs.Prelude.{◌≡◌, ◌+◌, ◌∷◌, ◌⊎◌, [], ℕ, List, length, Option, None, Result, Ok, Err, MatchResult, IsErrAnd}
 use Rattle.std.specs.Borrow.{Bor}
 use Rattle.std.specs.List.{take_while}
 use Rattle.semver_base.specs.Characters.{at_sign}
 use Rattle.semver_base.specs.Failure.{message_of}
-use Rattle.semver_base.specs.Grammar.{Stops}
 use Rattle.deno_semver.specs.Cuts.{is_not}
-use Rattle.deno_semver.specs.NameAndVersion.{IsNvFront, IsNvMemory, IsNvName, ReportsNvFault}
+use Rattle.deno_semver.specs.NameAndVersion.{IsNvFront, IsNvMemory, ReportsNvFault}
 use Rattle.semver_base.specs.declared.failure.Rejection.{Rejection}
 use Rattle.deno_semver.specs.declared.package.values.PackageNv.{PackageNv}
 use Rattle.deno_semver.specs.declared.package.name_version.PackageNvParseError.{PackageNvParseError}
@@ -15,12 +14,6 @@ use Rattle.deno_semver.specs.declared.package.name_version.PackageNvParseError.{
 abbrev pub name_len : List ℕ → ℕ
 name_len [] = 0
 name_len (first ∷ more) = length (take_while (is_not at_sign) more) + 1
-
--- the text is split before the first `@` after its first byte
-pub record IsNameCut (text name rest : List ℕ) : Type 0 where
-  pub text_is : text ≡ name ++ rest
-  pub name_is : 0 < length text → IsNvName name
-  pub ends : Stops (is_not at_sign) rest
 
 -- the message of a failure that isn't out of memory, and the whole text
 pub record ReportsFailure (failure : Option (List ℕ × Option (List ℕ))) (text : List ℕ)

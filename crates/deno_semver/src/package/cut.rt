@@ -1,7 +1,6 @@
 //! How the text of a package is split.
 
-ghost use Rattle.std.specs.Prelude.{◌≡◌, ◌⊎◌, ◌==◌, IfErr, IfNone, IfOk, IfSome};
-ghost use Rattle.std.specs.List.{list_any};
+ghost use Rattle.std.specs.Prelude.{◌≡◌, IfErr, IfNone, IfOk, IfSome};
 ghost use Rattle.std.specs.Option.{option_copied};
 ghost use Rattle.semver_base.specs.Characters.{slash};
 ghost use Rattle.semver_base.specs.Grammar.{CutsRun, Stops};
@@ -107,12 +106,6 @@ pub(crate) fn parts_of(text: &str) -> Result<Cut<'_>, PackageReqPartsParseError>
     })
 }
 
-fn holds_slash(bytes: &[u8]) -> bool
-    ensures { result ≡ list_any (λ b. b == slash) bytes.now }
-{
-    bytes.contains(&b'/')
-}
-
 /// Returns the text of the version requirement in a package's text, and the index at which it begins; `None` if there is none.
 ///
 /// It follows the last `@` of the name, and ends before the next `/`.
@@ -135,5 +128,5 @@ pub fn version_req_text(text: &str) -> Option<(usize, &str)>
 pub(crate) fn lacks_at(text: &str) -> bool
     ensures { result ≡ lacks_at text.now }
 {
-    holds_slash(text.as_bytes()) && !starts_with_at(text)
+    text.as_bytes().contains(&b'/') && !starts_with_at(text)
 }

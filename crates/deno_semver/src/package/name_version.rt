@@ -3,7 +3,6 @@
 ghost use Rattle.std.specs.Prelude.{◌≡◌, ◌↔◌, ◌⊎◌, [], IfErr, IfOk, IsTrue, List, MatchOption, Ok, Result, length, true, ℕ};
 ghost use Rattle.std.specs.List.{list_all, take_while};
 ghost use Rattle.semver_base.specs.Characters.{at_sign};
-ghost use Rattle.semver_base.specs.Grammar.{CutsRun};
 ghost use Rattle.semver_base.specs.VersionText.{ReadsBack, version_text};
 ghost use Rattle.semver_base.specs.declared.failure.Rejection.{Rejection};
 ghost use Rattle.semver_base.specs.declared.failure.Rejection.TheVariants.{UnexpectedCharacter};
@@ -12,7 +11,7 @@ ghost use Rattle.semver_req.specs.Requirement.{PinsTo, pinned, ranges_of};
 ghost use Rattle.semver_req.specs.Rereading.{IsStableSet, OfReadVersion};
 ghost use Rattle.deno_semver.specs.Cuts.{is_not};
 ghost use Rattle.deno_semver.specs.NameAndVersion.{IsNoNvText, IsNvAnswer, IsNvFront, IsNvMemory, IsNvOutcome, IsNvRejection, IsNvText, NvReadsBack, ReportsNvFault, is_version_byte};
-ghost use Rattle.deno_semver.specs.NameAndVersionSteps.{IsFrontAnswer, IsFrontRejection, IsNameCut, ReportsFailure, name_len};
+ghost use Rattle.deno_semver.specs.NameAndVersionSteps.{IsFrontAnswer, IsFrontRejection, ReportsFailure, name_len};
 ghost use Rattle.deno_semver.specs.declared.package.values.PackageNv.{PackageNv};
 
 use super::values::{PackageName, PackageNv, PackageReq};
@@ -65,23 +64,19 @@ pub(crate) fn memory(alloc: Global) -> PackageNvParseError
     }
 }
 
-// The error with these texts.
-fn texts(alloc: Global, message: &str, text: &str) -> Result<PackageNvParseError, AllocError>
-    ensures { IfOk result (λ e. (e.message ≡ message.now) × (e.text ≡ text.now)) }
-{
-    Ok(PackageNvParseError {
-        message: SmallStackString::from_str(alloc, message)?,
-        text: StackString::from_str(alloc, text)?,
-    })
-}
-
 // The error with these texts, or out of memory.
 fn reported(alloc: Global, message: &str, text: &str) -> PackageNvParseError
     ensures { IsNvMemory result ⊎ ((result.message ≡ message.now) × (result.text ≡ text.now)) }
 {
-    match texts(alloc, message, text) {
-        Ok(error) => error,
-        Err(_) => memory(alloc),
+    let Ok(message) = SmallStackString::from_str(alloc, message) else {
+        return memory(alloc);
+    };
+    match StackString::from_str(alloc, text) {
+        Ok(text) => PackageNvParseError { message, text },
+        Err(_) => {
+            drop(message);
+            memory(alloc)
+        }
     }
 }
 
@@ -111,13 +106,6 @@ fn name_len(bytes: &[u8]) -> usize
     }
 }
 
-// The leading name, and what follows it.
-fn name_front(text: &str) -> (&str, &str)
-    ensures { IsNameCut text.now result.0.now result.1.now }
-{
-    text.split_at(name_len(text.as_bytes()))
-}
-
 fn is_version_byte(byte: u8) -> bool
     ensures { result ≡ is_version_byte byte }
 {
@@ -131,23 +119,16 @@ fn version_len(bytes: &[u8]) -> usize
     bytes.iter().take_while(|b| is_version_byte(**b)).count()
 }
 
-// The leading version, which may be empty, and what follows it.
-fn split_version(text: &str) -> (&str, &str)
-    ensures { CutsRun is_version_byte text.now result.0.now result.1.now }
-{
-    text.split_at(version_len(text.as_bytes()))
-}
-
 // Splits off the leading name and version.
 fn cut(text: &str) -> Option<Parts<'_>>
     ensures { MatchOption result (IsNoNvText text.now)
         (λ p. IsNvText text.now p.name.now p.version.now p.rest.now) }
 {
-    let (name, rest) = name_front(text);
+    let (name, rest) = text.split_at(name_len(text.as_bytes()));
     let Some(rest) = after(rest, '@') else {
         return None;
     };
-    let (version, rest) = split_version(rest);
+    let (version, rest) = rest.split_at(version_len(rest.as_bytes()));
     if version.is_empty() {
         return None;
     }

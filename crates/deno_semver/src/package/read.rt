@@ -1,9 +1,9 @@
 //! Parsing of package requirements.
 
-ghost use Rattle.std.specs.Prelude.{◌≡◌, ◌⊎◌, IfErr, IfOk, Ok, Result, Some};
+ghost use Rattle.std.specs.Prelude.{◌≡◌, ◌⊎◌, IfErr, IfOk, Ok, Result};
 ghost use Rattle.std.specs.Option.{option_copied};
 ghost use Rattle.deno_semver.specs.PackageOutcome.{Fault, IsPackageAnswer, IsPackageOutcome, IsPackageRejection, IsOutOfMemory, IsVersionReq, rejected_by};
-ghost use Rattle.deno_semver.specs.PackageReading.{IsPartsRejection, IsPathError, IsReadPackage, IsVersionRejection, ReportsSource, reported_source};
+ghost use Rattle.deno_semver.specs.PackageReading.{IsPartsRejection, IsPathError, IsReadPackage, ReportsSource};
 ghost use Rattle.deno_semver.specs.ReferenceReading.{IsFrontError, IsReadWithPath};
 ghost use Rattle.deno_semver.specs.declared.package.values.PackageReq.{PackageReq};
 
@@ -28,29 +28,9 @@ fn version_error(flavour: Flavour, source: ParseFailure) -> PackageReqPartsParse
     }
 }
 
-// Parses a version requirement by the grammar of a flavour.
-#[inline(always)]
-fn version_req(
-    alloc: Global,
-    text: &str,
-    flavour: Flavour,
-) -> Result<VersionReq, PackageReqPartsParseError>
-    ensures read { IfOk result (IsVersionReq flavour (Some text.now)) }
-    ensures rejected { IfErr result (IsVersionRejection flavour text.now) }
-{
-    match VersionReq::parse(alloc, text, flavour) {
-        Ok(req) => Ok(req),
-        Err(failure) if failure.is_memory() => {
-            drop(failure);
-            Err(PackageReqPartsParseError::Memory)
-        }
-        Err(failure) => Err(version_error(flavour, failure)),
-    }
-}
-
 // Parses a version requirement by the grammar of a flavour; without a text, any version matches.
 #[inline(always)]
-fn version_req_or_any(
+fn version_req(
     alloc: Global,
     text: Option<&str>,
     flavour: Flavour,
@@ -59,7 +39,14 @@ fn version_req_or_any(
     ensures rejected { IfErr result (IsPartsRejection flavour (option_copied text.entry)) }
 {
     match text {
-        Some(text) => version_req(alloc, text, flavour),
+        Some(text) => match VersionReq::parse(alloc, text, flavour) {
+            Ok(req) => Ok(req),
+            Err(failure) if failure.is_memory() => {
+                drop(failure);
+                Err(PackageReqPartsParseError::Memory)
+            }
+            Err(failure) => Err(version_error(flavour, failure)),
+        },
         None => match wildcard_version_req(alloc) {
             Ok(req) => Ok(req),
             Err(_) => Err(PackageReqPartsParseError::Memory),
@@ -95,7 +82,7 @@ fn req_of(
         Ok(name) => name,
         Err(_) => return Err(PackageReqPartsParseError::Memory),
     };
-    match version_req_or_any(alloc, cut.version, flavour) {
+    match version_req(alloc, cut.version, flavour) {
         Ok(version_req) => Ok(PackageReq { name, version_req }),
         Err(error) => {
             drop(name);
@@ -148,18 +135,7 @@ fn read(
     Ok(req)
 }
 
-// The source that is reported: a missing `@` goes before any other.
-fn reported_source(text: &str, source: PackageReqPartsParseError) -> PackageReqPartsParseError
-    ensures { result ≡ reported_source text.now source }
-{
-    if lacks_at(text) {
-        drop(source);
-        return PackageReqPartsParseError::MissingAtSymbol;
-    }
-    source
-}
-
-// The error with the whole text, or out of memory.
+// The error with the whole text, or out of memory; a missing `@` goes before any other fault.
 fn whole_error(alloc: Global, text: &str, source: PackageReqPartsParseError) -> PackageReqParseError
     ensures { IsOutOfMemory result ⊎ ReportsSource text.now source result }
 {
@@ -167,13 +143,20 @@ fn whole_error(alloc: Global, text: &str, source: PackageReqPartsParseError) -> 
         drop(source);
         return PackageReqParseError::memory(alloc);
     }
-    let source = reported_source(text, source);
-    match StackString::from_str(alloc, text) {
-        Ok(text) => PackageReqParseError { text, source },
-        Err(_) => {
-            drop(source);
-            PackageReqParseError::memory(alloc)
-        }
+    let Ok(whole) = StackString::from_str(alloc, text) else {
+        drop(source);
+        return PackageReqParseError::memory(alloc);
+    };
+    if lacks_at(text) {
+        drop(source);
+        return PackageReqParseError {
+            text: whole,
+            source: PackageReqPartsParseError::MissingAtSymbol,
+        };
+    }
+    PackageReqParseError {
+        text: whole,
+        source,
     }
 }
 
