@@ -4,7 +4,6 @@ use Rattle.std.specs.Prelude.{◌≡◌, ◌∷◌, ℕ, List, None, Result, Ok,
 use Rattle.url.specs.Parser.{parse_url}
 use Rattle.url.specs.Parts.{Parts}
 use Rattle.url.specs.declared.error.ParseError.{ParseError}
-use Rattle.url.specs.declared.error.ParseError.TheVariants.{OutOfMemory, Overflow}
 use Rattle.semver_base.specs.Characters.{slash}
 use Rattle.deno_semver.specs.NvReference.{nv_reference_text}
 use Rattle.deno_semver.specs.ReferenceText.{with_scheme}
@@ -16,12 +15,6 @@ use Rattle.deno_semver.specs.declared.package.specifier.SpecifierError.TheVarian
 -- the scheme, `/` and the reference
 abbrev pub specifier_text : PackageKind → PackageNvReference → List ℕ
 specifier_text kind reference = with_scheme kind (slash ∷ nv_reference_text reference)
-
--- the error for a parse error of `url`
-abbrev pub reported_rejection : ParseError → SpecifierError
-reported_rejection OutOfMemory = error.Memory
-reported_rejection Overflow = error.Memory
-reported_rejection cause = error.Url
 
 -- the text isn't valid under the URL Standard; or out of memory, which includes a URL of 4 GB, and says no more
 abbrev pub IsUrlRejection : List ℕ → SpecifierError → Type 0

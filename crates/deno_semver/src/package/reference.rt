@@ -3,7 +3,7 @@
 ghost use Rattle.std.specs.Prelude.{◌≡◌, IfErr, IfOk, Ok, Result, Some, refl};
 ghost use Rattle.deno_semver.specs.ReferenceOutcome.{IsReferenceAnswer, IsReferenceOutcome, IsReferenceRejection, ReferenceFault, ReferenceReadsBack};
 ghost use Rattle.deno_semver.specs.ReferenceReading.{FindsVersion, IsReferenceRead, IsReportedInvalid, IsReportedVersion};
-ghost use Rattle.deno_semver.specs.ReferenceText.{reference_text, sub_path_of, text_with_version};
+ghost use Rattle.deno_semver.specs.ReferenceText.{reference_text, text_with_version};
 ghost use Rattle.deno_semver.specs.declared.package.reference.PackageReqReference.{PackageReqReference};
 
 use super::cut::name_and_version;
@@ -32,18 +32,7 @@ pub struct PackageReqReference {
     pub sub_path: Option<PackageSubPath>,
 }
 
-// The path of a module, unless the path is empty or `/`.
-#[inline(always)]
-fn sub_path(alloc: Global, path: &str) -> Result<Option<PackageSubPath>, AllocError>
-    ensures { IfOk result (λ sub_path. sub_path ≡ sub_path_of path.now) }
-{
-    if matches!(path, "" | "/") {
-        return Ok(None);
-    }
-    Ok(Some(PackageSubPath::from_str(alloc, path)?))
-}
-
-// Parses a reference without its scheme, wherever its version stands.
+// Parses a reference without its scheme, wherever its version stands; an empty path and `/` mean no module.
 fn read(alloc: Global, body: &str) -> Result<PackageReqReference, PackageReqPartsParseError>
     ensures { IsReferenceRead body.now result }
 {
@@ -51,32 +40,20 @@ fn read(alloc: Global, body: &str) -> Result<PackageReqReference, PackageReqPart
         Ok(front) => front,
         Err(error) => return Err(error),
     };
-    match sub_path(alloc, path) {
-        Ok(sub_path) => Ok(PackageReqReference { req, sub_path }),
+    if matches!(path, "" | "/") {
+        return Ok(PackageReqReference {
+            req,
+            sub_path: None,
+        });
+    }
+    match PackageSubPath::from_str(alloc, path) {
+        Ok(path) => Ok(PackageReqReference {
+            req,
+            sub_path: Some(path),
+        }),
         Err(_) => {
             drop(req);
             Err(PackageReqPartsParseError::Memory)
-        }
-    }
-}
-
-// The error with the whole text, boxed.
-fn boxed_invalid(
-    alloc: Global,
-    text: &str,
-    source: PackageReqPartsParseError,
-) -> Result<Box<PackageReqReferenceInvalidParseError>, AllocError>
-    ensures { IfOk result
-        (λ error. error.value ≡ record { specifier = text.now; source = source }) }
-{
-    match StackString::from_str(alloc, text) {
-        Ok(specifier) => {
-            let error = PackageReqReferenceInvalidParseError { specifier, source };
-            Ok(Box::new(alloc, error)?)
-        }
-        Err(error) => {
-            drop(source);
-            Err(error)
         }
     }
 }
@@ -93,7 +70,12 @@ fn invalid(
         drop(source);
         return PackageReqReferenceParseError::Memory;
     }
-    match boxed_invalid(alloc, text, source) {
+    let Ok(specifier) = StackString::from_str(alloc, text) else {
+        drop(source);
+        return PackageReqReferenceParseError::Memory;
+    };
+    let error = PackageReqReferenceInvalidParseError { specifier, source };
+    match Box::new(alloc, error) {
         Ok(error) => PackageReqReferenceParseError::Invalid(error),
         Err(_) => PackageReqReferenceParseError::Memory,
     }
@@ -115,27 +97,6 @@ fn version_in_path(reference: &PackageReqReference) -> Option<(&str, &str)>
     }
 }
 
-// The package requirement followed by a version, and the path.
-fn suggestion(
-    alloc: Global,
-    req: &PackageReq,
-    version: &str,
-    path: &str,
-) -> Result<StackString, AllocError>
-    ensures { IfOk result (λ text. text ≡ text_with_version req.now version.now path.now) }
-{
-    let text = format!(in alloc; "{req}@{version}/{path}")?;
-    StackString::from_string(alloc, text)
-}
-
-// The reference as written.
-fn current(alloc: Global, reference: &PackageReqReference) -> Result<StackString, AllocError>
-    ensures { IfOk result (λ text. text ≡ reference_text reference.now) }
-{
-    let text = format!(in alloc; "{reference}")?;
-    StackString::from_string(alloc, text)
-}
-
 // The texts of the error for a version in the path.
 fn texts(
     alloc: Global,
@@ -150,10 +111,13 @@ fn texts(
       suggested = text_with_version reference.now.req version.now before.now;
     }) }
 {
+    let req = &reference.req;
+    let current = StackString::from_string(alloc, format!(in alloc; "{reference}")?)?;
+    let suggested = format!(in alloc; "{req}@{version}/{before}")?;
     Ok(PackageReqReferenceInvalidWithVersionParseError {
         kind,
-        current: current(alloc, reference)?,
-        suggested: suggestion(alloc, &reference.req, version, before)?,
+        current,
+        suggested: StackString::from_string(alloc, suggested)?,
     })
 }
 

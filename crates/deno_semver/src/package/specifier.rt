@@ -1,11 +1,11 @@
 //! References as URLs.
 
-ghost use Rattle.std.specs.Prelude.{◌≡◌, ◌↔◌, IfOk, IsTrue, string_bytes};
-ghost use Rattle.deno_semver.specs.Specifier.{IsSpecifier, specifier_text, reported_rejection};
+ghost use Rattle.std.specs.Prelude.{◌≡◌, ◌↔◌, IsTrue};
+ghost use Rattle.deno_semver.specs.Specifier.{IsSpecifier, specifier_text};
 
 use super::kind::PackageKind;
 use super::nv_reference::PackageNvReference;
-use std::alloc::{AllocError, Global};
+use std::alloc::Global;
 use thiserror::Error;
 use url::{ParseError, Url};
 
@@ -29,28 +29,6 @@ impl SpecifierError {
     }
 }
 
-// The scheme, `/` and the reference.
-fn text(
-    alloc: Global,
-    kind: PackageKind,
-    reference: &PackageNvReference,
-) -> Result<String, AllocError>
-    ensures { IfOk result (λ text. string_bytes text ≡ specifier_text kind reference.now) }
-{
-    let scheme = kind.scheme_with_colon();
-    format!(in alloc; "{scheme}/{reference}")
-}
-
-// The error for a parse error of `url`.
-fn of_url(error: ParseError) -> SpecifierError
-    ensures { result ≡ reported_rejection error }
-{
-    match error {
-        ParseError::OutOfMemory | ParseError::Overflow => SpecifierError::Memory,
-        _ => SpecifierError::Url,
-    }
-}
-
 /// The URL of the scheme, `/` and the text of a reference.
 pub(crate) fn specifier_of(
     alloc: Global,
@@ -59,11 +37,13 @@ pub(crate) fn specifier_of(
 ) -> Result<Url, SpecifierError>
     ensures { IsSpecifier (specifier_text kind reference.now) result }
 {
-    let Ok(text) = text(alloc, kind, reference) else {
+    let scheme = kind.scheme_with_colon();
+    let Ok(text) = format!(in alloc; "{scheme}/{reference}") else {
         return Err(SpecifierError::Memory);
     };
     match Url::parse(alloc, text.as_str()) {
         Ok(url) => Ok(url),
-        Err(error) => Err(of_url(error)),
+        Err(ParseError::OutOfMemory | ParseError::Overflow) => Err(SpecifierError::Memory),
+        Err(_) => Err(SpecifierError::Url),
     }
 }
