@@ -16,14 +16,6 @@ use crate::package::PackageReq;
 use serde_json::Value;
 use std::alloc::{AllocError, Global};
 
-// The JSON array of the package requirements.
-fn stored(alloc: Global, reqs: &[PackageReq]) -> Result<Value, AllocError>
-    ensures { IfOk result (λ json. view json ≡ reqs_json reqs.now) }
-{
-    let items = items_json(alloc, reqs)?;
-    Ok(Value::Array(items))
-}
-
 /// Returns the JSON array of the package requirements, in the given order. Fails only out of memory.
 ///
 /// The JSON of requirements that [`PackageReq::from_str_loose`] parsed parses to requirements at the same places, as
@@ -36,7 +28,7 @@ pub fn reqs_to_json(alloc: Global, reqs: &[PackageReq]) -> Result<Value, AllocEr
         → ParsesToEqualList (view json) reqs.now) }
 {
     stored_requirements_are_read_again();
-    stored(alloc, reqs)
+    Ok(Value::Array(items_json(alloc, reqs)?))
 }
 
 // The values that the items parse to, in order.
@@ -56,14 +48,6 @@ fn of_items<T: JsonForm>(alloc: Global, items: &[Value]) -> Result<Vec<T>, JsonE
     Ok(values)
 }
 
-// The same package requirements in ascending order.
-fn sorted(mut reqs: Vec<PackageReq>) -> Result<Vec<PackageReq>, AllocError>
-    ensures { IfOk result (λ sorted. IsSortedFrom reqs.items sorted.items) }
-{
-    reqs.sort()?;
-    Ok(reqs)
-}
-
 /// Parses an array to package requirements, each as often as it occurs, in ascending order. The order among equal ones is
 /// unspecified.
 ///
@@ -78,8 +62,10 @@ pub fn reqs_from_json(alloc: Global, value: &Value) -> Result<Vec<PackageReq>, J
         → ParsesToEqualList (view value.now) reqs
         → MatchResult result (λ read. AreEqualLists read.items reqs) (λ e. e ≡ JsonError.Memory) }
 {
-    match value.as_array() {
-        Some(items) => Ok(sorted(of_items(alloc, items.as_slice())?)?),
-        None => Err(JsonError::Json),
-    }
+    let Some(items) = value.as_array() else {
+        return Err(JsonError::Json);
+    };
+    let mut reqs = of_items::<PackageReq>(alloc, items.as_slice())?;
+    reqs.sort()?;
+    Ok(reqs)
 }

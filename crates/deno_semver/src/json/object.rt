@@ -1,6 +1,6 @@
 //! Values whose JSON is an object or an array.
 
-ghost use Rattle.std.specs.Prelude.{◌≡◌, ◌↔◌, IfOk, IsTrue, List, MatchOption, OnOk, codes, length, map};
+ghost use Rattle.std.specs.Prelude.{◌≡◌, ◌↔◌, IfOk, IsTrue, List, MatchOption, OnOk, codes, map};
 ghost use Rattle.serde_json.specs.Data.{Data, member, no_members, object, put as with_member, string};
 ghost use Rattle.serde_json.specs.View.{items_view, members_view, view};
 ghost use Rattle.semver_base.specs.declared.range.VersionRange.{VersionRange};
@@ -83,12 +83,6 @@ impl JsonForm for VersionBound {
     }
 }
 
-fn is_single(members: &Map<String, Value>) -> bool
-    ensures { IsTrue result ↔ (length members.now.entries ≡ 1) }
-{
-    members.len() == 1
-}
-
 // The member with this key, if the object has no other.
 fn only_member<'v>(value: &'v Value, key: &str) -> Option<&'v Value>
     ensures { MatchOption result
@@ -96,16 +90,10 @@ fn only_member<'v>(value: &'v Value, key: &str) -> Option<&'v Value>
         (λ only. view value.now ≡ object (member key.now (view only.now) no_members)) }
 {
     let members = value.as_object()?;
-    if !is_single(members) {
+    if members.len() != 1 {
         return None;
     }
     value.get(key)
-}
-
-fn unbounded(alloc: Global) -> Result<Value, AllocError>
-    ensures { IfOk result (λ json. view json ≡ string (codes "Unbounded")) }
-{
-    Value::try_from_str(alloc, "Unbounded")
 }
 
 fn is_unbounded(value: &Value) -> bool
@@ -125,7 +113,7 @@ impl JsonForm for RangeBound {
 
     fn to_json(&self, alloc: Global) -> Result<Value, AllocError> {
         match self {
-            RangeBound::Unbounded => unbounded(alloc),
+            RangeBound::Unbounded => Value::try_from_str(alloc, "Unbounded"),
             RangeBound::Version(bound) => {
                 let mut members = Map::new(alloc);
                 put_json(alloc, &mut members, "Version", bound)?;

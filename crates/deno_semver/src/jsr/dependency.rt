@@ -3,7 +3,7 @@
 ghost use Rattle.std.specs.Prelude.{◌≡◌, ◌↔◌, IfErr, IfOk, IsTrue, Ok, Result, Some, refl};
 ghost use Rattle.semver_req.specs.declared.common.values.Flavour.TheVariants.{Normal, Npm, Specifier};
 ghost use Rattle.deno_semver.specs.DependencyText.{dependency_text, normal_dependency_text};
-ghost use Rattle.deno_semver.specs.DependencyOutcome.{DependencyFault, IsAfterEither, IsDependencyAnswer, IsDependencyOutcome, IsDependencyRejection, IsOfPackageError, IsSameError, IsReportedScheme, reported_scheme};
+ghost use Rattle.deno_semver.specs.DependencyOutcome.{DependencyFault, IsAfterEither, IsDependencyAnswer, IsDependencyOutcome, IsDependencyRejection, IsOfPackageError, IsSameError, IsReportedScheme};
 ghost use Rattle.deno_semver.specs.declared.jsr.dependency.JsrDepPackageReq.{JsrDepPackageReq};
 ghost use Rattle.deno_semver.specs.declared.package.kind.PackageKind.TheVariants as kind;
 
@@ -86,21 +86,15 @@ fn after_either(text: &str) -> Option<(PackageKind, &str)>
     }
 }
 
-// The text before the first `:`, or the whole text.
-fn reported_scheme(text: &str) -> &str
-    ensures { result.now ≡ reported_scheme text.now }
-{
-    match text.split_once(':') {
-        Some((scheme, _)) => scheme,
-        None => text,
-    }
-}
-
-// The error for another scheme, or out of memory.
+// The error for another scheme, the text before the first `:` or all of it, or out of memory.
 fn other_scheme(alloc: Global, text: &str) -> JsrDepPackageReqParseError
     ensures { IsReportedScheme text.now result }
 {
-    match String::from_str(alloc, reported_scheme(text)) {
+    let scheme = match text.split_once(':') {
+        Some((scheme, _)) => scheme,
+        None => text,
+    };
+    match String::from_str(alloc, scheme) {
         Ok(scheme) => JsrDepPackageReqParseError::NotExpectedScheme(scheme),
         Err(_) => JsrDepPackageReqParseError::Memory,
     }

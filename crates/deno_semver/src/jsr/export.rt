@@ -3,17 +3,11 @@
 ghost use Rattle.std.specs.Prelude.{◌≡◌, IfOk};
 ghost use Rattle.std.specs.Cow.{cow_str_bytes};
 ghost use Rattle.std.specs.Option.{option_copied};
-ghost use Rattle.deno_semver.specs.ExportName.{IsExportName, dotted, export_name, is_whole_package, without_last_slash};
+ghost use Rattle.deno_semver.specs.ExportName.{IsExportName, dotted, export_name, without_last_slash};
 
 use crate::package::without_slash;
 use std::alloc::{AllocError, Global};
 use std::borrow::CowStr;
-
-fn is_whole_package(path: &str) -> bool
-    ensures { result ≡ is_whole_package path.now }
-{
-    matches!(path, "" | "/" | ".")
-}
 
 // The path without one trailing `/`.
 fn without_last_slash(path: &str) -> &str
@@ -52,7 +46,7 @@ pub fn normalized_export_name(
     let Some(path) = sub_path else {
         return Ok(CowStr::Borrowed("."));
     };
-    if is_whole_package(path) {
+    if matches!(path, "" | "/" | ".") {
         return Ok(CowStr::Borrowed("."));
     }
     dotted(alloc, without_last_slash(path))

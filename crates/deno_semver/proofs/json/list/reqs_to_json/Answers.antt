@@ -1,15 +1,19 @@
-use Rattle.std.proofs.Common.{sym, subst}
-use Rattle.std.proofs.lemmas.Result.{IfOk-weaker}
+use Rattle.std.proofs.Common.{sym, subst, ap, ◌∙◌}
+use Rattle.serde_json.specs.Data.{array}
+use Rattle.serde_json.specs.View.{items_of}
+use Rattle.serde_json.proofs.Views.{view-Array}
 use Rattle.deno_semver.specs.StoredList.{IsStoredList, ParsesToEqualList}
 use Rattle.deno_semver.proofs.StoredLists.{npm_reqs, stable_list}
 use Rattle.deno_semver.proofs.json.list.reqs_to_json.Goals as goal
 
 pub returns-clause-read_again : goal.returns-clause-read_again
-returns-clause-read_again c =
+returns-clause-read_again c h =
     let reqs = c.args.reqs.now in
-    IfOk-weaker c.stored.result _ _ (λ json is h. subst (IsStoredList reqs) (sym is) (npm_reqs c.stored_requirements_are_read_again.ensures reqs h)) c.stored.ensures
+    let is = view-Array c.in_ok-items_json.field-0 ∙ ap (λ items. array (items_of items)) c.in_ok-items_json.ensures in
+    subst (IsStoredList reqs) (sym is) (npm_reqs c.stored_requirements_are_read_again.ensures reqs h)
 
 pub returns-clause-stable : goal.returns-clause-stable
-returns-clause-stable c =
+returns-clause-stable c h =
     let reqs = c.args.reqs.now in
-    IfOk-weaker c.stored.result _ _ (λ json is h. subst (λ d. ParsesToEqualList d reqs) (sym is) (stable_list reqs h)) c.stored.ensures
+    let is = view-Array c.in_ok-items_json.field-0 ∙ ap (λ items. array (items_of items)) c.in_ok-items_json.ensures in
+    subst (λ d. ParsesToEqualList d reqs) (sym is) (stable_list reqs h)
