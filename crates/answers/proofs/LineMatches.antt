@@ -8,7 +8,7 @@ use Rattle.semver_req.specs.declared.range_set_or_tag.RangeSetOrTag.{RangeSetOrT
 use Rattle.semver_req.specs.declared.range_set_or_tag.RangeSetOrTag.TheVariants as inner
 use Rattle.answers.proofs.Givens.{answered as found, as_fault, as_value, by_value, fault_no_value, same_fault, same_value, value_no_fault}
 use Rattle.answers.specs.Asking.{Each, Fault, Invalid, Is, IsOutcomeOf, OutOfMemory}
-use Rattle.answers.specs.Filtering.{FilterOf, IsLine, LineMatch, of_no_version, of_version}
+use Rattle.answers.specs.Filtering.{FilterOf, IsLine, LineMatch, line_answer, of_no_version, of_version}
 use Rattle.answers.specs.Reading.{IsVersion}
 use Rattle.answers.specs.declared.asking.Answer.TheVariants.{Value}
 use Rattle.answers.specs.declared.asking.Kind.{Kind}
@@ -53,6 +53,24 @@ module _ {X : Type 0} (test : Version → X) (place : ℕ) (text : List ℕ) whe
       only : (o : Result (Option X) Fault) → IsLine test place text o → answered {X = X} None ≡ o
       only o (of_version {v = w} k) = absurd (never w (h.only (Ok w) k))
       only o (of_no_version k) = refl
+
+-- whether the version of a text matches, from its line
+module _ (test : Version → Bool) (place : ℕ) (text : List ℕ) where
+  pub match_of_line : (line : Option Version) → IsOutcomeOf OutOfMemory (IsLine (λ v. v) place text) (Ok line) → IsOutcomeOf OutOfMemory (LineMatch test place text) (Ok (line_answer test line))
+  match_of_line line h = record { is = inr (is line h.is); only = λ o a. inr (only o a) }
+    where
+      is : (l : Option Version) → (as_value l ≡ as_fault OutOfMemory) ⊎ IsLine (λ v. v) place text (Ok l) → LineMatch test place text (Ok (line_answer test l))
+      is l (inl none) = absurd (value_no_fault l OutOfMemory none)
+      is _ (inr (of_version k)) = of_version k
+      is _ (inr (of_no_version k)) = of_no_version k
+
+      same : (other : Option Version) → (as_value line ≡ as_fault OutOfMemory) ⊎ (as_value {P = Fault} line ≡ as_value other) → line ≡ other
+      same other (inl none) = absurd (value_no_fault line OutOfMemory none)
+      same other (inr e) = same_value {P = Fault} line other e
+
+      only : (o : Result (Option Bool) Fault) → LineMatch test place text o → answered (line_answer test line) ≡ o
+      only o (of_version {v = v} k) = ap (λ (l : Option Version). answered (line_answer test l)) (same (Some v) (h.only (Ok (Some v)) (of_version k)))
+      only o (of_no_version k) = ap (λ (l : Option Version). answered (line_answer test l)) (same None (h.only (Ok None) (of_no_version k)))
 
 -- the matches of all lines are the answer for a range that isn't a tag
 pub filter_answer : (flag : PreRelease) (read : RangeSetOrTag) (texts : List (List ℕ)) → tag_of read ≡ None → (answers : List (Option Bool))

@@ -3,7 +3,7 @@
 ghost use Rattle.std.specs.Prelude.{◌≡◌, ◌⊎◌, Err, IfErr, IfOk};
 ghost use Rattle.semver_base.specs.NormalText.{AreWritableRanges, IsWritableRange};
 ghost use Rattle.semver_base.specs.declared.range.VersionRange.{VersionRange};
-ghost use Rattle.answers.specs.Explained.{AreExplained, AreAlternatives, AreWholeTexts, IsExplained, IsExplainedPiece, IsMeaningOfRange, IsWholeText};
+ghost use Rattle.answers.specs.Explained.{AreExplained, AreAlternatives, AreWholeTexts, IsExplained, IsExplainedPiece, IsMeaningOfRange};
 ghost use Rattle.answers.specs.Asking.{IsFailureAt, OutOfMemory, fault_of};
 ghost use Rattle.answers.specs.Reading.{IsRange};
 ghost use Rattle.answers.specs.declared.asking.Kind.TheVariants as kind;
@@ -101,21 +101,6 @@ impl Piece {
         let text = String::from_str(alloc, text)?;
         Ok(Piece { text, meaning })
     }
-
-    // The text as a single piece that means this range.
-    fn whole(
-        alloc: Global,
-        pre_release: PreRelease,
-        text: &str,
-        range: &VersionRange,
-    ) -> Result<Piece, AllocError>
-        requires { IsWritableRange range.now }
-        ensures { IfOk result (IsWholeText pre_release text.now range.now) }
-    {
-        let meaning = Meaning::of(alloc, pre_release, range.copy()?)?;
-        let text = String::from_str(alloc, text)?;
-        Ok(Piece { text, meaning })
-    }
 }
 
 // The pieces of a text, each parsed by a grammar that splits at each `||`.
@@ -153,7 +138,9 @@ fn whole_of(
 {
     let mut pieces = Vec::new(alloc);
     for range in ranges {
-        pieces.push(Piece::whole(alloc, pre_release, text, range)?)?;
+        let meaning = Meaning::of(alloc, pre_release, range.copy()?)?;
+        let text = String::from_str(alloc, text)?;
+        pieces.push(Piece { text, meaning })?;
     }
     Ok(pieces)
 }

@@ -22,24 +22,27 @@ use semver_req::range_set_or_tag::PackageTag;
 use semver_req::req::VersionReq;
 use std::alloc::{AllocError, Global};
 
-// Whether the version of a text matches the range; none if the text isn't a version.
-fn line_match(
-    alloc: Global,
-    pre_release: PreRelease,
-    range: &VersionReq,
-    place: usize,
-    text: &str,
-) -> Result<Option<bool>, Problem>
-    requires { tag_of range.now.inner ≡ None }
-    ensures answer { IsAnswer
-        (LineMatch (λ v. inner_means_with pre_release range.now.inner v) place text.now)
-        (λ answer. answer) result }
+// The version of a text; none if the text isn't a version.
+fn version_line(alloc: Global, place: usize, text: &str) -> Result<Option<Version>, Problem>
+    ensures answer { IsAnswer (IsLine (λ v. v) place text.now) (λ line. line) result }
     ensures problem { IfErr result (λ p. p ≡ problem.OutOfMemory) }
 {
     match version(alloc, place, text) {
-        Ok(version) => Ok(Some(range.matches_with(&version, pre_release))),
+        Ok(version) => Ok(Some(version)),
         Err(Problem::Invalid(_)) => Ok(None),
         Err(Problem::OutOfMemory) => Err(Problem::OutOfMemory),
+    }
+}
+
+// Whether the version of a line matches the range, which isn't a tag.
+fn line_answer(pre_release: PreRelease, range: &VersionReq, line: &Option<Version>) -> Option<bool>
+    requires { tag_of range.now.inner ≡ None }
+    ensures { result
+        ≡ line_answer (λ v. inner_means_with pre_release range.now.inner v) line.now }
+{
+    match line {
+        Some(version) => Some(range.matches_with(version, pre_release)),
+        None => None,
     }
 }
 
@@ -58,7 +61,8 @@ fn line_matches(
 {
     let mut answers = Vec::new(alloc);
     for text in texts {
-        let answer = line_match(alloc, pre_release, range, answers.len(), text)?;
+        let line = version_line(alloc, answers.len(), text)?;
+        let answer = line_answer(pre_release, range, &line);
         if answers.push(answer).is_err() {
             return Err(Problem::OutOfMemory);
         }
@@ -103,18 +107,6 @@ pub fn filter(
     filter_of(alloc, pre_release, &range, version_texts)
 }
 
-// The version of a text; none if the text isn't a version.
-fn version_line(alloc: Global, place: usize, text: &str) -> Result<Option<Version>, Problem>
-    ensures answer { IsAnswer (IsLine (λ v. v) place text.now) (λ line. line) result }
-    ensures problem { IfErr result (λ p. p ≡ problem.OutOfMemory) }
-{
-    match version(alloc, place, text) {
-        Ok(version) => Ok(Some(version)),
-        Err(Problem::Invalid(_)) => Ok(None),
-        Err(Problem::OutOfMemory) => Err(Problem::OutOfMemory),
-    }
-}
-
 /// Parses several versions, which can then be asked of by many ranges; none for a text that isn't a version. Fails only out of
 /// memory.
 pub fn version_lines(alloc: Global, texts: &[&str]) -> Result<Vec<Option<Version>>, Problem>
@@ -129,18 +121,6 @@ pub fn version_lines(alloc: Global, texts: &[&str]) -> Result<Vec<Option<Version
         }
     }
     Ok(lines)
-}
-
-// Whether the version of a line matches the range, which isn't a tag.
-fn line_answer(pre_release: PreRelease, range: &VersionReq, line: &Option<Version>) -> Option<bool>
-    requires { tag_of range.now.inner ≡ None }
-    ensures { result
-        ≡ line_answer (λ v. inner_means_with pre_release range.now.inner v) line.now }
-{
-    match line {
-        Some(version) => Some(range.matches_with(version, pre_release)),
-        None => None,
-    }
 }
 
 // Whether the version of each line matches the range, which isn't a tag.

@@ -6,7 +6,7 @@ ghost use Rattle.semver_base.specs.VersionGrammar.{IsVersionRejection};
 ghost use Rattle.answers.specs.Asking.{IsAnswer};
 ghost use Rattle.answers.specs.Reading.{IsFailureAmong, texts_of};
 ghost use Rattle.answers.specs.declared.asking.Kind.TheVariants as kind;
-ghost use Rattle.answers.specs.Sorting.{AreSortedPlaces, Sorts, order_cmp, standing, standing_cmp, standing_from, standing_lines};
+ghost use Rattle.answers.specs.Sorting.{AreSortedPlaces, Sorts, standing, standing_cmp, standing_from, standing_lines};
 
 use crate::asking::Problem;
 use crate::reading::versions;
@@ -29,21 +29,14 @@ struct Placed<'a> {
 }
 
 impl Order {
-    // Compares two versions in this order.
-    fn compare(self, one: &Version, other: &Version) -> Ordering
-        ensures { result ≡ order_cmp self one.now other.now }
-    {
-        match self {
-            Order::Ascending => one.cmp_precedence(other),
-            Order::Descending => other.cmp_precedence(one),
-        }
-    }
-
     // Compares two placed versions in this order, equal ones by their places.
-    fn compare_placed(self, one: &Placed<'_>, other: &Placed<'_>) -> Ordering
+    fn compare(self, one: &Placed<'_>, other: &Placed<'_>) -> Ordering
         ensures { result ≡ standing_cmp self (standing one.now) (standing other.now) }
     {
-        let order = self.compare(one.version, other.version);
+        let order = match self {
+            Order::Ascending => one.version.cmp_precedence(other.version),
+            Order::Descending => other.version.cmp_precedence(one.version),
+        };
         order.then(one.place.cmp(&other.place))
     }
 }
@@ -57,7 +50,7 @@ fn places_in_order(
     ensures { IfOk result
         (λ places. AreSortedPlaces order (map standing all.entry.items) places.items) }
 {
-    all.sort_by(|one, other| order.compare_placed(one, other))?;
+    all.sort_by(|one, other| order.compare(one, other))?;
     let sorted = all.as_slice();
     let mut places = Vec::new(alloc);
     for it in sorted {
