@@ -6,7 +6,7 @@ ghost use Rattle.serde_json.specs.View.{view};
 ghost use Rattle.deno_semver.specs.PackageOutcome.{Fault, IsPackageOutcome};
 ghost use Rattle.deno_semver.specs.ReferenceOutcome.{ReferenceFault, unboxed};
 ghost use Rattle.deno_semver.specs.declared.package.values.PackageReq.{PackageReq};
-ghost use Rattle.package_answers.specs.Faults.{IsFaultText, IsPackageFault, IsPartsText, IsReferenceFaultText, IsReferenceFault, fault_json, parts_kind, reference_kind, suggestion};
+ghost use Rattle.package_answers.specs.Faults.{IsFaultText, IsPackageFault, IsReferenceFault, fault_json, parts_kind, reference_kind, suggestion};
 ghost use Rattle.package_answers.specs.References.{IsRegistryOutcome};
 ghost use Rattle.package_answers.specs.declared.references.Reference.{Reference};
 
@@ -99,28 +99,6 @@ fn fault_text(
     json_text(alloc, fault_json(alloc, kind, failure, suggested))
 }
 
-// The text of the JSON of a package's error.
-fn parts_text(alloc: Global, error: PackageReqPartsParseError) -> Result<String, AllocError>
-    ensures { IfOk result (λ json. IsPartsText error (string_bytes json)) }
-{
-    let kind = parts_kind(&error);
-    let failure = parts_failure(alloc, error);
-    fault_text(alloc, kind, &failure, None)
-}
-
-// The text of the JSON of a reference's error.
-fn reference_error_text(
-    alloc: Global,
-    error: &PackageReqReferenceParseError,
-) -> Result<String, AllocError>
-    ensures { IfOk result
-        (λ json. IsReferenceFaultText (unboxed error.now) (string_bytes json)) }
-{
-    let failure = reference_failure(alloc, error);
-    let suggested = suggestion(alloc, error)?;
-    fault_text(alloc, reference_kind(error), &failure, suggested.as_deref())
-}
-
 /// Returns why the text of a package is invalid, with this grammar for its range, as the text of a JSON object; none for a valid package.
 ///
 /// The members are the kind of the error, its message, its code snippet or null, and the suggested text, here null.
@@ -137,7 +115,11 @@ pub fn package_fault(
 {
     match parse_package(alloc, flavour, text) {
         Ok(_req) => Ok(None),
-        Err(error) => Ok(Some(parts_text(alloc, error.source)?)),
+        Err(error) => {
+            let kind = parts_kind(&error.source);
+            let failure = parts_failure(alloc, error.source);
+            Ok(Some(fault_text(alloc, kind, &failure, None)?))
+        }
     }
 }
 
@@ -154,6 +136,11 @@ pub fn reference_fault(alloc: Global, text: &str) -> Result<Option<String>, Allo
     let kind = registry_of(text);
     match parse_reference(alloc, kind, text) {
         Ok(_reference) => Ok(None),
-        Err(error) => Ok(Some(reference_error_text(alloc, &error)?)),
+        Err(error) => {
+            let failure = reference_failure(alloc, &error);
+            let suggested = suggestion(alloc, &error)?;
+            let kind = reference_kind(&error);
+            Ok(Some(fault_text(alloc, kind, &failure, suggested.as_deref())?))
+        }
     }
 }
