@@ -4,14 +4,14 @@ ghost use Rattle.std.specs.Prelude.{◌≡◌, ◌≢◌, ◌⊎◌, [], IfErr, 
 ghost use Rattle.serde_json.specs.View.{view};
 ghost use Rattle.answers.specs.Asking.{IsAnswer, IsFailureAt};
 ghost use Rattle.answers.specs.declared.asking.Kind.TheVariants as kind;
-ghost use Rattle.package_answers.specs.Names.{IsNameWithVersion, IsNvFailure, NameWithVersionParts, nv_json};
+ghost use Rattle.package_answers.specs.Names.{IsNvFailure, NameWithVersionParts, nv_json};
 
 use crate::packages::scope_and_name;
 use answers::asking::{Kind, Problem};
 use answers::object::{Object, json_text};
 use answers::parts::displayed_json;
 use deno_semver::ParseFailure;
-use deno_semver::package::{PackageNv, PackageNvParseError};
+use deno_semver::package::PackageNv;
 use serde_json::Value;
 use std::alloc::{AllocError, Global};
 
@@ -27,36 +27,27 @@ pub fn nv_json(alloc: Global, nv: &PackageNv) -> Result<Value, AllocError>
         .into_json()
 }
 
-// What is wrong with the text of a name with a version.
-fn nv_failure(alloc: Global, error: &PackageNvParseError) -> ParseFailure
-    ensures { (result ≡ None)
-        ⊎ ((error.now.message ≢ []) × (result ≡ Some (error.now.message, None))) }
+/// What is wrong with a text, by the message of its parse error, which is empty for out of memory.
+pub(crate) fn message_failure(alloc: Global, message: &str) -> ParseFailure
+    ensures { (result ≡ None) ⊎ ((message.now ≢ []) × (result ≡ Some (message.now, None))) }
 {
-    if error.is_memory() {
+    if message.is_empty() {
         return ParseFailure::memory();
     }
-    ParseFailure::with_texts(alloc, error.message.as_str(), None)
+    ParseFailure::with_texts(alloc, message, None)
 }
 
-/// Parses a name with a version, such as `@scope/name@1.2.3`.
-pub fn name_with_version(alloc: Global, text: &str) -> Result<PackageNv, Problem>
-    ensures answer { IsAnswer (IsNameWithVersion text.now) (λ nv. nv) result }
-    ensures failure { IfErr result (IsFailureAt kind.Package 0 (IsNvFailure text.now)) }
-{
-    match PackageNv::from_str(alloc, text) {
-        Ok(nv) => Ok(nv),
-        Err(error) => {
-            let failure = nv_failure(alloc, &error);
-            Err(Problem::of(Kind::Package, 0, failure))
-        }
-    }
-}
-
-/// Parses a name with a version, and returns its parts as the text of a JSON object.
+/// Parses a name with a version, such as `@scope/name@1.2.3`, and returns its parts as the text of a JSON object.
 pub fn name_with_version_parts(alloc: Global, text: &str) -> Result<String, Problem>
     ensures answer { IsAnswer (NameWithVersionParts text.now) (λ text. string_bytes text) result }
     ensures failure { IfErr result (IsFailureAt kind.Package 0 (IsNvFailure text.now)) }
 {
-    let nv = name_with_version(alloc, text)?;
+    let nv = match PackageNv::from_str(alloc, text) {
+        Ok(nv) => nv,
+        Err(error) => {
+            let failure = message_failure(alloc, error.message.as_str());
+            return Err(Problem::of(Kind::Package, 0, failure));
+        }
+    };
     Ok(json_text(alloc, nv_json(alloc, &nv))?)
 }

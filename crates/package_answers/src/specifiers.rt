@@ -1,7 +1,7 @@
 //! The texts of references to one version of a package, such as `jsr:@scope/name@1.2.3/mod.ts`, and of dependencies, such as
 //! `npm:name@^1`.
 
-ghost use Rattle.std.specs.Prelude.{◌≡◌, ◌≢◌, ◌⊎◌, [], IfErr, IfOk, None, Ok, Result, Some, string_bytes};
+ghost use Rattle.std.specs.Prelude.{◌≡◌, ◌⊎◌, IfErr, IfOk, None, Ok, Result, string_bytes};
 ghost use Rattle.std.specs.Option.{option_copied};
 ghost use Rattle.serde_json.specs.View.{view};
 ghost use Rattle.semver_base.specs.declared.failure.Rejection.{Rejection};
@@ -10,10 +10,10 @@ ghost use Rattle.deno_semver.specs.NvReference.{IsNvReferenceAnswer, IsNvReferen
 ghost use Rattle.deno_semver.specs.declared.jsr.dependency.JsrDepPackageReq.{JsrDepPackageReq};
 ghost use Rattle.deno_semver.specs.declared.package.nv_reference.PackageNvReference.{PackageNvReference};
 ghost use Rattle.answers.specs.Asking.{IsAnswer, IsFailureAt};
-ghost use Rattle.package_answers.specs.Specifiers.{DependencyParts, IsDependency, IsDependencyFailure, IsVersionReference, IsVersionReferenceFailure, VersionReferenceParts, dependency_failure, dependency_json, version_reference_json};
+ghost use Rattle.package_answers.specs.Specifiers.{DependencyParts, IsDependencyFailure, IsVersionReferenceFailure, VersionReferenceParts, dependency_failure, dependency_json, version_reference_json};
 ghost use Rattle.answers.specs.declared.asking.Kind.TheVariants as kind;
 
-use crate::names::nv_json;
+use crate::names::{message_failure, nv_json};
 use crate::packages::{package_json, parts_failure};
 use crate::references::{export_json, registry_name, registry_of};
 use answers::asking::{Kind, Problem};
@@ -58,25 +58,6 @@ fn dependency_failure(alloc: Global, error: JsrDepPackageReqParseError) -> Parse
     }
 }
 
-/// Parses a dependency, with this grammar for its range.
-pub fn read_dependency(
-    alloc: Global,
-    flavour: Flavour,
-    text: &str,
-) -> Result<JsrDepPackageReq, Problem>
-    ensures answer { IsAnswer (IsDependency flavour text.now) (λ d. d) result }
-    ensures failure { IfErr result
-        (IsFailureAt kind.Reference 0 (IsDependencyFailure flavour text.now)) }
-{
-    match parse_dependency(alloc, flavour, text) {
-        Ok(dependency) => Ok(dependency),
-        Err(error) => {
-            let failure = dependency_failure(alloc, error);
-            Err(Problem::of(Kind::Reference, 0, failure))
-        }
-    }
-}
-
 // The parts of a dependency as JSON: its registry, its canonical form and its package.
 fn dependency_json(alloc: Global, dependency: &JsrDepPackageReq) -> Result<Value, AllocError>
     ensures { IfOk result (λ json. view json ≡ dependency_json dependency.now) }
@@ -89,14 +70,20 @@ fn dependency_json(alloc: Global, dependency: &JsrDepPackageReq) -> Result<Value
         .into_json()
 }
 
-/// Parses a dependency, and returns its parts as the text of a JSON object.
+/// Parses a dependency, with this grammar for its range, and returns its parts as the text of a JSON object.
 pub fn dependency_parts(alloc: Global, flavour: Flavour, text: &str) -> Result<String, Problem>
     ensures answer { IsAnswer (DependencyParts flavour text.now)
         (λ text. string_bytes text) result }
     ensures failure { IfErr result
         (IsFailureAt kind.Reference 0 (IsDependencyFailure flavour text.now)) }
 {
-    let dependency = read_dependency(alloc, flavour, text)?;
+    let dependency = match parse_dependency(alloc, flavour, text) {
+        Ok(dependency) => dependency,
+        Err(error) => {
+            let failure = dependency_failure(alloc, error);
+            return Err(Problem::of(Kind::Reference, 0, failure));
+        }
+    };
     Ok(json_text(alloc, dependency_json(alloc, &dependency))?)
 }
 
@@ -143,33 +130,6 @@ fn parse_reference(
     }
 }
 
-// What is wrong with the text of a reference to a version.
-fn version_reference_failure(alloc: Global, error: &PackageNvReferenceParseError) -> ParseFailure
-    ensures { (result ≡ None)
-        ⊎ ((error.now.message ≢ []) × (result ≡ Some (error.now.message, None))) }
-{
-    if error.is_memory() {
-        return ParseFailure::memory();
-    }
-    ParseFailure::with_texts(alloc, error.message.as_str(), None)
-}
-
-/// Parses a reference to a version, of a JSR package if the text begins with `jsr:`, else of an npm package.
-pub fn read_version_reference(alloc: Global, text: &str) -> Result<VersionReference, Problem>
-    ensures answer { IsAnswer (IsVersionReference text.now) (λ read. read) result }
-    ensures failure { IfErr result
-        (IsFailureAt kind.Reference 0 (IsVersionReferenceFailure text.now)) }
-{
-    let kind = registry_of(text);
-    match parse_reference(alloc, kind, text) {
-        Ok(reference) => Ok(VersionReference { kind, reference }),
-        Err(error) => {
-            let failure = version_reference_failure(alloc, &error);
-            Err(Problem::of(Kind::Reference, 0, failure))
-        }
-    }
-}
-
 // The parts of a reference to a version as JSON: its registry, its name with the version, its path or null, and for JSR the
 // export that the path means.
 fn version_reference_json(alloc: Global, read: &VersionReference) -> Result<Value, AllocError>
@@ -183,12 +143,20 @@ fn version_reference_json(alloc: Global, read: &VersionReference) -> Result<Valu
         .into_json()
 }
 
-/// Parses a reference to a version, and returns its parts as the text of a JSON object.
+/// Parses a reference to a version, of a JSR package if the text begins with `jsr:`, else of an npm package, and returns its parts
+/// as the text of a JSON object.
 pub fn version_reference_parts(alloc: Global, text: &str) -> Result<String, Problem>
     ensures answer { IsAnswer (VersionReferenceParts text.now) (λ text. string_bytes text) result }
     ensures failure { IfErr result
         (IsFailureAt kind.Reference 0 (IsVersionReferenceFailure text.now)) }
 {
-    let read = read_version_reference(alloc, text)?;
+    let kind = registry_of(text);
+    let read = match parse_reference(alloc, kind, text) {
+        Ok(reference) => VersionReference { kind, reference },
+        Err(error) => {
+            let failure = message_failure(alloc, error.message.as_str());
+            return Err(Problem::of(Kind::Reference, 0, failure));
+        }
+    };
     Ok(json_text(alloc, version_reference_json(alloc, &read))?)
 }

@@ -1,13 +1,21 @@
-use Rattle.std.proofs.Common.{rules}
-use Rattle.std.proofs.lemmas.Result.{err_from_is_err_and}
-use Rattle.package_answers.specs.Specifiers.{dependency_json}
+use Rattle.std.proofs.Common.{◌≡◌, Ok, Err, None, ap, rules}
+use Rattle.deno_semver.specs.DependencyOutcome.{DependencyFault, IsDependencyOutcome}
+use Rattle.deno_semver.specs.declared.jsr.dependency.JsrDepPackageReq.{JsrDepPackageReq}
+use Rattle.deno_semver.specs.declared.jsr.dependency.JsrDepPackageReqParseError.TheVariants as error
+use Rattle.answers.specs.declared.asking.Kind.TheVariants as kinds
+use Rattle.answers.proofs.ReadArguments.{by_rejection, was_not_parsed, was_parsed}
+use Rattle.package_answers.proofs.Outcomes.{none_shown}
 use Rattle.answers.proofs.Givens.{answered, by_fault, by_value}
+use Rattle.package_answers.specs.Specifiers.{dependency_failure, dependency_json}
 use Rattle.package_answers.proofs.specifiers.dependency_parts.Goals as goal
 
-pub returns-in_err-dependency-clause-answer : goal.returns-in_err-dependency-clause-answer
-returns-in_err-dependency-clause-answer c =
-    let p = err_from_is_err_and c.from_residual.result c.from_residual.ensures.1 in
-    rw (p.1, p.2) (by_fault _ _ _ _ c.in_err-dependency.ensures.answer)
+pub returns-in-Err-clause-answer : goal.returns-in-Err-clause-answer
+returns-in-Err-clause-answer c =
+    let failure = c.dependency_failure-failure.result in
+    let none : c.in-Err.error ≡ error.Memory → failure ≡ None = λ m. none_shown failure (dependency_failure c.in-Err.error) c.dependency_failure-failure.ensures (ap dependency_failure m) in
+    rw c.of.ensures (by_fault _ _ _ _ (was_not_parsed kinds.Reference 0 (IsDependencyOutcome c.args.flavour c.args.text.now) failure (by_rejection (IsDependencyOutcome c.args.flavour c.args.text.now) failure none c.in-Err.ensures.rejected) (λ (d : JsrDepPackageReq) o. none (c.in-Err.ensures.answer (Ok d) o))))
 
 pub returns-clause-answer : goal.returns-clause-answer
-returns-clause-answer c = by_value _ _ _ _ c.in_ok-dependency.ensures.answer _ (answered _ _ _ (c.in_ok-json_text.ensures (dependency_json c.in_ok-dependency.dependency) (search rules) c.dependency_json.ensures))
+returns-clause-answer c =
+    let parsed = was_parsed kinds.Reference 0 (IsDependencyOutcome c.args.flavour c.args.text.now) c.in-Ok.dependency c.in-Ok.ensures.read (λ (d : JsrDepPackageReq) o. c.in-Ok.ensures.answer (Ok d) o) (λ (fault : DependencyFault) o. c.in-Ok.ensures.answer (Err fault) o) in
+    by_value _ _ _ _ parsed _ (answered _ _ _ (c.in_ok-json_text.ensures (dependency_json c.in-Ok.dependency) (search rules) c.dependency_json.ensures))

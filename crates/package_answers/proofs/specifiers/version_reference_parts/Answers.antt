@@ -1,13 +1,42 @@
-use Rattle.std.proofs.Common.{rules}
-use Rattle.std.proofs.lemmas.Result.{err_from_is_err_and}
-use Rattle.package_answers.specs.Specifiers.{version_reference_json}
+use Rattle.std.proofs.Common.{◌≡◌, ℕ, List, Ok, Err, None, Result, rules}
+use Rattle.semver_base.specs.declared.failure.Rejection.{Rejection}
+use Rattle.deno_semver.specs.NameAndVersion.{IsNvMemory}
+use Rattle.deno_semver.specs.NvReference.{IsNvReferenceOutcome, nv_error}
+use Rattle.deno_semver.specs.declared.package.kind.PackageKind.{PackageKind}
+use Rattle.deno_semver.specs.declared.package.nv_reference.PackageNvReference.{PackageNvReference}
+use Rattle.answers.specs.declared.asking.Kind.TheVariants as kinds
+use Rattle.answers.proofs.ReadArguments.{by_rejection, was_not_parsed, was_parsed}
+use Rattle.package_answers.specs.declared.specifiers.VersionReference.{VersionReference}
+use Rattle.package_answers.proofs.Outcomes.{by_this, in_registry, no_message, same_of_registry}
 use Rattle.answers.proofs.Givens.{answered, by_fault, by_value}
+use Rattle.package_answers.specs.Specifiers.{IsPinnedOutcome, version_reference_json}
 use Rattle.package_answers.proofs.specifiers.version_reference_parts.Goals as goal
 
-pub returns-in_err-read-clause-answer : goal.returns-in_err-read-clause-answer
-returns-in_err-read-clause-answer c =
-    let p = err_from_is_err_and c.from_residual.result c.from_residual.ensures.1 in
-    rw (p.1, p.2) (by_fault _ _ _ _ c.in_err-read.ensures.answer)
+abbrev outcome_of : List ℕ → PackageKind → Result PackageNvReference Rejection → Type 0
+outcome_of text kind o = IsNvReferenceOutcome kind text o
+
+abbrev made : PackageKind → PackageNvReference → VersionReference
+made kind reference = record { kind = kind; reference = reference }
+
+pub returns-in-Err-clause-answer : goal.returns-in-Err-clause-answer
+returns-in-Err-clause-answer c =
+    let text = c.args.text.now in
+    let kind = c.registry_of-kind.result in
+    let registry = c.registry_of-kind.ensures in
+    let failure = c.message_failure-failure.result in
+    let message = rw c.as_str.ensures.value at c.message_failure-failure.ensures in
+    let none : IsNvMemory (nv_error c.in-Err.error) → failure ≡ None = λ m. no_message c.in-Err.error.message failure message m.message in
+    let found = by_rejection (outcome_of text kind) failure none c.in-Err.ensures.rejected in
+    rw c.of.ensures (by_fault _ _ _ _ (was_not_parsed kinds.Reference 0 (IsPinnedOutcome text) failure (in_registry (outcome_of text) text kind registry found)
+    (λ (read : VersionReference) o. none (c.in-Err.ensures.answer (Ok read.reference) (by_this (outcome_of text) text kind registry read.kind (Ok read.reference) o.0 o.1)))))
 
 pub returns-clause-answer : goal.returns-clause-answer
-returns-clause-answer c = by_value _ _ _ _ c.in_ok-read.ensures.answer _ (answered _ _ _ (c.in_ok-json_text.ensures (version_reference_json c.in_ok-read.read) (search rules) c.version_reference_json.ensures))
+returns-clause-answer c =
+    let text = c.args.text.now in
+    let kind = c.registry_of-kind.result in
+    let registry = c.registry_of-kind.ensures in
+    let read = made kind c.in-Ok.reference in
+    let parsed = was_parsed kinds.Reference 0 (IsPinnedOutcome text) read (registry, c.in-Ok.ensures.read)
+    (λ (read : VersionReference) o. same_of_registry (outcome_of text) text kind registry made c.in-Ok.reference read.kind read.reference o.0 o.1 (λ (r : PackageNvReference) k. c.in-Ok.ensures.answer (Ok r) k))
+    (λ (fault : Rejection) o. c.in-Ok.ensures.answer (Err fault) (by_this (outcome_of text) text kind registry o.0 (Err fault) o.1 o.2)) in
+    by_value _ _ _ _ parsed _ (answered _ _ _ (c.in_ok-json_text.ensures (version_reference_json read) (search rules) c.version_reference_json.ensures))
