@@ -1,6 +1,6 @@
 //! The strict parser, for the requirements in package specifiers.
 
-ghost use Rattle.std.specs.Prelude.{◌≡◌, ◌↔◌, ◌⊎◌, ◌∷◌, IfErr, IfOk, None, codes, true};
+ghost use Rattle.std.specs.Prelude.{◌≡◌, ◌⊎◌, IfErr, IfOk, None, codes, true};
 ghost use Rattle.semver_base.specs.Lexical.{IsWhitespace};
 ghost use Rattle.semver_req.specs.Parsers.{IsParserAnswer, IsReading};
 ghost use Rattle.semver_req.specs.SpecifierRejections.{IsNoTag, IsSpecifierRejection, empty_constraint};

@@ -1,6 +1,6 @@
 //! Why the text of a package is rejected.
 
-ghost use Rattle.std.specs.Prelude.{◌≡◌, ◌↔◌, ◌⊎◌, IfOk, IsTrue};
+ghost use Rattle.std.specs.Prelude.{◌≡◌, ◌↔◌, IfOk, IsTrue};
 ghost use Rattle.deno_semver.specs.PackageOutcome.{IsOutOfMemory};
 
 use semver_base::string::StackString;
