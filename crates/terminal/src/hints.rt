@@ -20,17 +20,6 @@ pub fn is_protocol(text: &str) -> bool {
     PROTOCOLS.iter().any(|protocol| text.starts_with(*protocol))
 }
 
-// Whether a version or a name ends with this text.
-fn ends_word(text: &str) -> bool {
-    text.ends_with(|c: char| c.is_ascii_alphanumeric() || c == '*')
-}
-
-// Whether the text ends with a version's three numbers.
-fn ends_triple(text: &str) -> bool {
-    let mut versions = text.rsplit(|c: char| !c.is_ascii_alphanumeric() && c != '.');
-    versions.next().unwrap_or("").split('.').count() == 3
-}
-
 // Texts that show what is meant, and the hint for each.
 const PHRASES: [(&str, &str); 7] = [
     (
@@ -57,22 +46,6 @@ fn is_operator(c: char) -> bool {
     matches!(c, '<' | '>' | '=' | '^' | '~')
 }
 
-// A hint for a character that can't stand behind this text.
-fn hint_at(before: &str, next: char) -> Option<&'static str> {
-    match next {
-        '.' if before.ends_with(' ') => Some("leave out the space before `.`"),
-        '.' if ends_triple(before) => Some("a version has three numbers"),
-        '>' if before.ends_with('=') => Some("write `>=`"),
-        '<' if before.ends_with('=') => Some("write `<=`"),
-        c if is_operator(c) && before.ends_with(is_operator) => Some("write one operator"),
-        c if is_operator(c) && ends_word(before) => Some("put a space between two comparators"),
-        ',' | '&' if before.ends_with(',') => Some("write one separator"),
-        '_' => Some("a pre-release has letters, digits, `-` and `.`"),
-        c if !c.is_ascii() => Some("this character isn't ASCII"),
-        _ => None,
-    }
-}
-
 /// A hint for an invalid alternative that leaves its grammar at a place.
 pub fn hint(piece: &str, place: usize) -> Option<&'static str> {
     let (before, next) = (piece.get(..place)?, piece.get(place..)?.chars().next()?);
@@ -93,7 +66,21 @@ pub fn hint(piece: &str, place: usize) -> Option<&'static str> {
             return Some(*hint);
         }
     }
-    hint_at(before, next)
+    let mut versions = before.rsplit(|c: char| !c.is_ascii_alphanumeric() && c != '.');
+    let numbers = versions.next().unwrap_or("").split('.').count();
+    let follows_word = before.ends_with(|c: char| c.is_ascii_alphanumeric() || c == '*');
+    match next {
+        '.' if before.ends_with(' ') => Some("leave out the space before `.`"),
+        '.' if numbers == 3 => Some("a version has three numbers"),
+        '>' if before.ends_with('=') => Some("write `>=`"),
+        '<' if before.ends_with('=') => Some("write `<=`"),
+        c if is_operator(c) && before.ends_with(is_operator) => Some("write one operator"),
+        c if is_operator(c) && follows_word => Some("put a space between two comparators"),
+        ',' | '&' if before.ends_with(',') => Some("write one separator"),
+        '_' => Some("a pre-release has letters, digits, `-` and `.`"),
+        c if !c.is_ascii() => Some("this character isn't ASCII"),
+        _ => None,
+    }
 }
 
 const LATEST: &str = "latest";

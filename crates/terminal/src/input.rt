@@ -27,32 +27,21 @@ pub trait Take {
     ) -> Result<(), Stop>;
 }
 
-// The version in a line of git: the name of a tag, alone or behind `refs/tags/` and a hash. A line that ends with `^{}` repeats
-// the tag before it.
-fn tag_name(line: &str) -> Option<&str> {
-    if line.ends_with("^{}") {
-        return None;
-    }
-    match line.split_once("refs/tags/") {
-        Some((_, name)) => Some(name),
-        None => Some(line),
-    }
-}
-
-// Takes a text if it is a version; reports an invalid one, unless such are passed over.
+// Takes a text if it is a version, or a line of git with the name of a tag that is one; reports an invalid one, unless such are
+// passed over.
 fn take_one<O: Write, E: Write, T: Take>(
     console: &mut Console<O, E>,
     taker: &mut T,
     text: &str,
     place: Place,
 ) -> Result<Status, Stop> {
-    let name = if console.options.tags {
-        tag_name(text)
-    } else {
-        Some(text)
-    };
-    let Some(text) = name else {
+    let text = if !console.options.tags {
+        text
+    } else if text.ends_with("^{}") {
+        // The line repeats the tag before it.
         return Ok(Status::Answered);
+    } else {
+        text.split_once("refs/tags/").unwrap_or(("", text)).1
     };
     let failure = match Version::parse_standard(console.alloc, text) {
         Ok(version) => {
@@ -85,11 +74,6 @@ fn without_mark(text: &[u8]) -> &[u8] {
     }
 }
 
-// What is between the quotes of a JSON string, as `jq` prints one on a line.
-fn between_quotes(text: &str) -> Option<&str> {
-    text.strip_prefix('"')?.strip_suffix('"')
-}
-
 // Takes a line of standard input; one without text is passed over.
 fn take_line<O: Write, E: Write, T: Take>(
     console: &mut Console<O, E>,
@@ -118,13 +102,14 @@ fn take_line<O: Write, E: Write, T: Take>(
     if bare.is_empty() {
         return Ok(Status::Answered);
     }
-    match between_quotes(bare) {
-        Some(raw) => {
-            let text = unescaped(console.alloc, raw)?;
-            take_one(console, taker, text.as_str(), place)
-        }
-        None => take_one(console, taker, text, place),
+    // A JSON string, as `jq` prints one on a line.
+    if let Some(rest) = bare.strip_prefix('"')
+        && let Some(raw) = rest.strip_suffix('"')
+    {
+        let text = unescaped(console.alloc, raw)?;
+        return take_one(console, taker, text.as_str(), place);
     }
+    take_one(console, taker, text, place)
 }
 
 // Takes the items of a JSON array of texts.

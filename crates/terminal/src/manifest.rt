@@ -86,21 +86,6 @@ impl<'t> Scanner<'t> {
         (section, self.path.len().saturating_sub(1))
     }
 
-    // Ends the text that starts at `start` before this index: a key, an item of an array, or a value.
-    fn end_text(&mut self, start: usize, end: usize) -> Result<(), AllocError> {
-        let raw = self.file.get(start..end).unwrap_or("");
-        if !self.is_value {
-            self.key = Some(raw);
-            return Ok(());
-        }
-        self.is_value = false;
-        let (section, depth) = self.place();
-        match kind_at(section, depth) {
-            Some(kind) => self.add(raw, start, kind),
-            None => Ok(()),
-        }
-    }
-
     // Adds an entry of the last key.
     fn add(&mut self, raw: &str, start: usize, kind: Kind) -> Result<(), AllocError> {
         let name = unescaped(self.alloc, self.key.unwrap_or(""))?;
@@ -142,15 +127,23 @@ impl<'t> Scanner<'t> {
         let Some(start) = self.text else {
             return self.structure(index, c);
         };
-        if self.is_escaped {
-            self.is_escaped = false;
-        } else if c == '\\' {
-            self.is_escaped = true;
-        } else if c == '"' {
-            self.text = None;
-            self.end_text(start, index)?;
+        if self.is_escaped || c != '"' {
+            self.is_escaped = !self.is_escaped && c == '\\';
+            return Ok(());
         }
-        Ok(())
+        // A key, an item of an array, or a value ends.
+        self.text = None;
+        let raw = self.file.get(start..index).unwrap_or("");
+        if !self.is_value {
+            self.key = Some(raw);
+            return Ok(());
+        }
+        self.is_value = false;
+        let (section, depth) = self.place();
+        match kind_at(section, depth) {
+            Some(kind) => self.add(raw, start, kind),
+            None => Ok(()),
+        }
     }
 }
 
@@ -173,15 +166,6 @@ fn of_json(alloc: Global, file: &str) -> Result<Vec<Entry>, AllocError> {
     Ok(entries)
 }
 
-// The index of a line and the byte of it with this number, both counted from 1.
-fn index_of(file: &str, line: usize, byte: usize) -> usize {
-    let mut index = byte.saturating_sub(1);
-    for before in file.split('\n').take(line.saturating_sub(1)) {
-        index = index.saturating_add(before.len()).saturating_add(1);
-    }
-    file.floor_char_boundary(index)
-}
-
 // The entries of JSON, or the one mistake that it is. A lockfile has none.
 fn of_text(alloc: Global, file: &str) -> Result<Vec<Entry>, AllocError> {
     let (start, message) = match Value::from_str(alloc, file) {
@@ -189,10 +173,14 @@ fn of_text(alloc: Global, file: &str) -> Result<Vec<Entry>, AllocError> {
         Ok(value) if value.get("lockfileVersion").is_some() => return Ok(Vec::new(alloc)),
         Ok(_) => return of_json(alloc, file),
         Err(error) if error.is_memory() => return Err(AllocError),
-        Err(error) => (
-            index_of(file, error.line(), error.column()),
-            "not valid JSON",
-        ),
+        Err(error) => {
+            // Lines and columns count from 1.
+            let mut index = error.column().saturating_sub(1);
+            for before in file.split('\n').take(error.line().saturating_sub(1)) {
+                index = index.saturating_add(before.len()).saturating_add(1);
+            }
+            (file.floor_char_boundary(index), "not valid JSON")
+        }
     };
     let mistake = Entry {
         name: String::new(alloc),

@@ -37,35 +37,31 @@ const OF_VERSIONS: [Kind; 8] = [
     Kind::Space,
 ];
 
-// Where a text stops being a version, and what is expected there.
-fn version_error(alloc: Global, text: &str) -> Result<InvalidPiece, ParseFailure> {
-    let place = version_error_place(alloc, text)?;
+/// Where a text that isn't a version goes wrong, and what is expected there.
+pub fn version_errors(alloc: Global, text: &str) -> Result<Vec<InvalidPiece>, AllocError> {
+    // The calls fail out of memory alone.
+    let Ok(place) = version_error_place(alloc, text) else {
+        return Err(AllocError);
+    };
     let mut kinds = Vec::new(alloc);
     for kind in &OF_VERSIONS {
-        let may_follow = version_may_follow(alloc, part(text, 0, place), kind.text())?;
-        if may_follow && kinds.push(*kind).is_err() {
-            return Err(ParseFailure::memory());
+        match version_may_follow(alloc, part(text, 0, place), kind.text()) {
+            Ok(true) => kinds.push(*kind)?,
+            Ok(false) => (),
+            Err(_) => return Err(AllocError),
         }
     }
     let expected = Expected {
         kinds,
         may_end: false,
     };
-    Ok(InvalidPiece {
+    let error = InvalidPiece {
         start: 0,
         end: text.len(),
         place,
         cause: Cause::Unexpected(expected),
-    })
-}
-
-/// Where a text that isn't a version goes wrong.
-pub fn version_errors(alloc: Global, text: &str) -> Result<Vec<InvalidPiece>, AllocError> {
-    match version_error(alloc, text) {
-        Ok(error) => Ok(vec![in alloc; error]?),
-        // Only out of memory.
-        Err(_) => Err(AllocError),
-    }
+    };
+    Ok(vec![in alloc; error]?)
 }
 
 /// Prints the text with a caret under a place, and a note behind it.
