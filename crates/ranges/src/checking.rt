@@ -81,22 +81,6 @@ const START: Position = Position {
     column: 1,
 };
 
-impl Position {
-    // The position of a later index of the file.
-    fn at(self, file: &str, index: usize) -> Position {
-        let mut found = Position { index, ..self };
-        for c in file.get(self.index..index).unwrap_or("").chars() {
-            if c == '\n' {
-                found.line = found.line.saturating_add(1);
-                found.column = 1;
-            } else {
-                found.column = found.column.saturating_add(1);
-            }
-        }
-        found
-    }
-}
-
 // The findings so far.
 #[derive(Clone, Copy)]
 struct Report<'r> {
@@ -344,7 +328,16 @@ fn check_entries<O: Write, E: Write>(
     entries: &[Entry],
 ) -> Result<(), Stop> {
     for entry in entries {
-        report.position = report.position.at(text, entry.start);
+        let position = &mut report.position;
+        for c in text.get(position.index..entry.start).unwrap_or("").chars() {
+            if c == '\n' {
+                position.line = position.line.saturating_add(1);
+                position.column = 1;
+            } else {
+                position.column = position.column.saturating_add(1);
+            }
+        }
+        position.index = entry.start;
         match entry.kind {
             Kind::Range => {
                 if let Some(range) = range_of(entry.text.as_str()) {

@@ -23,7 +23,13 @@ pub fn reject<O: Write, E: Write>(
         return Err(Stop::OutOfMemory);
     };
     let argument = arguments.get(invalid.place).copied().unwrap_or("");
-    let (kind, message) = (kind_name(invalid.kind), invalid.failure.message());
+    let kind = match invalid.kind {
+        Kind::Range => "range",
+        Kind::Version => "version",
+        Kind::Package => "package",
+        Kind::Reference => "reference",
+    };
+    let message = invalid.failure.message();
     let errors = errors_of(console.alloc, console.options.flavour, argument, invalid)?;
     if console.options.json {
         let error = Object::new(console.alloc)
@@ -67,36 +73,6 @@ pub fn print_version<O: Write, E: Write>(
         write!(console.out, "{version}{end}")?;
     }
     Ok(Status::of(version.is_some()))
-}
-
-// Prints whether a range allows no more than another, or the lowest version that it alone allows.
-fn print_within<O: Write, E: Write>(
-    console: &mut Console<O, E>,
-    first: Option<&str>,
-) -> Result<Status, Stop> {
-    if console.options.json {
-        let json = Object::new(console.alloc).put("within", Ok(Value::Bool(first.is_none())));
-        let json = match first {
-            Some(_) => json.put_text("version", first),
-            None => json,
-        };
-        console.json(json.into_json())?;
-    } else {
-        match first {
-            Some(version) => print_line(&mut console.out, format_args!("no {version}"))?,
-            None => print_line(&mut console.out, "yes")?,
-        }
-    }
-    Ok(Status::of(first.is_none()))
-}
-
-fn kind_name(kind: Kind) -> &'static str {
-    match kind {
-        Kind::Range => "range",
-        Kind::Version => "version",
-        Kind::Package => "package",
-        Kind::Reference => "reference",
-    }
 }
 
 // The JSON of one field.
@@ -146,7 +122,21 @@ pub fn within<O: Write, E: Write>(
         old,
     );
     let lowest = lowest_text(console, &[new, old], answer)?;
-    print_within(console, lowest.as_deref())
+    let lowest = lowest.as_deref();
+    if options.json {
+        let json = Object::new(console.alloc).put("within", Ok(Value::Bool(lowest.is_none())));
+        let json = match lowest {
+            Some(_) => json.put_text("version", lowest),
+            None => json,
+        };
+        console.json(json.into_json())?;
+    } else {
+        match lowest {
+            Some(version) => print_line(&mut console.out, format_args!("no {version}"))?,
+            None => print_line(&mut console.out, "yes")?,
+        }
+    }
+    Ok(Status::of(lowest.is_none()))
 }
 
 // The texts of the first two ranges that don't overlap.
@@ -173,25 +163,23 @@ pub fn overlap<O: Write, E: Write>(
     }
 }
 
-fn overlap_json(alloc: Global, apart: Option<(&str, &str)>) -> Result<Value, AllocError> {
-    let json = Object::new(alloc).put("overlap", Ok(Value::Bool(apart.is_none())));
-    match apart {
-        Some((one, other)) => {
-            let mut items = Vec::new(alloc);
-            items.push(Value::try_from_str(alloc, one)?)?;
-            items.push(Value::try_from_str(alloc, other)?)?;
-            json.put("apart", Ok(Value::Array(items))).into_json()
-        }
-        None => json.into_json(),
-    }
-}
-
 fn print_overlap<O: Write, E: Write>(
     console: &mut Console<O, E>,
     apart: Option<(&str, &str)>,
 ) -> Result<Status, Stop> {
     if console.options.json {
-        console.json(overlap_json(console.alloc, apart))?;
+        let alloc = console.alloc;
+        let json = Object::new(alloc).put("overlap", Ok(Value::Bool(apart.is_none())));
+        let json = match apart {
+            Some((one, other)) => {
+                let mut items = Vec::new(alloc);
+                items.push(Value::try_from_str(alloc, one)?)?;
+                items.push(Value::try_from_str(alloc, other)?)?;
+                json.put("apart", Ok(Value::Array(items)))
+            }
+            None => json,
+        };
+        console.json(json.into_json())?;
     } else {
         match apart {
             Some((one, other)) => print_line(

@@ -19,12 +19,9 @@ fn print_text<O: Write, E: Write>(console: &mut Console<O, E>, text: &str) -> Re
     if console.options.json {
         return console.item(Value::try_from_str(console.alloc, text));
     }
+    let end = console.options.line_end();
     console.out.write_all(text.as_bytes())?;
-    Ok(
-        console
-            .out
-            .write_all(console.options.line_end().as_bytes())?,
-    )
+    Ok(console.out.write_all(end.as_bytes())?)
 }
 
 // Whether each of the ranges matches the version.
@@ -153,7 +150,8 @@ pub fn best<R: Input, O: Write, E: Write>(
     Ok(status.worse(print_version(console, listed.highest(first))?))
 }
 
-/// `ranges outdated RANGE [VERSION..]`: the highest version that matches, and the highest of all.
+/// `ranges outdated RANGE [VERSION..]`: the highest version that matches, and the highest of all. The status is 1 if there is a
+/// higher one than that which matches.
 pub fn outdated<R: Input, O: Write, E: Write>(
     rt: &R,
     console: &mut Console<O, E>,
@@ -168,16 +166,7 @@ pub fn outdated<R: Input, O: Write, E: Write>(
     };
     let mut listed = Listed::new(console.alloc, &[], console.options.pre_release);
     let status = take_all(rt, console, matches.get_strs("VERSION"), &mut listed)?;
-    let printed = print_outdated(console, listed.highest(range), listed.highest(&any))?;
-    Ok(status.worse(printed))
-}
-
-// Prints both versions; the status is 1 if there is a higher one than that which matches.
-fn print_outdated<O: Write, E: Write>(
-    console: &mut Console<O, E>,
-    matching: Option<&str>,
-    highest: Option<&str>,
-) -> Result<Status, Stop> {
+    let (matching, highest) = (listed.highest(range), listed.highest(&any));
     if console.options.json {
         let json = Object::new(console.alloc)
             .put_text("highest", highest)
@@ -190,7 +179,7 @@ fn print_outdated<O: Write, E: Write>(
         let end = console.options.line_end();
         write!(console.out, "{matching} {highest}{end}")?;
     }
-    Ok(Status::of(highest.is_none() || matching == highest))
+    Ok(status.worse(Status::of(highest.is_none() || matching == highest)))
 }
 
 /// `ranges sort [VERSION..]`: the versions in the order of precedence; equal ones keep theirs.

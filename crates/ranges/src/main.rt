@@ -26,14 +26,14 @@ use terminal::args::{Options, program};
 use terminal::console::{Console, Status, Stop, Style, Terminal};
 use terminal::shown::Shown;
 
-// Runs the command of this name.
+// Runs the command of this name, and flushes its output.
 fn answer<R: Input + Files + AllocGlobal, O: Write, E: Write>(
     rt: &R,
     console: &mut Console<O, E>,
     name: &str,
     matches: &ArgMatches<'_>,
 ) -> Result<Status, Stop> {
-    match name {
+    let outcome = match name {
         "check" => checking::check(rt, console, matches),
         "filter" => listed::filter(rt, console, matches),
         "best" => listed::best(rt, console, matches),
@@ -47,7 +47,13 @@ fn answer<R: Input + Files + AllocGlobal, O: Write, E: Write>(
         "package" => packaged::report_package(console, matches),
         "reference" => packaged::report_reference(console, matches),
         _ => Ok(Status::Usage),
-    }
+    };
+    let status = match outcome {
+        Err(Stop::Ended(status)) => status,
+        outcome => outcome?,
+    };
+    console.out.flush()?;
+    Ok(status)
 }
 
 // Prints the help or the version, or what is wrong with the arguments.
@@ -74,26 +80,7 @@ fn print_mistake<R: Print + AllocGlobal, E: Write>(
 }
 
 fn arguments<R: Env + AllocGlobal>(rt: &R) -> io::Result<Vec<String>> {
-    let mut arguments = Vec::new(rt.alloc());
-    for argument in env::args(rt)? {
-        arguments.push(argument)?;
-    }
-    Ok(arguments)
-}
-
-// Runs the command of this name, and flushes its output.
-fn flushed_answer<R: Input + Files + AllocGlobal, O: Write, E: Write>(
-    rt: &R,
-    console: &mut Console<O, E>,
-    name: &str,
-    matches: &ArgMatches<'_>,
-) -> Result<Status, Stop> {
-    let status = match answer(rt, console, name, matches) {
-        Err(Stop::Ended(status)) => status,
-        outcome => outcome?,
-    };
-    console.out.flush()?;
-    Ok(status)
+    Ok(env::args(rt)?.collect(rt.alloc())?)
 }
 
 // Runs the given command with a buffered console; one that is quiet prints nowhere.
@@ -109,11 +96,11 @@ fn write_answer<R: Runtime + AllocGlobal, E: Write + Drop>(
     let (alloc, options) = (rt.alloc(), Options::of(matches));
     if options.quiet {
         let mut console = Console::new(alloc, io::sink(), err, terminal, options);
-        return flushed_answer(rt, &mut console, name, matches);
+        return answer(rt, &mut console, name, matches);
     }
     let out = BufWriter::new(alloc, io::writer(rt))?;
     let mut console = Console::new(alloc, out, err, terminal, options);
-    flushed_answer(rt, &mut console, name, matches)
+    answer(rt, &mut console, name, matches)
 }
 
 // Parses the arguments and runs their command.
