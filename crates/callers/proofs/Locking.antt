@@ -8,8 +8,8 @@ use Rattle.callers.specs.Lockfile.{IsLockedList, KeepsMeaning, Locks}
 use Rattle.deno_semver.specs.JsonAnswers.{IsJsonAnswer}
 use Rattle.deno_semver.specs.Stored.{IsSameWhenStored, IsReadFor, IsStableReq}
 use Rattle.deno_semver.specs.StoredList.{IsSortedFrom, OneByOne}
-use Rattle.deno_semver.specs.declared.json.error.JsonError.{JsonError}
-use Rattle.deno_semver.specs.declared.json.error.JsonError.TheVariants as error
+use Rattle.deno_semver.specs.declared.json.JsonError.{JsonError}
+use Rattle.deno_semver.specs.declared.json.JsonError.TheVariants as error
 use Rattle.deno_semver.specs.declared.package.values.PackageReq.{PackageReq}
 use Rattle.semver_base.specs.declared.range.PreRelease.TheVariants.{Restricted}
 use Rattle.semver_base.specs.declared.version.Version.{Version}

@@ -24,9 +24,9 @@ use Rattle.deno_semver.specs.PackageOutcome.{IsVersionReq}
 use Rattle.deno_semver.specs.PackageText.{PackageParts, scoped_name}
 use Rattle.deno_semver.specs.ReferenceOutcome.{IsReferenceAnswer, IsReferenceOutcome, IsReferenceRejection, ReferenceFault, is_reference}
 use Rattle.deno_semver.specs.ReferenceText.{sub_path_of}
-use Rattle.deno_semver.specs.declared.package.kind.PackageKind.{PackageKind}
+use Rattle.deno_semver.specs.declared.package.values.PackageKind.{PackageKind}
 use Rattle.deno_semver.specs.declared.package.reference.PackageReqReference.{PackageReqReference}
-use Rattle.deno_semver.specs.declared.package.reference_errors.PackageReqReferenceParseError.{PackageReqReferenceParseError}
+use Rattle.deno_semver.specs.declared.package.errors.PackageReqReferenceParseError.{PackageReqReferenceParseError}
 
 -- ---- a path without an `@`
 

@@ -4,7 +4,7 @@ use Rattle.callers.specs.Allowance.{allowance_of}
 use Rattle.callers.specs.declared.import_map.Import.{Import}
 use Rattle.deno_semver.specs.ExportName.{export_name}
 use Rattle.deno_semver.specs.ReferenceOutcome.{IsReferenceOutcome}
-use Rattle.deno_semver.specs.declared.package.kind.PackageKind.{PackageKind}
+use Rattle.deno_semver.specs.declared.package.values.PackageKind.{PackageKind}
 use Rattle.deno_semver.specs.declared.package.reference.PackageReqReference.{PackageReqReference}
 use Rattle.semver_base.specs.declared.version.Version.{Version}
 

@@ -8,8 +8,8 @@ use Rattle.semver_req.specs.declared.range_set_or_tag.RangeSetOrTag.TheVariants 
 use Rattle.deno_semver.specs.PackageOutcome.{IsPackageOutcome}
 use Rattle.deno_semver.specs.Stored.{IsSameWhenStored, IsStableReq}
 use Rattle.deno_semver.specs.StoredList.{IsSortedFrom, OneByOne}
-use Rattle.deno_semver.specs.declared.json.error.JsonError.{JsonError}
-use Rattle.deno_semver.specs.declared.json.error.JsonError.TheVariants as error
+use Rattle.deno_semver.specs.declared.json.JsonError.{JsonError}
+use Rattle.deno_semver.specs.declared.json.JsonError.TheVariants as error
 use Rattle.deno_semver.specs.declared.package.values.PackageReq.{PackageReq}
 
 -- the value is so, or out of memory

@@ -14,7 +14,7 @@ use Rattle.deno_semver.specs.Cuts.{is_not}
 use Rattle.deno_semver.specs.PackageText.{IsPackageText, PackageParts}
 use Rattle.deno_semver.specs.ReferenceOutcome.{IsReferenceOutcome, IsReferenceRejection, Memory, ReferenceFault, ReportsReference, unboxed}
 use Rattle.deno_semver.specs.ReferenceText.{with_scheme}
-use Rattle.deno_semver.specs.declared.package.kind.PackageKind.{PackageKind}
+use Rattle.deno_semver.specs.declared.package.values.PackageKind.{PackageKind}
 use Rattle.deno_semver.specs.declared.package.reference.PackageReqReference.{PackageReqReference}
 use Rattle.callers.specs.Allowance.{allowance_of, yes_or_no}
 use Rattle.callers.specs.declared.packages.UnansweredReference.{UnansweredReference}

@@ -3,7 +3,7 @@
 ghost use Rattle.std.specs.Prelude.{◌≡◌, IfErr, IfOk, MatchResult, Ok};
 ghost use Rattle.std.specs.Cow.{cow_str_bytes};
 ghost use Rattle.deno_semver.specs.ReferenceOutcome.{IsReferenceOutcome, IsReferenceRejection, Memory, unboxed};
-ghost use Rattle.deno_semver.specs.declared.package.kind.PackageKind.TheVariants.{Jsr, Npm};
+ghost use Rattle.deno_semver.specs.declared.package.values.PackageKind.TheVariants.{Jsr, Npm};
 ghost use Rattle.deno_semver.specs.declared.package.reference.PackageReqReference.{PackageReqReference};
 ghost use Rattle.callers.specs.Allowance.{allowance_of};
 ghost use Rattle.callers.specs.ImportMap.{IsImport, IsImportOf};
@@ -17,7 +17,7 @@ use std::alloc::{AllocError, Global};
 use std::borrow::CowStr;
 
 /// What a specifier names, and whether it allows a version.
-#[derive(Debug, Drop)]
+#[derive(Drop)]
 pub struct Import {
     /// The name of the package.
     pub name: PackageName,

@@ -11,8 +11,8 @@ use Rattle.deno_semver.specs.declared.jsr.dependency.JsrDepPackageReq.{JsrDepPac
 use Rattle.deno_semver.specs.declared.jsr.dependency.JsrDepPackageReqParseError.{JsrDepPackageReqParseError}
 use Rattle.deno_semver.specs.declared.jsr.dependency.JsrDepPackageReqParseError.TheVariants as error
 use Rattle.deno_semver.specs.declared.package.errors.PackageReqParseError.{PackageReqParseError}
-use Rattle.deno_semver.specs.declared.package.kind.PackageKind.{PackageKind}
-use Rattle.deno_semver.specs.declared.package.kind.PackageKind.TheVariants.{Jsr, Npm}
+use Rattle.deno_semver.specs.declared.package.values.PackageKind.{PackageKind}
+use Rattle.deno_semver.specs.declared.package.values.PackageKind.TheVariants.{Jsr, Npm}
 use Rattle.deno_semver.specs.declared.package.values.PackageReq.{PackageReq}
 use Rattle.deno_semver.proofs.References.{cancel}
 
@@ -32,10 +32,6 @@ one_kind Npm Npm a b e = refl
 
 one_body : (k l : PackageKind) (a b : List ℕ) → scheme_of k ++ a ≡ scheme_of l ++ b → a ≡ b
 one_body k l a b e = cancel (scheme_of k) a b (e ∙ ap (λ (x : PackageKind). scheme_of x ++ b) (sym (one_kind k l a b e)))
-
-pub neither : {text : List ℕ} → LacksScheme Jsr text → LacksScheme Npm text → (kind : PackageKind) → LacksScheme kind text
-neither j n Jsr = j
-neither j n Npm = n
 
 -- ---- errors and results
 

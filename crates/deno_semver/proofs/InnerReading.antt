@@ -5,8 +5,8 @@ use Rattle.semver_req.specs.Outcome.{IsOutcome, Outcome, Ranges, Tag, Rejected, 
 use Rattle.semver_req.specs.Parsers.{Failure, IsRead, IsReading}
 use Rattle.semver_req.specs.declared.common.values.Flavour.{Flavour}
 use Rattle.semver_req.specs.declared.range_set_or_tag.RangeSetOrTag.{RangeSetOrTag}
-use Rattle.deno_semver.specs.declared.json.error.JsonError.{JsonError}
-use Rattle.deno_semver.specs.declared.json.error.JsonError.TheVariants as error
+use Rattle.deno_semver.specs.declared.json.JsonError.{JsonError}
+use Rattle.deno_semver.specs.declared.json.JsonError.TheVariants as error
 
 module _ (texts : TextsHaveOneOutcome) (f : Flavour) (text : List ℕ) where
   pub one_reading : (x y : RangeSetOrTag) → IsReading f text x → IsReading f text y → x ≡ y

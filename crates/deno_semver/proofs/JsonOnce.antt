@@ -16,7 +16,7 @@ use Rattle.semver_req.specs.declared.range_set_or_tag.RangeSetOrTag.{RangeSetOrT
 use Rattle.deno_semver.specs.Json.{AreItemsOf, IsJsonOfBound, IsJsonOfRange, IsJsonOfRangeBound, IsJsonOfSet, IsJsonOfVersionReq, IsMemberOf, IsStringOf, IsTextItself, IsTextOfDependency, IsTextOfInner, IsTextOfKind, IsTextOfNv, IsTextOfReference, IsTextOfReq, IsTextOfVersion}
 use Rattle.deno_semver.specs.OneOutcome.{DependenciesHaveOneOutcome, NamesWithVersionsHaveOneOutcome, PackageTextsHaveOneOutcome, ParsesToOne, VersionReferencesHaveOneOutcome}
 use Rattle.deno_semver.specs.StoredList.{IsJsonOfReqs}
-use Rattle.deno_semver.specs.declared.package.kind.PackageKind.{PackageKind}
+use Rattle.deno_semver.specs.declared.package.values.PackageKind.{PackageKind}
 
 -- ---- strings, members and items
 

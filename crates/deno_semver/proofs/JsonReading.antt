@@ -18,8 +18,8 @@ use Rattle.semver_base.specs.declared.range.RangeBound.TheVariants as bound
 use Rattle.semver_base.specs.declared.range.VersionBound.{VersionBound}
 use Rattle.deno_semver.specs.Json.{AreItemsOf, IsJsonOfBound, IsJsonOfRangeBound}
 use Rattle.deno_semver.specs.JsonAnswers.{IsJsonAnswer, IsJsonRejection}
-use Rattle.deno_semver.specs.declared.json.error.JsonError.{JsonError}
-use Rattle.deno_semver.specs.declared.json.error.JsonError.TheVariants as error
+use Rattle.deno_semver.specs.declared.json.JsonError.{JsonError}
+use Rattle.deno_semver.specs.declared.json.JsonError.TheVariants as error
 
 -- an error that is out of memory if the JSON parses to some value is a correct rejection
 pub rejected_by : {T : Type 0} (ParsesTo : Data → T → Type 0) (json : Data) (e : JsonError) → ((x : T) → ParsesTo json x → e ≡ error.Memory) → IsJsonRejection ParsesTo json e
@@ -39,9 +39,6 @@ exit_answer x (Err f) e is m = is ∙ m
 -- ---- items
 
 module _ {T : Type 0} (ParsesTo : Data → T → Type 0) where
-  -- the values that these items parse to
-  abbrev Are : List Data → List T → Type 0
-  Are ds xs = AreItemsOf ParsesTo (items_of ds) xs
 
   -- one more item
   pub one_more : (ds : List Data) (xs : List T) (d : Data) (x : T) → AreItemsOf ParsesTo (items_of ds) xs → ParsesTo d x

@@ -14,7 +14,7 @@ use Rattle.deno_semver.specs.NameAndVersionSteps.{IsFrontRejection}
 use Rattle.deno_semver.specs.NvReference.{IsNoPath, IsNvReferenceAnswer, IsNvReferenceOutcome, IsNvReferenceRejection, NvReferenceReadsBack, bad_front, is_followed, is_reference, nv_error, other_scheme}
 use Rattle.deno_semver.specs.PackageText.{without_slash}
 use Rattle.deno_semver.specs.ReferenceText.{LacksScheme, path_text}
-use Rattle.deno_semver.specs.declared.package.kind.PackageKind.{PackageKind}
+use Rattle.deno_semver.specs.declared.package.values.PackageKind.{PackageKind}
 use Rattle.deno_semver.specs.declared.package.values.PackageNv.{PackageNv}
 use Rattle.deno_semver.specs.declared.package.name_version.PackageNvParseError.{PackageNvParseError}
 use Rattle.deno_semver.specs.declared.package.nv_reference.PackageNvReference.{PackageNvReference}

@@ -9,9 +9,9 @@ use Rattle.deno_semver.specs.ReferenceOutcome.{BadText, HasVersionInPath, IsOfRe
 use Rattle.deno_semver.specs.ReferenceReading.{IsFrontError, IsReportedInvalid, IsReportedVersion}
 use Rattle.deno_semver.specs.ReferenceText.{reference_text, sub_path_of, text_with_version}
 use Rattle.deno_semver.specs.declared.package.errors.PackageReqPartsParseError.{PackageReqPartsParseError}
-use Rattle.deno_semver.specs.declared.package.kind.PackageKind.{PackageKind}
+use Rattle.deno_semver.specs.declared.package.values.PackageKind.{PackageKind}
 use Rattle.deno_semver.specs.declared.package.reference.PackageReqReference.{PackageReqReference}
-use Rattle.deno_semver.specs.declared.package.reference_errors.PackageReqReferenceParseError.{PackageReqReferenceParseError}
+use Rattle.deno_semver.specs.declared.package.errors.PackageReqReferenceParseError.{PackageReqReferenceParseError}
 use Rattle.deno_semver.specs.declared.package.values.PackageReq.{PackageReq}
 use Rattle.deno_semver.proofs.PackageFaults.{fault_one, read_or_rejected, same_pair, version_at, version_one}
 use Rattle.deno_semver.proofs.PackageText.{last_one, no_alone, no_part, package_one}

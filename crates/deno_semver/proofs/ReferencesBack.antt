@@ -17,7 +17,7 @@ use Rattle.deno_semver.specs.PackageOutcome.{IsVersionReq}
 use Rattle.deno_semver.specs.PackageText.{IsAfterScope, IsNamePart, IsPackageText, IsPathPart, IsScope, PackageParts, scoped_name, starts_with_at, without_slash}
 use Rattle.deno_semver.specs.ReferenceOutcome.{HasNoVersionInPath, IsBareName, IsReadReference, IsReferenceOutcome, ReferenceReadsBack, is_reference}
 use Rattle.deno_semver.specs.ReferenceText.{path_text, reference_text, sub_path_of}
-use Rattle.deno_semver.specs.declared.package.kind.PackageKind.{PackageKind}
+use Rattle.deno_semver.specs.declared.package.values.PackageKind.{PackageKind}
 use Rattle.deno_semver.specs.declared.package.reference.PackageReqReference.{PackageReqReference}
 use Rattle.deno_semver.proofs.PackageFaults.{version_one}
 

@@ -10,8 +10,8 @@ use Rattle.deno_semver.specs.Kind.{scheme_of}
 use Rattle.deno_semver.specs.RequirementText.{normal_req_text}
 use Rattle.deno_semver.specs.Stored.{IsStableDependency, IsStableReq, IsStoredDependency, IsStoredReq, StoredRequirementsAreReadAgain}
 use Rattle.deno_semver.specs.declared.jsr.dependency.JsrDepPackageReq.{JsrDepPackageReq}
-use Rattle.deno_semver.specs.declared.package.kind.PackageKind.{PackageKind}
-use Rattle.deno_semver.specs.declared.package.kind.PackageKind.TheVariants as registry
+use Rattle.deno_semver.specs.declared.package.values.PackageKind.{PackageKind}
+use Rattle.deno_semver.specs.declared.package.values.PackageKind.TheVariants as registry
 use Rattle.deno_semver.specs.declared.package.values.PackageReq.{PackageReq}
 use Rattle.deno_semver.proofs.StoredReqs.{after_ascii}
 

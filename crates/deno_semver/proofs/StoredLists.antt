@@ -12,8 +12,8 @@ use Rattle.deno_semver.specs.ReqOrderLaws.{req_same, req_total, same_req}
 use Rattle.deno_semver.specs.RequirementText.{normal_req_text}
 use Rattle.deno_semver.specs.Stored.{IsSameWhenStored, IsStableReq, StoredRequirementsAreReadAgain}
 use Rattle.deno_semver.specs.StoredList.{AreEqualLists, IsNpmReq, IsSortedFrom, IsStoredList, OneByOne, ParsesToEqualList, reqs_json}
-use Rattle.deno_semver.specs.declared.json.error.JsonError.{JsonError}
-use Rattle.deno_semver.specs.declared.json.error.JsonError.TheVariants as error
+use Rattle.deno_semver.specs.declared.json.JsonError.{JsonError}
+use Rattle.deno_semver.specs.declared.json.JsonError.TheVariants as error
 use Rattle.deno_semver.specs.declared.package.values.PackageReq.{PackageReq}
 use Rattle.semver_req.proofs.ListOrder.{Tie, sorted_ties}
 

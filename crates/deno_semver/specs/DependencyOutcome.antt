@@ -13,7 +13,7 @@ use Rattle.deno_semver.specs.declared.jsr.dependency.JsrDepPackageReqParseError.
 use Rattle.deno_semver.specs.declared.jsr.dependency.JsrDepPackageReqParseError.TheVariants as error
 use Rattle.deno_semver.specs.declared.package.errors.PackageReqParseError.{PackageReqParseError}
 use Rattle.deno_semver.specs.declared.package.errors.PackageReqPartsParseError.TheVariants as parts
-use Rattle.deno_semver.specs.declared.package.kind.PackageKind.{PackageKind}
+use Rattle.deno_semver.specs.declared.package.values.PackageKind.{PackageKind}
 use Rattle.deno_semver.specs.declared.package.values.PackageReq.{PackageReq}
 
 -- why a text is rejected

@@ -24,7 +24,7 @@ use Rattle.deno_semver.specs.NameAndVersion.{IsNvOutcome}
 use Rattle.deno_semver.specs.NvReference.{IsNvReferenceOutcome}
 use Rattle.deno_semver.specs.PackageOutcome.{IsPackageOutcome}
 use Rattle.deno_semver.specs.declared.jsr.dependency.JsrDepPackageReq.{JsrDepPackageReq}
-use Rattle.deno_semver.specs.declared.package.kind.PackageKind.{PackageKind}
+use Rattle.deno_semver.specs.declared.package.values.PackageKind.{PackageKind}
 use Rattle.deno_semver.specs.declared.package.values.PackageNv.{PackageNv}
 use Rattle.deno_semver.specs.declared.package.nv_reference.PackageNvReference.{PackageNvReference}
 use Rattle.deno_semver.specs.declared.package.values.PackageReq.{PackageReq}

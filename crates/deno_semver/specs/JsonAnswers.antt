@@ -1,8 +1,8 @@
 -- Why JSON is rejected, and the result for JSON that parses.
 use Rattle.std.specs.Prelude.{◌≡◌, ◌⊎◌, Result, MatchResult}
 use Rattle.serde_json.specs.Data.{Data}
-use Rattle.deno_semver.specs.declared.json.error.JsonError.{JsonError}
-use Rattle.deno_semver.specs.declared.json.error.JsonError.TheVariants as error
+use Rattle.deno_semver.specs.declared.json.JsonError.{JsonError}
+use Rattle.deno_semver.specs.declared.json.JsonError.TheVariants as error
 
 -- out of memory, or the JSON doesn't parse to a value
 abbrev pub IsJsonRejection : {T : Type 0} → (Data → T → Type 0) → Data → JsonError → Type 0

@@ -1,7 +1,7 @@
 -- The registries and their schemes. Source: the crate `deno_semver`.
 use Rattle.std.specs.Prelude.{ℕ, List, codes}
-use Rattle.deno_semver.specs.declared.package.kind.PackageKind.{PackageKind}
-use Rattle.deno_semver.specs.declared.package.kind.PackageKind.TheVariants.{Jsr, Npm}
+use Rattle.deno_semver.specs.declared.package.values.PackageKind.{PackageKind}
+use Rattle.deno_semver.specs.declared.package.values.PackageKind.TheVariants.{Jsr, Npm}
 
 -- the scheme of a specifier, with its colon
 abbrev pub scheme_of : PackageKind → List ℕ

@@ -8,7 +8,7 @@ use Rattle.deno_semver.specs.Kind.{scheme_of}
 use Rattle.deno_semver.specs.NameAndVersion.{IsNvFront, IsNvMemory, ReportsNvFault, nv_text}
 use Rattle.deno_semver.specs.PackageText.{without_slash}
 use Rattle.deno_semver.specs.ReferenceText.{LacksScheme, path_text}
-use Rattle.deno_semver.specs.declared.package.kind.PackageKind.{PackageKind}
+use Rattle.deno_semver.specs.declared.package.values.PackageKind.{PackageKind}
 use Rattle.deno_semver.specs.declared.package.values.PackageNv.{PackageNv}
 use Rattle.deno_semver.specs.declared.package.name_version.PackageNvParseError.{PackageNvParseError}
 use Rattle.deno_semver.specs.declared.package.nv_reference.PackageNvReference.{PackageNvReference}

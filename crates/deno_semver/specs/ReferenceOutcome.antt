@@ -10,12 +10,12 @@ use Rattle.deno_semver.specs.PackageOutcome.{Fault, HasPath, IsFirstFault, IsVer
 use Rattle.deno_semver.specs.PackageText.{IsPackageText, PackageParts, scoped_name}
 use Rattle.deno_semver.specs.ReferenceText.{LacksScheme, reference_text, sub_path_of, text_with_version}
 use Rattle.deno_semver.specs.declared.package.errors.PackageReqPartsParseError.{PackageReqPartsParseError}
-use Rattle.deno_semver.specs.declared.package.kind.PackageKind.{PackageKind}
+use Rattle.deno_semver.specs.declared.package.values.PackageKind.{PackageKind}
 use Rattle.deno_semver.specs.declared.package.reference.PackageReqReference.{PackageReqReference}
-use Rattle.deno_semver.specs.declared.package.reference_errors.PackageReqReferenceInvalidParseError.{PackageReqReferenceInvalidParseError}
-use Rattle.deno_semver.specs.declared.package.reference_errors.PackageReqReferenceInvalidWithVersionParseError.{PackageReqReferenceInvalidWithVersionParseError}
-use Rattle.deno_semver.specs.declared.package.reference_errors.PackageReqReferenceParseError.{PackageReqReferenceParseError}
-use Rattle.deno_semver.specs.declared.package.reference_errors.PackageReqReferenceParseError.TheVariants as boxed
+use Rattle.deno_semver.specs.declared.package.errors.PackageReqReferenceInvalidParseError.{PackageReqReferenceInvalidParseError}
+use Rattle.deno_semver.specs.declared.package.errors.PackageReqReferenceInvalidWithVersionParseError.{PackageReqReferenceInvalidWithVersionParseError}
+use Rattle.deno_semver.specs.declared.package.errors.PackageReqReferenceParseError.{PackageReqReferenceParseError}
+use Rattle.deno_semver.specs.declared.package.errors.PackageReqReferenceParseError.TheVariants as boxed
 
 -- a text without its scheme: a package requirement by the strict grammar, and the path after it, if there is one
 pub record IsReadReference (body : List ℕ) (reference : PackageReqReference) : Type 0 where

@@ -10,10 +10,10 @@ use Rattle.semver_base.specs.Sameness.{both_reported, text_eq, text_reported, re
 use Rattle.semver_req.specs.Sameness.{inner_eq, inner_reported}
 use Rattle.deno_semver.specs.Equal.{AreEqualDependencies, AreEqualReferences, AreEqualReqs}
 use Rattle.deno_semver.specs.ReqOrderLaws.{req_eq}
-use Rattle.deno_semver.specs.contracts.package.kind.PackageKind.{the_type}
+use Rattle.deno_semver.specs.contracts.package.values.PackageKind.{the_type}
 use Rattle.deno_semver.specs.declared.jsr.dependency.JsrDepPackageReq.{JsrDepPackageReq}
-use Rattle.deno_semver.specs.declared.package.kind.PackageKind.{PackageKind}
-use Rattle.deno_semver.specs.declared.package.kind.PackageKind.TheVariants.{Jsr, Npm}
+use Rattle.deno_semver.specs.declared.package.values.PackageKind.{PackageKind}
+use Rattle.deno_semver.specs.declared.package.values.PackageKind.TheVariants.{Jsr, Npm}
 use Rattle.deno_semver.specs.declared.package.values.PackageNv.{PackageNv}
 use Rattle.deno_semver.specs.declared.package.nv_reference.PackageNvReference.{PackageNvReference}
 use Rattle.deno_semver.specs.declared.package.reference.PackageReqReference.{PackageReqReference}

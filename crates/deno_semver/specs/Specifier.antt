@@ -7,10 +7,10 @@ use Rattle.url.specs.declared.error.ParseError.{ParseError}
 use Rattle.semver_base.specs.Characters.{slash}
 use Rattle.deno_semver.specs.NvReference.{nv_reference_text}
 use Rattle.deno_semver.specs.ReferenceText.{with_scheme}
-use Rattle.deno_semver.specs.declared.package.kind.PackageKind.{PackageKind}
+use Rattle.deno_semver.specs.declared.package.values.PackageKind.{PackageKind}
 use Rattle.deno_semver.specs.declared.package.nv_reference.PackageNvReference.{PackageNvReference}
-use Rattle.deno_semver.specs.declared.package.specifier.SpecifierError.{SpecifierError}
-use Rattle.deno_semver.specs.declared.package.specifier.SpecifierError.TheVariants as error
+use Rattle.deno_semver.specs.declared.package.nv_reference.SpecifierError.{SpecifierError}
+use Rattle.deno_semver.specs.declared.package.nv_reference.SpecifierError.TheVariants as error
 
 -- the scheme, `/` and the reference
 abbrev pub specifier_text : PackageKind → PackageNvReference → List ℕ

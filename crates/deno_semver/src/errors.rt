@@ -3,5 +3,6 @@
 pub use semver_req::error_places::causes::Cause;
 pub use semver_req::error_places::expected::{Expected, Kind, expected_after};
 pub use semver_req::error_places::pieces::{InvalidPiece, invalid_pieces};
-pub use semver_req::error_places::versions::{version_error_place, version_may_follow};
-pub use semver_req::error_places::{error_place, may_follow};
+pub use semver_req::error_places::{
+    error_place, may_follow, version_error_place, version_may_follow,
+};

@@ -14,7 +14,7 @@ ghost use Rattle.deno_semver.specs.ReferenceOutcome.{unboxed};
 ghost use Rattle.deno_semver.specs.Sameness.{nv_reference_reported, nv_reported};
 ghost use Rattle.deno_semver.specs.Stored.{StoredRequirementsAreReadAgain};
 ghost use Rattle.deno_semver.specs.StoredList.{IsJsonOfReqs};
-ghost use Rattle.deno_semver.specs.declared.package.kind.PackageKind.{PackageKind};
+ghost use Rattle.deno_semver.specs.declared.package.values.PackageKind.{PackageKind};
 
 use crate::json::JsonError;
 use crate::jsr::JsrDepPackageReq;

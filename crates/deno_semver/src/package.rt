@@ -2,33 +2,24 @@
 
 mod cut;
 mod errors;
-mod kind;
 mod name_version;
 mod nv_reference;
 mod order;
 mod read;
 mod reference;
-mod reference_errors;
 mod registry;
-mod requirement;
-mod specifier;
-mod sub_path;
 mod values;
 
 pub use cut::version_req_text;
 pub(crate) use cut::without_slash;
-pub use errors::{PackageReqParseError, PackageReqPartsParseError};
-pub use kind::PackageKind;
-pub use name_version::PackageNvParseError;
-pub use nv_reference::{PackageNvReference, PackageNvReferenceParseError};
-pub use order::cmp_version_reqs;
-pub(crate) use read::package_req;
-pub use reference::PackageReqReference;
-pub use reference_errors::{
-    PackageReqReferenceInvalidParseError, PackageReqReferenceInvalidWithVersionParseError,
-    PackageReqReferenceParseError,
+pub use errors::{
+    PackageReqParseError, PackageReqPartsParseError, PackageReqReferenceInvalidParseError,
+    PackageReqReferenceInvalidWithVersionParseError, PackageReqReferenceParseError,
 };
+pub use name_version::PackageNvParseError;
+pub use nv_reference::{PackageNvReference, PackageNvReferenceParseError, SpecifierError};
+pub use order::cmp_version_reqs;
+pub(crate) use read::{normal_req_text, package_req};
+pub use reference::PackageReqReference;
 pub use registry::{Registry, RegistryNvReference, RegistryReqReference};
-pub(crate) use requirement::normal_req_text;
-pub use specifier::SpecifierError;
-pub use values::{PackageName, PackageNv, PackageReq, PackageSubPath};
+pub use values::{PackageKind, PackageName, PackageNv, PackageReq, PackageSubPath};

@@ -2,8 +2,8 @@
 use Rattle.std.proofs.Common.{◌≡◌, ◌≢◌, ◌∙◌, ℕ, List, [], Ok, Err, Some, None, Result, refl, ap, subst, inl, inr}
 use Rattle.std.specs.Prelude.{◌⊎◌}
 use Rattle.semver_req.specs.Parsers.{Failure}
-use Rattle.deno_semver.specs.declared.package.kind.PackageKind.{PackageKind}
-use Rattle.deno_semver.specs.declared.package.kind.PackageKind.TheVariants.{Jsr, Npm}
+use Rattle.deno_semver.specs.declared.package.values.PackageKind.{PackageKind}
+use Rattle.deno_semver.specs.declared.package.values.PackageKind.TheVariants.{Jsr, Npm}
 use Rattle.package_answers.specs.References.{IsRegistryOf}
 
 -- an error for out of memory has no other failure

@@ -10,14 +10,14 @@ use Rattle.deno_semver.specs.Kind.{scheme_of}
 use Rattle.deno_semver.specs.PackageOutcome.{BadVersion, Fault, Reports}
 use Rattle.deno_semver.specs.PackageText.{IsAfterScope, IsPackageText, IsPathPart, PackageParts, without_slash}
 use Rattle.deno_semver.specs.ReferenceOutcome as error
-use Rattle.deno_semver.specs.ReferenceOutcome.{BadText, IsReferenceOutcome, IsReferenceRejection, OtherScheme, ReferenceError, ReferenceFault, ReportsReference, VersionInPath, bad_text, is_reference, other_scheme, unboxed, version_in_path}
+use Rattle.deno_semver.specs.ReferenceOutcome.{BadText, IsReferenceOutcome, IsReferenceRejection, OtherScheme, ReferenceFault, ReportsReference, VersionInPath, bad_text, is_reference, unboxed, version_in_path}
 use Rattle.deno_semver.specs.ReferenceReading.{IsAfterScheme}
 use Rattle.deno_semver.specs.ReferenceText.{sub_path_of}
-use Rattle.deno_semver.specs.declared.package.kind.PackageKind.{PackageKind}
+use Rattle.deno_semver.specs.declared.package.values.PackageKind.{PackageKind}
 use Rattle.deno_semver.specs.declared.package.reference.PackageReqReference.{PackageReqReference}
-use Rattle.deno_semver.specs.declared.package.reference_errors.PackageReqReferenceInvalidParseError.{PackageReqReferenceInvalidParseError}
-use Rattle.deno_semver.specs.declared.package.reference_errors.PackageReqReferenceInvalidWithVersionParseError.{PackageReqReferenceInvalidWithVersionParseError}
-use Rattle.deno_semver.specs.declared.package.reference_errors.PackageReqReferenceParseError.{PackageReqReferenceParseError}
+use Rattle.deno_semver.specs.declared.package.errors.PackageReqReferenceInvalidParseError.{PackageReqReferenceInvalidParseError}
+use Rattle.deno_semver.specs.declared.package.errors.PackageReqReferenceInvalidWithVersionParseError.{PackageReqReferenceInvalidWithVersionParseError}
+use Rattle.deno_semver.specs.declared.package.errors.PackageReqReferenceParseError.{PackageReqReferenceParseError}
 use Rattle.deno_semver.proofs.PackageText.{holds_at}
 use Rattle.deno_semver.proofs.References.{cancel}
 use Rattle.package_answers.specs.Errors.{IsFaultAt, IsPartError}

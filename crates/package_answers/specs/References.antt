@@ -14,9 +14,9 @@ use Rattle.deno_semver.specs.PackageOutcome.{BadVersion}
 use Rattle.deno_semver.specs.ReferenceOutcome as reference
 use Rattle.deno_semver.specs.ReferenceOutcome.{BadText, IsReferenceOutcome, IsReferenceRejection, OtherScheme, ReferenceError, ReferenceFault, ReportsReference, VersionInPath, unboxed}
 use Rattle.deno_semver.specs.ReferenceText.{LacksScheme}
-use Rattle.deno_semver.specs.declared.package.kind.PackageKind.{PackageKind}
-use Rattle.deno_semver.specs.declared.package.kind.PackageKind.TheVariants.{Jsr, Npm}
-use Rattle.deno_semver.specs.declared.package.reference_errors.PackageReqReferenceParseError.{PackageReqReferenceParseError}
+use Rattle.deno_semver.specs.declared.package.values.PackageKind.{PackageKind}
+use Rattle.deno_semver.specs.declared.package.values.PackageKind.TheVariants.{Jsr, Npm}
+use Rattle.deno_semver.specs.declared.package.errors.PackageReqReferenceParseError.{PackageReqReferenceParseError}
 use Rattle.answers.specs.Asking.{Fault, Given, Is}
 use Rattle.package_answers.specs.Packages.{AreOfRange, package_json, parts_failure}
 use Rattle.answers.specs.Object.{text_or_null}

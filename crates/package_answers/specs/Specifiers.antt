@@ -12,7 +12,7 @@ use Rattle.deno_semver.specs.NvReference.{IsNvReferenceOutcome}
 use Rattle.deno_semver.specs.declared.jsr.dependency.JsrDepPackageReq.{JsrDepPackageReq}
 use Rattle.deno_semver.specs.declared.jsr.dependency.JsrDepPackageReqParseError.{JsrDepPackageReqParseError}
 use Rattle.deno_semver.specs.declared.jsr.dependency.JsrDepPackageReqParseError.TheVariants as error
-use Rattle.deno_semver.specs.declared.package.kind.PackageKind.{PackageKind}
+use Rattle.deno_semver.specs.declared.package.values.PackageKind.{PackageKind}
 use Rattle.answers.specs.Asking.{Fault, Given, Is}
 use Rattle.package_answers.specs.Packages.{package_json, parts_failure}
 use Rattle.answers.specs.Object.{text_or_null}

@@ -1,13 +1,11 @@
 //! Versions, version ranges and partial versions, and the lexical grammar they share.
 //!
 //! The lowest crate of the port of `deno_semver`. Its modules, bottom up: `string`, texts and lists; `failure`, why a parse
-//! failed; `lexical`, parsers of the tokens at the start of a text; `plain`, a fast path for texts of one to three numbers;
-//! `dotted`, `M.m.p` formatted in one write; `version`; `npm`, versions as npm parses them; `range`; `partial`; `primitive`,
-//! partial versions after a comparison operator; and `laws`, facts about `==`, hashes and texts of all of these. Each module
-//! depends only on those before it.
+//! failed; `lexical`, parsers of the tokens at the start of a text; `short`, fast paths for one to three numbers with dots;
+//! `version`; `range`; `partial`, partial versions and their ranges after each operator; and `laws`, facts about `==`, hashes
+//! and texts of all of these. Each module depends only on those before it.
 #![tactic(auto)]
 
-mod dotted;
 pub mod failure;
 pub mod laws;
 pub mod lexical;

@@ -1,23 +1,21 @@
-//! Short texts. `append` has the traits for appending to them, and `list` the lists that hold them.
+//! Short texts, the traits for appending to a text, and `list`, the lists that hold short texts.
 //!
 //! A contract sees a text as its UTF-8 bytes and a list as its items, however they are stored. A short text is stored inline
 //! and a longer one in a `String`.
 
-ghost use Rattle.std.specs.Prelude.{◌≡◌, ◌≤◌, ◌<◌, ◌+◌, ◌++◌, ℕ, List, [], Some, IfOk, IsOk, OnOk, OnErr, IsTrue, ◌↔◌, encode_utf8, length, nat_eq, refl, string_bytes, IsUtf8};
+ghost use Rattle.std.specs.Prelude.{◌≡◌, ◌≤◌, ◌<◌, ◌+◌, ◌++◌, ℕ, List, [], Some, IfOk, IsOk, OnOk, OnErr, IsTrue, ◌↔◌, encode_utf8, length, nat_eq, refl, string_bytes, IsUtf8, IfSome};
 ghost use Rattle.std.proofs.Common.{rules};
 ghost use Rattle.std.specs.Cmp.{partial_equiv_from_equiv};
 ghost use Rattle.std.specs.Cmp.Lexicographic.{nat_list_cmp_total, nat_list_eq_equiv, pointwise, slice_cmp, texts_po, texts_ties};
 ghost use Rattle.std.specs.Cmp.Rules.{hashing};
 ghost use Rattle.std.specs.Cow.{cow_str_bytes};
-ghost use Rattle.std.specs.Hash as fed;
 ghost use Rattle.std.specs.Ordering.{nat_cmp};
 ghost use Rattle.semver_base.specs.Texts.{FitsOrIsOwned, IsReplaced, IsStored, storage_bytes, zeros_in_front};
+ghost use Rattle.std.specs.Hash as fed;
 
-mod append;
 mod inline_items;
 mod list;
 
-pub use append::{StringAppendable, StringType, displayed};
 use arrayvec::ArrayString;
 pub use list::{CowItem, CowVec};
 use std::alloc::{AllocError, Global};
@@ -384,4 +382,80 @@ impl<const LIMIT: usize> CowItem for ShortText<LIMIT> {
     fn copy(&self) -> Result<Self, AllocError> {
         ShortText::copy(self)
     }
+}
+
+/// A growable text. It is what was pushed, in order; a push that fails changes nothing.
+pub trait StringType: Drop {
+    /// The bytes of the text.
+    ghost text: { Self → List ℕ };
+
+    /// Creates an empty text with room for `capacity` bytes. Fails only out of memory.
+    #[inline(always)]
+    fn with_capacity(alloc: Global, capacity: usize) -> Result<Self, AllocError>
+        ensures { IfOk result (λ s. text s ≡ []) };
+
+    /// Appends a character. On failure the text is unchanged.
+    fn push(&mut self, character: char) -> Result<(), AllocError>
+        ensures ok { OnOk result (text self.new ≡ text self.old ++ encode_utf8 character) }
+        ensures err { OnErr result (text self.new ≡ text self.old) };
+
+    /// Appends a text. On failure this one is unchanged.
+    fn push_str(&mut self, other: &str) -> Result<(), AllocError>
+        ensures ok { OnOk result (text self.new ≡ text self.old ++ other.now) }
+        ensures err { OnErr result (text self.new ≡ text self.old) };
+
+    /// The text as a string slice.
+    fn as_str(&self) -> &str
+        ensures { result.now ≡ text self.now };
+}
+
+impl StringType for String {
+    ghost text = { string_bytes };
+
+    #[inline(always)]
+    fn with_capacity(alloc: Global, capacity: usize) -> Result<Self, AllocError> {
+        String::with_capacity(alloc, capacity)
+    }
+
+    fn push(&mut self, character: char) -> Result<(), AllocError> {
+        String::push(self, character)
+    }
+
+    fn push_str(&mut self, other: &str) -> Result<(), AllocError> {
+        String::push_str(self, other)
+    }
+
+    fn as_str(&self) -> &str {
+        String::as_str(self)
+    }
+}
+
+/// A value that is displayed as a text, which can be appended to another.
+pub trait StringAppendable: fmt::Display {
+    /// The bytes of the value's text.
+    ghost text: { Self → List ℕ };
+
+    /// Appends exactly the value's text. On failure the target is unchanged.
+    fn append_to<T: StringType>(&self, alloc: Global, target: &mut T) -> Result<(), AllocError>
+        ensures ok { OnOk result (T.text target.new ≡ T.text target.old ++ text self.now) }
+        ensures err { OnErr result (T.text target.new ≡ T.text target.old) }
+    {
+        let text = displayed(alloc, self)?;
+        target.push_str(text.as_str())
+    }
+
+    /// The value is displayed as its text.
+    ghost displays: { (x : Self) → Self.output x ≡ Some (text x) };
+}
+
+// The initial capacity, enough for most texts of requirements and packages.
+const ROOM: usize = 32;
+
+/// Formats the value into a `String`, allocated up front and grown only if that is too small. Fails only out of memory.
+pub fn displayed<D: fmt::Display>(alloc: Global, value: &D) -> Result<String, AllocError>
+    ensures { IfOk result (λ s. IfSome (D.output value.now) (λ text. string_bytes s ≡ text)) }
+{
+    let mut text = String::with_capacity(alloc, ROOM)?;
+    text.write(value)?;
+    Ok(text)
 }

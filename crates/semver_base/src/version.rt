@@ -16,11 +16,10 @@ ghost use Rattle.semver_base.specs.Precedence.{identifier_cmp, number_of, number
 ghost use Rattle.semver_base.specs.PrecedenceLaws.{version_po, version_ties, version_total, SamePrecedence};
 ghost use Rattle.semver_base.specs.VersionText.{ReadsBack, prefixed, version_text};
 
-use crate::dotted::{DOTTED_ROOM, dotted};
 use crate::failure::{ParseFailure, Parsed, ParserError, Rejection};
 use crate::lexical;
 use crate::lexical::values::{Measured, Strictness};
-use crate::short::{Numbers, split_numbers};
+use crate::short::{DOTTED_ROOM, Numbers, dotted, split_numbers};
 use crate::string::{CowVec, SmallStackString, StringAppendable};
 use std::alloc::{AllocError, Global};
 use std::cmp::Ordering;

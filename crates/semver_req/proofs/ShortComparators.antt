@@ -57,7 +57,7 @@ use Rattle.semver_req.specs.Single.{IsSingle, is_range}
 use Rattle.semver_req.specs.Written.{IsFront, IsOperatorCut, IsNonPrimitive, comparator_of}
 use Rattle.semver_req.specs.declared.common.comparator.Operator.{Operator}
 use Rattle.semver_req.specs.declared.common.comparator.Operator.TheVariants as operator
-use Rattle.semver_req.specs.declared.common.single.Single.TheVariants.{Range}
+use Rattle.semver_req.specs.declared.specifier.Single.TheVariants.{Range}
 use Rattle.semver_req.specs.declared.common.values.Flavour.{Flavour}
 use Rattle.semver_req.specs.declared.common.values.Flavour.TheVariants.{Npm, Normal, Specifier}
 use Rattle.semver_req.specs.declared.range_set_or_tag.pieces.Alternatives.{Alternatives}

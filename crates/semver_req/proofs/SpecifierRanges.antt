@@ -19,7 +19,7 @@ use Rattle.semver_req.specs.Parsers.{Failure, IsReading}
 use Rattle.semver_req.specs.Single.{IsSingle, absent, is_followed, is_range, over_bound, over_number}
 use Rattle.semver_req.specs.SpecifierRejections.{IsNoTag, IsSpecifierRejection, whitespace_no_tag, whitespace_text, empty_constraint, large_bound, large_number, is_out_of_memory, no_memory_left, no_range, other_no_tag, something_follows, unexpected_character}
 use Rattle.semver_req.specs.Tag.{is_valid_tag}
-use Rattle.semver_req.specs.declared.common.single.Single.TheVariants.{Absent, Followed, Range, TooLarge}
+use Rattle.semver_req.specs.declared.specifier.Single.TheVariants.{Absent, Followed, Range, TooLarge}
 use Rattle.semver_req.specs.declared.common.values.Flavour.TheVariants.{Specifier}
 use Rattle.semver_req.specs.declared.range_set_or_tag.RangeSetOrTag.{RangeSetOrTag}
 use Rattle.semver_req.specs.declared.range_set_or_tag.RangeSetOrTag.TheVariants as inner

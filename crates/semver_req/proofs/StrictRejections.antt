@@ -10,7 +10,7 @@ use Rattle.semver_req.specs.Causes.{IsStrictRejection, followed, front_bound, fr
 use Rattle.semver_req.specs.Comparators.{fits}
 use Rattle.semver_req.specs.Outcome.{IsSpecifierRange}
 use Rattle.semver_req.specs.Single.{IsSingle, absent, is_followed, is_range, over_bound, over_number}
-use Rattle.semver_req.specs.declared.common.single.Single.TheVariants.{Absent, Followed, Range, TooLarge}
+use Rattle.semver_req.specs.declared.specifier.Single.TheVariants.{Absent, Followed, Range, TooLarge}
 use Rattle.semver_req.specs.declared.common.values.Flavour.TheVariants.{Specifier}
 use Rattle.semver_req.proofs.Fitting.{whole_front}
 

@@ -11,7 +11,7 @@ use Rattle.semver_req.specs.Outcome.{AreGoodOnes}
 use Rattle.semver_req.specs.Partials.{sized_partial}
 use Rattle.semver_req.specs.PieceReading.{IsFirstBad, IsPieceRead, as_retained, retained_of}
 use Rattle.semver_req.specs.Pieces.{AreMorePieces, ArePieces, hyphen}
-use Rattle.semver_req.specs.declared.common.hyphen.HyphenRange.{HyphenRange}
+use Rattle.semver_req.specs.declared.common.HyphenRange.{HyphenRange}
 use Rattle.semver_req.specs.declared.common.values.Flavour.{Flavour}
 use Rattle.semver_req.specs.declared.range_set_or_tag.pieces.Alternatives.{Alternatives}
 use Rattle.semver_req.specs.declared.range_set_or_tag.pieces.RangeOrInvalid.{RangeOrInvalid}

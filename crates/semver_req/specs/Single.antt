@@ -5,8 +5,8 @@ use Rattle.semver_base.specs.Grammar.{HasNone, IsLongest}
 use Rattle.semver_base.specs.declared.failure.Rejection.TheVariants.{BoundTooLarge, NumberTooLarge}
 use Rattle.semver_req.specs.PieceReading.{numbers_fit, sums_fit}
 use Rattle.semver_req.specs.Written.{IsNonPrimitive}
-use Rattle.semver_req.specs.declared.common.single.Single.{Single}
-use Rattle.semver_req.specs.declared.common.single.Single.TheVariants.{Absent, Followed, Range, TooLarge}
+use Rattle.semver_req.specs.declared.specifier.Single.{Single}
+use Rattle.semver_req.specs.declared.specifier.Single.TheVariants.{Absent, Followed, Range, TooLarge}
 use Rattle.semver_req.specs.declared.common.values.Flavour.{Flavour}
 
 pub data IsSingle (f : Flavour) (text : List ℕ) : Single → Type 0 where

@@ -1,29 +1,27 @@
-//! Parsers of partial versions and operators, at the start of a text or at a position in it.
+//! Parsers of partial versions, operators, separators and hyphen ranges, at the start of a text or at a position in it.
 //!
 //! Each parser takes the longest prefix that its grammar matches, and returns its value and what follows it; or `None` if no
 //! prefix matches. A number that is too large is parsed to its end, so the rest is the same as if it fitted.
 
-ghost use Rattle.std.specs.Prelude.{◌≡◌, IfOk, IfSome, drop};
+ghost use Rattle.std.specs.Prelude.{◌≡◌, IfOk, IfSome, drop, ◌<◌, ◌∷◌, [], false};
 ghost use Rattle.std.specs.Str.{IsCharBoundary};
 ghost use Rattle.semver_base.specs.Characters.{ampersand, bar};
-ghost use Rattle.semver_base.specs.Grammar.{IsAfterOne, Reads, ReadsAs, answer_of};
-ghost use Rattle.semver_base.specs.Lexical.{IsQualifier};
+ghost use Rattle.semver_base.specs.Grammar.{IsAfterOne, Reads, ReadsAs, answer_of, IsText, rest_answer};
+ghost use Rattle.semver_base.specs.Lexical.{IsQualifier, IsSomeWhitespace};
 ghost use Rattle.semver_req.specs.Comparators.{IsMaybeEqual, IsPrimitive, IsPrimitiveKind, sized_primitive};
 ghost use Rattle.semver_req.specs.Partials.{IsComponent, IsLongestAt, IsPartial, IsBarePartial, ReadsAt, ReadsDotted, answer_at, assembled, is_wildcard, sized_component, sized_partial, strictness_of};
-ghost use Rattle.semver_req.specs.Pieces.{IsOperator, place_answer};
+ghost use Rattle.semver_req.specs.Pieces.{IsOperator, place_answer, IsHyphenPair, IsNpmSeparator, IsSeparator};
+ghost use Rattle.semver_req.specs.PieceSteps.{sized_hyphen};
+ghost use Rattle.std.specs.Char.{is_whitespace};
 
 pub mod comparator;
-pub mod hyphen;
-pub mod separators;
 pub(crate) mod short;
-pub(crate) mod single;
 pub mod values;
 
 use semver_base::lexical;
 use semver_base::lexical::values::{Measured, Qualifier};
 use semver_base::lexical::{after, after_whitespace};
 use semver_base::partial::{Partial, XRange};
-use separators::after_operator;
 use std::alloc::{AllocError, Global};
 use values::{Flavour, Primitive, PrimitiveKind};
 
@@ -169,6 +167,102 @@ pub fn primitive_kind_front(text: &str) -> Option<(PrimitiveKind, &str)>
     }
     let rest = after(text, '=')?;
     Some((PrimitiveKind::Equal, rest))
+}
+
+/// Strips leading whitespace; `None` if there is none.
+pub fn after_some_whitespace(text: &str) -> Option<&str>
+    ensures { Reads IsSomeWhitespace text.now (rest_answer result) }
+{
+    let rest = after_whitespace(text);
+    if rest.len() == text.len() {
+        return None;
+    }
+    Some(rest)
+}
+
+/// Strips the ASCII character `operator`, twice, from the start.
+pub fn after_twice(text: &str, operator: char) -> Option<&str>
+    requires { operator < 128 }
+    ensures { Reads (IsText (operator ∷ operator ∷ [])) text.now (rest_answer result) }
+{
+    let rest = after(text, operator)?;
+    after(rest, operator)
+}
+
+/// Strips the ASCII character `operator`, twice, from the start, with the whitespace around it.
+pub fn after_operator(text: &str, operator: char) -> Option<&str>
+    requires ascii { operator < 128 }
+    requires not_whitespace { is_whitespace operator ≡ false }
+    ensures { Reads (IsOperator operator) text.now (rest_answer result) }
+{
+    match after_twice(after_whitespace(text), operator) {
+        Some(rest) => Some(after_whitespace(rest)),
+        None => None,
+    }
+}
+
+// Strips a separator of npm's comparators: `&&` or `,` with optional whitespace around it, or whitespace alone.
+fn after_npm_separator(text: &str) -> Option<&str>
+    ensures { Reads IsNpmSeparator text.now (rest_answer result) }
+{
+    let rest = after_whitespace(text);
+    if let Some(more) = after(rest, ',') {
+        return Some(after_whitespace(more));
+    }
+    if let Some(more) = after_twice(rest, '&') {
+        return Some(after_whitespace(more));
+    }
+    if rest.len() == text.len() {
+        return None;
+    }
+    Some(rest)
+}
+
+/// Strips a leading separator of the grammar's comparators: in npm's grammar `&&` or `,` with optional whitespace around it,
+/// or whitespace alone (node-semver's range grammar, `range`; npm accepts `&&` and `,`); in the normalized one whitespace.
+pub fn after_separator(text: &str, flavour: Flavour) -> Option<&str>
+    ensures { Reads (IsSeparator flavour) text.now (rest_answer result) }
+{
+    match flavour {
+        Flavour::Npm => after_npm_separator(text),
+        Flavour::Normal => after_some_whitespace(text),
+        Flavour::Specifier => None,
+    }
+}
+
+/// A parsed hyphen range.
+#[derive(Drop)]
+pub struct HyphenRange {
+    /// The partial version before the `-`; `Measured::TooLarge` if a number in it exceeds 18446744073709551615.
+    pub lower: Measured<Partial>,
+    /// The partial version after it.
+    pub upper: Measured<Partial>,
+}
+
+/// Parses a leading hyphen range, two partial versions around a `-` with whitespace on both sides, and the whitespace after
+/// it (node-semver, "Hyphen Ranges"). Fails only out of memory.
+pub fn hyphen_front(alloc: Global, text: &str) -> Result<Option<(HyphenRange, &str)>, AllocError>
+    ensures { IfOk result (λ r. ReadsAs sized_hyphen IsHyphenPair text.now (answer_of r)) }
+{
+    let Some((lower, rest)) = partial_front(alloc, text, Flavour::Npm)? else {
+        return Ok(None);
+    };
+    let Some(rest) = after_some_whitespace(rest) else {
+        return Ok(None);
+    };
+    let Some(rest) = after(rest, '-') else {
+        return Ok(None);
+    };
+    let Some(rest) = after_some_whitespace(rest) else {
+        return Ok(None);
+    };
+    match partial_front(alloc, rest, Flavour::Npm)? {
+        Some((upper, rest)) => {
+            let hyphen = HyphenRange { lower, upper };
+            Ok(Some((hyphen, after_whitespace(rest))))
+        }
+        None => Ok(None),
+    }
 }
 
 /// Parses the partial version at a position in the text, and returns the position after it.

@@ -4,13 +4,13 @@
 
 ghost use Rattle.std.specs.Prelude.{◌≡◌, ◌↔◌, ◌++◌, IfErr, IfOk, IsTrue, List, ℕ, false, true, None};
 ghost use Rattle.semver_req.specs.Sizes.{Sized, admits, is_in_grammar};
-ghost use Rattle.semver_req.specs.Viable.{HasPiece, HasRange, IsErrorPlace, IsPart, IsPieceOrCut, IsTextOf, IsViablePrefix};
+ghost use Rattle.semver_req.specs.Viable.{HasPiece, HasRange, IsErrorPlace, IsPart, IsPieceOrCut, IsTextOf, IsViablePrefix, IsVersionText};
 ghost use Rattle.semver_req.specs.Pieces.{IsCutting};
+ghost use Rattle.semver_base.specs.declared.version.Version.{Version};
 
 pub mod causes;
 pub mod expected;
 pub mod pieces;
-pub mod versions;
 
 use crate::common::comparator::non_primitive_front;
 use crate::common::values::Flavour;
@@ -18,6 +18,7 @@ use crate::range_set_or_tag::RangeOrInvalid;
 use semver_base::failure::{ParseFailure, Rejection};
 use semver_base::lexical::values::Measured;
 use semver_base::partial::Partial;
+use semver_base::version::Version;
 use std::alloc::Global;
 
 // The grammars in which places are found.
@@ -178,6 +179,28 @@ fn is_viable_range(alloc: Global, prefix: &str, sizes: Sizes) -> Result<bool, Pa
     is_range(alloc, &text, sizes)
 }
 
+// With one of these endings, each prefix of a version's text is a version's text.
+const ENDINGS: [&str; 6] = ["", "1", "1.1", "1.1.1", ".1", ".1.1"];
+
+// Whether some version begins with the prefix.
+fn is_viable_version(alloc: Global, prefix: &str) -> Result<bool, ParseFailure>
+    ensures value { IfOk result (λ yes. IsTrue yes ↔ IsViablePrefix IsVersionText prefix.now) }
+    ensures memory { IfErr result (λ failure. failure ≡ None) }
+{
+    for ending in &ENDINGS {
+        let text = format!(in alloc; "{prefix}{ending}")?;
+        match Version::parse_standard(alloc, &text) {
+            Ok(version) => {
+                drop(version);
+                return Ok(true);
+            }
+            Err(error) if error.is_memory() => return Err(ParseFailure::memory()),
+            Err(_error) => {}
+        }
+    }
+    Ok(false)
+}
+
 // Whether some text of the grammar begins with the prefix.
 fn is_viable(alloc: Global, prefix: &str, grammar: Grammar) -> Result<bool, ParseFailure>
     ensures value { IfOk result
@@ -190,7 +213,7 @@ fn is_viable(alloc: Global, prefix: &str, grammar: Grammar) -> Result<bool, Pars
             Flavour::Normal => is_viable_piece(alloc, prefix, Flavour::Normal, sizes),
             Flavour::Specifier => is_viable_range(alloc, prefix, sizes),
         },
-        Grammar::Versions => versions::is_viable_version(alloc, prefix),
+        Grammar::Versions => is_viable_version(alloc, prefix),
     }
 }
 
@@ -262,4 +285,28 @@ pub fn may_follow(
     ensures memory { IfErr result (λ failure. failure ≡ None) }
 {
     is_viable_with(alloc, prefix, next, Grammar::Ranges(flavour, Sizes::Any))
+}
+
+/// The index in the text at which it stops being a version: the end of the longest prefix with which some version's text begins, with
+/// whitespace around it or not. In a number that doesn't fit in 64 bits that is the digit at which it no longer does. A version's
+/// text, and one that only stops too early, has its length as that index.
+///
+/// Takes time that grows as n log n. Fails only out of memory.
+pub fn version_error_place(alloc: Global, text: &str) -> Result<usize, ParseFailure>
+    ensures place { IfOk result (IsErrorPlace IsVersionText text.now) }
+    ensures memory { IfErr result (λ failure. failure ≡ None) }
+{
+    longest_viable(alloc, text, Grammar::Versions)
+}
+
+/// Whether some version's text begins with the prefix and then `next`. What could have followed at a [`version_error_place`] is asked
+/// with the text before it as the prefix.
+///
+/// Fails only out of memory.
+pub fn version_may_follow(alloc: Global, prefix: &str, next: &str) -> Result<bool, ParseFailure>
+    ensures follows { IfOk result
+        (λ yes. IsTrue yes ↔ IsViablePrefix IsVersionText (prefix.now ++ next.now)) }
+    ensures memory { IfErr result (λ failure. failure ≡ None) }
+{
+    is_viable_with(alloc, prefix, next, Grammar::Versions)
 }

@@ -14,8 +14,8 @@ ghost use Rattle.semver_req.specs.declared.common.values.Flavour.TheVariants.{Np
 use crate::common::short::short_range;
 use crate::common::values::Flavour;
 use crate::range_set_or_tag::RangeSetOrTag;
+pub use crate::range_set_or_tag::is_valid_npm_tag;
 use crate::req::VersionReq;
-pub use crate::tag::is_valid_npm_tag;
 use semver_base::failure::{Parsed, ParserError};
 use semver_base::string::SmallStackString;
 pub use semver_base::version::NpmVersionParseError;

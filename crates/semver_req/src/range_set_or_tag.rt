@@ -2,30 +2,56 @@
 
 ghost use Rattle.std.specs.Prelude.{◌≡◌, ◌⊎◌, IfErr, IfOk, None, Some, false, refl};
 ghost use Rattle.std.specs.Bool.{OnFalse};
-ghost use Rattle.std.specs.Str.{trim};
+ghost use Rattle.std.specs.Str.{trim, chars};
 ghost use Rattle.semver_req.specs.Outcome.{IsCutOutcome, IsOutcome, Rejected};
 ghost use Rattle.semver_req.specs.PieceReading.{IsCutRejection};
 ghost use Rattle.semver_req.specs.Parsers.{IsCutReading, IsReading};
 ghost use Rattle.semver_req.specs.Pieces.{IsCutting};
 ghost use Rattle.semver_req.specs.Requirement.{MatchNoVersion, OverlapAsTags, inner_overlap, inner_text};
 ghost use Rattle.semver_req.specs.declared.common.values.Flavour.TheVariants.{Normal, Npm};
+ghost use Rattle.semver_req.specs.Tag.{is_tag_character, is_valid_tag};
 
 mod pieces;
 
 use crate::common::short::{short_piece, star_or_qualified};
 use crate::common::values::Flavour;
-use crate::tag::is_valid_npm_tag;
 pub(crate) use pieces::cut;
 use pieces::read_pieces;
 pub use pieces::{FirstPiece, RangeOrInvalid, first_piece, next_piece};
 use semver_base::failure::ParseFailure;
+use semver_base::lexical::is_all_whitespace;
 use semver_base::range::{VersionRange, VersionRangeSet};
 use semver_base::string::{CowVec, SmallStackString, StringAppendable};
 use std::alloc::{AllocError, Global};
 use std::fmt;
+use unicode::properties::{GeneralCategory, is_alphabetic};
 
 /// The text of a tag.
 pub type PackageTag = SmallStackString;
+
+/// Whether a tag may have the character: a letter or a number, by the tables of `unicode`, or one of `-`, `_`, `.` and `~`.
+pub fn is_tag_character(c: char) -> bool
+    ensures { result ≡ is_tag_character c }
+{
+    is_alphabetic(c)
+        || matches!(
+            GeneralCategory::for_char(c),
+            GeneralCategory::DecimalNumber
+                | GeneralCategory::LetterNumber
+                | GeneralCategory::OtherNumber
+        )
+        || matches!(c, '-' | '_' | '.' | '~')
+}
+
+/// Whether the text is a valid tag: each character is a letter or a number, by the tables of `unicode`, or one of `-`, `_`,
+/// `.` and `~`, and not all of them are whitespace.
+///
+/// That is npm's rule that a tag needs no escape in a URL (npm-package-arg). Takes linear time and allocates nothing.
+pub fn is_valid_npm_tag(value: &str) -> bool
+    ensures { result ≡ is_valid_tag value.now }
+{
+    !is_all_whitespace(value) && value.chars().all(is_tag_character)
+}
 
 /// Version ranges, or the name of a version in a registry.
 #[derive(Debug, PartialEq, Eq, Hash, Drop)]

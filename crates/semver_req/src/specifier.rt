@@ -5,16 +5,17 @@ ghost use Rattle.semver_base.specs.Lexical.{IsWhitespace};
 ghost use Rattle.semver_req.specs.Parsers.{IsParserAnswer, IsReading};
 ghost use Rattle.semver_req.specs.SpecifierRejections.{IsNoTag, IsSpecifierRejection, empty_constraint};
 ghost use Rattle.semver_req.specs.Tag.{is_valid_tag};
+ghost use Rattle.semver_req.specs.Single.{IsSingle};
 
+use crate::common::comparator::{Written, non_primitive_front};
 use crate::common::short::{short_range, star_or_qualified};
-use crate::common::single::{Single, parse_single};
 use crate::common::values::Flavour;
-use crate::range_set_or_tag::RangeSetOrTag;
+use crate::range_set_or_tag::{RangeSetOrTag, is_valid_npm_tag};
 use crate::req::VersionReq;
-use crate::tag::is_valid_npm_tag;
 use semver_base::failure::{ParseFailure, Parsed, ParserError, Rejection};
 use semver_base::lexical::is_all_whitespace;
-use semver_base::range::VersionRangeSet;
+use semver_base::lexical::values::Measured;
+use semver_base::range::{VersionRange, VersionRangeSet};
 use semver_base::string::{CowVec, SmallStackString};
 use std::alloc::{AllocError, Global};
 
@@ -32,6 +33,44 @@ impl Parsed for SpecifierRequirements {
 
 /// Why a text isn't the requirement of a package specifier, which may be out of memory.
 pub type VersionReqSpecifierParseError = ParserError<SpecifierRequirements>;
+
+/// What a text is as one comparator without a comparison operator.
+#[derive(Drop)]
+pub(crate) enum Single {
+    /// One whose numbers and bounds fit, with its range.
+    Range(VersionRange),
+    /// The text doesn't begin with one.
+    Absent,
+    /// Something follows one whose numbers and bounds fit.
+    Followed,
+    /// The text begins with one of which a number or a bound is too large.
+    TooLarge(Rejection),
+}
+
+/// Parses the whole text as one comparator. Fails only out of memory.
+#[inline(always)]
+pub(crate) fn parse_single(alloc: Global, text: &str) -> Result<Single, AllocError>
+    ensures { IfOk result (IsSingle Flavour.Specifier text.now) }
+{
+    let Some((written, rest)) = non_primitive_front(alloc, text, Flavour::Specifier)? else {
+        return Ok(Single::Absent);
+    };
+    let Written { operator, partial } = written;
+    let Measured::Fits(partial) = partial else {
+        return Ok(Single::TooLarge(Rejection::NumberTooLarge));
+    };
+    let range = operator.range(alloc, &partial);
+    drop(partial);
+    match range {
+        Ok(range) if rest.is_empty() => Ok(Single::Range(range)),
+        Ok(range) => {
+            drop(range);
+            Ok(Single::Followed)
+        }
+        Err(failure) if failure.is_memory() => Err(AllocError),
+        Err(_) => Ok(Single::TooLarge(Rejection::BoundTooLarge)),
+    }
+}
 
 // Returns the whole text as a tag; fails with `rejection` if it isn't a valid one.
 fn whole_text_as_tag(

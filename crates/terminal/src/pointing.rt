@@ -7,7 +7,7 @@ use semver_base::failure::ParseFailure;
 use semver_req::error_places::causes::Cause;
 use semver_req::error_places::expected::{Expected, Kind};
 use semver_req::error_places::pieces::InvalidPiece;
-use semver_req::error_places::versions::{version_error_place, version_may_follow};
+use semver_req::error_places::{version_error_place, version_may_follow};
 use std::alloc::{AllocError, Global};
 use std::fmt;
 use std::io::Write;

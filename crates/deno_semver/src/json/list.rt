@@ -8,9 +8,8 @@ ghost use Rattle.deno_semver.specs.ReqOrder.{req_cmp};
 ghost use Rattle.deno_semver.specs.Stored.{IsStableReq};
 ghost use Rattle.deno_semver.specs.StoredList.{AreEqualLists, IsJsonOfReqs, IsNpmReq, IsReadList, IsSortedFrom, IsStoredList, ParsesToEqualList, reqs_json};
 
-use super::JsonForm;
-use super::error::JsonError;
 use super::object::items_json;
+use super::{JsonError, JsonForm};
 use crate::laws::stored_requirements_are_read_again;
 use crate::package::PackageReq;
 use serde_json::Value;

@@ -7,8 +7,7 @@ ghost use Rattle.semver_base.specs.declared.range.VersionRange.{VersionRange};
 ghost use Rattle.deno_semver.specs.Json.{AreItemsOf, IsJsonOfBound, IsJsonOfRange, IsJsonOfRangeBound, IsJsonOfSet, IsJsonOfVersionReq, IsMemberOf, bound_json, range_bound_json, range_json, set_json, version_req_json};
 ghost use Rattle.deno_semver.specs.JsonAnswers.{IsJsonAnswer};
 
-use super::JsonForm;
-use super::error::JsonError;
+use super::{JsonError, JsonForm};
 use semver_base::range::{
     RangeBound, VersionBound, VersionBoundKind, VersionRange, VersionRangeSet,
 };

@@ -12,8 +12,7 @@ ghost use Rattle.deno_semver.specs.PackageOutcome.{IsPackageOutcome};
 ghost use Rattle.deno_semver.specs.RequirementText.{normal_req_text};
 ghost use Rattle.deno_semver.specs.Stored.{IsStoredDependency, IsStoredReq};
 
-use super::JsonForm;
-use super::error::JsonError;
+use super::{JsonError, JsonForm};
 use crate::jsr::JsrDepPackageReq;
 use crate::laws::stored_requirements_are_read_again;
 use crate::package::{PackageNv, PackageReq, Registry, RegistryNvReference, normal_req_text};

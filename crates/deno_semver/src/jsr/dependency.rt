@@ -5,7 +5,7 @@ ghost use Rattle.semver_req.specs.declared.common.values.Flavour.TheVariants.{No
 ghost use Rattle.deno_semver.specs.DependencyText.{dependency_text, normal_dependency_text};
 ghost use Rattle.deno_semver.specs.DependencyOutcome.{DependencyFault, IsAfterEither, IsDependencyAnswer, IsDependencyOutcome, IsDependencyRejection, IsOfPackageError, IsSameError, IsReportedScheme};
 ghost use Rattle.deno_semver.specs.declared.jsr.dependency.JsrDepPackageReq.{JsrDepPackageReq};
-ghost use Rattle.deno_semver.specs.declared.package.kind.PackageKind.TheVariants as kind;
+ghost use Rattle.deno_semver.specs.declared.package.values.PackageKind.TheVariants as kind;
 
 use crate::package::{PackageKind, PackageReq, PackageReqParseError, package_req};
 use semver_base::string::{StackString, StringAppendable, displayed};

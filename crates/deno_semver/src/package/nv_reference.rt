@@ -1,21 +1,21 @@
-//! References to packages: a name and version, and the path of a module in the package.
+//! References to packages: a name and version, and the path of a module in the package; and their URLs.
 
 ghost use Rattle.std.specs.Prelude.{◌≡◌, ◌↔◌, [], IfErr, IfOk, IsTrue, Ok, Result, Some, refl};
 ghost use Rattle.semver_base.specs.declared.failure.Rejection.{Rejection};
 ghost use Rattle.deno_semver.specs.NvReference.{IsNvReferenceAnswer, IsNvReferenceOutcome, IsNvReferenceRejection, NvReferenceReadsBack, nv_error, nv_reference_text};
 ghost use Rattle.deno_semver.specs.NvReferenceReading.{IsWithRest};
 ghost use Rattle.deno_semver.specs.declared.package.nv_reference.PackageNvReference.{PackageNvReference};
+ghost use Rattle.deno_semver.specs.Specifier.{IsSpecifier, specifier_text};
 
 use super::cut::without_slash;
-use super::kind::PackageKind;
 use super::name_version::{PackageNvParseError, memory, nv_at_front, unexpected};
-use super::sub_path::copied_sub_path;
-use super::values::{PackageNv, PackageSubPath};
+use super::values::{PackageKind, PackageNv, PackageSubPath, copied_sub_path};
 use semver_base::lexical::after;
 use semver_base::string::{SmallStackString, StackString, StringAppendable};
 use std::alloc::{AllocError, Global};
 use std::fmt;
 use thiserror::Error;
+use url::{ParseError, Url};
 
 /// Why a text isn't a valid reference to a version of a package, or that memory ran out.
 ///
@@ -147,4 +147,43 @@ impl StringAppendable for PackageNvReference {
     ghost text = { nv_reference_text };
 
     ghost displays = { λ x. refl };
+}
+
+/// Why a reference has no URL, or that memory ran out.
+#[derive(Clone, Copy, Debug, PartialEq, Eq, Error)]
+pub enum SpecifierError {
+    /// The text isn't valid under the URL Standard as the crate `url` states it.
+    #[error("Invalid URL")]
+    Url,
+    /// Out of memory, which includes a URL of 4 GB, past what the crate `url` stores.
+    #[error("Out of memory.")]
+    Memory,
+}
+
+impl SpecifierError {
+    /// Whether the error is out of memory.
+    pub fn is_memory(&self) -> bool
+        ensures { IsTrue result ↔ (self.now ≡ SpecifierError.Memory) }
+    {
+        matches!(self, SpecifierError::Memory)
+    }
+}
+
+/// The URL of the scheme, `/` and the text of a reference.
+pub(crate) fn specifier_of(
+    alloc: Global,
+    kind: PackageKind,
+    reference: &PackageNvReference,
+) -> Result<Url, SpecifierError>
+    ensures { IsSpecifier (specifier_text kind reference.now) result }
+{
+    let scheme = kind.scheme_with_colon();
+    let Ok(text) = format!(in alloc; "{scheme}/{reference}") else {
+        return Err(SpecifierError::Memory);
+    };
+    match Url::parse(alloc, text.as_str()) {
+        Ok(url) => Ok(url),
+        Err(ParseError::OutOfMemory | ParseError::Overflow) => Err(SpecifierError::Memory),
+        Err(_) => Err(SpecifierError::Url),
+    }
 }

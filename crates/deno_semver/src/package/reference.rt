@@ -7,15 +7,12 @@ ghost use Rattle.deno_semver.specs.ReferenceText.{reference_text, text_with_vers
 ghost use Rattle.deno_semver.specs.declared.package.reference.PackageReqReference.{PackageReqReference};
 
 use super::cut::name_and_version;
-use super::errors::PackageReqPartsParseError;
-use super::kind::PackageKind;
-use super::read::read_with_path;
-use super::reference_errors::{
-    PackageReqReferenceInvalidParseError, PackageReqReferenceInvalidWithVersionParseError,
-    PackageReqReferenceParseError,
+use super::errors::{
+    PackageReqPartsParseError, PackageReqReferenceInvalidParseError,
+    PackageReqReferenceInvalidWithVersionParseError, PackageReqReferenceParseError,
 };
-use super::sub_path::copied_sub_path;
-use super::values::{PackageReq, PackageSubPath};
+use super::read::read_with_path;
+use super::values::{PackageKind, PackageReq, PackageSubPath, copied_sub_path};
 use semver_base::string::{StackString, StringAppendable};
 use semver_req::common::values::Flavour;
 use semver_req::laws::{star_is_any_version, texts_have_one_outcome};

@@ -8,17 +8,16 @@ ghost use Rattle.deno_semver.specs.ReferenceOutcome.{IsReferenceAnswer, IsRefere
 ghost use Rattle.deno_semver.specs.ReferenceText.{reference_text, with_scheme};
 ghost use Rattle.deno_semver.specs.Specifier.{IsSpecifier, specifier_text};
 ghost use Rattle.url.specs.Parts.{serialize};
-ghost use Rattle.deno_semver.specs.declared.package.kind.PackageKind.{PackageKind};
+ghost use Rattle.deno_semver.specs.declared.package.values.PackageKind.{PackageKind};
 ghost use Rattle.deno_semver.specs.declared.package.nv_reference.PackageNvReference.{PackageNvReference};
 ghost use Rattle.deno_semver.specs.declared.package.reference.PackageReqReference.{PackageReqReference};
 
-use super::kind::PackageKind;
-use super::nv_reference::{PackageNvReference, PackageNvReferenceParseError};
+use super::errors::PackageReqReferenceParseError;
+use super::nv_reference::{
+    PackageNvReference, PackageNvReferenceParseError, SpecifierError, specifier_of,
+};
 use super::reference::PackageReqReference;
-use super::reference_errors::PackageReqReferenceParseError;
-use super::specifier::{SpecifierError, specifier_of};
-use super::sub_path::sub_path_text;
-use super::values::{PackageNv, PackageReq};
+use super::values::{PackageKind, PackageNv, PackageReq, sub_path_text};
 use semver_base::string::StringAppendable;
 use std::alloc::{AllocError, Global};
 use std::fmt;

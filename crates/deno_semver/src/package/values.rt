@@ -1,9 +1,11 @@
-//! Package requirements and names with versions: fields, texts and copies.
+//! Registries; package requirements and names with versions: fields, texts and copies.
 
 ghost use Rattle.std.specs.Prelude.{◌≡◌, IfOk, Some, refl};
 ghost use Rattle.std.specs.Option.{option_copied};
 ghost use Rattle.deno_semver.specs.NameAndVersion.{nv_text, scope_of};
 ghost use Rattle.deno_semver.specs.RequirementText.{req_text};
+ghost use Rattle.deno_semver.specs.Kind.{scheme_of};
+ghost use Rattle.deno_semver.specs.ReferenceReading.{IsAfterScheme};
 
 use semver_base::string::{SmallStackString, StackString, StringAppendable};
 use semver_base::version::Version;
@@ -11,11 +13,63 @@ use semver_req::req::VersionReq;
 use std::alloc::AllocError;
 use std::fmt;
 
+/// A package's registry.
+///
+/// JSR is below npm.
+#[derive(Clone, Copy, Debug, PartialEq, Eq, PartialOrd, Ord, Hash)]
+pub enum PackageKind {
+    /// JSR.
+    Jsr,
+    /// npm.
+    Npm,
+}
+
+impl PackageKind {
+    /// Returns the scheme of the registry's specifiers, with its colon: `jsr:` or `npm:`.
+    pub fn scheme_with_colon(self) -> &'static str
+        ensures { result.now ≡ scheme_of self }
+    {
+        match self {
+            PackageKind::Jsr => "jsr:",
+            PackageKind::Npm => "npm:",
+        }
+    }
+
+    /// Returns what follows the registry's scheme, if the text begins with it.
+    pub fn after_scheme(self, text: &str) -> Option<&str>
+        ensures { IsAfterScheme self text.now result }
+    {
+        text.strip_prefix(self.scheme_with_colon())
+    }
+}
+
 /// A package's name, with its scope if it has one.
 pub type PackageName = StackString;
 
 /// The path of a module in a package.
 pub type PackageSubPath = SmallStackString;
+
+/// The path's text, if there is a path.
+pub(crate) fn sub_path_text(path: &Option<PackageSubPath>) -> Option<&str>
+    ensures { option_copied result ≡ path.now }
+{
+    match path {
+        Some(path) => Some(path.as_str()),
+        None => None,
+    }
+}
+
+/// Copies the path, if there is one. Fails only out of memory.
+pub(super) fn copied_sub_path(
+    path: &Option<PackageSubPath>,
+) -> Result<Option<PackageSubPath>, AllocError>
+    ensures { IfOk result (λ copy. copy ≡ path.now) }
+{
+    match path {
+        Some(path) => Ok(Some(path.copy()?)),
+        None => Ok(None),
+    }
+}
 
 /// A package requirement: a package's name, and which of its versions match.
 ///

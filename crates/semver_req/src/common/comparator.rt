@@ -9,9 +9,8 @@ ghost use Rattle.semver_req.specs.Partials.{sized_partial};
 ghost use Rattle.semver_req.specs.Written.{IsOperatorCut, IsNpmFront, IsNpmOperatorCut, IsNonPrimitive, ReadsComparator, comparator_of, with_operator};
 ghost use Rattle.semver_req.specs.declared.common.values.Flavour.TheVariants.{Normal, Npm};
 
-use crate::common::separators::after_some_whitespace;
 use crate::common::values::{Flavour, PrimitiveKind};
-use crate::common::{bare_partial, partial_front, primitive_kind_front};
+use crate::common::{after_some_whitespace, bare_partial, partial_front, primitive_kind_front};
 use semver_base::failure::ParseFailure;
 use semver_base::lexical::values::Measured;
 use semver_base::lexical::{after, after_whitespace};

@@ -5,7 +5,6 @@
 //! tries this first, and falls back to the full grammar on `None`.
 
 ghost use Rattle.std.specs.Prelude.{◌∷◌, IfOk, IfSome};
-ghost use Rattle.semver_base.specs.Characters.{space};
 ghost use Rattle.semver_base.specs.Comparators.{comparator_line};
 ghost use Rattle.semver_base.specs.PartialTable.{IsLineRange, of_short, release_bound, release_range};
 ghost use Rattle.semver_req.specs.Pieces.{IsCutting};

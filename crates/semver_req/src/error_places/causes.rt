@@ -7,12 +7,12 @@ ghost use Rattle.semver_req.specs.Partials.{sized_partial};
 ghost use Rattle.semver_req.specs.Written.{comparator_of};
 ghost use Rattle.semver_req.specs.Causes.{IsBoundAt, IsCauseAt, IsFirstOutsideTag, IsRejected, overflows, rejection_of};
 
+use crate::common::after_separator;
 use crate::common::comparator::{Written, comparator_front};
-use crate::common::separators::after_separator;
 use crate::common::values::Flavour;
 use crate::error_places::expected::{Expected, expected_after};
 use crate::error_places::{Grammar, Sizes, error_place, longest_viable};
-use crate::tag::is_tag_character;
+use crate::range_set_or_tag::is_tag_character;
 use semver_base::failure::{ParseFailure, Rejection};
 use semver_base::lexical::values::Measured;
 use std::alloc::Global;

@@ -6,10 +6,10 @@ ghost use Rattle.semver_req.specs.InvalidPieces.{AreErrorsOf, AreInvalidBehind, 
 ghost use Rattle.semver_req.specs.declared.error_places.pieces.InvalidPiece.{InvalidPiece};
 ghost use Rattle.semver_req.specs.Pieces.{IsCutting};
 
-use crate::common::single::{Single, parse_single};
 use crate::common::values::Flavour;
 use crate::error_places::causes::{Cause, cause_of};
 use crate::range_set_or_tag::{RangeOrInvalid, cut};
+use crate::specifier::{Single, parse_single};
 use semver_base::failure::{ParseFailure, Rejection};
 use semver_base::lexical::{after_whitespace, is_all_whitespace};
 use std::alloc::{AllocError, Global};

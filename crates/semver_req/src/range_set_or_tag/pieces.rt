@@ -15,10 +15,9 @@ ghost use Rattle.semver_req.specs.Written.{IsFront, comparator_of};
 ghost use Rattle.semver_req.specs.declared.range_set_or_tag.pieces.RangeOrInvalid.TheVariants.{Invalid};
 
 use crate::common::comparator::{Written, comparator_front};
-use crate::common::hyphen::{HyphenRange, hyphen_front};
-use crate::common::separators::after_separator;
 use crate::common::short::short_piece;
 use crate::common::values::Flavour;
+use crate::common::{HyphenRange, after_separator, hyphen_front};
 use semver_base::failure::{ParseFailure, Rejection};
 use semver_base::lexical::after_whitespace;
 use semver_base::lexical::values::Measured;

@@ -1,6 +1,6 @@
 use Rattle.std.proofs.Common.{◌≡◌, ℕ, List, Ok, Err, None, Result, ap}
 use Rattle.deno_semver.specs.ReferenceOutcome.{IsReferenceOutcome, Memory, ReferenceFault, unboxed}
-use Rattle.deno_semver.specs.declared.package.kind.PackageKind.{PackageKind}
+use Rattle.deno_semver.specs.declared.package.values.PackageKind.{PackageKind}
 use Rattle.deno_semver.specs.declared.package.reference.PackageReqReference.{PackageReqReference}
 use Rattle.answers.specs.declared.asking.Kind.TheVariants as kinds
 use Rattle.answers.proofs.ReadArguments.{by_rejection, was_not_parsed, was_parsed}

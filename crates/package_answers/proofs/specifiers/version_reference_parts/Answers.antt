@@ -2,7 +2,7 @@ use Rattle.std.proofs.Common.{◌≡◌, ℕ, List, Ok, Err, None, Result, rules
 use Rattle.semver_base.specs.declared.failure.Rejection.{Rejection}
 use Rattle.deno_semver.specs.NameAndVersion.{IsNvMemory}
 use Rattle.deno_semver.specs.NvReference.{IsNvReferenceOutcome, nv_error}
-use Rattle.deno_semver.specs.declared.package.kind.PackageKind.{PackageKind}
+use Rattle.deno_semver.specs.declared.package.values.PackageKind.{PackageKind}
 use Rattle.deno_semver.specs.declared.package.nv_reference.PackageNvReference.{PackageNvReference}
 use Rattle.answers.specs.declared.asking.Kind.TheVariants as kinds
 use Rattle.answers.proofs.ReadArguments.{by_rejection, was_not_parsed, was_parsed}

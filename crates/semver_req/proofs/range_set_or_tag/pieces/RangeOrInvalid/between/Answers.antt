@@ -1,5 +1,5 @@
 use Rattle.std.proofs.Common.{◌∙◌, ap, rules, sym}
-use Rattle.semver_req.specs.declared.common.hyphen.HyphenRange.{HyphenRange}
+use Rattle.semver_req.specs.declared.common.HyphenRange.{HyphenRange}
 use Rattle.semver_req.proofs.Joining.{fitting_partial}
 use Rattle.semver_req.proofs.range_set_or_tag.pieces.RangeOrInvalid.between.Goals as goal
 

@@ -2,7 +2,7 @@ use Rattle.std.proofs.Common.{◌∙◌, Some, None, sym, ap, arith}
 use Rattle.std.proofs.lemmas.Str.Pattern.{strip_suffix_char}
 use Rattle.deno_semver.specs.ExportName.{without_last_slash}
 use Rattle.deno_semver.proofs.ExportNames.{no_last, without_last}
-use Rattle.deno_semver.proofs.jsr.export.without_last_slash.Goals as goal
+use Rattle.deno_semver.proofs.jsr.without_last_slash.Goals as goal
 
 pub returns-in-Some : goal.returns-in-Some
 returns-in-Some c =

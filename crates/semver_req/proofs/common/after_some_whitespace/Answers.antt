@@ -1,6 +1,6 @@
 use Rattle.std.proofs.Common.{ap, arith, length, length-append}
 use Rattle.semver_base.proofs.Whitespace.{no_whitespace, some_whitespace}
-use Rattle.semver_req.proofs.common.separators.after_some_whitespace.Goals as goal
+use Rattle.semver_req.proofs.common.after_some_whitespace.Goals as goal
 
 pub returns-then-rest-text : goal.returns-then-rest-text
 returns-then-rest-text c = no_whitespace c.args.text.now c.after_whitespace-rest.result.now c.after_whitespace-rest.ensures (omega arith)

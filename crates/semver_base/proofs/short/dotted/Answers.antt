@@ -5,7 +5,7 @@ use Rattle.std.proofs.lemmas.List.{drop_all}
 use Rattle.std.proofs.lemmas.Fmt.{IsAscii-decimal, length-decimal-le}
 use Rattle.std.proofs.lemmas.Str.{IsAscii-append, IsUtf8-from_ascii}
 use Rattle.std.proofs.lemmas.Str.Ascii.{IsAscii-cons}
-use Rattle.semver_base.proofs.dotted.dotted.Goals as goal
+use Rattle.semver_base.proofs.short.dotted.Goals as goal
 
 pub write_digits-start-requires : goal.write_digits-start-requires
 write_digits-start-requires c =

@@ -1,7 +1,7 @@
 use Rattle.std.proofs.Common.{◌≡◌, ◌∙◌, Ok, arith, inl, inr}
 use Rattle.std.proofs.lemmas.Bool.{cases_lt}
 use Rattle.semver_req.proofs.VersionTexts.{none_made}
-use Rattle.semver_req.proofs.error_places.versions.is_viable_version.Goals as goal
+use Rattle.semver_req.proofs.error_places.is_viable_version.Goals as goal
 
 pub loop-ending-init : goal.loop-ending-init
 loop-ending-init c = λ k less made. omega arith

@@ -1,7 +1,7 @@
 use Rattle.std.proofs.Common.{None, Some}
 use Rattle.semver_base.proofs.Fronts.{joined_none_first, mapped_none}
 use Rattle.semver_req.proofs.Hyphens.{hyphened_read, no_hyphen_operator, no_whitespace_after, no_whitespace_before, pair_none, pair_read, upper_read}
-use Rattle.semver_req.proofs.common.hyphen.hyphen_front.Goals as goal
+use Rattle.semver_req.proofs.common.hyphen_front.Goals as goal
 
 pub returns-in_default-after_some_whitespace : goal.returns-in_default-after_some_whitespace
 returns-in_default-after_some_whitespace c = pair_none (rw c.in-Some.is at c.in_ok-lower.ensures) (no_whitespace_before c.in_default-after_some_whitespace.ensures)

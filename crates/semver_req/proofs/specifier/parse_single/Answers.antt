@@ -7,7 +7,7 @@ use Rattle.semver_req.specs.Parsers.{Failure}
 use Rattle.semver_req.specs.Single.{absent, is_followed, is_range, over_bound, over_number}
 use Rattle.semver_req.specs.Written.{comparator_of}
 use Rattle.semver_req.proofs.Fitting.{fitting, too_large}
-use Rattle.semver_req.proofs.common.single.parse_single.Goals as goal
+use Rattle.semver_req.proofs.specifier.parse_single.Goals as goal
 
 -- a bound is too large, as it isn't out of memory
 over : (sums : List ℕ) (failure : Failure) → IsBoundRejection sums failure → (failure ≡ None → ⊥) → all_fit sums ≡ false

@@ -1,6 +1,6 @@
 use Rattle.std.proofs.Common.{None, Some, ap, arith, length, length-append}
 use Rattle.semver_req.proofs.Separators.{operator_comma, operator_or_none, separator_whitespace, separator_prefixed, separator_none}
-use Rattle.semver_req.proofs.common.separators.after_npm_separator.Goals as goal
+use Rattle.semver_req.proofs.common.after_npm_separator.Goals as goal
 
 pub returns-in-Some : goal.returns-in-Some
 returns-in-Some c = separator_prefixed c.after_whitespace-rest.ensures (operator_comma c.in-Some.ensures) c.after_whitespace.ensures
