@@ -10,7 +10,7 @@ use semver_req::range_set_or_tag::PackageTag;
 use std::alloc::AllocError;
 
 /// The result of a question about ranges.
-#[derive(Debug, Drop)]
+#[derive(Drop)]
 pub enum Answer<T> {
     Value(T),
     /// A range is this tag, which names a version in a registry, so there is no other result.
@@ -18,7 +18,7 @@ pub enum Answer<T> {
 }
 
 /// What an argument of a question should be.
-#[derive(Clone, Copy, Debug, PartialEq, Eq)]
+#[derive(Clone, Copy)]
 pub enum Kind {
     Range,
     Version,
@@ -27,7 +27,7 @@ pub enum Kind {
 }
 
 /// An argument that isn't what it should be.
-#[derive(Debug, Drop)]
+#[derive(Drop)]
 pub struct InvalidArgument {
     pub kind: Kind,
     /// Its place among the arguments of its kind, counted from 0.
@@ -37,7 +37,7 @@ pub struct InvalidArgument {
 }
 
 /// Why a question has no result.
-#[derive(Debug, Drop)]
+#[derive(Drop)]
 pub enum Problem {
     /// The first argument that is invalid.
     Invalid(InvalidArgument),

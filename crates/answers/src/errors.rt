@@ -13,7 +13,7 @@ use semver_req::common::values::Flavour;
 use semver_req::error_places::causes::Cause;
 use semver_req::error_places::expected::{Expected, Kind};
 use semver_req::error_places::pieces::{InvalidPiece, invalid_pieces};
-use semver_req::error_places::versions::version_error_place;
+use semver_req::error_places::version_error_place;
 use serde_json::Value;
 use std::alloc::{AllocError, Global};
 

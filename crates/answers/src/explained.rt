@@ -22,7 +22,7 @@ use semver_req::range_set_or_tag::{
 use std::alloc::{AllocError, Global};
 
 /// What a grammar makes of a text.
-#[derive(Debug, Drop)]
+#[derive(Drop)]
 pub enum Explanation {
     /// The text is this tag.
     Tag(PackageTag),
@@ -31,7 +31,7 @@ pub enum Explanation {
 }
 
 /// An alternative of a text.
-#[derive(Debug, Drop)]
+#[derive(Drop)]
 pub struct Piece {
     /// The alternative as written.
     pub text: String,
@@ -39,7 +39,7 @@ pub struct Piece {
 }
 
 /// What a grammar makes of an alternative.
-#[derive(Debug, Drop)]
+#[derive(Drop)]
 pub enum Meaning {
     /// The range that it means.
     Range(Matches),
@@ -48,7 +48,7 @@ pub enum Meaning {
 }
 
 /// A range, and what it matches.
-#[derive(Debug, Drop)]
+#[derive(Drop)]
 pub struct Matches {
     pub range: VersionRange,
     /// The lowest version that matches, if there is one.

@@ -29,7 +29,7 @@ use std::alloc::{AllocError, Global};
 use std::cmp::Ordering;
 
 /// An end of the order of precedence.
-#[derive(Clone, Copy, Debug, PartialEq, Eq)]
+#[derive(Clone, Copy)]
 pub enum End {
     Highest,
     Lowest,
@@ -48,7 +48,7 @@ impl End {
 }
 
 /// A version of a list, and its place there.
-#[derive(Debug, Drop)]
+#[derive(Drop)]
 pub struct Best {
     pub place: usize,
     pub version: Version,

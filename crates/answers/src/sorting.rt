@@ -15,7 +15,7 @@ use std::alloc::{AllocError, Global};
 use std::cmp::Ordering;
 
 /// The order in which versions are sorted.
-#[derive(Clone, Copy, Debug, PartialEq, Eq)]
+#[derive(Clone, Copy)]
 pub enum Order {
     Ascending,
     Descending,

@@ -16,7 +16,7 @@ use semver_req::laws::retained_sets_mean_their_trees;
 use std::alloc::Global;
 
 /// Why there is no result.
-#[derive(Debug, Drop)]
+#[derive(Drop)]
 pub enum Unanswered {
     /// The text of the package is invalid, or memory ran out.
     Package(PackageReqParseError),
@@ -68,7 +68,7 @@ pub fn package_allows(alloc: Global, text: &str, version: &str) -> Result<Allowa
 }
 
 /// Why there is no result for a reference.
-#[derive(Debug, Drop)]
+#[derive(Drop)]
 pub enum UnansweredReference {
     /// The text of the reference is invalid, or memory ran out.
     Reference(PackageReqReferenceParseError),

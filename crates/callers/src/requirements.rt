@@ -11,7 +11,7 @@ use deno_semver::{Version, VersionReq};
 use std::alloc::Global;
 
 /// Whether a requirement allows a version.
-#[derive(Clone, Copy, Debug, PartialEq, Eq)]
+#[derive(Clone, Copy)]
 pub enum Allowance {
     Yes,
     No,

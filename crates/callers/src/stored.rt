@@ -17,7 +17,7 @@ use deno_semver::{ParseFailure, Version, VersionReq, VersionReqNormalizedParseEr
 use std::alloc::Global;
 
 /// What a requirement's canonical form parses to, and what the canonical form of that does.
-#[derive(Debug, Drop)]
+#[derive(Drop)]
 pub struct Reread {
     pub once: VersionReq,
     pub twice: VersionReq,

@@ -11,7 +11,7 @@ use std::io;
 use std::io::{ErrorKind, Write};
 
 /// Why the run stopped before the end of the table.
-#[derive(Clone, Copy, Debug, PartialEq, Eq)]
+#[derive(Clone, Copy)]
 pub enum Problem {
     /// Standard input can't be read.
     Unread,

@@ -14,7 +14,7 @@ use serde_json::Value;
 use std::alloc::{AllocError, Global};
 
 /// A part that the text of a package or a reference may lack.
-#[derive(Clone, Copy, Debug)]
+#[derive(Clone, Copy)]
 pub enum Part {
     /// The `@` before a scope.
     At,
@@ -27,7 +27,7 @@ pub enum Part {
 }
 
 /// An error outside the range.
-#[derive(Debug, Drop)]
+#[derive(Drop)]
 pub struct PartError {
     /// The index at which the text is invalid.
     pub place: usize,
@@ -38,7 +38,7 @@ pub struct PartError {
 }
 
 /// What is wrong with the text of a package or a reference.
-#[derive(Debug, Drop)]
+#[derive(Drop)]
 pub enum PackageErrors {
     /// The invalid alternatives of its range.
     Range(Vec<InvalidPiece>),

@@ -25,7 +25,7 @@ use serde_json::Value;
 use std::alloc::{AllocError, Global};
 
 /// A reference to a package of either registry.
-#[derive(Debug, Drop)]
+#[derive(Drop)]
 pub struct Reference {
     pub kind: PackageKind,
     pub reference: PackageReqReference,

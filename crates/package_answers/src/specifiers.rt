@@ -88,7 +88,7 @@ pub fn dependency_parts(alloc: Global, flavour: Flavour, text: &str) -> Result<S
 }
 
 /// A reference to one version of a package of either registry.
-#[derive(Debug, Drop)]
+#[derive(Drop)]
 pub struct VersionReference {
     pub kind: PackageKind,
     pub reference: PackageNvReference,

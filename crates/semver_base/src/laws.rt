@@ -1,7 +1,7 @@
 //! Laws of equality and hashing, each as the contract of a call.
 //!
-//! `==` on each type of this crate is true exactly if the two values are the same, as contracts see them; on `CowVec` and
-//! `Measured`, if `==` on their contents is. A caller whose proof needs that calls [`Same::is_same`] instead of `==`.
+//! `==` on each type of this crate is true exactly if the two values are the same, as contracts see them; on `CowVec`, if `==`
+//! on its items is. A caller whose proof needs that calls [`Same::is_same`] instead of `==`.
 //!
 //! Equal values hash alike: they write the same to every `Hasher`. `equal_hash_alike` says so for each type with `Hash`.
 //!
@@ -19,7 +19,6 @@ ghost use Rattle.semver_base.specs.PrecedenceLaws.{version_reported};
 ghost use Rattle.semver_base.specs.VersionText.{VersionTextsAreBare, VersionTextsHaveOneOutcome, VersionTextsReadBack};
 
 use crate::failure::{ParseFailure, ParserError, Rejection};
-use crate::lexical::values::{Measured, Strictness};
 use crate::partial::{PrimitiveKind, XRange};
 use crate::range::{
     PreRelease, RangeBound, VersionBound, VersionBoundKind, VersionRange, VersionRangeSet,
@@ -59,14 +58,6 @@ impl Same for ParseFailure {
 
 impl<P> Same for ParserError<P> {
     ghost decides = { Prim.search rules };
-}
-
-impl Same for Strictness {
-    ghost decides = { Prim.search rules };
-}
-
-impl<T: Same> Same for Measured<T> {
-    ghost decides = { Prim.search (rules, T.decides) };
 }
 
 impl Same for Version {

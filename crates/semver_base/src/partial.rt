@@ -343,7 +343,7 @@ impl Partial {
 }
 
 /// A comparison operator before a partial version.
-#[derive(Clone, Copy, Debug, PartialEq, Eq)]
+#[derive(Clone, Copy, PartialEq, Eq)]
 pub enum PrimitiveKind {
     /// `>`
     GreaterThan,

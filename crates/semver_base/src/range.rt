@@ -26,7 +26,7 @@ pub enum VersionBoundKind {
 }
 
 /// Which pre-releases match, of those between the bounds.
-#[derive(Clone, Copy, Debug, PartialEq, Eq, Hash)]
+#[derive(Clone, Copy, Debug, PartialEq, Eq)]
 pub enum PreRelease {
     /// Those whose three numbers are those of some pre-release bound (node-semver's rule).
     Restricted,

@@ -17,7 +17,7 @@ use std::str::from_utf8_unchecked;
 const LIMIT: u64 = 1_000_000_000_000_000_000;
 
 /// Three numbers.
-#[derive(Clone, Copy, Debug)]
+#[derive(Clone, Copy)]
 pub struct Numbers {
     pub major: u64,
     pub minor: u64,
@@ -25,7 +25,7 @@ pub struct Numbers {
 }
 
 /// One to three numbers: `M`, `M.m` or `M.m.p`.
-#[derive(Clone, Copy, Debug)]
+#[derive(Clone, Copy)]
 pub enum ShortNumbers {
     One(u64),
     Two(u64, u64),

@@ -30,7 +30,6 @@ use std::marker::PhantomData;
 pub type VersionPreOrBuild = SmallStackString;
 
 /// Versions, as what a parser parses.
-#[derive(Clone, Copy, Debug)]
 pub struct Versions;
 
 impl Parsed for Versions {
@@ -45,7 +44,6 @@ impl Parsed for Versions {
 pub type VersionParseError = ParserError<Versions>;
 
 /// Versions as npm parses them.
-#[derive(Clone, Copy, Debug)]
 pub struct NpmVersions;
 
 impl Parsed for NpmVersions {

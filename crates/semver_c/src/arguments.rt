@@ -90,7 +90,7 @@ pub fn flavour(number: u32) -> Result<Flavour, Problem>
 }
 
 /// What a text is: a package, or a reference to one.
-#[derive(Clone, Copy, Debug, PartialEq, Eq)]
+#[derive(Clone, Copy)]
 pub enum Subject {
     Package,
     Reference,

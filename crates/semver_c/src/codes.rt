@@ -7,7 +7,7 @@ use answers::asking::Kind;
 use std::cmp::Ordering;
 
 /// What a call returns: its answer, or why there is none.
-#[derive(Clone, Copy, Debug, PartialEq, Eq)]
+#[derive(Clone, Copy)]
 pub enum Code {
     No,
     Yes,

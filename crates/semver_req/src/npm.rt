@@ -23,7 +23,6 @@ use semver_base::version::Version;
 use std::alloc::Global;
 
 /// Requirements of npm's grammar, as what a parser parses.
-#[derive(Clone, Copy, Debug)]
 pub struct NpmRequirements;
 
 impl Parsed for NpmRequirements {

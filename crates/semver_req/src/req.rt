@@ -55,7 +55,6 @@ impl Drop for VersionReq {
 }
 
 /// Requirements of the normalized grammar, as what a parser parses.
-#[derive(Clone, Copy, Debug)]
 pub struct NormalizedRequirements;
 
 impl Parsed for NormalizedRequirements {

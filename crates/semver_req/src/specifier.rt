@@ -20,7 +20,6 @@ use semver_base::string::{CowVec, SmallStackString};
 use std::alloc::{AllocError, Global};
 
 /// Requirements of package specifiers, as what a parser parses.
-#[derive(Clone, Copy, Debug)]
 pub struct SpecifierRequirements;
 
 impl Parsed for SpecifierRequirements {

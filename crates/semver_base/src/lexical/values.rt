@@ -6,7 +6,7 @@ use crate::string::{CowVec, SmallStackString};
 use std::alloc::{AllocError, Global};
 
 /// Which grammar a token is parsed by.
-#[derive(Clone, Copy, Debug, PartialEq, Eq)]
+#[derive(Clone, Copy)]
 pub enum Strictness {
     /// Numbers may have leading zeros, and a pre-release may lack its `-`.
     Loose,
@@ -15,7 +15,7 @@ pub enum Strictness {
 }
 
 /// A parsed value, if each of its numbers is at most 18446744073709551615.
-#[derive(Clone, Copy, Debug, PartialEq, Eq, Drop)]
+#[derive(Clone, Copy, Drop)]
 pub enum Measured<T> {
     /// The value.
     Fits(T),
@@ -24,7 +24,7 @@ pub enum Measured<T> {
 }
 
 /// The pre-release and the build of a version, each a list of identifiers that may be empty.
-#[derive(Debug, Drop)]
+#[derive(Drop)]
 pub struct Qualifier {
     pub pre: CowVec<SmallStackString>,
     pub build: CowVec<SmallStackString>,

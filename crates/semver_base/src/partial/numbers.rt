@@ -16,14 +16,14 @@ use crate::version::{Version, release};
 use std::alloc::{AllocError, Global};
 
 /// A release at which a range starts or ends.
-#[derive(Clone, Copy, Debug)]
+#[derive(Clone, Copy)]
 pub struct ReleaseBound {
     pub kind: VersionBoundKind,
     pub numbers: Numbers,
 }
 
 /// A range from one release, to another or without an end.
-#[derive(Clone, Copy, Debug)]
+#[derive(Clone, Copy)]
 pub struct ReleaseRange {
     pub start: ReleaseBound,
     pub end: Option<ReleaseBound>,

@@ -19,7 +19,7 @@ use semver_base::range::VersionRange;
 use std::alloc::{AllocError, Global};
 
 /// The operator before the partial version of a comparator.
-#[derive(Clone, Copy, Debug)]
+#[derive(Clone, Copy)]
 pub enum Operator {
     /// `~`
     Tilde,
@@ -55,7 +55,7 @@ impl Operator {
 }
 
 /// A parsed comparator.
-#[derive(Debug, Drop)]
+#[derive(Drop)]
 pub struct Written {
     pub operator: Operator,
     /// The partial version after the operator; `Measured::TooLarge` if a number in it exceeds 18446744073709551615.

@@ -38,7 +38,7 @@ impl Flavour {
 }
 
 /// A comparison operator and the partial version after it.
-#[derive(Debug, Drop)]
+#[derive(Drop)]
 pub struct Primitive {
     pub kind: PrimitiveKind,
     pub partial: Partial,

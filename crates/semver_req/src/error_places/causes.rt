@@ -48,7 +48,7 @@ impl Cause {
 }
 
 /// A cause, and the index at which an alternative is wrong.
-#[derive(Debug, Drop)]
+#[derive(Drop)]
 pub(crate) struct CauseAt {
     pub(crate) place: usize,
     pub(crate) cause: Cause,

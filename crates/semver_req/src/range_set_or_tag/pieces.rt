@@ -27,7 +27,7 @@ use semver_base::string::CowVec;
 use std::alloc::{AllocError, Global};
 
 /// The result of parsing a piece of a text, which lies between two `||`.
-#[derive(Debug, Drop)]
+#[derive(Drop)]
 pub enum RangeOrInvalid {
     /// The range of its comparators.
     Range(VersionRange),
