@@ -1,5 +1,5 @@
 -- Results that are the highest of several versions.
-use Rattle.std.proofs.Common.{◌≡◌, ◌<◌, ◌++◌, ◌∷◌, ◌∙◌, ℕ, arith, List, [], length, get_or, Option, Some, None, Result, Ok, Bool, refl, sym, ap, subst, inr}
+use Rattle.std.proofs.Common.{◌≡◌, ◌∙◌, ℕ, List, get_or, Option, Some, None, Result, Ok, Bool, refl, sym, ap, subst, inr}
 use Rattle.std.proofs.Math.Seq.{get_or-append_seam}
 use Rattle.semver_base.specs.declared.range.PreRelease.{PreRelease}
 use Rattle.semver_base.specs.declared.version.Version.{Version}
@@ -22,14 +22,6 @@ module _ (end : End) (test : Version → Bool) (versions : List Version) where
   version_at : (place : ℕ) (v d : Version) → IsBestAt (better end) test versions place v → get_or versions place d ≡ v
   version_at place v d h = rw (h.stands, sym h.at_place) (get_or-append_seam h.before v h.after d)
 
-  -- the index of a match is within the list
-  pub place_within : (place : ℕ) → IsBestMatch (better end) test versions (Some place) → place < length versions
-  place_within place h = rw (h.1.stands, sym h.1.at_place) (within h.1.before)
-    where
-      within : (before : List Version) → length before < length (before ++ h.0 ∷ h.1.after)
-      within [] = omega arith
-      within (x ∷ xs) = let more = within xs in omega (arith, more)
-
   -- the version taken from the index
   pub taken_best : (place : ℕ) (v : Version) → v ≡ get_or versions place v → IsBestMatch (better end) test versions (Some place) → IsBest end test versions (Some (record { place = place; version = v }))
   taken_best place v at h = subst (λ (w : Version). IsBestAt (better end) test versions place w) (sym (version_at place h.0 v h.1) ∙ sym at) h.1
@@ -46,10 +38,6 @@ module _ (end : End) (test : Version → Bool) (versions : List Version) where
       → (other : Option Best) → IsBest end test versions other → Some (record { place = place; version = v }) ≡ other
   only_best place v at only None h = absurd (cc (only None h))
   only_best place v at only (Some other) h = ap Some (same_best place v at other h (same_place other.place place (only (Some other.place) (other.version, h))))
-
-  pub only_none : IsOnlyMatch (better end) test versions None → (other : Option Best) → IsBest end test versions other → None ≡ other
-  only_none only None h = refl
-  only_none only (Some other) h = absurd (cc (only (Some other.place) (other.version, h)))
 
 -- the best match found is the result for a range that isn't a tag
 pub best_answer : (end : End) (flag : PreRelease) (read : RangeSetOrTag) (versions : List Version) → tag_of read ≡ None → (best : Option Best) → IsBest end (inner_means_with flag read) versions best

@@ -7,16 +7,11 @@ use Rattle.semver_req.specs.Parsers.{Failure, IsAnswer as IsAnswerTo, IsRead, Is
 use Rattle.semver_req.specs.Requirement.{Requirement}
 use Rattle.semver_req.specs.declared.common.values.Flavour.{Flavour}
 use Rattle.semver_req.specs.declared.range_set_or_tag.RangeSetOrTag.{RangeSetOrTag}
-use Rattle.answers.specs.Asking.{Fault, IsAnswer, IsFailureAt, OutOfMemory, fault_of, problem_of}
+use Rattle.answers.specs.Asking.{Fault, IsAnswer, OutOfMemory, fault_of, problem_of}
 use Rattle.answers.specs.Reading.{IsRange, IsRangeOutcome, Parsed, not_parsed, parsed}
 use Rattle.answers.specs.declared.asking.Kind.{Kind}
 use Rattle.answers.specs.declared.asking.Kind.TheVariants as kind
 use Rattle.answers.proofs.Givens.{as_fault, as_value}
-
--- a failure is reported as it is
-pub reported : (k : Kind) (place : ℕ) (Reported : Failure → Type 0) (failure : Failure) → Reported failure → IsFailureAt k place Reported (problem_of k place failure)
-reported k place Reported None h = tt
-reported k place Reported (Some texts) h = (refl, refl, h)
 
 -- ---- values by the outcomes of a text
 

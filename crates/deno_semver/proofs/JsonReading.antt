@@ -39,7 +39,6 @@ exit_answer x (Err f) e is m = is ∙ m
 -- ---- items
 
 module _ {T : Type 0} (ParsesTo : Data → T → Type 0) where
-
   -- one more item
   pub one_more : (ds : List Data) (xs : List T) (d : Data) (x : T) → AreItemsOf ParsesTo (items_of ds) xs → ParsesTo d x
       → AreItemsOf ParsesTo (items_of (ds ++ d ∷ [])) (xs ++ x ∷ [])

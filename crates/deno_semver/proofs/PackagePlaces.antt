@@ -1,5 +1,5 @@
 -- Where the version requirement of a package stands in its text.
-use Rattle.std.proofs.Common.{◌≡◌, ◌≤◌, ◌+◌, ◌-◌, ◌==◌, ℕ, Bool, true, false, List, [], ◌∷◌, ◌++◌, length, Option, None, Some, refl, sym, subst, ap, ◌∙◌, arith, inl, inr, append_assoc, length-append}
+use Rattle.std.proofs.Common.{◌≡◌, ◌+◌, ◌-◌, ◌==◌, ℕ, Bool, true, false, List, [], ◌∷◌, ◌++◌, length, Option, None, Some, refl, sym, subst, ap, ◌∙◌, arith, inl, inr, append_assoc, length-append}
 use Rattle.std.specs.Prelude.{if◌then◌else◌}
 use Rattle.deno_semver.specs.PackagePlaces.{IsRequirementAt, LacksRequirement}
 use Rattle.deno_semver.specs.PackageSteps.{IsCut, IsUncut}
@@ -38,12 +38,6 @@ module _ {text name version tail path : List ℕ} {found : Option (List ℕ)} (c
 
   sizes : length text ≡ length before.0 + (length version + length tail)
   sizes = ap length before.1 ∙ (length-append before.0 (version ++ tail) ∙ ap (λ n. length before.0 + n) (length-append version tail))
-
-  pub tail_fits : length tail ≤ length text
-  tail_fits = omega (arith, sizes)
-
-  pub version_fits : length version ≤ length text - length tail
-  version_fits = omega (arith, sizes)
 
   pub requirement_at : IsRequirementAt text (length text - length tail - length version) version
   requirement_at = record {

@@ -106,35 +106,6 @@ module _ {V W : Type 0} {S : List ℕ → List ℕ → Type 0} {A : List ℕ →
       go [] (y ∷ s) w e h = cc e
       go (y ∷ f) s w e h = cc e
 
-  pub joined_goes : {p : ℕ → Bool} → NoClash S A B → GoesBy A p → GoesBy B p → GoesBy (Joined S A B) p
-  joined_goes {p} d g k = record { goes = λ x o. go x o.front o.more o.short_value o.long_value o.short o.long }
-    where
-      at_second : (x : ℕ) (more s t : List ℕ) (w z : W) → s ++ (x ∷ more) ≡ t → B s w → B t z → p x ≡ true
-      at_second x more s t w z e h i = k.goes x (record { front = s; more = more; short_value = w; long_value = z; short = h; long = rw (← e) at i })
-
-      at_first : (x y : ℕ) (more m a s t : List ℕ) (v u : V) (w : W) → s ++ (x ∷ more) ≡ (y ∷ m) ++ t → A a v → A (a ++ (y ∷ m)) u → B s w → S a s → p x ≡ true
-      at_first x y more m a [] t v u w e h i j seam =
-          let same_byte : y ≡ x = cc in
-          g.goes x (record { front = a; more = m; short_value = v; long_value = u; short = h; long = rw same_byte at i })
-      at_first x y more m a (z ∷ s) t v u w e h i j seam =
-          let same_byte : z ≡ y = cc in
-          absurd (d.apart a m s y v u w h i (rw same_byte at j) (rw same_byte at seam))
-
-      nonempty : (x y : ℕ) (more m a s t : List ℕ) (v u : V) (w : W) → t ≡ (y ∷ m) ++ (s ++ (x ∷ more)) → A a v → A (a ++ (y ∷ m)) u → B t w → S a t → ⊥
-      nonempty x y more m a s [] v u w e h i j seam = cc e
-      nonempty x y more m a s (z ∷ t) v u w e h i j seam =
-          let same_byte : z ≡ y = cc in
-          d.apart a m t y v u w h i (rw same_byte at j) (rw same_byte at seam)
-
-      go : (x : ℕ) (a more : List ℕ) (v u : V × W) → Joined S A B a v → Joined S A B (a ++ (x ∷ more)) u → p x ≡ true
-      go x a more v u h i =
-          let e : h.first ++ (h.second ++ (x ∷ more)) ≡ i.first ++ i.second = sym (append_assoc h.first h.second (x ∷ more)) ∙ (ap (λ t. t ++ (x ∷ more)) (sym h.text_is) ∙ i.text_is) in
-          elim (fronts h.first i.first (h.second ++ (x ∷ more)) i.second e) [
-            | same one two ↦ at_second x more h.second i.second v.1 u.1 two h.in_second i.in_second
-            | shorter y m one two ↦ at_first x y more m h.first h.second i.second v.0 u.0 v.1 two h.in_first (rw one at i.in_first) h.in_second h.seam
-            | longer y m one two ↦ absurd (nonempty x y more m i.first h.second i.second u.0 v.0 u.1 two i.in_first (rw one at h.in_first) i.in_second i.seam)
-          ]
-
   -- B has no empty text
   pub joined_goes_second : {p : ℕ → Bool} → NoClash S A B → NonEmpty B → GoesBy B p → GoesBy (Joined S A B) p
   joined_goes_second {p} d never k = record { goes = λ x o. go x o.front o.more o.short_value o.long_value o.short o.long }

@@ -1,6 +1,6 @@
 -- The lowest release above a start.
-use Rattle.std.proofs.Common.{◌≡◌, ◌&&◌, ◌<◌, ◌≤◌, ◌==◌, ◌+◌, ◌^◌, ℕ, Bool, true, false, List, [], ◌∷◌, length, Some, refl, inl, inr, arith}
-use Rattle.std.proofs.lemmas.Bool.{cases_Bool, ltb-true, ltb-false}
+use Rattle.std.proofs.Common.{◌≡◌, ◌&&◌, ◌≤◌, ◌==◌, ◌+◌, ◌^◌, ℕ, Bool, true, false, List, [], ◌∷◌, length, Some, refl, inl, inr, arith}
+use Rattle.std.proofs.lemmas.Bool.{cases_Bool, ltb-false}
 use Rattle.std.proofs.lemmas.Bool.Decides.{nat_tests}
 use Rattle.std.proofs.lemmas.List.{nil_from_length}
 use Rattle.std.specs.Ordering.{is_ge, is_gt, is_le, ordering_then}
@@ -87,9 +87,6 @@ raised_lowest s w first second above lowest = (
       let plain = and_second (start_holds (bound_at kind.Exclusive s) v) _ h in
       release_le w v (no_pre w second) (no_pre v plain) (lowest v readable.numbers (above_under s v first plain held)),
 )
-
-fits : (n : ℕ) → number_fits n ≡ true → n < 2 ^ 64
-fits n h = ltb-true n (2 ^ 64) h
 
 too_large : (n : ℕ) → number_fits n ≡ false → 2 ^ 64 ≤ n
 too_large n h = ltb-false n (2 ^ 64) h

@@ -220,9 +220,6 @@ two_numbers read none m n p rest t short =
 
 -- ---- a dot and a number
 
-pub no_dot : {text : List ℕ} → ((rest : List ℕ) → text ≡ dot ∷ rest → ⊥) → LacksDottedNumber text
-no_dot none more e = absurd (none more e)
-
 pub no_number_behind : (rest : List ℕ) (read : Option (ℕ × Bor (List ℕ))) → IfNone read (LacksShortNumber rest) → IfNone read (LacksDottedNumber (dot ∷ rest))
 no_number_behind rest None none = λ more e. subst LacksShortNumber (ap (drop 1) e) none
 no_number_behind rest (Some r) none = tt

@@ -11,7 +11,7 @@ use Rattle.answers.specs.Filtering.{better_line, line_passes}
 use Rattle.answers.specs.declared.questions.End.{End}
 use Rattle.semver_c.specs.Codes.{IsCode, IsOneReply, IsPlaceReply, IsReply, IsReported, Reports, code_of, no_memory, no_place, place_after}
 use Rattle.semver_c.specs.Arguments.{CallFault, IsAnswer, IsOneAnswer, memory, outcome_of, problem_place}
-use Rattle.semver_c.specs.Held.{HoldsOutcome, IsHeld, IsListBest}
+use Rattle.semver_c.specs.Held.{IsListBest}
 use Rattle.semver_c.specs.declared.arguments.Problem.{Problem}
 use Rattle.semver_c.specs.declared.codes.Code.{Code}
 use Rattle.semver_c.specs.declared.codes.Code.TheVariants as code
@@ -78,24 +78,6 @@ module _ {E X : Type 0} (Asked : Result X CallFault → Type 0) (value : E → X
             → ((code ≡ no_memory) × (new ≡ old)) ⊎ (new ≡ place_after given o old)
         only o (inl none) = inl (none_placed none)
         only o (inr is) = inr (e ∙ ap (λ (p : Result X CallFault). place_after given p old) is)
-
-  -- ---- values that are held
-
-  pub held_reply : (held : Option X) (code : ℤ) → HoldsOutcome (outcome_of value answer) held code → IsHeld Asked held code
-  held_reply held code holds = record { is = is h.is; only = λ o a. only o (h.only o a) }
-    where
-      none_held : outcome_of value answer ≡ Err memory → (code ≡ no_memory) × (held ≡ None)
-      none_held none = let k = subst (λ (o : Result X CallFault). HoldsOutcome o held code) none holds in (k.1, k.0)
-
-      is : (outcome_of value answer ≡ Err memory) ⊎ Asked (outcome_of value answer)
-          → ((code ≡ no_memory) × (held ≡ None)) ⊎ ((o : Result X CallFault) × Asked o × HoldsOutcome o held code)
-      is (inl none) = inl (none_held none)
-      is (inr a) = inr (outcome_of value answer, a, holds)
-
-      only : (o : Result X CallFault) → (outcome_of value answer ≡ Err memory) ⊎ (outcome_of value answer ≡ o)
-          → ((code ≡ no_memory) × (held ≡ None)) ⊎ HoldsOutcome o held code
-      only o (inl none) = inl (none_held none)
-      only o (inr is) = inr (subst (λ (p : Result X CallFault). HoldsOutcome p held code) is holds)
 
 -- ---- questions that may have several outcomes
 

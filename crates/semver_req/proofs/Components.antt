@@ -4,7 +4,7 @@ use Rattle.std.specs.Prelude.{◌||◌, nat_lt, slice_index}
 use Rattle.std.specs.Char.{is_ascii_digit}
 use Rattle.std.proofs.lemmas.Bool.{cases_Bool, or_left, or_right}
 use Rattle.std.proofs.lemmas.Bool.Decides.{nat_tests}
-use Rattle.semver_base.specs.Grammar.{IsLongest, HasNone, IsSeen}
+use Rattle.semver_base.specs.Grammar.{IsLongest, IsSeen}
 use Rattle.semver_base.specs.Lexical.{IsLooseNumber, IsNumber, IsNumberEnd, IsQualifier, sized}
 use Rattle.semver_base.specs.declared.lexical.values.Measured.{Measured}
 use Rattle.semver_base.specs.declared.lexical.values.Qualifier.{Qualifier}
@@ -49,13 +49,6 @@ module _ (f : Flavour) (text : List ℕ) (other : (b : ℕ) (r : List ℕ) → i
       go : (a c : List ℕ) (w : XRange) → text ≡ a ++ c → IsComponent f a w → (length a ≤ length p.front) × (length a ≡ length p.front → w ≡ Val n)
       go a c Wildcard k h = absurd (other h.0 c h.1.passes (k ∙ ap (λ t. t ++ c) h.1.text_is))
       go a c (Val m) k h = let best = p.longest a c m k h in (best.0, λ s. ap Val (best.1 s))
-
-  pub component_none : HasNone (IsNumber (strictness_of f)) text → HasNone (IsComponent f) text
-  component_none p = record { none = go }
-    where
-      go : (a c : List ℕ) (w : XRange) → text ≡ a ++ c → IsComponent f a w → ⊥
-      go a c Wildcard k h = other h.0 c h.1.passes (k ∙ ap (λ t. t ++ c) h.1.text_is)
-      go a c (Val m) k h = p.none a c m k h
 
   -- what the parser of components returns
   pub component_read : (rest : List ℕ) (answer : Measured ℕ) → IsSeen sized (IsNumber (strictness_of f)) text answer rest → IsSeen sized_component (IsComponent f) text (component_of answer) rest

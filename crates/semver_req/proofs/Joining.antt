@@ -10,12 +10,11 @@ use Rattle.semver_base.specs.Clamp.{clamped}
 use Rattle.semver_base.specs.Comparators.{Comparator, comparator_line, comparator_range}
 use Rattle.semver_base.specs.Meaning.{everything}
 use Rattle.semver_base.specs.PartialTable.{IsBoundRejection, all_fit}
-use Rattle.semver_base.specs.declared.failure.Rejection.{Rejection}
 use Rattle.semver_base.specs.declared.failure.Rejection.TheVariants.{BoundTooLarge, NumberTooLarge}
 use Rattle.semver_base.specs.declared.lexical.values.Measured.TheVariants.{Fits, TooLarge}
 use Rattle.semver_base.specs.declared.partial.Partial.{Partial}
 use Rattle.semver_base.specs.declared.range.VersionRange.{VersionRange}
-use Rattle.semver_base.proofs.Orders.{and_false, and_true}
+use Rattle.semver_base.proofs.Orders.{and_true}
 use Rattle.semver_req.specs.RetainedSet.{folded}
 use Rattle.semver_req.specs.Partials.{partial_fits, sized_partial}
 use Rattle.semver_req.specs.PieceReading.{joined, numbers_fit, sums_fit}
@@ -44,18 +43,6 @@ joined_snoc cs c = rw (all_snoc numbers_fit cs c, all_snoc sums_fit cs c, folded
 -- ---- one comparator more
 
 module _ (cs : List Comparator) (c : Comparator) where
-  with_number : numbers_fit c ≡ false → read.Invalid NumberTooLarge ≡ joined (cs ++ c ∷ [])
-  with_number large = sym (joined_snoc cs c ∙ rw (large, and_false (list_all numbers_fit cs)) refl)
-
-  with_bad : (rejection : Rejection) → read.Invalid rejection ≡ joined cs → numbers_fit c ≡ true → read.Invalid rejection ≡ joined (cs ++ c ∷ [])
-  with_bad rejection is fits = sym (joined_snoc cs c ∙ go (list_all numbers_fit cs) (list_all sums_fit cs) (folded (map comparator_range cs)) is)
-    where
-      go : (a b : Bool) (range : VersionRange) → read.Invalid rejection ≡ read_of a b range
-          → read_of (a && numbers_fit c) (b && sums_fit c) (clamped range (comparator_range c)) ≡ read.Invalid rejection
-      go true true range e = cc e
-      go true false range e = rw fits (sym e)
-      go false b range e = sym e
-
   module _ (range : VersionRange) (is : read.Range range ≡ joined cs) (fits : numbers_fit c ≡ true) where
     with_range : (result : VersionRange) → sums_fit c ≡ true → result ≡ clamped range (comparator_range c) → read.Range result ≡ joined (cs ++ c ∷ [])
     with_range result sums value = sym (joined_snoc cs c ∙ go (list_all numbers_fit cs) (list_all sums_fit cs) (folded (map comparator_range cs)) is)
@@ -91,12 +78,6 @@ large_partial p e = elim (cases_Bool (partial_fits p)) [
 ]
 
 module _ (m : Operator) (cs : List Comparator) (p : Partial) where
-  pub and_number : TooLarge ≡ sized_partial p → read.Invalid NumberTooLarge ≡ joined (cs ++ comparator_of m p ∷ [])
-  and_number seen = with_number cs (comparator_of m p) (comparator_all m p ∙ large_partial p seen)
-
-  pub and_bad : {q : Partial} {rejection : Rejection} → read.Invalid rejection ≡ joined cs → Fits q ≡ sized_partial p → read.Invalid rejection ≡ joined (cs ++ comparator_of m p ∷ [])
-  and_bad {rejection = rejection} is seen = with_bad cs (comparator_of m p) rejection is (comparator_all m p ∙ (fitting_partial p seen).1)
-
   pub and_range : {q : Partial} {range next result : VersionRange} → read.Range range ≡ joined cs → Fits q ≡ sized_partial p
       → next ≡ comparator_range (comparator_of m q) → all_fit (comparator_line (comparator_of m q)).sums ≡ true → result ≡ clamped range next
       → read.Range result ≡ joined (cs ++ comparator_of m p ∷ [])

@@ -38,9 +38,6 @@ module _ (make : Partial → Comparator) (numbers_are : (p : Partial) → compar
   sums_fit : (p : Partial) → fits (make p) ≡ true → all_fit (comparator_line (make p)).sums ≡ true
   sums_fit p h = (and_parts (all_fit (comparator_numbers (make p))) _ h).1
 
-abbrev Numbers : XRange → XRange → XRange → List ℕ
-Numbers m n p = component_numbers m ++ component_numbers n ++ component_numbers p
-
 -- cut after a `0`, a plain partial version fits if it did
 bare_cut_fits : (m n p x y z : XRange) (a b c d : List (List ℕ)) → IsCutOf m n p x y z → fits (Bare (partial m n p a b)) ≡ true → fits (Bare (partial x y z c d)) ≡ true
 bare_cut_fits m n p x y z a b c d all_same h = bare_same m n p c d a b ∙ h

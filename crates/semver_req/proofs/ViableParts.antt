@@ -35,7 +35,7 @@ use Rattle.semver_req.specs.declared.range_set_or_tag.pieces.RangeOrInvalid.TheV
 use Rattle.semver_req.proofs.Fitting.{comparator_all, numbers_all}
 use Rattle.semver_req.proofs.PieceReadings.{piece_one}
 use Rattle.semver_req.specs.Sizes.{Sized, admits, is_in_grammar}
-use Rattle.semver_req.specs.Viable.{HasPiece, HasRange, IsAnyPiece, IsErrorPlace, IsPart, IsPieceOrCut, alone, cut, IsViablePrefix}
+use Rattle.semver_req.specs.Viable.{HasPiece, HasRange, IsAnyPiece, IsPart, IsPieceOrCut, alone, cut, IsViablePrefix}
 use Rattle.semver_req.specs.declared.error_places.Sizes.{Sizes}
 use Rattle.semver_req.specs.declared.error_places.Sizes.TheVariants.{Any, Fitting}
 use Rattle.semver_req.proofs.Endings.{Each, Ends, IsEnded, Starts, ended_as, ended_wider, mapped_ended}
@@ -384,7 +384,3 @@ empty_part Normal sizes = record { more = []; value = []; is_text = IsUtf8-nil; 
 empty_part Specifier sizes = record { more = one_digit; value = Bare one ∷ []; is_text = one_byte_text 49 (omega arith); stands = sized (IsPart Specifier) (Bare one ∷ []) sizes one_bare (one_of sizes) }
 
 -- ---- what the definition says
-
--- a text has one place
-pub one_place : {V : Type 0} {R : List ℕ → V → Type 0} (text : List ℕ) (m n : ℕ) → IsErrorPlace R text m → IsErrorPlace R text n → m ≡ n
-one_place text m n a b = omega (arith, a.longest n b.boundary b.viable, b.longest m a.boundary a.viable)

@@ -1,4 +1,4 @@
-use Rattle.std.proofs.Common.{◌≡◌, ◌≤◌, ◌<◌, ◌+◌, ◌++◌, ◌∙◌, ◌==◌, arith, length, length-append, string_bytes, refl, rules}
+use Rattle.std.proofs.Common.{◌≡◌, ◌≤◌, ◌<◌, ◌+◌, ◌++◌, ◌∙◌, ◌==◌, arith, length, length-append, string_bytes, rules}
 use Rattle.semver_base.specs.Texts.{zeros_in_front}
 use Rattle.semver_base.proofs.Zeros.{front_splits, front_stays, rest_whole}
 use Rattle.semver_base.proofs.string.ShortText.push_str.Goals as goal
