@@ -16,11 +16,16 @@ ghost use Rattle.semver_req.specs.Sameness.{inner_reported};
 ghost use Rattle.semver_req.specs.Rereading.{NormalTextsAreEquivalent, NormalTextsHoldNoSeparator, NormalTextsKeepTheirMeaning, OneRereadingStabilizes, RangesAreWrittenAsPieces, ReadRangesAreWritable, StableSetsAreTheirTexts, StarIsAnyVersion, TagsHoldNoSeparator, TagsReadBack};
 
 use crate::common::values::Flavour;
+use crate::error_places::expected::Kind;
 use crate::range_set_or_tag::RangeSetOrTag;
 use crate::req::VersionReq;
 use semver_base::laws::Same;
 
 impl Same for Flavour {
+    ghost decides = { Prim.search rules };
+}
+
+impl Same for Kind {
     ghost decides = { Prim.search rules };
 }
 
