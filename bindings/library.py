@@ -3,7 +3,7 @@
 
 `rt ci` leaves the libraries below built, with their statements alone, and `rt lib` would prove each of them once more. So where
 they stand and no source is newer, semver_c is proved and built over them as `rt ci` does it with a program; else by `rt lib`."""
-import contextlib, os, pathlib, subprocess, sys, tempfile
+import contextlib, dataclasses, functools, os, pathlib, subprocess, sys, tempfile
 
 TOP = pathlib.Path(__file__).resolve().parents[1]
 CRATE = TOP / "crates/semver_c"
@@ -20,15 +20,58 @@ exec '{clang}' "$@"
 """
 
 
+@functools.cache
 def kit():
-    """The folder of the Rattle kit, and its module, which knows the words of a build."""
+    """The folder of the Rattle kit."""
     page = subprocess.run(["rt", "doc"], capture_output=True, text=True, check=True).stdout.strip()
-    folder = pathlib.Path(page).parent
-    sys.dont_write_bytecode = True
-    sys.path.insert(0, str(folder / "bin"))
-    import rtlib
+    return pathlib.Path(page).parent
 
-    return folder, rtlib
+
+@dataclasses.dataclass(frozen=True)
+class Crate:
+    """A line of crates.txt: a crate, those of the project on which it stands, and those of the kit."""
+
+    name: str
+    is_static: bool
+    project: tuple["Crate", ...]
+    kit: tuple[str, ...]
+
+    @property
+    def folder(self):
+        return TOP / "crates" / self.name
+
+    @property
+    def rlib(self):
+        return self.folder / "out/rlib" / f"{self.name}.rlib"
+
+    def below(self):
+        """The crates of the project below this one, each after those that it uses."""
+        every = [it for crate in self.project for it in [*crate.below(), crate]]
+        return list(dict.fromkeys(every))
+
+    def arguments(self):
+        """What `rattle build` takes in the crate's folder."""
+        folder = kit()
+        root = "src/main.rt" if (self.folder / "src/main.rt").exists() else "src/lib.rt"
+        externs = [f"{name}={folder}/rlibs/{name}.rlib" for name in self.kit] + [f"{it.name}={it.rlib}" for it in self.project]
+        searched = [f"{folder}/rlibs", *(it.rlib.parent for it in self.below())]
+        return [
+            *("--crate-name", self.name, root, "--links", f"{self.name}="),
+            *(word for it in externs for word in ("--extern", it)),
+            *(word for it in searched for word in ("-L", f"dependency={it}")),
+            *("--antt-project", f"{folder}/rattle/logic/antt-project.json", "--logic-built", f"{folder}/logic_built"),
+            *("--crate-type", "staticlib") * self.is_static,
+        ]
+
+
+@functools.cache
+def find(name):
+    """The crate of this name."""
+    lines = dict(line.split(":") for line in (TOP / "crates.txt").read_text().splitlines() if line.strip())
+    heads = {head.split()[0]: head for head in lines}
+    uses = lines[heads[name]].split()
+    project = tuple(find(it) for it in uses if it in heads)
+    return Crate(name, "staticlib" in heads[name].split(), project, ("std", *(it for it in uses if it not in heads)))
 
 
 def changed(folder):
@@ -39,25 +82,24 @@ def changed(folder):
 
 def is_newer(made, crates):
     """Whether what was made is there, and newer than each source of these crates."""
-    return made.exists() and all(made.stat().st_mtime >= changed(pathlib.Path(it.folder)) for it in crates)
+    return made.exists() and all(made.stat().st_mtime >= changed(it.folder) for it in crates)
 
 
 def build_over(crate, made, *flags, toolchain=None, keeps=False, **how):
     """Proves and builds the program or static library of a crate into `made`, over the libraries below as they stand, and with `keeps` over
     what earlier checks of the crate proved."""
-    folder, rtlib = kit()
-    words = crate.words(["--jobs", str(os.cpu_count())], keeps=keeps)
-    words += rtlib.KEPT if keeps else []
-    words += [*flags, "--toolchain", str(toolchain or f"{folder}/toolchain"), "--backend", "llvm", "-o", str(made)]
+    arguments = [*crate.arguments(), "--jobs", str(os.cpu_count()), *flags, "--backend", "llvm", "-o", str(made)]
+    arguments += ["--incremental", "out/incremental"] * keeps
+    arguments += ["--toolchain", str(toolchain or kit() / "toolchain")]
     made.parent.mkdir(parents=True, exist_ok=True)
-    return subprocess.run([rtlib.RATTLE, "build", *words], cwd=crate.folder, **how).returncode
+    return subprocess.run([kit() / "bin/rattle", "build", *arguments], cwd=crate.folder, **how).returncode
 
 
 @contextlib.contextmanager
 def keeping_toolchain():
     """A toolchain folder that is the kit's but for its clang, which copies the module that rattle compiles to MODULE. It's removed
     afterwards, since `rt ci` rejects links below the project."""
-    kits = pathlib.Path(kit()[0]) / "toolchain"
+    kits = kit() / "toolchain"
     with tempfile.TemporaryDirectory() as name:
         folder = pathlib.Path(name)
         (folder / "bin").mkdir()
@@ -71,11 +113,11 @@ def keeping_toolchain():
 
 
 def main():
-    crate = kit()[1].Crate(str(CRATE), str(TOP), {}, name="semver_c")
+    crate = find("semver_c")
     below = crate.below()
     if is_newer(LIBRARY, [*below, crate]):
         return 0
-    if all(is_newer(pathlib.Path(it.rlib), it.below() + [it]) for it in below):
+    if all(is_newer(it.rlib, [*it.below(), it]) for it in below):
         with keeping_toolchain() as toolchain:
             return build_over(crate, LIBRARY, toolchain=toolchain)
     return subprocess.run(["rt", "lib"], cwd=CRATE).returncode
@@ -85,7 +127,7 @@ def keep_module():
     """Builds the library where a source is newer, and its module: by the same build, or by another one where `rt lib` left the library."""
     if main():
         return 1
-    crate = kit()[1].Crate(str(CRATE), str(TOP), {}, name="semver_c")
+    crate = find("semver_c")
     if is_newer(MODULE, [*crate.below(), crate]):
         return 0
     before = LIBRARY.read_bytes()

@@ -28,9 +28,9 @@ def main():
     made = pathlib.Path(sys.argv[1]).resolve()
     arch = made.parent.name
     name = made.stem[len("lib") :] if made.suffix == ".a" else made.stem
-    crate = library.kit()[1].Crate(str(TOP / "crates" / name), str(TOP), {}, name=name)
+    crate = library.find(name)
     made.parent.mkdir(parents=True, exist_ok=True)
-    left = pathlib.Path(crate.folder) / "out" / made.name
+    left = crate.folder / "out" / made.name
     if arch == "x86_64" and library.is_newer(left, [*crate.below(), crate]):
         shutil.copyfile(left, made)
         return 0

@@ -129,7 +129,7 @@ def main():
         return 1
     OUT.mkdir(exist_ok=True)
     if not is_built():
-        link(pathlib.Path(library.kit()[0]) / "toolchain/bin/clang")
+        link(library.kit() / "toolchain/bin/clang")
         lower()
     package.make(WASM)
     return 0
