@@ -189,7 +189,7 @@ impl Version {
 
 /// Creates the release of these numbers, without a pre-release or a build.
 #[inline(always)]
-pub(crate) fn release(alloc: Global, major: u64, minor: u64, patch: u64) -> Version
+pub fn release(alloc: Global, major: u64, minor: u64, patch: u64) -> Version
     ensures { result ≡ release major minor patch }
 {
     Version {

@@ -39,7 +39,7 @@ use questions::{
     held_canonical, held_displayed, is_tag, lowest, match_code, matches_held, name_with_version_of,
     names_tag, numbers_of, order_of, outside, overlap, package_errors_of, package_of, ranges_of,
     read_list, read_package_of, read_range, read_version, reference_errors_of, reference_of,
-    release, sorted_held, sorted_lines, version_error_of, version_parts_of, version_reference_of,
+    sorted_held, sorted_lines, version_error_of, version_parts_of, version_reference_of,
     why_invalid,
 };
 use reports::{
@@ -47,6 +47,7 @@ use reports::{
     report_bool, report_filter, report_found_text, report_lowest, report_match, report_name,
     report_numbers, report_place, report_places, report_problem, report_text, report_text_or_tag,
 };
+use semver_base::version::release;
 use semver_req::laws::equal_requirements;
 use std::alloc::Global;
 use std::str;

@@ -3,7 +3,6 @@
 ghost use Rattle.std.specs.Prelude.{◌≡◌, IfOk, is_some, string_bytes};
 ghost use Rattle.std.specs.Cow.{cow_str_bytes};
 ghost use Rattle.std.specs.Option.{option_map};
-ghost use Rattle.semver_base.specs.Meaning.{release};
 ghost use Rattle.semver_base.specs.VersionText.{version_text};
 ghost use Rattle.semver_req.specs.Requirement.{inner_text, tag_of};
 ghost use Rattle.answers.specs.Asking.{Is};
@@ -38,7 +37,6 @@ use package_answers::names::name_with_version_parts;
 use package_answers::packages::{package_errors_text, package_parts, read_package};
 use package_answers::references::{reference_errors_text, reference_parts};
 use package_answers::specifiers::{dependency_parts, version_reference_parts};
-use semver_base::string::CowVec;
 use semver_req::common::values::Flavour;
 use std::alloc::{AllocError, Global};
 use std::borrow::CowStr;
@@ -500,19 +498,6 @@ pub fn numbers_of(alloc: Global, bytes: &[u8]) -> Result<Numbers, Problem>
     let text = text(bytes)?;
     let version = version(alloc, 0, text)?;
     Ok(Numbers::of(&version))
-}
-
-/// The release of these numbers.
-pub fn release(alloc: Global, major: u64, minor: u64, patch: u64) -> Version
-    ensures { result ≡ release major minor patch }
-{
-    Version {
-        major,
-        minor,
-        patch,
-        pre: CowVec::new(alloc),
-        build: CowVec::new(alloc),
-    }
 }
 
 /// Parses several versions, one per line, onto the heap.
