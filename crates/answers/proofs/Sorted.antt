@@ -1,14 +1,14 @@
 -- Versions with their places: only one arrangement is ascending.
-use Rattle.std.proofs.Common.{◌≡◌, ◌+◌, ◌<◌, ℕ, zero, suc, Bool, List, [], ◌∷◌, ◌++◌, get_or, length, map, take, Option, None, Some, Ordering, Less, Equal, Greater, IsPermutation, IsSorted, IsSortedBy, Ok, refl, sym, ap, arith, inr, ◌∙◌}
+use Rattle.std.proofs.Common.{◌≡◌, ◌+◌, ◌<◌, ℕ, suc, Bool, List, [], ◌∷◌, ◌++◌, get_or, length, map, take, Option, None, Some, Equal, IsPermutation, IsSorted, IsSortedBy, Ok, refl, sym, ap, arith, inr, ◌∙◌}
 use Rattle.std.proofs.lemmas.Cmp.{nat_cmp_total, tied_itself}
-use Rattle.std.proofs.lemmas.List.{length-map, length-take-le, map-append, take_more}
+use Rattle.std.proofs.lemmas.List.{get_or-map, length-map, length-take-le, map-append, take_more}
 use Rattle.std.proofs.lemmas.List.MinMax.{ranks_by}
 use Rattle.std.proofs.lemmas.List.Sorted.{IsPermutation-map, IsPermutation-sym, IsPermutation-trans}
 use Rattle.std.specs.Cmp.{IsStrictWeakOrder, IsTotalOrder, back_total, on_total, then_total}
 use Rattle.std.specs.FinMap.{nat_cmp-IsAntisymmetric}
-use Rattle.std.specs.Ordering.{is_lt, nat_cmp, ordering_then}
+use Rattle.std.specs.Ordering.{is_lt, nat_cmp}
 use Rattle.semver_req.proofs.ListOrder.{Tie, sorted_ties}
-use Rattle.semver_base.specs.PrecedenceLaws.{precedence_total}
+use Rattle.semver_base.specs.PrecedenceLaws.{precedence_total, then_second}
 use Rattle.answers.specs.Asking.{IsOutcomeOf}
 use Rattle.answers.proofs.Givens.{as_value}
 use Rattle.semver_base.specs.declared.version.Version.{Version}
@@ -69,16 +69,11 @@ module _ (lines : List (Option Version)) (place : ℕ) (line : Option Version) (
 -- ---- sorted by a function of the items
 
 module _ {A B : Type 0} (f : A → B) (lt : B → B → Bool) where
-  read_map : (xs : List A) (k : ℕ) (x : A) (d : B) → k < length xs → get_or (map f xs) k d ≡ f (get_or xs k x)
-  read_map [] k x d within = absurd (omega (arith, within))
-  read_map (y ∷ ys) zero x d within = refl
-  read_map (y ∷ ys) (suc k) x d within = read_map ys k x d (omega (arith, within))
-
   pub sorted_map : (xs : List A) → IsSortedBy (λ (a b : A). lt (f a) (f b)) xs → IsSortedBy lt (map f xs)
   sorted_map [] h k d low more = absurd (omega (arith, more))
   sorted_map (x ∷ xs) h k d low more =
       let within : k + 1 < length (x ∷ xs) = omega (arith, more, length-map (x ∷ xs) f) in
-      rw (read_map (x ∷ xs) (k + 1) x d within, read_map (x ∷ xs) k x d (omega (arith, within))) (h k x low within)
+      rw (get_or-map f (x ∷ xs) (k + 1) x d within, get_or-map f (x ∷ xs) k x d (omega (arith, within))) (h k x low within)
 
 -- ---- either order is total
 
@@ -110,13 +105,8 @@ module _ (order : Order) where
       places (x ∷ xs) = ap (λ (rest : List ℕ). x.place ∷ rest) (places xs)
 
   -- versions that tie have the same place
-  second : (r s : Ordering) → ordering_then r s ≡ Equal → s ≡ Equal
-  second Less s e = absurd (cc e)
-  second Equal s e = e
-  second Greater s e = absurd (cc e)
-
   one_place : (a b : Standing) → standing_cmp order a b ≡ Equal → a.1 ≡ b.1
-  one_place a b e = nat_cmp-IsAntisymmetric a.1 b.1 (second (order_cmp order a.0 b.0) (nat_cmp a.1 b.1) e)
+  one_place a b e = nat_cmp-IsAntisymmetric a.1 b.1 (then_second (order_cmp order a.0 b.0) (nat_cmp a.1 b.1) e)
 
   ties_places : (xs ys : List Standing) → Tie (standing_cmp order) standing_total xs ys → map (λ (s : Standing). s.1) xs ≡ map (λ (s : Standing). s.1) ys
   ties_places [] [] h = refl

@@ -1,6 +1,7 @@
 -- A text parses to one dependency or has one fault, and which fault an error reports.
 use Rattle.std.proofs.Common.{◌≡◌, ◌==◌, ◌++◌, ℕ, List, true, false, Result, Ok, Err, get_or, refl, sym, ap, ap₂, subst, ◌∙◌, inl, inr}
 use Rattle.std.specs.Prelude.{◌⊎◌}
+use Rattle.std.proofs.lemmas.List.{append_cancel_left}
 use Rattle.semver_req.specs.declared.common.values.Flavour.{Flavour}
 use Rattle.deno_semver.specs.DependencyOutcome.{BadRequirement, DependencyFault, IsDependencyAnswer, IsDependencyOutcome, IsDependencyRejection, IsOfPackageError, IsReportedScheme, OtherScheme, ReportsDependency, bad_requirement, is_dependency, other_scheme}
 use Rattle.deno_semver.specs.Kind.{scheme_of}
@@ -14,7 +15,6 @@ use Rattle.deno_semver.specs.declared.package.errors.PackageReqParseError.{Packa
 use Rattle.deno_semver.specs.declared.package.values.PackageKind.{PackageKind}
 use Rattle.deno_semver.specs.declared.package.values.PackageKind.TheVariants.{Jsr, Npm}
 use Rattle.deno_semver.specs.declared.package.values.PackageReq.{PackageReq}
-use Rattle.deno_semver.proofs.References.{cancel}
 
 -- ---- one scheme
 
@@ -31,7 +31,7 @@ one_kind Npm Jsr a b e = absurd (two_schemes b a (sym e))
 one_kind Npm Npm a b e = refl
 
 one_body : (k l : PackageKind) (a b : List ℕ) → scheme_of k ++ a ≡ scheme_of l ++ b → a ≡ b
-one_body k l a b e = cancel (scheme_of k) a b (e ∙ ap (λ (x : PackageKind). scheme_of x ++ b) (sym (one_kind k l a b e)))
+one_body k l a b e = append_cancel_left (scheme_of k) a b (e ∙ ap (λ (x : PackageKind). scheme_of x ++ b) (sym (one_kind k l a b e)))
 
 -- ---- errors and results
 
@@ -48,7 +48,7 @@ scheme_answer error.Memory none reported _ (other_scheme k) = inl refl
 scheme_answer e none reported _ (is_dependency kind body is h) = absurd (none kind body is)
 scheme_answer e none reported _ (bad_requirement kind body is h) = absurd (none kind body is)
 
-abbrev dependency_of : PackageKind → PackageReq → JsrDepPackageReq
+abbrev pub dependency_of : PackageKind → PackageReq → JsrDepPackageReq
 dependency_of kind req = record { kind = kind; req = req }
 
 same_dependency : {k l : PackageKind} {x y : PackageReq} → k ≡ l → x ≡ y → dependency_of k x ≡ dependency_of l y

@@ -1,9 +1,8 @@
 -- A text parses to one reference to a version or has one fault, and the text of a parsed reference parses to it.
-use Rattle.std.proofs.Common.{◌≡◌, ◌==◌, ◌++◌, ◌∷◌, [], ℕ, true, List, Option, None, Some, Result, Ok, Err, refl, sym, ap, subst, ◌∙◌, inl, inr, arith, append_assoc}
+use Rattle.std.proofs.Common.{◌≡◌, ◌==◌, ◌++◌, ◌∷◌, [], ℕ, List, Option, None, Some, Result, Ok, Err, refl, sym, ap, subst, ◌∙◌, inl, inr, append_assoc}
 use Rattle.std.specs.Prelude.{◌⊎◌}
 use Rattle.std.specs.Borrow.{Bor}
-use Rattle.std.proofs.lemmas.Bool.{cases_Bool}
-use Rattle.std.proofs.lemmas.Bool.Decides.{nat_tests}
+use Rattle.std.proofs.lemmas.Bool.{cases_Bool, eqb-true}
 use Rattle.semver_base.specs.Grammar.{Stops}
 use Rattle.semver_base.specs.VersionText.{ReadsBack, VersionTextsHaveOneOutcome, version_text}
 use Rattle.semver_base.specs.declared.failure.Rejection.{Rejection}
@@ -19,15 +18,10 @@ use Rattle.deno_semver.specs.declared.package.values.PackageNv.{PackageNv}
 use Rattle.deno_semver.specs.declared.package.name_version.PackageNvParseError.{PackageNvParseError}
 use Rattle.deno_semver.specs.declared.package.nv_reference.PackageNvReference.{PackageNvReference}
 use Rattle.deno_semver.specs.declared.package.nv_reference.PackageNvReferenceParseError.{PackageNvReferenceParseError}
+use Rattle.deno_semver.specs.Sameness.{reference_of, same_reference}
 use Rattle.deno_semver.proofs.NameAndVersion.{FrontAnswers, front_of, front_one, no_front, same_fault, same_nv, same_rest}
 use Rattle.deno_semver.proofs.NvText.{IsBareVersion, front_name, writes_text}
 use Rattle.deno_semver.proofs.References.{bodies}
-
-abbrev reference_of : PackageNv → Option (List ℕ) → PackageNvReference
-reference_of nv path = record { nv = nv; sub_path = path }
-
-same_reference : {x y : PackageNv} {p q : Option (List ℕ)} → x ≡ y → p ≡ q → reference_of x p ≡ reference_of y q
-same_reference a b = rw (a, b) refl
 
 path_one : (p q : Option (List ℕ)) → path_text p ≡ path_text q → p ≡ q
 path_one None None e = refl
@@ -135,13 +129,10 @@ module _ (versions : VersionTextsHaveOneOutcome) (kind : PackageKind) {text : Li
 
 -- ---- it parses back
 
-is_slash : (b : ℕ) → (b == 47) ≡ true → b ≡ 47
-is_slash b h = grind (arith, nat_tests)
-
 keeps_slash : (name rest : List ℕ) → IsNvName name → ((more : List ℕ) → name ≡ 47 ∷ more → ⊥) → without_slash (name ++ rest) ≡ name ++ rest
 keeps_slash [] rest h free = absurd h
 keeps_slash (b ∷ more) rest h free = elim (cases_Bool (b == 47)) [
-  | inl is ↦ absurd (free more (rw (is_slash b is) refl))
+  | inl is ↦ absurd (free more (rw (eqb-true b 47 is) refl))
   | inr isnt ↦ rw isnt refl
 ]
 

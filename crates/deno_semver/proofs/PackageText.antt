@@ -12,8 +12,8 @@ use Rattle.std.proofs.lemmas.List.{append-nil, nil_from_length, take-append-drop
 use Rattle.std.proofs.lemmas.List.Elements.{All-from_get_or}
 use Rattle.std.proofs.lemmas.List.Sums.{list_all-from_AllPass}
 use Rattle.std.proofs.lemmas.Str.Pattern.{NoCharPasses-char, drop_at_char}
+use Rattle.std.proofs.lemmas.Str.Ascii.{IsAscii-cons, IsAscii-nil}
 use Rattle.semver_base.specs.Grammar.{CutsRun}
-use Rattle.semver_base.proofs.Solid.{all_ascii}
 use Rattle.deno_semver.specs.Cuts.{is_not}
 use Rattle.deno_semver.specs.PackageSteps.{IsCut}
 use Rattle.deno_semver.specs.PackageText.{IsAfterScope, IsNamePart, IsPackageText, IsPathPart, IsScope, IsScopeAlone, LacksLast, LacksPart, PackageParts, starts_with_at, without_slash}
@@ -215,7 +215,7 @@ module _ (text : List ℕ) {body first tail path last more : List ℕ} (is_body 
     pub front_boundary : IsUtf8 body → IsUtf8 first → IsUtf8 name → IsCharBoundary body (length first + 1 + length name)
     front_boundary utf8 scope_utf8 name_utf8 =
         let inside : length front ≤ length body = omega (arith, ap length body_is, length-append front ((name_ends version named).0 ++ more)) in
-        let slash_name : IsUtf8 (47 ∷ name) = IsUtf8-append (47 ∷ []) name (IsUtf8-from_ascii (47 ∷ []) (all_ascii (47 ∷ []) refl)) name_utf8 in
+        let slash_name : IsUtf8 (47 ∷ name) = IsUtf8-append (47 ∷ []) name (IsUtf8-from_ascii (47 ∷ []) (IsAscii-cons 47 [] (omega arith) IsAscii-nil)) name_utf8 in
         IsCharBoundary-from_take body (length first + 1 + length name) utf8 (omega (arith, size, inside)) (rw front_is (IsUtf8-append first (47 ∷ name) scope_utf8 slash_name))
 
     pub scoped_cut : {whole path' : List ℕ} → whole ≡ take (length first + 1 + length name) body → IsPathPart more path' → IsCut text whole version more path'

@@ -1,5 +1,6 @@
 -- A text parses to one reference or has one fault, and which fault an error reports.
-use Rattle.std.proofs.Common.{◌≡◌, ℕ, List, [], ◌∷◌, ◌++◌, Option, Some, Result, Ok, Err, refl, sym, ap, subst, ◌∙◌, inl, inr}
+use Rattle.std.proofs.Common.{◌≡◌, ℕ, List, ◌∷◌, ◌++◌, Option, Some, Result, Ok, Err, refl, sym, ap, subst, ◌∙◌, inl, inr}
+use Rattle.std.proofs.lemmas.List.{append_cancel_left}
 use Rattle.semver_req.specs.Outcome.{TextsHaveOneOutcome}
 use Rattle.semver_req.specs.declared.common.values.Flavour.TheVariants.{Specifier}
 use Rattle.deno_semver.specs.Kind.{scheme_of}
@@ -17,10 +18,6 @@ use Rattle.deno_semver.proofs.PackageFaults.{fault_one, read_or_rejected, same_p
 use Rattle.deno_semver.proofs.PackageText.{last_one, no_alone, no_part, package_one}
 
 -- ---- one parse
-
-pub cancel : (front a b : List ℕ) → front ++ a ≡ front ++ b → a ≡ b
-cancel [] a b e = e
-cancel (x ∷ front) a b e = let rest : front ++ a ≡ front ++ b = cc e in cancel front a b rest
 
 abbrev reference_of : PackageReq → Option (List ℕ) → PackageReqReference
 reference_of req path = record { req = req; sub_path = path }
@@ -60,7 +57,7 @@ same_moved a b c = rw (a, b, c) refl
 
 module _ (kind : PackageKind) {text : List ℕ} where
   pub bodies : {a b : List ℕ} → text ≡ scheme_of kind ++ a → text ≡ scheme_of kind ++ b → a ≡ b
-  bodies {a} {b} e f = cancel (scheme_of kind) a b (sym e ∙ f)
+  bodies {a} {b} e f = append_cancel_left (scheme_of kind) a b (sym e ∙ f)
 
   at : {a b : List ℕ} {r : PackageReqReference} → text ≡ scheme_of kind ++ a → text ≡ scheme_of kind ++ b → IsReadReference a r → IsReadReference b r
   at {r = r} e f h = subst (λ (t : List ℕ). IsReadReference t r) (bodies e f) h

@@ -20,6 +20,7 @@ use Rattle.deno_semver.specs.ReferenceText.{path_text, reference_text, sub_path_
 use Rattle.deno_semver.specs.declared.package.values.PackageKind.{PackageKind}
 use Rattle.deno_semver.specs.declared.package.reference.PackageReqReference.{PackageReqReference}
 use Rattle.deno_semver.proofs.PackageFaults.{version_one}
+use Rattle.deno_semver.proofs.StoredNames.{at_no_slash, name_passes, not_slash}
 
 -- ---- `*` in the strict grammar
 
@@ -54,15 +55,9 @@ abbrev IsFront : Option (List ℕ) → List ℕ → Type 0
 IsFront None last = starts_with_at last ≡ false
 IsFront (Some scope) last = IsScope scope
 
-slash_no : (b : ℕ) → is_not 47 b ≡ true → (b == 47) ≡ false
-slash_no b h = grind (arith, nat_tests)
-
-at_no_slash : (b : ℕ) → (b == 64) ≡ true → (b == 47) ≡ false
-at_no_slash b h = grind (arith, nat_tests)
-
 keeps_front : (scope : Option (List ℕ)) (last rest : List ℕ) → IsFront scope last → 0 < length last → list_all (is_not 47) last ≡ true → without_slash (scoped_name scope last ++ rest) ≡ scoped_name scope last ++ rest
 keeps_front None [] rest h some free = absurd (omega (arith, some))
-keeps_front None (b ∷ last) rest h some free = rw (slash_no b (and_parts (is_not 47 b) (list_all (is_not 47) last) free).0) refl
+keeps_front None (b ∷ last) rest h some free = rw (not_slash b (and_parts (is_not 47 b) (list_all (is_not 47) last) free).0) refl
 keeps_front (Some []) last rest h some free = cc h.at
 keeps_front (Some (b ∷ scope)) last rest h some free = rw (at_no_slash b h.at) refl
 
@@ -102,9 +97,6 @@ scoped_with : (scope : Option (List ℕ)) (name x : List ℕ) → scoped_name sc
 scoped_with None name x = refl
 scoped_with (Some scope) name x = append_assoc scope (47 ∷ name) x
 
-all_front : (p : ℕ → Bool) (xs ys : List ℕ) → list_all p (xs ++ ys) ≡ true → list_all p xs ≡ true
-all_front p xs ys h = (and_parts (list_all p xs) (list_all p ys) (sym (list_all-append p xs ys) ∙ h)).0
-
 all_back : (p : ℕ → Bool) (xs ys : List ℕ) → list_all p (xs ++ ys) ≡ true → list_all p ys ≡ true
 all_back p xs ys h = (and_parts (list_all p xs) (list_all p ys) (sym (list_all-append p xs ys) ∙ h)).1
 
@@ -113,10 +105,6 @@ not_empty : (last name : List ℕ) (version : Option (List ℕ)) → IsNamePart 
 not_empty last name None h at some = (rw (ap length (sym h.0)) some, rw (sym h.0) at)
 not_empty last [] (Some v) h at some = let reported : starts_with_at (64 ∷ v) ≡ false = rw h.0 at at in cc reported
 not_empty last (b ∷ name) (Some v) h at some = let reported : starts_with_at ((b ∷ name) ++ (64 ∷ v)) ≡ false = rw h.0 at at in (omega arith, reported)
-
-no_slashes : (last name : List ℕ) (version : Option (List ℕ)) → IsNamePart last name version → list_all (is_not 47) last ≡ true → list_all (is_not 47) name ≡ true
-no_slashes last name None h free = rw (sym h.0) free
-no_slashes last name (Some v) h free = all_front (is_not 47) name (64 ∷ v) (rw h.0 at free)
 
 -- the name of a reference to any version parses to a name without a version
 record IsAlone (scope : Option (List ℕ)) (name : List ℕ) : Type 0 where
@@ -151,7 +139,7 @@ module _ (texts : TextsHaveOneOutcome) (any : StarIsAnyVersion) (kind : PackageK
       let written : reference_text r ≡ scoped_name h.cut.scope h.cut.name ++ tail = rw star (ap (λ t. t ++ tail) (append-nil r.req.name ∙ h.name)) in
       is_reference refl (record {
         cut = record { scope = h.cut.scope; name = h.cut.name; version = None; path = written_path r.sub_path };
-        is_cut = cut_again h.cut.scope h.cut.name h.cut.name None r.sub_path (reference_text r) whole.front whole.some (no_slashes h.is_cut.last h.cut.name h.cut.version h.is_cut.named h.is_cut.last_is) (refl, whole.no_at) written;
+        is_cut = cut_again h.cut.scope h.cut.name h.cut.name None r.sub_path (reference_text r) whole.front whole.some (name_passes h.is_cut.last h.cut.name h.cut.version h.is_cut.named h.is_cut.last_is) (refl, whole.no_at) written;
         name = h.name;
         version_req = any_version texts any h.cut.version r.req.version_req h.version_req is_star;
         sub_path = path_again h.cut.path r.sub_path h.sub_path;

@@ -1,9 +1,10 @@
 -- Splitting a text at a byte: the split is unique, and at a character boundary.
-use Rattle.std.proofs.Common.{◌≡◌, ◌≤◌, ◌<◌, ℕ, Bool, true, false, List, [], ◌∷◌, ◌++◌, length, get_or, refl, arith, inl, inr}
+use Rattle.std.proofs.Common.{◌≡◌, ◌≤◌, ◌<◌, ℕ, Bool, true, false, List, [], ◌∷◌, ◌++◌, length, get_or, refl, arith, inl, inr, ◌==◌}
 use Rattle.std.specs.List.{list_all, take_while}
 use Rattle.std.specs.Str.{IsCharBoundary}
 use Rattle.std.proofs.lemmas.Bool.{and_parts, cases_Bool}
 use Rattle.std.proofs.lemmas.List.Sums.{take_while-cons}
+use Rattle.std.proofs.lemmas.Bool.Decides.{nat_tests}
 use Rattle.semver_base.specs.Grammar.{Stops}
 
 -- the leading bytes that pass, and what follows them, are unique
@@ -35,6 +36,14 @@ run_stop p (x ∷ xs) = elim (cases_Bool (p x)) [
   | inl passes ↦ let more = run_stop p xs in rw (take_while-cons p x xs, passes) (omega (arith, more.0), λ h. more.1 (omega (arith, h)))
   | inr fails ↦ rw (take_while-cons p x xs, fails) (omega arith, λ h. fails)
 ]
+
+-- ---- what is left
+
+pub some_left : (xs : List ℕ) (b : Bool) → b ≡ (length xs == 0) → b ≡ false → 0 < length xs
+some_left xs b e f = grind (arith, nat_tests)
+
+pub none_left : (xs : List ℕ) (b : Bool) → b ≡ (length xs == 0) → b ≡ true → length xs ≡ 0
+none_left xs b e f = grind (arith, nat_tests)
 
 -- a text may be split before an ASCII byte
 pub cut_before : (xs : List ℕ) (n : ℕ) → n ≤ length xs → (n < length xs → get_or xs n 0 < 128) → IsCharBoundary xs n

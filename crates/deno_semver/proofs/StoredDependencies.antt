@@ -14,31 +14,29 @@ use Rattle.deno_semver.specs.declared.package.values.PackageKind.{PackageKind}
 use Rattle.deno_semver.specs.declared.package.values.PackageKind.TheVariants as registry
 use Rattle.deno_semver.specs.declared.package.values.PackageReq.{PackageReq}
 use Rattle.deno_semver.proofs.StoredReqs.{after_ascii}
-
-abbrev of_kind : PackageKind → PackageReq → JsrDepPackageReq
-of_kind kind req = record { kind = kind; req = req }
+use Rattle.deno_semver.proofs.Dependencies.{dependency_of}
 
 text_same : (a b : List ℕ) → string a ≡ string b → a ≡ b
 text_same a b e = cc e
 
 -- after the scheme, a text that parses to a package requirement parses to a dependency
-string_of : (kind : PackageKind) (text : List ℕ) (again : PackageReq) → IsStringOf IsTextOfReq (string text) again → IsStringOf IsTextOfDependency (string (scheme_of kind ++ text)) (of_kind kind again)
+string_of : (kind : PackageKind) (text : List ℕ) (again : PackageReq) → IsStringOf IsTextOfReq (string text) again → IsStringOf IsTextOfDependency (string (scheme_of kind ++ text)) (dependency_of kind again)
 string_of kind text again h = record {
   text = scheme_of kind ++ text;
   is_string = refl;
   reads = is_dependency kind text refl (subst (λ t. IsTextOfReq t again) (sym (text_same text h.text h.is_string)) h.reads);
 }
 
-stable : (kind : PackageKind) (req : PackageReq) → IsStableReq req → IsStableDependency (of_kind kind req)
+stable : (kind : PackageKind) (req : PackageReq) → IsStableReq req → IsStableDependency (dependency_of kind req)
 stable kind req h = record {
-  again = of_kind kind h.again;
+  again = dependency_of kind h.again;
   parses_to = string_of kind (normal_req_text req) h.again h.parses_to;
   equal = (refl, h.equal);
 }
 
-stored : (kind : PackageKind) (req : PackageReq) → IsStoredReq req (string (normal_req_text req)) → IsStoredDependency (of_kind kind req) (string (normal_dependency_text (of_kind kind req)))
+stored : (kind : PackageKind) (req : PackageReq) → IsStoredReq req (string (normal_req_text req)) → IsStoredDependency (dependency_of kind req) (string (normal_dependency_text (dependency_of kind req)))
 stored kind req h = record {
-  again = of_kind kind h.again;
+  again = dependency_of kind h.again;
   parses_to = string_of kind (normal_req_text req) h.again h.parses_to;
   kind = refl;
   name = h.is_retained.name;

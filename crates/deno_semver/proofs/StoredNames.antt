@@ -3,7 +3,7 @@ use Rattle.std.proofs.Common.{◌≡◌, ◌<◌, ◌==◌, ℕ, true, false, Bo
 use Rattle.std.specs.List.{list_all}
 use Rattle.std.proofs.lemmas.Bool.{and_from, and_parts}
 use Rattle.std.proofs.lemmas.Bool.Decides.{nat_tests}
-use Rattle.semver_base.proofs.Bytes.{list_all-append}
+use Rattle.std.proofs.lemmas.List.Folds.{list_all-append}
 use Rattle.deno_semver.specs.Cuts.{is_not}
 use Rattle.deno_semver.specs.PackageText.{IsAfterScope, IsNamePart, IsPackageText, IsScope, PackageParts, scoped_name, starts_with_at, without_slash}
 
@@ -19,10 +19,9 @@ parts_with scope name version = record { scope = scope; name = name; version = S
 
 -- what holds for the last part of a name
 front_passes : (p : ℕ → Bool) (xs ys : List ℕ) → list_all p (xs ++ ys) ≡ true → list_all p xs ≡ true
-front_passes p [] ys h = refl
-front_passes p (x ∷ xs) ys h = let both = and_parts (p x) (list_all p (xs ++ ys)) h in and_from (p x) (list_all p xs) both.0 (front_passes p xs ys both.1)
+front_passes p xs ys h = (and_parts (list_all p xs) (list_all p ys) (sym (list_all-append p xs ys) ∙ h)).0
 
-name_passes : (last name : List ℕ) (version : Option (List ℕ)) → IsNamePart last name version → list_all (is_not 47) last ≡ true → list_all (is_not 47) name ≡ true
+pub name_passes : (last name : List ℕ) (version : Option (List ℕ)) → IsNamePart last name version → list_all (is_not 47) last ≡ true → list_all (is_not 47) name ≡ true
 name_passes last name None h k = rw h.0 at k
 name_passes last name (Some v) h k = front_passes (is_not 47) name (64 ∷ v) (rw h.0 at k)
 
@@ -34,8 +33,11 @@ pub record IsBareName (name : List ℕ) : Type 0 where
   pub no_at : (first == 64) ≡ false
   pub no_slash : (first == 47) ≡ false
 
-not_slash : (x : ℕ) → is_not 47 x ≡ true → (x == 47) ≡ false
+pub not_slash : (x : ℕ) → is_not 47 x ≡ true → (x == 47) ≡ false
 not_slash x h = grind (arith, nat_tests)
+
+pub at_no_slash : (x : ℕ) → (x == 64) ≡ true → (x == 47) ≡ false
+at_no_slash x h = grind (arith, nat_tests)
 
 plain : (body last tail name : List ℕ) (version : Option (List ℕ)) → starts_with_at body ≡ false → body ≡ last ++ tail → 0 < length last → list_all (is_not 47) last ≡ true → IsNamePart last name version → IsBareName name
 plain body last tail [] None other is some pass h = absurd (omega (arith, some, ap length h.0))
@@ -60,7 +62,7 @@ some_last name version = omega (arith, length-append name (64 ∷ version))
 
 module _ (version : List ℕ) (no_at : list_all (is_not 64) version ≡ true) (no_slash : list_all (is_not 47) version ≡ true) where
   last_passes : (name : List ℕ) → list_all (is_not 47) name ≡ true → list_all (is_not 47) (name ++ (64 ∷ version)) ≡ true
-  last_passes name h = list_all-append (is_not 47) name (64 ∷ version) h no_slash
+  last_passes name h = list_all-append (is_not 47) name (64 ∷ version) ∙ and_from _ _ h no_slash
 
   -- text that continues after its scope with the last part of a name and the version
   cut_of : (text : List ℕ) (scope : Option (List ℕ)) (name : List ℕ) → IsAfterScope scope (without_slash text) (name ++ (64 ∷ version)) → list_all (is_not 47) name ≡ true → IsPackageText text (parts_with scope name version)
@@ -89,9 +91,6 @@ module _ (version : List ℕ) (no_at : list_all (is_not 64) version ≡ true) (n
       let whole : ((x ∷ more) ++ (47 ∷ name)) ++ (64 ∷ version) ≡ (x ∷ more) ++ (47 ∷ (name ++ (64 ∷ version))) = append_assoc (x ∷ more) (47 ∷ name) (64 ∷ version) in
       let same = stored_slash x ((more ++ (47 ∷ name)) ++ (64 ∷ version)) (at_no_slash x h.at) in
       cut_of (((x ∷ more) ++ (47 ∷ name)) ++ (64 ∷ version)) (Some (x ∷ more)) name (h, same ∙ whole) passes
-    where
-      at_no_slash : (y : ℕ) → (y == 64) ≡ true → (y == 47) ≡ false
-      at_no_slash y k = grind (arith, nat_tests)
 
   -- the parts of that text
   pub record IsCutAgain (name : List ℕ) : Type 0 where

@@ -29,6 +29,7 @@ use Rattle.deno_semver.specs.RequirementText.{normal_req_text}
 use Rattle.deno_semver.specs.Stored.{IsReadFor, IsStableReq, IsStoredReq, StoredRequirementsAreReadAgain}
 use Rattle.deno_semver.specs.declared.package.values.PackageReq.{PackageReq}
 use Rattle.deno_semver.proofs.StoredNames.{IsReadName, cut_again}
+use Rattle.deno_semver.proofs.PackageFaults.{req_of}
 
 -- ---- the text of the version is UTF-8
 
@@ -94,9 +95,6 @@ as_inner ranges = inner.RangeSet (record { 0 = ranges })
 abbrev again_of : RangeSetOrTag → RangeSetOrTag
 again_of (inner.RangeSet set) = as_inner (retained Normal (shortest_tree set.0))
 again_of (inner.Tag t) = inner.Tag t
-
-abbrev req_of : List ℕ → RangeSetOrTag → Requirement
-req_of text answer = record { raw_text = text; inner = answer }
 
 abbrev package_of : List ℕ → RangeSetOrTag → PackageReq
 package_of name answer = record { name = name; version_req = req_of (inner_text answer) (again_of answer) }

@@ -5,10 +5,9 @@ use Rattle.std.proofs.lemmas.Cmp.{back_total, lists_total, nat_list_cmp_total, t
 use Rattle.std.specs.Cmp.{Equal-is, IsPartialOrder, IsTotalOrder, both_ways, nat_cmp_total, on_total, po, then_total}
 use Rattle.std.specs.Cmp.Lexicographic.{options_total, pointwise, slice_cmp, texts_ties}
 use Rattle.std.specs.FinMap.{nat_cmp-IsAntisymmetric, slice_cmp-IsAntisymmetric}
-use Rattle.std.specs.Ordering.{eq_by_cmp, is_eq, nat_cmp, ordering_then}
-use Rattle.std.specs.declared.cmp.Ordering.{Ordering}
-use Rattle.std.specs.declared.cmp.Ordering.TheVariants.{Less, Equal, Greater}
-use Rattle.semver_base.specs.PrecedenceLaws.{SamePrecedence, precedence-anti, precedence_total}
+use Rattle.std.specs.Ordering.{eq_by_cmp, is_eq, nat_cmp}
+use Rattle.std.specs.declared.cmp.Ordering.TheVariants.{Equal}
+use Rattle.semver_base.specs.PrecedenceLaws.{SamePrecedence, precedence-anti, precedence_total, then_first, then_second, then_ties, version_of}
 use Rattle.semver_base.specs.declared.range.RangeBound.{RangeBound}
 use Rattle.semver_base.specs.declared.range.RangeBound.TheVariants as bound
 use Rattle.semver_base.specs.declared.range.VersionBound.{VersionBound}
@@ -16,6 +15,7 @@ use Rattle.semver_base.specs.declared.range.VersionBoundKind.{VersionBoundKind}
 use Rattle.semver_base.specs.declared.range.VersionBoundKind.TheVariants as kind
 use Rattle.semver_base.specs.declared.range.VersionRange.{VersionRange}
 use Rattle.semver_base.specs.declared.version.Version.{Version}
+use Rattle.semver_base.specs.Sameness.{bound_of, range_of}
 use Rattle.semver_req.specs.Requirement.{tag_of}
 use Rattle.semver_req.specs.declared.range_set_or_tag.RangeSetOrTag.{RangeSetOrTag}
 use Rattle.semver_req.specs.declared.range_set_or_tag.RangeSetOrTag.TheVariants as inner
@@ -63,34 +63,17 @@ req_total =
 
 -- ---- what ties is the same
 
-then_first : (r s : Ordering) → ordering_then r s ≡ Equal → r ≡ Equal
-then_first Less s e = cc e
-then_first Equal s e = refl
-then_first Greater s e = cc e
-
-then_second : (r s : Ordering) → ordering_then r s ≡ Equal → s ≡ Equal
-then_second Less s e = cc e
-then_second Equal s e = e
-then_second Greater s e = cc e
-
 kind_same : (a b : VersionBoundKind) → nat_cmp (kind_place a) (kind_place b) ≡ Equal → a ≡ b
 kind_same kind.Inclusive kind.Inclusive e = refl
 kind_same kind.Inclusive kind.Exclusive e = cc e
 kind_same kind.Exclusive kind.Inclusive e = cc e
 kind_same kind.Exclusive kind.Exclusive e = refl
 
-abbrev version_of : ℕ → ℕ → ℕ → List (List ℕ) → List (List ℕ) → Version
-version_of major minor patch pre build =
-    record { major = major; minor = minor; patch = patch; pre = pre; build = build }
-
 version_same : (x y : Version) → SamePrecedence x y → x.build ≡ y.build → x ≡ y
 version_same x y h b =
     let same : version_of x.major x.minor x.patch x.pre x.build
     ≡ version_of y.major y.minor y.patch y.pre y.build = rw (h.major, h.minor, h.patch, h.pre, b) refl in
     same
-
-abbrev bound_of : VersionBoundKind → Version → VersionBound
-bound_of k v = record { kind = k; version = v }
 
 bound_same : (x y : VersionBound) → SamePrecedence x.version y.version → x.kind ≡ y.kind
     → x.version.build ≡ y.version.build → x ≡ y
@@ -118,9 +101,6 @@ end_same (bound.Version x) (bound.Version y) e b =
 end_same (bound.Version x) bound.Unbounded e b = cc e
 end_same bound.Unbounded (bound.Version y) e b = cc e
 end_same bound.Unbounded bound.Unbounded e b = refl
-
-abbrev range_of : RangeBound → RangeBound → VersionRange
-range_of s e = record { start = s; end = e }
 
 range_same : (x y : VersionRange) → range_cmp x y ≡ Equal → builds_cmp x y ≡ Equal → x ≡ y
 range_same x y e b =
@@ -161,12 +141,6 @@ pub same_req : (x y : PackageReq) → AreEqualReqs x y → req_cmp x y ≡ Equal
 same_req x y h = rw (h.0, h.1) (tied_itself req_total y)
 
 -- ---- it ties exactly if `==` holds
-
--- `&&` of two tests, each of which says whether a comparison ties
-then_ties : (a b : Bool) (r s : Ordering) → a ≡ is_eq r → b ≡ is_eq s → (a && b) ≡ is_eq (ordering_then r s)
-then_ties a b Less s e f = rw e refl
-then_ties a b Equal s e f = rw (e, f) refl
-then_ties a b Greater s e f = rw e refl
 
 inner_ties : (x y : RangeSetOrTag) → inner_eq x y ≡ is_eq (inner_cmp x y)
 inner_ties x y = both_ways (inner_eq x y) (is_eq (inner_cmp x y))

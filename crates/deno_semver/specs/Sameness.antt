@@ -46,10 +46,10 @@ dependency_eq x y = kind_eq x.kind y.kind && req_eq x.req y.req
 pub dependency_reported : (x y : JsrDepPackageReq) → Decides (dependency_eq x y) (AreEqualDependencies x y)
 dependency_reported x y = both_reported (kind_eq x.kind y.kind) (req_eq x.req y.req) (kind_reported x.kind y.kind) (req_reported x.req y.req)
 
-abbrev nv_of : List ℕ → Version → PackageNv
+abbrev pub nv_of : List ℕ → Version → PackageNv
 nv_of n v = record { name = n; version = v }
 
-same_nv : {n m : List ℕ} {v w : Version} → n ≡ m → v ≡ w → nv_of n v ≡ nv_of m w
+pub same_nv : {n m : List ℕ} {v w : Version} → n ≡ m → v ≡ w → nv_of n v ≡ nv_of m w
 same_nv e f = rw (e, f) refl
 
 abbrev nv_eq : PackageNv → PackageNv → Bool
@@ -59,10 +59,10 @@ pub nv_reported : (x y : PackageNv) → Decides (nv_eq x y) (x ≡ y)
 nv_reported x y = reported_as (nv_eq x y) (λ h. same_nv h.0 h.1) (λ e. (ap (λ (nv : PackageNv). nv.name) e, ap (λ (nv : PackageNv). nv.version) e))
     (both_reported (text_eq x.name y.name) (version_eq x.version y.version) (text_reported x.name y.name) (version_reported x.version y.version))
 
-abbrev reference_of : PackageNv → Option (List ℕ) → PackageNvReference
+abbrev pub reference_of : PackageNv → Option (List ℕ) → PackageNvReference
 reference_of nv path = record { nv = nv; sub_path = path }
 
-same_reference : {n m : PackageNv} {p q : Option (List ℕ)} → n ≡ m → p ≡ q → reference_of n p ≡ reference_of m q
+pub same_reference : {n m : PackageNv} {p q : Option (List ℕ)} → n ≡ m → p ≡ q → reference_of n p ≡ reference_of m q
 same_reference e f = rw (e, f) refl
 
 abbrev nv_reference_eq : PackageNvReference → PackageNvReference → Bool

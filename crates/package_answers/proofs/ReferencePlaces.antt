@@ -3,6 +3,9 @@ use Rattle.std.proofs.Common.{◌≡◌, ◌≢◌, ◌∙◌, ◌+◌, ◌-◌,
 use Rattle.std.specs.Prelude.{◌⊎◌, bytes_eq, codes, if◌then◌else◌}
 use Rattle.std.specs.List.{list_all}
 use Rattle.std.specs.Option.{unwrap_or}
+use Rattle.std.proofs.lemmas.List.{append_cancel_left}
+use Rattle.std.proofs.lemmas.Bool.{and_parts}
+use Rattle.std.proofs.lemmas.List.Folds.{list_all-append}
 use Rattle.semver_req.specs.Parsers.{Failure}
 use Rattle.semver_req.specs.declared.common.values.Flavour.TheVariants.{Specifier}
 use Rattle.deno_semver.specs.Cuts.{is_not}
@@ -18,8 +21,6 @@ use Rattle.deno_semver.specs.declared.package.reference.PackageReqReference.{Pac
 use Rattle.deno_semver.specs.declared.package.errors.PackageReqReferenceInvalidParseError.{PackageReqReferenceInvalidParseError}
 use Rattle.deno_semver.specs.declared.package.errors.PackageReqReferenceInvalidWithVersionParseError.{PackageReqReferenceInvalidWithVersionParseError}
 use Rattle.deno_semver.specs.declared.package.errors.PackageReqReferenceParseError.{PackageReqReferenceParseError}
-use Rattle.deno_semver.proofs.PackageText.{holds_at}
-use Rattle.deno_semver.proofs.References.{cancel}
 use Rattle.package_answers.specs.Errors.{IsFaultAt, IsPartError}
 use Rattle.package_answers.specs.Packages.{AreOfRange}
 use Rattle.package_answers.specs.References.{AreBehindScheme, AreReferenceErrors, IsReferenceFaultAt, IsRegistryOf, bad_version, behind_scheme, other_fault, reference_failure, valid}
@@ -70,7 +71,7 @@ module _ {kind : PackageKind} {text : List ℕ} where
   no_version (version_in_path {body} {before} {version} text_is h has) none =
       let path : Ends body (before ++ (64 ∷ version)) = subst (Ends body) (path_of h.cut.path (before ++ (64 ∷ version)) (sym h.sub_path ∙ has.path)) (path_last h.cut h.is_cut) in
       let whole = ends_more (scheme_of kind, text_is) (ends_more path (before, refl)) in
-      holds_at whole.0 version (rw whole.1 at none)
+      cc (and_parts (list_all (is_not 64) whole.0) _ (sym (list_all-append (is_not 64) whole.0 (64 ∷ version)) ∙ rw whole.1 at none)).1
 
   scheme_first : {fault : Fault} → IsReferenceOutcome kind text (Err (BadText fault)) → (body : List ℕ) × (text ≡ scheme_of kind ++ body)
   scheme_first (bad_text {body} text_is h of) = (body, text_is)
@@ -150,4 +151,4 @@ module _ (kind : PackageKind) (text : List ℕ) (body : List ℕ) (body_is : (b 
 -- the text behind the scheme, if that is first
 pub body_is : (kind : PackageKind) (text : List ℕ) (r : Option (Bor (List ℕ))) (other : Bor (List ℕ)) → IsAfterScheme kind text r → (b : List ℕ) → text ≡ scheme_of kind ++ b → (unwrap_or r other).now ≡ b
 body_is kind text None other h b is = absurd (h b is)
-body_is kind text (Some body) other h b is = cancel (scheme_of kind) body.now b (sym h ∙ is)
+body_is kind text (Some body) other h b is = append_cancel_left (scheme_of kind) body.now b (sym h ∙ is)

@@ -143,7 +143,7 @@ list_all-append p (x ∷ xs) ys h k =
     let both = and_parts (p x) (list_all p xs) h in
     and_from (p x) (list_all p (xs ++ ys)) both.0 (list_all-append p xs ys both.1 k)
 
-list_all_there : (p : ℕ → Bool) (a more : List ℕ) (x : ℕ) → list_all p (a ++ (x ∷ more)) ≡ true → p x ≡ true
+pub list_all_there : (p : ℕ → Bool) (a more : List ℕ) (x : ℕ) → list_all p (a ++ (x ∷ more)) ≡ true → p x ≡ true
 list_all_there p [] more x h = (and_parts (p x) (list_all p more) h).0
 list_all_there p (y ∷ a) more x h = list_all_there p a more x (and_parts (p y) (list_all p (a ++ (x ∷ more))) h).1
 

@@ -1,6 +1,6 @@
 -- What a clamped range matches, pre-releases included.
 use Rattle.std.proofs.Common.{◌≡◌, ◌&&◌, ◌||◌, [], ◌∷◌, Bool, true, false, refl, sym, ap, ◌∙◌, inl, inr}
-use Rattle.std.proofs.lemmas.Bool.{cases_Bool}
+use Rattle.std.proofs.lemmas.Bool.{and_from, and_parts, cases_Bool, or_cases, or_left, or_right}
 use Rattle.std.specs.Cmp.{both_ways}
 use Rattle.std.specs.Ordering.{is_le}
 use Rattle.std.specs.declared.cmp.Ordering.{Ordering}
@@ -19,7 +19,7 @@ use Rattle.semver_base.specs.declared.range.VersionBoundKind.{VersionBoundKind}
 use Rattle.semver_base.specs.declared.range.VersionBoundKind.TheVariants as kind
 use Rattle.semver_base.specs.declared.range.VersionRange.{VersionRange}
 use Rattle.semver_base.proofs.ClampLemmas.{above_ge, below_le, clamped_bounds, end_both, passed_holds, start_both}
-use Rattle.semver_base.proofs.Orders.{and_both, and_first, and_second, and_true, le_turned, or_cases, or_false, or_first, or_second, same_where, turned}
+use Rattle.semver_base.proofs.Orders.{and_true, le_turned, or_false, same_where, turned}
 use Rattle.semver_base.proofs.Triples.{end_between, start_between}
 
 -- ---- a bound that admits a version, once dropped
@@ -41,8 +41,8 @@ tied_admits kind.Exclusive first second v h k = h
 tied_admits kind.Inclusive first second v h k = k
 
 tied_from : (k : VersionBoundKind) (first second : RangeBound) (v : Version) → has_pre_of (of_tied k first second) v ≡ true → (has_pre_of first v || has_pre_of second v) ≡ true
-tied_from kind.Exclusive first second v h = or_first _ _ h
-tied_from kind.Inclusive first second v h = or_second _ _ h
+tied_from kind.Exclusive first second v h = or_left _ _ h
+tied_from kind.Inclusive first second v h = or_right _ _ h
 
 -- if the first of two starts that include the pre-release v admits it, so does the higher
 start_retained_first : (s t : RangeBound) (v : Version) → is_release v ≡ false → start_holds t v ≡ true → has_pre_of s v ≡ true → has_pre_of (clamped_start s t) v ≡ true
@@ -105,44 +105,44 @@ stop_retained (bound.Version x) (bound.Version y) v pre above below h = go (prec
 
 start_from : (s t : RangeBound) (v : Version) → has_pre_of (clamped_start s t) v ≡ true → (has_pre_of s v || has_pre_of t v) ≡ true
 start_from bound.Unbounded t v h = h
-start_from (bound.Version x) bound.Unbounded v h = or_first _ _ h
+start_from (bound.Version x) bound.Unbounded v h = or_left _ _ h
 start_from (bound.Version x) (bound.Version y) v h = go (precedence_cmp x.version y.version) h
   where
     go : (r : Ordering) → has_pre_of (greater_of r x.kind (bound.Version x) (bound.Version y)) v ≡ true → (has_pre_of (bound.Version x) v || has_pre_of (bound.Version y) v) ≡ true
-    go Less h = or_second _ _ h
+    go Less h = or_right _ _ h
     go Equal h = tied_from x.kind (bound.Version x) (bound.Version y) v h
-    go Greater h = or_first _ _ h
+    go Greater h = or_left _ _ h
 
 end_from : (s t : RangeBound) (v : Version) → has_pre_of (clamped_end s t) v ≡ true → (has_pre_of s v || has_pre_of t v) ≡ true
 end_from bound.Unbounded t v h = h
-end_from (bound.Version x) bound.Unbounded v h = or_first _ _ h
+end_from (bound.Version x) bound.Unbounded v h = or_left _ _ h
 end_from (bound.Version x) (bound.Version y) v h = go (precedence_cmp x.version y.version) h
   where
     go : (r : Ordering) → has_pre_of (lesser_of r x.kind (bound.Version x) (bound.Version y)) v ≡ true → (has_pre_of (bound.Version x) v || has_pre_of (bound.Version y) v) ≡ true
-    go Less h = or_first _ _ h
+    go Less h = or_left _ _ h
     go Equal h = tied_from x.kind (bound.Version x) (bound.Version y) v h
-    go Greater h = or_second _ _ h
+    go Greater h = or_right _ _ h
 
 stop_from : (s e : RangeBound) (v : Version) → has_pre_of (stopped_at s e) v ≡ true → (has_pre_of s v || has_pre_of e v) ≡ true
 stop_from bound.Unbounded e v h = cc h
-stop_from (bound.Version x) bound.Unbounded v h = or_first _ _ h
+stop_from (bound.Version x) bound.Unbounded v h = or_left _ _ h
 stop_from (bound.Version x) (bound.Version y) v h = go (precedence_cmp x.version y.version) h
   where
     go : (r : Ordering) → has_pre_of (stopped_by r x y) v ≡ true → (has_pre_of (bound.Version x) v || has_pre_of (bound.Version y) v) ≡ true
-    go Less h = or_first _ _ h
+    go Less h = or_left _ _ h
     go Equal h = tied_from x.kind (bound.Version x) (bound.Version y) v h
-    go Greater h = or_second _ _ h
+    go Greater h = or_right _ _ h
 
 -- ---- ranges
 
 -- one of two starts, or one of two ends, among all four bounds
 by_starts : (a b c d : Bool) → (a || c) ≡ true → ((a || b) || ((c || d) || false)) ≡ true
 by_starts true b c d h = refl
-by_starts false b c d h = or_second b _ (or_first _ _ (or_first c d h))
+by_starts false b c d h = or_right b _ (or_left _ _ (or_left c d h))
 
 by_ends : (a b c d : Bool) → (b || d) ≡ true → ((a || b) || ((c || d) || false)) ≡ true
-by_ends a true c d h = or_first _ _ (or_second a true refl)
-by_ends a false c d h = or_second _ _ (or_first _ _ (or_second c d h))
+by_ends a true c d h = or_left _ _ (or_right a true refl)
+by_ends a false c d h = or_right _ _ (or_left _ _ (or_right c d h))
 
 admits_from : (a b : VersionRange) (v : Version) → admits_pre (clamped a b) v ≡ true → (admits_pre a v || (admits_pre b v || false)) ≡ true
 admits_from a b v h = elim (or_cases _ _ h) [
@@ -157,23 +157,23 @@ admits_retained : (a b : VersionRange) (v : Version) → is_release v ≡ false 
     → (admits_pre a v || (admits_pre b v || false)) ≡ true → admits_pre (clamped a b) v ≡ true
 admits_retained a b v pre ha hb h = elim (or_cases _ _ h) [
   | inl first ↦ elim (or_cases _ _ first) [
-    | inl start ↦ starts (start_retained_first a.start b.start v pre (and_first _ _ hb) start)
-    | inr end ↦ ends (end_retained_first a.end b.end v (and_second _ _ hb) end)
+    | inl start ↦ starts (start_retained_first a.start b.start v pre ((and_parts _ _ hb).0) start)
+    | inr end ↦ ends (end_retained_first a.end b.end v ((and_parts _ _ hb).1) end)
   ]
   | inr second ↦ elim (or_cases _ _ (sym (or_false (admits_pre b v)) ∙ second)) [
-    | inl start ↦ starts (start_retained_second a.start b.start v pre (and_first _ _ ha) start)
-    | inr end ↦ ends (end_retained_second a.end b.end v (and_second _ _ ha) end)
+    | inl start ↦ starts (start_retained_second a.start b.start v pre ((and_parts _ _ ha).0) start)
+    | inr end ↦ ends (end_retained_second a.end b.end v ((and_parts _ _ ha).1) end)
   ]
 ]
   where
     starts : has_pre_of (clamped_start a.start b.start) v ≡ true → admits_pre (clamped a b) v ≡ true
     starts k =
-        let above : (start_holds a.start v && start_holds b.start v) ≡ true = and_both _ _ (and_first _ (end_holds a.end v) ha) (and_first _ (end_holds b.end v) hb) in
-        let below : (end_holds a.end v && end_holds b.end v) ≡ true = and_both _ _ (and_second (start_holds a.start v) _ ha) (and_second (start_holds b.start v) _ hb) in
-        or_first _ _ (stop_retained (clamped_start a.start b.start) (clamped_end a.end b.end) v pre (start_both a.start b.start v ∙ above) (end_both a.end b.end v ∙ below) k)
+        let above : (start_holds a.start v && start_holds b.start v) ≡ true = and_from _ _ ((and_parts _ (end_holds a.end v) ha).0) ((and_parts _ (end_holds b.end v) hb).0) in
+        let below : (end_holds a.end v && end_holds b.end v) ≡ true = and_from _ _ ((and_parts (start_holds a.start v) _ ha).1) ((and_parts (start_holds b.start v) _ hb).1) in
+        or_left _ _ (stop_retained (clamped_start a.start b.start) (clamped_end a.end b.end) v pre (start_both a.start b.start v ∙ above) (end_both a.end b.end v ∙ below) k)
 
     ends : has_pre_of (clamped_end a.end b.end) v ≡ true → admits_pre (clamped a b) v ≡ true
-    ends k = or_second _ _ k
+    ends k = or_right _ _ k
 
 -- a clamped range matches what the two match as comparators of one alternative
 pub clamped_means : (a b : VersionRange) → MeansBoth a b (clamped a b)
@@ -187,7 +187,7 @@ clamped_means a b flag v = same_where _ _ _ _ held (admitted flag)
     admitted Admitted both = refl
     admitted Restricted both = elim (cases_Bool (is_release v)) [
       | inl release ↦ rw release refl
-      | inr pre ↦ rw pre (or_false (admits_pre (clamped a b) v) ∙ both_ways _ _ (admits_from a b v) (admits_retained a b v pre (and_first _ _ both) (and_first _ _ (and_second _ _ both))))
+      | inr pre ↦ rw pre (or_false (admits_pre (clamped a b) v) ∙ both_ways _ _ (admits_from a b v) (admits_retained a b v pre ((and_parts _ _ both).0) ((and_parts _ _ ((and_parts _ _ both).1)).0)))
     ]
 
 alone : (range : VersionRange) (v : Version) → is_release v ≡ true → alternative_means (range ∷ []) v ≡ bounds_hold range v

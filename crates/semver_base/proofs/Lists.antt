@@ -4,13 +4,9 @@ use Rattle.std.specs.List.{list_all, prefix_len}
 use Rattle.std.proofs.lemmas.Bool.{and_parts, both_ways, cases_Bool}
 use Rattle.semver_base.specs.Grammar.{IsLongest, HasNone, Followed, Listed, last_item, closed_item, more_items, Mapped, Optional, Run, Stops}
 use Rattle.semver_base.proofs.Fronts.{Apart, NonEmpty, fronts, same, shorter, longer, followed, joined_none_first, mapped_none, narrowed_none, renamed, optional_none, optional_some}
-use Rattle.semver_base.proofs.Bytes.{BeginsBy, GoesBy, Disjoint, apart_by, optional_begins, joined_begins, joined_some_text}
+use Rattle.semver_base.proofs.Bytes.{BeginsBy, GoesBy, Disjoint, apart_by, optional_begins, joined_begins, joined_some_text, list_all_there}
 
 -- ---- runs
-
-passes_there : (p : ℕ → Bool) (a more : List ℕ) (x : ℕ) → list_all p (a ++ (x ∷ more)) ≡ true → p x ≡ true
-passes_there p [] more x h = (and_parts (p x) (list_all p more) h).0
-passes_there p (y ∷ a) more x h = passes_there p a more x (and_parts (p y) (list_all p (a ++ (x ∷ more))) h).1
 
 pub stops_here : {T : Type 0} (p : ℕ → Bool) (x : ℕ) (more rest b : List ℕ) → Stops p rest → rest ≡ (x ∷ more) ++ b → p x ≡ true → T
 stops_here p x more [] b s e h = cc e
@@ -22,7 +18,7 @@ run_longest p f rest some pass stops = record { front = f; text_is = refl; stand
     go : (a b w : List ℕ) → f ++ rest ≡ a ++ b → Run p a w → (length a ≤ length f) × (length a ≡ length f → w ≡ f)
     go a b w e h = elim (fronts f a rest b e) [
       | same one two ↦ (omega (arith, ap length one), λ _. h.is ∙ sym one)
-      | shorter x m one two ↦ stops_here p x m rest b stops two (passes_there p f m x (rw one at h.pass))
+      | shorter x m one two ↦ stops_here p x m rest b stops two (list_all_there p f m x (rw one at h.pass))
       | longer x m one two ↦ let le = ap length one ∙ length-append a (x ∷ m) in (omega (arith, le), λ s. absurd (omega (arith, le)))
     ]
 
@@ -37,7 +33,7 @@ pub run_begins : (p : ℕ → Bool) → BeginsBy (Run p) p
 run_begins p = record { begins = λ x b. (and_parts (p x) (list_all p b.more) b.stands.pass).0 }
 
 pub run_goes : (p : ℕ → Bool) → GoesBy (Run p) p
-run_goes p = record { goes = λ x b. passes_there p b.front b.more x b.long.pass }
+run_goes p = record { goes = λ x b. list_all_there p b.front b.more x b.long.pass }
 
 pub run_some : (p : ℕ → Bool) → NonEmpty (Run p)
 run_some p = record { some = λ v h. let some : 0 < 0 = h.some in omega arith }

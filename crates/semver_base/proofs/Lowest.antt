@@ -1,8 +1,8 @@
 -- The lowest candidate that passes is the lowest version that passes. Take the highest of the starts below a passing version:
 -- the test passes from that version down to it, and the lowest version of its kind from there on is a candidate.
-use Rattle.std.proofs.Common.{◌≡◌, ◌&&◌, ◌||◌, Bool, true, false, not, List, [], ◌∷◌, Option, Some, None, refl, sym, subst, ap, ap₂, ◌∙◌, inl, inr}
+use Rattle.std.proofs.Common.{◌≡◌, ◌&&◌, Bool, true, false, not, List, [], ◌∷◌, Option, Some, None, refl, sym, subst, ap, ap₂, ◌∙◌, inl, inr}
 use Rattle.std.specs.Prelude.{◌⊎◌, IfSome}
-use Rattle.std.proofs.lemmas.Bool.{cases_Bool}
+use Rattle.std.proofs.lemmas.Bool.{and_from, and_parts, cases_Bool, or_cases, or_left, or_parts, or_right}
 use Rattle.std.specs.List.{fold, list_all, AllByRecursion}
 use Rattle.std.specs.Ordering.{is_le}
 use Rattle.std.specs.declared.cmp.Ordering.{Ordering}
@@ -23,7 +23,6 @@ use Rattle.semver_base.proofs.LowestAbove.{version_lowest}
 use Rattle.semver_base.proofs.LowestFrom.{retained_passes, retained_reaches, lowest_by, lesser_keeps, lesser_reaches_first, lesser_reaches_second, lower_means, means, means_admits, means_start, pre_reached, release_reached, AreAlike, GoesDown, Reaches}
 use Rattle.semver_base.proofs.LowestPres.{lowest_pre, pre_above, pre_by}
 use Rattle.semver_base.proofs.MeaningLemmas.{any_alternatives}
-use Rattle.semver_base.proofs.Orders.{and_both, and_first, and_second, or_cases, or_first, or_second}
 use Rattle.semver_base.proofs.PassedEnds.{after_gone, after_holds, not_meant, one_within, Within}
 use Rattle.semver_base.proofs.Triples as triples
 
@@ -193,8 +192,8 @@ some_range flag (x ∷ xs) v h = elim (or_cases (means flag x v) (some_means fla
 
 any_range : (flag : PreRelease) (r : VersionRange) (ranges : List VersionRange) (v : Version) → IsAmong r ranges → means flag r v ≡ true → some_means flag ranges v ≡ true
 any_range flag r [] v h meant = absurd h
-any_range flag r (x ∷ xs) v (inl e) meant = or_first (means flag x v) _ (subst (λ (y : VersionRange). means flag y v ≡ true) e meant)
-any_range flag r (x ∷ xs) v (inr h) meant = or_second (means flag x v) _ (any_range flag r xs v h meant)
+any_range flag r (x ∷ xs) v (inl e) meant = or_left (means flag x v) _ (subst (λ (y : VersionRange). means flag y v ≡ true) e meant)
+any_range flag r (x ∷ xs) v (inr h) meant = or_right (means flag x v) _ (any_range flag r xs v h meant)
 
 module _ (flag : PreRelease) (v : Version) (Q : RangeBound → Type 0) where
   -- the start includes the version, and satisfies Q
@@ -226,8 +225,8 @@ module _ (flag : PreRelease) (v : Version) (Q : RangeBound → Type 0) where
       → list_all (λ (set : VersionRangeSet). some_means flag set.0 v) sets ≡ true → (u : RangeBound) × IsStart u × Within u s × AllHaveBelow u sets
   behind_sets s h [] each all = (s, h, (λ w held. held), tt)
   behind_sets s h (set ∷ sets) each all =
-      let found = behind_sets s h sets (λ t r is among. each t r (inr is) among) (and_second (some_means flag set.0 v) _ all) in
-      let here = some_range flag set.0 v (and_first (some_means flag set.0 v) _ all) in
+      let found = behind_sets s h sets (λ t r is among. each t r (inr is) among) ((and_parts (some_means flag set.0 v) _ all).1) in
+      let here = some_range flag set.0 v ((and_parts (some_means flag set.0 v) _ all).0) in
       let best = higher found.0 here.0.start found.1 (means_start flag here.0 v here.2, each set here.0 (inl refl) here.1) in
       (best.0, best.1, (λ w held. found.2 w (best.2 w held)), ((here.0, here.1, here.2, best.3), all_below best.0 found.0 sets best.2 found.3))
 
@@ -259,17 +258,13 @@ below_means flag v Q s w ranges h held alike le = any_range flag h.0 ranges w h.
 below_all : (flag : PreRelease) (v : Version) (Q : RangeBound → Type 0) (s : RangeBound) (w : Version) (sets : List VersionRangeSet) → AllHaveBelow flag v Q s sets → start_holds s w ≡ true → AreAlike flag w v → is_le (precedence_cmp w v) ≡ true
     → list_all (λ (set : VersionRangeSet). set_means_with flag set.0 w) sets ≡ true
 below_all flag v Q s w [] h held alike le = refl
-below_all flag v Q s w (set ∷ sets) h held alike le = and_both _ _ (sym (any_alternatives flag set.0 w) ∙ below_means flag v Q s w set.0 h.0 held alike le) (below_all flag v Q s w sets h.1 held alike le)
+below_all flag v Q s w (set ∷ sets) h held alike le = and_from _ _ (sym (any_alternatives flag set.0 w) ∙ below_means flag v Q s w set.0 h.0 held alike le) (below_all flag v Q s w sets h.1 held alike le)
 
 none_meant : (flag : PreRelease) (v : Version) (Q : RangeBound → Type 0) (s : RangeBound) (w : Version) (ranges : List VersionRange) → start_holds s w ≡ true → AreAlike flag w v → is_le (precedence_cmp w v) ≡ true → AllLetGo flag v Q s ranges
     → some_means flag ranges v ≡ false → some_means flag ranges w ≡ false
 none_meant flag v Q s w [] held alike le h none = refl
 none_meant flag v Q s w (b ∷ bs) held alike le h none =
-    rw (not_meant flag b w v alike le (λ past. h.0 past w held) (or_none (means flag b v) _ none).0) (none_meant flag v Q s w bs held alike le h.1 (or_none (means flag b v) _ none).1)
-  where
-    or_none : (x y : Bool) → (x || y) ≡ false → (x ≡ false) × (y ≡ false)
-    or_none true y e = cc e
-    or_none false y e = (refl, e)
+    rw (not_meant flag b w v alike le (λ past. h.0 past w held) (or_parts (means flag b v) _ none).0) (none_meant flag v Q s w bs held alike le h.1 (or_parts (means flag b v) _ none).1)
 
 all_same : (flag : PreRelease) (sets : List VersionRangeSet) (v : Version) → list_all (λ (set : VersionRangeSet). some_means flag set.0 v) sets ≡ list_all (λ (set : VersionRangeSet). set_means_with flag set.0 v) sets
 all_same flag [] v = refl
@@ -283,15 +278,15 @@ module _ (flag : PreRelease) (own : List VersionRange) (others : List VersionRan
 
   reached : (v : Version) → IsReadable v → test v ≡ true → Reaches (lowest_of flag own others without) v
   reached v readable pass =
-      let matched = and_first (some_means flag own v && list_all (λ (set : VersionRangeSet). set_means_with flag set.0 v) others) _ pass in
-      let none = triples.not_true (some_means flag without v) (and_second (some_means flag own v && list_all (λ (set : VersionRangeSet). set_means_with flag set.0 v) others) _ pass) in
-      let first = some_range flag own v (and_first (some_means flag own v) _ matched) in
-      let sets = behind_sets flag v Q first.0.start (means_start flag first.0 v first.2, q_own first.0 first.1) others q_others (all_same flag others v ∙ and_second (some_means flag own v) _ matched) in
+      let matched = (and_parts (some_means flag own v && list_all (λ (set : VersionRangeSet). set_means_with flag set.0 v) others) _ pass).0 in
+      let none = triples.not_true (some_means flag without v) ((and_parts (some_means flag own v && list_all (λ (set : VersionRangeSet). set_means_with flag set.0 v) others) _ pass).1) in
+      let first = some_range flag own v ((and_parts (some_means flag own v) _ matched).0) in
+      let sets = behind_sets flag v Q first.0.start (means_start flag first.0 v first.2, q_own first.0 first.1) others q_others (all_same flag others v ∙ (and_parts (some_means flag own v) _ matched).1) in
       let ends = behind_ends flag v Q sets.0 sets.1 without q_ends in
       let down : GoesDown flag test ends.0 v = λ w held alike le.
       let inside = ends.2 w held in
-      and_both _ _
-      (and_both _ _ (below_means flag v Q sets.0 w own (first.0, first.1, first.2, sets.2) inside alike le) (below_all flag v Q sets.0 w others sets.3 inside alike le))
+      and_from _ _
+      (and_from _ _ (below_means flag v Q sets.0 w own (first.0, first.1, first.2, sets.2) inside alike le) (below_all flag v Q sets.0 w others sets.3 inside alike le))
       (ap not (none_meant flag v Q ends.0 w without held alike le ends.3 none)) in
       from_reached flag test ends.0 v Goal readable ends.1.0 down ends.1.1.0 ends.1.1.1 (admitted first.0 first.1 (or_cases _ _ (means_admits flag first.0 v first.2)))
     where

@@ -1,6 +1,6 @@
 -- The lowest version above a start, a release or not.
 use Rattle.std.proofs.Common.{◌≡◌, ◌==◌, ◌++◌, ℕ, true, false, List, [], ◌∷◌, length, Option, Some, None, refl, sym, ap, ◌∙◌, inl, inr, arith}
-use Rattle.std.proofs.lemmas.Bool.{cases_Bool}
+use Rattle.std.proofs.lemmas.Bool.{and_from, and_parts, cases_Bool}
 use Rattle.std.proofs.lemmas.Cmp.{tied_itself}
 use Rattle.std.specs.Ordering.{is_ge, is_gt, is_le, ordering_then}
 use Rattle.std.specs.declared.cmp.Ordering.{Ordering}
@@ -19,9 +19,10 @@ use Rattle.semver_base.specs.declared.range.VersionBoundKind.TheVariants as kind
 use Rattle.semver_base.proofs.LowestIdentifiers.{appended_next, le_then, zeros_lowest}
 use Rattle.semver_base.proofs.LowestPres as pres
 use Rattle.semver_base.proofs.LowestReleases as releases
-use Rattle.semver_base.proofs.LowestReleases.{above_under, is_release_from, next_lowest, no_pre, not_none, under_above}
-use Rattle.semver_base.proofs.NumbersOrder.{by_numbers, greater_from, numbers_le, numbers_under, Under}
-use Rattle.semver_base.proofs.Orders.{and_both, and_first, and_second, le_then_first, turned}
+use Rattle.semver_base.proofs.LowestReleases.{above_under, is_release_from, next_lowest, no_pre, under_above}
+use Rattle.semver_base.proofs.NumbersOrder.{by_numbers, numbers_le, numbers_under, Under}
+use Rattle.semver_base.proofs.Orders.{greater_from, le_then_first, turned}
+use Rattle.semver_base.proofs.OverlapLemmas.{not_none}
 
 -- ---- `0` below all of its numbers
 
@@ -84,12 +85,12 @@ own_readable : (v : Version) → IsReadable v → IsReadable (own v)
 own_readable v readable = record { numbers = record { major = readable.numbers.major; minor = readable.numbers.minor; patch = readable.numbers.patch }; pre = tt }
 
 own_held : (s v : Version) → is_release s ≡ true → start_holds (bound_at kind.Exclusive s) v ≡ true → is_release_from (bound_at kind.Exclusive s) (own v) ≡ true
-own_held s v plain held = and_both _ _ (under_above s (own v) (numbers_over s v plain held)) refl
+own_held s v plain held = and_from _ _ (under_above s (own v) (numbers_over s v plain held)) refl
 
 -- the lowest pre-release of the next release is the lowest of all
 zero_next : (s : Version) → is_release s ≡ true → (next : Option Version) → IsLowestPassing (is_release_from (bound_at kind.Exclusive s)) next → IsLowestPassing (start_holds (bound_at kind.Exclusive s)) (zero_of next)
 zero_next s plain (Some w) h = (
-  under_above s (with_pre w (zero_identifier ∷ [])) (above_under s w plain (and_second (start_holds (bound_at kind.Exclusive s) w) _ h.0) (and_first _ (is_release w) h.0)),
+  under_above s (with_pre w (zero_identifier ∷ [])) (above_under s w plain ((and_parts (start_holds (bound_at kind.Exclusive s) w) _ h.0).1) ((and_parts _ (is_release w) h.0).0)),
   λ v readable held.
       let le : is_le (precedence_cmp w (own v)) ≡ true = h.1 (own v) (own_readable v readable) (own_held s v plain held) in
       let numbers : is_le (numbers_cmp w v) ≡ true = le_then_first (numbers_cmp w v) (pre_cmp w.pre []) (rw (by_numbers w (own v)) at le) in

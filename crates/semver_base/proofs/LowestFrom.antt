@@ -3,9 +3,9 @@
 -- versions are of one kind.
 use Rattle.std.proofs.Common.{◌≡◌, ◌&&◌, ◌||◌, Bool, true, false, not, [], ◌∷◌, Option, Some, None, refl, sym, ap, ◌∙◌, inl, inr}
 use Rattle.std.specs.Prelude.{◌⊎◌, if◌then◌else◌, IfSome}
-use Rattle.std.proofs.lemmas.Bool.{cases_Bool}
+use Rattle.std.proofs.lemmas.Bool.{and_from, and_parts, cases_Bool, or_cases, or_left, or_right}
 use Rattle.std.proofs.lemmas.Cmp.{tied_itself}
-use Rattle.std.specs.Ordering.{is_le, is_lt}
+use Rattle.std.specs.Ordering.{is_le}
 use Rattle.std.specs.declared.cmp.Ordering.{Ordering}
 use Rattle.std.specs.declared.cmp.Ordering.TheVariants.{Less, Equal, Greater}
 use Rattle.semver_base.specs.LowestVersion.{IsLowestPassing, IsReadable}
@@ -23,7 +23,7 @@ use Rattle.semver_base.specs.declared.range.VersionBoundKind.TheVariants as kind
 use Rattle.semver_base.specs.declared.range.VersionRange.{VersionRange}
 use Rattle.semver_base.proofs.LowestPres.{is_pre_above, lowest_pre, pre_lowest}
 use Rattle.semver_base.proofs.LowestReleases.{is_release_from, release_lowest}
-use Rattle.semver_base.proofs.Orders.{and_both, and_first, and_second, le_le, le_less, or_cases, or_false, or_first, or_second, turned}
+use Rattle.semver_base.proofs.Orders.{le_le, le_less, less_from, or_false, turned}
 use Rattle.semver_base.proofs.Triples as triples
 use Rattle.semver_base.proofs.Triples.{SameNumbers}
 
@@ -112,13 +112,13 @@ abbrev pub means : PreRelease → VersionRange → Version → Bool
 means flag a v = alternative_means_with flag (a ∷ []) v
 
 pub means_start : (flag : PreRelease) (a : VersionRange) (v : Version) → means flag a v ≡ true → start_holds a.start v ≡ true
-means_start flag a v h = and_first _ (end_holds a.end v) (and_first (bounds_hold a v) true (and_first (bounds_hold a v && true) _ h))
+means_start flag a v h = (and_parts _ (end_holds a.end v) ((and_parts (bounds_hold a v) true ((and_parts (bounds_hold a v && true) _ h).0)).0)).0
 
 pub means_end : (flag : PreRelease) (a : VersionRange) (v : Version) → means flag a v ≡ true → end_holds a.end v ≡ true
-means_end flag a v h = and_second (start_holds a.start v) _ (and_first (bounds_hold a v) true (and_first (bounds_hold a v && true) _ h))
+means_end flag a v h = (and_parts (start_holds a.start v) _ ((and_parts (bounds_hold a v) true ((and_parts (bounds_hold a v && true) _ h).0)).0)).1
 
 pub means_admits : (flag : PreRelease) (a : VersionRange) (v : Version) → means flag a v ≡ true → (is_unrestricted flag v || admits_pre a v) ≡ true
-means_admits flag a v h = rw (or_false (admits_pre a v)) at (and_second (bounds_hold a v && true) _ h)
+means_admits flag a v h = rw (or_false (admits_pre a v)) at ((and_parts (bounds_hold a v && true) _ h).1)
 
 pub means_from : (flag : PreRelease) (a : VersionRange) (v : Version) → start_holds a.start v ≡ true → end_holds a.end v ≡ true → (is_unrestricted flag v || admits_pre a v) ≡ true → means flag a v ≡ true
 means_from flag a v start end admitted = rw (start, end, or_false (admits_pre a v)) admitted
@@ -128,14 +128,9 @@ end_lower : (end : RangeBound) (w v : Version) → is_le (precedence_cmp w v) �
 end_lower bound.Unbounded w v le h = refl
 end_lower (bound.Version x) w v le h = go x.kind h
   where
-    less : (r : Ordering) → is_lt r ≡ true → r ≡ Less
-    less Less e = refl
-    less Equal e = cc e
-    less Greater e = cc e
-
     go : (k : VersionBoundKind) → is_below k (precedence_cmp v x.version) ≡ true → is_below k (precedence_cmp w x.version) ≡ true
     go kind.Inclusive h = le_le precedence_total w v x.version le h
-    go kind.Exclusive h = rw (le_less precedence_total w v x.version le (less _ h)) refl
+    go kind.Exclusive h = rw (le_less precedence_total w v x.version le (less_from _ h)) refl
 
 -- ---- versions of one kind
 
@@ -152,10 +147,10 @@ same_admits (bound.Version x) w v same h = triples.pre_from x.version w (triples
 -- a range that admits a version admits those of its kind
 pub alike_admitted : (flag : PreRelease) (a : VersionRange) (w v : Version) → AreAlike flag w v → (is_unrestricted flag v || admits_pre a v) ≡ true → (is_unrestricted flag w || admits_pre a w) ≡ true
 alike_admitted Admitted a w v alike h = refl
-alike_admitted Restricted a w v (inl plain) h = or_first _ (admits_pre a w) plain.0
-alike_admitted Restricted a w v (inr pre) h = or_second (is_release w) _ (elim (or_cases _ _ (rw pre.1 at h)) [
-  | inl start ↦ or_first _ _ (same_admits a.start w v pre.2 start)
-  | inr end ↦ or_second (has_pre_of a.start w) _ (same_admits a.end w v pre.2 end)
+alike_admitted Restricted a w v (inl plain) h = or_left _ (admits_pre a w) plain.0
+alike_admitted Restricted a w v (inr pre) h = or_right (is_release w) _ (elim (or_cases _ _ (rw pre.1 at h)) [
+  | inl start ↦ or_left _ _ (same_admits a.start w v pre.2 start)
+  | inr end ↦ or_right (has_pre_of a.start w) _ (same_admits a.end w v pre.2 end)
 ])
 
 -- a range matches a version that its start includes if it matches one of the same kind that isn't below it
@@ -187,16 +182,16 @@ both_numbers (bound.Version x) w v h k = triples.same_on v x.version w (triples.
 -- a pre-release of the bound's numbers is reached
 pub pre_reached : (test : Version → Bool) (start x : RangeBound) (v : Version) → IsReadable v → start_holds start v ≡ true → is_release v ≡ false → has_pre_of x v ≡ true → GoesDown Restricted test start v
     → Reaches (filtered test (lowest_pre start x)) v
-pre_reached test start x v readable held pre admitted down = retained_reaches (is_pre_above start x) test (lowest_pre start x) v (pre_lowest start x) readable (and_both _ _ held (rw (pre, admitted) refl)) low
+pre_reached test start x v readable held pre admitted down = retained_reaches (is_pre_above start x) test (lowest_pre start x) v (pre_lowest start x) readable (and_from _ _ held (rw (pre, admitted) refl)) low
   where
     low : (w : Version) → is_pre_above start x w ≡ true → is_le (precedence_cmp w v) ≡ true → test w ≡ true
     low w own le =
-        let rest = and_second (start_holds start w) _ own in
-        let some = triples.not_true (is_release w) (and_first _ (has_pre_of x w) rest) in
-        let of_bound = and_second (not (is_release w)) _ rest in
-        down w (and_first _ (not (is_release w) && has_pre_of x w) own) (inr (some, pre, both_numbers x w v of_bound admitted)) le
+        let rest = (and_parts (start_holds start w) _ own).1 in
+        let some = triples.not_true (is_release w) ((and_parts _ (has_pre_of x w) rest).0) in
+        let of_bound = (and_parts (not (is_release w)) _ rest).1 in
+        down w ((and_parts _ (not (is_release w) && has_pre_of x w) own).0) (inr (some, pre, both_numbers x w v of_bound admitted)) le
 
 pub release_reached : (test : Version → Bool) (start : RangeBound) (v : Version) → IsReadable v → start_holds start v ≡ true → is_release v ≡ true → GoesDown Restricted test start v
     → Reaches (filtered test (lowest_release start)) v
-release_reached test start v readable held plain down = retained_reaches (is_release_from start) test (lowest_release start) v (release_lowest start) readable (and_both _ _ held plain)
-    (λ w own le. down w (and_first _ (is_release w) own) (inl (and_second (start_holds start w) _ own, plain)) le)
+release_reached test start v readable held plain down = retained_reaches (is_release_from start) test (lowest_release start) v (release_lowest start) readable (and_from _ _ held plain)
+    (λ w own le. down w ((and_parts _ (is_release w) own).0) (inl ((and_parts (start_holds start w) _ own).1, plain)) le)

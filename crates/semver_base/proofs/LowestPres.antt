@@ -1,7 +1,7 @@
 -- The lowest pre-release of three numbers above a start.
 use Rattle.std.proofs.Common.{◌≡◌, ◌&&◌, ◌==◌, ◌++◌, ℕ, Bool, true, false, not, List, [], ◌∷◌, length, Option, Some, None, refl, sym, ap, ◌∙◌, inl, inr}
 use Rattle.std.specs.Prelude.{if◌then◌else◌}
-use Rattle.std.proofs.lemmas.Bool.{cases_Bool}
+use Rattle.std.proofs.lemmas.Bool.{and_from, and_parts, cases_Bool}
 use Rattle.std.proofs.lemmas.Cmp.{nat_cmp_total, on_total, then_total, tied_itself}
 use Rattle.std.specs.FinMap.{nat_cmp-IsAntisymmetric}
 use Rattle.std.specs.Cmp.{IsTotalOrder}
@@ -13,7 +13,7 @@ use Rattle.semver_base.specs.LowestVersion.{IsLowestPassing}
 use Rattle.semver_base.specs.Candidates.{pre_from, with_pre, zero_identifier}
 use Rattle.semver_base.specs.Meaning.{bound_at, has_pre_of, is_release, start_holds}
 use Rattle.semver_base.specs.Precedence.{identifier_cmp, numbers_cmp, precedence_cmp, pre_cmp}
-use Rattle.semver_base.specs.PrecedenceLaws.{precedence_total}
+use Rattle.semver_base.specs.PrecedenceLaws.{precedence_total, then_first, then_second}
 use Rattle.semver_base.specs.VersionText.{AreIdentifiers}
 use Rattle.semver_base.specs.declared.version.Version.{Version}
 use Rattle.semver_base.specs.declared.range.RangeBound.{RangeBound}
@@ -23,11 +23,11 @@ use Rattle.semver_base.specs.declared.range.VersionBoundKind.{VersionBoundKind}
 use Rattle.semver_base.specs.declared.range.VersionBoundKind.TheVariants as kind
 use Rattle.semver_base.proofs.ClampLemmas.{above_from, above_ge}
 use Rattle.semver_base.proofs.LowestIdentifiers.{appended_above, appended_next, zeros_lowest}
-use Rattle.semver_base.proofs.LowestReleases.{not_none}
-use Rattle.semver_base.proofs.NumbersOrder.{by_numbers, greater_from, numbers_tied}
-use Rattle.semver_base.proofs.Orders.{and_both, and_false, and_first, and_second, le_turned, turned}
+use Rattle.semver_base.proofs.NumbersOrder.{by_numbers, numbers_tied}
+use Rattle.semver_base.proofs.Orders.{and_false, greater_from, le_turned, turned}
 use Rattle.semver_base.proofs.Triples as triples
 use Rattle.semver_base.proofs.Triples.{SameNumbers}
+use Rattle.semver_base.proofs.OverlapLemmas.{not_none}
 
 -- of the numbers of v, if those of the start compare so to them
 abbrev pub pre_by : Ordering → VersionBound → Version → Option Version
@@ -56,16 +56,6 @@ numbers_total = then_total (on_total (λ (v : Version). v.major) nat_cmp_total) 
 pub same_right : (x t v : Version) → SameNumbers t v → numbers_cmp x t ≡ numbers_cmp x v
 same_right x t v same = rw (same.major, same.minor, same.patch) refl
 
-then_first : (r s : Ordering) → ordering_then r s ≡ Equal → r ≡ Equal
-then_first Less s e = cc e
-then_first Equal s e = refl
-then_first Greater s e = cc e
-
-then_second : (r s : Ordering) → ordering_then r s ≡ Equal → s ≡ Equal
-then_second Less s e = cc e
-then_second Equal s e = e
-then_second Greater s e = cc e
-
 tied_numbers : (x y : Version) → numbers_cmp x y ≡ Equal → SameNumbers x y
 tied_numbers x y e =
     let rest = then_second (nat_cmp x.major y.major) _ e in
@@ -91,17 +81,17 @@ record IsPreAbove (start : RangeBound) (t v : Version) : Type 0 where
 
 pre_above_is : (start : RangeBound) (k : VersionBoundKind) (t v : Version) → is_pre_above start (bound_at k t) v ≡ true → IsPreAbove start t v
 pre_above_is start k t v h =
-    let rest = and_second (start_holds start v) _ h in
+    let rest = (and_parts (start_holds start v) _ h).1 in
     record {
-      held = and_first _ (not (is_release v) && has_pre_of (bound_at k t) v) h;
-      some = triples.not_true (is_release v) (and_first _ (has_pre_of (bound_at k t) v) rest);
-      same = triples.pre_numbers t v (and_second (not (is_release v)) _ rest);
+      held = (and_parts _ (not (is_release v) && has_pre_of (bound_at k t) v) h).0;
+      some = triples.not_true (is_release v) ((and_parts _ (has_pre_of (bound_at k t) v) rest).0);
+      same = triples.pre_numbers t v ((and_parts (not (is_release v)) _ rest).1);
     }
 
 is_pre_above-from : (start : RangeBound) (k : VersionBoundKind) (t v : Version) → is_release t ≡ false → IsPreAbove start t v → is_pre_above start (bound_at k t) v ≡ true
 is_pre_above-from start k t v pre h =
     let admitted : has_pre_of (bound_at k t) v ≡ true = triples.pre_from t v h.same pre in
-    and_both _ _ h.held (rw (h.some, admitted) refl)
+    and_from _ _ h.held (rw (h.some, admitted) refl)
 
 itself : (t : Version) (ids : List (List ℕ)) → SameNumbers t (with_pre t ids)
 itself t ids = record { major = refl; minor = refl; patch = refl }
@@ -213,7 +203,7 @@ from_bound (bound.Version s) l t pre = from_start s.kind l s.version t pre (numb
 -- a release isn't a pre-release of any numbers
 not_of_release : (start : RangeBound) (k : VersionBoundKind) (t v : Version) → is_release t ≡ true → is_pre_above start (bound_at k t) v ≡ true → ⊥
 not_of_release start k t v plain h =
-    let some : is_release t ≡ false = triples.pre_some t v (and_second (not (is_release v)) _ (and_second (start_holds start v) _ h)) in
+    let some : is_release t ≡ false = triples.pre_some t v ((and_parts (not (is_release v)) _ ((and_parts (start_holds start v) _ h).1)).1) in
     let never : true ≡ false = sym plain ∙ some in
     cc never
 

@@ -1,6 +1,6 @@
 -- The lowest release above a start.
-use Rattle.std.proofs.Common.{◌≡◌, ◌&&◌, ◌≤◌, ◌==◌, ◌+◌, ◌^◌, ℕ, Bool, true, false, List, [], ◌∷◌, length, Some, refl, inl, inr, arith}
-use Rattle.std.proofs.lemmas.Bool.{cases_Bool, ltb-false}
+use Rattle.std.proofs.Common.{◌≡◌, ◌&&◌, ◌≤◌, ◌+◌, ◌^◌, ℕ, Bool, true, false, List, [], ◌∷◌, Some, refl, inl, inr, arith}
+use Rattle.std.proofs.lemmas.Bool.{and_from, and_parts, cases_Bool, ltb-false}
 use Rattle.std.proofs.lemmas.Bool.Decides.{nat_tests}
 use Rattle.std.proofs.lemmas.List.{nil_from_length}
 use Rattle.std.specs.Ordering.{is_ge, is_gt, is_le, ordering_then}
@@ -20,8 +20,9 @@ use Rattle.semver_base.specs.declared.range.VersionBoundKind.{VersionBoundKind}
 use Rattle.semver_base.specs.declared.range.VersionBoundKind.TheVariants as kind
 use Rattle.semver_base.proofs.ClampLemmas.{above_ge}
 use Rattle.semver_base.proofs.LowestIdentifiers.{le_then}
-use Rattle.semver_base.proofs.NumbersOrder.{by_numbers, greater_from, numbers_above, numbers_le, numbers_tied, numbers_under, Under}
-use Rattle.semver_base.proofs.Orders.{and_both, and_first, and_second, le_then_first, le_turned}
+use Rattle.semver_base.proofs.NumbersOrder.{by_numbers, numbers_above, numbers_le, numbers_tied, numbers_under, Under}
+use Rattle.semver_base.proofs.Orders.{greater_from, le_then_first, le_turned}
+use Rattle.semver_base.proofs.OverlapLemmas.{not_none}
 
 -- a release that the start includes
 abbrev pub is_release_from : RangeBound → Version → Bool
@@ -29,9 +30,6 @@ is_release_from start v = start_holds start v && is_release v
 
 pub no_pre : (v : Version) → is_release v ≡ true → v.pre ≡ []
 no_pre v h = nil_from_length v.pre (grind (arith, nat_tests))
-
-pub not_none : (x : List ℕ) (xs : List (List ℕ)) → (length (x ∷ xs) == 0) ≡ false
-not_none x xs = grind (arith, nat_tests)
 
 -- by precedence a release isn't above any release whose numbers aren't below its own
 release_le : (w v : Version) → w.pre ≡ [] → v.pre ≡ [] → is_le (numbers_cmp w v) ≡ true → is_le (precedence_cmp w v) ≡ true
@@ -51,8 +49,8 @@ start_le k s v h =
 own_lowest : (k : VersionBoundKind) (s : Version) → start_holds (bound_at k s) (release s.major s.minor s.patch) ≡ true
     → IsLowestPassing (is_release_from (bound_at k s)) (Some (release s.major s.minor s.patch))
 own_lowest k s holds = (
-  and_both _ _ holds refl,
-  λ v readable h. release_le (release s.major s.minor s.patch) v refl (no_pre v (and_second _ _ h)) (start_le k s v (and_first _ _ h)),
+  and_from _ _ holds refl,
+  λ v readable h. release_le (release s.major s.minor s.patch) v refl (no_pre v ((and_parts _ _ h).1)) (start_le k s v ((and_parts _ _ h).0)),
 )
 
 own_ge : (s : Version) → is_ge (precedence_cmp (release s.major s.minor s.patch) s) ≡ true
@@ -81,10 +79,10 @@ under_above s w h = rw (by_numbers w s, numbers_above s w h) refl
 raised_lowest : (s w : Version) → is_release s ≡ true → is_release w ≡ true → Under s w → ((v : Version) → AllNumbersFit v → Under s v → is_le (numbers_cmp w v) ≡ true)
     → IsLowestPassing (is_release_from (bound_at kind.Exclusive s)) (Some w)
 raised_lowest s w first second above lowest = (
-  and_both _ _ (under_above s w above) second,
+  and_from _ _ (under_above s w above) second,
   λ v readable h.
-      let held = and_first _ (is_release v) h in
-      let plain = and_second (start_holds (bound_at kind.Exclusive s) v) _ h in
+      let held = (and_parts _ (is_release v) h).0 in
+      let plain = (and_parts (start_holds (bound_at kind.Exclusive s) v) _ h).1 in
       release_le w v (no_pre w second) (no_pre v plain) (lowest v readable.numbers (above_under s v first plain held)),
 )
 
@@ -95,7 +93,7 @@ too_large n h = ltb-false n (2 ^ 64) h
 none_above : (s v : Version) → is_release s ≡ true → AllNumbersFit v → 2 ^ 64 ≤ s.patch + 1 → 2 ^ 64 ≤ s.minor + 1 → 2 ^ 64 ≤ s.major + 1 → is_release_from (bound_at kind.Exclusive s) v ≡ false
 none_above s v plain numbers third second first = elim (cases_Bool (is_release_from (bound_at kind.Exclusive s) v)) [
   | inl held ↦
-      let above : Under s v = above_under s v plain (and_second (start_holds (bound_at kind.Exclusive s) v) _ held) (and_first _ (is_release v) held) in
+      let above : Under s v = above_under s v plain ((and_parts (start_holds (bound_at kind.Exclusive s) v) _ held).1) ((and_parts _ (is_release v) held).0) in
       let patch = numbers.patch in
       let minor = numbers.minor in
       let major = numbers.major in
@@ -121,7 +119,7 @@ next_lowest s plain = elim (cases_Bool (number_fits (s.patch + 1))) [
 ]
 
 pub release_lowest : (start : RangeBound) → IsLowestPassing (is_release_from start) (lowest_release start)
-release_lowest bound.Unbounded = (refl, λ v readable h. release_le (release 0 0 0) v refl (no_pre v (and_second (start_holds bound.Unbounded v) _ h)) (numbers_le (release 0 0 0) v (omega arith) (λ _. omega arith) (λ _ _. omega arith)))
+release_lowest bound.Unbounded = (refl, λ v readable h. release_le (release 0 0 0) v refl (no_pre v ((and_parts (start_holds bound.Unbounded v) _ h).1)) (numbers_le (release 0 0 0) v (omega arith) (λ _. omega arith) (λ _ _. omega arith)))
 release_lowest (bound.Version s) = go s.kind
   where
     go : (k : VersionBoundKind) → IsLowestPassing (is_release_from (bound_at k s.version)) (release_from k s.version)

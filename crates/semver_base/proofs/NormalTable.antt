@@ -1,7 +1,7 @@
 -- The canonical forms, row by row.
 use Rattle.std.proofs.Common.{◌≡◌, ◌<◌, ◌+◌, ℕ, Bool, true, false, List, [], ◌∷◌, ◌++◌, refl, ap, ◌∙◌, arith, inl, inr, append-nil, ◌==◌}
-use Rattle.std.specs.Prelude.{◌&&◌, codes, if◌then◌else◌, nat_lt}
-use Rattle.std.proofs.lemmas.Bool.{and_from, and_parts, cases_lt, eq-eqb, eqb-true, lt-ltb, ltb-true}
+use Rattle.std.specs.Prelude.{codes, if◌then◌else◌, nat_lt}
+use Rattle.std.proofs.lemmas.Bool.{and_from, and_left, and_parts, and_right, cases_lt, eq-eqb, eqb-true, lt-ltb, ltb-true}
 use Rattle.std.proofs.lemmas.Bool.Decides.{nat_tests}
 use Rattle.semver_base.specs.Comparators.{Comparator, Tilde, Caret, Bare}
 use Rattle.semver_base.specs.Meaning.{release}
@@ -40,13 +40,6 @@ taken b x y e = rw e refl
 passed : (b : Bool) (x y : List Comparator) → b ≡ false → Path (List Comparator) (if b then x else y) y
 passed b x y e = rw e refl
 
-first_fails : (a b : Bool) → a ≡ false → (a && b) ≡ false
-first_fails a b e = rw e refl
-
-second_fails : (a b : Bool) → b ≡ false → (a && b) ≡ false
-second_fails true b e = e
-second_fails false b e = refl
-
 one_text : (cs : List Comparator) (c : Comparator) → cs ≡ c ∷ [] → comparators_text cs ≡ comparator_text c
 one_text cs c e = rw e (append-nil (comparator_text c))
 
@@ -83,28 +76,28 @@ one_major major = taken _ _ _ (and_from _ _ (bare_release major 0 0) (bare_relea
 
 one_minor : (major minor : ℕ) → Path (List Comparator) (shortest_between kind.Inclusive kind.Exclusive (release major minor 0) (release major (minor + 1) 0)) (Bare (numbered (Val major) (Val minor)) ∷ [])
 one_minor major minor =
-    passed _ _ _ (second_fails _ _ (other_major (release major (minor + 1) 0) (major + 1) 0 0 (not_next major)))
+    passed _ _ _ (and_right _ _ (other_major (release major (minor + 1) 0) (major + 1) 0 0 (not_next major)))
     ∙ taken _ _ _ (and_from _ _ (bare_release major minor 0) (bare_release major (minor + 1) 0))
 
 tilde : (s : Version) → ¬ (s ≡ release s.major s.minor 0) → Path (List Comparator) (shortest_between kind.Inclusive kind.Exclusive s (release s.major (s.minor + 1) 0)) (Tilde (whole s) ∷ [])
 tilde s more =
-    passed _ _ _ (second_fails _ _ (other_major (release s.major (s.minor + 1) 0) (s.major + 1) 0 0 (not_next s.major)))
-    ∙ (passed _ _ _ (first_fails _ _ (not_bare s s.major s.minor 0 more))
+    passed _ _ _ (and_right _ _ (other_major (release s.major (s.minor + 1) 0) (s.major + 1) 0 0 (not_next s.major)))
+    ∙ (passed _ _ _ (and_left _ _ (not_bare s s.major s.minor 0 more))
     ∙ taken _ _ _ (bare_release s.major (s.minor + 1) 0))
 
 caret_patch : (s : Version) → s.major ≡ 0 → s.minor ≡ 0 → Path (List Comparator) (shortest_between kind.Inclusive kind.Exclusive s (release 0 0 (s.patch + 1))) (Caret (whole s) ∷ [])
 caret_patch s a b =
-    passed _ _ _ (second_fails _ _ (other_major (release 0 0 (s.patch + 1)) (s.major + 1) 0 0 (not_zero s.major)))
-    ∙ (passed _ _ _ (second_fails _ _ (other_minor (release 0 0 (s.patch + 1)) s.major (s.minor + 1) 0 (not_zero s.minor)))
+    passed _ _ _ (and_right _ _ (other_major (release 0 0 (s.patch + 1)) (s.major + 1) 0 0 (not_zero s.major)))
+    ∙ (passed _ _ _ (and_right _ _ (other_minor (release 0 0 (s.patch + 1)) s.major (s.minor + 1) 0 (not_zero s.minor)))
     ∙ (passed _ _ _ (other_minor (release 0 0 (s.patch + 1)) s.major (s.minor + 1) 0 (not_zero s.minor))
     ∙ taken _ _ _ (and_from _ _ (eq-eqb s.major 0 a) (and_from _ _ (eq-eqb s.minor 0 b) (bare_release 0 0 (s.patch + 1))))))
 
 caret_major : (s : Version) → 0 < s.major → ¬ (s ≡ release s.major 0 0) → Path (List Comparator) (shortest_between kind.Inclusive kind.Exclusive s (release (s.major + 1) 0 0)) (Caret (whole s) ∷ [])
 caret_major s some more =
-    passed _ _ _ (first_fails _ _ (not_bare s s.major 0 0 more))
-    ∙ (passed _ _ _ (second_fails _ _ (other_minor (release (s.major + 1) 0 0) s.major (s.minor + 1) 0 (not_zero s.minor)))
+    passed _ _ _ (and_left _ _ (not_bare s s.major 0 0 more))
+    ∙ (passed _ _ _ (and_right _ _ (other_minor (release (s.major + 1) 0 0) s.major (s.minor + 1) 0 (not_zero s.minor)))
     ∙ (passed _ _ _ (other_minor (release (s.major + 1) 0 0) s.major (s.minor + 1) 0 (not_zero s.minor))
-    ∙ (passed _ _ _ (first_fails _ _ (positive s.major some))
+    ∙ (passed _ _ _ (and_left _ _ (positive s.major some))
     ∙ taken _ _ _ (and_from _ _ (lt-ltb 0 s.major some) (bare_release (s.major + 1) 0 0)))))
   where
     positive : (n : ℕ) → 0 < n → (n == 0) ≡ false
@@ -113,11 +106,11 @@ caret_major s some more =
 below : (s e : Version) → s ≡ zero_version → ¬ (e ≡ release (s.major + 1) 0 0) → ¬ (e ≡ release s.major (s.minor + 1) 0) → ¬ (e ≡ release 0 0 (s.patch + 1))
     → Path (List Comparator) (shortest_between kind.Inclusive kind.Exclusive s e) (ending kind.Exclusive e ∷ [])
 below s e zero major minor patch =
-    passed _ _ _ (second_fails _ _ (not_bare e (s.major + 1) 0 0 major))
-    ∙ (passed _ _ _ (second_fails _ _ (not_bare e s.major (s.minor + 1) 0 minor))
+    passed _ _ _ (and_right _ _ (not_bare e (s.major + 1) 0 0 major))
+    ∙ (passed _ _ _ (and_right _ _ (not_bare e s.major (s.minor + 1) 0 minor))
     ∙ (passed _ _ _ (not_bare e s.major (s.minor + 1) 0 minor)
-    ∙ (passed _ _ _ (second_fails _ _ (second_fails _ _ (not_bare e 0 0 (s.patch + 1) patch)))
-    ∙ (passed _ _ _ (first_fails _ _ (ap (λ (v : Version). nat_lt 0 v.major) zero))
+    ∙ (passed _ _ _ (and_right _ _ (and_right _ _ (not_bare e 0 0 (s.patch + 1) patch)))
+    ∙ (passed _ _ _ (and_left _ _ (ap (λ (v : Version). nat_lt 0 v.major) zero))
     ∙ taken _ _ _ (bare_of s 0 0 0 zero)))))
 
 half_open : (s e : Version) → ¬ (s ≡ zero_version) → ¬ (e ≡ release s.major (s.minor + 1) 0)
@@ -125,7 +118,7 @@ half_open : (s e : Version) → ¬ (s ≡ zero_version) → ¬ (e ≡ release s.
     → Path (List Comparator) (shortest_between kind.Inclusive kind.Exclusive s e) (starting kind.Inclusive s ∷ ending kind.Exclusive e ∷ [])
 half_open s e some minor patch major =
     passed _ _ _ (fails _ (λ t. let both = and_parts _ _ t in no_major (short_is s s.major 0 0 both.0) (short_is e (s.major + 1) 0 0 both.1)))
-    ∙ (passed _ _ _ (second_fails _ _ (not_bare e s.major (s.minor + 1) 0 minor))
+    ∙ (passed _ _ _ (and_right _ _ (not_bare e s.major (s.minor + 1) 0 minor))
     ∙ (passed _ _ _ (not_bare e s.major (s.minor + 1) 0 minor)
     ∙ (passed _ _ _ (fails _ (λ t. let both = and_parts _ _ t in let more = and_parts _ _ both.1 in patch (eqb-true s.major 0 both.0) (eqb-true s.minor 0 more.0) (short_is e 0 0 (s.patch + 1) more.1)))
     ∙ (passed _ _ _ (fails _ (λ t. let both = and_parts _ _ t in major (ltb-true 0 s.major both.0) (short_is e (s.major + 1) 0 0 both.1)))

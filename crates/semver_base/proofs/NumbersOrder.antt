@@ -3,7 +3,7 @@ use Rattle.std.proofs.Common.{◌≡◌, ◌<◌, ◌≤◌, ℕ, true, refl, sy
 use Rattle.std.specs.Prelude.{◌⊎◌}
 use Rattle.std.proofs.lemmas.Cmp.{nat_cmp_total, ranked, tied_itself}
 use Rattle.std.specs.FinMap.{nat_cmp-IsAntisymmetric}
-use Rattle.std.specs.Ordering.{is_gt, is_le, nat_cmp, ordering_then, MatchOrdering}
+use Rattle.std.specs.Ordering.{is_le, nat_cmp, ordering_then, MatchOrdering}
 use Rattle.std.specs.declared.cmp.Ordering.{Ordering}
 use Rattle.std.specs.declared.cmp.Ordering.TheVariants.{Less, Equal, Greater}
 use Rattle.semver_base.specs.Precedence.{numbers_cmp, precedence_cmp, pre_cmp}
@@ -24,11 +24,6 @@ by_numbers x y = then_in_threes (nat_cmp x.major y.major) (nat_cmp x.minor y.min
 -- the numbers of y are above those of x
 abbrev pub Under : Version → Version → Type 0
 Under x y = (x.major < y.major) ⊎ ((x.major ≡ y.major) × ((x.minor < y.minor) ⊎ ((x.minor ≡ y.minor) × (x.patch < y.patch))))
-
-pub greater_from : (r : Ordering) → is_gt r ≡ true → r ≡ Greater
-greater_from Less h = cc h
-greater_from Equal h = cc h
-greater_from Greater h = refl
 
 pub numbers_under : (x y : Version) → numbers_cmp y x ≡ Greater → Under x y
 numbers_under x y e = first (nat_cmp y.major x.major) (ranked y.major x.major _ refl) e

@@ -1,20 +1,17 @@
 -- The lowest version without a build that passes a test is unique.
-use Rattle.std.proofs.Common.{◌≡◌, Bool, true, List, ℕ, Option, Some, None, refl, sym, ap, ◌∙◌}
+use Rattle.std.proofs.Common.{◌≡◌, Bool, true, Option, Some, None, refl, sym, ap, ◌∙◌}
 use Rattle.std.specs.Ordering.{is_le}
 use Rattle.std.specs.Prelude.{IfSome}
 use Rattle.std.specs.declared.cmp.Ordering.{Ordering}
 use Rattle.std.specs.declared.cmp.Ordering.TheVariants.{Less, Equal, Greater}
 use Rattle.semver_base.specs.LowestVersion.{HasNoBuild, IsLowestPassing, IsOnlyLowest}
 use Rattle.semver_base.specs.Precedence.{precedence_cmp}
-use Rattle.semver_base.specs.PrecedenceLaws.{precedence-anti, precedence_total}
+use Rattle.semver_base.specs.PrecedenceLaws.{precedence-anti, precedence_total, version_of}
 use Rattle.semver_base.specs.VersionText.{ReadsBack}
 use Rattle.semver_base.specs.declared.version.Version.{Version}
 use Rattle.semver_base.proofs.Containment.{back_readable}
 use Rattle.semver_base.proofs.LowestFrom.{lowest_as}
 use Rattle.semver_base.proofs.Orders.{turned}
-
-abbrev version_of : ℕ → ℕ → ℕ → List (List ℕ) → List (List ℕ) → Version
-version_of major minor patch pre build = record { major = major; minor = minor; patch = patch; pre = pre; build = build }
 
 -- two versions without builds, neither above the other, are the same
 same_version : (v w : Version) → HasNoBuild v → HasNoBuild w → is_le (precedence_cmp v w) ≡ true → is_le (precedence_cmp w v) ≡ true → w ≡ v

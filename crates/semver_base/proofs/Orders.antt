@@ -1,9 +1,8 @@
 -- Chains of comparisons, and the tests of `&&` and `||` that follow from one another.
-use Rattle.std.proofs.Common.{◌≡◌, ◌&&◌, ◌||◌, ◌≤◌, ◌<◌, ℕ, Bool, true, false, refl, sym, ap, ◌∙◌, inl, inr, arith}
-use Rattle.std.specs.Prelude.{◌⊎◌}
-use Rattle.std.proofs.lemmas.Cmp.{alike_right, ranked}
+use Rattle.std.proofs.Common.{◌≡◌, ◌&&◌, ◌||◌, Bool, true, false, refl, sym, ap, ◌∙◌}
+use Rattle.std.proofs.lemmas.Cmp.{alike_right}
 use Rattle.std.specs.Cmp.{IsTotalOrder}
-use Rattle.std.specs.Ordering.{is_ge, is_le, nat_cmp, ordering_reverse, ordering_then, MatchOrdering}
+use Rattle.std.specs.Ordering.{is_ge, is_gt, is_le, is_lt, ordering_reverse, ordering_then}
 use Rattle.std.specs.declared.cmp.Ordering.{Ordering}
 use Rattle.std.specs.declared.cmp.Ordering.TheVariants.{Less, Equal, Greater}
 
@@ -49,31 +48,17 @@ same_where true b false d e h = cc e
 same_where false b true d e h = cc e
 same_where false b false d e h = refl
 
-pub and_first : (a b : Bool) → (a && b) ≡ true → a ≡ true
-and_first true b e = refl
-and_first false b e = cc e
-
-pub and_second : (a b : Bool) → (a && b) ≡ true → b ≡ true
-and_second true b e = e
-and_second false b e = cc e
-
-pub and_both : (a b : Bool) → a ≡ true → b ≡ true → (a && b) ≡ true
-and_both true b e h = h
-and_both false b e h = e
-
-pub or_first : (a b : Bool) → a ≡ true → (a || b) ≡ true
-or_first true b e = refl
-or_first false b e = cc e
-
-pub or_second : (a b : Bool) → b ≡ true → (a || b) ≡ true
-or_second true b e = refl
-or_second false b e = e
-
-pub or_cases : (a b : Bool) → (a || b) ≡ true → (a ≡ true) ⊎ (b ≡ true)
-or_cases true b e = inl refl
-or_cases false b e = inr e
-
 -- ---- a total order
+
+pub greater_from : (r : Ordering) → is_gt r ≡ true → r ≡ Greater
+greater_from Less h = cc h
+greater_from Equal h = cc h
+greater_from Greater h = refl
+
+pub less_from : (r : Ordering) → is_lt r ≡ true → r ≡ Less
+less_from Less h = refl
+less_from Equal h = cc h
+less_from Greater h = cc h
 
 -- the comparison the other way round
 pub turned : {K : Type 0} {R : K → K → Ordering} (total : IsTotalOrder R) (x y : K) (r : Ordering) → R x y ≡ r → R y x ≡ ordering_reverse r
@@ -113,14 +98,6 @@ le_turned {K} {R} total x y h = go (R x y) refl h
     go Greater e h = rw (turned total x y Greater e) refl
 
 -- ---- numbers, and comparisons in a row
-
-pub le_from : (m n : ℕ) → is_le (nat_cmp m n) ≡ true → m ≤ n
-le_from m n h = go (nat_cmp m n) (ranked m n (nat_cmp m n) refl) h
-  where
-    go : (r : Ordering) → MatchOrdering r (m < n) (m ≡ n) (n < m) → is_le r ≡ true → m ≤ n
-    go Less below h = omega arith
-    go Equal same h = omega arith
-    go Greater above h = cc h
 
 pub le_then_first : (r s : Ordering) → is_le (ordering_then r s) ≡ true → is_le r ≡ true
 le_then_first Less s h = refl

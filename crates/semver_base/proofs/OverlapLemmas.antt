@@ -1,11 +1,11 @@
 -- Overlap is symmetric, and two ranges that both include a version overlap.
 use Rattle.std.proofs.Common.{◌≡◌, ◌&&◌, ◌||◌, ◌==◌, ◌<◌, ℕ, length, arith, List, [], ◌∷◌, Bool, true, false, refl, sym, ap, ◌∙◌, inl, inr}
-use Rattle.std.proofs.lemmas.Bool.{cases_Bool}
+use Rattle.std.proofs.lemmas.Bool.{and_from, and_parts, cases_Bool, or_cases, or_left, or_right}
 use Rattle.std.proofs.lemmas.Bool.Decides.{nat_tests}
 use Rattle.std.proofs.lemmas.Cmp.{ranked}
 use Rattle.std.specs.Bool.{OnFalse, OnTrue}
 use Rattle.std.specs.List.{list_any}
-use Rattle.std.specs.Ordering.{is_gt, is_le, is_lt, nat_cmp, ordering_then, MatchOrdering}
+use Rattle.std.specs.Ordering.{is_lt, nat_cmp, ordering_then, MatchOrdering}
 use Rattle.std.specs.declared.cmp.Ordering.{Ordering}
 use Rattle.std.specs.declared.cmp.Ordering.TheVariants.{Less, Equal, Greater}
 use Rattle.semver_base.specs.Meaning.{alternative_means_with, alternatives, bounds_hold, end_holds, is_above, is_below, is_release, start_holds, tree_means_with}
@@ -20,29 +20,16 @@ use Rattle.semver_base.specs.declared.range.VersionBoundKind.{VersionBoundKind}
 use Rattle.semver_base.specs.declared.range.VersionBoundKind.TheVariants as kind
 use Rattle.semver_base.specs.declared.range.VersionRange.{VersionRange}
 use Rattle.semver_base.proofs.MeaningLemmas.{any_alternatives}
-use Rattle.semver_base.proofs.Orders.{and_both, and_false, and_first, and_second, and_swap, le_le, le_less, le_turned, less_le, or_cases, or_first, or_second, turned}
+use Rattle.semver_base.proofs.Orders.{and_false, and_swap, greater_from, le_le, le_less, le_turned, less_from, less_le, turned}
+use Rattle.semver_base.proofs.ClampLemmas.{below_le}
 
 -- ---- ranges
-
-greater_from : (r : Ordering) → is_gt r ≡ true → r ≡ Greater
-greater_from Less h = cc h
-greater_from Equal h = cc h
-greater_from Greater h = refl
-
-less_from : (r : Ordering) → is_lt r ≡ true → r ≡ Less
-less_from Less h = refl
-less_from Equal h = cc h
-less_from Greater h = cc h
-
-end_le : (k : VersionBoundKind) (r : Ordering) → is_below k r ≡ true → is_le r ≡ true
-end_le kind.Inclusive r h = h
-end_le kind.Exclusive r h = rw (less_from r h) refl
 
 -- a start and an end that include one version
 held_between : (k l : VersionBoundKind) (x y v : Version) → is_above k (precedence_cmp v x) ≡ true → is_below l (precedence_cmp v y) ≡ true → lies_within k l (precedence_cmp x y) ≡ true
 held_between kind.Exclusive l x y v h e =
     let above : precedence_cmp x v ≡ Less = turned precedence_total v x Greater (greater_from _ h) in
-    ap is_lt (less_le precedence_total x v y above (end_le l _ e))
+    ap is_lt (less_le precedence_total x v y above (below_le l _ e))
 held_between kind.Inclusive kind.Inclusive x y v h e = le_le precedence_total x v y (le_turned precedence_total v x h) e
 held_between kind.Inclusive kind.Exclusive x y v h e = ap is_lt (le_less precedence_total x v y (le_turned precedence_total v x h) (less_from _ e))
 
@@ -53,15 +40,15 @@ held_by (bound.Version x) (bound.Version y) v h k = held_between x.kind y.kind x
 
 -- two ranges that include one version overlap
 held_overlap : (a b : VersionRange) (v : Version) → bounds_hold a v ≡ true → bounds_hold b v ≡ true → overlap a b ≡ true
-held_overlap a b v h k = and_both (starts_before a.start b.end) (starts_before b.start a.end)
-    (held_by a.start b.end v (and_first _ _ h) (and_second _ _ k))
-    (held_by b.start a.end v (and_first _ _ k) (and_second _ _ h))
+held_overlap a b v h k = and_from (starts_before a.start b.end) (starts_before b.start a.end)
+    (held_by a.start b.end v ((and_parts _ _ h).0) ((and_parts _ _ k).1))
+    (held_by b.start a.end v ((and_parts _ _ k).0) ((and_parts _ _ h).1))
 
 -- ranges that don't overlap include nothing together
 pub range_no_common : (result : Bool) (a b : VersionRange) → result ≡ overlap a b → OnFalse result (HoldNothingTogether a b)
 range_no_common true a b e = tt
 range_no_common false a b e = λ v. elim (cases_Bool (bounds_hold a v && bounds_hold b v)) [
-  | inl both ↦ let over : overlap a b ≡ true = held_overlap a b v (and_first (bounds_hold a v) _ both) (and_second _ (bounds_hold b v) both) in cc
+  | inl both ↦ let over : overlap a b ≡ true = held_overlap a b v ((and_parts (bounds_hold a v) _ both).0) ((and_parts _ (bounds_hold b v) both).1) in cc
   | inr none ↦ none
 ]
 
@@ -97,12 +84,12 @@ some_overlap_swap some others = any_swap overlap some others
 any_from : {X : Type 0} (p q : X → Bool) → ((x : X) → p x ≡ true → q x ≡ true) → (xs : List X) → list_any p xs ≡ true → list_any q xs ≡ true
 any_from p q passes [] h = cc h
 any_from p q passes (x ∷ xs) h = elim (or_cases (p x) (list_any p xs) h) [
-  | inl here ↦ or_first _ _ (passes x here)
-  | inr later ↦ or_second (q x) _ (any_from p q passes xs later)
+  | inl here ↦ or_left _ _ (passes x here)
+  | inr later ↦ or_right (q x) _ (any_from p q passes xs later)
 ]
 
 matches_held : (flag : PreRelease) (range : VersionRange) (v : Version) → alternative_means_with flag (range ∷ []) v ≡ true → bounds_hold range v ≡ true
-matches_held flag range v h = and_first _ true (and_first (bounds_hold range v && true) _ h)
+matches_held flag range v h = (and_parts _ true ((and_parts (bounds_hold range v && true) _ h).0)).0
 
 -- two sets that match one version have ranges that overlap
 matched_overlap : (flag : PreRelease) (some others : List VersionRange) (v : Version)
@@ -117,7 +104,7 @@ matched_overlap flag some others v h k =
 pub set_no_common : (result : Bool) (some others : List VersionRange) → result ≡ some_overlap some others → OnFalse result (MatchNothingTogether some others)
 set_no_common true some others e = tt
 set_no_common false some others e = λ flag v. elim (cases_Bool (tree_means_with flag (alternatives some) v && tree_means_with flag (alternatives others) v)) [
-  | inl both ↦ let over : some_overlap some others ≡ true = matched_overlap flag some others v (and_first (tree_means_with flag (alternatives some) v) _ both) (and_second _ (tree_means_with flag (alternatives others) v) both) in cc
+  | inl both ↦ let over : some_overlap some others ≡ true = matched_overlap flag some others v ((and_parts (tree_means_with flag (alternatives some) v) _ both).0) ((and_parts _ (tree_means_with flag (alternatives others) v) both).1) in cc
   | inr none ↦ none
 ]
 
@@ -136,7 +123,7 @@ not_below_zero m n zero = go (nat_cmp m n) (ranked m n (nat_cmp m n) refl)
     go Equal same = refl
     go Greater above = refl
 
-not_none : (x : List ℕ) (xs : List (List ℕ)) → (length (x ∷ xs) == 0) ≡ false
+pub not_none : (x : List ℕ) (xs : List (List ℕ)) → (length (x ∷ xs) == 0) ≡ false
 not_none x xs = grind (arith, nat_tests)
 
 release_not_less : (xs ys : List (List ℕ)) → (length xs == 0) ≡ true → is_lt (pre_cmp xs ys) ≡ false
@@ -163,7 +150,7 @@ ends_no_release true range e = λ v release. rw (go range.end v release (sym e))
     go : (end : RangeBound) (v : Version) → is_release v ≡ true → ends_at_zero end ≡ true → end_holds end v ≡ false
     go bound.Unbounded v release h = cc h
     go (bound.Version x) v release h =
-        let rest = and_second (is_exclusive x.kind) _ h in
-        let rest1 = and_second (x.version.major == 0) _ rest in
-        exclusive_lt x.kind (precedence_cmp v x.version) (and_first (is_exclusive x.kind) _ h)
-        (not_below_zeros v x.version release (and_first (x.version.major == 0) _ rest) (and_first (x.version.minor == 0) _ rest1) (and_second (x.version.minor == 0) _ rest1))
+        let rest = (and_parts (is_exclusive x.kind) _ h).1 in
+        let rest1 = (and_parts (x.version.major == 0) _ rest).1 in
+        exclusive_lt x.kind (precedence_cmp v x.version) ((and_parts (is_exclusive x.kind) _ h).0)
+        (not_below_zeros v x.version release ((and_parts (x.version.major == 0) _ rest).0) ((and_parts (x.version.minor == 0) _ rest1).0) ((and_parts (x.version.minor == 0) _ rest1).1))

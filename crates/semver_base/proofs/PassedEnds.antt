@@ -1,8 +1,8 @@
 -- What an end excludes, and which of two starts includes no more than the other.
 use Rattle.std.proofs.Common.{◌≡◌, ◌&&◌, true, false, refl, sym, ◌∙◌, inl, inr}
 use Rattle.std.specs.Prelude.{◌⊎◌}
-use Rattle.std.proofs.lemmas.Bool.{cases_Bool}
-use Rattle.std.specs.Ordering.{is_ge, is_gt, is_le}
+use Rattle.std.proofs.lemmas.Bool.{and_parts, cases_Bool}
+use Rattle.std.specs.Ordering.{is_ge, is_le}
 use Rattle.std.specs.declared.cmp.Ordering.{Ordering}
 use Rattle.std.specs.declared.cmp.Ordering.TheVariants.{Less, Equal, Greater}
 use Rattle.semver_base.specs.Candidates.{after, other_kind}
@@ -20,7 +20,7 @@ use Rattle.semver_base.specs.declared.range.VersionBoundKind.TheVariants as kind
 use Rattle.semver_base.specs.declared.range.VersionRange.{VersionRange}
 use Rattle.semver_base.proofs.ClampLemmas.{above_from, start_both}
 use Rattle.semver_base.proofs.LowestFrom.{alike_admitted, means, means_admits, means_end, means_from, means_start, AreAlike}
-use Rattle.semver_base.proofs.Orders.{and_first, and_second, le_le, le_turned, less_le, turned}
+use Rattle.semver_base.proofs.Orders.{greater_from, le_le, le_turned, less_le, turned}
 use Rattle.semver_base.proofs.Triples as triples
 
 -- ---- what an end excludes
@@ -61,11 +61,6 @@ ge_from x v h = go (precedence_cmp x v) refl h
     go Equal e h = rw (turned precedence_total x v Equal e) refl
     go Greater e h = cc h
 
-gt_from : (r : Ordering) → is_gt r ≡ true → r ≡ Greater
-gt_from Less h = cc h
-gt_from Equal h = cc h
-gt_from Greater h = refl
-
 -- a start that includes a version includes what isn't below it
 start_upper : (start : RangeBound) (w v : Version) → is_le (precedence_cmp w v) ≡ true → start_holds start w ≡ true → start_holds start v ≡ true
 start_upper bound.Unbounded w v le h = refl
@@ -74,7 +69,7 @@ start_upper (bound.Version x) w v le h = go x.kind h
     go : (k : VersionBoundKind) → is_above k (precedence_cmp w x.version) ≡ true → is_above k (precedence_cmp v x.version) ≡ true
     go kind.Inclusive h = ge_from x.version v (le_le precedence_total x.version w v (le_turned precedence_total w x.version h) le)
     go kind.Exclusive h =
-        let below = less_le precedence_total x.version w v (turned precedence_total w x.version Greater (gt_from _ h)) le in
+        let below = less_le precedence_total x.version w v (turned precedence_total w x.version Greater (greater_from _ h)) le in
         above_from kind.Exclusive (precedence_cmp v x.version) (turned precedence_total x.version v Less below)
 
 alike_back : (flag : PreRelease) (w v : Version) → AreAlike flag w v → AreAlike flag v w
@@ -119,10 +114,10 @@ both_hold : (s t : RangeBound) (w : Version) → start_holds (clamped_start s t)
 both_hold s t w h = sym (start_both s t w) ∙ h
 
 in_first : (s t : RangeBound) → Within (clamped_start s t) s
-in_first s t w h = and_first _ _ (both_hold s t w h)
+in_first s t w h = (and_parts _ _ (both_hold s t w h)).0
 
 in_second : (s t : RangeBound) → Within (clamped_start s t) t
-in_second s t w h = and_second (start_holds s w) _ (both_hold s t w h)
+in_second s t w h = (and_parts (start_holds s w) _ (both_hold s t w h)).1
 
 pub one_within : (s t : RangeBound) → Within s t ⊎ Within t s
 one_within s t = elim (picks s t) [

@@ -2,7 +2,7 @@
 -- lowest of the start's numbers from it on.
 use Rattle.std.proofs.Common.{◌≡◌, ◌&&◌, Bool, true, false, not, Option, Some, None, refl, sym, subst, ◌∙◌, inl, inr}
 use Rattle.std.specs.Prelude.{◌||◌, is_some}
-use Rattle.std.proofs.lemmas.Bool.{cases_Bool}
+use Rattle.std.proofs.lemmas.Bool.{and_from, and_parts, cases_Bool, or_left, or_right}
 use Rattle.semver_base.specs.Candidates.{filtered, own_pre, zero_pre}
 use Rattle.semver_base.specs.LowestVersion.{IsReadable, DecidesSome}
 use Rattle.semver_base.specs.Meaning.{has_pre_of, is_pre_match, is_release, range_means}
@@ -12,7 +12,6 @@ use Rattle.semver_base.specs.declared.range.RangeBound.{RangeBound}
 use Rattle.semver_base.specs.declared.range.VersionRange.{VersionRange}
 use Rattle.semver_base.proofs.LowestFrom.{lower_means, means_start, pre_reached, same_admits, GoesDown, Reaches}
 use Rattle.semver_base.proofs.Lowest.{pre_cases}
-use Rattle.semver_base.proofs.Orders.{and_both, and_first, and_second, or_first, or_second}
 use Rattle.semver_base.proofs.Triples as triples
 
 module _ (range : VersionRange) (b : RangeBound) where
@@ -20,18 +19,18 @@ module _ (range : VersionRange) (b : RangeBound) where
   test = is_pre_match range b
 
   pre : (v : Version) → test v ≡ true → is_release v ≡ false
-  pre v h = triples.not_true (is_release v) (and_first _ (has_pre_of b v) (and_first _ (range_means range v) h))
+  pre v h = triples.not_true (is_release v) ((and_parts _ (has_pre_of b v) ((and_parts _ (range_means range v) h).0)).0)
 
   of_bound : (v : Version) → test v ≡ true → has_pre_of b v ≡ true
-  of_bound v h = and_second (not (is_release v)) _ (and_first _ (range_means range v) h)
+  of_bound v h = (and_parts (not (is_release v)) _ ((and_parts _ (range_means range v) h).0)).1
 
   meant : (v : Version) → test v ≡ true → range_means range v ≡ true
-  meant v h = and_second (not (is_release v) && has_pre_of b v) _ h
+  meant v h = (and_parts (not (is_release v) && has_pre_of b v) _ h).1
 
   down : (v : Version) → test v ≡ true → GoesDown Restricted test range.start v
   down v h = λ w held alike le. elim alike [
     | inl plain ↦ let never : true ≡ false = sym plain.1 ∙ pre v h in cc never
-    | inr same ↦ and_both _ _ (rw (same.0, same_admits b w v same.2 (of_bound v h)) refl) (lower_means Restricted range w v held (inr same) le (meant v h))
+    | inr same ↦ and_from _ _ (rw (same.0, same_admits b w v same.2 (of_bound v h)) refl) (lower_means Restricted range w v held (inr same) le (meant v h))
   ]
 
   found : (x : Option Version) (v : Version) → Reaches (filtered test x) v → is_some (filtered test x) ≡ true
@@ -47,8 +46,8 @@ module _ (range : VersionRange) (b : RangeBound) where
       elim (pre_cases range.start b) [
         | inl none ↦ absurd (subst (λ x. Reaches (filtered test x) v) none reached)
         | inr some ↦ elim some [
-          | inl zero ↦ or_first _ _ (found (zero_pre b) v (subst (λ x. Reaches (filtered test x) v) zero reached))
-          | inr own ↦ or_second (is_some (filtered test (zero_pre b))) _ (found (own_pre range.start) v (subst (λ x. Reaches (filtered test x) v) own reached))
+          | inl zero ↦ or_left _ _ (found (zero_pre b) v (subst (λ x. Reaches (filtered test x) v) zero reached))
+          | inr own ↦ or_right (is_some (filtered test (zero_pre b))) _ (found (own_pre range.start) v (subst (λ x. Reaches (filtered test x) v) own reached))
         ]
       ]
 

@@ -18,7 +18,6 @@ use Rattle.std.proofs.lemmas.List.{drop_more, get_or_append_left, nil_from_lengt
 use Rattle.semver_base.specs.Characters.{dot}
 use Rattle.semver_base.specs.Grammar.{IsLongest, Stops}
 use Rattle.semver_base.specs.Lexical.{IsLooseNumber, IsStrictNumber}
-use Rattle.semver_base.specs.VersionGrammar.{IsTriple}
 use Rattle.semver_base.specs.Meaning.{release}
 use Rattle.semver_base.specs.ShortTexts.{IsBareNumber, IsBareTriple, IsPairFront, IsShortFront, IsTripleFront, LacksDottedNumber, LacksShortNumber, LacksShortTriple}
 use Rattle.semver_base.specs.VersionParserSteps.{IsFittingNumber, IsFittingTriple, IsBareVersion, IsQualified}
@@ -27,13 +26,14 @@ use Rattle.semver_base.specs.declared.short.ShortNumbers.{ShortNumbers}
 use Rattle.semver_base.specs.declared.short.ShortNumbers.TheVariants as short_numbers
 use Rattle.semver_base.specs.declared.short.Numbers.{Numbers}
 use Rattle.semver_base.specs.declared.version.Version.{Version}
-use Rattle.semver_base.proofs.Bytes.{MadeOf, joined_made, joined_some_text, list_all-append, prefixed_made}
+use Rattle.semver_base.proofs.Bytes.{joined_some_text, list_all-append}
 use Rattle.semver_base.proofs.Fronts.{mapped, narrowed, one_front}
 use Rattle.semver_base.proofs.Lists.{run_longest, run_none}
 use Rattle.semver_base.proofs.Numbers.{loose_some}
 use Rattle.semver_base.proofs.Qualifiers.{no_qualifier}
 use Rattle.semver_base.proofs.VersionReading.{all_read, no_lead, triple_read}
 use Rattle.semver_base.proofs.Solid.{all_ascii, ends_solid, is_solid_byte, number_made, qualifier_made, solid_all_ascii, some_text, starts_solid, trim_same}
+use Rattle.semver_base.proofs.WrittenVersions.{triple_made}
 
 -- ---- a number, digit by digit
 
@@ -130,9 +130,6 @@ drop_after front rest =
     let place : length (front ++ rest) - length rest ≡ length front = omega (arith, length-append front rest) in
     rw place (drop-append_seam front rest)
 
-numbers_solid : MadeOf IsTriple is_solid_byte
-numbers_solid = joined_made number_made (prefixed_made (joined_made number_made (prefixed_made number_made 46 refl)) 46 refl)
-
 fits : {text rest : List ℕ} {n : ℕ} → IsBareNumber text n rest → IsFittingNumber text n rest
 fits p = record { number = p.loose; fits = p.fits }
 
@@ -154,7 +151,7 @@ solid_joined : (a b : List ℕ) → IsSolid a → list_all is_solid_byte b ≡ t
 solid_joined a b h k = (list_all-append is_solid_byte a b h.0 k, omega (arith, h.1, length-append a b))
 
 numbers_front : {text rest : List ℕ} {numbers : ℕ × (ℕ × ℕ)} (p : IsFittingTriple text numbers rest) → IsSolid p.triple.front
-numbers_front {numbers = numbers} p = (numbers_solid.made p.triple.front numbers p.triple.stands, some_text (joined_some_text loose_some) p.triple.front p.triple.stands)
+numbers_front {numbers = numbers} p = (triple_made.made p.triple.front numbers p.triple.stands, some_text (joined_some_text loose_some) p.triple.front p.triple.stands)
 
 -- ---- versions with nothing around them
 

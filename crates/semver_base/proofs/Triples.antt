@@ -1,14 +1,15 @@
 -- What lies between two pre-releases of the same three numbers.
 use Rattle.std.proofs.Common.{◌≡◌, ◌==◌, ◌≤◌, ℕ, List, length, Bool, true, false, not, refl, sym, ◌∙◌, arith}
-use Rattle.std.proofs.lemmas.Bool.Decides.{nat_tests}
 use Rattle.std.proofs.lemmas.Cmp.{nat_cmp_total, tied_itself}
 use Rattle.std.specs.Ordering.{is_le, nat_cmp}
 use Rattle.std.specs.declared.cmp.Ordering.TheVariants.{Equal}
+use Rattle.std.proofs.lemmas.Bool.{and_parts, eq-eqb, eqb-true}
+use Rattle.std.proofs.lemmas.Map.Keys.{le_from_is_le}
 use Rattle.semver_base.specs.Meaning.{bound_at, has_pre_of, is_release}
 use Rattle.semver_base.specs.Precedence.{precedence_cmp, release_rank}
 use Rattle.semver_base.specs.declared.version.Version.{Version}
 use Rattle.semver_base.specs.declared.range.VersionBoundKind.TheVariants as kind
-use Rattle.semver_base.proofs.Orders.{and_first, and_second, le_from, le_then_first, le_then_second}
+use Rattle.semver_base.proofs.Orders.{le_then_first, le_then_second}
 
 -- the same three numbers
 pub record SameNumbers (x y : Version) : Type 0 where
@@ -17,7 +18,7 @@ pub record SameNumbers (x y : Version) : Type 0 where
   pub patch : x.patch ≡ y.patch
 
 number_between : (a b c : ℕ) → a ≡ c → is_le (nat_cmp a b) ≡ true → is_le (nat_cmp b c) ≡ true → a ≡ b
-number_between a b c e lower upper = let first = le_from a b lower in let second = le_from b c upper in omega arith
+number_between a b c e lower upper = let first = le_from_is_le a b lower in let second = le_from_is_le b c upper in omega arith
 
 tied_numbers : (a b : ℕ) → a ≡ b → nat_cmp a b ≡ Equal
 tied_numbers a b e = rw e (tied_itself nat_cmp_total b)
@@ -27,7 +28,7 @@ below_pre xs ys h pre = go (length xs == 0) refl
   where
     go : (b : Bool) → (length xs == 0) ≡ b → b ≡ false
     go false e = refl
-    go true e = let low : 1 ≤ 0 = le_from 1 0 (rw (e, pre) at h) in absurd (omega arith)
+    go true e = let low : 1 ≤ 0 = le_from_is_le 1 0 (rw (e, pre) at h) in absurd (omega arith)
 
 -- what lies between two versions of three numbers, the upper a pre-release, is a pre-release of them
 between : (low x high : Version) → SameNumbers low high → (length high.pre == 0) ≡ false
@@ -47,31 +48,25 @@ between low x high same pre lower upper =
 abbrev pub is_pre_of : Version → Version → Bool
 is_pre_of x v = has_pre_of (bound_at kind.Inclusive x) v
 
-pub same_number : (a b : ℕ) → (a == b) ≡ true → a ≡ b
-same_number a b e = grind (arith, nat_tests)
-
-number_same : (a b : ℕ) → a ≡ b → (a == b) ≡ true
-number_same a b e = grind (arith, nat_tests)
-
 pub not_true : (a : Bool) → not a ≡ true → a ≡ false
 not_true false e = refl
 not_true true e = cc e
 
 pub pre_numbers : (x v : Version) → is_pre_of x v ≡ true → SameNumbers x v
 pre_numbers x v h =
-    let rest = and_second _ _ h in
-    let rest1 = and_second _ _ rest in
+    let rest = (and_parts _ _ h).1 in
+    let rest1 = (and_parts _ _ rest).1 in
     record {
-      major = same_number _ _ (and_first _ _ rest);
-      minor = same_number _ _ (and_first _ _ rest1);
-      patch = same_number _ _ (and_second _ _ rest1);
+      major = eqb-true _ _ ((and_parts _ _ rest).0);
+      minor = eqb-true _ _ ((and_parts _ _ rest1).0);
+      patch = eqb-true _ _ ((and_parts _ _ rest1).1);
     }
 
 pub pre_some : (x v : Version) → is_pre_of x v ≡ true → (length x.pre == 0) ≡ false
-pre_some x v h = not_true (length x.pre == 0) (and_first _ _ h)
+pre_some x v h = not_true (length x.pre == 0) ((and_parts _ _ h).0)
 
 pub pre_from : (x v : Version) → SameNumbers x v → (length x.pre == 0) ≡ false → is_pre_of x v ≡ true
-pre_from x v same pre = rw (pre, number_same x.major v.major same.major, number_same x.minor v.minor same.minor, number_same x.patch v.patch same.patch) refl
+pre_from x v same pre = rw (pre, eq-eqb x.major v.major same.major, eq-eqb x.minor v.minor same.minor, eq-eqb x.patch v.patch same.patch) refl
 
 pub same_back : (x y : Version) → SameNumbers x y → SameNumbers y x
 same_back x y h = record { major = sym h.major; minor = sym h.minor; patch = sym h.patch }

@@ -10,12 +10,11 @@ use Rattle.std.proofs.lemmas.Str.{chars_from_encodes, encode_same, encodes-chars
 use Rattle.std.proofs.lemmas.List.Sums.{list_all-from_AllPass}
 use Rattle.std.proofs.lemmas.List.Elements.{All-from_get_or}
 use Rattle.std.proofs.lemmas.List.{nil_from_length, take-append-drop}
-use Rattle.std.proofs.lemmas.Bool.{both_ways, cases_lt, le-leb, not-false, or_left, or_right}
+use Rattle.std.proofs.lemmas.Bool.{and_parts, both_ways, cases_lt, le-leb, not-false, or_left, or_right}
 use Rattle.semver_base.specs.Grammar.{HasNone, IsLongest}
 use Rattle.semver_base.specs.Lexical.{IsWhitespace, IsSomeWhitespace}
 use Rattle.semver_base.proofs.Fronts.{narrowed}
 use Rattle.semver_base.proofs.Bytes.{MadeOf, list_all-append}
-use Rattle.semver_base.proofs.Orders.{and_first, and_second}
 
 -- leading whitespace is no longer than that after which no more whitespace follows
 no_longer : (cs ds rest b after : List ℕ) → NonePass is_not_whitespace cs → NonePass is_not_whitespace ds → EmptyOrStartsWithPassing is_not_whitespace rest after
@@ -101,7 +100,7 @@ all_white (c ∷ cs) h = rw (not-false (is_whitespace c) h.0) (all_white cs h.1)
 
 none_other : (cs : List ℕ) → list_all is_whitespace cs ≡ true → NonePass is_not_whitespace cs
 none_other [] h = tt
-none_other (c ∷ cs) h = (rw (and_first (is_whitespace c) (list_all is_whitespace cs) h) refl, none_other cs (and_second (is_whitespace c) (list_all is_whitespace cs) h))
+none_other (c ∷ cs) h = (rw ((and_parts (is_whitespace c) (list_all is_whitespace cs) h).0) refl, none_other cs ((and_parts (is_whitespace c) (list_all is_whitespace cs) h).1))
 
 -- a text is only whitespace exactly if each of its characters is
 pub whitespace_characters : (text : List ℕ) → IsUtf8 text → IsTrue (list_all is_whitespace (chars text)) ↔ IsWhitespace text tt

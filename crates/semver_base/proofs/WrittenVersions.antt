@@ -104,7 +104,7 @@ version_joined v h = record {
 pub version_written : (v : Version) → IsWritable v → IsVersion (version_text v) v
 version_written v h = record { value = _; stands = after [] (version_text v) tt no_lead (version_joined v h); is = refl }
 
-triple_made : MadeOf IsTriple is_solid_byte
+pub triple_made : MadeOf IsTriple is_solid_byte
 triple_made = joined_made number_made (prefixed_made (joined_made number_made (prefixed_made number_made 46 refl)) 46 refl)
 
 pub version_solid : (v : Version) → IsWritable v → list_all is_solid_byte (version_text v) ≡ true

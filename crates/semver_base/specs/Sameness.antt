@@ -55,7 +55,7 @@ kind_reported kind.Inclusive kind.Exclusive = (λ e. cc e, λ e. cc e)
 kind_reported kind.Exclusive kind.Inclusive = (λ e. cc e, λ e. cc e)
 kind_reported kind.Exclusive kind.Exclusive = (λ e. refl, λ e. refl)
 
-abbrev bound_of : VersionBoundKind → Version → VersionBound
+abbrev pub bound_of : VersionBoundKind → Version → VersionBound
 bound_of k v = record { kind = k; version = v }
 
 abbrev pub version_bound_eq : VersionBound → VersionBound → Bool
@@ -79,7 +79,7 @@ range_bound_reported (bound.Version x) bound.Unbounded = (λ e. cc e, λ e. cc e
 range_bound_reported bound.Unbounded (bound.Version y) = (λ e. cc e, λ e. cc e)
 range_bound_reported bound.Unbounded bound.Unbounded = (λ e. refl, λ e. refl)
 
-abbrev range_of : RangeBound → RangeBound → VersionRange
+abbrev pub range_of : RangeBound → RangeBound → VersionRange
 range_of s e = record { start = s; end = e }
 
 abbrev pub range_eq : VersionRange → VersionRange → Bool

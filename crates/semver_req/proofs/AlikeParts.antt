@@ -4,13 +4,13 @@ use Rattle.std.specs.Prelude.{IsUtf8, codes}
 use Rattle.std.specs.Char.{is_ascii_digit}
 use Rattle.std.specs.List.{list_all}
 use Rattle.std.proofs.lemmas.Bool.{cases_Bool}
-use Rattle.semver_base.proofs.Whitespace.{is_whitespace_byte}
 use Rattle.std.proofs.lemmas.Bool.Decides.{nat_tests}
 use Rattle.std.proofs.lemmas.Str.{IsUtf8-append, IsUtf8-nil, encode_ascii}
 use Rattle.semver_base.specs.Comparators.{Comparator}
 use Rattle.semver_base.specs.Grammar.{After, Either, this, that, IsText}
 use Rattle.semver_base.specs.Lexical.{IsWhitespace, IsSomeWhitespace, is_identifier_byte}
 use Rattle.semver_base.proofs.Fronts.{fronts, same, shorter, longer}
+use Rattle.semver_base.proofs.Whitespace.{is_whitespace_byte}
 use Rattle.semver_req.specs.Comparators.{IsComparator, IsEquals, no_more, one_more, IsIgnored, IsLed, IsNpmCaret, IsNpmTilde}
 use Rattle.semver_req.specs.Outcome.{IsSpecifierRange}
 use Rattle.semver_req.specs.Partials.{IsPartial, is_wildcard}
@@ -23,9 +23,10 @@ use Rattle.semver_req.specs.Viable.{HasPiece, IsAnyPiece, IsPart, IsPieceOrCut, 
 use Rattle.semver_req.proofs.Alike.{Goes, IsAlike, IsExchanged, is_sign_byte, is_special, whitespace_special, whitespace_exchanged, byte_exchanged, either_exchanged, followed_exchanged, kind_exchanged, mapped_exchanged, none_here, optional_exchanged, other, prefixed_exchanged, some_whitespace_exchanged, text_exchanged}
 use Rattle.semver_req.proofs.AlikeWords.{listed_exchanged, normal_filled_exchanged, of_primitive_exchanged, one_text, bare_exchanged, bare_partial_exchanged, specifier_exchanged}
 use Rattle.semver_req.proofs.WordEndings.{one_whitespace, one_digit}
-use Rattle.semver_req.proofs.PartialEndings.{whitespace_none, one, one_partial}
+use Rattle.semver_req.proofs.PartialEndings.{one, one_partial}
 use Rattle.semver_req.proofs.NpmEndings.{one_whitespace_text, whitespace_letter_one, whitespace_one, letter_one, one_is_led, one_upper}
 use Rattle.semver_req.proofs.ViableParts.{whitespace_one_text, filled_piece, one_byte_text, with_viable}
+use Rattle.semver_req.proofs.Partials.{no_whitespace}
 
 -- ---- npm's grammar
 
@@ -36,7 +37,7 @@ tilde_one : After (Either (IsText (codes "~>")) (IsText (codes "~"))) IsLed (126
 tilde_one = record { value = (tt, one); is = refl; stands = record { first = 126 ∷ []; second = one_digit; text_is = refl; in_first = that refl; in_second = one_is_led; seam = tt } }
 
 two_ands : After IsListOperator IsWhitespace (38 ∷ 38 ∷ []) tt
-two_ands = record { value = (tt, tt); is = refl; stands = record { first = 38 ∷ 38 ∷ []; second = []; text_is = refl; in_first = this refl; in_second = whitespace_none; seam = tt } }
+two_ands = record { value = (tt, tt); is = refl; stands = record { first = 38 ∷ 38 ∷ []; second = []; text_is = refl; in_first = this refl; in_second = no_whitespace; seam = tt } }
 
 hyphened_one : IsHyphened (32 ∷ 45 ∷ 32 ∷ 49 ∷ []) one
 hyphened_one = record { value = (tt, one); is = refl; stands = record { first = 32 ∷ []; second = 45 ∷ 32 ∷ 49 ∷ []; text_is = refl; in_first = whitespace; in_second = (refl, one_whitespace_text); seam = tt } }
@@ -80,10 +81,10 @@ module _ (d e : ℕ) (alike : IsAlike Npm d e) where
   comparator_exchanged = either_exchanged Npm d e alike (either_exchanged Npm d e alike tilde_exchanged caret_exchanged) (either_exchanged Npm d e alike (of_primitive_exchanged Npm d e alike partial_exchanged) (bare_exchanged Npm d e alike partial_exchanged))
 
   separator_exchanged : Ex IsNpmSeparator
-  separator_exchanged = either_exchanged Npm d e alike (mapped_exchanged Npm d e alike (followed_exchanged Npm d e alike (38 ∷ 38 ∷ []) tt two_ands (two_text 38 38 (omega arith) (omega arith)) (whitespace_exchanged Npm d e alike) (mapped_exchanged Npm d e alike (followed_exchanged Npm d e alike [] tt whitespace_none IsUtf8-nil (either_exchanged Npm d e alike (text_exchanged Npm d e alike (codes "&&") refl) (text_exchanged Npm d e alike (codes ",") refl)) (whitespace_exchanged Npm d e alike))))) (some_whitespace_exchanged Npm d e alike)
+  separator_exchanged = either_exchanged Npm d e alike (mapped_exchanged Npm d e alike (followed_exchanged Npm d e alike (38 ∷ 38 ∷ []) tt two_ands (two_text 38 38 (omega arith) (omega arith)) (whitespace_exchanged Npm d e alike) (mapped_exchanged Npm d e alike (followed_exchanged Npm d e alike [] tt no_whitespace IsUtf8-nil (either_exchanged Npm d e alike (text_exchanged Npm d e alike (codes "&&") refl) (text_exchanged Npm d e alike (codes ",") refl)) (whitespace_exchanged Npm d e alike))))) (some_whitespace_exchanged Npm d e alike)
 
   upper_exchanged : Ex IsUpper
-  upper_exchanged = mapped_exchanged Npm d e alike (followed_exchanged Npm d e alike [] tt whitespace_none IsUtf8-nil partial_exchanged (whitespace_exchanged Npm d e alike))
+  upper_exchanged = mapped_exchanged Npm d e alike (followed_exchanged Npm d e alike [] tt no_whitespace IsUtf8-nil partial_exchanged (whitespace_exchanged Npm d e alike))
 
   hyphened_exchanged : Ex IsHyphened
   hyphened_exchanged = mapped_exchanged Npm d e alike (followed_exchanged Npm d e alike (45 ∷ 32 ∷ 49 ∷ []) one (refl, one_whitespace_text) hyphen_one_text (some_whitespace_exchanged Npm d e alike) (prefixed_exchanged Npm d e alike 45 refl (mapped_exchanged Npm d e alike (followed_exchanged Npm d e alike one_digit one one_upper one_text (some_whitespace_exchanged Npm d e alike) upper_exchanged))))

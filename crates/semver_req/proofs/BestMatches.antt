@@ -1,37 +1,22 @@
 -- The best match, as more versions are seen, or more values that are ranked in some way.
-use Rattle.std.proofs.Common.{◌≡◌, ◌&&◌, ◌||◌, ◌++◌, [], ◌∷◌, ℕ, List, Bool, true, false, not, length, Option, Some, None, refl, sym, ap, ◌∙◌}
+use Rattle.std.proofs.Common.{◌≡◌, ◌&&◌, ◌++◌, [], ◌∷◌, ℕ, List, Bool, true, false, not, length, Option, Some, None, refl, sym, ap, ◌∙◌}
 use Rattle.std.proofs.lemmas.List.Folds.{list_any-append}
 use Rattle.std.proofs.lemmas.List.MinMax.{IsStrictWeakOrder-flip, ranks_by}
 use Rattle.std.specs.Cmp.{IsStrictWeakOrder}
 use Rattle.std.specs.List.{list_any}
+use Rattle.std.proofs.lemmas.Bool.{and_parts, or_from, or_left, or_parts, or_right}
+use Rattle.std.proofs.lemmas.List.{append_assoc}
 use Rattle.semver_base.specs.PrecedenceLaws.{precedence_total}
 use Rattle.semver_base.specs.declared.version.Version.{Version}
-use Rattle.semver_base.proofs.Orders.{and_first, and_second, or_first, or_second}
 use Rattle.semver_req.specs.Resolve.{IsBestAt, IsBestMatch, lower}
 use Rattle.semver_req.specs.ResolveSteps.{exceeds, nearer}
 use Rattle.semver_req.specs.declared.resolve.End.{End}
 use Rattle.semver_req.specs.declared.resolve.End.TheVariants as end
 
-grouped : {X : Type 0} (xs ys zs : List X) → (xs ++ ys) ++ zs ≡ xs ++ (ys ++ zs)
-grouped [] ys zs = refl
-grouped (x ∷ xs) ys zs = ap (λ rest. x ∷ rest) (grouped xs ys zs)
-
-or_false_first : (a b : Bool) → (a || b) ≡ false → a ≡ false
-or_false_first true b h = cc h
-or_false_first false b h = refl
-
-or_false_second : (a b : Bool) → (a || b) ≡ false → b ≡ false
-or_false_second true b h = cc h
-or_false_second false b h = h
-
-or_none : (a b : Bool) → a ≡ false → b ≡ false → (a || b) ≡ false
-or_none true b h k = h
-or_none false b h k = k
-
 -- if no element passes a test, none passes a stricter one
 none_from : {X : Type 0} (p q : X → Bool) → ((x : X) → p x ≡ false → q x ≡ false) → (xs : List X) → list_any p xs ≡ false → list_any q xs ≡ false
 none_from p q fails [] h = refl
-none_from p q fails (x ∷ xs) h = or_none _ _ (fails x (or_false_first _ _ h)) (none_from p q fails xs (or_false_second (p x) _ h))
+none_from p q fails (x ∷ xs) h = or_from _ _ (fails x ((or_parts _ _ h).0)) (none_from p q fails xs ((or_parts (p x) _ h).1))
 
 -- nearness to either end is a strict weak order
 lower_ranks : IsStrictWeakOrder lower
@@ -87,7 +72,7 @@ module _ {V : Type 0} (near : V → V → Bool) (ranks : IsStrictWeakOrder near)
   -- a version that isn't better changes nothing
   pub stays : (versions : List V) (known : Option (ℕ × V)) (v : V) → IsKnown versions known
       → (means v && exceeds near v known) ≡ false → IsKnown (versions ++ v ∷ []) known
-  stays versions None v h k = list_any-append means versions (v ∷ []) ∙ or_none _ _ h (or_none _ _ (unmatched (means v) k) refl)
+  stays versions None v h k = list_any-append means versions (v ∷ []) ∙ or_from _ _ h (or_from _ _ (unmatched (means v) k) refl)
     where
       unmatched : (b : Bool) → (b && true) ≡ false → b ≡ false
       unmatched true h = h
@@ -95,10 +80,10 @@ module _ {V : Type 0} (near : V → V → Bool) (ranks : IsStrictWeakOrder near)
   stays versions (Some known) v h k = record {
     before = h.before;
     after = h.after ++ v ∷ [];
-    stands = ap (λ vs. vs ++ v ∷ []) h.stands ∙ grouped h.before (known.1 ∷ h.after) (v ∷ []);
+    stands = ap (λ vs. vs ++ v ∷ []) h.stands ∙ append_assoc h.before (known.1 ∷ h.after) (v ∷ []);
     at_place = h.at_place;
     matches = h.matches;
-    best = list_any-append (is_better_match known.1) versions (v ∷ []) ∙ or_none _ _ h.best (or_none _ _ k refl);
+    best = list_any-append (is_better_match known.1) versions (v ∷ []) ∙ or_from _ _ h.best (or_from _ _ k refl);
     first = h.first;
   }
 
@@ -106,15 +91,15 @@ module _ {V : Type 0} (near : V → V → Bool) (ranks : IsStrictWeakOrder near)
   pub taken : (versions : List V) (known : Option (ℕ × V)) (place : ℕ) (v : V) → length versions ≡ place → IsKnown versions known
       → (means v && exceeds near v known) ≡ true → IsBestAt near means (versions ++ v ∷ []) place v
   taken versions known place v at h k =
-      let none : list_any (is_as_good v) versions ≡ false = none_as_good versions known v h (and_second (means v) _ k) in
+      let none : list_any (is_as_good v) versions ≡ false = none_as_good versions known v h ((and_parts (means v) _ k).1) in
       record {
         before = versions;
         after = [];
         stands = refl;
         at_place = at;
-        matches = and_first _ _ k;
-        best = list_any-append (is_better_match v) versions (v ∷ []) ∙ or_none _ _ (none_from (is_as_good v) (is_better_match v) no_better versions none)
-            (or_none _ _ (and_none (means v) _ (λ _. never_itself v)) refl);
+        matches = (and_parts _ _ k).0;
+        best = list_any-append (is_better_match v) versions (v ∷ []) ∙ or_from _ _ (none_from (is_as_good v) (is_better_match v) no_better versions none)
+            (or_from _ _ (and_none (means v) _ (λ _. never_itself v)) refl);
         first = none;
       }
     where
@@ -131,8 +116,8 @@ module _ {V : Type 0} (near : V → V → Bool) (ranks : IsStrictWeakOrder near)
   none_better : (before after : List V) (x : V) (versions : List V) → versions ≡ before ++ x ∷ after → means x ≡ true
       → (y : V) → list_any (is_better_match y) versions ≡ false → near x y ≡ false
   none_better before after x versions is m y h =
-      no_match (means x) _ (or_false_first _ _ (or_false_second (list_any (is_better_match y) before) _
-      (sym (list_any-append (is_better_match y) before (x ∷ after)) ∙ (sym (ap (list_any (is_better_match y)) is) ∙ h)))) m
+      no_match (means x) _ ((or_parts _ _ ((or_parts (list_any (is_better_match y) before) _
+      (sym (list_any-append (is_better_match y) before (x ∷ after)) ∙ (sym (ap (list_any (is_better_match y)) is) ∙ h))).1)).0) m
 
   head_same : (x y : V) (xs ys : List V) → x ∷ xs ≡ y ∷ ys → x ≡ y
   head_same x y xs ys e = cc e
@@ -151,18 +136,18 @@ module _ {V : Type 0} (near : V → V → Bool) (ranks : IsStrictWeakOrder near)
       → list_any (is_as_good x) us ≡ false → list_any (is_as_good y) bs ≡ false → length us ≡ length bs
   same_length [] after x [] later y e mx my xy yx hx hy = refl
   same_length [] after x (b ∷ bs) later y is mx my xy yx hx hy =
-      absurd (never_first x y mx yx (ap (is_as_good y) (head_same x b after (bs ++ y ∷ later) is) ∙ or_false_first _ _ hy))
+      absurd (never_first x y mx yx (ap (is_as_good y) (head_same x b after (bs ++ y ∷ later) is) ∙ (or_parts _ _ hy).0))
   same_length (a ∷ us) after x [] later y is mx my xy yx hx hy =
-      absurd (never_first y x my xy (ap (is_as_good x) (sym (head_same a y (us ++ x ∷ after) later is)) ∙ or_false_first _ _ hx))
+      absurd (never_first y x my xy (ap (is_as_good x) (sym (head_same a y (us ++ x ∷ after) later is)) ∙ (or_parts _ _ hx).0))
   same_length (a ∷ us) after x (b ∷ bs) later y is mx my xy yx hx hy =
       let rest : length us ≡ length bs = same_length us after x bs later y (tail_same a b (us ++ x ∷ after) (bs ++ y ∷ later) is) mx my xy yx
-      (or_false_second (is_as_good x a) _ hx) (or_false_second (is_as_good y b) _ hy) in
+      ((or_parts (is_as_good x a) _ hx).1) ((or_parts (is_as_good y b) _ hy).1) in
       rw rest refl
 
   -- if one version matches, the result isn't none
   some_match : (versions : List V) (place : ℕ) (x : V) → IsBestAt near means versions place x → list_any means versions ≡ false → ⊥
   some_match versions place x h none =
-      let found : list_any means versions ≡ true = ap (list_any means) h.stands ∙ list_any-append means h.before (x ∷ h.after) ∙ or_second (list_any means h.before) _ (or_first _ _ h.matches) in
+      let found : list_any means versions ≡ true = ap (list_any means) h.stands ∙ list_any-append means h.before (x ∷ h.after) ∙ or_right (list_any means h.before) _ (or_left _ _ h.matches) in
       absurd (cc (found, none))
 
   -- no list has two results

@@ -6,6 +6,7 @@ use Rattle.std.specs.Ordering.{is_ge, is_lt}
 use Rattle.std.specs.Prelude.{◌⊎◌, if◌then◌else◌, nat_lt}
 use Rattle.std.specs.declared.cmp.Ordering.{Ordering}
 use Rattle.std.specs.declared.cmp.Ordering.TheVariants.{Less, Equal, Greater}
+use Rattle.std.proofs.lemmas.Bool.{and_parts}
 use Rattle.semver_base.specs.Clamp.{clamped, clamped_end, lesser_of, of_tied, HoldsNothing}
 use Rattle.semver_base.specs.Comparators.{Caret, Comparator, Hyphen, OfPrimitive, Bare, Tilde, comparator_range, primitive_line}
 use Rattle.semver_base.specs.Meaning.{alternative_means_with, alternatives, bounds_hold, everything, from, is_below, release, to_below, tree_means_with}
@@ -27,7 +28,7 @@ use Rattle.semver_base.specs.declared.range.VersionRange.{VersionRange}
 use Rattle.semver_base.specs.declared.version.Version.{Version}
 use Rattle.semver_base.proofs.ClampLemmas.{clamped_bounds, clamped_empty}
 use Rattle.semver_base.proofs.ClampMeaning.{clamped_means}
-use Rattle.semver_base.proofs.Orders.{and_false, and_first, and_true, le_less, le_turned, never_both}
+use Rattle.semver_base.proofs.Orders.{and_false, and_true, le_less, le_turned, never_both}
 use Rattle.semver_base.proofs.OverlapLemmas.{ends_no_release}
 use Rattle.semver_req.specs.RetainedSet.{RetainedSetsMeanTheirTrees, folded, retained, retained_range}
 use Rattle.semver_req.specs.Outcome.{tree_ranges}
@@ -97,7 +98,7 @@ above_none low v end h k = go (precedence_cmp v end) refl
 -- no version from 0.0.0 on is below 0.0.0
 from_zero_empty : (end : RangeBound) → IsEmptyAtZero (between (from (release 0 0 0)) end)
 from_zero_empty bound.Unbounded h v = cc h
-from_zero_empty (bound.Version end) h v = by_kind end.kind (and_first (is_exclusive end.kind) _ h) none
+from_zero_empty (bound.Version end) h v = by_kind end.kind ((and_parts (is_exclusive end.kind) _ h).0) none
   where
     none : is_below end.kind (precedence_cmp (release 0 0 0) end.version) ≡ false
     none = ends_no_release true (between (from (release 0 0 0)) (bound.Version end)) (sym h) (release 0 0 0) refl

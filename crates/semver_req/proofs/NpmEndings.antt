@@ -1,9 +1,8 @@
 -- The pieces of npm's grammar: with which endings their prefixes are whole.
 use Rattle.std.proofs.Common.{◌≡◌, ℕ, List, [], ◌∷◌, ◌++◌, Option, Some, None, refl, sym, ap, subst, ◌∙◌, arith, append_assoc, append-nil}
-use Rattle.std.specs.Prelude.{codes}
 use Rattle.std.proofs.lemmas.Str.{encode_ascii}
 use Rattle.semver_base.specs.Comparators.{Caret, Comparator, Bare, Tilde, OfPrimitive}
-use Rattle.semver_base.specs.Grammar.{After, Either, this, that, IsText, Listed, last_item, closed_item, Mapped, Optional, Prefixed}
+use Rattle.semver_base.specs.Grammar.{After, this, that, Listed, last_item, closed_item, Mapped, Optional, Prefixed}
 use Rattle.semver_base.specs.Lexical.{IsWhitespace, IsByte, IsSomeWhitespace}
 use Rattle.semver_base.specs.declared.partial.Partial.{Partial}
 use Rattle.semver_base.specs.declared.partial.PrimitiveKind.{PrimitiveKind}
@@ -11,9 +10,11 @@ use Rattle.semver_req.specs.Comparators.{IsComparator, IsEquals, no_more, one_mo
 use Rattle.semver_req.specs.Partials.{IsPartial}
 use Rattle.semver_req.specs.Pieces.{IsFilled, IsHyphened, IsHyphenPair, IsListOperator, IsNpmSeparator, IsUpper, hyphen}
 use Rattle.semver_req.specs.declared.common.values.Flavour.TheVariants.{Npm}
+use Rattle.semver_req.specs.Written.{IsTildes}
 use Rattle.semver_req.proofs.Endings.{Any, Both, Each, Ends, IsCutIn, in_first, in_second, IsEnded, Nothing, Starts, after_ended, before_ended, byte_ended, cut_in, either_ended, ended_wider, ends_here, followed_ended, listed_ended, optional_ended, prefixed_ended}
 use Rattle.semver_req.proofs.WordEndings.{AreSizes, IsShort, nothing, digit, whitespace_ended, whitespace_front, one_whitespace, one_digit, some_whitespace_ended}
-use Rattle.semver_req.proofs.PartialEndings.{InComparator, InPartial, in_one, whitespace_none, kind_ended, of_primitive_ended, one, one_partial, partial_ended, bare_ended}
+use Rattle.semver_req.proofs.PartialEndings.{InComparator, InPartial, in_one, kind_ended, of_primitive_ended, one, one_partial, partial_ended, bare_ended}
+use Rattle.semver_req.proofs.Partials.{no_whitespace}
 
 -- nothing, `1`, `&` or ` 1`
 pub data IsNpmEnding : List ℕ → Type 0 where
@@ -38,25 +39,21 @@ led_text : {V : Type 0} {A : List ℕ → V → Type 0} {B : List ℕ → Partia
 led_text v h t = record { value = (v, one); stands = record { first = []; second = one_digit; text_is = refl; in_first = h; in_second = t; seam = tt }; is = refl }
 
 pub whitespace_one : After IsWhitespace (IsPartial Npm) one_digit one
-whitespace_one = led_text tt whitespace_none (one_partial Npm)
+whitespace_one = led_text tt no_whitespace (one_partial Npm)
 
 pub letter_one : After (Optional (IsByte 118)) (After IsWhitespace (IsPartial Npm)) one_digit one
 letter_one = led_text None refl whitespace_one
 
 pub whitespace_letter_one : After IsWhitespace (After (Optional (IsByte 118)) (After IsWhitespace (IsPartial Npm))) one_digit one
-whitespace_letter_one = led_text tt whitespace_none letter_one
+whitespace_letter_one = led_text tt no_whitespace letter_one
 
 pub one_is_led : IsLed one_digit one
 one_is_led = led_text tt no_more whitespace_letter_one
 
--- `~` or `~>`
-abbrev IsTilde : List ℕ → Unit {0} → Type 0
-IsTilde = Either (IsText (codes "~>")) (IsText (codes "~"))
-
-tilde_sign_ended : IsEnded IsTilde Any Nothing
+tilde_sign_ended : IsEnded IsTildes Any Nothing
 tilde_sign_ended = record { ends = λ x p u v s h i. go x p u h }
   where
-    go : (x : ℕ) (p u : List ℕ) → IsTilde ((x ∷ p) ++ u) tt → Ends IsTilde Any Nothing (x ∷ p)
+    go : (x : ℕ) (p u : List ℕ) → IsTildes ((x ∷ p) ++ u) tt → Ends IsTildes Any Nothing (x ∷ p)
     go x [] u (this h) = let byte : x ≡ 126 = cc h in ends_here (x ∷ []) tt refl (that (rw byte refl)) tt
     go x (y ∷ []) u (this h) = let first : x ≡ 126 = cc h in let second : y ≡ 62 = cc h in ends_here (x ∷ y ∷ []) tt refl (this (rw (first, second) refl)) tt
     go x (y ∷ z ∷ p) u (this h) = cc h
@@ -85,7 +82,7 @@ operator_ended = record { ends = λ x p u v s h i. go x p u h }
     go x (y ∷ p) u (that h) = cc h
 
 operator_whitespace_ended : IsEnded (After IsListOperator IsWhitespace) Any IsNpmEnding
-operator_whitespace_ended = after_ended (followed_ended IsOperatorEnding Nothing IsNpmEnding [] tt whitespace_none tt (λ e h. rw append-nil (operator_ending e h)) (λ e h. rw h (short nothing)) operator_ended (whitespace_ended refl))
+operator_whitespace_ended = after_ended (followed_ended IsOperatorEnding Nothing IsNpmEnding [] tt no_whitespace tt (λ e h. rw append-nil (operator_ending e h)) (λ e h. rw h (short nothing)) operator_ended (whitespace_ended refl))
 
 separator_ended : IsEnded IsNpmSeparator Any IsNpmEnding
 separator_ended = record { ends = λ x p u v s h i. go x p u s h }
@@ -110,7 +107,7 @@ separator_ended = record { ends = λ x p u v s h i. go x p u s h }
 -- ---- hyphen ranges
 
 pub one_upper : IsUpper one_digit one
-one_upper = record { value = (one, tt); is = refl; stands = record { first = one_digit; second = []; text_is = refl; in_first = one_partial Npm; in_second = whitespace_none; seam = tt } }
+one_upper = record { value = (one, tt); is = refl; stands = record { first = one_digit; second = []; text_is = refl; in_first = one_partial Npm; in_second = no_whitespace; seam = tt } }
 
 pub one_whitespace_text : After IsSomeWhitespace IsUpper (32 ∷ 49 ∷ []) one
 one_whitespace_text = record { value = (tt, one); is = refl; stands = record { first = 32 ∷ []; second = one_digit; text_is = refl; in_first = (omega arith, one_whitespace 32 (32 ∷ []) refl (encode_ascii 32 (omega arith))); in_second = one_upper; seam = tt } }
@@ -124,7 +121,7 @@ module _ {N : ℕ → Type 0} (sizes : AreSizes N) where
   led_is_ended : IsEnded IsLed (InPartial N) IsShort
   led_is_ended = led_ended whitespace_letter_one (equals_ended refl) (led_ended letter_one (whitespace_ended refl) (led_ended whitespace_one (optional_ended (byte_ended 118 refl)) (led_ended (one_partial Npm) (whitespace_ended refl) (partial_ended sizes Npm))))
 
-  tilde_ended : IsEnded (After IsTilde IsLed) (InPartial N) IsShort
+  tilde_ended : IsEnded (After IsTildes IsLed) (InPartial N) IsShort
   tilde_ended = led_ended one_is_led tilde_sign_ended led_is_ended
 
   -- ---- comparators
@@ -156,7 +153,7 @@ module _ {N : ℕ → Type 0} (sizes : AreSizes N) where
   ignored_front x p m (Some v) s h = go (cut_in (x ∷ p) m v s h (tt, tt))
     where
       kind_here : Ends IsPrimitiveKind Any Nothing (x ∷ p) → Ends (IsComparator Npm) (InComparator N) IsShort (x ∷ p)
-      kind_here i = kind_whitespace x p (x ∷ p) [] i.value (sym (append-nil (x ∷ p))) (rw (append-nil p) at (rw i.is_ending at i.stands)) whitespace_none
+      kind_here i = kind_whitespace x p (x ∷ p) [] i.value (sym (append-nil (x ∷ p))) (rw (append-nil p) at (rw i.is_ending at i.stands)) no_whitespace
 
       go : IsCutIn (λ a b. Unit {0}) IsPrimitiveKind Any IsSomeWhitespace Any (x ∷ p) m → Ends (IsComparator Npm) (InComparator N) IsShort (x ∷ p)
       go (in_first n k j h i) = kind_here ((kind_ended refl).ends x p n k j h tt)
@@ -209,7 +206,7 @@ module _ {N : ℕ → Type 0} (sizes : AreSizes N) where
   -- ---- hyphen ranges
 
   upper_ended : IsEnded IsUpper (InPartial N) IsShort
-  upper_ended = before_ended (followed_ended IsShort Nothing IsShort [] tt whitespace_none tt (λ e h. rw append-nil h) (λ e h. rw h nothing) (partial_ended sizes Npm) (whitespace_ended refl))
+  upper_ended = before_ended (followed_ended IsShort Nothing IsShort [] tt no_whitespace tt (λ e h. rw append-nil h) (λ e h. rw h nothing) (partial_ended sizes Npm) (whitespace_ended refl))
 
   upper_part_ended : IsEnded (After IsSomeWhitespace IsUpper) (InPartial N) IsShort
   upper_part_ended = after_ended (followed_ended Nothing IsShort IsShort one_digit one one_upper (in_one sizes) nil_digit (λ e h. h) (some_whitespace_ended refl) upper_ended)

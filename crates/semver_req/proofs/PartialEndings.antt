@@ -1,7 +1,5 @@
 -- Partial versions and the comparators of the strict and of the normalized grammar: with which endings their prefixes are whole.
 use Rattle.std.proofs.Common.{◌≡◌, ℕ, true, List, [], ◌∷◌, ◌++◌, Option, Some, None, refl, sym, append-nil}
-use Rattle.std.specs.Char.{is_not_whitespace}
-use Rattle.std.proofs.lemmas.Str.{NoCharPasses-nil}
 use Rattle.semver_base.specs.Comparators.{Bare, Caret, Comparator, Hyphen, OfPrimitive, Tilde, primitive_kind_text}
 use Rattle.semver_base.specs.Grammar.{After, that}
 use Rattle.semver_base.specs.Lexical.{IsWhitespace, qualifier_of}
@@ -18,6 +16,7 @@ use Rattle.semver_req.specs.declared.common.values.Flavour.{Flavour}
 use Rattle.semver_req.specs.declared.common.values.Flavour.TheVariants.{Npm, Normal, Specifier}
 use Rattle.semver_req.proofs.Endings.{Any, Both, Each, Ends, HasText, IsEnded, Nothing, Starts, after_ended, either_ended, ended_as, ends_here, followed_ended, joined_ended, listed_ended, mapped_ended, optional_ended, prefixed_ended}
 use Rattle.semver_req.proofs.WordEndings.{AreSizes, IsShort, nothing, digit, whitespace_ended, no_qualifier, number_ended, one_digit, one_number, qualifier_ended, some_whitespace_ended}
+use Rattle.semver_req.proofs.Partials.{no_whitespace}
 
 -- ---- values
 
@@ -55,11 +54,8 @@ one_partial Npm = that (one_bare_partial Npm)
 one_partial Normal = one_bare_partial Normal
 one_partial Specifier = one_bare_partial Specifier
 
-pub whitespace_none : IsWhitespace [] tt
-whitespace_none = NoCharPasses-nil is_not_whitespace
-
 pub one_after_whitespace : (f : Flavour) → After IsWhitespace (IsPartial f) one_digit one
-one_after_whitespace f = record { value = (tt, one); stands = record { first = []; second = one_digit; text_is = refl; in_first = whitespace_none; in_second = one_partial f; seam = tt }; is = refl }
+one_after_whitespace f = record { value = (tt, one); stands = record { first = []; second = one_digit; text_is = refl; in_first = no_whitespace; in_second = one_partial f; seam = tt }; is = refl }
 
 -- a prefix of a primitive kind is one
 pub kind_ended : {E : List ℕ → Type 0} → E [] → IsEnded IsPrimitiveKind Any E

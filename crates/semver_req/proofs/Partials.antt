@@ -1,10 +1,11 @@
 -- Leading partial versions.
 use Rattle.std.proofs.Common.{◌≡◌, ℕ, Bool, true, false, List, [], ◌∷◌, Option, Some, None, refl, ap, ◌∙◌, arith, append_assoc, ◌++◌, ◌==◌}
 use Rattle.std.specs.Prelude.{◌&&◌, if◌then◌else◌}
-use Rattle.std.specs.Char.{is_ascii_digit}
+use Rattle.std.specs.Char.{is_ascii_digit, is_not_whitespace}
 use Rattle.std.proofs.lemmas.Bool.Decides.{nat_tests}
+use Rattle.std.proofs.lemmas.Str.{NoCharPasses-nil}
 use Rattle.semver_base.specs.Grammar.{ReadsAs, IsLongest, IsSeen, HasNone, Joined, Prefixed, Optional}
-use Rattle.semver_base.specs.Lexical.{IsQualifier}
+use Rattle.semver_base.specs.Lexical.{IsQualifier, IsWhitespace}
 use Rattle.semver_base.specs.declared.lexical.values.Measured.{Measured}
 use Rattle.semver_base.specs.declared.lexical.values.Measured.TheVariants.{Fits, TooLarge}
 use Rattle.semver_base.specs.declared.lexical.values.Qualifier.{Qualifier}
@@ -17,6 +18,9 @@ use Rattle.semver_req.specs.Partials.{IsComponent, IsPartial, IsBarePartial, ass
 use Rattle.semver_req.specs.declared.common.values.Flavour.{Flavour}
 use Rattle.semver_req.specs.declared.common.values.Flavour.TheVariants.{Npm}
 use Rattle.semver_req.proofs.Components.{component_begins, component_goes, component_some, is_component_byte, third_longest}
+
+pub no_whitespace : IsWhitespace [] tt
+no_whitespace = NoCharPasses-nil is_not_whitespace
 
 -- ---- a component, and what begins with a dot
 

@@ -2,7 +2,7 @@
 use Rattle.std.proofs.Common.{◌≡◌, ◌<◌, ℕ, Bool, true, false, List, [], ◌∷◌, ◌++◌, length, refl, sym, ap, ◌∙◌, arith, append-nil, length-append, ◌==◌}
 use Rattle.std.specs.Prelude.{◌||◌}
 use Rattle.std.specs.List.{list_all}
-use Rattle.std.proofs.lemmas.Bool.{and_parts, or_left}
+use Rattle.std.proofs.lemmas.Bool.{and_parts, false_from_ne_true, or_left}
 use Rattle.std.proofs.lemmas.Bool.Decides.{nat_tests}
 use Rattle.semver_base.specs.Comparators.{Comparator}
 use Rattle.semver_base.specs.Grammar.{After, this, that, IsLongest, Listed, last_item, closed_item, more_items, Prefixed, Stops}
@@ -20,7 +20,7 @@ use Rattle.semver_req.specs.declared.common.values.Flavour.{Flavour}
 use Rattle.semver_req.specs.declared.common.values.Flavour.TheVariants.{Npm, Normal, Specifier}
 use Rattle.semver_req.proofs.ComparatorReadings.{IsCore, comparator_begins, comparator_goes, comparator_one, comparator_some, comparator_within, core_goes, core_one, core_some, is_start_byte, partial_core, partial_within, some_whitespace_made}
 use Rattle.semver_req.proofs.PartialReadings.{is_bare_byte, partial_one}
-use Rattle.semver_req.proofs.PrimitiveKinds.{any_begins, is_partial_byte}
+use Rattle.semver_req.proofs.PrimitiveKinds.{any_begins, is_partial_byte, whitespace_no_partial}
 
 -- ---- lists
 
@@ -102,9 +102,6 @@ any_some = some_within (partial_within Npm) (core_some Npm)
 whitespace_no_hyphen : Disjoint is_whitespace_byte (λ x. x == 45)
 whitespace_no_hyphen x h k = grind (arith, nat_tests)
 
-whitespace_no_partial : Disjoint is_whitespace_byte is_partial_byte
-whitespace_no_partial x h k = grind (arith, nat_tests)
-
 pub partial_whitespace : Apart (IsPartial Npm) IsWhitespace
 partial_whitespace = apart_by is_bare_byte is_whitespace_byte bare_no_whitespace any_goes (begins_from_made whitespace_made)
 
@@ -128,12 +125,8 @@ hyphen_one = mapped_one (followed_one partial_hyphened (partial_one Npm) hyphene
 
 -- ---- no list is a hyphen range
 
-not_true : (b : Bool) → (b ≡ true → ⊥) → b ≡ false
-not_true true h = absurd (h refl)
-not_true false h = refl
-
 stops_at : (p q : ℕ → Bool) → Disjoint p q → (x : ℕ) → q x ≡ true → p x ≡ false
-stops_at p q d x h = not_true (p x) (λ k. d x k h)
+stops_at p q d x h = false_from_ne_true (p x) (λ k. d x k h)
 
 abbrev is_hyphen : List ℕ → Bool
 is_hyphen [] = false

@@ -2,12 +2,14 @@
 use Rattle.std.proofs.Common.{◌≡◌, ◌≤◌, ◌<◌, ◌==◌, ℕ, Bool, true, false, List, [], ◌∷◌, ◌++◌, length, map, not, Option, Some, None, refl, sym, subst, ap, ap₂, ◌∙◌, inl, inr, arith, append-nil, length-append}
 use Rattle.std.proofs.lemmas.Bool.Decides.{nat_tests}
 use Rattle.std.proofs.lemmas.List.{map-append, nil_from_length}
-use Rattle.std.specs.List.{filter, list_all}
+use Rattle.std.specs.List.{list_all}
 use Rattle.std.specs.Option.{option_to_list}
 use Rattle.std.specs.Char.{is_not_whitespace}
 use Rattle.std.specs.Prelude.{◌⊎◌, ◌↔◌, IsTrue, if◌then◌else◌}
 use Rattle.std.proofs.lemmas.Str.{NoCharPasses-nil}
 use Rattle.std.specs.Str.{trim}
+use Rattle.std.proofs.lemmas.Bool.{and_from, and_parts}
+use Rattle.std.proofs.lemmas.List.Elements.{filter-append}
 use Rattle.semver_base.specs.Comparators.{Caret, Comparator, Hyphen, OfPrimitive, Bare, Tilde, comparator_range}
 use Rattle.semver_base.specs.Grammar.{this, that, HasNone, IsLongest, Listed, last_item, closed_item, more_items}
 use Rattle.semver_base.specs.Lexical.{IsWhitespace}
@@ -17,7 +19,6 @@ use Rattle.semver_base.specs.declared.failure.Rejection.TheVariants.{BoundTooLar
 use Rattle.semver_base.specs.declared.partial.Partial.{Partial}
 use Rattle.semver_base.specs.declared.range.VersionRange.{VersionRange}
 use Rattle.semver_base.proofs.Whitespace.{whitespace_whole}
-use Rattle.semver_base.proofs.Orders.{and_both, and_first, and_second}
 use Rattle.semver_req.specs.Comparators.{IsComparator, fits}
 use Rattle.semver_req.specs.RetainedSet.{folded, retained, retained_range, without_none}
 use Rattle.semver_req.specs.Outcome.{AreGoodOnes, none_left, good, bad, IsBad, IsGood, IsCutOutcome, one_good, one_bad, npm_many, normal_many, normal_rejected, IsTagOr, tag, no_tag, Outcome, Ranges, Tag, Rejected}
@@ -155,17 +156,17 @@ filled_piece Specifier text [] h = absurd h
 
 fits_split : (cs : List Comparator) → list_all numbers_fit cs ≡ true → list_all sums_fit cs ≡ true → list_all fits cs ≡ true
 fits_split [] h k = refl
-fits_split (c ∷ cs) h k = and_both _ _
-    (and_both _ _ (and_first (numbers_fit c) _ h) (and_first (sums_fit c) _ k))
-    (fits_split cs (and_second (numbers_fit c) _ h) (and_second (sums_fit c) _ k))
+fits_split (c ∷ cs) h k = and_from _ _
+    (and_from _ _ ((and_parts (numbers_fit c) _ h).0) ((and_parts (sums_fit c) _ k).0))
+    (fits_split cs ((and_parts (numbers_fit c) _ h).1) ((and_parts (sums_fit c) _ k).1))
 
-numbers_of : (cs : List Comparator) → list_all fits cs ≡ true → list_all numbers_fit cs ≡ true
+pub numbers_of : (cs : List Comparator) → list_all fits cs ≡ true → list_all numbers_fit cs ≡ true
 numbers_of [] h = refl
-numbers_of (c ∷ cs) h = and_both _ _ (and_first (numbers_fit c) _ (and_first (fits c) _ h)) (numbers_of cs (and_second (fits c) _ h))
+numbers_of (c ∷ cs) h = and_from _ _ ((and_parts (numbers_fit c) _ ((and_parts (fits c) _ h).0)).0) (numbers_of cs ((and_parts (fits c) _ h).1))
 
 sums_of : (cs : List Comparator) → list_all fits cs ≡ true → list_all sums_fit cs ≡ true
 sums_of [] h = refl
-sums_of (c ∷ cs) h = and_both _ _ (and_second (numbers_fit c) _ (and_first (fits c) _ h)) (sums_of cs (and_second (fits c) _ h))
+sums_of (c ∷ cs) h = and_from _ _ ((and_parts (numbers_fit c) _ ((and_parts (fits c) _ h).0)).1) (sums_of cs ((and_parts (fits c) _ h).1))
 
 module _ (f : Flavour) (b : Bool) (piece : List ℕ) where
   -- a piece of comparators that fail a test which those that fit pass
@@ -234,14 +235,6 @@ module _ {f : Flavour} where
 
 -- ---- one piece more
 
-split_filter : (p : VersionRange → Bool) (xs ys : List VersionRange) → filter p (xs ++ ys) ≡ filter p xs ++ filter p ys
-split_filter p [] ys = refl
-split_filter p (x ∷ xs) ys = go (p x) (split_filter p xs ys)
-  where
-    go : (b : Bool) → filter p (xs ++ ys) ≡ filter p xs ++ filter p ys → (if b then x ∷ filter p (xs ++ ys) else filter p (xs ++ ys)) ≡ (if b then x ∷ filter p xs else filter p xs) ++ filter p ys
-    go true same = ap (λ (rest : List VersionRange). x ∷ rest) same
-    go false same = same
-
 without_one : (range : VersionRange) → without_none (range ∷ []) ≡ option_to_list (retained_of (read.Range range))
 without_one range = go (ends_at_zero range.end)
   where
@@ -258,7 +251,7 @@ retained_without Specifier cutting tree = elim cutting [ ]
 retained_added : (tree : List (List Comparator)) (cs : List Comparator) → without_none (map retained_range (tree ++ cs ∷ [])) ≡ without_none (map retained_range tree) ++ option_to_list (retained_of (read.Range (retained_range cs)))
 retained_added tree cs =
     ap without_none (map-append retained_range tree (cs ∷ []))
-    ∙ split_filter (λ range. not (ends_at_zero range.end)) (map retained_range tree) (retained_range cs ∷ [])
+    ∙ filter-append (λ range. not (ends_at_zero range.end)) (map retained_range tree) (retained_range cs ∷ [])
     ∙ ap (λ (rest : List VersionRange). without_none (map retained_range tree) ++ rest) (without_one (retained_range cs))
 
 retained_more : (f : Flavour) → IsCutting f → (tree : List (List Comparator)) (cs : List Comparator) → retained f (tree ++ cs ∷ []) ≡ retained f tree ++ option_to_list (retained_of (read.Range (retained_range cs)))

@@ -61,7 +61,7 @@ any_begins Npm = either_begins (begins_wider (λ x. x == 118) is_partial_byte (�
 any_begins Normal = bare_begins Normal
 any_begins Specifier = bare_begins Specifier
 
-whitespace_no_partial : Disjoint is_whitespace_byte is_partial_byte
+pub whitespace_no_partial : Disjoint is_whitespace_byte is_partial_byte
 whitespace_no_partial x h k = grind (arith, nat_tests)
 
 pub whitespace_apart : (f : Flavour) → Apart IsWhitespace (IsPartial f)

@@ -1,13 +1,13 @@
 -- What holds of every parsed set.
 use Rattle.std.proofs.Common.{◌≡◌, List, [], ◌∷◌, true, refl, sym, subst, ap, ◌∙◌}
 use Rattle.std.specs.List.{list_all}
+use Rattle.std.proofs.lemmas.Bool.{and_from, and_parts}
 use Rattle.semver_base.specs.Meaning.{alternatives, tree_means_with}
 use Rattle.semver_base.specs.NormalText.{AreWritableRanges}
 use Rattle.semver_base.specs.Shortest.{shortest_tree}
 use Rattle.semver_base.specs.declared.range.PreRelease.{PreRelease}
 use Rattle.semver_base.specs.declared.range.VersionRange.{VersionRange}
 use Rattle.semver_base.specs.declared.version.Version.{Version}
-use Rattle.semver_base.proofs.Orders.{and_both, and_first, and_second}
 use Rattle.semver_req.specs.RetainedSet.{IsReadSet}
 use Rattle.semver_req.specs.Outcome.{tree_ranges}
 use Rattle.semver_req.specs.Rereading.{is_orderly, keeps_meaning}
@@ -26,7 +26,7 @@ read_writable ranges r = subst AreWritableRanges (sym r.is_retained) (outcome_wr
 
 starts_of : (ranges : List VersionRange) → list_all is_retained ranges ≡ true → list_all has_start ranges ≡ true
 starts_of [] h = refl
-starts_of (range ∷ ranges) h = and_both _ _ (and_first (has_start range) _ (and_first _ _ h)) (starts_of ranges (and_second (is_retained range) _ h))
+starts_of (range ∷ ranges) h = and_from _ _ ((and_parts (has_start range) _ ((and_parts _ _ h).0)).0) (starts_of ranges ((and_parts (is_retained range) _ h).1))
 
 -- under the premise its shortest form matches what it matches
 pub read_form_means : (ranges : List VersionRange) → IsReadSet ranges → list_all keeps_meaning ranges ≡ true

@@ -2,10 +2,10 @@
 use Rattle.std.proofs.Common.{◌≡◌, ◌&&◌, ℕ, List, [], ◌∷◌, Bool, true, false, not, refl, ap}
 use Rattle.std.specs.List.{list_all}
 use Rattle.std.specs.Prelude.{if◌then◌else◌}
+use Rattle.std.proofs.lemmas.Bool.{and_from}
 use Rattle.semver_base.specs.Comparators.{Comparator}
 use Rattle.semver_base.specs.Overlap.{ends_at_zero}
 use Rattle.semver_base.specs.declared.range.VersionRange.{VersionRange}
-use Rattle.semver_base.proofs.Orders.{and_both}
 use Rattle.semver_req.specs.RetainedSet.{retained, retained_range}
 use Rattle.semver_req.specs.Outcome.{IsOutcome, IsSpecifierOutcome, IsTagOr, Outcome, Ranges, Rejected, Tag, left_over, no_fit, no_front, no_tag, tag, whole}
 use Rattle.semver_req.specs.declared.common.values.Flavour.{Flavour}
@@ -24,7 +24,7 @@ rest_is_retained (comparators ∷ tree) = go (ends_at_zero (retained_range compa
     go : (b : Bool) → ends_at_zero (retained_range comparators).end ≡ b → list_all is_retained (retained Normal tree) ≡ true
         → list_all is_retained (if not b then retained_range comparators ∷ retained Normal tree else retained Normal tree) ≡ true
     go true e rest = rest
-    go false e rest = and_both _ _ (and_both _ _ (retained_range_starts comparators) (ap not e)) rest
+    go false e rest = and_from _ _ (and_from _ _ (retained_range_starts comparators) (ap not e)) rest
 
 -- ---- the strict parser, which drops no range
 
@@ -39,7 +39,7 @@ tag_or_retained (tag e) = tt
 tag_or_retained (no_tag e) = tt
 
 specifier_is_retained : {text : List ℕ} {o : Outcome} → IsSpecifierOutcome text o → AreRetained o
-specifier_is_retained (whole {c = c} s fit) = and_both _ _ (and_both _ _ (retained_range_starts (c ∷ [])) (ap not (specifier_ends s.stands))) refl
+specifier_is_retained (whole {c = c} s fit) = and_from _ _ (and_from _ _ (retained_range_starts (c ∷ [])) (ap not (specifier_ends s.stands))) refl
 specifier_is_retained (left_over s fit more) = tt
 specifier_is_retained (no_front n t) = tag_or_retained t
 specifier_is_retained (no_fit s e t) = tag_or_retained t

@@ -1,12 +1,11 @@
 -- What the grammars make of plain texts.
 use Rattle.std.proofs.Common.{◌≡◌, ◌≢◌, ◌<◌, ◌^◌, ◌==◌, ℕ, zero, suc, Bool, true, false, List, [], ◌∷◌, ◌++◌, length, Option, Some, None, refl, sym, subst, ap, ◌∙◌, arith, inl, inr, append-nil, append_assoc, length-append}
-use Rattle.std.specs.Char.{is_ascii_digit, is_not_whitespace}
+use Rattle.std.specs.Char.{is_ascii_digit}
 use Rattle.std.specs.List.{list_all}
 use Rattle.std.specs.Str.{trim}
 use Rattle.std.proofs.lemmas.Bool.{lt-ltb}
 use Rattle.std.proofs.lemmas.Bool.Decides.{nat_tests}
 use Rattle.std.proofs.lemmas.List.{nil_from_length}
-use Rattle.std.proofs.lemmas.Str.{NoCharPasses-nil}
 use Rattle.std.proofs.lemmas.Str.Pattern.{IsSplitOnceResult, split_parts}
 use Rattle.std.specs.Borrow.{Bor}
 use Rattle.std.specs.Prelude.{◌+◌, ◌||◌, IfSome, MatchOption, codes, if◌then◌else◌, nat_lt, unwrap_or}
@@ -71,7 +70,7 @@ use Rattle.semver_req.proofs.Fitting.{comparator_all, fitting, numbers_all, whol
 use Rattle.semver_req.proofs.Folding.{upper_ends}
 use Rattle.semver_req.proofs.Joining.{fitting_partial}
 use Rattle.semver_req.proofs.Operators.{non_primitive_some}
-use Rattle.semver_req.proofs.Partials.{not_led, one_read, three_read, two_read}
+use Rattle.semver_req.proofs.Partials.{no_whitespace, not_led, one_read, three_read, two_read}
 use Rattle.semver_req.proofs.PiecesRead.{filled_read, reported_same}
 use Rattle.semver_req.proofs.SpecifierRetained.{is_non_primitive, non_primitive_ends, non_primitive_retained}
 use Rattle.semver_req.proofs.Stabilizing.{less_stays}
@@ -196,9 +195,6 @@ module _ (f : Flavour) {text : List ℕ} {range : VersionRange} (p : IsQualified
   qualified_single = let front = fitting (non_primitive_some f p.operator p.cut qualified_seen) in rw p.line.is (is_range front.longest front.numbers_fit p.line.fits)
 
 -- ---- pieces
-
-no_whitespace : IsWhitespace [] tt
-no_whitespace = NoCharPasses-nil is_not_whitespace
 
 space_alone : IsWhitespace (32 ∷ []) tt
 space_alone = one_whitespace.1

@@ -7,6 +7,7 @@ use Rattle.std.specs.Ordering.{is_ge, is_le, nat_cmp, ordering_then, MatchOrderi
 use Rattle.std.specs.Prelude.{if◌then◌else◌, nat_lt}
 use Rattle.std.specs.declared.cmp.Ordering.{Ordering}
 use Rattle.std.specs.declared.cmp.Ordering.TheVariants.{Less, Equal, Greater}
+use Rattle.std.proofs.lemmas.Bool.{and_from, and_parts, eq-eqb, eqb-true, or_cases, or_left, or_right}
 use Rattle.semver_base.specs.Comparators.{Caret, Comparator, Bare, Tilde, comparator_range}
 use Rattle.semver_base.specs.Meaning.{alternative_means_with, bound_at, from, is_above, release, to_below}
 use Rattle.semver_base.specs.PartialTable.{up_to, between, caret}
@@ -22,8 +23,8 @@ use Rattle.semver_base.specs.declared.range.VersionBoundKind.TheVariants as kind
 use Rattle.semver_base.specs.declared.range.VersionRange.{VersionRange}
 use Rattle.semver_base.specs.declared.version.Version.{Version}
 use Rattle.semver_base.proofs.ClampLemmas.{above_ge}
-use Rattle.semver_base.proofs.Orders.{and_both, and_first, and_second, le_le, le_turned, or_cases, or_first, or_second, turned}
-use Rattle.semver_base.proofs.ShortVersions.{short_is, same_number}
+use Rattle.semver_base.proofs.Orders.{le_le, le_turned, turned}
+use Rattle.semver_base.proofs.ShortVersions.{short_is}
 use Rattle.semver_req.specs.Rereading.{has_own_form, is_pre_of_zero, keeps_meaning, keeps_start}
 use Rattle.semver_req.proofs.Starts.{has_start, starts_or_is_open}
 
@@ -37,9 +38,6 @@ by_test P true fits other = fits refl
 by_test P false fits other = other refl
 
 -- ---- plain versions
-
-number_same : (a b : ℕ) → a ≡ b → (a == b) ≡ true
-number_same a b e = grind (arith, nat_tests)
 
 -- ---- 0.0.0
 
@@ -57,7 +55,7 @@ le_then Equal s h k = k refl
 le_then Greater s h k = h
 
 zero_tied : (n : ℕ) → nat_cmp 0 n ≡ Equal → (n == 0) ≡ true
-zero_tied n e = number_same n 0 (sym (nat_cmp-IsAntisymmetric 0 n e))
+zero_tied n e = eq-eqb n 0 (sym (nat_cmp-IsAntisymmetric 0 n e))
 
 some_length : (x : List ℕ) (xs : List (List ℕ)) → (length (x ∷ xs) == 0) ≡ false
 some_length x xs = grind (arith, nat_tests)
@@ -72,7 +70,7 @@ zero_le s h =
     le_then _ _ (zero_le_number s.major) (λ major.
     le_then _ _ (zero_le_number s.minor) (λ minor.
     le_then _ _ (zero_le_number s.patch) (λ patch.
-    release_le s.pre _ h (and_both _ _ (zero_tied s.major major) (and_both _ _ (zero_tied s.minor minor) (zero_tied s.patch patch))))))
+    release_le s.pre _ h (and_from _ _ (zero_tied s.major major) (and_from _ _ (zero_tied s.minor minor) (zero_tied s.patch patch))))))
 
 pub ge_turned : (r : Ordering) (x y : Version) → precedence_cmp x y ≡ r → is_le r ≡ true → is_ge (precedence_cmp y x) ≡ true
 ge_turned Less x y e h = rw (turned precedence_total x y Less e) refl
@@ -121,10 +119,10 @@ short_range : {start end : Version} (s e : Version) → s ≡ start → e ≡ en
 short_range s e p q = ap₂ (λ (start end : Version). between (from start) (to_below end)) (sym p) (sym q)
 
 major_range : (s e : Version) → is_major s e ≡ true → comparator_range (Bare (numbered (Val s.major) Wildcard)) ≡ between (from s) (to_below e)
-major_range s e h = short_range s e (short_is s s.major 0 0 (and_first _ _ h)) (short_is e (s.major + 1) 0 0 (and_second (is_release_of s s.major 0 0) _ h))
+major_range s e h = short_range s e (short_is s s.major 0 0 ((and_parts _ _ h).0)) (short_is e (s.major + 1) 0 0 ((and_parts (is_release_of s s.major 0 0) _ h).1))
 
 minor_range : (s e : Version) → is_minor s e ≡ true → comparator_range (Bare (numbered (Val s.major) (Val s.minor))) ≡ between (from s) (to_below e)
-minor_range s e h = short_range s e (short_is s s.major s.minor 0 (and_first _ _ h)) (short_is e s.major (s.minor + 1) 0 (and_second (is_release_of s s.major s.minor 0) _ h))
+minor_range s e h = short_range s e (short_is s s.major s.minor 0 ((and_parts _ _ h).0)) (short_is e s.major (s.minor + 1) 0 ((and_parts (is_release_of s s.major s.minor 0) _ h).1))
 
 tilde_range : (s e : Version) → is_tilde s e ≡ true → comparator_range (Tilde (whole s)) ≡ between (from s) (to_below e)
 tilde_range s e h = short_range s e refl (short_is e s.major (s.minor + 1) 0 h)
@@ -140,28 +138,28 @@ caret_patch s h k = rw (h, k) refl
 
 caret_major_range : (s e : Version) → is_caret_major s e ≡ true → comparator_range (Caret (whole s)) ≡ between (from s) (to_below e)
 caret_major_range s e h =
-    caret_major s (and_first (nat_lt 0 s.major) _ h)
-    ∙ short_range s e refl (short_is e (s.major + 1) 0 0 (and_second (nat_lt 0 s.major) _ h))
+    caret_major s ((and_parts (nat_lt 0 s.major) _ h).0)
+    ∙ short_range s e refl (short_is e (s.major + 1) 0 0 ((and_parts (nat_lt 0 s.major) _ h).1))
 
 caret_patch_range : (s e : Version) → is_caret_patch s e ≡ true → comparator_range (Caret (whole s)) ≡ between (from s) (to_below e)
 caret_patch_range s e h =
-    let h1 = and_second (s.major == 0) _ h in
-    caret_patch s (none_below s.major (and_first (s.major == 0) _ h)) (none_below s.minor (and_first (s.minor == 0) _ h1))
-    ∙ short_range s e refl (short_is e 0 0 (s.patch + 1) (and_second (s.minor == 0) _ h1))
+    let h1 = (and_parts (s.major == 0) _ h).1 in
+    caret_patch s (none_below s.major ((and_parts (s.major == 0) _ h).0)) (none_below s.minor ((and_parts (s.minor == 0) _ h1).0))
+    ∙ short_range s e refl (short_is e 0 0 (s.patch + 1) ((and_parts (s.minor == 0) _ h1).1))
 
 -- ---- ranges with a short form
 
 short_by_major : (s e : Version) → is_major s e ≡ true → has_short_form s e ≡ true
-short_by_major s e h = or_first (is_major s e) _ h
+short_by_major s e h = or_left (is_major s e) _ h
 
 short_by_tilde : (s e : Version) → is_tilde s e ≡ true → has_short_form s e ≡ true
-short_by_tilde s e h = or_second (is_major s e) _ (or_first (is_tilde s e) _ h)
+short_by_tilde s e h = or_right (is_major s e) _ (or_left (is_tilde s e) _ h)
 
 short_by_caret_patch : (s e : Version) → is_caret_patch s e ≡ true → has_short_form s e ≡ true
-short_by_caret_patch s e h = or_second (is_major s e) _ (or_second (is_tilde s e) _ (or_first (is_caret_patch s e) _ h))
+short_by_caret_patch s e h = or_right (is_major s e) _ (or_right (is_tilde s e) _ (or_left (is_caret_patch s e) _ h))
 
 short_by_caret_major : (s e : Version) → is_caret_major s e ≡ true → has_short_form s e ≡ true
-short_by_caret_major s e h = or_second (is_major s e) _ (or_second (is_tilde s e) _ (or_second (is_caret_patch s e) _ h))
+short_by_caret_major s e h = or_right (is_major s e) _ (or_right (is_tilde s e) _ (or_right (is_caret_patch s e) _ h))
 
 -- the comparators from s to below e: one with the range itself, or those of the last two lines
 pub by_form : (P : List Comparator → Type 0) (s e : Version)
@@ -170,7 +168,7 @@ pub by_form : (P : List Comparator → Type 0) (s e : Version)
     → P (shortest_between kind.Inclusive kind.Exclusive s e)
 by_form P s e own rest =
     by_test P (is_major s e) (λ fits. own (short_by_major s e fits) _ (major_range s e fits)) (λ no_major.
-    by_test P (is_minor s e) (λ fits. own (short_by_tilde s e (and_second (is_release_of s s.major s.minor 0) _ fits)) _ (minor_range s e fits)) (λ _.
+    by_test P (is_minor s e) (λ fits. own (short_by_tilde s e ((and_parts (is_release_of s s.major s.minor 0) _ fits).1)) _ (minor_range s e fits)) (λ _.
     by_test P (is_tilde s e) (λ fits. own (short_by_tilde s e fits) _ (tilde_range s e fits)) (λ no_tilde.
     by_test P (is_caret_patch s e) (λ fits. own (short_by_caret_patch s e fits) _ (caret_patch_range s e fits)) (λ no_patch.
     by_test P (is_caret_major s e) (λ fits. own (short_by_caret_major s e fits) _ (caret_major_range s e fits)) (λ no_caret.
@@ -185,11 +183,11 @@ not_below false b h k = refl
 -- a range from a pre-release of 0.0.0 to below 0.0.1 or 0.1.0 has a short form
 pub short_end : (s e : Version) → is_pre_of_zero s ≡ true → (is_release_of e 0 0 1 || is_release_of e 0 1 0) ≡ true → has_short_form s e ≡ true
 short_end s e low h =
-    let numbers = and_second (not (length s.pre == 0)) _ low in
-    let numbers1 = and_second (s.major == 0) _ numbers in
-    let major : s.major ≡ 0 = same_number _ _ (and_first (s.major == 0) _ numbers) in
-    let minor : s.minor ≡ 0 = same_number _ _ (and_first (s.minor == 0) _ numbers1) in
-    let patch : s.patch ≡ 0 = same_number _ _ (and_second (s.minor == 0) _ numbers1) in
+    let numbers = (and_parts (not (length s.pre == 0)) _ low).1 in
+    let numbers1 = (and_parts (s.major == 0) _ numbers).1 in
+    let major : s.major ≡ 0 = eqb-true _ _ ((and_parts (s.major == 0) _ numbers).0) in
+    let minor : s.minor ≡ 0 = eqb-true _ _ ((and_parts (s.minor == 0) _ numbers1).0) in
+    let patch : s.patch ≡ 0 = eqb-true _ _ ((and_parts (s.minor == 0) _ numbers1).1) in
     elim (or_cases _ _ h) [
       | inl patches ↦ short_by_caret_patch s e (rw (major, minor, patch) patches)
       | inr minors ↦ short_by_tilde s e (rw (major, minor) minors)

@@ -1,9 +1,9 @@
 -- The longest strict partial version at the start of a text that begins with a normalized one.
-use Rattle.std.proofs.Common.{◌≡◌, ◌≤◌, ◌+◌, ℕ, Bool, true, false, List, [], ◌∷◌, ◌++◌, length, Option, Some, None, refl, sym, ap, subst, ◌∙◌, arith, inl, inr, append-nil, append_assoc, length-append, ◌==◌}
+use Rattle.std.proofs.Common.{◌≡◌, ◌≤◌, ◌+◌, ℕ, true, false, List, [], ◌∷◌, ◌++◌, length, Option, Some, None, refl, sym, ap, subst, ◌∙◌, arith, inl, inr, append-nil, append_assoc, length-append, ◌==◌}
 use Rattle.std.specs.Prelude.{slice_index}
 use Rattle.std.specs.Char.{is_ascii_digit}
 use Rattle.std.specs.Str.Parse.{digits_value}
-use Rattle.std.proofs.lemmas.Bool.{and_parts, cases_Bool}
+use Rattle.std.proofs.lemmas.Bool.{and_parts, cases_Bool, false_from_ne_true}
 use Rattle.std.proofs.lemmas.Bool.Decides.{nat_tests}
 use Rattle.semver_base.specs.Grammar.{Followed, IsLongest, Joined, Optional, Prefixed, Stops}
 use Rattle.semver_base.specs.Lexical.{IsLooseNumber, IsNumberEnd, IsQualifier}
@@ -209,17 +209,13 @@ pub record IsPast (text : List ℕ) : Type 0 where
   pub no_digit : Stops is_ascii_digit text
   pub no_dot : (more : List ℕ) → text ≡ 46 ∷ more → ⊥
 
-not_true : (b : Bool) → (b ≡ true → ⊥) → b ≡ false
-not_true true h = absurd (h refl)
-not_true false h = refl
-
 digit_no_dot : (text : List ℕ) → BeginsByDigit text → (more : List ℕ) → text ≡ 46 ∷ more → ⊥
 digit_no_dot [] d more e = d
 digit_no_dot (x ∷ rest) d more e = let byte : x ≡ 46 = cc e in grind (arith, nat_tests)
 
 after_number : (a q w : List ℕ) → IsNumberEnd a q → IsPast w → is_ascii_digit (slice_index a 0) ≡ true → Stops is_ascii_digit (q ++ w)
 after_number a [] w seam past d = past.no_digit
-after_number a (y ∷ q) w seam past d = not_true (is_ascii_digit y) (seam d)
+after_number a (y ∷ q) w seam past d = false_from_ne_true (is_ascii_digit y) (seam d)
 
 abbrev Thirds : List ℕ → XRange × Qualifier → Type 0
 Thirds = Joined IsNumberEnd (IsComponent Specifier) (IsQualifier Strict)

@@ -6,12 +6,13 @@ use Rattle.std.specs.Ordering.{is_ge, nat_cmp}
 use Rattle.std.specs.Prelude.{nat_lt}
 use Rattle.std.specs.declared.cmp.Ordering.{Ordering}
 use Rattle.std.specs.declared.cmp.Ordering.TheVariants.{Less, Equal, Greater}
+use Rattle.std.proofs.lemmas.Bool.{and_parts, eqb-true, or_cases}
 use Rattle.semver_base.specs.Clamp.{clamped, greater_of, of_tied, stopped_at, stopped_by}
 use Rattle.semver_base.specs.Comparators.{Caret, Comparator, Hyphen, OfPrimitive, Bare, Tilde, comparator_range}
 use Rattle.semver_base.specs.Meaning.{bound_at, everything, from, release, to_below}
 use Rattle.semver_base.specs.PartialTable.{up_to, between, without_build}
 use Rattle.semver_base.specs.Precedence.{precedence_cmp}
-use Rattle.semver_base.specs.PrecedenceLaws.{precedence-anti, precedence_total, version_eq, version_reported}
+use Rattle.semver_base.specs.PrecedenceLaws.{precedence-anti, precedence_total, version_eq, version_of, version_reported}
 use Rattle.semver_base.specs.Shortest.{ending, has_short_form, is_caret_patch, is_major, is_release_of, is_tilde, shortest_between, shortest_of, starting, whole}
 use Rattle.semver_base.specs.declared.range.RangeBound.{RangeBound}
 use Rattle.semver_base.specs.declared.range.RangeBound.TheVariants as bound
@@ -19,8 +20,8 @@ use Rattle.semver_base.specs.declared.range.VersionBoundKind.{VersionBoundKind}
 use Rattle.semver_base.specs.declared.range.VersionBoundKind.TheVariants as kind
 use Rattle.semver_base.specs.declared.range.VersionRange.{VersionRange}
 use Rattle.semver_base.specs.declared.version.Version.{Version}
-use Rattle.semver_base.proofs.Orders.{and_first, and_second, or_cases, turned}
-use Rattle.semver_base.proofs.ShortVersions.{short_is, same_number, version_of}
+use Rattle.semver_base.proofs.Orders.{turned}
+use Rattle.semver_base.proofs.ShortVersions.{short_is}
 use Rattle.semver_req.specs.RetainedSet.{retained_range}
 use Rattle.semver_req.specs.Stable.{IsStable, all, no_end, one_version, short, ordered, empty_at_end, reread}
 use Rattle.semver_req.proofs.ShortestMeaning.{by_form, by_test}
@@ -55,22 +56,22 @@ below_minor s = rw (tied_itself nat_cmp_total s.major, number_below s.minor (s.m
 
 pub below_patch : (s : Version) → (s.major == 0) ≡ true → (s.minor == 0) ≡ true → precedence_cmp s (release 0 0 (s.patch + 1)) ≡ Less
 below_patch s h k =
-    rw (same_number _ _ h, same_number _ _ k, number_below s.patch (s.patch + 1) (omega arith)) refl
+    rw (eqb-true _ _ h, eqb-true _ _ k, number_below s.patch (s.patch + 1) (omega arith)) refl
 
 short_less : (s e : Version) → has_short_form s e ≡ true → precedence_cmp s e ≡ Less
 short_less s e h = elim (or_cases (is_major s e) _ h) [
-  | inl major ↦ rw (short_is e (s.major + 1) 0 0 (and_second (is_release_of s s.major 0 0) _ major)) (below_major s)
+  | inl major ↦ rw (short_is e (s.major + 1) 0 0 ((and_parts (is_release_of s s.major 0 0) _ major).1)) (below_major s)
   | inr h1 ↦ elim (or_cases (is_tilde s e) _ h1) [
     | inl tilde ↦ rw (short_is e s.major (s.minor + 1) 0 tilde) (below_minor s)
     | inr h2 ↦ elim (or_cases (is_caret_patch s e) _ h2) [
-      | inl patch ↦ patch_less (and_first (s.major == 0) _ patch) (and_second (s.major == 0) _ patch)
-      | inr major ↦ rw (short_is e (s.major + 1) 0 0 (and_second (nat_lt 0 s.major) _ major)) (below_major s)
+      | inl patch ↦ patch_less ((and_parts (s.major == 0) _ patch).0) ((and_parts (s.major == 0) _ patch).1)
+      | inr major ↦ rw (short_is e (s.major + 1) 0 0 ((and_parts (nat_lt 0 s.major) _ major).1)) (below_major s)
     ]
   ]
 ]
   where
     patch_less : (s.major == 0) ≡ true → ((s.minor == 0) && is_release_of e 0 0 (s.patch + 1)) ≡ true → precedence_cmp s e ≡ Less
-    patch_less zero rest = rw (short_is e 0 0 (s.patch + 1) (and_second (s.minor == 0) _ rest)) (below_patch s zero (and_first (s.minor == 0) _ rest))
+    patch_less zero rest = rw (short_is e 0 0 (s.patch + 1) ((and_parts (s.minor == 0) _ rest).1)) (below_patch s zero ((and_parts (s.minor == 0) _ rest).0))
 
 -- ---- what is kept of one comparator, or of two
 

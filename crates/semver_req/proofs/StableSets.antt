@@ -5,6 +5,7 @@ use Rattle.std.specs.List.{list_all}
 use Rattle.std.specs.Prelude.{if◌then◌else◌}
 use Rattle.std.specs.declared.cmp.Ordering.{Ordering}
 use Rattle.std.specs.declared.cmp.Ordering.TheVariants.{Less, Equal, Greater}
+use Rattle.std.proofs.lemmas.Bool.{and_from, and_parts, eqb-true}
 use Rattle.semver_base.specs.Comparators.{Comparator, comparator_range}
 use Rattle.semver_base.specs.Meaning.{alternatives, bound_at, from, release, to_below, tree_means_with}
 use Rattle.semver_base.specs.Overlap.{ends_at_zero, lies_within, starts_before}
@@ -19,8 +20,6 @@ use Rattle.semver_base.specs.declared.range.VersionBoundKind.{VersionBoundKind}
 use Rattle.semver_base.specs.declared.range.VersionBoundKind.TheVariants as kind
 use Rattle.semver_base.specs.declared.range.VersionRange.{VersionRange}
 use Rattle.semver_base.specs.declared.version.Version.{Version}
-use Rattle.semver_base.proofs.Orders.{and_both, and_first, and_second}
-use Rattle.semver_base.proofs.ShortVersions.{same_number}
 use Rattle.semver_req.specs.RetainedSet.{retained, retained_range}
 use Rattle.semver_req.specs.Outcome.{tree_ranges}
 use Rattle.semver_req.specs.Rereading.{has_no_build, has_own_form, is_orderly, is_pre_of_zero, keeps_meaning, keeps_start}
@@ -38,8 +37,8 @@ forms_mean : (ranges : List VersionRange) → list_all has_start ranges ≡ true
     → (flag : PreRelease) (v : Version) → tree_means_with flag (tree_ranges (map shortest ranges)) v ≡ tree_means_with flag (alternatives ranges) v
 forms_mean [] h k flag v = refl
 forms_mean (range ∷ ranges) h k flag v = ap₂ (λ (a b : Bool). a || b)
-    (shortest_means range (and_first _ _ h) (and_first _ _ k) flag v)
-    (forms_mean ranges (and_second (has_start range) _ h) (and_second (keeps_meaning range) _ k) flag v)
+    (shortest_means range ((and_parts _ _ h).0) ((and_parts _ _ k).0) flag v)
+    (forms_mean ranges ((and_parts (has_start range) _ h).1) ((and_parts (keeps_meaning range) _ k).1) flag v)
 
 -- the shortest form of a set matches what the set matches
 pub tree_form_means : (ranges : List VersionRange) → list_all has_start ranges ≡ true → list_all keeps_meaning ranges ≡ true
@@ -87,11 +86,11 @@ bounds_end (bound.Version s) bound.Unbounded h = start_ends s.kind s.version
 bounds_end (bound.Version s) (bound.Version e) h = between_ends s.kind e.kind s.version e.version
 
 reread_retained : (range : VersionRange) → is_retained range ≡ true → not (ends_at_zero (reread range).end) ≡ true
-reread_retained range h = ap not (bounds_end range.start range.end (and_first (has_start range) _ h)) ∙ and_second (has_start range) _ h
+reread_retained range h = ap not (bounds_end range.start range.end ((and_parts (has_start range) _ h).0)) ∙ (and_parts (has_start range) _ h).1
 
 forms_retained : (ranges : List VersionRange) → list_all is_retained ranges ≡ true → retained Normal (map shortest ranges) ≡ map reread ranges
 forms_retained [] h = refl
-forms_retained (range ∷ ranges) h = go (not (ends_at_zero (reread range).end)) (reread_retained range (and_first _ _ h)) (forms_retained ranges (and_second (is_retained range) _ h))
+forms_retained (range ∷ ranges) h = go (not (ends_at_zero (reread range).end)) (reread_retained range ((and_parts _ _ h).0)) (forms_retained ranges ((and_parts (is_retained range) _ h).1))
   where
     go : (b : Bool) → b ≡ true → retained Normal (map shortest ranges) ≡ map reread ranges
         → (if b then reread range ∷ retained Normal (map shortest ranges) else retained Normal (map shortest ranges)) ≡ map reread (range ∷ ranges)
@@ -107,15 +106,15 @@ set_reread (range ∷ ranges) h = forms_retained (range ∷ ranges) h
 
 rereads_retained : (ranges : List VersionRange) → list_all is_retained ranges ≡ true → list_all is_retained (map reread ranges) ≡ true
 rereads_retained [] h = refl
-rereads_retained (range ∷ ranges) h = and_both _ _
-    (and_both _ _ (retained_range_starts (shortest range)) (reread_retained range (and_first _ _ h)))
-    (rereads_retained ranges (and_second (is_retained range) _ h))
+rereads_retained (range ∷ ranges) h = and_from _ _
+    (and_from _ _ (retained_range_starts (shortest range)) (reread_retained range ((and_parts _ _ h).0)))
+    (rereads_retained ranges ((and_parts (is_retained range) _ h).1))
 
 twice : (ranges : List VersionRange) → list_all is_retained ranges ≡ true → map reread (map reread ranges) ≡ map reread ranges
 twice [] h = refl
 twice (range ∷ ranges) h = ap₂ (λ (r : VersionRange) (rest : List VersionRange). r ∷ rest)
-    (stable_reread (reread range) (reread_stable range (and_first (has_start range) _ (and_first _ _ h))))
-    (twice ranges (and_second (is_retained range) _ h))
+    (stable_reread (reread range) (reread_stable range ((and_parts (has_start range) _ ((and_parts _ _ h).0)).0)))
+    (twice ranges ((and_parts (is_retained range) _ h).1))
 
 -- what a kept set parses back to parses back to itself
 pub set_stabilizes : (ranges : List VersionRange) → list_all is_retained ranges ≡ true → reread_set (reread_set ranges) ≡ reread_set ranges
@@ -126,7 +125,7 @@ set_stabilizes ranges h =
 -- ---- ranges that are stable as parsed
 
 no_build : (v : Version) → (length v.build == 0) ≡ true → v.build ≡ []
-no_build v h = nil_from_length v.build (same_number _ _ h)
+no_build v h = nil_from_length v.build (eqb-true _ _ h)
 
 -- a start below its end
 less_stable : (k l : VersionBoundKind) (s e : Version) → s.build ≡ [] → e.build ≡ [] → precedence_cmp s e ≡ Less → keeps_start (bound_at k s) (bound_at l e) ≡ true
@@ -163,19 +162,19 @@ orderly_bounds : (start end : RangeBound) → starts_or_is_open start end ≡ tr
     → IsStable (between start end)
 orderly_bounds bound.Unbounded bound.Unbounded h built below k = all
 orderly_bounds bound.Unbounded (bound.Version e) h built below k = cc h
-orderly_bounds (bound.Version s) bound.Unbounded h built below k = no_end (no_build s.version (and_first _ _ built))
+orderly_bounds (bound.Version s) bound.Unbounded h built below k = no_end (no_build s.version ((and_parts _ _ built).0))
 orderly_bounds (bound.Version s) (bound.Version e) h built below k =
-    orderly_between s.kind e.kind s.version e.version (no_build s.version (and_first _ _ built)) (no_build e.version (and_second (has_no_build (bound.Version s)) _ built)) below k
+    orderly_between s.kind e.kind s.version e.version (no_build s.version ((and_parts _ _ built).0)) (no_build e.version ((and_parts (has_no_build (bound.Version s)) _ built).1)) below k
 
 -- a range without builds that starts below its end is stable, under the premise
 pub orderly_stable : (range : VersionRange) → has_start range ≡ true → is_orderly range ≡ true → keeps_meaning range ≡ true → IsStable range
-orderly_stable range h orderly k = orderly_bounds range.start range.end h (and_first _ _ orderly) (and_second (has_no_build range.start && has_no_build range.end) _ orderly) k
+orderly_stable range h orderly k = orderly_bounds range.start range.end h ((and_parts _ _ orderly).0) ((and_parts (has_no_build range.start && has_no_build range.end) _ orderly).1) k
 
 orderly_twice : (ranges : List VersionRange) → list_all is_retained ranges ≡ true → list_all is_orderly ranges ≡ true → list_all keeps_meaning ranges ≡ true → map reread ranges ≡ ranges
 orderly_twice [] h orderly k = refl
 orderly_twice (range ∷ ranges) h orderly k = ap₂ (λ (r : VersionRange) (rest : List VersionRange). r ∷ rest)
-    (stable_reread range (orderly_stable range (and_first (has_start range) _ (and_first _ _ h)) (and_first _ _ orderly) (and_first _ _ k)))
-    (orderly_twice ranges (and_second (is_retained range) _ h) (and_second (is_orderly range) _ orderly) (and_second (keeps_meaning range) _ k))
+    (stable_reread range (orderly_stable range ((and_parts (has_start range) _ ((and_parts _ _ h).0)).0) ((and_parts _ _ orderly).0) ((and_parts _ _ k).0)))
+    (orderly_twice ranges ((and_parts (is_retained range) _ h).1) ((and_parts (is_orderly range) _ orderly).1) ((and_parts (keeps_meaning range) _ k).1))
 
 -- a kept set of such ranges parses back to itself
 pub orderly_reread : (ranges : List VersionRange) → list_all is_retained ranges ≡ true → list_all is_orderly ranges ≡ true → list_all keeps_meaning ranges ≡ true → reread_set ranges ≡ ranges

@@ -91,7 +91,7 @@ piece_left piece u start = rw start (end_left piece u)
 
 -- ---- a text without the whitespace at both ends
 
-skipped_twice : (cs : List ℕ) → skip_leading_whitespace (skip_leading_whitespace cs) ≡ skip_leading_whitespace cs
+pub skipped_twice : (cs : List ℕ) → skip_leading_whitespace (skip_leading_whitespace cs) ≡ skip_leading_whitespace cs
 skipped_twice [] = refl
 skipped_twice (c ∷ cs) = elim (cases_Bool (is_whitespace c)) [
   | inl white ↦ rw white (skipped_twice cs)

@@ -5,7 +5,7 @@ use Rattle.std.specs.Prelude.{not, IsUtf8, encode_utf8, encode_utf8_all}
 use Rattle.std.specs.Char.{is_whitespace}
 use Rattle.std.specs.List.{list_all}
 use Rattle.std.specs.Str.{chars, drop_trailing_whitespace, skip_leading_whitespace, trim, trim_end, trim_start}
-use Rattle.std.proofs.lemmas.Bool.{and_parts, cases_lt}
+use Rattle.std.proofs.lemmas.Bool.{and_parts, cases_lt, false_from_ne_true}
 use Rattle.std.proofs.lemmas.Bool.Decides.{nat_tests}
 use Rattle.std.proofs.lemmas.List.Elements.{All-from_get_or}
 use Rattle.std.proofs.lemmas.List.Sums.{list_all-from_AllPass}
@@ -18,10 +18,6 @@ use Rattle.semver_req.proofs.TagCharacters.{bar_no_tag, white_no_tag}
 use Rattle.semver_req.proofs.WrittenSets.{no_bar}
 
 -- ---- the bytes of a tag
-
-is_other : (b : Bool) → (b ≡ true → ⊥) → b ≡ false
-is_other true h = absurd (h refl)
-is_other false h = refl
 
 -- an ASCII character that no tag has isn't one of its bytes
 module _ (b : ℕ) (low : b < 128) (none : is_tag_character b ≡ false) where
@@ -57,13 +53,13 @@ none_skipped : (cs : List ℕ) → list_all is_tag_character cs ≡ true → ski
 none_skipped [] h = refl
 none_skipped (c ∷ cs) h =
     let both = and_parts (is_tag_character c) _ h in
-    rw (is_other (is_whitespace c) (λ white. white_no_tag c white both.0)) refl
+    rw (false_from_ne_true (is_whitespace c) (λ white. white_no_tag c white both.0)) refl
 
 none_dropped : (cs : List ℕ) → list_all is_tag_character cs ≡ true → drop_trailing_whitespace cs ≡ cs
 none_dropped [] h = refl
 none_dropped (c ∷ cs) h =
     let both = and_parts (is_tag_character c) _ h in
-    rw (is_other (is_whitespace c) (λ white. white_no_tag c white both.0)) (ap (λ t. c ∷ t) (none_dropped cs both.1))
+    rw (false_from_ne_true (is_whitespace c) (λ white. white_no_tag c white both.0)) (ap (λ t. c ∷ t) (none_dropped cs both.1))
 
 module _ (text : List ℕ) (utf8 : IsUtf8 text) (valid : is_valid_tag text ≡ true) where
   characters : list_all is_tag_character (chars text) ≡ true

@@ -9,7 +9,7 @@ use Rattle.std.proofs.lemmas.List.{drop_at, take_at}
 use Rattle.std.proofs.lemmas.Str.{IsCharBoundary-before_ascii, IsUtf8-drop, IsUtf8-past_char, IsUtf8-take, chars-append, chars_from_encodes, chars_past_char, encode_ascii, encodes-append, encodes-chars, encodes_same}
 use Rattle.semver_base.specs.Lexical.{IsWhitespace}
 use Rattle.semver_base.proofs.Solid.{EndsSolid, StartsSolid, is_solid_byte}
-use Rattle.semver_req.proofs.TagPieces.{IsLeft, piece_left}
+use Rattle.semver_req.proofs.TagPieces.{IsLeft, piece_left, skipped_twice}
 use Rattle.semver_req.proofs.WordEndings.{get_or-append-here}
 
 -- ---- lists of characters
@@ -17,13 +17,6 @@ use Rattle.semver_req.proofs.WordEndings.{get_or-append-here}
 skip_white : (cs ds : List ℕ) → NonePass is_not_whitespace cs → skip_leading_whitespace (cs ++ ds) ≡ skip_leading_whitespace ds
 skip_white [] ds h = refl
 skip_white (c ∷ cs) ds h = rw (not-false (is_whitespace c) h.0) (skip_white cs ds h.1)
-
-skip_twice : (cs : List ℕ) → skip_leading_whitespace (skip_leading_whitespace cs) ≡ skip_leading_whitespace cs
-skip_twice [] = refl
-skip_twice (c ∷ cs) = elim (cases_Bool (is_whitespace c)) [
-  | inl white ↦ rw white (skip_twice cs)
-  | inr other ↦ rw (other, other) refl
-]
 
 drop_white : (cs : List ℕ) → NonePass is_not_whitespace cs → drop_trailing_whitespace cs ≡ []
 drop_white [] h = refl
@@ -131,7 +124,7 @@ around text u =
     let white : IsWhitespace ahead tt = (k.white, refl, k.are_white) in
     let some : IsUtf8 (trim_start text) = behind_whitespace ahead (trim_start text) (rw whole at u) white in
     let are : chars (trim_start text) ≡ skip_leading_whitespace (chars text) = encodes_same _ _ (encodes-chars (trim_start text) some) in
-    let again : trim_start (trim_start text) ≡ trim_start text = ap encode_utf8_all (ap skip_leading_whitespace are ∙ skip_twice (chars text)) in
+    let again : trim_start (trim_start text) ≡ trim_start text = ap encode_utf8_all (ap skip_leading_whitespace are ∙ skipped_twice (chars text)) in
     let left : IsLeft (trim_start text) (trim (trim_start text)) = piece_left (trim_start text) some again in
     record {
       ahead = ahead;

@@ -1,5 +1,6 @@
 -- Versions whose numbers fit: with which endings their prefixes are whole.
 use Rattle.std.proofs.Common.{◌<◌, ◌^◌, ℕ, List, [], ◌∷◌, None, refl, append-nil}
+use Rattle.semver_req.proofs.Partials.{no_whitespace}
 use Rattle.semver_base.specs.Grammar.{After, Before, Followed, Joined, Optional, Prefixed}
 use Rattle.semver_base.specs.Lexical.{IsLooseNumber, IsQualifier, IsWhitespace, NoDigitFollows, qualifier_of}
 use Rattle.semver_base.specs.VersionGrammar.{AllNumbersFit, IsLead, IsTriple, IsVersion, version_of}
@@ -8,7 +9,6 @@ use Rattle.semver_base.specs.declared.lexical.values.Strictness.TheVariants.{Loo
 use Rattle.semver_base.specs.declared.version.Version.{Version}
 use Rattle.semver_req.proofs.Endings.{Any, Both, IsEnded, Nothing, after_ended, before_ended, byte_ended, ended_as, followed_ended, joined_ended, mapped_ended, optional_ended, prefixed_ended}
 use Rattle.semver_req.proofs.WordEndings.{IsShort, nothing, digit, below, no_qualifier, number_ended, one_digit, one_number, qualifier_ended, whitespace_ended}
-use Rattle.semver_req.proofs.PartialEndings.{whitespace_none}
 
 -- nothing, or the numbers that are still to come
 pub data IsVersionEnding : List ℕ → Type 0 where
@@ -74,10 +74,10 @@ core_ended = joined_ended IsVersionEnding IsShort IsVersionEnding [] (qualifier_
 
 lead_ended : IsEnded IsLead Any Nothing
 lead_ended = mapped_ended (after_ended (followed_ended Nothing Nothing Nothing [] None no_rest tt (λ e h. rw h refl) (λ e h. h) (optional_ended (byte_ended 61 refl))
-    (after_ended (followed_ended Nothing Nothing Nothing [] None refl tt (λ e h. rw h refl) (λ e h. h) (whitespace_ended refl) (optional_ended (prefixed_ended 118 (record { text = []; value = tt; is_ending = refl; stands = whitespace_none; has = tt }) (whitespace_ended refl)))))))
+    (after_ended (followed_ended Nothing Nothing Nothing [] None refl tt (λ e h. rw h refl) (λ e h. h) (whitespace_ended refl) (optional_ended (prefixed_ended 118 (record { text = []; value = tt; is_ending = refl; stands = no_whitespace; has = tt }) (whitespace_ended refl)))))))
   where
     no_rest : After IsWhitespace (Optional (Prefixed 118 IsWhitespace)) [] None
-    no_rest = record { value = (tt, None); stands = record { first = []; second = []; text_is = refl; in_first = whitespace_none; in_second = refl; seam = tt }; is = refl }
+    no_rest = record { value = (tt, None); stands = record { first = []; second = []; text_is = refl; in_first = no_whitespace; in_second = refl; seam = tt }; is = refl }
 
 abbrev pub ones : List ℕ
 ones = 49 ∷ 46 ∷ 49 ∷ 46 ∷ 49 ∷ []
@@ -101,7 +101,7 @@ version_ended : IsEnded IsVersion AllNumbersFit IsVersionEnding
 version_ended = mapped_ended (ended_as (Both ThreeFit Any) (λ v. AllNumbersFit (version_of v)) fits_version version_fits (after_ended (followed_ended Nothing IsVersionEnding IsVersionEnding ones one_core core_is three_ones (λ e h. rw h three) (λ e h. h) lead_ended core_ended)))
 
 no_lead : IsLead [] tt
-no_lead = record { value = None; stands = record { value = (None, None); stands = record { first = []; second = []; text_is = refl; in_first = refl; in_second = record { value = (tt, None); stands = record { first = []; second = []; text_is = refl; in_first = whitespace_none; in_second = refl; seam = tt }; is = refl }; seam = tt }; is = refl }; is = refl }
+no_lead = record { value = None; stands = record { value = (None, None); stands = record { first = []; second = []; text_is = refl; in_first = refl; in_second = record { value = (tt, None); stands = record { first = []; second = []; text_is = refl; in_first = no_whitespace; in_second = refl; seam = tt }; is = refl }; seam = tt }; is = refl }; is = refl }
 
 version_is : IsVersion ones (version_of one_core)
 version_is = record { value = one_core; stands = record { value = (tt, one_core); stands = record { first = []; second = ones; text_is = refl; in_first = no_lead; in_second = core_is; seam = tt }; is = refl }; is = refl }
@@ -110,12 +110,12 @@ pub one_fits : AllNumbersFit (version_of one_core)
 one_fits = version_fits one_core three_ones
 
 before_is : Before IsVersion IsWhitespace ones (version_of one_core)
-before_is = record { value = (version_of one_core, tt); stands = record { first = ones; second = []; text_is = refl; in_first = version_is; in_second = whitespace_none; seam = tt }; is = refl }
+before_is = record { value = (version_of one_core, tt); stands = record { first = ones; second = []; text_is = refl; in_first = version_is; in_second = no_whitespace; seam = tt }; is = refl }
 
 -- so one of the endings makes a version of each prefix
 pub surrounded_ended : IsEnded IsSurrounded AllNumbersFit IsVersionEnding
 surrounded_ended = after_ended (followed_ended Nothing IsVersionEnding IsVersionEnding ones (version_of one_core) before_is one_fits (λ e h. rw h three) (λ e h. h) (whitespace_ended refl)
-    (before_ended (followed_ended IsVersionEnding Nothing IsVersionEnding [] tt whitespace_none tt (λ e h. rw append-nil h) (λ e h. rw h (short nothing)) version_ended (whitespace_ended refl))))
+    (before_ended (followed_ended IsVersionEnding Nothing IsVersionEnding [] tt no_whitespace tt (λ e h. rw append-nil h) (λ e h. rw h (short nothing)) version_ended (whitespace_ended refl))))
 
 pub surrounded_is : IsSurrounded ones (version_of one_core)
-surrounded_is = record { value = (tt, version_of one_core); stands = record { first = []; second = ones; text_is = refl; in_first = whitespace_none; in_second = before_is; seam = tt }; is = refl }
+surrounded_is = record { value = (tt, version_of one_core); stands = record { first = []; second = ones; text_is = refl; in_first = no_whitespace; in_second = before_is; seam = tt }; is = refl }

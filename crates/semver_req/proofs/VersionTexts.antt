@@ -15,11 +15,11 @@ use Rattle.semver_base.proofs.Solid.{EndsSolid, StartsSolid, ends_after, ends_so
 use Rattle.semver_req.specs.Viable.{IsTextOf, IsVersionText, IsViablePrefix}
 use Rattle.semver_req.specs.declared.error_places.Grammar.{Grammar}
 use Rattle.semver_req.specs.declared.error_places.Grammar.TheVariants.{Ranges, Versions}
-use Rattle.semver_req.proofs.PartialEndings.{whitespace_none}
 use Rattle.semver_req.proofs.ViableParts.{empty_part, one_byte_text, starts_text}
 use Rattle.semver_req.proofs.Trimmed.{around, trim_within}
 use Rattle.semver_req.proofs.VersionEndings.{IsCore, IsSurrounded, IsVersionEnding, one_core, one_fits, ones, short, surrounded_ended, surrounded_is, three, two, behind_one, behind_two}
 use Rattle.semver_req.proofs.WordEndings.{nothing, digit}
+use Rattle.semver_req.proofs.Partials.{no_whitespace}
 
 -- ---- the text of a version without whitespace in front
 
@@ -62,7 +62,7 @@ bared e w v core (Some o) p n h k l c = record {
   white = [];
   bare = (e ++ (w ++ v)) ++ core;
   text_is = refl;
-  is_white = whitespace_none;
+  is_white = no_whitespace;
   starts = starts_before (e ++ (w ++ v)) core (starts_before e (w ++ v) (record { first = 61; rest = []; text_is = h; solid = refl }));
   ends = ends_after (e ++ (w ++ v)) core (ends_solid core (core_some core n c) (core_solid core n c));
   version = led (e ++ (w ++ v)) core n (lead_of e w v (Some o) p h k l) c;
@@ -75,7 +75,7 @@ bared e w (x ∷ v) core None (Some p) n h k l c = record {
   is_white = k;
   starts = record { first = x; rest = v ++ core; text_is = refl; solid = rw l.0 refl };
   ends = ends_after (x ∷ v) core (ends_solid core (core_some core n c) (core_solid core n c));
-  version = led (x ∷ v) core n (lead_of [] [] (x ∷ v) None (Some p) refl whitespace_none l) c;
+  version = led (x ∷ v) core n (lead_of [] [] (x ∷ v) None (Some p) refl no_whitespace l) c;
 }
 bared e w v core None None n h k l c = record {
   white = w;
@@ -84,7 +84,7 @@ bared e w v core None None n h k l c = record {
   is_white = k;
   starts = starts_solid core (core_some core n c) (core_solid core n c);
   ends = ends_solid core (core_some core n c) (core_solid core n c);
-  version = led [] core n (lead_of [] [] [] None None refl whitespace_none refl) c;
+  version = led [] core n (lead_of [] [] [] None None refl no_whitespace refl) c;
 }
 
 bare_of : (text : List ℕ) (v : Version) → IsVersion text v → IsBare text v

@@ -25,15 +25,13 @@ use Rattle.semver_base.proofs.Fronts.{fronts, same, shorter, longer, same_fronts
 use Rattle.semver_req.specs.Comparators.{fits, numbers}
 use Rattle.semver_req.specs.Outcome.{IsBad, IsGood, IsSpecifierRange}
 use Rattle.semver_req.specs.Partials.{component_fits, partial_fits, sized_partial}
-use Rattle.semver_req.specs.PieceReading.{IsPieceRead, IsPieceRejection, outside, large_number, large_bound, numbers_fit, sums_fit}
+use Rattle.semver_req.specs.PieceReading.{IsPieceRead, IsPieceRejection, outside, large_number, large_bound, numbers_fit}
 use Rattle.semver_req.specs.Pieces.{IsCutting, IsFilled, IsPiece, npm, normal}
 use Rattle.semver_req.specs.Written.{IsFront, comparator_of}
 use Rattle.semver_req.specs.declared.common.comparator.Written.{Written}
 use Rattle.semver_req.specs.declared.common.values.Flavour.{Flavour}
 use Rattle.semver_req.specs.declared.common.values.Flavour.TheVariants.{Npm, Normal, Specifier}
 use Rattle.semver_req.specs.declared.range_set_or_tag.pieces.RangeOrInvalid.TheVariants as read
-use Rattle.semver_req.proofs.Fitting.{comparator_all, numbers_all}
-use Rattle.semver_req.proofs.PieceReadings.{piece_one}
 use Rattle.semver_req.specs.Sizes.{Sized, admits, is_in_grammar}
 use Rattle.semver_req.specs.Viable.{HasPiece, HasRange, IsAnyPiece, IsPart, IsPieceOrCut, alone, cut, IsViablePrefix}
 use Rattle.semver_req.specs.declared.error_places.Sizes.{Sizes}
@@ -42,6 +40,9 @@ use Rattle.semver_req.proofs.Endings.{Each, Ends, IsEnded, Starts, ended_as, end
 use Rattle.semver_req.proofs.WordEndings.{AreSizes, IsShort, nothing, digit, front_below, whitespace_front, one_digit}
 use Rattle.semver_req.proofs.PartialEndings.{InComparator, InComponent, InPartial, in_one, normal_filled_ended, one, one_partial, specifier_ended}
 use Rattle.semver_req.proofs.NpmEndings.{IsNpmEnding, short, and_sign, whitespace_digit, npm_filled_ended}
+use Rattle.semver_req.proofs.PiecesRead.{numbers_of}
+use Rattle.semver_req.proofs.Fitting.{comparator_all, numbers_all}
+use Rattle.semver_req.proofs.PieceReadings.{piece_one}
 
 -- ---- texts
 
@@ -251,12 +252,6 @@ range_with sizes (x ∷ p) text e never v = let k = unsized (IsPart Specifier) v
 
 -- ---- pieces
 
-good_numbers : (cs : List Comparator) → list_all fits cs ≡ true → list_all numbers_fit cs ≡ true
-good_numbers [] h = refl
-good_numbers (c ∷ cs) h =
-    let both = and_parts (fits c) (list_all fits cs) h in
-    and_from (numbers_fit c) (list_all numbers_fit cs) (and_parts (numbers_fit c) (sums_fit c) both.0).0 (good_numbers cs both.1)
-
 of_sizes : (sizes : Sizes) (cs : List Comparator) → list_all numbers_fit cs ≡ true → AreOf sizes cs
 of_sizes Any cs h = any_list cs
 of_sizes Fitting cs h = list_in cs h
@@ -265,7 +260,7 @@ pub good_piece : (f : Flavour) (sizes : Sizes) (followed : Bool) (text : List �
 good_piece f sizes followed text h = (λ t. by h.0 h.1, λ p. refl)
   where
     by : (cs : List Comparator) → IsGood f followed text cs → HasPiece f sizes followed text
-    by cs (inl k) = (cs, sized (IsAnyPiece f followed) cs sizes (inl k.0) (of_sizes sizes cs (good_numbers cs k.1)))
+    by cs (inl k) = (cs, sized (IsAnyPiece f followed) cs sizes (inl k.0) (of_sizes sizes cs (numbers_of cs k.1)))
     by cs (inr k) = ([], sized (IsAnyPiece f followed) [] sizes (inr (k.0, k.1, refl)) tt)
 
 pub rejected_piece : (f : Flavour) (sizes : Sizes) (followed : Bool) (text : List ℕ) (rejection : Rejection) → IsBad f followed text × IsPieceRejection f text rejection → IsTrue (is_in_grammar sizes rejection) ↔ HasPiece f sizes followed text

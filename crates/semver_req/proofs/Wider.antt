@@ -1,12 +1,10 @@
 -- npm's grammar matches what the normalized one matches, with the same comparators.
 use Rattle.std.proofs.Common.{ℕ, List, [], ◌∷◌, Option, Some, None, refl, ◌==◌}
 use Rattle.std.specs.Prelude.{◌||◌, codes}
-use Rattle.std.specs.Char.{is_not_whitespace}
 use Rattle.std.proofs.lemmas.Bool.{or_left}
-use Rattle.std.proofs.lemmas.Str.{NoCharPasses-nil}
 use Rattle.semver_base.specs.Comparators.{Comparator}
 use Rattle.semver_base.specs.Grammar.{Listed, last_item, closed_item, more_items, Optional, this, that}
-use Rattle.semver_base.specs.Lexical.{IsWhitespace, IsSomeWhitespace}
+use Rattle.semver_base.specs.Lexical.{IsSomeWhitespace}
 use Rattle.semver_base.specs.declared.lexical.values.Qualifier.{Qualifier}
 use Rattle.semver_base.specs.declared.partial.Partial.{Partial}
 use Rattle.semver_base.specs.declared.partial.XRange.{XRange}
@@ -16,6 +14,7 @@ use Rattle.semver_req.specs.Comparators.{IsComparator, IsLed, no_more}
 use Rattle.semver_req.specs.Partials.{IsComponent, IsPartial, IsBarePartial, IsSecond, IsThird}
 use Rattle.semver_req.specs.Pieces.{IsNpmSeparator, NormalPiecesAreNpms}
 use Rattle.semver_req.specs.declared.common.values.Flavour.TheVariants.{Npm, Normal}
+use Rattle.semver_req.proofs.Partials.{no_whitespace}
 
 -- ---- partial versions
 
@@ -39,9 +38,6 @@ bare_wider text p m =
     record { value = m.value; stands = record { first = h.first; second = h.second; text_is = h.text_is; in_first = component_wider h.first m.value.0 h.in_first; in_second = second_wider h.second m.value.1 h.in_second; seam = tt }; is = m.is }
 
 -- ---- comparators
-
-no_whitespace : IsWhitespace [] tt
-no_whitespace = NoCharPasses-nil is_not_whitespace
 
 pub npm_led : (text : List ℕ) (p : Partial) → IsPartial Npm text p → IsLed text p
 npm_led text p h = after [] text tt no_more (after [] text tt no_whitespace (after [] text None refl (after [] text tt no_whitespace h)))

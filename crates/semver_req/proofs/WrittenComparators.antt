@@ -1,15 +1,12 @@
 -- The text of a range: comparators that parse back unchanged in npm's and the normalized grammar.
 use Rattle.std.proofs.Common.{◌≡◌, ◌<◌, ◌^◌, ◌+◌, ℕ, Bool, true, false, List, [], ◌∷◌, ◌++◌, length, Some, None, refl, sym, ap, ◌∙◌, arith, append-nil, ◌==◌, length-append}
 use Rattle.std.specs.Prelude.{◌&&◌, codes, if◌then◌else◌, nat_lt}
-use Rattle.std.specs.Char.{is_not_whitespace}
 use Rattle.std.specs.Fmt.{decimal}
 use Rattle.std.specs.List.{list_all}
 use Rattle.std.proofs.lemmas.Bool.{and_from, and_parts, eqb-true, lt-ltb}
 use Rattle.std.proofs.lemmas.Bool.Decides.{nat_tests}
-use Rattle.std.proofs.lemmas.Str.{NoCharPasses-nil}
 use Rattle.semver_base.specs.Comparators.{Caret, Comparator, OfPrimitive, Bare, Tilde, comparator_line, primitive_kind_text}
 use Rattle.semver_base.specs.Grammar.{Followed, Optional, this, that}
-use Rattle.semver_base.specs.Lexical.{IsWhitespace}
 use Rattle.semver_base.specs.Meaning.{release}
 use Rattle.semver_base.specs.NormalText.{IsWritableBound, IsWritableRange, comparator_text, partial_text}
 use Rattle.semver_base.specs.PartialTable.{Line, all_fit, caret, caret_by, lower_to_below, equal, number_fits, tilde}
@@ -35,7 +32,7 @@ use Rattle.semver_req.specs.Comparators.{IsComparator, IsLed, fits, no_more, num
 use Rattle.semver_req.specs.Partials.{IsComponent, IsPartial, IsBarePartial, IsThird, is_wildcard, strictness_of}
 use Rattle.semver_req.specs.declared.common.values.Flavour.{Flavour}
 use Rattle.semver_req.specs.declared.common.values.Flavour.TheVariants.{Npm, Normal, Specifier}
-use Rattle.semver_req.proofs.Partials.{partial_some}
+use Rattle.semver_req.proofs.Partials.{no_whitespace, partial_some}
 
 -- ---- partial versions
 
@@ -140,9 +137,6 @@ pub record IsWritten (c : Comparator) : Type 0 where
   pub some : 0 < length (comparator_text c)
   pub fit : fits c ≡ true
 
-not_whitespace : IsWhitespace [] tt
-not_whitespace = NoCharPasses-nil is_not_whitespace
-
 module _ {p : Partial} (w : IsWrittenPartial p) where
   npm_partial : IsPartial Npm (partial_text p) p
   npm_partial = that (w.reads Npm)
@@ -154,7 +148,7 @@ module _ {p : Partial} (w : IsWrittenPartial p) where
   some_partial = some_text (partial_some Normal) (partial_text p) (w.reads Normal)
 
   led : IsLed (partial_text p) p
-  led = after [] _ tt no_more (after [] _ tt not_whitespace (after [] _ None refl (after [] _ tt not_whitespace npm_partial)))
+  led = after [] _ tt no_more (after [] _ tt no_whitespace (after [] _ None refl (after [] _ tt no_whitespace npm_partial)))
 
   fit_with : (sums : List ℕ) → all_fit sums ≡ true → (all_fit (numbers p) && all_fit sums) ≡ true
   fit_with sums fit = and_from (all_fit (numbers p)) (all_fit sums) w.fit fit
@@ -188,8 +182,8 @@ module _ {p : Partial} (w : IsWrittenPartial p) where
 
   primitive_written : (primitive_kind : PrimitiveKind) → list_all is_solid_byte (primitive_kind_text primitive_kind) ≡ true → all_fit (comparator_line (OfPrimitive primitive_kind p)).sums ≡ true → IsWritten (OfPrimitive primitive_kind p)
   primitive_written primitive_kind solid fit = record {
-    npm = that (this (record { value = (primitive_kind, p); stands = follow (primitive_kind_text primitive_kind) _ refl (after [] _ tt not_whitespace npm_partial); is = refl }));
-    normal = that (this (record { value = (primitive_kind, p); stands = follow (primitive_kind_text primitive_kind) _ refl (after [] _ tt not_whitespace (w.reads Normal)); is = refl }));
+    npm = that (this (record { value = (primitive_kind, p); stands = follow (primitive_kind_text primitive_kind) _ refl (after [] _ tt no_whitespace npm_partial); is = refl }));
+    normal = that (this (record { value = (primitive_kind, p); stands = follow (primitive_kind_text primitive_kind) _ refl (after [] _ tt no_whitespace (w.reads Normal)); is = refl }));
     solid = list_all-append is_solid_byte (primitive_kind_text primitive_kind) (partial_text p) solid solid_partial;
     some = omega (arith, some_partial, length-append (primitive_kind_text primitive_kind) (partial_text p));
     fit = fit_with (comparator_line (OfPrimitive primitive_kind p)).sums fit;

@@ -1,14 +1,8 @@
-use Rattle.std.proofs.Common.{◌≡◌, ◌<◌, ◌==◌, ◌∙◌, List, ℕ, Bool, length, true, false, sym, inr, refl, arith, rules}
+use Rattle.std.proofs.Common.{◌∙◌, true, false, sym, inr, refl, rules}
 use Rattle.std.specs.Option.{option_copied}
-use Rattle.std.proofs.lemmas.Bool.Decides.{nat_tests}
 use Rattle.deno_semver.proofs.PackageText.{bare_cut, front_boundary, scope_alone, scoped_cut}
+use Rattle.deno_semver.proofs.Runs.{none_left, some_left}
 use Rattle.deno_semver.proofs.package.cut.parts_of.Goals as goal
-
-some_left : (xs : List ℕ) (b : Bool) → b ≡ (length xs == 0) → b ≡ false → 0 < length xs
-some_left xs b e f = grind (arith, nat_tests)
-
-none_left : (xs : List ℕ) (b : Bool) → b ≡ (length xs == 0) → b ≡ true → length xs ≡ 0
-none_left xs b e f = grind (arith, nat_tests)
 
 pub returns-then-not-starts_with_at-clause-cut : goal.returns-then-not-starts_with_at-clause-cut
 returns-then-not-starts_with_at-clause-cut c =

@@ -1,7 +1,7 @@
-use Rattle.std.proofs.Common.{◌≡◌, ◌<◌, ◌==◌, ◌∙◌, List, ℕ, Bool, length, true, false, refl, arith}
-use Rattle.std.proofs.lemmas.Bool.Decides.{nat_tests}
+use Rattle.std.proofs.Common.{◌∙◌, true, false, refl}
 use Rattle.deno_semver.specs.ReferenceReading.{IsReadWithPath}
 use Rattle.deno_semver.proofs.PackageFaults.{front_error, no_path, path_fault, uncut_error, version_error}
+use Rattle.deno_semver.proofs.Runs.{none_left, some_left}
 use Rattle.deno_semver.proofs.package.read.read.Goals as goal
 
 pub returns-in-Err : goal.returns-in-Err
@@ -10,12 +10,6 @@ returns-in-Err c = front_error c.args.flavour c.args.text.now (uncut_error c.arg
 pub returns-in-Err-req_of : goal.returns-in-Err-req_of
 returns-in-Err-req_of c =
     front_error c.args.flavour c.args.text.now (version_error c.args.flavour c.args.text.now _ c.in-Ok.ensures.cut.parts c.in-Err-req_of.ensures.rejected)
-
-some_left : (xs : List ℕ) (b : Bool) → b ≡ (length xs == 0) → b ≡ false → 0 < length xs
-some_left xs b e f = grind (arith, nat_tests)
-
-none_left : (xs : List ℕ) (b : Bool) → b ≡ (length xs == 0) → b ≡ true → length xs ≡ 0
-none_left xs b e f = grind (arith, nat_tests)
 
 pub returns-then-not-is_empty : goal.returns-then-not-is_empty
 returns-then-not-is_empty c =

@@ -1,14 +1,8 @@
-use Rattle.std.proofs.Common.{◌≡◌, ◌<◌, ◌==◌, List, ℕ, Bool, length, true, false, arith}
-use Rattle.std.proofs.lemmas.Bool.Decides.{nat_tests}
+use Rattle.std.proofs.Common.{true, false}
 use Rattle.deno_semver.proofs.NameAndVersion.{bad_answer, bad_rejection, followed_answer, followed_rejection, whole_answer, whole_read}
 use Rattle.deno_semver.proofs.NvText.{reads_back}
+use Rattle.deno_semver.proofs.Runs.{none_left, some_left}
 use Rattle.deno_semver.proofs.package.values.PackageNv.from_str.Goals as goal
-
-some_left : (xs : List ℕ) (b : Bool) → b ≡ (length xs == 0) → b ≡ false → 0 < length xs
-some_left xs b e f = grind (arith, nat_tests)
-
-none_left : (xs : List ℕ) (b : Bool) → b ≡ (length xs == 0) → b ≡ true → length xs ≡ 0
-none_left xs b e f = grind (arith, nat_tests)
 
 pub returns-in-Err-clause-rejected : goal.returns-in-Err-clause-rejected
 returns-in-Err-clause-rejected c = bad_rejection c.in-Err.ensures.rejected
