@@ -9,7 +9,7 @@ use Rattle.semver_req.specs.declared.error_places.expected.Kind.{Kind}
 use Rattle.answers.specs.Asking.{Fault, OutOfMemory}
 use Rattle.answers.specs.Errors.{expected_names, kind_name}
 use Rattle.answers.specs.ExplainedJson.{Explains, invalid_range}
-use Rattle.answers.specs.Reading.{IsRange}
+use Rattle.answers.specs.Reading.{IsRangeAt}
 use Rattle.answers.specs.declared.asking.Answer.{Answer}
 
 -- names of kinds, and more texts
@@ -32,7 +32,7 @@ pub with_end : (e : Expected) (names : List Data) (items : List Data) → names 
 with_end e names items h added is = names_all e items (rw is (added ∙ ap (λ all. all ++ string (codes "end") ∷ []) h))
 
 -- an explanation that failed
-pub not_explained : (flag : PreRelease) (f : Flavour) (text : List ℕ) (fault : Fault) (outcome : Result (Answer (List ℕ)) Fault) → outcome ≡ Err fault → (fault ≡ OutOfMemory) ⊎ IsRange f 0 text (Err fault)
+pub not_explained : (flag : PreRelease) (f : Flavour) (text : List ℕ) (fault : Fault) (outcome : Result (Answer (List ℕ)) Fault) → outcome ≡ Err fault → (fault ≡ OutOfMemory) ⊎ IsRangeAt f 0 text (Err fault)
     → (outcome ≡ Err OutOfMemory) ⊎ Explains flag f text outcome
 not_explained flag f text fault outcome is (inl e) = inl (is ∙ ap Err e)
 not_explained flag f text fault outcome is (inr h) = inr (subst (Explains flag f text) (sym is) (invalid_range h))

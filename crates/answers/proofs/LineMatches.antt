@@ -9,7 +9,7 @@ use Rattle.semver_req.specs.declared.range_set_or_tag.RangeSetOrTag.TheVariants 
 use Rattle.answers.proofs.Givens.{answered as found, as_fault, as_value, by_value, fault_no_value, same_fault, same_value, value_no_fault}
 use Rattle.answers.specs.Asking.{Each, Fault, Invalid, Is, IsOutcomeOf, OutOfMemory}
 use Rattle.answers.specs.Filtering.{FilterOf, IsLine, LineMatch, line_answer, of_no_version, of_version}
-use Rattle.answers.specs.Reading.{IsVersion}
+use Rattle.answers.specs.Reading.{IsVersionAt}
 use Rattle.answers.specs.declared.asking.Answer.TheVariants.{Value}
 use Rattle.answers.specs.declared.asking.Kind.{Kind}
 
@@ -20,10 +20,10 @@ abbrev answered : {X : Type 0} → Option X → Result (Option X) Fault
 answered answer = Ok answer
 
 module _ {X : Type 0} (test : Version → X) (place : ℕ) (text : List ℕ) where
-  pub line_of_version : (v : Version) → IsOutcomeOf OutOfMemory (IsVersion place text) (Ok v) → IsOutcomeOf OutOfMemory (IsLine test place text) (Ok (Some (test v)))
+  pub line_of_version : (v : Version) → IsOutcomeOf OutOfMemory (IsVersionAt place text) (Ok v) → IsOutcomeOf OutOfMemory (IsLine test place text) (Ok (Some (test v)))
   line_of_version v h = record { is = inr (is h.is); only = λ o a. inr (only o a) }
     where
-      is : (as_value v ≡ as_fault OutOfMemory) ⊎ IsVersion place text (Ok v) → IsLine test place text (Ok (Some (test v)))
+      is : (as_value v ≡ as_fault OutOfMemory) ⊎ IsVersionAt place text (Ok v) → IsLine test place text (Ok (Some (test v)))
       is (inl none) = absurd (value_no_fault v OutOfMemory none)
       is (inr k) = of_version k
 
@@ -39,10 +39,10 @@ module _ {X : Type 0} (test : Version → X) (place : ℕ) (text : List ℕ) whe
       only o (of_version {v = w} k) = ap (λ (x : Version). answered (Some (test x))) (same w (h.only (Ok w) k))
       only o (of_no_version {fault = fault} k) = absurd (never fault (h.only (Err fault) k))
 
-  pub line_of_fault : (fault : Fault) → IsOutcomeOf OutOfMemory (IsVersion place text) (Err fault) → (fault ≡ OutOfMemory → ⊥) → IsOutcomeOf OutOfMemory (IsLine test place text) (Ok None)
+  pub line_of_fault : (fault : Fault) → IsOutcomeOf OutOfMemory (IsVersionAt place text) (Err fault) → (fault ≡ OutOfMemory → ⊥) → IsOutcomeOf OutOfMemory (IsLine test place text) (Ok None)
   line_of_fault fault h proper = record { is = inr (is h.is); only = λ o a. inr (only o a) }
     where
-      is : (as_fault {X = Version} fault ≡ as_fault OutOfMemory) ⊎ IsVersion place text (Err fault) → IsLine test place text (Ok None)
+      is : (as_fault {X = Version} fault ≡ as_fault OutOfMemory) ⊎ IsVersionAt place text (Err fault) → IsLine test place text (Ok None)
       is (inl none) = absurd (proper (same_fault {X = Version} fault OutOfMemory none))
       is (inr k) = of_no_version k
 

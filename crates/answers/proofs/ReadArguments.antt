@@ -3,12 +3,12 @@ use Rattle.std.proofs.Common.{◌≡◌, ℕ, List, Ok, Err, Result, Some, None,
 use Rattle.std.specs.Prelude.{◌⊎◌}
 use Rattle.semver_req.specs.Outcome as outcome
 use Rattle.semver_req.specs.Outcome.{IsOutcome, Outcome, Ranges, Tag}
-use Rattle.semver_req.specs.Parsers.{Failure, IsAnswer as IsAnswerTo, IsRead, IsParserAnswer, IsReading}
+use Rattle.semver_req.specs.Parsers.{Failure, IsResultOf, IsRead, IsParserAnswer, IsReading}
 use Rattle.semver_req.specs.Requirement.{Requirement}
 use Rattle.semver_req.specs.declared.common.values.Flavour.{Flavour}
 use Rattle.semver_req.specs.declared.range_set_or_tag.RangeSetOrTag.{RangeSetOrTag}
 use Rattle.answers.specs.Asking.{Fault, IsAnswer, OutOfMemory, fault_of, problem_of}
-use Rattle.answers.specs.Reading.{IsRange, IsRangeOutcome, Parsed, not_parsed, parsed}
+use Rattle.answers.specs.Reading.{IsRangeAt, IsRangeOutcome, Parsed, not_parsed, parsed}
 use Rattle.answers.specs.declared.asking.Kind.{Kind}
 use Rattle.answers.specs.declared.asking.Kind.TheVariants as kind
 use Rattle.answers.proofs.Givens.{as_fault, as_value}
@@ -52,7 +52,7 @@ module _ (f : Flavour) (place : ℕ) (text : List ℕ) where
   one_reading : (req : Requirement) → IsParserAnswer (λ (e : Failure). e) f text (Ok req) → (read : RangeSetOrTag) → IsReading f text read → req.inner ≡ read
   one_reading req h read k = go k.outcome (h.answer k.outcome k.is_outcome) k.is_read
     where
-      go : (o : Outcome) → IsAnswerTo (λ (e : Failure). e) f o (Ok req) → IsRead f o read → req.inner ≡ read
+      go : (o : Outcome) → IsResultOf (λ (e : Failure). e) f o (Ok req) → IsRead f o read → req.inner ≡ read
       go (Ranges tree) is was = is ∙ sym was
       go (Tag name) is was = is ∙ sym was
       go outcome.Rejected is was = absurd was
@@ -63,19 +63,19 @@ module _ (f : Flavour) (place : ℕ) (text : List ℕ) where
   same_requirement : (req other : Requirement) → req.inner ≡ other.inner → req.raw_text ≡ other.raw_text → req ≡ other
   same_requirement req other e g = ap (λ (read : RangeSetOrTag). record { raw_text = req.raw_text; inner = read }) e ∙ ap (λ (raw : List ℕ). record { raw_text = raw; inner = other.inner }) g
 
-  pub was_read : (req : Requirement) → IsParserAnswer (λ (e : Failure). e) f text (Ok req) → IsAnswer (IsRange f place text) (λ (r : Requirement). r) (Ok req)
+  pub was_read : (req : Requirement) → IsParserAnswer (λ (e : Failure). e) f text (Ok req) → IsAnswer (IsRangeAt f place text) (λ (r : Requirement). r) (Ok req)
   was_read req h = was_parsed kind.Range place (IsRangeOutcome f text) req (record { reading = h.outcome; raw_text = h.raw_text }, h.means)
       (λ other k. same_requirement req other (one_reading req h other.inner k.0.reading) (h.raw_text ∙ sym k.0.raw_text)) (λ fault p. not_rejected req h p)
 
   reading_memory : (failure : Failure) → IsParserAnswer (λ (e : Failure). e) f text (Err failure) → (read : RangeSetOrTag) → IsReading f text read → failure ≡ None
   reading_memory failure h read k = go k.outcome (h.answer k.outcome k.is_outcome) k.is_read
     where
-      go : (o : Outcome) → IsAnswerTo (λ (e : Failure). e) f o (Err failure) → IsRead f o read → failure ≡ None
+      go : (o : Outcome) → IsResultOf (λ (e : Failure). e) f o (Err failure) → IsRead f o read → failure ≡ None
       go (Ranges tree) is was = is
       go (Tag name) is was = is
       go outcome.Rejected is was = absurd was
 
-  pub was_rejected : (failure : Failure) → IsParserAnswer (λ (e : Failure). e) f text (Err failure) → IsAnswer (IsRange f place text) (λ (r : Requirement). r) (Err (problem_of kind.Range place failure))
+  pub was_rejected : (failure : Failure) → IsParserAnswer (λ (e : Failure). e) f text (Err failure) → IsAnswer (IsRangeAt f place text) (λ (r : Requirement). r) (Err (problem_of kind.Range place failure))
   was_rejected failure h = was_not_parsed kind.Range place (IsRangeOutcome f text) failure (fault_of_text h.rejected) (λ other k. reading_memory failure h other.inner k.0.reading)
     where
       fault_of_text : (failure ≡ None) ⊎ IsOutcome f text outcome.Rejected → (failure ≡ None) ⊎ ((fault : Unit {0}) × IsRangeOutcome f text (Err fault))

@@ -21,7 +21,7 @@ use Rattle.answers.specs.Asking.{Fault}
 use Rattle.answers.specs.Errors.{error_json}
 use Rattle.answers.specs.Explained.{IsExplained}
 use Rattle.answers.specs.Parts.{bound_json}
-use Rattle.answers.specs.Reading.{IsRange}
+use Rattle.answers.specs.Reading.{IsRangeAt}
 use Rattle.answers.specs.declared.asking.Answer.{Answer}
 use Rattle.answers.specs.declared.asking.Answer.TheVariants.{Value, Tag}
 use Rattle.answers.specs.declared.explained.Explanation.{Explanation}
@@ -141,4 +141,4 @@ IsExplainedText f flag text (Value json) = (pieces : List Piece) × (errors : Li
 -- what a range means, or that its text is invalid
 pub data Explains (flag : PreRelease) (f : Flavour) (text : List ℕ) : Result (Answer (List ℕ)) Fault → Type 0 where
   explained : {answer : Answer (List ℕ)} → IsExplainedText f flag text answer → Explains flag f text (Ok answer)
-  invalid_range : {fault : Fault} → IsRange f 0 text (Err fault) → Explains flag f text (Err fault)
+  invalid_range : {fault : Fault} → IsRangeAt f 0 text (Err fault) → Explains flag f text (Err fault)

@@ -11,7 +11,7 @@ use Rattle.semver_req.specs.declared.range_set_or_tag.RangeSetOrTag.{RangeSetOrT
 use Rattle.semver_req.specs.declared.range_set_or_tag.RangeSetOrTag.TheVariants as inner
 use Rattle.answers.specs.Asking.{Each, Fault, Given, Is}
 use Rattle.answers.specs.Questions.{UnlessTag}
-use Rattle.answers.specs.Reading.{IsRange, IsVersion}
+use Rattle.answers.specs.Reading.{IsRangeAt, IsVersionAt}
 use Rattle.answers.specs.declared.asking.Answer.{Answer}
 use Rattle.answers.specs.declared.asking.Answer.TheVariants.{Value, Tag}
 use Rattle.answers.specs.declared.questions.End.{End}
@@ -24,8 +24,8 @@ list_answer items (Tag tag) = Tag tag
 
 -- what is asked of the version that a text parses to; none if the text isn't a version
 pub data IsLine {X : Type 0} (value : Version → X) (place : ℕ) (text : List ℕ) : Result (Option X) Fault → Type 0 where
-  of_version : {v : Version} → IsVersion place text (Ok v) → IsLine value place text (Ok (Some (value v)))
-  of_no_version : {fault : Fault} → IsVersion place text (Err fault) → IsLine value place text (Ok None)
+  of_version : {v : Version} → IsVersionAt place text (Ok v) → IsLine value place text (Ok (Some (value v)))
+  of_no_version : {fault : Fault} → IsVersionAt place text (Err fault) → IsLine value place text (Ok None)
 
 -- whether the version that a text parses to passes the test
 abbrev pub LineMatch : (Version → Bool) → ℕ → List ℕ → Result (Option Bool) Fault → Type 0
@@ -38,7 +38,7 @@ FilterOf flag read texts = UnlessTag (tag_of read)
 
 -- for each of the texts whether its version matches the range; or the tag
 abbrev pub Filter : PreRelease → Flavour → List ℕ → List (List ℕ) → Result (Answer (List (Option Bool))) Fault → Type 0
-Filter flag f range texts = Given (IsRange f 0 range) (λ req. FilterOf flag req.inner texts)
+Filter flag f range texts = Given (IsRangeAt f 0 range) (λ req. FilterOf flag req.inner texts)
 
 -- ---- versions that are parsed once
 

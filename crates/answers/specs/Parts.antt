@@ -15,7 +15,7 @@ use Rattle.semver_req.specs.declared.range_set_or_tag.RangeSetOrTag.{RangeSetOrT
 use Rattle.semver_req.specs.declared.range_set_or_tag.RangeSetOrTag.TheVariants as inner
 use Rattle.std.specs.Fmt.{decimal}
 use Rattle.answers.specs.Asking.{Fault, Given, Is}
-use Rattle.answers.specs.Reading.{IsRange, IsVersion}
+use Rattle.answers.specs.Reading.{IsRangeAt, IsVersionAt}
 use Rattle.answers.specs.declared.asking.Answer.{Answer}
 use Rattle.answers.specs.declared.asking.Answer.TheVariants.{Value, Tag}
 
@@ -36,7 +36,7 @@ version_json v =
 
 -- the parts of the version of a text
 abbrev pub VersionParts : List ℕ → Result (List ℕ) Fault → Type 0
-VersionParts version = Given (IsVersion 0 version) (λ v. Is (compact_text (version_json v)))
+VersionParts version = Given (IsVersionAt 0 version) (λ v. Is (compact_text (version_json v)))
 
 -- ---- ranges
 
@@ -68,4 +68,4 @@ ranges_answer (inner.Tag tag) = Tag tag
 
 -- the ranges of a text, or the tag
 abbrev pub RangeParts : Flavour → List ℕ → Result (Answer (List ℕ)) Fault → Type 0
-RangeParts f range = Given (IsRange f 0 range) (λ req. Is (ranges_answer req.inner))
+RangeParts f range = Given (IsRangeAt f 0 range) (λ req. Is (ranges_answer req.inner))

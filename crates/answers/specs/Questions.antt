@@ -12,9 +12,9 @@ use Rattle.semver_req.specs.Requirement.{Requirement, all_inners_mean_with, inne
 use Rattle.semver_req.specs.declared.common.values.Flavour.{Flavour}
 use Rattle.semver_req.specs.declared.range_set_or_tag.RangeSetOrTag.{RangeSetOrTag}
 use Rattle.semver_req.specs.declared.range_set_or_tag.RangeSetOrTag.TheVariants as inner
-use Rattle.semver_req.specs.Resolve.{IsBestAt, greater, lower}
+use Rattle.semver_req.specs.Resolve.{IsBestAt, higher, lower}
 use Rattle.answers.specs.Asking.{Each, Fault, Given, Is}
-use Rattle.answers.specs.Reading.{IsRange, IsVersion}
+use Rattle.answers.specs.Reading.{IsRangeAt, IsVersionAt}
 use Rattle.answers.specs.declared.asking.Answer.{Answer}
 use Rattle.answers.specs.declared.asking.Answer.TheVariants.{Value, Tag}
 use Rattle.answers.specs.declared.questions.Best.{Best}
@@ -46,13 +46,13 @@ match_of flag (inner.Tag tag) v = Tag tag
 
 abbrev pub Matches : PreRelease → Flavour → List ℕ → List ℕ → Result (Answer Bool) Fault → Type 0
 Matches flag f range version =
-    Given (IsRange f 0 range) (λ req. Given (IsVersion 0 version) (λ v. Is (match_of flag req.inner v)))
+    Given (IsRangeAt f 0 range) (λ req. Given (IsVersionAt 0 version) (λ v. Is (match_of flag req.inner v)))
 
 -- ---- the highest or the lowest of several versions that matches
 
 -- at this end of the order, which of two versions is the better one
 abbrev pub better : End → Version → Version → Bool
-better Highest = greater
+better Highest = higher
 better Lowest = lower
 
 -- the best version that passes a test with its place, of equal ones the first; or that none passes
@@ -68,13 +68,13 @@ BestOf end flag read versions = UnlessTag (tag_of read)
 -- the same of texts
 abbrev pub BestMatch : End → PreRelease → Flavour → List ℕ → List (List ℕ) → Result (Answer (Option Best)) Fault → Type 0
 BestMatch end flag f range versions =
-    Given (IsRange f 0 range) (λ req. Given (Each IsVersion 0 versions) (BestOf end flag req.inner))
+    Given (IsRangeAt f 0 range) (λ req. Given (Each IsVersionAt 0 versions) (BestOf end flag req.inner))
 
 -- ---- do two ranges overlap
 
 abbrev pub Overlaps : Flavour → List ℕ → List ℕ → Result Bool Fault → Type 0
 Overlaps f one other =
-    Given (IsRange f 0 one) (λ req. Given (IsRange f 1 other) (λ others. Is (inner_overlap req.inner others.inner)))
+    Given (IsRangeAt f 0 one) (λ req. Given (IsRangeAt f 1 other) (λ others. Is (inner_overlap req.inner others.inner)))
 
 -- ---- the lowest version
 
@@ -88,14 +88,14 @@ CommonOf flag [] = Is (Value None)
 CommonOf flag (own ∷ others) = UnlessTag (first_tag (own ∷ others)) (LowestOf (all_inners_mean_with flag own.inner others))
 
 abbrev pub Common : PreRelease → Flavour → List (List ℕ) → Result (Answer (Option Version)) Fault → Type 0
-Common flag f texts = Given (Each (IsRange f) 0 texts) (CommonOf flag)
+Common flag f texts = Given (Each (IsRangeAt f) 0 texts) (CommonOf flag)
 
 -- the lowest version that the first range matches and the other doesn't; none if the other contains it
 abbrev pub OutsideOf : PreRelease → Requirement → Requirement → Result (Answer (Option Version)) Fault → Type 0
 OutsideOf flag one other = UnlessTag (first_tag (one ∷ other ∷ [])) (LowestOf (inner_means_alone_with flag one.inner other.inner))
 
 abbrev pub Outside : PreRelease → Flavour → List ℕ → List ℕ → Result (Answer (Option Version)) Fault → Type 0
-Outside flag f one other = Given (IsRange f 0 one) (λ req. Given (IsRange f 1 other) (OutsideOf flag req))
+Outside flag f one other = Given (IsRangeAt f 0 one) (λ req. Given (IsRangeAt f 1 other) (OutsideOf flag req))
 
 -- ---- do two ranges match the same versions
 
@@ -106,19 +106,19 @@ EquivalentOf flag one other = UnlessTag (first_tag (one ∷ other ∷ [])) (λ o
     × (outcome ≡ Ok (Value same)))
 
 abbrev pub Equivalent : PreRelease → Flavour → List ℕ → List ℕ → Result (Answer Bool) Fault → Type 0
-Equivalent flag f one other = Given (IsRange f 0 one) (λ req. Given (IsRange f 1 other) (EquivalentOf flag req))
+Equivalent flag f one other = Given (IsRangeAt f 0 one) (λ req. Given (IsRangeAt f 1 other) (EquivalentOf flag req))
 
 -- ---- texts
 
 -- the canonical form of a range, or the tag
 abbrev pub Canonical : Flavour → List ℕ → Result (List ℕ) Fault → Type 0
-Canonical f range = Given (IsRange f 0 range) (λ req. Is (inner_text req.inner))
+Canonical f range = Given (IsRangeAt f 0 range) (λ req. Is (inner_text req.inner))
 
 -- the version as displayed
 abbrev pub Displayed : List ℕ → Result (List ℕ) Fault → Type 0
-Displayed version = Given (IsVersion 0 version) (λ v. Is (version_text v))
+Displayed version = Given (IsVersionAt 0 version) (λ v. Is (version_text v))
 
 -- ---- of two versions, which is before the other
 
 abbrev pub Orders : List ℕ → List ℕ → Result Ordering Fault → Type 0
-Orders one other = Given (IsVersion 0 one) (λ v. Given (IsVersion 1 other) (λ w. Is (precedence_cmp v w)))
+Orders one other = Given (IsVersionAt 0 one) (λ v. Given (IsVersionAt 1 other) (λ w. Is (precedence_cmp v w)))

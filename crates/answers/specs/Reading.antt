@@ -25,12 +25,12 @@ IsRangeOutcome f text (Ok req) = IsReadFrom f text req × MeansTrees f text req.
 IsRangeOutcome f text (Err fault) = IsOutcome f text Rejected
 
 -- the range that the text at this place parses to by a grammar
-abbrev pub IsRange : Flavour → ℕ → List ℕ → Result Requirement Fault → Type 0
-IsRange f place text = Parsed kind.Range place (IsRangeOutcome f text)
+abbrev pub IsRangeAt : Flavour → ℕ → List ℕ → Result Requirement Fault → Type 0
+IsRangeAt f place text = Parsed kind.Range place (IsRangeOutcome f text)
 
 -- the version that the text at this place parses to
-abbrev pub IsVersion : ℕ → List ℕ → Result Version Fault → Type 0
-IsVersion place text = Parsed kind.Version place (IsVersionOutcome (trim text))
+abbrev pub IsVersionAt : ℕ → List ℕ → Result Version Fault → Type 0
+IsVersionAt place text = Parsed kind.Version place (IsVersionOutcome (trim text))
 
 -- the texts that the references point to
 abbrev pub texts_of : List (Bor (List ℕ)) → List (List ℕ)

@@ -6,7 +6,7 @@ use Rattle.std.specs.declared.cmp.Ordering.{Ordering}
 use Rattle.semver_base.specs.Precedence.{precedence_cmp}
 use Rattle.semver_base.specs.declared.version.Version.{Version}
 use Rattle.answers.specs.Asking.{Each, Fault, Given}
-use Rattle.answers.specs.Reading.{IsVersion}
+use Rattle.answers.specs.Reading.{IsVersionAt}
 use Rattle.answers.specs.declared.sorting.Order.{Order}
 use Rattle.answers.specs.declared.sorting.Order.TheVariants.{Ascending, Descending}
 use Rattle.answers.specs.declared.sorting.Placed.{Placed}
@@ -50,7 +50,7 @@ SortedPlaces order versions outcome = (places : List ℕ) × AreSortedPlaces ord
 
 -- the places of the versions in that order
 abbrev pub Sorts : Order → List (List ℕ) → Result (List ℕ) Fault → Type 0
-Sorts order texts = Given (Each IsVersion 0 texts) (λ versions. SortedPlaces order (standing_from 0 versions))
+Sorts order texts = Given (Each IsVersionAt 0 texts) (λ versions. SortedPlaces order (standing_from 0 versions))
 
 -- the places of the lines that have a version, in that order
 abbrev pub SortedLines : {P : Type 0} → Order → List (Option Version) → Result (List ℕ) P → Type 0

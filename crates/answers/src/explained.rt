@@ -5,7 +5,7 @@ ghost use Rattle.semver_base.specs.NormalText.{AreWritableRanges, IsWritableRang
 ghost use Rattle.semver_base.specs.declared.range.VersionRange.{VersionRange};
 ghost use Rattle.answers.specs.Explained.{AreExplained, AreAlternatives, AreWholeTexts, IsExplained, IsExplainedPiece, IsMeaningOfRange};
 ghost use Rattle.answers.specs.Asking.{IsFailureAt, OutOfMemory, fault_of};
-ghost use Rattle.answers.specs.Reading.{IsRange};
+ghost use Rattle.answers.specs.Reading.{IsRangeAt};
 ghost use Rattle.answers.specs.declared.asking.Kind.TheVariants as kind;
 ghost use Rattle.semver_req.specs.TextRejection.{IsTextRejection};
 
@@ -174,7 +174,7 @@ pub fn explain(
 ) -> Result<Explanation, Problem>
     ensures answer { IfOk result (IsExplained flavour pre_release text.now) }
     ensures invalid { IfErr result
-        (λ p. (fault_of p ≡ OutOfMemory) ⊎ IsRange flavour 0 text.now (Err (fault_of p))) }
+        (λ p. (fault_of p ≡ OutOfMemory) ⊎ IsRangeAt flavour 0 text.now (Err (fault_of p))) }
     ensures failure { IfErr result
         (IsFailureAt kind.Range 0 (IsTextRejection flavour text.now)) }
 {

@@ -7,7 +7,7 @@ ghost use Rattle.semver_req.specs.Parsers.{AreReadOrTags, IsReadOrTag};
 ghost use Rattle.semver_req.specs.TextRejection.{IsTextRejection};
 ghost use Rattle.answers.specs.Asking.{Each, IsAnswer, IsFailureAt};
 ghost use Rattle.answers.specs.declared.asking.Kind.TheVariants as kind;
-ghost use Rattle.answers.specs.Reading.{IsFailureAmong, IsRange, IsVersion, texts_of};
+ghost use Rattle.answers.specs.Reading.{IsFailureAmong, IsRangeAt, IsVersionAt, texts_of};
 
 use crate::asking::{Kind, Problem};
 use semver_base::version::Version;
@@ -22,7 +22,7 @@ pub fn range(
     place: usize,
     text: &str,
 ) -> Result<VersionReq, Problem>
-    ensures answer { IsAnswer (IsRange flavour place text.now) (λ req. req) result }
+    ensures answer { IsAnswer (IsRangeAt flavour place text.now) (λ req. req) result }
     ensures read { IfOk result (λ req. IsReadOrTag req.inner) }
     ensures failure { IfErr result
         (IsFailureAt kind.Range place (IsTextRejection flavour text.now)) }
@@ -35,7 +35,7 @@ pub fn range(
 
 /// Parses the ranges by the grammar.
 pub fn ranges(alloc: Global, flavour: Flavour, texts: &[&str]) -> Result<Vec<VersionReq>, Problem>
-    ensures answer { IsAnswer (Each (IsRange flavour) 0 (texts_of texts.now))
+    ensures answer { IsAnswer (Each (IsRangeAt flavour) 0 (texts_of texts.now))
         (λ all. all.items) result }
     ensures read { IfOk result (λ all. AreReadOrTags all.items) }
     ensures failure { IfErr result
@@ -53,7 +53,7 @@ pub fn ranges(alloc: Global, flavour: Flavour, texts: &[&str]) -> Result<Vec<Ver
 
 /// Parses the version at this place.
 pub fn version(alloc: Global, place: usize, text: &str) -> Result<Version, Problem>
-    ensures answer { IsAnswer (IsVersion place text.now) (λ version. version) result }
+    ensures answer { IsAnswer (IsVersionAt place text.now) (λ version. version) result }
     ensures failure { IfErr result
         (IsFailureAt kind.Version place (IsVersionRejection (trim text.now))) }
 {
@@ -65,7 +65,7 @@ pub fn version(alloc: Global, place: usize, text: &str) -> Result<Version, Probl
 
 /// Parses the versions.
 pub fn versions(alloc: Global, texts: &[&str]) -> Result<Vec<Version>, Problem>
-    ensures answer { IsAnswer (Each IsVersion 0 (texts_of texts.now)) (λ all. all.items) result }
+    ensures answer { IsAnswer (Each IsVersionAt 0 (texts_of texts.now)) (λ all. all.items) result }
     ensures failure { IfErr result
         (IsFailureAmong kind.Version (λ text. IsVersionRejection (trim text)) (texts_of texts.now)) }
 {

@@ -15,7 +15,7 @@ use Rattle.semver_req.specs.RetainedSet.{RetainedSetsMeanTheirTrees, retained}
 use Rattle.semver_req.specs.Outcome.{IsOutcome, Ranges, worked_on}
 use Rattle.semver_req.specs.declared.common.values.Flavour.{Flavour}
 use Rattle.semver_req.specs.declared.range_set_or_tag.RangeSetOrTag.TheVariants as inner
-use Rattle.deno_semver.specs.PackageOutcome.{Fault, IsPackageAnswer, IsPackageOutcome, IsPackageRejection, IsVersionReq, is_package}
+use Rattle.deno_semver.specs.PackageOutcome.{PackageFault, IsPackageAnswer, IsPackageOutcome, IsPackageRejection, IsVersionReq, is_package}
 use Rattle.deno_semver.specs.PackageText.{IsPackageText, PackageParts, scoped_name}
 use Rattle.deno_semver.specs.declared.package.errors.PackageReqParseError.{PackageReqParseError}
 use Rattle.deno_semver.specs.declared.package.values.PackageReq.{PackageReq}
@@ -33,7 +33,7 @@ module _ (f : Flavour) (text : List ℕ) where
 
   module _ (version : List ℕ) where
     -- the text isn't a valid package
-    pub package_rejected : (e : PackageReqParseError) → IsPackageRejection f text e → ((o : Result PackageReq Fault) → IsPackageOutcome f text o → IsPackageAnswer f text o (Err e))
+    pub package_rejected : (e : PackageReqParseError) → IsPackageRejection f text e → ((o : Result PackageReq PackageFault) → IsPackageOutcome f text o → IsPackageAnswer f text o (Err e))
         → AllowsPackage f text version (Err (why.Package e))
     package_rejected e rejection answers = record {
       reported = tt;
@@ -56,7 +56,7 @@ module _ (f : Flavour) (text : List ℕ) where
     }
 
     -- both are valid
-    pub both_read : (req : PackageReq) (v : Version) → IsPackageOutcome f text (Ok req) → ((o : Result PackageReq Fault) → IsPackageOutcome f text o → IsPackageAnswer f text o (Ok req))
+    pub both_read : (req : PackageReq) (v : Version) → IsPackageOutcome f text (Ok req) → ((o : Result PackageReq PackageFault) → IsPackageOutcome f text o → IsPackageAnswer f text o (Ok req))
         → IsVersionOutcome (trim version) (Ok v) → ((fault : Rejection) → IsVersionOutcome (trim version) (Err fault) → ⊥) → ((w : Version) → IsVersionOutcome (trim version) (Ok w) → v ≡ w)
         → RetainedSetsMeanTheirTrees → AllowsPackage f text version (Ok (allowance_of req.version_req.inner v))
     both_read req v h answers k no_fault only means = record {

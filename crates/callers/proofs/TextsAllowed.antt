@@ -1,6 +1,6 @@
 -- The result for the text of a requirement, from its parser's result.
 use Rattle.std.proofs.Common.{ℕ, List, Ok, refl, ap}
-use Rattle.callers.specs.Allowance.{IsAllowance, IsReported, allowance_of, yes_or_no}
+use Rattle.callers.specs.Allowance.{IsAllowance, IsAllowanceOf, allowance_of, yes_or_no}
 use Rattle.semver_base.specs.declared.range.PreRelease.TheVariants.{Restricted}
 use Rattle.semver_base.specs.declared.version.Version.{Version}
 use Rattle.semver_req.specs.Outcome.{IsOutcome, Outcome, Ranges, Rejected, Tag}
@@ -11,7 +11,7 @@ use Rattle.semver_req.specs.declared.range_set_or_tag.RangeSetOrTag.{RangeSetOrT
 use Rattle.semver_req.specs.declared.range_set_or_tag.RangeSetOrTag.TheVariants as inner
 
 -- the result for a tree, or a tag, is that for the requirement parsed from it
-reported_of : (f : Flavour) (text : List ℕ) (o : Outcome) (req : RangeSetOrTag) (v : Version) → IsOutcome f text o → IsRead f o req → MeansTrees f text req → IsReported o v (allowance_of req v)
+reported_of : (f : Flavour) (text : List ℕ) (o : Outcome) (req : RangeSetOrTag) (v : Version) → IsOutcome f text o → IsRead f o req → MeansTrees f text req → IsAllowanceOf o v (allowance_of req v)
 reported_of f text (Ranges tree) (inner.RangeSet set) v is read means = ap yes_or_no (means tree is Restricted v)
 reported_of f text (Ranges tree) (inner.Tag tag) v is read means = cc read
 reported_of f text (Tag name) (inner.RangeSet set) v is read means = cc read

@@ -22,16 +22,16 @@ allowance_of (inner.RangeSet set) v = yes_or_no (inner_means (inner.RangeSet set
 allowance_of (inner.Tag tag) v = answer.Tag
 
 -- the result for a text with this outcome
-abbrev pub IsReported : Outcome → Version → Allowance → Type 0
-IsReported (Ranges tree) v allowance = allowance ≡ yes_or_no (tree_means (tree_ranges tree) v)
-IsReported (Tag text) v allowance = allowance ≡ answer.Tag
-IsReported Rejected v allowance = ⊥
+abbrev pub IsAllowanceOf : Outcome → Version → Allowance → Type 0
+IsAllowanceOf (Ranges tree) v allowance = allowance ≡ yes_or_no (tree_means (tree_ranges tree) v)
+IsAllowanceOf (Tag text) v allowance = allowance ≡ answer.Tag
+IsAllowanceOf Rejected v allowance = ⊥
 
 -- the result for a text and a version; `source` is the failure in the error
 pub record IsAllowance {E : Type 0} (source : E → Failure) (f : Flavour) (text : List ℕ) (v : Version)
     (result : Result Allowance E) : Type 0 where
   -- a result is that of some outcome of the text
-  pub reported : IfOk result (λ allowance. (o : Outcome) × IsOutcome f text o × IsReported o v allowance)
+  pub reported : IfOk result (λ allowance. (o : Outcome) × IsOutcome f text o × IsAllowanceOf o v allowance)
   -- for every tree of the text it is yes exactly if the tree means the version, or out of memory
   pub ranges : (tree : List (List Comparator)) → IsOutcome f text (Ranges tree)
       → MatchResult result (λ allowance. allowance ≡ yes_or_no (tree_means (tree_ranges tree) v)) (λ e. source e ≡ None)

@@ -8,7 +8,7 @@ use Rattle.semver_base.specs.declared.failure.Rejection.{Rejection}
 use Rattle.semver_base.specs.declared.version.Version.{Version}
 use Rattle.semver_req.specs.Outcome.{IsOutcome, Ranges, tree_ranges}
 use Rattle.semver_req.specs.declared.common.values.Flavour.{Flavour}
-use Rattle.deno_semver.specs.PackageOutcome.{Fault, IsPackageOutcome, IsPackageRejection, IsOutOfMemory}
+use Rattle.deno_semver.specs.PackageOutcome.{PackageFault, IsPackageOutcome, IsPackageRejection, IsOutOfMemory}
 use Rattle.deno_semver.specs.PackageText.{IsPackageText, PackageParts}
 use Rattle.deno_semver.specs.declared.package.values.PackageReq.{PackageReq}
 use Rattle.callers.specs.Allowance.{allowance_of, yes_or_no}
@@ -30,7 +30,7 @@ IsWhyUnanswered f text version (why.Version error) =
 -- the package's text or the version's is invalid
 abbrev pub IsNoPackageOrVersion : Flavour → List ℕ → List ℕ → Type 0
 IsNoPackageOrVersion f text version =
-    ((fault : Fault) × IsPackageOutcome f text (Err fault))
+    ((fault : PackageFault) × IsPackageOutcome f text (Err fault))
     ⊎ ((fault : Rejection) × IsVersionOutcome (trim version) (Err fault))
 
 -- what the text of a package says of a version

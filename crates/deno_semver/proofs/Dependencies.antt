@@ -6,7 +6,7 @@ use Rattle.semver_req.specs.declared.common.values.Flavour.{Flavour}
 use Rattle.deno_semver.specs.DependencyOutcome.{BadRequirement, DependencyFault, IsDependencyAnswer, IsDependencyOutcome, IsDependencyRejection, IsOfPackageError, IsReportedScheme, OtherScheme, ReportsDependency, bad_requirement, is_dependency, other_scheme}
 use Rattle.deno_semver.specs.Kind.{scheme_of}
 use Rattle.deno_semver.specs.OneOutcome.{PackageTextsHaveOneOutcome}
-use Rattle.deno_semver.specs.PackageOutcome.{Fault, IsPackageAnswer, IsPackageOutcome, IsPackageRejection, IsOutOfMemory, ReportsFault}
+use Rattle.deno_semver.specs.PackageOutcome.{PackageFault, IsPackageAnswer, IsPackageOutcome, IsPackageRejection, IsOutOfMemory, ReportsFault}
 use Rattle.deno_semver.specs.ReferenceText.{LacksScheme}
 use Rattle.deno_semver.specs.declared.jsr.dependency.JsrDepPackageReq.{JsrDepPackageReq}
 use Rattle.deno_semver.specs.declared.jsr.dependency.JsrDepPackageReqParseError.{JsrDepPackageReqParseError}
@@ -56,7 +56,7 @@ same_dependency a b = rw (a, b) refl
 
 module _ (packages : PackageTextsHaveOneOutcome) {f : Flavour} {text : List ℕ} where
   -- two package requirements after the schemes of one text are the same
-  after_one : (k l : PackageKind) (a b : List ℕ) (o p : Result PackageReq Fault) → text ≡ scheme_of k ++ a → text ≡ scheme_of l ++ b
+  after_one : (k l : PackageKind) (a b : List ℕ) (o p : Result PackageReq PackageFault) → text ≡ scheme_of k ++ a → text ≡ scheme_of l ++ b
       → IsPackageOutcome f a o → IsPackageOutcome f b p → o ≡ p
   after_one k l a b o p e e' h h' = packages f a o p h (subst (λ body. IsPackageOutcome f body p) (sym (one_body k l a b (sym e ∙ e'))) h')
 
@@ -73,17 +73,17 @@ module _ (packages : PackageTextsHaveOneOutcome) {f : Flavour} {text : List ℕ}
   dependency_one _ _ (bad_requirement k a {fault = x} e h) (is_dependency l b {req = y} e' h') = absurd (cc (after_one k l a b (Err x) (Ok y) e e' h h'))
   dependency_one _ _ (bad_requirement k a {fault = x} e h) (bad_requirement l b {fault = y} e' h') =
       let same : x ≡ y = cc (after_one k l a b (Err x) (Err y) e e' h h') in
-      ap₂ (λ (body : List ℕ) (fault : Fault). Err (BadRequirement body fault)) (one_body k l a b (sym e ∙ e')) same
+      ap₂ (λ (body : List ℕ) (fault : PackageFault). Err (BadRequirement body fault)) (one_body k l a b (sym e ∙ e')) same
 
 -- the package parser's result for each outcome
 abbrev pub PackageAnswers : Flavour → List ℕ → Result PackageReq PackageReqParseError → Type 0
-PackageAnswers f body result = (o : Result PackageReq Fault) → IsPackageOutcome f body o → IsPackageAnswer f body o result
+PackageAnswers f body result = (o : Result PackageReq PackageFault) → IsPackageOutcome f body o → IsPackageAnswer f body o result
 
 memory_of : {inner : PackageReqParseError} {e : JsrDepPackageReqParseError} → IsOutOfMemory inner → IsOfPackageError inner e → e ≡ error.Memory
 memory_of memory (inl h) = h.1
 memory_of memory (inr h) = absurd (h.0 memory.source)
 
-reports_of : {f : Flavour} (text : List ℕ) {body : List ℕ} {fault : Fault} {inner : PackageReqParseError} {e : JsrDepPackageReqParseError} → IsOutOfMemory inner ⊎ ReportsFault f fault body inner → IsOfPackageError inner e
+reports_of : {f : Flavour} (text : List ℕ) {body : List ℕ} {fault : PackageFault} {inner : PackageReqParseError} {e : JsrDepPackageReqParseError} → IsOutOfMemory inner ⊎ ReportsFault f fault body inner → IsOfPackageError inner e
     → (e ≡ error.Memory) ⊎ ReportsDependency f text (BadRequirement body fault) e
 reports_of text (inl memory) of = inl (memory_of memory of)
 reports_of text (inr reported) (inl h) = inl h.1
@@ -99,7 +99,7 @@ package_rejected {f} {text} kind body {inner} {e} is (inr h) of = go (reports_of
     go (inr reported) = inr (BadRequirement body h.0, bad_requirement kind body is h.1, reported)
 
 module _ {f : Flavour} {text : List ℕ} (kind : PackageKind) (body : List ℕ) (is : text ≡ scheme_of kind ++ body) where
-  at : (k : PackageKind) (other : List ℕ) {o : Result PackageReq Fault} → text ≡ scheme_of k ++ other → IsPackageOutcome f other o → IsPackageOutcome f body o
+  at : (k : PackageKind) (other : List ℕ) {o : Result PackageReq PackageFault} → text ≡ scheme_of k ++ other → IsPackageOutcome f other o → IsPackageOutcome f body o
   at k other {o} e h = subst (λ (t : List ℕ). IsPackageOutcome f t o) (one_body k kind other body (sym e ∙ is)) h
 
   pub package_answer : {inner : PackageReqParseError} {e : JsrDepPackageReqParseError} → PackageAnswers f body (Err inner) → IsOfPackageError inner e

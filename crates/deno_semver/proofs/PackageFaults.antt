@@ -6,7 +6,7 @@ use Rattle.semver_req.specs.Parsers.{IsRead, IsReadFrom}
 use Rattle.semver_req.specs.Requirement.{Requirement}
 use Rattle.semver_req.specs.declared.common.values.Flavour.{Flavour}
 use Rattle.semver_req.specs.declared.range_set_or_tag.RangeSetOrTag.{RangeSetOrTag}
-use Rattle.deno_semver.specs.PackageOutcome.{BadName, BadVersion, Fault, HasPath, IsFirstFault, IsPackageAnswer, IsPackageOutcome, IsPackageRejection, IsReadReq, IsVersionReq, IsOutOfMemory, NoAt, NoName, Reports, ReportsFault, bad_name, bad_version, failed, has_path, is_fault, is_package, no_name}
+use Rattle.deno_semver.specs.PackageOutcome.{BadName, BadVersion, PackageFault, HasPath, IsFirstPackageFault, IsPackageAnswer, IsPackageOutcome, IsPackageRejection, IsReadReq, IsVersionReq, IsOutOfMemory, NoAt, NoName, Reports, ReportsFault, bad_name, bad_version, failed, has_path, is_fault, is_package, no_name}
 use Rattle.deno_semver.specs.PackageReading.{IsFaultError, IsPartsRejection, IsPathError, ReportsSource}
 use Rattle.deno_semver.specs.PackageSteps.{IsUncut}
 use Rattle.deno_semver.specs.ReferenceReading.{IsFrontError, IsReadWithPath}
@@ -71,7 +71,7 @@ same_read f Rejected x y a b = absurd a
 pub version_at : (f : Flavour) {x y : PackageParts} (req : Requirement) → x ≡ y → IsVersionReq f x.version req → IsVersionReq f y.version req
 version_at f req e h = subst (λ (c : PackageParts). IsVersionReq f c.version req) e h
 
-reported : (f : Flavour) (b : Bool) (fault : Fault) (source e : PackageReqPartsParseError) → e ≡ (if b then parts.MissingAtSymbol else source) → Reports f fault source → Reports f (if b then NoAt else fault) e
+reported : (f : Flavour) (b : Bool) (fault : PackageFault) (source e : PackageReqPartsParseError) → e ≡ (if b then parts.MissingAtSymbol else source) → Reports f fault source → Reports f (if b then NoAt else fault) e
 reported f true fault source e is reports = is
 reported f false fault source e is reports = subst (λ (x : PackageReqPartsParseError). Reports f fault x) (sym is) reports
 
@@ -98,7 +98,7 @@ module _ (texts : TextsHaveOneOutcome) where
   read_or_rejected f (Some v) w x is h rejected = let same : v ≡ w = cc is in read_of f v Rejected x h (rw same rejected)
 
 module _ (texts : TextsHaveOneOutcome) {f : Flavour} {text : List ℕ} where
-  pub fault_one : (a b : Fault) → IsFirstFault f text a → IsFirstFault f text b → a ≡ b
+  pub fault_one : (a b : PackageFault) → IsFirstPackageFault f text a → IsFirstPackageFault f text b → a ≡ b
   fault_one _ _ (no_name s) (no_name t) = refl
   fault_one _ _ (no_name s) (bad_name t) = absurd (part_or_alone text s t)
   fault_one _ _ (no_name s) (bad_version {cut} k is r) = absurd (no_part cut k s)
@@ -119,7 +119,7 @@ module _ (texts : TextsHaveOneOutcome) {f : Flavour} {text : List ℕ} where
   fault_one _ _ (has_path {cut = x} req h vr p) (bad_version {cut = y} {version = v} k is r) = absurd (read_or_rejected texts f y.version v req is (version_at f req (package_one x y h k) vr) r)
   fault_one _ _ (has_path {cut = x} req h vr p) (has_path {cut = y} req' k vr' p') = ap (λ (c : PackageParts). HasPath c.path) (package_one x y h k)
 
-  no_fault : {req : PackageReq} (fault : Fault) → IsReadReq f text req → IsFirstFault f text fault → ⊥
+  no_fault : {req : PackageReq} (fault : PackageFault) → IsReadReq f text req → IsFirstPackageFault f text fault → ⊥
   no_fault _ h (no_name s) = no_part h.cut h.is_cut s
   no_fault _ h (bad_name s) = no_alone h.cut h.is_cut s
   no_fault {req} _ h (bad_version {cut} {version = v} k is r) = read_or_rejected texts f cut.version v req.version_req is (version_at f req.version_req (package_one h.cut cut h.is_cut k) h.version_req) r
@@ -132,7 +132,7 @@ module _ (texts : TextsHaveOneOutcome) {f : Flavour} {text : List ℕ} where
       let reqs : x.version_req ≡ y.version_req = version_one texts f k.cut.version x.version_req y.version_req (version_at f x.version_req same h.version_req) k.version_req in
       same_pair names reqs
 
-  pub outcome_one : (o p : Result PackageReq Fault) → IsPackageOutcome f text o → IsPackageOutcome f text p → o ≡ p
+  pub outcome_one : (o p : Result PackageReq PackageFault) → IsPackageOutcome f text o → IsPackageOutcome f text p → o ≡ p
   outcome_one _ _ (is_package {req} h) (is_package {req = other} k) = ap Ok (read_one req other h k)
   outcome_one _ _ (is_package h) (is_fault {fault} k) = absurd (no_fault fault h k)
   outcome_one _ _ (is_fault {fault} k) (is_package h) = absurd (no_fault fault h k)
@@ -140,11 +140,11 @@ module _ (texts : TextsHaveOneOutcome) {f : Flavour} {text : List ℕ} where
 
   -- ---- results
 
-  pub read_answer : (req : PackageReq) → IsReadReq f text req → (o : Result PackageReq Fault) → IsPackageOutcome f text o → IsPackageAnswer f text o (Ok req)
+  pub read_answer : (req : PackageReq) → IsReadReq f text req → (o : Result PackageReq PackageFault) → IsPackageOutcome f text o → IsPackageAnswer f text o (Ok req)
   read_answer req h _ (is_package {req = other} k) = read_one req other h k
   read_answer req h _ (is_fault {fault} k) = absurd (no_fault fault h k)
 
-  whole : (fault : Fault) (source : PackageReqPartsParseError) (e : PackageReqParseError) → ReportsSource text source e → Reports f fault source → ReportsFault f (if lacks_at text then NoAt else fault) text e
+  whole : (fault : PackageFault) (source : PackageReqPartsParseError) (e : PackageReqParseError) → ReportsSource text source e → Reports f fault source → ReportsFault f (if lacks_at text then NoAt else fault) text e
   whole fault source e h reports = record { source = reported f (lacks_at text) fault source e.source h.source_is reports; text_is = h.text_is }
 
   pub rejected : (source : PackageReqPartsParseError) (e : PackageReqParseError) → IsFaultError f text source → IsOutOfMemory e ⊎ ReportsSource text source e → IsPackageRejection f text e
@@ -153,7 +153,7 @@ module _ (texts : TextsHaveOneOutcome) {f : Flavour} {text : List ℕ} where
   rejected source e (inr fault) (inr h) = inr (_, is_fault fault.1, whole fault.0 source e h fault.2)
 
   pub rejected_answer : (source : PackageReqPartsParseError) (e : PackageReqParseError) → IsFaultError f text source → IsOutOfMemory e ⊎ ReportsSource text source e
-      → (o : Result PackageReq Fault) → IsPackageOutcome f text o → IsPackageAnswer f text o (Err e)
+      → (o : Result PackageReq PackageFault) → IsPackageOutcome f text o → IsPackageAnswer f text o (Err e)
   rejected_answer source e fault (inl memory) _ (is_package k) = memory
   rejected_answer source e fault (inl memory) _ (is_fault k) = inl memory
   rejected_answer source e (inl memory) (inr h) _ (is_package k) = absurd (h.no_memory memory)
@@ -161,4 +161,4 @@ module _ (texts : TextsHaveOneOutcome) {f : Flavour} {text : List ℕ} where
   rejected_answer source e (inr fault) (inr h) _ (is_package k) = absurd (no_fault fault.0 k fault.1)
   rejected_answer source e (inr fault) (inr h) _ (is_fault {fault = other} k) =
       let same : fault.0 ≡ other = fault_one fault.0 other fault.1 k in
-      inr (whole other source e h (subst (λ (x : Fault). Reports f x source) same fault.2))
+      inr (whole other source e h (subst (λ (x : PackageFault). Reports f x source) same fault.2))

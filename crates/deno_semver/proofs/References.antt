@@ -4,7 +4,7 @@ use Rattle.std.proofs.lemmas.List.{append_cancel_left}
 use Rattle.semver_req.specs.Outcome.{TextsHaveOneOutcome}
 use Rattle.semver_req.specs.declared.common.values.Flavour.TheVariants.{Specifier}
 use Rattle.deno_semver.specs.Kind.{scheme_of}
-use Rattle.deno_semver.specs.PackageOutcome.{Fault, IsFirstFault, bad_name, bad_version, has_path, no_name}
+use Rattle.deno_semver.specs.PackageOutcome.{PackageFault, IsFirstPackageFault, bad_name, bad_version, has_path, no_name}
 use Rattle.deno_semver.specs.PackageText.{PackageParts, scoped_name}
 use Rattle.deno_semver.specs.ReferenceOutcome.{BadText, HasVersionInPath, IsOfReference, IsReadReference, IsReferenceAnswer, IsReferenceOutcome, IsReferenceRejection, ReferenceFault, VersionInPath, bad_text, is_reference, other_scheme, version_in_path}
 use Rattle.deno_semver.specs.ReferenceReading.{IsFrontError, IsReportedInvalid, IsReportedVersion}
@@ -34,7 +34,7 @@ module _ (texts : TextsHaveOneOutcome) {body : List ℕ} where
       let paths : x.sub_path ≡ y.sub_path = h.sub_path ∙ (ap (λ (c : PackageParts). sub_path_of c.path) same ∙ sym k.sub_path) in
       same_reference (same_pair names reqs) paths
 
-  no_fault : {r : PackageReqReference} (fault : Fault) → IsReadReference body r → IsFirstFault Specifier body fault → IsOfReference fault → ⊥
+  no_fault : {r : PackageReqReference} (fault : PackageFault) → IsReadReference body r → IsFirstPackageFault Specifier body fault → IsOfReference fault → ⊥
   no_fault _ h (no_name s) of = no_part h.cut h.is_cut s
   no_fault _ h (bad_name s) of = no_alone h.cut h.is_cut s
   no_fault {r} _ h (bad_version {cut} {version = v} k is rejected) of =
@@ -62,8 +62,8 @@ module _ (kind : PackageKind) {text : List ℕ} where
   at : {a b : List ℕ} {r : PackageReqReference} → text ≡ scheme_of kind ++ a → text ≡ scheme_of kind ++ b → IsReadReference a r → IsReadReference b r
   at {r = r} e f h = subst (λ (t : List ℕ). IsReadReference t r) (bodies e f) h
 
-  fault_at : {a b : List ℕ} {fault : Fault} → text ≡ scheme_of kind ++ a → text ≡ scheme_of kind ++ b → IsFirstFault Specifier a fault → IsFirstFault Specifier b fault
-  fault_at {fault = fault} e f h = subst (λ (t : List ℕ). IsFirstFault Specifier t fault) (bodies e f) h
+  fault_at : {a b : List ℕ} {fault : PackageFault} → text ≡ scheme_of kind ++ a → text ≡ scheme_of kind ++ b → IsFirstPackageFault Specifier a fault → IsFirstPackageFault Specifier b fault
+  fault_at {fault = fault} e f h = subst (λ (t : List ℕ). IsFirstPackageFault Specifier t fault) (bodies e f) h
 
 module _ (texts : TextsHaveOneOutcome) {kind : PackageKind} {text : List ℕ} where
   pub outcome_one : (o p : Result PackageReqReference ReferenceFault) → IsReferenceOutcome kind text o → IsReferenceOutcome kind text p → o ≡ p
@@ -78,7 +78,7 @@ module _ (texts : TextsHaveOneOutcome) {kind : PackageKind} {text : List ℕ} wh
       absurd (n before version (subst (λ (r : PackageReqReference). HasVersionInPath r before version) (sym (reference_one texts x y (at kind e f h) k)) v))
   outcome_one _ _ (bad_text {body} e h of) (other_scheme none) = absurd (none body e)
   outcome_one _ _ (bad_text {fault} e h of) (is_reference f k m) = absurd (no_fault texts fault (at kind f e k) h of)
-  outcome_one _ _ (bad_text {fault = a} e h of) (bad_text {fault = b} f k of') = ap (λ (x : Fault). Err (BadText x)) (fault_one texts a b (fault_at kind e f h) k)
+  outcome_one _ _ (bad_text {fault = a} e h of) (bad_text {fault = b} f k of') = ap (λ (x : PackageFault). Err (BadText x)) (fault_one texts a b (fault_at kind e f h) k)
   outcome_one _ _ (bad_text {fault} e h of) (version_in_path f k v) = absurd (no_fault texts fault (at kind f e k) h of)
   outcome_one _ _ (version_in_path {body} e h v) (other_scheme none) = absurd (none body e)
   outcome_one _ _ (version_in_path {before} {version} {reference = x} e h v) (is_reference {reference = y} f k m) =

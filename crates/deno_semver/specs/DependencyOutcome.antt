@@ -6,7 +6,7 @@ use Rattle.semver_base.specs.Characters.{colon}
 use Rattle.semver_req.specs.declared.common.values.Flavour.{Flavour}
 use Rattle.deno_semver.specs.Cuts.{is_not}
 use Rattle.deno_semver.specs.Kind.{scheme_of}
-use Rattle.deno_semver.specs.PackageOutcome.{Fault, IsPackageOutcome, ReportsFault}
+use Rattle.deno_semver.specs.PackageOutcome.{PackageFault, IsPackageOutcome, ReportsFault}
 use Rattle.deno_semver.specs.ReferenceText.{LacksScheme}
 use Rattle.deno_semver.specs.declared.jsr.dependency.JsrDepPackageReq.{JsrDepPackageReq}
 use Rattle.deno_semver.specs.declared.jsr.dependency.JsrDepPackageReqParseError.{JsrDepPackageReqParseError}
@@ -20,7 +20,7 @@ use Rattle.deno_semver.specs.declared.package.values.PackageReq.{PackageReq}
 pub data DependencyFault : Type 0 where
   OtherScheme : DependencyFault
   -- the text after the scheme isn't a valid package requirement
-  BadRequirement : List ℕ → Fault → DependencyFault
+  BadRequirement : List ℕ → PackageFault → DependencyFault
 
 -- what a text parses to: a package requirement after either registry's scheme, or its first fault
 pub data IsDependencyOutcome (f : Flavour) (text : List ℕ) : Result JsrDepPackageReq DependencyFault → Type 0 where
@@ -28,7 +28,7 @@ pub data IsDependencyOutcome (f : Flavour) (text : List ℕ) : Result JsrDepPack
   is_dependency : (kind : PackageKind) (body : List ℕ) {req : PackageReq} → text ≡ scheme_of kind ++ body
       → IsPackageOutcome f body (Ok req)
       → IsDependencyOutcome f text (Ok (record { kind = kind; req = req }))
-  bad_requirement : (kind : PackageKind) (body : List ℕ) {fault : Fault} → text ≡ scheme_of kind ++ body
+  bad_requirement : (kind : PackageKind) (body : List ℕ) {fault : PackageFault} → text ≡ scheme_of kind ++ body
       → IsPackageOutcome f body (Err fault)
       → IsDependencyOutcome f text (Err (BadRequirement body fault))
 

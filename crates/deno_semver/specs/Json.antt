@@ -62,12 +62,12 @@ abbrev pub IsTextOfInner : List ℕ → RangeSetOrTag → Type 0
 IsTextOfInner = IsReading Normal
 
 -- the string for a bound's kind
-abbrev pub kind_text : VersionBoundKind → List ℕ
-kind_text kind.Inclusive = codes "Inclusive"
-kind_text kind.Exclusive = codes "Exclusive"
+abbrev pub bound_kind_text : VersionBoundKind → List ℕ
+bound_kind_text kind.Inclusive = codes "Inclusive"
+bound_kind_text kind.Exclusive = codes "Exclusive"
 
 abbrev pub IsTextOfKind : List ℕ → VersionBoundKind → Type 0
-IsTextOfKind text k = text ≡ kind_text k
+IsTextOfKind text k = text ≡ bound_kind_text k
 
 -- ---- members and items
 
@@ -88,7 +88,7 @@ AreItemsOf Reads (item d ds) (x ∷ xs) = Reads d x × AreItemsOf Reads ds xs
 
 abbrev pub bound_json : VersionBound → Data
 bound_json b =
-    object (member (codes "kind") (string (kind_text b.kind))
+    object (member (codes "kind") (string (bound_kind_text b.kind))
     (member (codes "version") (string (version_text b.version)) no_members))
 
 pub record IsJsonOfBound (json : Data) (b : VersionBound) : Type 0 where

@@ -7,7 +7,7 @@ use Rattle.semver_req.specs.declared.common.values.Flavour.{Flavour}
 use Rattle.deno_semver.specs.DependencyOutcome.{DependencyFault, IsDependencyOutcome}
 use Rattle.deno_semver.specs.NameAndVersion.{IsNvOutcome}
 use Rattle.deno_semver.specs.NvReference.{IsNvReferenceOutcome}
-use Rattle.deno_semver.specs.PackageOutcome.{Fault, IsPackageOutcome}
+use Rattle.deno_semver.specs.PackageOutcome.{PackageFault, IsPackageOutcome}
 use Rattle.deno_semver.specs.PackageText.{IsPackageText, PackageParts}
 use Rattle.deno_semver.specs.ReferenceOutcome.{IsReferenceOutcome, ReferenceFault}
 use Rattle.deno_semver.specs.declared.jsr.dependency.JsrDepPackageReq.{JsrDepPackageReq}
@@ -25,7 +25,7 @@ PackageTextsHaveOneCut =
 -- no text parses to two package requirements, nor to one and a fault, nor has it two faults
 abbrev pub PackageTextsHaveOneOutcome : Type 0
 PackageTextsHaveOneOutcome =
-    (f : Flavour) (text : List ℕ) (o p : Result PackageReq Fault) → IsPackageOutcome f text o
+    (f : Flavour) (text : List ℕ) (o p : Result PackageReq PackageFault) → IsPackageOutcome f text o
     → IsPackageOutcome f text p → o ≡ p
 
 -- the same of references to packages of either registry

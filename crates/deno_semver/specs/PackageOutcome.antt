@@ -21,25 +21,25 @@ IsVersionReq f None req = req ≡ wildcard
 IsVersionReq f (Some text) req = IsReadFrom f text req
 
 -- why a text is rejected
-pub data Fault : Type 0 where
-  NoName : Fault
-  BadName : Fault
+pub data PackageFault : Type 0 where
+  NoName : PackageFault
+  BadName : PackageFault
   -- the version's text is invalid
-  BadVersion : List ℕ → Fault
+  BadVersion : List ℕ → PackageFault
   -- a path follows the package requirement
-  HasPath : List ℕ → Fault
-  NoAt : Fault
+  HasPath : List ℕ → PackageFault
+  NoAt : PackageFault
 
 -- the first fault of a text: the part that is missing, then its version, then its path
-pub data IsFirstFault (f : Flavour) (text : List ℕ) : Fault → Type 0 where
-  no_name : LacksPart (without_slash text) → IsFirstFault f text NoName
-  bad_name : IsScopeAlone (without_slash text) → IsFirstFault f text BadName
+pub data IsFirstPackageFault (f : Flavour) (text : List ℕ) : PackageFault → Type 0 where
+  no_name : LacksPart (without_slash text) → IsFirstPackageFault f text NoName
+  bad_name : IsScopeAlone (without_slash text) → IsFirstPackageFault f text BadName
   bad_version : {cut : PackageParts} {version : List ℕ} → IsPackageText text cut → cut.version ≡ Some version
       → IsOutcome f version Rejected
-      → IsFirstFault f text (BadVersion version)
+      → IsFirstPackageFault f text (BadVersion version)
   has_path : {cut : PackageParts} (req : Requirement) → IsPackageText text cut → IsVersionReq f cut.version req
       → 0 < length cut.path
-      → IsFirstFault f text (HasPath cut.path)
+      → IsFirstPackageFault f text (HasPath cut.path)
 
 -- the package requirement that a text parses to: its parts, without a path
 pub record IsReadReq (f : Flavour) (text : List ℕ) (req : PackageReq) : Type 0 where
@@ -50,9 +50,9 @@ pub record IsReadReq (f : Flavour) (text : List ℕ) (req : PackageReq) : Type 0
   pub no_path : length cut.path ≡ 0
 
 -- what a text parses to; whatever the fault, a text that contains a `/` and doesn't begin with `@` lacks an `@`
-pub data IsPackageOutcome (f : Flavour) (text : List ℕ) : Result PackageReq Fault → Type 0 where
+pub data IsPackageOutcome (f : Flavour) (text : List ℕ) : Result PackageReq PackageFault → Type 0 where
   is_package : {req : PackageReq} → IsReadReq f text req → IsPackageOutcome f text (Ok req)
-  is_fault : {fault : Fault} → IsFirstFault f text fault
+  is_fault : {fault : PackageFault} → IsFirstPackageFault f text fault
       → IsPackageOutcome f text (Err (if lacks_at text then NoAt else fault))
 
 -- ---- results
@@ -72,7 +72,7 @@ abbrev pub path_failure : List ℕ → Failure
 path_failure path = Some (codes "Unexpected character '/'", Some (slash ∷ path))
 
 -- the error reports the fault
-abbrev pub Reports : Flavour → Fault → PackageReqPartsParseError → Type 0
+abbrev pub Reports : Flavour → PackageFault → PackageReqPartsParseError → Type 0
 Reports f NoName e = e ≡ parts.NoPackageName
 Reports f BadName e = e ≡ parts.InvalidPackageName
 Reports f (BadVersion version) e =
@@ -86,17 +86,17 @@ pub record IsOutOfMemory (e : PackageReqParseError) : Type 0 where
   pub text : e.text ≡ []
 
 -- the error reports the fault and the whole text
-pub record ReportsFault (f : Flavour) (fault : Fault) (text : List ℕ) (e : PackageReqParseError) : Type 0 where
+pub record ReportsFault (f : Flavour) (fault : PackageFault) (text : List ℕ) (e : PackageReqParseError) : Type 0 where
   pub source : Reports f fault e.source
   pub text_is : e.text ≡ text
 
 -- the error is out of memory, or reports the fault that is the text's outcome
 abbrev pub IsPackageRejection : Flavour → List ℕ → PackageReqParseError → Type 0
 IsPackageRejection f text e =
-    IsOutOfMemory e ⊎ ((fault : Fault) × IsPackageOutcome f text (Err fault) × ReportsFault f fault text e)
+    IsOutOfMemory e ⊎ ((fault : PackageFault) × IsPackageOutcome f text (Err fault) × ReportsFault f fault text e)
 
 -- the result for a text with this outcome, or out of memory
-abbrev pub IsPackageAnswer : Flavour → List ℕ → Result PackageReq Fault → Result PackageReq PackageReqParseError
+abbrev pub IsPackageAnswer : Flavour → List ℕ → Result PackageReq PackageFault → Result PackageReq PackageReqParseError
     → Type 0
 IsPackageAnswer f text (Ok req) result = MatchResult result (λ answer. answer ≡ req) IsOutOfMemory
 IsPackageAnswer f text (Err fault) result = IsErrAnd result (λ e. IsOutOfMemory e ⊎ ReportsFault f fault text e)

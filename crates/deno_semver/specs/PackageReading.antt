@@ -2,7 +2,7 @@
 use Rattle.std.specs.Prelude.{◌≡◌, ◌⊎◌, ℕ, List, Option, Some, None, Result, MatchResult, codes, if◌then◌else◌}
 use Rattle.semver_req.specs.Outcome.{IsOutcome, Rejected}
 use Rattle.semver_req.specs.declared.common.values.Flavour.{Flavour}
-use Rattle.deno_semver.specs.PackageOutcome.{BadVersion, Fault, IsFirstFault, IsReadReq, Reports, failed}
+use Rattle.deno_semver.specs.PackageOutcome.{BadVersion, PackageFault, IsFirstPackageFault, IsReadReq, Reports, failed}
 use Rattle.deno_semver.specs.PackageText.{lacks_at}
 use Rattle.deno_semver.specs.declared.package.errors.PackageReqParseError.{PackageReqParseError}
 use Rattle.deno_semver.specs.declared.package.errors.PackageReqPartsParseError.{PackageReqPartsParseError}
@@ -14,13 +14,13 @@ pub record IsBadVersion (f : Flavour) (version : List ℕ) (e : PackageReqPartsP
   pub rejected : IsOutcome f version Rejected
   pub reports : Reports f (BadVersion version) e
 
-abbrev pub IsVersionRejection : Flavour → List ℕ → PackageReqPartsParseError → Type 0
-IsVersionRejection f version e = (e ≡ parts.Memory) ⊎ IsBadVersion f version e
+abbrev pub IsVersionReqRejection : Flavour → List ℕ → PackageReqPartsParseError → Type 0
+IsVersionReqRejection f version e = (e ≡ parts.Memory) ⊎ IsBadVersion f version e
 
 -- the same; without a version's text, only out of memory
 abbrev pub IsPartsRejection : Flavour → Option (List ℕ) → PackageReqPartsParseError → Type 0
 IsPartsRejection f None e = e ≡ parts.Memory
-IsPartsRejection f (Some version) e = IsVersionRejection f version e
+IsPartsRejection f (Some version) e = IsVersionReqRejection f version e
 
 -- the error shows the path with its leading `/`, or is out of memory
 abbrev pub IsPathError : List ℕ → PackageReqPartsParseError → Type 0
@@ -30,7 +30,7 @@ IsPathError tail e =
 
 -- the error reports the first fault of the text, or is out of memory
 abbrev pub IsFaultError : Flavour → List ℕ → PackageReqPartsParseError → Type 0
-IsFaultError f text e = (e ≡ parts.Memory) ⊎ ((fault : Fault) × IsFirstFault f text fault × Reports f fault e)
+IsFaultError f text e = (e ≡ parts.Memory) ⊎ ((fault : PackageFault) × IsFirstPackageFault f text fault × Reports f fault e)
 
 abbrev pub IsReadPackage : Flavour → List ℕ → Result PackageReq PackageReqPartsParseError → Type 0
 IsReadPackage f text result = MatchResult result (IsReadReq f text) (IsFaultError f text)

@@ -6,7 +6,7 @@ use Rattle.semver_base.specs.Characters.{at_sign, slash}
 use Rattle.semver_req.specs.declared.common.values.Flavour.TheVariants.{Specifier}
 use Rattle.deno_semver.specs.Cuts.{is_not}
 use Rattle.deno_semver.specs.Kind.{scheme_of}
-use Rattle.deno_semver.specs.PackageOutcome.{Fault, HasPath, IsFirstFault, IsVersionReq, Reports}
+use Rattle.deno_semver.specs.PackageOutcome.{PackageFault, HasPath, IsFirstPackageFault, IsVersionReq, Reports}
 use Rattle.deno_semver.specs.PackageText.{IsPackageText, PackageParts, scoped_name}
 use Rattle.deno_semver.specs.ReferenceText.{LacksScheme, reference_text, sub_path_of, text_with_version}
 use Rattle.deno_semver.specs.declared.package.errors.PackageReqPartsParseError.{PackageReqPartsParseError}
@@ -38,12 +38,12 @@ HasNoVersionInPath reference = (before version : List ℕ) → HasVersionInPath 
 pub data ReferenceFault : Type 0 where
   OtherScheme : ReferenceFault
   -- what follows the scheme isn't a valid package requirement
-  BadText : Fault → ReferenceFault
+  BadText : PackageFault → ReferenceFault
   -- the reference as written, and with its version moved after the name
   VersionInPath : List ℕ → List ℕ → ReferenceFault
 
 -- a path may follow the package requirement
-abbrev pub IsOfReference : Fault → Type 0
+abbrev pub IsOfReference : PackageFault → Type 0
 IsOfReference (HasPath path) = ⊥
 IsOfReference fault = Unit {0}
 
@@ -54,7 +54,7 @@ pub data IsReferenceOutcome (kind : PackageKind)
   is_reference : {body : List ℕ} {reference : PackageReqReference} → text ≡ scheme_of kind ++ body
       → IsReadReference body reference → HasNoVersionInPath reference
       → IsReferenceOutcome kind text (Ok reference)
-  bad_text : {body : List ℕ} {fault : Fault} → text ≡ scheme_of kind ++ body → IsFirstFault Specifier body fault
+  bad_text : {body : List ℕ} {fault : PackageFault} → text ≡ scheme_of kind ++ body → IsFirstPackageFault Specifier body fault
       → IsOfReference fault
       → IsReferenceOutcome kind text (Err (BadText fault))
   version_in_path : {body before version : List ℕ} {reference : PackageReqReference} → text ≡ scheme_of kind ++ body

@@ -4,7 +4,7 @@ use Rattle.std.specs.Borrow.{Bor}
 use Rattle.semver_req.specs.declared.common.values.Flavour.{Flavour}
 use Rattle.semver_req.specs.declared.common.values.Flavour.TheVariants.{Specifier}
 use Rattle.deno_semver.specs.Kind.{scheme_of}
-use Rattle.deno_semver.specs.PackageOutcome.{Fault, IsFirstFault, IsVersionReq, Reports}
+use Rattle.deno_semver.specs.PackageOutcome.{PackageFault, IsFirstPackageFault, IsVersionReq, Reports}
 use Rattle.deno_semver.specs.PackageText.{IsPackageText, IsPathPart, PackageParts, scoped_name}
 use Rattle.deno_semver.specs.ReferenceOutcome.{HasNoVersionInPath, HasVersionInPath, Invalid, InvalidPathWithVersion, IsOfReference, IsReadReference, Memory, unboxed}
 use Rattle.deno_semver.specs.ReferenceText.{LacksScheme, reference_text, text_with_version}
@@ -31,7 +31,7 @@ pub record IsReadWithPath (f : Flavour) (text : List ℕ) (req : PackageReq) (ta
 -- the error reports the first fault of a text that may have a path, or is out of memory
 abbrev pub IsFrontError : Flavour → List ℕ → PackageReqPartsParseError → Type 0
 IsFrontError f text e =
-    (e ≡ parts.Memory) ⊎ ((fault : Fault) × IsFirstFault f text fault × IsOfReference fault × Reports f fault e)
+    (e ≡ parts.Memory) ⊎ ((fault : PackageFault) × IsFirstPackageFault f text fault × IsOfReference fault × Reports f fault e)
 
 abbrev pub IsReferenceRead : List ℕ → Result PackageReqReference PackageReqPartsParseError → Type 0
 IsReferenceRead body result = MatchResult result (IsReadReference body) (IsFrontError Specifier body)

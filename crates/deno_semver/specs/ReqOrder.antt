@@ -72,15 +72,15 @@ builds_cmp =
 
 -- ---- requirements
 
-abbrev pub ranges_of : RangeSetOrTag → List VersionRange
-ranges_of (inner.RangeSet set) = set.0
-ranges_of (inner.Tag text) = []
+abbrev pub listed_ranges : RangeSetOrTag → List VersionRange
+listed_ranges (inner.RangeSet set) = set.0
+listed_ranges (inner.Tag text) = []
 
 -- a tag before ranges, and of two tags the greater one first; the ranges one by one, and their builds last
 abbrev pub inner_cmp : RangeSetOrTag → RangeSetOrTag → Ordering
 inner_cmp =
     then_cmp (on tag_of (flip_args (option_cmp text_cmp)))
-    (then_cmp (on ranges_of (slice_cmp range_cmp)) (on ranges_of (slice_cmp builds_cmp)))
+    (then_cmp (on listed_ranges (slice_cmp range_cmp)) (on listed_ranges (slice_cmp builds_cmp)))
 
 -- the name, and then the version requirement's meaning
 abbrev pub req_cmp : PackageReq → PackageReq → Ordering

@@ -7,7 +7,7 @@ use Rattle.std.specs.Cmp.Lexicographic.{options_total, pointwise, slice_cmp, tex
 use Rattle.std.specs.FinMap.{nat_cmp-IsAntisymmetric, slice_cmp-IsAntisymmetric}
 use Rattle.std.specs.Ordering.{eq_by_cmp, is_eq, nat_cmp}
 use Rattle.std.specs.declared.cmp.Ordering.TheVariants.{Equal}
-use Rattle.semver_base.specs.PrecedenceLaws.{SamePrecedence, precedence-anti, precedence_total, then_first, then_second, then_ties, version_of}
+use Rattle.semver_base.specs.PrecedenceLaws.{SamePrecedence, precedence-anti, precedence_total, then_first, then_second, then_ties, version_with}
 use Rattle.semver_base.specs.declared.range.RangeBound.{RangeBound}
 use Rattle.semver_base.specs.declared.range.RangeBound.TheVariants as bound
 use Rattle.semver_base.specs.declared.range.VersionBound.{VersionBound}
@@ -21,7 +21,7 @@ use Rattle.semver_req.specs.declared.range_set_or_tag.RangeSetOrTag.{RangeSetOrT
 use Rattle.semver_req.specs.declared.range_set_or_tag.RangeSetOrTag.TheVariants as inner
 use Rattle.semver_req.specs.Sameness.{inner_eq, inner_reported}
 use Rattle.deno_semver.specs.Equal.{AreEqualReqs}
-use Rattle.deno_semver.specs.ReqOrder.{bound_kinds_cmp, bound_place, bound_versions_cmp, build_of, builds_cmp, end_cmp, inner_cmp, kind_place, range_cmp, ranges_of, req_cmp, start_cmp, text_cmp, version_bound_of}
+use Rattle.deno_semver.specs.ReqOrder.{bound_kinds_cmp, bound_place, bound_versions_cmp, build_of, builds_cmp, end_cmp, inner_cmp, kind_place, range_cmp, listed_ranges, req_cmp, start_cmp, text_cmp, version_bound_of}
 use Rattle.deno_semver.specs.declared.package.values.PackageReq.{PackageReq}
 
 -- ---- it is total
@@ -54,7 +54,7 @@ builds_total =
 inner_total : IsTotalOrder inner_cmp
 inner_total =
     then_total (on_total tag_of (back_total (options_total nat_list_cmp_total)))
-    (then_total (on_total ranges_of (lists_total range_total)) (on_total ranges_of (lists_total builds_total)))
+    (then_total (on_total listed_ranges (lists_total range_total)) (on_total listed_ranges (lists_total builds_total)))
 
 pub req_total : IsTotalOrder req_cmp
 req_total =
@@ -71,8 +71,8 @@ kind_same kind.Exclusive kind.Exclusive e = refl
 
 version_same : (x y : Version) → SamePrecedence x y → x.build ≡ y.build → x ≡ y
 version_same x y h b =
-    let same : version_of x.major x.minor x.patch x.pre x.build
-    ≡ version_of y.major y.minor y.patch y.pre y.build = rw (h.major, h.minor, h.patch, h.pre, b) refl in
+    let same : version_with x.major x.minor x.patch x.pre x.build
+    ≡ version_with y.major y.minor y.patch y.pre y.build = rw (h.major, h.minor, h.patch, h.pre, b) refl in
     same
 
 bound_same : (x y : VersionBound) → SamePrecedence x.version y.version → x.kind ≡ y.kind

@@ -25,14 +25,14 @@ path_reported None (Some y) = (λ e. cc e, λ e. cc e)
 path_reported (Some x) None = (λ e. cc e, λ e. cc e)
 path_reported (Some x) (Some y) = reported_as (text_eq x y) (ap Some) (λ e. cc e) (text_reported x y)
 
-abbrev kind_eq : PackageKind → PackageKind → Bool
-kind_eq = sameb the_type
+abbrev registry_eq : PackageKind → PackageKind → Bool
+registry_eq = sameb the_type
 
-pub kind_reported : (x y : PackageKind) → Decides (kind_eq x y) (x ≡ y)
-kind_reported Jsr Jsr = (λ e. refl, λ e. refl)
-kind_reported Jsr Npm = (λ e. cc e, λ e. cc e)
-kind_reported Npm Jsr = (λ e. cc e, λ e. cc e)
-kind_reported Npm Npm = (λ e. refl, λ e. refl)
+pub registry_reported : (x y : PackageKind) → Decides (registry_eq x y) (x ≡ y)
+registry_reported Jsr Jsr = (λ e. refl, λ e. refl)
+registry_reported Jsr Npm = (λ e. cc e, λ e. cc e)
+registry_reported Npm Jsr = (λ e. cc e, λ e. cc e)
+registry_reported Npm Npm = (λ e. refl, λ e. refl)
 
 req_reported : (x y : PackageReq) → Decides (req_eq x y) (AreEqualReqs x y)
 req_reported x y = both_reported (text_eq x.name y.name) (inner_eq x.version_req.inner y.version_req.inner) (text_reported x.name y.name) (inner_reported x.version_req.inner y.version_req.inner)
@@ -41,10 +41,10 @@ pub reference_reported : (x y : PackageReqReference) → Decides (req_eq x.req y
 reference_reported x y = both_reported (req_eq x.req y.req) (option_eq text_eq x.sub_path y.sub_path) (req_reported x.req y.req) (path_reported x.sub_path y.sub_path)
 
 abbrev dependency_eq : JsrDepPackageReq → JsrDepPackageReq → Bool
-dependency_eq x y = kind_eq x.kind y.kind && req_eq x.req y.req
+dependency_eq x y = registry_eq x.kind y.kind && req_eq x.req y.req
 
 pub dependency_reported : (x y : JsrDepPackageReq) → Decides (dependency_eq x y) (AreEqualDependencies x y)
-dependency_reported x y = both_reported (kind_eq x.kind y.kind) (req_eq x.req y.req) (kind_reported x.kind y.kind) (req_reported x.req y.req)
+dependency_reported x y = both_reported (registry_eq x.kind y.kind) (req_eq x.req y.req) (registry_reported x.kind y.kind) (req_reported x.req y.req)
 
 abbrev pub nv_of : List ℕ → Version → PackageNv
 nv_of n v = record { name = n; version = v }

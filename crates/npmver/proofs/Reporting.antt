@@ -12,8 +12,8 @@ use Rattle.answers.specs.Questions.{BestMatch, Canonical, Matches, Overlaps}
 use Rattle.answers.specs.declared.asking.Answer.{Answer}
 use Rattle.answers.specs.declared.asking.Answer.TheVariants as answer
 use Rattle.answers.specs.declared.questions.Best.{Best}
-use Rattle.npmver.specs.Question.{ByParser, IsAnswer, IsAsked, IsForm, IsParser, IsStatus, NoParser, Prints, asks_best, asks_fits, asks_fits_pre, asks_meet, asks_normal, asks_nothing, by, by_none, form_best, form_fits, form_fits_pre, form_meet, form_normal, npm, normal, of_reported, of_unwritten, of_out_of_memory, prints, rejects, strict}
-use Rattle.npmver.specs.Reported.{OutOfMemory, Text, Reported, Usage, status_of, reported_answer, reported_best, reported_by, reported_fault, reported_match, reported_problem, reported_whether}
+use Rattle.npmver.specs.Question.{ByParser, IsPrinted, IsAsked, IsForm, IsParser, IsStatus, NoParser, Prints, asks_best, asks_fits, asks_fits_pre, asks_meet, asks_normal, asks_nothing, by, by_none, form_best, form_fits, form_fits_pre, form_meet, form_normal, npm, normal, of_reported, of_unwritten, of_out_of_memory, prints, rejects, strict}
+use Rattle.npmver.specs.Reported.{OutOfMemory, Text, Reported, Usage, status_of, reported_answer, reported_best, printed_for, reported_fault, reported_match, reported_problem, reported_whether}
 use Rattle.npmver.specs.declared.Line.{Line}
 use Rattle.npmver.specs.declared.Line.TheVariants as line
 use Rattle.npmver.specs.declared.Problem.{Problem}
@@ -48,27 +48,27 @@ module _ {X : Type 0} (shown : X → Reported) (Asked : Result X Fault → Type 
   reported_outcome (Ok x) = shown x
   reported_outcome (Err why) = reported_fault why
 
-  pub printed : (outcome : Result X Fault) → IsOutcomeOf fault.OutOfMemory Asked outcome → (result : Result Line Problem) → reported_by result ≡ reported_outcome outcome
-      → IsAnswer (Prints shown Asked) result
+  pub printed : (outcome : Result X Fault) → IsOutcomeOf fault.OutOfMemory Asked outcome → (result : Result Line Problem) → printed_for result ≡ reported_outcome outcome
+      → IsPrinted (Prints shown Asked) result
   printed outcome h result e = record { reports = reports outcome e h.is; every = every; usage = λ a. absurd (no_usage Usage refl a) }
     where
-      reports : (o : Result X Fault) → reported_by result ≡ reported_outcome o → (o ≡ Err fault.OutOfMemory) ⊎ Asked o → (reported_by result ≡ OutOfMemory) ⊎ Prints shown Asked (reported_by result)
+      reports : (o : Result X Fault) → printed_for result ≡ reported_outcome o → (o ≡ Err fault.OutOfMemory) ⊎ Asked o → (printed_for result ≡ OutOfMemory) ⊎ Prints shown Asked (printed_for result)
       reports (Ok x) e (inl none) = absurd (cc none)
       reports (Ok x) e (inr a) = inr (subst (Prints shown Asked) (sym e) (prints a))
       reports (Err (fault.Invalid kind place)) e (inl none) = absurd (cc none)
       reports (Err (fault.Invalid kind place)) e (inr a) = inr (subst (Prints shown Asked) (sym e) (rejects a))
       reports (Err fault.OutOfMemory) e is = inl e
 
-      same : (o : Result X Fault) → (outcome ≡ Err fault.OutOfMemory) ⊎ (outcome ≡ o) → (reported_by result ≡ OutOfMemory) ⊎ (reported_by result ≡ reported_outcome o)
+      same : (o : Result X Fault) → (outcome ≡ Err fault.OutOfMemory) ⊎ (outcome ≡ o) → (printed_for result ≡ OutOfMemory) ⊎ (printed_for result ≡ reported_outcome o)
       same o (inl none) = inl (e ∙ ap reported_outcome none)
       same o (inr is) = inr (e ∙ ap reported_outcome is)
 
-      every : (reported : Reported) → Prints shown Asked reported → (reported_by result ≡ OutOfMemory) ⊎ (reported_by result ≡ reported)
+      every : (reported : Reported) → Prints shown Asked reported → (printed_for result ≡ OutOfMemory) ⊎ (printed_for result ≡ reported)
       every reported (prints {x = x} a) = same (Ok x) (h.only (Ok x) a)
       every reported (rejects {kind = kind} {place = place} a) = same (Err (fault.Invalid kind place)) (h.only (Err (fault.Invalid kind place)) a)
 
   -- out of memory
-  pub ran_out : (result : Result Line Problem) → reported_by result ≡ OutOfMemory → IsAnswer (Prints shown Asked) result
+  pub ran_out : (result : Result Line Problem) → printed_for result ≡ OutOfMemory → IsPrinted (Prints shown Asked) result
   ran_out result e = record { reports = inl e; every = λ reported a. inl e; usage = λ a. absurd (no_usage Usage refl a) }
 
 -- ---- grammars by name
@@ -89,26 +89,26 @@ one_parser name f g (strict a) (npm b) = absurd (apart name 1 (codes "strict") (
 one_parser name f g (strict a) (normal b) = absurd (apart name 1 (codes "strict") (codes "normal") a b refl)
 
 module _ (name : List ℕ) (Asked : Flavour → Reported → Type 0) where
-  pub by_parser : (f : Flavour) → IsParser name f → (result : Result Line Problem) → IsAnswer (Asked f) result → IsAnswer (ByParser name Asked) result
+  pub by_parser : (f : Flavour) → IsParser name f → (result : Result Line Problem) → IsPrinted (Asked f) result → IsPrinted (ByParser name Asked) result
   by_parser f r result h = record {
     reports = reports h.reports;
     every = every;
     usage = usage;
   }
     where
-      reports : (reported_by result ≡ OutOfMemory) ⊎ Asked f (reported_by result) → (reported_by result ≡ OutOfMemory) ⊎ ByParser name Asked (reported_by result)
+      reports : (printed_for result ≡ OutOfMemory) ⊎ Asked f (printed_for result) → (printed_for result ≡ OutOfMemory) ⊎ ByParser name Asked (printed_for result)
       reports (inl e) = inl e
       reports (inr a) = inr (by r a)
 
-      every : (reported : Reported) → ByParser name Asked reported → (reported_by result ≡ OutOfMemory) ⊎ (reported_by result ≡ reported)
+      every : (reported : Reported) → ByParser name Asked reported → (printed_for result ≡ OutOfMemory) ⊎ (printed_for result ≡ reported)
       every reported (by {f = g} s a) = h.every reported (subst (λ (x : Flavour). Asked x reported) (one_parser name g f s r) a)
       every reported (by_none n) = absurd (n f r)
 
-      usage : ByParser name Asked Usage → reported_by result ≡ Usage
+      usage : ByParser name Asked Usage → printed_for result ≡ Usage
       usage (by {f = g} s a) = h.usage (subst (λ (x : Flavour). Asked x Usage) (one_parser name g f s r) a)
       usage (by_none n) = absurd (n f r)
 
-  pub by_no_parser : NoParser name → IsAnswer (ByParser name Asked) (Err problem.Usage)
+  pub by_no_parser : NoParser name → IsPrinted (ByParser name Asked) (Err problem.Usage)
   by_no_parser n = record { reports = inr (by_none n); every = every; usage = λ a. refl }
     where
       every : (reported : Reported) → ByParser name Asked reported → (Usage ≡ OutOfMemory) ⊎ (Usage ≡ reported)
@@ -119,16 +119,16 @@ module _ (name : List ℕ) (Asked : Flavour → Reported → Type 0) where
 
 -- what holds for a result holds for it under an equivalent question
 same_answer : (Asked Others : Reported → Type 0) → ((reported : Reported) → Asked reported → Others reported) → ((reported : Reported) → Others reported → Asked reported)
-    → (result : Result Line Problem) → IsAnswer Asked result → IsAnswer Others result
+    → (result : Result Line Problem) → IsPrinted Asked result → IsPrinted Others result
 same_answer Asked Others to from result h = record {
   reports = go h.reports;
   every = λ reported a. h.every reported (from reported a);
   usage = λ a. h.usage (from Usage a);
 }
   where
-    go : (reported_by result ≡ OutOfMemory) ⊎ Asked (reported_by result) → (reported_by result ≡ OutOfMemory) ⊎ Others (reported_by result)
+    go : (printed_for result ≡ OutOfMemory) ⊎ Asked (printed_for result) → (printed_for result ≡ OutOfMemory) ⊎ Others (printed_for result)
     go (inl e) = inl e
-    go (inr a) = inr (to (reported_by result) a)
+    go (inr a) = inr (to (printed_for result) a)
 
 abbrev argument_at : List (List ℕ) → ℕ → List ℕ
 argument_at arguments k = get_or arguments k []
@@ -166,7 +166,7 @@ abbrev of_three : List ℕ → List ℕ → List ℕ → List (List ℕ)
 of_three command one two = command ∷ one ∷ two ∷ []
 
 four_fits : (command parser requirement version : List ℕ) → command ≡ codes "fits" → (result : Result Line Problem)
-    → IsAnswer (ByParser parser (λ f. Prints reported_match (Matches Restricted f requirement version))) result → IsAnswer (IsAsked (command ∷ parser ∷ requirement ∷ version ∷ [])) result
+    → IsPrinted (ByParser parser (λ f. Prints reported_match (Matches Restricted f requirement version))) result → IsPrinted (IsAsked (command ∷ parser ∷ requirement ∷ version ∷ [])) result
 four_fits command parser requirement version is result h = same_answer _ (IsAsked (of_four command parser requirement version)) (λ reported a. asks_fits same a) from result h
   where
     same : of_four command parser requirement version ≡ codes "fits" ∷ parser ∷ requirement ∷ version ∷ []
@@ -184,7 +184,7 @@ four_fits command parser requirement version is result h = same_answer _ (IsAske
     from reported (asks_nothing n) = absurd (n (form_fits same))
 
 four_fits_pre : (command parser requirement version : List ℕ) → command ≡ codes "fits-pre" → (result : Result Line Problem)
-    → IsAnswer (ByParser parser (λ f. Prints reported_match (Matches Admitted f requirement version))) result → IsAnswer (IsAsked (command ∷ parser ∷ requirement ∷ version ∷ [])) result
+    → IsPrinted (ByParser parser (λ f. Prints reported_match (Matches Admitted f requirement version))) result → IsPrinted (IsAsked (command ∷ parser ∷ requirement ∷ version ∷ [])) result
 four_fits_pre command parser requirement version is result h = same_answer _ (IsAsked (of_four command parser requirement version)) (λ reported a. asks_fits_pre same a) from result h
   where
     same : of_four command parser requirement version ≡ codes "fits-pre" ∷ parser ∷ requirement ∷ version ∷ []
@@ -202,7 +202,7 @@ four_fits_pre command parser requirement version is result h = same_answer _ (Is
     from reported (asks_nothing n) = absurd (n (form_fits_pre same))
 
 pub versions_best : (command parser requirement : List ℕ) (versions : List (List ℕ)) → 0 < length versions → command ≡ codes "best" → (result : Result Line Problem)
-    → IsAnswer (ByParser parser (λ f. Prints reported_best (BestMatch Highest Restricted f requirement versions))) result → IsAnswer (IsAsked (of_versions command parser requirement versions)) result
+    → IsPrinted (ByParser parser (λ f. Prints reported_best (BestMatch Highest Restricted f requirement versions))) result → IsPrinted (IsAsked (of_versions command parser requirement versions)) result
 versions_best command parser requirement [] some is result h = absurd (omega (arith, some))
 versions_best command parser requirement (version ∷ others) some is result h = same_answer _ (IsAsked arguments) (λ reported a. asks_best same a) from result h
   where
@@ -224,7 +224,7 @@ versions_best command parser requirement (version ∷ others) some is result h =
     from reported (asks_nothing n) = absurd (n (form_best same))
 
 pub three_normal : (command parser requirement : List ℕ) → command ≡ codes "normal" → (result : Result Line Problem)
-    → IsAnswer (ByParser parser (λ f. Prints Text (Canonical f requirement))) result → IsAnswer (IsAsked (command ∷ parser ∷ requirement ∷ [])) result
+    → IsPrinted (ByParser parser (λ f. Prints Text (Canonical f requirement))) result → IsPrinted (IsAsked (command ∷ parser ∷ requirement ∷ [])) result
 three_normal command parser requirement is result h = same_answer _ (IsAsked (of_three command parser requirement)) (λ reported a. asks_normal same a) from result h
   where
     same : of_three command parser requirement ≡ codes "normal" ∷ parser ∷ requirement ∷ []
@@ -241,7 +241,7 @@ three_normal command parser requirement is result h = same_answer _ (IsAsked (of
     from reported (asks_nothing n) = absurd (n (form_normal same))
 
 pub three_meet : (command one other : List ℕ) → command ≡ codes "meet" → (result : Result Line Problem)
-    → IsAnswer (Prints reported_whether (Overlaps Npm one other)) result → IsAnswer (IsAsked (command ∷ one ∷ other ∷ [])) result
+    → IsPrinted (Prints reported_whether (Overlaps Npm one other)) result → IsPrinted (IsAsked (command ∷ one ∷ other ∷ [])) result
 three_meet command one other is result h = same_answer _ (IsAsked (of_three command one other)) (λ reported a. asks_meet same a) from result h
   where
     same : of_three command one other ≡ codes "meet" ∷ one ∷ other ∷ []
@@ -257,7 +257,7 @@ three_meet command one other is result h = same_answer _ (IsAsked (of_three comm
     from reported (asks_nothing n) = absurd (n (form_meet same))
 
 -- arguments of no form print the usage
-pub no_form : (arguments : List (List ℕ)) → (IsForm arguments → ⊥) → IsAnswer (IsAsked arguments) (Err problem.Usage)
+pub no_form : (arguments : List (List ℕ)) → (IsForm arguments → ⊥) → IsPrinted (IsAsked arguments) (Err problem.Usage)
 no_form arguments n = record { reports = inr (asks_nothing n); every = every; usage = λ a. refl }
   where
     every : (reported : Reported) → IsAsked arguments reported → (Usage ≡ OutOfMemory) ⊎ (Usage ≡ reported)
@@ -288,15 +288,15 @@ several_others command parser requirement versions more nor (form_meet e) = none
 
 module _ (command parser requirement : List ℕ) (versions : List (List ℕ)) (some : 0 < length versions) (result : Result Line Problem) where
   -- several versions print the usage if one is asked for
-  reported_several : (command ≡ codes "best" → ⊥) → 1 < length versions → result ≡ Err problem.Usage → IsAnswer (IsAsked (of_versions command parser requirement versions)) result
-  reported_several nor more is = subst (IsAnswer (IsAsked (of_versions command parser requirement versions))) (sym is) (no_form _ (several_others command parser requirement versions more nor))
+  reported_several : (command ≡ codes "best" → ⊥) → 1 < length versions → result ≡ Err problem.Usage → IsPrinted (IsAsked (of_versions command parser requirement versions)) result
+  reported_several nor more is = subst (IsPrinted (IsAsked (of_versions command parser requirement versions))) (sym is) (no_form _ (several_others command parser requirement versions more nor))
 
   of_one : (Asked : List ℕ → Type 0) → ((version : List ℕ) → versions ≡ version ∷ [] → Asked version) → (1 < length versions → result ≡ Err problem.Usage)
-      → ((version : List ℕ) → versions ≡ version ∷ [] → Asked version → IsAnswer (IsAsked (of_versions command parser requirement versions)) result)
-      → (command ≡ codes "best" → ⊥) → IsAnswer (IsAsked (of_versions command parser requirement versions)) result
+      → ((version : List ℕ) → versions ≡ version ∷ [] → Asked version → IsPrinted (IsAsked (of_versions command parser requirement versions)) result)
+      → (command ≡ codes "best" → ⊥) → IsPrinted (IsAsked (of_versions command parser requirement versions)) result
   of_one Asked one several reported nor = go versions refl
     where
-      go : (vs : List (List ℕ)) → versions ≡ vs → IsAnswer (IsAsked (of_versions command parser requirement versions)) result
+      go : (vs : List (List ℕ)) → versions ≡ vs → IsPrinted (IsAsked (of_versions command parser requirement versions)) result
       go [] e = absurd (omega (arith, some, ap (λ (x : List (List ℕ)). length x) e))
       go (v ∷ []) e = reported v e (one v e)
       go (v ∷ w ∷ ws) e = reported_several nor more (several more)
@@ -304,14 +304,14 @@ module _ (command parser requirement : List ℕ) (versions : List (List ℕ)) (s
           more : 1 < length versions
           more = rw e (omega arith)
 
-  pub versions_fits : command ≡ codes "fits" → ((version : List ℕ) → versions ≡ version ∷ [] → IsAnswer (ByParser parser (λ f. Prints reported_match (Matches Restricted f requirement version))) result)
-      → (1 < length versions → result ≡ Err problem.Usage) → IsAnswer (IsAsked (of_versions command parser requirement versions)) result
-  versions_fits is one several = of_one (λ version. IsAnswer (ByParser parser (λ f. Prints reported_match (Matches Restricted f requirement version))) result) one several
+  pub versions_fits : command ≡ codes "fits" → ((version : List ℕ) → versions ≡ version ∷ [] → IsPrinted (ByParser parser (λ f. Prints reported_match (Matches Restricted f requirement version))) result)
+      → (1 < length versions → result ≡ Err problem.Usage) → IsPrinted (IsAsked (of_versions command parser requirement versions)) result
+  versions_fits is one several = of_one (λ version. IsPrinted (ByParser parser (λ f. Prints reported_match (Matches Restricted f requirement version))) result) one several
       (λ version e a. rw e (four_fits command parser requirement version is result a)) (λ best. apart command 0 (codes "fits") (codes "best") is best refl)
 
-  pub versions_fits_pre : command ≡ codes "fits-pre" → ((version : List ℕ) → versions ≡ version ∷ [] → IsAnswer (ByParser parser (λ f. Prints reported_match (Matches Admitted f requirement version))) result)
-      → (1 < length versions → result ≡ Err problem.Usage) → IsAnswer (IsAsked (of_versions command parser requirement versions)) result
-  versions_fits_pre is one several = of_one (λ version. IsAnswer (ByParser parser (λ f. Prints reported_match (Matches Admitted f requirement version))) result) one several
+  pub versions_fits_pre : command ≡ codes "fits-pre" → ((version : List ℕ) → versions ≡ version ∷ [] → IsPrinted (ByParser parser (λ f. Prints reported_match (Matches Admitted f requirement version))) result)
+      → (1 < length versions → result ≡ Err problem.Usage) → IsPrinted (IsAsked (of_versions command parser requirement versions)) result
+  versions_fits_pre is one several = of_one (λ version. IsPrinted (ByParser parser (λ f. Prints reported_match (Matches Admitted f requirement version))) result) one several
       (λ version e a. rw e (four_fits_pre command parser requirement version is result a)) (λ best. apart command 0 (codes "fits-pre") (codes "best") is best refl)
 
 pub three_others : (command one other : List ℕ) → (command ≡ codes "normal" → ⊥) → (command ≡ codes "meet" → ⊥) → IsForm (command ∷ one ∷ other ∷ []) → ⊥
@@ -343,7 +343,7 @@ not_out_of_memory (line.Tag tag) e = cc e
 not_out_of_memory (line.Text text) e = cc e
 not_out_of_memory line.NoMatch e = cc e
 
-pub answer_status : (arguments : List (List ℕ)) (a : Line) (s : ℕ) → IsAnswer (IsAsked arguments) (Ok a) → (s ≡ 6) ⊎ (s ≡ status_of (reported_answer a)) → IsStatus arguments s
+pub answer_status : (arguments : List (List ℕ)) (a : Line) (s : ℕ) → IsPrinted (IsAsked arguments) (Ok a) → (s ≡ 6) ⊎ (s ≡ status_of (reported_answer a)) → IsStatus arguments s
 answer_status arguments a s h is = go h.reports is
   where
     go : (reported_answer a ≡ OutOfMemory) ⊎ IsAsked arguments (reported_answer a) → (s ≡ 6) ⊎ (s ≡ status_of (reported_answer a)) → IsStatus arguments s
@@ -351,7 +351,7 @@ answer_status arguments a s h is = go h.reports is
     go (inr asked) (inl e) = subst (IsStatus arguments) (sym e) (of_unwritten a asked)
     go (inr asked) (inr e) = subst (IsStatus arguments) (sym e) (of_reported (reported_answer a) asked)
 
-pub problem_status : (arguments : List (List ℕ)) (p : Problem) (s : ℕ) → IsAnswer (IsAsked arguments) (Err p) → s ≡ status_of (reported_problem p) → IsStatus arguments s
+pub problem_status : (arguments : List (List ℕ)) (p : Problem) (s : ℕ) → IsPrinted (IsAsked arguments) (Err p) → s ≡ status_of (reported_problem p) → IsStatus arguments s
 problem_status arguments p s h is = subst (IsStatus arguments) (sym is) (go h.reports)
   where
     go : (reported_problem p ≡ OutOfMemory) ⊎ IsAsked arguments (reported_problem p) → IsStatus arguments (status_of (reported_problem p))

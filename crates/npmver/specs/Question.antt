@@ -7,7 +7,7 @@ use Rattle.answers.specs.Asking.{Fault, Invalid}
 use Rattle.answers.specs.declared.questions.End.TheVariants.{Highest}
 use Rattle.answers.specs.Questions.{BestMatch, Canonical, Matches, Overlaps}
 use Rattle.answers.specs.declared.asking.Kind.{Kind}
-use Rattle.npmver.specs.Reported.{Reported, OutOfMemory, Rejected, Text, Usage, status_of, reported_answer, reported_best, reported_by, reported_match, reported_whether}
+use Rattle.npmver.specs.Reported.{Reported, OutOfMemory, Rejected, Text, Usage, status_of, reported_answer, reported_best, printed_for, reported_match, reported_whether}
 use Rattle.npmver.specs.declared.Line.{Line}
 use Rattle.npmver.specs.declared.Problem.{Problem}
 
@@ -63,10 +63,10 @@ pub data IsAsked (arguments : List (List ℕ)) : Reported → Type 0 where
   asks_nothing : (IsForm arguments → ⊥) → IsAsked arguments Usage
 
 -- the result prints what is asked, which is nothing else, or is out of memory; the usage is printed whatever memory is left
-pub record IsAnswer (Asked : Reported → Type 0) (result : Result Line Problem) : Type 0 where
-  pub reports : (reported_by result ≡ OutOfMemory) ⊎ Asked (reported_by result)
-  pub every : (reported : Reported) → Asked reported → (reported_by result ≡ OutOfMemory) ⊎ (reported_by result ≡ reported)
-  pub usage : Asked Usage → reported_by result ≡ Usage
+pub record IsPrinted (Asked : Reported → Type 0) (result : Result Line Problem) : Type 0 where
+  pub reports : (printed_for result ≡ OutOfMemory) ⊎ Asked (printed_for result)
+  pub every : (reported : Reported) → Asked reported → (printed_for result ≡ OutOfMemory) ⊎ (printed_for result ≡ reported)
+  pub usage : Asked Usage → printed_for result ≡ Usage
 
 -- the exit status for these arguments: that of what is printed, or of out of memory, or 6 if a result can't be written
 pub data IsStatus (arguments : List (List ℕ)) : ℕ → Type 0 where

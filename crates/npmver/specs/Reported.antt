@@ -38,9 +38,9 @@ reported_problem problem.Usage = Usage
 reported_problem (problem.Unanswered why) = reported_fault (fault_of why)
 
 -- what is printed for this result
-abbrev pub reported_by : Result Line Problem → Reported
-reported_by (Ok line) = reported_answer line
-reported_by (Err problem) = reported_problem problem
+abbrev pub printed_for : Result Line Problem → Reported
+printed_for (Ok line) = reported_answer line
+printed_for (Err problem) = reported_problem problem
 
 -- ---- the lines of results
 

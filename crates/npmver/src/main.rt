@@ -18,7 +18,7 @@ ghost use Rattle.answers.specs.Asking as fault;
 ghost use Rattle.answers.specs.Questions.{BestMatch, Canonical, Matches, Overlaps};
 ghost use Rattle.answers.specs.declared.asking.Kind.TheVariants as kind;
 ghost use Rattle.answers.specs.declared.asking.Problem.TheVariants as unanswered;
-ghost use Rattle.npmver.specs.Question.{ByParser, IsAnswer, IsAsked, IsParser, IsStatus, NoParser, Prints};
+ghost use Rattle.npmver.specs.Question.{ByParser, IsPrinted, IsAsked, IsParser, IsStatus, NoParser, Prints};
 ghost use Rattle.npmver.specs.Reported.{Text, status_of, reported_answer, reported_best, reported_match, reported_problem, reported_whether};
 ghost use Rattle.npmver.specs.declared.Problem.TheVariants as problem;
 
@@ -130,7 +130,7 @@ pub fn run<O: Write, E: Write>(alloc: Global, arguments: &[String], out: &mut O,
 
 // Returns the result for the arguments.
 fn ask(alloc: Global, arguments: &[String]) -> Result<Line, Problem>
-    ensures { IsAnswer (IsAsked (map string_bytes arguments.now)) result }
+    ensures { IsPrinted (IsAsked (map string_bytes arguments.now)) result }
 {
     match arguments {
         [command, one, other] => three(alloc, command.as_str(), one.as_str(), other.as_str()),
@@ -154,7 +154,7 @@ fn of_versions(
     versions: &[String],
 ) -> Result<Line, Problem>
     requires { 0 < length versions.now }
-    ensures { IsAnswer (IsAsked (command.now ∷ parser.now ∷ requirement.now
+    ensures { IsPrinted (IsAsked (command.now ∷ parser.now ∷ requirement.now
         ∷ map string_bytes versions.now)) result }
 {
     match command {
@@ -167,7 +167,7 @@ fn of_versions(
 
 // Returns the result for three arguments.
 fn three(alloc: Global, command: &str, one: &str, other: &str) -> Result<Line, Problem>
-    ensures { IsAnswer (IsAsked (command.now ∷ one.now ∷ other.now ∷ [])) result }
+    ensures { IsPrinted (IsAsked (command.now ∷ one.now ∷ other.now ∷ [])) result }
 {
     match command {
         "normal" => normal(alloc, one, other),
@@ -197,7 +197,7 @@ fn fits_one(
     pre_release: PreRelease,
 ) -> Result<Line, Problem>
     ensures one { (version : List ℕ) → map string_bytes versions.now ≡ version ∷ []
-        → IsAnswer (ByParser parser.now
+        → IsPrinted (ByParser parser.now
         (λ f. Prints reported_match (Matches pre_release f requirement.now version))) result }
     ensures several { 1 < length versions.now → result ≡ Err problem.Usage }
 {
@@ -215,7 +215,7 @@ fn fits(
     version: &str,
     pre_release: PreRelease,
 ) -> Result<Line, Problem>
-    ensures { IsAnswer (ByParser parser.now
+    ensures { IsPrinted (ByParser parser.now
         (λ f. Prints reported_match (Matches pre_release f requirement.now version.now))) result }
 {
     let Some(flavour) = flavour_of(parser) else {
@@ -244,7 +244,7 @@ fn best(
     requirement: &str,
     versions: &[String],
 ) -> Result<Line, Problem>
-    ensures { IsAnswer (ByParser parser.now (λ f. Prints reported_best
+    ensures { IsPrinted (ByParser parser.now (λ f. Prints reported_best
         (BestMatch End.Highest PreRelease.Restricted f requirement.now (map string_bytes versions.now)))) result }
 {
     let Some(flavour) = flavour_of(parser) else {
@@ -264,7 +264,7 @@ fn best(
 
 // The canonical form of the requirement, by the grammar with this name.
 fn normal(alloc: Global, parser: &str, requirement: &str) -> Result<Line, Problem>
-    ensures { IsAnswer
+    ensures { IsPrinted
         (ByParser parser.now (λ f. Prints Text (Canonical f requirement.now))) result }
 {
     let Some(flavour) = flavour_of(parser) else {
@@ -275,7 +275,7 @@ fn normal(alloc: Global, parser: &str, requirement: &str) -> Result<Line, Proble
 
 // Whether the two requirements overlap, both by npm's grammar.
 fn meet(alloc: Global, one: &str, other: &str) -> Result<Line, Problem>
-    ensures { IsAnswer (Prints reported_whether (Overlaps flavour.Npm one.now other.now)) result }
+    ensures { IsPrinted (Prints reported_whether (Overlaps flavour.Npm one.now other.now)) result }
 {
     Ok(Line::whether(overlaps(alloc, Flavour::Npm, one, other)?))
 }

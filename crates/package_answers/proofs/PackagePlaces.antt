@@ -14,7 +14,7 @@ use Rattle.semver_req.specs.SpecifierRejections.{IsSpecifierRejection, is_out_of
 use Rattle.semver_req.specs.declared.common.values.Flavour.{Flavour}
 use Rattle.semver_req.specs.declared.common.values.Flavour.TheVariants.{Npm, Normal, Specifier}
 use Rattle.deno_semver.specs.Cuts.{is_not}
-use Rattle.deno_semver.specs.PackageOutcome.{BadName, BadVersion, Fault, HasPath, IsPackageOutcome, IsPackageRejection, NoAt, NoName, Reports, rejected_by}
+use Rattle.deno_semver.specs.PackageOutcome.{BadName, BadVersion, PackageFault, HasPath, IsPackageOutcome, IsPackageRejection, NoAt, NoName, Reports, rejected_by}
 use Rattle.deno_semver.specs.PackageText.{without_slash}
 use Rattle.deno_semver.specs.declared.package.errors.PackageReqParseError.{PackageReqParseError}
 use Rattle.deno_semver.specs.declared.package.errors.PackageReqPartsParseError.{PackageReqPartsParseError}
@@ -89,21 +89,21 @@ module _ (f : Flavour) where
   no_version : (version : List ℕ) (e : PackageReqPartsParseError) → is_of_range e ≡ false → Reports f (BadVersion version) e → ⊥
   no_version version e is h = cc (ap is_of_range h.3, of_range f h.0, is)
 
-  pub lacks_at_sign : (fault : Fault) → Reports f fault parts.MissingAtSymbol → fault ≡ NoAt
+  pub lacks_at_sign : (fault : PackageFault) → Reports f fault parts.MissingAtSymbol → fault ≡ NoAt
   lacks_at_sign NoName h = cc h
   lacks_at_sign BadName h = cc h
   lacks_at_sign (BadVersion version) h = absurd (no_version version parts.MissingAtSymbol refl h)
   lacks_at_sign (HasPath path) h = cc h
   lacks_at_sign NoAt h = refl
 
-  pub lacks_name : (fault : Fault) → Reports f fault parts.NoPackageName → fault ≡ NoName
+  pub lacks_name : (fault : PackageFault) → Reports f fault parts.NoPackageName → fault ≡ NoName
   lacks_name NoName h = refl
   lacks_name BadName h = cc h
   lacks_name (BadVersion version) h = absurd (no_version version parts.NoPackageName refl h)
   lacks_name (HasPath path) h = cc h
   lacks_name NoAt h = cc h
 
-  pub is_scope_alone : (fault : Fault) → Reports f fault parts.InvalidPackageName → fault ≡ BadName
+  pub is_scope_alone : (fault : PackageFault) → Reports f fault parts.InvalidPackageName → fault ≡ BadName
   is_scope_alone NoName h = cc h
   is_scope_alone BadName h = refl
   is_scope_alone (BadVersion version) h = absurd (no_version version parts.InvalidPackageName refl h)
@@ -116,7 +116,7 @@ shows_none Specifier version e h = ap shown h.3 ∙ no_snippet h.0 h.2
 shows_none Npm version e h = ap shown h.3
 shows_none Normal version e h = ap shown h.3
 
-pub at_path : (f : Flavour) (text : List ℕ) (fault : Fault) (e : PackageReqPartsParseError) {path : List ℕ} → Reports f fault e → shown e ≡ Some path → IsFaultAt text fault None (length text - length path)
+pub at_path : (f : Flavour) (text : List ℕ) (fault : PackageFault) (e : PackageReqPartsParseError) {path : List ℕ} → Reports f fault e → shown e ≡ Some path → IsFaultAt text fault None (length text - length path)
 at_path f text NoName e h is = cc (ap shown h, is)
 at_path f text BadName e h is = cc (ap shown h, is)
 at_path f text (BadVersion version) e h is = cc (shows_none f version e h, is)
@@ -127,7 +127,7 @@ at_path f text (HasPath path) e {path = snippet} h is =
     subst (IsFaultAt text (HasPath path) None) place has_path
 at_path f text NoAt e h is = cc (ap shown h, is)
 
-abbrev pub IsOfVersion : Fault → Type 0
+abbrev pub IsOfVersion : PackageFault → Type 0
 IsOfVersion fault = (version : List ℕ) × (fault ≡ BadVersion version)
 
 -- ---- the errors of a text whose parser reports an error
@@ -147,13 +147,13 @@ module _ {f : Flavour} {text : List ℕ} {e : PackageReqParseError} {failure : F
       go (inl none) = absurd (some none)
       go (inr is) = is
 
-  pub reported : (place : Option (ℕ × Option Part)) (all : PackageErrors) → ((g : Flavour) (fault : Fault) → Reports g fault e.source → MatchOption place (IsOfVersion fault) (λ at. IsFaultAt text fault at.1 at.0))
+  pub reported : (place : Option (ℕ × Option Part)) (all : PackageErrors) → ((g : Flavour) (fault : PackageFault) → Reports g fault e.source → MatchOption place (IsOfVersion fault) (λ at. IsFaultAt text fault at.1 at.0))
       → MatchOption place (AreOfRange f 0 text all) (λ at. IsPartError (IsAt at) failure all) → ArePackageErrors f text all
   reported place all there are = go rejected
     where
-      by_place : (fault : Fault) → IsPackageOutcome f text (Err fault) → Reports f fault e.source → (at : Option (ℕ × Option Part)) (all : PackageErrors) → MatchOption at (IsOfVersion fault) (λ at. IsFaultAt text fault at.1 at.0)
+      by_place : (fault : PackageFault) → IsPackageOutcome f text (Err fault) → Reports f fault e.source → (at : Option (ℕ × Option Part)) (all : PackageErrors) → MatchOption at (IsOfVersion fault) (λ at. IsFaultAt text fault at.1 at.0)
           → MatchOption at (AreOfRange f 0 text all) (λ at. IsPartError (IsAt at) failure all) → ArePackageErrors f text all
-      by_place fault is reports None all of k = bad_version (subst (λ (x : Fault). IsPackageOutcome f text (Err x)) of.1 is) k
+      by_place fault is reports None all of k = bad_version (subst (λ (x : PackageFault). IsPackageOutcome f text (Err x)) of.1 is) k
       by_place fault is reports (Some at) (errors.Range pieces) h k = absurd k
       by_place fault is reports (Some at) (errors.Part error) h k = other_fault e.source is reports (rw (k.0.0, k.0.1) h, k.1 ∙ is_failure)
 

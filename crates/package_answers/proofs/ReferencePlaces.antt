@@ -10,7 +10,7 @@ use Rattle.semver_req.specs.Parsers.{Failure}
 use Rattle.semver_req.specs.declared.common.values.Flavour.TheVariants.{Specifier}
 use Rattle.deno_semver.specs.Cuts.{is_not}
 use Rattle.deno_semver.specs.Kind.{scheme_of}
-use Rattle.deno_semver.specs.PackageOutcome.{BadVersion, Fault, Reports}
+use Rattle.deno_semver.specs.PackageOutcome.{BadVersion, PackageFault, Reports}
 use Rattle.deno_semver.specs.PackageText.{IsAfterScope, IsPackageText, IsPathPart, PackageParts, without_slash}
 use Rattle.deno_semver.specs.ReferenceOutcome as error
 use Rattle.deno_semver.specs.ReferenceOutcome.{BadText, IsReferenceOutcome, IsReferenceRejection, OtherScheme, ReferenceFault, ReportsReference, VersionInPath, bad_text, is_reference, unboxed, version_in_path}
@@ -73,7 +73,7 @@ module _ {kind : PackageKind} {text : List ℕ} where
       let whole = ends_more (scheme_of kind, text_is) (ends_more path (before, refl)) in
       cc (and_parts (list_all (is_not 64) whole.0) _ (sym (list_all-append (is_not 64) whole.0 (64 ∷ version)) ∙ rw whole.1 at none)).1
 
-  scheme_first : {fault : Fault} → IsReferenceOutcome kind text (Err (BadText fault)) → (body : List ℕ) × (text ≡ scheme_of kind ++ body)
+  scheme_first : {fault : PackageFault} → IsReferenceOutcome kind text (Err (BadText fault)) → (body : List ℕ) × (text ≡ scheme_of kind ++ body)
   scheme_first (bad_text {body} text_is h of) = (body, text_is)
 
 module _ (kind : PackageKind) (text : List ℕ) (e : PackageReqReferenceParseError) where
@@ -88,7 +88,7 @@ module _ (kind : PackageKind) (text : List ℕ) (e : PackageReqReferenceParseErr
   has_version (BadText fault) value h is = cc (h.2, is)
   has_version (VersionInPath current suggested) value h is = (current, suggested, refl)
 
-  pub has_bad_text : (fault : ReferenceFault) (value : PackageReqReferenceInvalidParseError) → ReportsReference kind text fault e → unboxed e ≡ error.Invalid value → (inner : Fault) × (fault ≡ BadText inner) × Reports Specifier inner value.source
+  pub has_bad_text : (fault : ReferenceFault) (value : PackageReqReferenceInvalidParseError) → ReportsReference kind text fault e → unboxed e ≡ error.Invalid value → (inner : PackageFault) × (fault ≡ BadText inner) × Reports Specifier inner value.source
   has_bad_text OtherScheme value h is = cc (h, is)
   has_bad_text (BadText inner) value h is =
       let same : error.Invalid (record { specifier = text; source = h.0 }) ≡ error.Invalid value = sym h.2 ∙ is in
@@ -105,7 +105,7 @@ module _ (kind : PackageKind) (text : List ℕ) (body : List ℕ) (body_is : (b 
   scheme_before : (b : List ℕ) → text ≡ scheme_of kind ++ b → length text - length body ≡ length (scheme_of kind)
   scheme_before b is = omega (arith, ap length (text_is b is), length-append (scheme_of kind) body)
 
-  pub behind : (fault : ReferenceFault) {inner : Fault} {missing : Option Part} {place : ℕ} → fault ≡ BadText inner → IsReferenceOutcome kind text (Err fault) → IsFaultAt body inner missing place
+  pub behind : (fault : ReferenceFault) {inner : PackageFault} {missing : Option Part} {place : ℕ} → fault ≡ BadText inner → IsReferenceOutcome kind text (Err fault) → IsFaultAt body inner missing place
       → IsReferenceFaultAt text fault missing (length text - length body + place)
   behind fault {inner} {missing} {place} is outcome h =
       let first = scheme_first (rw is at outcome) in

@@ -7,7 +7,7 @@ use Rattle.semver_base.specs.Characters.{slash}
 use Rattle.semver_base.specs.Failure.{message_of}
 use Rattle.semver_req.specs.Parsers.{Failure}
 use Rattle.deno_semver.specs.Cuts.{is_not}
-use Rattle.deno_semver.specs.PackageOutcome.{BadName, Fault, HasPath, NoAt, NoName}
+use Rattle.deno_semver.specs.PackageOutcome.{BadName, PackageFault, HasPath, NoAt, NoName}
 use Rattle.deno_semver.specs.PackageText.{without_slash}
 use Rattle.answers.specs.Errors.{errors_json}
 use Rattle.package_answers.specs.declared.errors.PackageErrors.{PackageErrors}
@@ -19,7 +19,7 @@ use Rattle.package_answers.specs.declared.errors.PartError.{PartError}
 -- ---- places
 
 -- where the text of a package has a fault, and the part that is missing there; a path isn't allowed at all
-pub data IsFaultAt (text : List ℕ) : Fault → Option Part → ℕ → Type 0 where
+pub data IsFaultAt (text : List ℕ) : PackageFault → Option Part → ℕ → Type 0 where
   no_at : IsFaultAt text NoAt (Some At) 0
   no_name : IsFaultAt text NoName (Some Name) (length text - length (without_slash text))
   -- no `/` follows the scope

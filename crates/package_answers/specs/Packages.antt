@@ -94,7 +94,7 @@ pub data ArePackageErrors (f : Flavour) (text : List ℕ) (errors : PackageError
   valid : {req : PackageReq} → IsPackageOutcome f text (Ok req) → AreOfRange f 0 text errors → ArePackageErrors f text errors
   bad_version : {version : List ℕ} → IsPackageOutcome f text (Err (BadVersion version)) → AreOfRange f 0 text errors
       → ArePackageErrors f text errors
-  other_fault : {fault : outcome.Fault} (error : PackageReqPartsParseError) → IsPackageOutcome f text (Err fault)
+  other_fault : {fault : outcome.PackageFault} (error : PackageReqPartsParseError) → IsPackageOutcome f text (Err fault)
       → Reports f fault error → IsPartError (IsFaultAt text fault) (parts_failure error) errors
       → ArePackageErrors f text errors
 

@@ -31,9 +31,9 @@ use Rattle.package_answers.specs.declared.references.Reference.{Reference}
 -- ---- the parts
 
 -- the name of a registry
-abbrev pub kind_text : PackageKind → List ℕ
-kind_text Jsr = codes "jsr"
-kind_text Npm = codes "npm"
+abbrev pub registry_text : PackageKind → List ℕ
+registry_text Jsr = codes "jsr"
+registry_text Npm = codes "npm"
 
 -- for JSR, the export that the path means
 abbrev pub export_of : PackageKind → Option (List ℕ) → Option (List ℕ)
@@ -44,7 +44,7 @@ export_of Npm path = None
 abbrev pub reference_json : Reference → Data
 reference_json read =
     object (member (codes "export") (text_or_null (export_of read.kind read.reference.sub_path))
-    (member (codes "kind") (string (kind_text read.kind))
+    (member (codes "kind") (string (registry_text read.kind))
     (member (codes "package") (package_json read.reference.req)
     (member (codes "path") (text_or_null read.reference.sub_path) no_members))))
 
@@ -90,7 +90,7 @@ IsReferenceFailure text failure = (failure ≡ None)
 -- where the text of a reference has a fault, and the part that is missing there; a version isn't allowed in the path
 pub data IsReferenceFaultAt (text : List ℕ) : ReferenceFault → Option Part → ℕ → Type 0 where
   no_scheme : IsReferenceFaultAt text OtherScheme (Some Scheme) 0
-  behind_scheme : (kind : PackageKind) {body : List ℕ} {fault : outcome.Fault} {missing : Option Part} {place : ℕ}
+  behind_scheme : (kind : PackageKind) {body : List ℕ} {fault : outcome.PackageFault} {missing : Option Part} {place : ℕ}
       → text ≡ scheme_of kind ++ body → IsFaultAt body fault missing place
       → IsReferenceFaultAt text (BadText fault) missing (length (scheme_of kind) + place)
   -- at the last `@`

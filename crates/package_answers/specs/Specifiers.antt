@@ -18,7 +18,7 @@ use Rattle.package_answers.specs.Packages.{package_json, parts_failure}
 use Rattle.answers.specs.Object.{text_or_null}
 use Rattle.answers.specs.Reading.{Parsed}
 use Rattle.package_answers.specs.Names.{nv_json}
-use Rattle.package_answers.specs.References.{IsRegistryOf, export_of, kind_text}
+use Rattle.package_answers.specs.References.{IsRegistryOf, export_of, registry_text}
 use Rattle.answers.specs.declared.asking.Kind.TheVariants as kind
 use Rattle.package_answers.specs.declared.specifiers.VersionReference.{VersionReference}
 
@@ -27,7 +27,7 @@ use Rattle.package_answers.specs.declared.specifiers.VersionReference.{VersionRe
 -- the registry, the canonical form of the whole, and the package
 abbrev pub dependency_json : JsrDepPackageReq → Data
 dependency_json d =
-    object (member (codes "kind") (string (kind_text d.kind))
+    object (member (codes "kind") (string (registry_text d.kind))
     (member (codes "normal") (string (normal_dependency_text d))
     (member (codes "package") (package_json d.req) no_members)))
 
@@ -56,7 +56,7 @@ IsDependencyFailure f text failure = (failure ≡ None)
 abbrev pub version_reference_json : VersionReference → Data
 version_reference_json read =
     object (member (codes "export") (text_or_null (export_of read.kind read.reference.sub_path))
-    (member (codes "kind") (string (kind_text read.kind))
+    (member (codes "kind") (string (registry_text read.kind))
     (member (codes "package") (nv_json read.reference.nv)
     (member (codes "path") (text_or_null read.reference.sub_path) no_members))))
 

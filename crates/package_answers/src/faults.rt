@@ -3,7 +3,7 @@
 ghost use Rattle.std.specs.Prelude.{◌≡◌, IfOk, Result, is_err, is_some, string_bytes};
 ghost use Rattle.std.specs.Option.{option_copied, option_map};
 ghost use Rattle.serde_json.specs.View.{view};
-ghost use Rattle.deno_semver.specs.PackageOutcome.{Fault, IsPackageOutcome};
+ghost use Rattle.deno_semver.specs.PackageOutcome.{PackageFault, IsPackageOutcome};
 ghost use Rattle.deno_semver.specs.ReferenceOutcome.{ReferenceFault, unboxed};
 ghost use Rattle.deno_semver.specs.declared.package.values.PackageReq.{PackageReq};
 ghost use Rattle.package_answers.specs.Faults.{IsFaultText, IsPackageFault, IsReferenceFault, fault_json, parts_kind, reference_kind, suggestion};
@@ -109,7 +109,7 @@ pub fn package_fault(
 ) -> Result<Option<String>, AllocError>
     ensures is { IfOk result
         (λ answer. IsPackageFault flavour text.now (option_map string_bytes answer)) }
-    ensures only { (outcome : Result PackageReq Fault)
+    ensures only { (outcome : Result PackageReq PackageFault)
         → IsPackageOutcome flavour text.now outcome
         → IfOk result (λ answer. is_some answer ≡ is_err outcome) }
 {

@@ -3,7 +3,7 @@
 ghost use Rattle.std.specs.Prelude.{◌≡◌, ◌≢◌, ◌⊎◌, ◌+◌, ◌<◌, ◌≤◌, ◌^◌, List, ℕ, IfErr, IfOk, IfSome, MatchOption, None, Ok, Result, length, string_bytes};
 ghost use Rattle.std.specs.Option.{option_copied};
 ghost use Rattle.serde_json.specs.View.{view};
-ghost use Rattle.deno_semver.specs.PackageOutcome.{BadVersion, Fault, IsPackageAnswer, IsPackageOutcome, IsPackageRejection, Reports};
+ghost use Rattle.deno_semver.specs.PackageOutcome.{BadVersion, PackageFault, IsPackageAnswer, IsPackageOutcome, IsPackageRejection, Reports};
 ghost use Rattle.deno_semver.specs.declared.package.values.PackageReq.{PackageReq};
 ghost use Rattle.answers.specs.Asking.{IsAnswer, IsFailureAt};
 ghost use Rattle.package_answers.specs.Errors.{IsFaultAt, IsPartError};
@@ -60,7 +60,7 @@ pub(crate) fn parse(
 ) -> Result<PackageReq, PackageReqParseError>
     ensures read { IfOk result (λ req. IsPackageOutcome flavour text.now (Ok req)) }
     ensures rejected { IfErr result (IsPackageRejection flavour text.now) }
-    ensures answer { (outcome : Result PackageReq Fault)
+    ensures answer { (outcome : Result PackageReq PackageFault)
         → IsPackageOutcome flavour text.now outcome
         → IsPackageAnswer flavour text.now outcome result }
 {
@@ -140,7 +140,7 @@ pub(crate) fn fault_place(
     text: &str,
     error: &PackageReqPartsParseError,
 ) -> Option<(usize, Option<Part>)>
-    ensures place { (f : Flavour) (fault : Fault) → Reports f fault error.now
+    ensures place { (f : Flavour) (fault : PackageFault) → Reports f fault error.now
         → MatchOption result ((version : List ℕ) × (fault ≡ BadVersion version))
         (λ at. IsFaultAt text.now fault at.1 at.0) }
     ensures within { IfSome result (λ at. at.0 ≤ length text.now) }

@@ -9,7 +9,7 @@ ghost use Rattle.deno_semver.specs.ReferenceOutcome.{BadText, IsReferenceAnswer,
 ghost use Rattle.deno_semver.specs.declared.package.reference.PackageReqReference.{PackageReqReference};
 ghost use Rattle.answers.specs.Asking.{IsAnswer, IsFailureAt};
 ghost use Rattle.answers.specs.Object.{text_or_null};
-ghost use Rattle.package_answers.specs.References.{AreReferenceErrors, IsReference, IsReferenceErrorsText, IsReferenceFailure, IsReferenceFaultAt, IsRegistryOf, ReferenceParts, export_of, kind_text, reference_failure, reference_json};
+ghost use Rattle.package_answers.specs.References.{AreReferenceErrors, IsReference, IsReferenceErrorsText, IsReferenceFailure, IsReferenceFaultAt, IsRegistryOf, ReferenceParts, export_of, registry_text, reference_failure, reference_json};
 ghost use Rattle.answers.specs.declared.asking.Kind.TheVariants as kind;
 
 use crate::errors::{PackageErrors, Part, errors_text};
@@ -44,7 +44,7 @@ impl Reference {
 
     /// Returns the registry's name.
     pub fn registry(&self) -> &'static str
-        ensures { result.now ≡ kind_text self.now.kind }
+        ensures { result.now ≡ registry_text self.now.kind }
     {
         registry_name(self.kind)
     }
@@ -52,7 +52,7 @@ impl Reference {
 
 /// The registry's name.
 pub(crate) fn registry_name(kind: PackageKind) -> &'static str
-    ensures { result.now ≡ kind_text kind }
+    ensures { result.now ≡ registry_text kind }
 {
     match kind {
         PackageKind::Jsr => "jsr",

@@ -6,7 +6,7 @@ use Rattle.std.specs.declared.cmp.Ordering.{Ordering}
 use Rattle.std.specs.declared.cmp.Ordering.TheVariants.{Less, Equal, Greater}
 use Rattle.semver_base.specs.LowestVersion.{HasNoBuild, IsLowestPassing, IsOnlyLowest}
 use Rattle.semver_base.specs.Precedence.{precedence_cmp}
-use Rattle.semver_base.specs.PrecedenceLaws.{precedence-anti, precedence_total, version_of}
+use Rattle.semver_base.specs.PrecedenceLaws.{precedence-anti, precedence_total, version_with}
 use Rattle.semver_base.specs.VersionText.{ReadsBack}
 use Rattle.semver_base.specs.declared.version.Version.{Version}
 use Rattle.semver_base.proofs.Containment.{back_readable}
@@ -22,7 +22,7 @@ same_version v w plain others h k = go (precedence_cmp v w) refl h
     go Greater e le = cc le
     go Equal e le =
         let same = precedence-anti v w e in
-        let is : version_of w.major w.minor w.patch w.pre w.build ≡ version_of v.major v.minor v.patch v.pre v.build =
+        let is : version_with w.major w.minor w.patch w.pre w.build ≡ version_with v.major v.minor v.patch v.pre v.build =
         rw (same.major, same.minor, same.patch, same.pre, plain, others) refl in
         is
 

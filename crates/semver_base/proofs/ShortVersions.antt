@@ -5,7 +5,7 @@ use Rattle.std.proofs.lemmas.Bool.{and_parts, eqb-true}
 use Rattle.semver_base.specs.Meaning.{release}
 use Rattle.semver_base.specs.Shortest.{is_release_of}
 use Rattle.semver_base.specs.declared.version.Version.{Version}
-use Rattle.semver_base.specs.PrecedenceLaws.{version_of}
+use Rattle.semver_base.specs.PrecedenceLaws.{version_with}
 
 pub short_is : (v : Version) (major minor patch : ℕ) → is_release_of v major minor patch ≡ true → v ≡ release major minor patch
 short_is v major minor patch h =
@@ -17,5 +17,5 @@ short_is v major minor patch h =
     let patch_is : v.patch ≡ patch = eqb-true _ _ ((and_parts (v.patch == patch) _ h2).0) in
     let pre_is : v.pre ≡ [] = nil_from_length v.pre (eqb-true _ _ ((and_parts (length v.pre == 0) _ h3).0)) in
     let build_is : v.build ≡ [] = nil_from_length v.build (eqb-true _ _ ((and_parts (length v.pre == 0) _ h3).1)) in
-    let same : version_of v.major v.minor v.patch v.pre v.build ≡ version_of major minor patch [] [] = rw (major_is, minor_is, patch_is, pre_is, build_is) refl in
+    let same : version_with v.major v.minor v.patch v.pre v.build ≡ version_with major minor patch [] [] = rw (major_is, minor_is, patch_is, pre_is, build_is) refl in
     same

@@ -10,7 +10,7 @@ use Rattle.answers.proofs.Givens.{by_fault, by_value, out_of_memory}
 use Rattle.answers.specs.Asking.{Fault, Given, IsOutcomeOf, OutOfMemory, fault_of, invalid, valid}
 use Rattle.answers.specs.declared.asking.Problem.{Problem as Unanswered}
 use Rattle.answers.specs.declared.asking.Problem.TheVariants as unanswered
-use Rattle.semver_c.specs.Arguments.{CallFault, Called, IsAnswer, IsGrammar, IsOneAnswer, IsSubject, IsText, NoGrammar, NotUtf8, call_fault, called, called_outcome, grammar, grammar_number, memory, no_grammar, no_subject, no_text, outcome_of, subject, subject_number, text}
+use Rattle.semver_c.specs.Arguments.{CallFault, Called, IsCallAnswer, IsGrammar, IsOneCallAnswer, IsSubject, IsUtf8Text, NoGrammar, NotUtf8, call_fault, called, called_outcome, grammar, grammar_number, memory, no_grammar, no_subject, no_text, call_outcome, subject, subject_number, text}
 use Rattle.semver_c.specs.declared.arguments.Problem.{Problem}
 use Rattle.semver_c.specs.declared.arguments.Problem.TheVariants as problem
 use Rattle.semver_c.specs.declared.arguments.Subject.{Subject}
@@ -51,17 +51,17 @@ module _ (number : ℕ) where
 -- ---- texts
 
 module _ (bytes : List ℕ) where
-  text_found : IsUtf8 bytes → IsOutcomeOf memory (IsText bytes) (Ok bytes)
+  text_found : IsUtf8 bytes → IsOutcomeOf memory (IsUtf8Text bytes) (Ok bytes)
   text_found h = record { is = inr (text h); only = λ o a. inr (only o a) }
     where
-      only : (o : Result (List ℕ) CallFault) → IsText bytes o → Ok bytes ≡ o
+      only : (o : Result (List ℕ) CallFault) → IsUtf8Text bytes o → Ok bytes ≡ o
       only o (text k) = refl
       only o (no_text never) = absurd (never h)
 
-  text_missing : (IsUtf8 bytes → ⊥) → IsOutcomeOf memory (IsText bytes) (Err NotUtf8)
+  text_missing : (IsUtf8 bytes → ⊥) → IsOutcomeOf memory (IsUtf8Text bytes) (Err NotUtf8)
   text_missing never = record { is = inr (no_text never); only = λ o a. inr (only o a) }
     where
-      only : (o : Result (List ℕ) CallFault) → IsText bytes o → Err NotUtf8 ≡ o
+      only : (o : Result (List ℕ) CallFault) → IsUtf8Text bytes o → Err NotUtf8 ≡ o
       only o (text k) = absurd (never k)
       only o (no_text other) = refl
 
@@ -86,7 +86,7 @@ called_outcome_of {X = X} Asked o h = record { is = is h.is; only = λ p a. only
     only p (called {outcome = q} a) = same q (h.only q a)
 
 -- the outcome of a `?`
-pub exit : {E Y : Type 0} (value : E → Y) (r : Result E Problem) (p : Problem) → IsErrAnd r (λ e. e ≡ p) → outcome_of value r ≡ Err (call_fault p)
+pub exit : {E Y : Type 0} (value : E → Y) (r : Result E Problem) (p : Problem) → IsErrAnd r (λ e. e ≡ p) → call_outcome value r ≡ Err (call_fault p)
 exit value (Ok x) p is = absurd is
 exit value (Err e) p is = ap (λ (q : Problem). Err (call_fault q)) is
 
@@ -94,74 +94,74 @@ module _ {E Y : Type 0} (value : E → Y) where
   -- ---- after a grammar
 
   module _ (number : ℕ) (Asked : Flavour → Result Y CallFault → Type 0) where
-    pub by_grammar : (f : Flavour) → number ≡ grammar_number f → (r : Result E Problem) → IsAnswer (Asked f) value r → IsAnswer (Given (IsGrammar number) Asked) value r
-    by_grammar f e r h = by_value memory (IsGrammar number) Asked f (grammar_found number f e) (outcome_of value r) h
+    pub by_grammar : (f : Flavour) → number ≡ grammar_number f → (r : Result E Problem) → IsCallAnswer (Asked f) value r → IsCallAnswer (Given (IsGrammar number) Asked) value r
+    by_grammar f e r h = by_value memory (IsGrammar number) Asked f (grammar_found number f e) (call_outcome value r) h
 
-    pub by_no_grammar : (r : Result E Problem) (p : Problem) → IsErrAnd r (λ e. e ≡ p) → (p ≡ problem.NoGrammar) × (2 < number) → IsAnswer (Given (IsGrammar number) Asked) value r
+    pub by_no_grammar : (r : Result E Problem) (p : Problem) → IsErrAnd r (λ e. e ≡ p) → (p ≡ problem.NoGrammar) × (2 < number) → IsCallAnswer (Given (IsGrammar number) Asked) value r
     by_no_grammar r p is h = subst (IsOutcomeOf memory (Given (IsGrammar number) Asked)) (sym (exit value r p is ∙ ap (λ (q : Problem). Err (call_fault q)) h.0)) (by_fault memory (IsGrammar number) Asked NoGrammar (grammar_missing number h.1))
 
   -- ---- after a text
 
   module _ (bytes : List ℕ) (Asked : List ℕ → Result Y CallFault → Type 0) where
-    pub by_text : (t : List ℕ) → IsRead bytes t → (r : Result E Problem) → IsAnswer (Asked t) value r → IsAnswer (Given (IsText bytes) Asked) value r
-    by_text t h r k = by_value memory (IsText bytes) Asked bytes (text_found bytes h.1) (outcome_of value r) (subst (λ (u : List ℕ). IsOutcomeOf memory (Asked u) (outcome_of value r)) h.0 k)
+    pub by_text : (t : List ℕ) → IsRead bytes t → (r : Result E Problem) → IsCallAnswer (Asked t) value r → IsCallAnswer (Given (IsUtf8Text bytes) Asked) value r
+    by_text t h r k = by_value memory (IsUtf8Text bytes) Asked bytes (text_found bytes h.1) (call_outcome value r) (subst (λ (u : List ℕ). IsOutcomeOf memory (Asked u) (call_outcome value r)) h.0 k)
 
-    pub by_no_text : (r : Result E Problem) (p : Problem) → IsErrAnd r (λ e. e ≡ p) → (p ≡ problem.NotUtf8) × (IsUtf8 bytes → ⊥) → IsAnswer (Given (IsText bytes) Asked) value r
-    by_no_text r p is h = subst (IsOutcomeOf memory (Given (IsText bytes) Asked)) (sym (exit value r p is ∙ ap (λ (q : Problem). Err (call_fault q)) h.0)) (by_fault memory (IsText bytes) Asked NotUtf8 (text_missing bytes h.1))
+    pub by_no_text : (r : Result E Problem) (p : Problem) → IsErrAnd r (λ e. e ≡ p) → (p ≡ problem.NotUtf8) × (IsUtf8 bytes → ⊥) → IsCallAnswer (Given (IsUtf8Text bytes) Asked) value r
+    by_no_text r p is h = subst (IsOutcomeOf memory (Given (IsUtf8Text bytes) Asked)) (sym (exit value r p is ∙ ap (λ (q : Problem). Err (call_fault q)) h.0)) (by_fault memory (IsUtf8Text bytes) Asked NotUtf8 (text_missing bytes h.1))
 
   -- ---- the question about texts
 
   module _ (Asked : Result Y Fault → Type 0) where
-    pub by_answer : (o : Result Y Fault) → IsOutcomeOf OutOfMemory Asked o → (r : Result E Problem) → outcome_of value r ≡ called_outcome o → IsAnswer (Called Asked) value r
+    pub by_answer : (o : Result Y Fault) → IsOutcomeOf OutOfMemory Asked o → (r : Result E Problem) → call_outcome value r ≡ called_outcome o → IsCallAnswer (Called Asked) value r
     by_answer o h r e = subst (IsOutcomeOf memory (Called Asked)) (sym e) (called_outcome_of Asked o h)
 
     -- the question has no result
     pub by_problem : (why : Unanswered) → IsOutcomeOf OutOfMemory Asked (Err (fault_of why)) → (r : Result E Problem) (p : Problem) → IsErrAnd r (λ e. e ≡ p) → p ≡ problem.Unanswered why
-        → IsAnswer (Called Asked) value r
+        → IsCallAnswer (Called Asked) value r
     by_problem why h r p is e = by_answer (Err (fault_of why)) h r (exit value r p is ∙ ap (λ (q : Problem). Err (call_fault q)) e)
 
     -- memory ran out before the result
-    pub by_memory : (r : Result E Problem) (p : Problem) → IsErrAnd r (λ e. e ≡ p) → p ≡ problem.Unanswered unanswered.OutOfMemory → IsAnswer (Called Asked) value r
+    pub by_memory : (r : Result E Problem) (p : Problem) → IsErrAnd r (λ e. e ≡ p) → p ≡ problem.Unanswered unanswered.OutOfMemory → IsCallAnswer (Called Asked) value r
     by_memory r p is e = by_problem unanswered.OutOfMemory (out_of_memory OutOfMemory Asked) r p is e
 
 -- ---- questions that may have several outcomes
 
 module _ {E Y : Type 0} (value : E → Y) where
   module _ (number : ℕ) (Asked : Subject → Result Y CallFault → Type 0) where
-    pub one_by_subject : (s : Subject) → number ≡ subject_number s → (r : Result E Problem) → IsOneAnswer (Asked s) value r → IsOneAnswer (Given (IsSubject number) Asked) value r
+    pub one_by_subject : (s : Subject) → number ≡ subject_number s → (r : Result E Problem) → IsOneCallAnswer (Asked s) value r → IsOneCallAnswer (Given (IsSubject number) Asked) value r
     one_by_subject s e r (inl none) = inl none
     one_by_subject s e r (inr a) = inr (valid (subject e) a)
 
-    pub one_by_no_subject : (r : Result E Problem) (p : Problem) → IsErrAnd r (λ e. e ≡ p) → (p ≡ problem.NoGrammar) × (1 < number) → IsOneAnswer (Given (IsSubject number) Asked) value r
+    pub one_by_no_subject : (r : Result E Problem) (p : Problem) → IsErrAnd r (λ e. e ≡ p) → (p ≡ problem.NoGrammar) × (1 < number) → IsOneCallAnswer (Given (IsSubject number) Asked) value r
     one_by_no_subject r p is h = inr (subst (Given (IsSubject number) Asked) (sym (exit value r p is ∙ ap (λ (q : Problem). Err (call_fault q)) h.0)) (invalid (no_subject h.1)))
 
   module _ (number : ℕ) (Asked : Flavour → Result Y CallFault → Type 0) where
-    pub one_by_grammar : (f : Flavour) → number ≡ grammar_number f → (r : Result E Problem) → IsOneAnswer (Asked f) value r → IsOneAnswer (Given (IsGrammar number) Asked) value r
+    pub one_by_grammar : (f : Flavour) → number ≡ grammar_number f → (r : Result E Problem) → IsOneCallAnswer (Asked f) value r → IsOneCallAnswer (Given (IsGrammar number) Asked) value r
     one_by_grammar f e r (inl none) = inl none
     one_by_grammar f e r (inr a) = inr (valid (grammar e) a)
 
-    pub one_by_no_grammar : (r : Result E Problem) (p : Problem) → IsErrAnd r (λ e. e ≡ p) → (p ≡ problem.NoGrammar) × (2 < number) → IsOneAnswer (Given (IsGrammar number) Asked) value r
+    pub one_by_no_grammar : (r : Result E Problem) (p : Problem) → IsErrAnd r (λ e. e ≡ p) → (p ≡ problem.NoGrammar) × (2 < number) → IsOneCallAnswer (Given (IsGrammar number) Asked) value r
     one_by_no_grammar r p is h = inr (subst (Given (IsGrammar number) Asked) (sym (exit value r p is ∙ ap (λ (q : Problem). Err (call_fault q)) h.0)) (invalid (no_grammar h.1)))
 
   module _ (bytes : List ℕ) (Asked : List ℕ → Result Y CallFault → Type 0) where
-    pub one_by_text : (t : List ℕ) → IsRead bytes t → (r : Result E Problem) → IsOneAnswer (Asked t) value r → IsOneAnswer (Given (IsText bytes) Asked) value r
+    pub one_by_text : (t : List ℕ) → IsRead bytes t → (r : Result E Problem) → IsOneCallAnswer (Asked t) value r → IsOneCallAnswer (Given (IsUtf8Text bytes) Asked) value r
     one_by_text t h r (inl none) = inl none
-    one_by_text t h r (inr a) = inr (valid (text h.1) (subst (λ (u : List ℕ). Asked u (outcome_of value r)) h.0 a))
+    one_by_text t h r (inr a) = inr (valid (text h.1) (subst (λ (u : List ℕ). Asked u (call_outcome value r)) h.0 a))
 
-    pub one_by_no_text : (r : Result E Problem) (p : Problem) → IsErrAnd r (λ e. e ≡ p) → (p ≡ problem.NotUtf8) × (IsUtf8 bytes → ⊥) → IsOneAnswer (Given (IsText bytes) Asked) value r
-    one_by_no_text r p is h = inr (subst (Given (IsText bytes) Asked) (sym (exit value r p is ∙ ap (λ (q : Problem). Err (call_fault q)) h.0)) (invalid (no_text h.1)))
+    pub one_by_no_text : (r : Result E Problem) (p : Problem) → IsErrAnd r (λ e. e ≡ p) → (p ≡ problem.NotUtf8) × (IsUtf8 bytes → ⊥) → IsOneCallAnswer (Given (IsUtf8Text bytes) Asked) value r
+    one_by_no_text r p is h = inr (subst (Given (IsUtf8Text bytes) Asked) (sym (exit value r p is ∙ ap (λ (q : Problem). Err (call_fault q)) h.0)) (invalid (no_text h.1)))
 
   module _ (Asked : Result Y Fault → Type 0) where
-    pub one_by_answer : (o : Result Y Fault) → (o ≡ Err OutOfMemory) ⊎ Asked o → (r : Result E Problem) → outcome_of value r ≡ called_outcome o → IsOneAnswer (Called Asked) value r
+    pub one_by_answer : (o : Result Y Fault) → (o ≡ Err OutOfMemory) ⊎ Asked o → (r : Result E Problem) → call_outcome value r ≡ called_outcome o → IsOneCallAnswer (Called Asked) value r
     one_by_answer o (inl none) r e = inl (e ∙ ap called_outcome none)
     one_by_answer o (inr a) r e = inr (subst (Called Asked) (sym e) (called a))
 
     pub one_by_problem : (why : Unanswered) → (o : Result Y Fault) → o ≡ Err (fault_of why) → (o ≡ Err OutOfMemory) ⊎ Asked o → (r : Result E Problem) (p : Problem) → IsErrAnd r (λ e. e ≡ p) → p ≡ problem.Unanswered why
-        → IsOneAnswer (Called Asked) value r
+        → IsOneCallAnswer (Called Asked) value r
     one_by_problem why o k h r p is e = one_by_answer o h r (exit value r p is ∙ ap (λ (q : Problem). Err (call_fault q)) e ∙ ap called_outcome (sym k))
 
   -- memory ran out
-  pub one_by_memory : (Asked : Result Y CallFault → Type 0) (r : Result E Problem) (p : Problem) → IsErrAnd r (λ e. e ≡ p) → p ≡ problem.Unanswered unanswered.OutOfMemory → IsOneAnswer Asked value r
+  pub one_by_memory : (Asked : Result Y CallFault → Type 0) (r : Result E Problem) (p : Problem) → IsErrAnd r (λ e. e ≡ p) → p ≡ problem.Unanswered unanswered.OutOfMemory → IsOneCallAnswer Asked value r
   one_by_memory Asked r p is e = inl (exit value r p is ∙ ap (λ (q : Problem). Err (call_fault q)) e)
 
 -- ---- places

@@ -10,38 +10,38 @@ use Rattle.semver_req.specs.Resolve.{IsBestMatch, IsOnlyMatch}
 use Rattle.answers.specs.Filtering.{better_line, line_passes}
 use Rattle.answers.specs.declared.questions.End.{End}
 use Rattle.semver_c.specs.Codes.{IsCode, IsOneReply, IsPlaceReply, IsReply, IsReported, Reports, code_of, no_memory, no_place, place_after}
-use Rattle.semver_c.specs.Arguments.{CallFault, IsAnswer, IsOneAnswer, memory, outcome_of, problem_place}
+use Rattle.semver_c.specs.Arguments.{CallFault, IsCallAnswer, IsOneCallAnswer, memory, call_outcome, problem_place}
 use Rattle.semver_c.specs.Held.{IsListBest}
 use Rattle.semver_c.specs.declared.arguments.Problem.{Problem}
 use Rattle.semver_c.specs.declared.codes.Code.{Code}
 use Rattle.semver_c.specs.declared.codes.Code.TheVariants as code
 
 -- a result without a place of its own
-pub unplaced : {E X : Type 0} (value : E → X) (answer : Result E Problem) (old new : ℕ) → new ≡ problem_place answer old → new ≡ place_after no_place (outcome_of value answer) old
+pub unplaced : {E X : Type 0} (value : E → X) (answer : Result E Problem) (old new : ℕ) → new ≡ problem_place answer old → new ≡ place_after no_place (call_outcome value answer) old
 unplaced value (Ok e) old new is = is
 unplaced value (Err p) old new is = is
 
-module _ {E X : Type 0} (Asked : Result X CallFault → Type 0) (value : E → X) (answer : Result E Problem) (h : IsAnswer Asked value answer) where
+module _ {E X : Type 0} (Asked : Result X CallFault → Type 0) (value : E → X) (answer : Result E Problem) (h : IsCallAnswer Asked value answer) where
   -- ---- codes and texts
 
   module _ (coded : X → Code) where
-    pub coded_reply : (code : ℤ) → code ≡ code_of coded (outcome_of value answer) → IsCode Asked coded code
+    pub coded_reply : (code : ℤ) → code ≡ code_of coded (call_outcome value answer) → IsCode Asked coded code
     coded_reply code e = record { is = is h.is; only = λ o a. only o (h.only o a) }
       where
-        is : (outcome_of value answer ≡ Err memory) ⊎ Asked (outcome_of value answer) → (code ≡ no_memory) ⊎ ((o : Result X CallFault) × Asked o × (code ≡ code_of coded o))
+        is : (call_outcome value answer ≡ Err memory) ⊎ Asked (call_outcome value answer) → (code ≡ no_memory) ⊎ ((o : Result X CallFault) × Asked o × (code ≡ code_of coded o))
         is (inl none) = inl (e ∙ ap (code_of coded) none)
-        is (inr a) = inr (outcome_of value answer, a, e)
+        is (inr a) = inr (call_outcome value answer, a, e)
 
-        only : (o : Result X CallFault) → (outcome_of value answer ≡ Err memory) ⊎ (outcome_of value answer ≡ o) → (code ≡ no_memory) ⊎ (code ≡ code_of coded o)
+        only : (o : Result X CallFault) → (call_outcome value answer ≡ Err memory) ⊎ (call_outcome value answer ≡ o) → (code ≡ no_memory) ⊎ (code ≡ code_of coded o)
         only o (inl none) = inl (e ∙ ap (code_of coded) none)
         only o (inr is) = inr (e ∙ ap (code_of coded) is)
 
-    module _ {I : Type 0} (shown : X → List I) (old new : List I) (needed : ℕ) (code : ℤ) (t : IsReported coded shown (outcome_of value answer) old new needed code) where
-      memory_reported : outcome_of value answer ≡ Err memory → Reports coded shown (outcome_of value answer) code t.items → code ≡ no_memory
+    module _ {I : Type 0} (shown : X → List I) (old new : List I) (needed : ℕ) (code : ℤ) (t : IsReported coded shown (call_outcome value answer) old new needed code) where
+      memory_reported : call_outcome value answer ≡ Err memory → Reports coded shown (call_outcome value answer) code t.items → code ≡ no_memory
       memory_reported none (inl short) = short
       memory_reported none (inr reported) = reported.0 ∙ ap (code_of coded) none
 
-      pub memory_code : outcome_of value answer ≡ Err memory → code ≡ no_memory
+      pub memory_code : call_outcome value answer ≡ Err memory → code ≡ no_memory
       memory_code none = memory_reported none t.reports
 
       pub replied : IsReply Asked coded shown old new needed code
@@ -50,45 +50,45 @@ module _ {E X : Type 0} (Asked : Result X CallFault → Type 0) (value : E → X
           Reported : Result X CallFault → Type 0
           Reported o = Reports coded shown o code t.items
 
-          is : (outcome_of value answer ≡ Err memory) ⊎ Asked (outcome_of value answer) → Reports coded shown (outcome_of value answer) code t.items
+          is : (call_outcome value answer ≡ Err memory) ⊎ Asked (call_outcome value answer) → Reports coded shown (call_outcome value answer) code t.items
               → (code ≡ no_memory) ⊎ ((o : Result X CallFault) × Asked o × Reports coded shown o code t.items)
           is (inl none) reported = inl (memory_reported none reported)
-          is (inr a) reported = inr (outcome_of value answer, a, reported)
+          is (inr a) reported = inr (call_outcome value answer, a, reported)
 
-          only : (o : Result X CallFault) → (outcome_of value answer ≡ Err memory) ⊎ (outcome_of value answer ≡ o) → Reports coded shown (outcome_of value answer) code t.items
+          only : (o : Result X CallFault) → (call_outcome value answer ≡ Err memory) ⊎ (call_outcome value answer ≡ o) → Reports coded shown (call_outcome value answer) code t.items
               → Reports coded shown o code t.items
           only o (inl none) reported = inl (memory_reported none reported)
           only o (inr is) reported = subst Reported is reported
 
   -- ---- places
 
-  module _ (given : X → ℕ → ℕ) (old new : ℕ) (code : ℤ) (out : outcome_of value answer ≡ Err memory → code ≡ no_memory) where
-    pub placed_reply : new ≡ place_after given (outcome_of value answer) old → IsPlaceReply Asked given old new code
+  module _ (given : X → ℕ → ℕ) (old new : ℕ) (code : ℤ) (out : call_outcome value answer ≡ Err memory → code ≡ no_memory) where
+    pub placed_reply : new ≡ place_after given (call_outcome value answer) old → IsPlaceReply Asked given old new code
     placed_reply e = record { is = is h.is; only = λ o a. only o (h.only o a) }
       where
-        none_placed : outcome_of value answer ≡ Err memory → (code ≡ no_memory) × (new ≡ old)
+        none_placed : call_outcome value answer ≡ Err memory → (code ≡ no_memory) × (new ≡ old)
         none_placed none = (out none, e ∙ ap (λ (o : Result X CallFault). place_after given o old) none)
 
-        is : (outcome_of value answer ≡ Err memory) ⊎ Asked (outcome_of value answer)
+        is : (call_outcome value answer ≡ Err memory) ⊎ Asked (call_outcome value answer)
             → ((code ≡ no_memory) × (new ≡ old)) ⊎ ((o : Result X CallFault) × Asked o × (new ≡ place_after given o old))
         is (inl none) = inl (none_placed none)
-        is (inr a) = inr (outcome_of value answer, a, e)
+        is (inr a) = inr (call_outcome value answer, a, e)
 
-        only : (o : Result X CallFault) → (outcome_of value answer ≡ Err memory) ⊎ (outcome_of value answer ≡ o)
+        only : (o : Result X CallFault) → (call_outcome value answer ≡ Err memory) ⊎ (call_outcome value answer ≡ o)
             → ((code ≡ no_memory) × (new ≡ old)) ⊎ (new ≡ place_after given o old)
         only o (inl none) = inl (none_placed none)
         only o (inr is) = inr (e ∙ ap (λ (p : Result X CallFault). place_after given p old) is)
 
 -- ---- questions that may have several outcomes
 
-pub one_replied : {E X I : Type 0} (Asked : Result X CallFault → Type 0) (value : E → X) (answer : Result E Problem) → IsOneAnswer Asked value answer → (coded : X → Code) (shown : X → List I) (old new : List I) (needed : ℕ) (code : ℤ)
-    → IsReported coded shown (outcome_of value answer) old new needed code → IsOneReply Asked coded shown old new needed code
+pub one_replied : {E X I : Type 0} (Asked : Result X CallFault → Type 0) (value : E → X) (answer : Result E Problem) → IsOneCallAnswer Asked value answer → (coded : X → Code) (shown : X → List I) (old new : List I) (needed : ℕ) (code : ℤ)
+    → IsReported coded shown (call_outcome value answer) old new needed code → IsOneReply Asked coded shown old new needed code
 one_replied {X = X} {I = I} Asked value answer h coded shown old new needed code t = record { items = t.items; placed_is = t.placed_is; is = is h t.reports }
   where
-    is : IsOneAnswer Asked value answer → Reports coded shown (outcome_of value answer) code t.items → (code ≡ no_memory) ⊎ ((o : Result X CallFault) × Asked o × Reports coded shown o code t.items)
+    is : IsOneCallAnswer Asked value answer → Reports coded shown (call_outcome value answer) code t.items → (code ≡ no_memory) ⊎ ((o : Result X CallFault) × Asked o × Reports coded shown o code t.items)
     is (inl none) (inl short) = inl short
     is (inl none) (inr reported) = inl (reported.0 ∙ ap (code_of coded) none)
-    is (inr a) reported = inr (outcome_of value answer, a, reported)
+    is (inr a) reported = inr (call_outcome value answer, a, reported)
 
 -- ---- the best match of a list that is held
 

@@ -30,17 +30,17 @@ call_fault problem.NoGrammar = NoGrammar
 call_fault problem.NotUtf8 = NotUtf8
 
 -- the outcome of a result whose value means this
-abbrev pub outcome_of : {E X : Type 0} → (E → X) → Result E Problem → Result X CallFault
-outcome_of value (Ok e) = Ok (value e)
-outcome_of value (Err p) = Err (call_fault p)
+abbrev pub call_outcome : {E X : Type 0} → (E → X) → Result E Problem → Result X CallFault
+call_outcome value (Ok e) = Ok (value e)
+call_outcome value (Err p) = Err (call_fault p)
 
 -- the result is the outcome of the question, which has no other, or out of memory
-abbrev pub IsAnswer : {E X : Type 0} → (Result X CallFault → Type 0) → (E → X) → Result E Problem → Type 0
-IsAnswer Asked value result = IsOutcomeOf memory Asked (outcome_of value result)
+abbrev pub IsCallAnswer : {E X : Type 0} → (Result X CallFault → Type 0) → (E → X) → Result E Problem → Type 0
+IsCallAnswer Asked value result = IsOutcomeOf memory Asked (call_outcome value result)
 
 -- the result is an outcome of the question, or out of memory
-abbrev pub IsOneAnswer : {E X : Type 0} → (Result X CallFault → Type 0) → (E → X) → Result E Problem → Type 0
-IsOneAnswer Asked value result = (outcome_of value result ≡ Err memory) ⊎ Asked (outcome_of value result)
+abbrev pub IsOneCallAnswer : {E X : Type 0} → (Result X CallFault → Type 0) → (E → X) → Result E Problem → Type 0
+IsOneCallAnswer Asked value result = (call_outcome value result ≡ Err memory) ⊎ Asked (call_outcome value result)
 
 -- the outcome of a question about texts as that of a call
 abbrev pub called_outcome : {X : Type 0} → Result X Fault → Result X CallFault
@@ -94,10 +94,10 @@ pub data IsSubject (number : ℕ) : Result Subject CallFault → Type 0 where
   no_subject : 1 < number → IsSubject number (Err NoGrammar)
 
 -- bytes that are a text
-pub data IsText (bytes : List ℕ) : Result (List ℕ) CallFault → Type 0 where
-  text : IsUtf8 bytes → IsText bytes (Ok bytes)
-  no_text : (IsUtf8 bytes → ⊥) → IsText bytes (Err NotUtf8)
+pub data IsUtf8Text (bytes : List ℕ) : Result (List ℕ) CallFault → Type 0 where
+  text : IsUtf8 bytes → IsUtf8Text bytes (Ok bytes)
+  no_text : (IsUtf8 bytes → ⊥) → IsUtf8Text bytes (Err NotUtf8)
 
 -- pre-releases are restricted by npm's rule at 0, and admitted at any other number
-abbrev pub pre_release_of : ℕ → PreRelease
-pre_release_of number = if number == 0 then Restricted else Admitted
+abbrev pub pre_release_by : ℕ → PreRelease
+pre_release_by number = if number == 0 then Restricted else Admitted

@@ -172,14 +172,14 @@ pub record IsPlaced {I : Type 0} (items old new : List I) (needed : ℕ) : Type 
   pub needed_is : needed ≡ length items
 
 -- the items of a value; for a problem of a call that writes a text, its message
-abbrev pub AreItemsOf : {X I : Type 0} → (X → List I) → Result X CallFault → List I → Type 0
-AreItemsOf shown (Ok x) items = items ≡ shown x
-AreItemsOf shown (Err fault) items = Unit {0}
+abbrev pub AreItemsShown : {X I : Type 0} → (X → List I) → Result X CallFault → List I → Type 0
+AreItemsShown shown (Ok x) items = items ≡ shown x
+AreItemsShown shown (Err fault) items = Unit {0}
 
 -- the code and the items report the outcome, or that memory ran out
 abbrev pub Reports : {X I : Type 0} → (X → Code) → (X → List I) → Result X CallFault → ℤ → List I → Type 0
 Reports coded shown outcome code items =
-    (code ≡ no_memory) ⊎ ((code ≡ code_of coded outcome) × AreItemsOf shown outcome items)
+    (code ≡ no_memory) ⊎ ((code ≡ code_of coded outcome) × AreItemsShown shown outcome items)
 
 -- items are placed that report the outcome, together with the code
 pub record IsReported {X I : Type 0} (coded : X → Code) (shown : X → List I) (outcome : Result X CallFault)

@@ -15,7 +15,7 @@ use Rattle.answers.specs.Sorting.{SortedLines}
 use Rattle.answers.specs.declared.questions.End.{End}
 use Rattle.answers.specs.declared.sorting.Order.TheVariants.{Ascending}
 use Rattle.semver_c.specs.declared.handles.version_list.VersionList.{VersionList}
-use Rattle.semver_c.specs.Arguments.{CallFault, pre_release_of}
+use Rattle.semver_c.specs.Arguments.{CallFault, pre_release_by}
 use Rattle.semver_c.specs.declared.codes.Code.{Code}
 use Rattle.semver_c.specs.declared.codes.Code.TheVariants as code
 use Rattle.semver_c.specs.Codes.{IsReply, always_yes, bool_code, fault_code, filter_code, filter_numbers, match_code, no_memory, number_of, order_code, place_code, place_or, yes}
@@ -39,7 +39,7 @@ package_held name None = None
 
 -- does a version match a range
 abbrev pub IsHeldMatch : ℕ → Option Requirement → Option Version → ℤ → Type 0
-IsHeldMatch number (Some req) (Some v) code = code ≡ number_of (match_code (match_of (pre_release_of number) req.inner v))
+IsHeldMatch number (Some req) (Some v) code = code ≡ number_of (match_code (match_of (pre_release_by number) req.inner v))
 IsHeldMatch number requirement version code = Unit {0}
 
 -- do two ranges overlap
@@ -70,7 +70,7 @@ lines_of None = None
 -- which of the versions match a range
 abbrev pub IsHeldFilter : ℕ → Option VersionList → Option Requirement → List ℤ → List ℤ → ℕ → ℤ → Type 0
 IsHeldFilter number (Some list) (Some req) old new needed code =
-    IsReply (Is (list_matches (pre_release_of number) req.inner (list_lines list))) filter_code filter_numbers old new needed code
+    IsReply (Is (list_matches (pre_release_by number) req.inner (list_lines list))) filter_code filter_numbers old new needed code
 IsHeldFilter number list requirement old new needed code = Unit {0}
 
 -- at this end of the order, the best match among lines: YES and its place, or NO
@@ -90,7 +90,7 @@ IsListBest end flag (inner.Tag tag) lines old new returned = (returned ≡ code.
 -- which of the versions is the best match
 abbrev pub IsHeldBest : End → ℕ → Option VersionList → Option Requirement → ℕ → ℕ → ℤ → Type 0
 IsHeldBest end number (Some list) (Some req) old new returned =
-    (c : Code) × IsListBest end (pre_release_of number) req.inner (list_lines list) old new c × (returned ≡ number_of c)
+    (c : Code) × IsListBest end (pre_release_by number) req.inner (list_lines list) old new c × (returned ≡ number_of c)
 IsHeldBest end number list requirement old new returned = Unit {0}
 
 -- in which order the versions stand

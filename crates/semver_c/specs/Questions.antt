@@ -18,7 +18,7 @@ use Rattle.package_answers.specs.Packages.{IsPackage, IsPackageErrorsText, Packa
 use Rattle.answers.specs.Parts.{RangeParts, VersionParts}
 use Rattle.package_answers.specs.Names.{NameWithVersionParts}
 use Rattle.answers.specs.Questions.{BestMatch, Canonical, Common, Displayed, Equivalent, Matches, Orders, Outside, Overlaps, match_of}
-use Rattle.answers.specs.Reading.{IsRange, IsVersion}
+use Rattle.answers.specs.Reading.{IsRangeAt, IsVersionAt}
 use Rattle.package_answers.specs.References.{IsReferenceErrorsText, ReferenceParts}
 use Rattle.answers.specs.Sorting.{Sorts}
 use Rattle.package_answers.specs.Specifiers.{DependencyParts, VersionReferenceParts}
@@ -26,7 +26,7 @@ use Rattle.answers.specs.declared.asking.Answer.{Answer}
 use Rattle.answers.specs.declared.questions.Best.{Best}
 use Rattle.answers.specs.declared.questions.End.{End}
 use Rattle.answers.specs.declared.sorting.Order.TheVariants.{Ascending}
-use Rattle.semver_c.specs.Arguments.{CallFault, Called, IsGrammar, IsSubject, IsText, pre_release_of}
+use Rattle.semver_c.specs.Arguments.{CallFault, Called, IsGrammar, IsSubject, IsUtf8Text, pre_release_by}
 use Rattle.semver_c.specs.Codes.{match_code}
 use Rattle.semver_c.specs.declared.arguments.Subject.{Subject}
 use Rattle.semver_c.specs.declared.arguments.Subject.TheVariants.{Package, Reference}
@@ -38,34 +38,34 @@ use Rattle.semver_c.specs.declared.questions.ReadPackage.{ReadPackage}
 
 -- a grammar and a text
 abbrev pub ByOne : {Y : Type 0} → ℕ → List ℕ → (Flavour → List ℕ → Result Y Fault → Type 0) → Result Y CallFault → Type 0
-ByOne number one Asked = Given (IsGrammar number) (λ f. Given (IsText one) (λ text. Called (Asked f text)))
+ByOne number one Asked = Given (IsGrammar number) (λ f. Given (IsUtf8Text one) (λ text. Called (Asked f text)))
 
 -- a grammar and two texts
 abbrev pub ByTwo : {Y : Type 0} → ℕ → List ℕ → List ℕ → (Flavour → List ℕ → List ℕ → Result Y Fault → Type 0) → Result Y CallFault → Type 0
 ByTwo number one other Asked = Given (IsGrammar number)
-    (λ f. Given (IsText one) (λ text. Given (IsText other) (λ more. Called (Asked f text more))))
+    (λ f. Given (IsUtf8Text one) (λ text. Given (IsUtf8Text other) (λ more. Called (Asked f text more))))
 
 -- a text
 abbrev pub OfText : {Y : Type 0} → List ℕ → (List ℕ → Result Y Fault → Type 0) → Result Y CallFault → Type 0
-OfText one Asked = Given (IsText one) (λ text. Called (Asked text))
+OfText one Asked = Given (IsUtf8Text one) (λ text. Called (Asked text))
 
 -- two texts
 abbrev pub OfTexts : {Y : Type 0} → List ℕ → List ℕ → (List ℕ → List ℕ → Result Y Fault → Type 0) → Result Y CallFault → Type 0
-OfTexts one other Asked = Given (IsText one) (λ text. Given (IsText other) (λ more. Called (Asked text more)))
+OfTexts one other Asked = Given (IsUtf8Text one) (λ text. Given (IsUtf8Text other) (λ more. Called (Asked text more)))
 
 -- ---- the calls
 
 -- `semver_fits`
 abbrev pub Fits : ℕ → ℕ → List ℕ → List ℕ → Result (Answer Bool) CallFault → Type 0
-Fits number g range version = ByTwo g range version (λ f r v. Matches (pre_release_of number) f r v)
+Fits number g range version = ByTwo g range version (λ f r v. Matches (pre_release_by number) f r v)
 
 -- `semver_filter`
 abbrev pub Filters : ℕ → ℕ → List ℕ → List ℕ → Result (Answer (List (Option Bool))) CallFault → Type 0
-Filters number g range versions = ByTwo g range versions (λ f r v. Filter (pre_release_of number) f r (lines v))
+Filters number g range versions = ByTwo g range versions (λ f r v. Filter (pre_release_by number) f r (lines v))
 
 -- `semver_best` and `semver_lowest`
 abbrev pub BestLine : End → ℕ → ℕ → List ℕ → List ℕ → Result (Answer (Option Best)) CallFault → Type 0
-BestLine end number g range versions = ByTwo g range versions (λ f r v. BestMatch end (pre_release_of number) f r (lines v))
+BestLine end number g range versions = ByTwo g range versions (λ f r v. BestMatch end (pre_release_by number) f r (lines v))
 
 -- `semver_overlap`
 abbrev pub OverlapsBy : ℕ → List ℕ → List ℕ → Result Bool CallFault → Type 0
@@ -73,23 +73,23 @@ OverlapsBy g one other = ByTwo g one other Overlaps
 
 -- `semver_equivalent`
 abbrev pub EquivalentBy : ℕ → ℕ → List ℕ → List ℕ → Result (Answer Bool) CallFault → Type 0
-EquivalentBy number g one other = ByTwo g one other (λ f r s. Equivalent (pre_release_of number) f r s)
+EquivalentBy number g one other = ByTwo g one other (λ f r s. Equivalent (pre_release_by number) f r s)
 
 -- `semver_min_version`
 abbrev pub LowestBy : ℕ → ℕ → List ℕ → Result (Answer (Option Version)) CallFault → Type 0
-LowestBy number g range = ByOne g range (λ f r. Common (pre_release_of number) f (r ∷ []))
+LowestBy number g range = ByOne g range (λ f r. Common (pre_release_by number) f (r ∷ []))
 
 -- `semver_common`
 abbrev pub CommonBy : ℕ → ℕ → List ℕ → List ℕ → Result (Answer (Option Version)) CallFault → Type 0
-CommonBy number g one other = ByTwo g one other (λ f r s. Common (pre_release_of number) f (r ∷ s ∷ []))
+CommonBy number g one other = ByTwo g one other (λ f r s. Common (pre_release_by number) f (r ∷ s ∷ []))
 
 -- of all the ranges, one per line
 abbrev pub CommonOfAll : ℕ → ℕ → List ℕ → Result (Answer (Option Version)) CallFault → Type 0
-CommonOfAll number g ranges = ByOne g ranges (λ f text. Common (pre_release_of number) f (lines text))
+CommonOfAll number g ranges = ByOne g ranges (λ f text. Common (pre_release_by number) f (lines text))
 
 -- `semver_within`
 abbrev pub OutsideBy : ℕ → ℕ → List ℕ → List ℕ → Result (Answer (Option Version)) CallFault → Type 0
-OutsideBy number g one other = ByTwo g one other (λ f r s. Outside (pre_release_of number) f r s)
+OutsideBy number g one other = ByTwo g one other (λ f r s. Outside (pre_release_by number) f r s)
 
 -- `semver_normal`
 abbrev pub CanonicalBy : ℕ → List ℕ → Result (List ℕ) CallFault → Type 0
@@ -97,7 +97,7 @@ CanonicalBy g range = ByOne g range Canonical
 
 -- whether a range is a tag
 abbrev pub TagBy : ℕ → List ℕ → Result Bool CallFault → Type 0
-TagBy g range = ByOne g range (λ f text. Given (IsRange f 0 text) (λ req. Is (is_some (tag_of req.inner))))
+TagBy g range = ByOne g range (λ f text. Given (IsRangeAt f 0 text) (λ req. Is (is_some (tag_of req.inner))))
 
 -- `semver_version`
 abbrev pub DisplayedOf : List ℕ → Result (List ℕ) CallFault → Type 0
@@ -147,7 +147,7 @@ RangesBy g range = ByOne g range RangeParts
 
 -- what a range means
 abbrev pub ExplainsBy : ℕ → ℕ → List ℕ → Result (Answer (List ℕ)) CallFault → Type 0
-ExplainsBy number g range = ByOne g range (λ f text. Explains (pre_release_of number) f text)
+ExplainsBy number g range = ByOne g range (λ f text. Explains (pre_release_by number) f text)
 
 -- what is wrong with a range, and where
 abbrev pub ErrorsBy : ℕ → List ℕ → Result (List ℕ) CallFault → Type 0
@@ -185,11 +185,11 @@ ExportNameOf path = OfText path (λ text. Is (export_name (Some text)))
 
 -- `semver_req_read`
 abbrev pub RangeBy : ℕ → List ℕ → Result Requirement CallFault → Type 0
-RangeBy g text = ByOne g text (λ f t. IsRange f 0 t)
+RangeBy g text = ByOne g text (λ f t. IsRangeAt f 0 t)
 
 -- `semver_version_read`
 abbrev pub VersionOf : List ℕ → Result Version CallFault → Type 0
-VersionOf text = OfText text (IsVersion 0)
+VersionOf text = OfText text (IsVersionAt 0)
 
 -- the versions of the lines; none for a line that isn't a version
 abbrev pub VersionListOf : List ℕ → Result (List (Option Version)) CallFault → Type 0
@@ -202,9 +202,9 @@ version_numbers v =
 
 -- those of a text's version
 abbrev pub NumbersOf : List ℕ → Result Numbers CallFault → Type 0
-NumbersOf version = OfText version (λ text. Given (IsVersion 0 text) (λ v. Is (version_numbers v)))
+NumbersOf version = OfText version (λ text. Given (IsVersionAt 0 text) (λ v. Is (version_numbers v)))
 
 -- the code of the match of a text's version
 abbrev pub MatchesHeld : ℕ → Requirement → List ℕ → Result Code CallFault → Type 0
 MatchesHeld number req version =
-    OfText version (λ text. Given (IsVersion 0 text) (λ v. Is (match_code (match_of (pre_release_of number) req.inner v))))
+    OfText version (λ text. Given (IsVersionAt 0 text) (λ v. Is (match_code (match_of (pre_release_by number) req.inner v))))

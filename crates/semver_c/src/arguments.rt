@@ -3,7 +3,7 @@
 ghost use Rattle.std.specs.Prelude.{◌≡◌, ◌<◌, Err, IfOk, IsUtf8, map, MatchResult};
 ghost use Rattle.std.specs.Str.Lines.{lines};
 ghost use Rattle.answers.specs.declared.asking.Problem.TheVariants as unanswered;
-ghost use Rattle.semver_c.specs.Arguments.{call_fault, fault_place, grammar_number, pre_release_of, problem_message, subject_number};
+ghost use Rattle.semver_c.specs.Arguments.{call_fault, fault_place, grammar_number, pre_release_by, problem_message, subject_number};
 ghost use Rattle.semver_c.specs.Codes.{fault_code};
 ghost use Rattle.semver_c.specs.declared.arguments.Problem.TheVariants as problem;
 
@@ -110,7 +110,7 @@ pub fn subject_of(number: u32) -> Result<Subject, Problem>
 
 /// Which pre-releases match: at 0 by npm's rule, at any other number all between the bounds.
 pub fn pre_release(number: u32) -> PreRelease
-    ensures { result ≡ pre_release_of number }
+    ensures { result ≡ pre_release_by number }
 {
     if number == 0 {
         PreRelease::Restricted

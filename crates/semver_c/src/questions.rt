@@ -10,7 +10,7 @@ ghost use Rattle.answers.specs.Filtering.{list_answer, list_matches};
 ghost use Rattle.answers.specs.Questions.{match_of};
 ghost use Rattle.answers.specs.Sorting.{SortedLines};
 ghost use Rattle.answers.specs.declared.sorting.Order.TheVariants as sorting;
-ghost use Rattle.semver_c.specs.Arguments.{IsAnswer, IsOneAnswer, pre_release_of};
+ghost use Rattle.semver_c.specs.Arguments.{IsCallAnswer, IsOneCallAnswer, pre_release_by};
 ghost use Rattle.semver_c.specs.Codes.{match_code};
 ghost use Rattle.semver_c.specs.Held.{IsListBest, list_lines};
 ghost use Rattle.semver_c.specs.Questions.{BestLine, CanonicalBy, CommonBy, CommonOfAll, DependencyBy, DisplayedOf, EquivalentBy, ErrorsBy, ExplainsBy, ExportNameOf, Filters, Fits, IsFaultOf, LowestBy, MatchesHeld, NameWithVersionOf, NumbersOf, OrdersOf, OutsideBy, OverlapsBy, PackageBy, PackageErrorsBy, PackageOf, RangeBy, RangesBy, ReferenceErrorsOf, ReferenceOf, SortsOf, TagBy, VersionErrorOf, VersionListOf, VersionOf, VersionPartsOf, VersionReferenceOf, WhyBy, version_numbers, whole_package};
@@ -49,7 +49,7 @@ pub fn explanation_of(
     range: &[u8],
     pre_releases: u32,
 ) -> Result<Answer<String>, Problem>
-    ensures { IsOneAnswer (ExplainsBy pre_releases grammar range.now)
+    ensures { IsOneCallAnswer (ExplainsBy pre_releases grammar range.now)
         (λ answer. list_answer (λ text. string_bytes text) answer) result }
 {
     let flavour = flavour(grammar)?;
@@ -59,7 +59,7 @@ pub fn explanation_of(
 
 /// What is wrong with the range, and where?
 pub fn errors_of(alloc: Global, grammar: u32, range: &[u8]) -> Result<String, Problem>
-    ensures { IsOneAnswer (ErrorsBy grammar range.now) (λ text. string_bytes text) result }
+    ensures { IsOneCallAnswer (ErrorsBy grammar range.now) (λ text. string_bytes text) result }
 {
     let flavour = flavour(grammar)?;
     let range = text(range)?;
@@ -68,7 +68,8 @@ pub fn errors_of(alloc: Global, grammar: u32, range: &[u8]) -> Result<String, Pr
 
 /// What is wrong with the package, and where?
 pub fn package_errors_of(alloc: Global, grammar: u32, bytes: &[u8]) -> Result<String, Problem>
-    ensures { IsOneAnswer (PackageErrorsBy grammar bytes.now) (λ text. string_bytes text) result }
+    ensures { IsOneCallAnswer (PackageErrorsBy grammar bytes.now)
+        (λ text. string_bytes text) result }
 {
     let flavour = flavour(grammar)?;
     let text = text(bytes)?;
@@ -77,7 +78,7 @@ pub fn package_errors_of(alloc: Global, grammar: u32, bytes: &[u8]) -> Result<St
 
 /// What is wrong with the reference, and where?
 pub fn reference_errors_of(alloc: Global, reference: &[u8]) -> Result<String, Problem>
-    ensures { IsOneAnswer (ReferenceErrorsOf reference.now) (λ text. string_bytes text) result }
+    ensures { IsOneCallAnswer (ReferenceErrorsOf reference.now) (λ text. string_bytes text) result }
 {
     let reference = text(reference)?;
     Ok(reference_errors_text(alloc, reference)?)
@@ -85,7 +86,7 @@ pub fn reference_errors_of(alloc: Global, reference: &[u8]) -> Result<String, Pr
 
 /// Where does the text stop being a version?
 pub fn version_error_of(alloc: Global, version: &[u8]) -> Result<usize, Problem>
-    ensures { IsAnswer (VersionErrorOf version.now) (λ place. place) result }
+    ensures { IsCallAnswer (VersionErrorOf version.now) (λ place. place) result }
 {
     let version = text(version)?;
     Ok(version_error(alloc, version)?)
@@ -99,7 +100,7 @@ pub fn fits(
     version: &[u8],
     pre_releases: u32,
 ) -> Result<Answer<bool>, Problem>
-    ensures { IsAnswer (Fits pre_releases grammar range.now version.now)
+    ensures { IsCallAnswer (Fits pre_releases grammar range.now version.now)
         (λ answer. answer) result }
 {
     let flavour = flavour(grammar)?;
@@ -116,7 +117,7 @@ pub fn filter(
     versions: &[u8],
     pre_releases: u32,
 ) -> Result<Answer<Vec<Option<bool>>>, Problem>
-    ensures { IsAnswer (Filters pre_releases grammar range.now versions.now)
+    ensures { IsCallAnswer (Filters pre_releases grammar range.now versions.now)
         (λ answer. list_answer (λ list. list.items) answer) result }
 {
     let flavour = flavour(grammar)?;
@@ -141,7 +142,7 @@ pub fn best_line(
     versions: &[u8],
     pre_releases: u32,
 ) -> Result<Answer<Option<Best>>, Problem>
-    ensures { IsAnswer (BestLine end pre_releases grammar range.now versions.now)
+    ensures { IsCallAnswer (BestLine end pre_releases grammar range.now versions.now)
         (λ answer. answer) result }
 {
     let flavour = flavour(grammar)?;
@@ -160,7 +161,7 @@ pub fn best_line(
 
 /// In which order do the versions stand, one per line?
 pub fn sorted_lines(alloc: Global, versions: &[u8]) -> Result<Vec<usize>, Problem>
-    ensures { IsAnswer (SortsOf versions.now) (λ places. places.items) result }
+    ensures { IsCallAnswer (SortsOf versions.now) (λ places. places.items) result }
 {
     let versions = text(versions)?;
     let lines = line_list(alloc, versions)?;
@@ -169,7 +170,7 @@ pub fn sorted_lines(alloc: Global, versions: &[u8]) -> Result<Vec<usize>, Proble
 
 /// Which of the two versions comes before the other?
 pub fn order_of(alloc: Global, one: &[u8], other: &[u8]) -> Result<Ordering, Problem>
-    ensures { IsAnswer (OrdersOf one.now other.now) (λ order. order) result }
+    ensures { IsCallAnswer (OrdersOf one.now other.now) (λ order. order) result }
 {
     let one = text(one)?;
     let other = text(other)?;
@@ -178,7 +179,7 @@ pub fn order_of(alloc: Global, one: &[u8], other: &[u8]) -> Result<Ordering, Pro
 
 /// Do the two ranges overlap?
 pub fn overlap(alloc: Global, grammar: u32, one: &[u8], other: &[u8]) -> Result<bool, Problem>
-    ensures { IsAnswer (OverlapsBy grammar one.now other.now) (λ answer. answer) result }
+    ensures { IsCallAnswer (OverlapsBy grammar one.now other.now) (λ answer. answer) result }
 {
     let flavour = flavour(grammar)?;
     let one = text(one)?;
@@ -194,7 +195,7 @@ pub fn equivalent_ranges(
     other: &[u8],
     pre_releases: u32,
 ) -> Result<Answer<bool>, Problem>
-    ensures { IsAnswer (EquivalentBy pre_releases grammar one.now other.now)
+    ensures { IsCallAnswer (EquivalentBy pre_releases grammar one.now other.now)
         (λ answer. answer) result }
 {
     let flavour = flavour(grammar)?;
@@ -210,7 +211,7 @@ pub fn lowest(
     range: &[u8],
     pre_releases: u32,
 ) -> Result<Answer<Option<Version>>, Problem>
-    ensures { IsAnswer (LowestBy pre_releases grammar range.now) (λ answer. answer) result }
+    ensures { IsCallAnswer (LowestBy pre_releases grammar range.now) (λ answer. answer) result }
 {
     let flavour = flavour(grammar)?;
     let range = text(range)?;
@@ -225,7 +226,8 @@ pub fn common(
     other: &[u8],
     pre_releases: u32,
 ) -> Result<Answer<Option<Version>>, Problem>
-    ensures { IsAnswer (CommonBy pre_releases grammar one.now other.now) (λ answer. answer) result }
+    ensures { IsCallAnswer (CommonBy pre_releases grammar one.now other.now)
+        (λ answer. answer) result }
 {
     let flavour = flavour(grammar)?;
     let one = text(one)?;
@@ -240,7 +242,7 @@ pub fn common_of_all(
     ranges: &[u8],
     pre_releases: u32,
 ) -> Result<Answer<Option<Version>>, Problem>
-    ensures { IsAnswer (CommonOfAll pre_releases grammar ranges.now)
+    ensures { IsCallAnswer (CommonOfAll pre_releases grammar ranges.now)
         (λ answer. answer) result }
 {
     let flavour = flavour(grammar)?;
@@ -257,7 +259,7 @@ pub fn outside(
     other: &[u8],
     pre_releases: u32,
 ) -> Result<Answer<Option<Version>>, Problem>
-    ensures { IsAnswer (OutsideBy pre_releases grammar one.now other.now)
+    ensures { IsCallAnswer (OutsideBy pre_releases grammar one.now other.now)
         (λ answer. answer) result }
 {
     let flavour = flavour(grammar)?;
@@ -268,7 +270,7 @@ pub fn outside(
 
 /// What is the canonical form of the range?
 pub fn canonical_form(alloc: Global, grammar: u32, range: &[u8]) -> Result<String, Problem>
-    ensures { IsAnswer (CanonicalBy grammar range.now) (λ text. string_bytes text) result }
+    ensures { IsCallAnswer (CanonicalBy grammar range.now) (λ text. string_bytes text) result }
 {
     let flavour = flavour(grammar)?;
     let range = text(range)?;
@@ -284,7 +286,7 @@ pub fn is_tag(range: &VersionReq) -> bool
 
 /// Is the range a tag?
 pub fn names_tag(alloc: Global, grammar: u32, bytes: &[u8]) -> Result<bool, Problem>
-    ensures { IsAnswer (TagBy grammar bytes.now) (λ answer. answer) result }
+    ensures { IsCallAnswer (TagBy grammar bytes.now) (λ answer. answer) result }
 {
     let flavour = flavour(grammar)?;
     let text = text(bytes)?;
@@ -294,7 +296,7 @@ pub fn names_tag(alloc: Global, grammar: u32, bytes: &[u8]) -> Result<bool, Prob
 
 /// How is the version displayed?
 pub fn displayed_version(alloc: Global, version: &[u8]) -> Result<String, Problem>
-    ensures { IsAnswer (DisplayedOf version.now) (λ text. string_bytes text) result }
+    ensures { IsCallAnswer (DisplayedOf version.now) (λ text. string_bytes text) result }
 {
     let version = text(version)?;
     Ok(displayed(alloc, version)?)
@@ -302,7 +304,7 @@ pub fn displayed_version(alloc: Global, version: &[u8]) -> Result<String, Proble
 
 /// What are the parts of the package?
 pub fn package_of(alloc: Global, grammar: u32, bytes: &[u8]) -> Result<String, Problem>
-    ensures { IsAnswer (PackageBy grammar bytes.now) (λ text. string_bytes text) result }
+    ensures { IsCallAnswer (PackageBy grammar bytes.now) (λ text. string_bytes text) result }
 {
     let flavour = flavour(grammar)?;
     let text = text(bytes)?;
@@ -332,7 +334,7 @@ pub fn why_invalid(
     grammar: u32,
     bytes: &[u8],
 ) -> Result<Option<String>, Problem>
-    ensures { IsOneAnswer (WhyBy what grammar bytes.now)
+    ensures { IsOneCallAnswer (WhyBy what grammar bytes.now)
         (λ answer. option_map string_bytes answer) result }
 {
     let subject = subject_of(what)?;
@@ -343,7 +345,7 @@ pub fn why_invalid(
 
 /// What are the parts of the reference?
 pub fn reference_of(alloc: Global, bytes: &[u8]) -> Result<String, Problem>
-    ensures { IsAnswer (ReferenceOf bytes.now) (λ text. string_bytes text) result }
+    ensures { IsCallAnswer (ReferenceOf bytes.now) (λ text. string_bytes text) result }
 {
     let text = text(bytes)?;
     Ok(reference_parts(alloc, text)?)
@@ -351,7 +353,7 @@ pub fn reference_of(alloc: Global, bytes: &[u8]) -> Result<String, Problem>
 
 /// What are the parts of the version?
 pub fn version_parts_of(alloc: Global, bytes: &[u8]) -> Result<String, Problem>
-    ensures { IsAnswer (VersionPartsOf bytes.now) (λ text. string_bytes text) result }
+    ensures { IsCallAnswer (VersionPartsOf bytes.now) (λ text. string_bytes text) result }
 {
     let text = text(bytes)?;
     Ok(version_parts(alloc, text)?)
@@ -359,7 +361,7 @@ pub fn version_parts_of(alloc: Global, bytes: &[u8]) -> Result<String, Problem>
 
 /// What are the ranges of the range?
 pub fn ranges_of(alloc: Global, grammar: u32, bytes: &[u8]) -> Result<Answer<String>, Problem>
-    ensures { IsAnswer (RangesBy grammar bytes.now)
+    ensures { IsCallAnswer (RangesBy grammar bytes.now)
         (λ answer. list_answer (λ text. string_bytes text) answer) result }
 {
     let flavour = flavour(grammar)?;
@@ -369,7 +371,7 @@ pub fn ranges_of(alloc: Global, grammar: u32, bytes: &[u8]) -> Result<Answer<Str
 
 /// What are the parts of the name with a version?
 pub fn name_with_version_of(alloc: Global, bytes: &[u8]) -> Result<String, Problem>
-    ensures { IsAnswer (NameWithVersionOf bytes.now) (λ text. string_bytes text) result }
+    ensures { IsCallAnswer (NameWithVersionOf bytes.now) (λ text. string_bytes text) result }
 {
     let text = text(bytes)?;
     Ok(name_with_version_parts(alloc, text)?)
@@ -377,7 +379,7 @@ pub fn name_with_version_of(alloc: Global, bytes: &[u8]) -> Result<String, Probl
 
 /// What are the parts of the reference to a version?
 pub fn version_reference_of(alloc: Global, bytes: &[u8]) -> Result<String, Problem>
-    ensures { IsAnswer (VersionReferenceOf bytes.now) (λ text. string_bytes text) result }
+    ensures { IsCallAnswer (VersionReferenceOf bytes.now) (λ text. string_bytes text) result }
 {
     let text = text(bytes)?;
     Ok(version_reference_parts(alloc, text)?)
@@ -385,7 +387,7 @@ pub fn version_reference_of(alloc: Global, bytes: &[u8]) -> Result<String, Probl
 
 /// What are the parts of the dependency?
 pub fn dependency_of(alloc: Global, grammar: u32, bytes: &[u8]) -> Result<String, Problem>
-    ensures { IsAnswer (DependencyBy grammar bytes.now) (λ text. string_bytes text) result }
+    ensures { IsCallAnswer (DependencyBy grammar bytes.now) (λ text. string_bytes text) result }
 {
     let flavour = flavour(grammar)?;
     let text = text(bytes)?;
@@ -394,7 +396,7 @@ pub fn dependency_of(alloc: Global, grammar: u32, bytes: &[u8]) -> Result<String
 
 /// What is the name of the export that the path means?
 pub fn export_name_of<'a>(alloc: Global, bytes: &'a [u8]) -> Result<CowStr<'a, Global>, Problem>
-    ensures { IsAnswer (ExportNameOf bytes.now) (λ name. cow_str_bytes name) result }
+    ensures { IsCallAnswer (ExportNameOf bytes.now) (λ name. cow_str_bytes name) result }
 {
     let path = text(bytes)?;
     Ok(normalized_export_name(alloc, Some(path))?)
@@ -416,7 +418,7 @@ pub struct ReadRange {
 
 /// Parses a range.
 pub fn read_range(alloc: Global, grammar: u32, bytes: &[u8]) -> Result<ReadRange, Problem>
-    ensures answer { IsAnswer (RangeBy grammar bytes.now) (λ read. read.range.value) result }
+    ensures answer { IsCallAnswer (RangeBy grammar bytes.now) (λ read. read.range.value) result }
     ensures canonical { IfOk result
         (λ read. string_bytes read.canonical ≡ inner_text read.range.value.inner) }
 {
@@ -437,7 +439,7 @@ pub struct ReadPackage {
 
 /// Parses a package.
 pub fn read_package_of(alloc: Global, grammar: u32, bytes: &[u8]) -> Result<ReadPackage, Problem>
-    ensures { IsAnswer (PackageOf grammar bytes.now) whole_package result }
+    ensures { IsCallAnswer (PackageOf grammar bytes.now) whole_package result }
 {
     let flavour = flavour(grammar)?;
     let text = text(bytes)?;
@@ -458,7 +460,7 @@ pub struct ReadVersion {
 
 /// Parses a version.
 pub fn read_version(alloc: Global, bytes: &[u8]) -> Result<ReadVersion, Problem>
-    ensures answer { IsAnswer (VersionOf bytes.now) (λ read. read.version.value) result }
+    ensures answer { IsCallAnswer (VersionOf bytes.now) (λ read. read.version.value) result }
     ensures displayed { IfOk result
         (λ read. string_bytes read.displayed ≡ version_text read.version.value) }
 {
@@ -493,7 +495,7 @@ impl Numbers {
 
 /// What are the numbers of the version?
 pub fn numbers_of(alloc: Global, bytes: &[u8]) -> Result<Numbers, Problem>
-    ensures { IsAnswer (NumbersOf bytes.now) (λ numbers. numbers) result }
+    ensures { IsCallAnswer (NumbersOf bytes.now) (λ numbers. numbers) result }
 {
     let text = text(bytes)?;
     let version = version(alloc, 0, text)?;
@@ -502,7 +504,7 @@ pub fn numbers_of(alloc: Global, bytes: &[u8]) -> Result<Numbers, Problem>
 
 /// Parses several versions, one per line, onto the heap.
 pub fn read_list(alloc: Global, bytes: &[u8]) -> Result<Box<VersionList>, Problem>
-    ensures { IsAnswer (VersionListOf bytes.now) (λ read. list_lines read.value) result }
+    ensures { IsCallAnswer (VersionListOf bytes.now) (λ read. list_lines read.value) result }
 {
     let text = text(bytes)?;
     let texts = line_list(alloc, text)?;
@@ -517,8 +519,8 @@ pub fn filter_held(
     range: &VersionReq,
     pre_releases: u32,
 ) -> Result<Answer<Vec<Option<bool>>>, Problem>
-    ensures { IsAnswer
-        (Is (list_matches (pre_release_of pre_releases) range.now.inner (list_lines list.now)))
+    ensures { IsCallAnswer
+        (Is (list_matches (pre_release_by pre_releases) range.now.inner (list_lines list.now)))
         (λ answer. list_answer (λ list. list.items) answer) result }
 {
     let pre_release = pre_release(pre_releases);
@@ -550,7 +552,7 @@ pub fn best_held(
 
 /// In which order do the versions stand?
 pub fn sorted_held(alloc: Global, list: &VersionList) -> Result<Vec<usize>, Problem>
-    ensures { IsAnswer (SortedLines sorting.Ascending (list_lines list.now))
+    ensures { IsCallAnswer (SortedLines sorting.Ascending (list_lines list.now))
         (λ places. places.items) result }
 {
     Ok(sorted_list(alloc, list.lines.as_slice(), Order::Ascending)?)
@@ -573,7 +575,7 @@ pub fn matches_held(
     bytes: &[u8],
     pre_releases: u32,
 ) -> Result<Code, Problem>
-    ensures { IsAnswer (MatchesHeld pre_releases range.now bytes.now) (λ code. code) result }
+    ensures { IsCallAnswer (MatchesHeld pre_releases range.now bytes.now) (λ code. code) result }
 {
     let text = text(bytes)?;
     let version = version(alloc, 0, text)?;
@@ -582,14 +584,14 @@ pub fn matches_held(
 
 /// The canonical form of the range.
 pub fn held_canonical(alloc: Global, range: &VersionReq) -> Result<String, Problem>
-    ensures { IsAnswer (Is (inner_text range.now.inner)) (λ text. string_bytes text) result }
+    ensures { IsCallAnswer (Is (inner_text range.now.inner)) (λ text. string_bytes text) result }
 {
     Ok(range.to_string_normalized(alloc)?)
 }
 
 /// The version as displayed.
 pub fn held_displayed(alloc: Global, version: &Version) -> Result<String, Problem>
-    ensures { IsAnswer (Is (version_text version.now)) (λ text. string_bytes text) result }
+    ensures { IsCallAnswer (Is (version_text version.now)) (λ text. string_bytes text) result }
 {
     Ok(text_of_version(alloc, version)?)
 }

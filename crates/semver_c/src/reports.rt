@@ -5,7 +5,7 @@ ghost use Rattle.std.specs.Cow.{cow_str_bytes};
 ghost use Rattle.std.specs.Option.{option_map};
 ghost use Rattle.semver_base.specs.VersionText.{version_text};
 ghost use Rattle.answers.specs.Filtering.{list_answer};
-ghost use Rattle.semver_c.specs.Arguments.{call_fault, outcome_of, problem_message, problem_place};
+ghost use Rattle.semver_c.specs.Arguments.{call_fault, call_outcome, problem_message, problem_place};
 ghost use Rattle.semver_c.specs.Codes.{IsPlaced, IsReported, IsUntouched, IsUntouchedWithoutValue, always_yes, as_place, as_value, best_code, best_place, bool_code, code_of, fault_code, filter_code, filter_numbers, found_code, found_text, line_code, lowest_code, lowest_text, match_code, no_memory, no_text, number_of, order_code, place_after, text_code, text_of, three_numbers, unqualified_code};
 
 use crate::arguments::Problem;
@@ -47,7 +47,7 @@ pub fn put_place<T>(answer: &Result<T, Problem>, place: &mut usize)
 
 /// The code of a result or a problem.
 pub fn code_of_order(answer: Result<Ordering, Problem>) -> i32
-    ensures { result ≡ code_of order_code (outcome_of (λ order. order) answer) }
+    ensures { result ≡ code_of order_code (call_outcome (λ order. order) answer) }
 {
     match answer {
         Ok(order) => Code::of_order(order).number(),
@@ -57,7 +57,7 @@ pub fn code_of_order(answer: Result<Ordering, Problem>) -> i32
 
 /// The code of a result or a problem.
 pub fn code_of_bool(answer: Result<bool, Problem>) -> i32
-    ensures { result ≡ code_of bool_code (outcome_of (λ answer. answer) answer) }
+    ensures { result ≡ code_of bool_code (call_outcome (λ answer. answer) answer) }
 {
     match answer {
         Ok(answer) => Code::of_bool(answer).number(),
@@ -77,7 +77,7 @@ fn match_code(answer: &Answer<bool>) -> Code
 
 /// The code, or that of a problem.
 pub fn code_or_problem(answer: Result<Code, Problem>) -> i32
-    ensures { result ≡ code_of (λ code. code) (outcome_of (λ code. code) answer) }
+    ensures { result ≡ code_of (λ code. code) (call_outcome (λ code. code) answer) }
 {
     match answer {
         Ok(code) => code.number(),
@@ -87,7 +87,7 @@ pub fn code_or_problem(answer: Result<Code, Problem>) -> i32
 
 /// The code of a match or a problem.
 pub fn code_of_match(answer: Result<Answer<bool>, Problem>) -> i32
-    ensures { result ≡ code_of match_code (outcome_of (λ answer. answer) answer) }
+    ensures { result ≡ code_of match_code (call_outcome (λ answer. answer) answer) }
 {
     match answer {
         Ok(answer) => match_code(&answer).number(),
@@ -110,7 +110,7 @@ pub fn report_match(
     out: &mut [u8],
     needed: &mut usize,
 ) -> i32
-    ensures { IsReported match_code no_text (outcome_of (λ answer. answer) answer)
+    ensures { IsReported match_code no_text (call_outcome (λ answer. answer) answer)
         out.old out.new needed.new result }
 {
     match answer {
@@ -124,7 +124,7 @@ pub fn report_match(
 
 /// Reports yes or no.
 pub fn report_bool(answer: Result<bool, Problem>, out: &mut [u8], needed: &mut usize) -> i32
-    ensures { IsReported bool_code no_text (outcome_of (λ answer. answer) answer)
+    ensures { IsReported bool_code no_text (call_outcome (λ answer. answer) answer)
         out.old out.new needed.new result }
 {
     match answer {
@@ -138,7 +138,7 @@ pub fn report_bool(answer: Result<bool, Problem>, out: &mut [u8], needed: &mut u
 
 /// Reports a text.
 pub fn report_text(answer: Result<String, Problem>, out: &mut [u8], needed: &mut usize) -> i32
-    ensures { IsReported always_yes (λ text. text) (outcome_of (λ text. string_bytes text) answer)
+    ensures { IsReported always_yes (λ text. text) (call_outcome (λ text. string_bytes text) answer)
         out.old out.new needed.new result }
 {
     match answer {
@@ -157,7 +157,7 @@ pub fn report_found_text(
     needed: &mut usize,
 ) -> i32
     ensures { IsReported found_code found_text
-        (outcome_of (λ answer. option_map string_bytes answer) answer)
+        (call_outcome (λ answer. option_map string_bytes answer) answer)
         out.old out.new needed.new result }
 {
     match answer {
@@ -180,7 +180,7 @@ pub fn report_name(
     needed: &mut usize,
 ) -> i32
     ensures { IsReported always_yes (λ text. text)
-        (outcome_of (λ name. cow_str_bytes name) answer.entry)
+        (call_outcome (λ name. cow_str_bytes name) answer.entry)
         out.old out.new needed.new result }
 {
     match answer {
@@ -199,7 +199,7 @@ pub fn report_text_or_tag(
     needed: &mut usize,
 ) -> i32
     ensures { IsReported text_code text_of
-        (outcome_of (λ answer. list_answer (λ text. string_bytes text) answer) answer)
+        (call_outcome (λ answer. list_answer (λ text. string_bytes text) answer) answer)
         out.old out.new needed.new result }
 {
     match answer {
@@ -269,7 +269,7 @@ pub fn report_lowest(
     needed: &mut usize,
 ) -> i32
     ensures { IsReported (lowest_code found nothing) lowest_text
-        (outcome_of (λ answer. answer) answer) out.old out.new needed.new result }
+        (call_outcome (λ answer. answer) answer) out.old out.new needed.new result }
 {
     match answer {
         Ok(answer) => report_found(alloc, &answer, found, nothing, out, needed),
@@ -326,7 +326,7 @@ pub fn report_filter(
     needed: &mut usize,
 ) -> i32
     ensures reported { IsReported filter_code filter_numbers
-        (outcome_of (λ answer. list_answer (λ list. list.items) answer) answer)
+        (call_outcome (λ answer. list_answer (λ list. list.items) answer) answer)
         out.old out.new needed.new result }
     ensures untouched { IsUntouched out.old out.new needed.new result }
 {
@@ -348,7 +348,7 @@ pub fn report_places(
     needed: &mut usize,
 ) -> i32
     ensures reported { IsReported always_yes (λ places. places)
-        (outcome_of (λ places. places.items) answer) out.old out.new needed.new result }
+        (call_outcome (λ places. places.items) answer) out.old out.new needed.new result }
     ensures untouched { IsUntouched out.old out.new needed.new result }
 {
     match answer {
@@ -366,7 +366,7 @@ pub fn report_places(
 /// Reports the three numbers of a version, and whether it has neither a pre-release nor a build; for a problem, its code alone.
 pub fn report_numbers(answer: Result<Numbers, Problem>, out: &mut [u64], needed: &mut usize) -> i32
     ensures reported { IsReported unqualified_code three_numbers
-        (outcome_of (λ numbers. numbers) answer) out.old out.new needed.new result }
+        (call_outcome (λ numbers. numbers) answer) out.old out.new needed.new result }
     ensures untouched { IsUntouchedWithoutValue out.old out.new needed.new result }
 {
     match answer {
@@ -383,9 +383,9 @@ pub fn report_numbers(answer: Result<Numbers, Problem>, out: &mut [u64], needed:
 
 /// Reports a place.
 pub fn report_place(answer: Result<usize, Problem>, place: &mut usize) -> i32
-    ensures code { result ≡ code_of always_yes (outcome_of (λ found. found) answer) }
+    ensures code { result ≡ code_of always_yes (call_outcome (λ found. found) answer) }
     ensures place { place.new
-        ≡ place_after as_place (outcome_of (λ found. found) answer) place.old }
+        ≡ place_after as_place (call_outcome (λ found. found) answer) place.old }
 {
     match answer {
         Ok(found) => {
@@ -401,8 +401,8 @@ pub fn report_place(answer: Result<usize, Problem>, place: &mut usize) -> i32
 
 /// Reports the best match by a code, and its place.
 pub fn report_best(answer: Result<Answer<Option<Best>>, Problem>, place: &mut usize) -> i32
-    ensures code { result ≡ code_of best_code (outcome_of (λ answer. answer) answer) }
-    ensures place { place.new ≡ place_after best_place (outcome_of (λ answer. answer) answer)
+    ensures code { result ≡ code_of best_code (call_outcome (λ answer. answer) answer) }
+    ensures place { place.new ≡ place_after best_place (call_outcome (λ answer. answer) answer)
         place.old }
 {
     match answer {

@@ -4,7 +4,7 @@ use Rattle.std.specs.Prelude.{◌⊎◌, IfErr, IsUtf8}
 use Rattle.std.specs.Result.{IsErrAnd}
 use Rattle.semver_base.specs.Meaning.{tree_means_with}
 use Rattle.semver_req.specs.Outcome.{IsOutcome, Outcome, Ranges, Tag, Rejected, tree_ranges, worked_on}
-use Rattle.semver_req.specs.Parsers.{Failure, HasTree, IsAnswer, IsRead, IsReading, IsReadOrTag, IsParserAnswer, MeansTrees, TagReadsBack}
+use Rattle.semver_req.specs.Parsers.{Failure, HasTree, IsResultOf, IsRead, IsReading, IsReadOrTag, IsParserAnswer, MeansTrees, TagReadsBack}
 use Rattle.semver_req.specs.Requirement.{Requirement, inner_means_with}
 use Rattle.semver_req.specs.declared.common.values.Flavour.{Flavour}
 use Rattle.semver_req.specs.declared.range_set_or_tag.RangeSetOrTag.{RangeSetOrTag}
@@ -14,15 +14,15 @@ use Rattle.semver_req.proofs.TagsReadBack.{tag_back}
 
 module _ (f : Flavour) (text : List ℕ) where
   module _ {E : Type 0} (source : E → Failure) where
-    answer_read : (req : Requirement) → IsReading f text req.inner → (o : Outcome) → IsOutcome f text o → IsAnswer source f o (Ok req)
+    answer_read : (req : Requirement) → IsReading f text req.inner → (o : Outcome) → IsOutcome f text o → IsResultOf source f o (Ok req)
     answer_read req h o p = go o (rw (one_outcome f text h.outcome o h.is_outcome p) at h.is_read)
       where
-        go : (o : Outcome) → IsRead f o req.inner → IsAnswer source f o (Ok req)
+        go : (o : Outcome) → IsRead f o req.inner → IsResultOf source f o (Ok req)
         go (Ranges tree) k = k
         go (Tag t) k = k
         go Rejected k = absurd k
 
-    answer_rejected : (e : E) → (source e ≡ None) ⊎ IsOutcome f text Rejected → (o : Outcome) → IsOutcome f text o → IsAnswer source f o (Err e)
+    answer_rejected : (e : E) → (source e ≡ None) ⊎ IsOutcome f text Rejected → (o : Outcome) → IsOutcome f text o → IsResultOf source f o (Err e)
     answer_rejected e (inl none) (Ranges tree) p = none
     answer_rejected e (inl none) (Tag t) p = none
     answer_rejected e h Rejected p = refl

@@ -23,7 +23,7 @@ use Rattle.semver_req.specs.Comparators.{IsComparator, fits}
 use Rattle.semver_req.specs.RetainedSet.{folded, retained, retained_range, without_none}
 use Rattle.semver_req.specs.Outcome.{AreGoodOnes, none_left, good, bad, IsBad, IsGood, IsCutOutcome, one_good, one_bad, npm_many, normal_many, normal_rejected, IsTagOr, tag, no_tag, Outcome, Ranges, Tag, Rejected}
 use Rattle.semver_req.specs.PieceReading.{IsFirstBad, this_bad, later_bad, IsCutRejection, is_out_of_memory, bad_piece, IsPieceRead, IsPieceRejection, outside, large_number, large_bound, as_retained, joined, retained_of, read_as, numbers_fit, sums_fit, rejection_failure}
-use Rattle.semver_req.specs.PieceSteps.{AreAllRead, AreRead, IsEverything, IsFirstPiece, IsReported, IsWholeRead, first_rejection}
+use Rattle.semver_req.specs.PieceSteps.{AreAllRead, AreRead, IsEverything, IsFirstPiece, IsRejectionOf, IsWholeRead, first_rejection}
 use Rattle.semver_req.specs.Pieces.{ArePieces, IsComparators, IsCutting, npm, normal, IsFilled, IsHyphen, IsPiece}
 use Rattle.semver_req.specs.Parsers.{Failure, IsCutReading, IsReading}
 use Rattle.semver_req.specs.Tag.{is_valid_tag}
@@ -261,12 +261,12 @@ retained_more f cutting tree cs =
     ∙ ap (λ (rest : List VersionRange). rest ++ option_to_list (retained_of (read.Range (retained_range cs)))) (sym (retained_without f cutting tree))
 
 module _ (f : Flavour) (b : Bool) (p : List ℕ) (ps : List (List ℕ)) (piece : List ℕ) (tree : List (List Comparator)) where
-  reported_good : (o : Option Rejection) → IsReported f b (p ∷ ps) tree o → (cs : List Comparator) → IsReported f b ((p ∷ ps) ++ piece ∷ []) (tree ++ cs ∷ []) o
+  reported_good : (o : Option Rejection) → IsRejectionOf f b (p ∷ ps) tree o → (cs : List Comparator) → IsRejectionOf f b ((p ∷ ps) ++ piece ∷ []) (tree ++ cs ∷ []) o
   reported_good None reported cs = omega (arith, reported, length-append tree (cs ∷ []), length-append ps (piece ∷ []))
   reported_good (Some rejection) reported cs = (omega (arith, reported.0, length-append tree (cs ∷ []), length-append ps (piece ∷ [])), first_stays (piece ∷ []) reported.1)
 
-  reported_bad : AreGoodOnes f b (p ∷ ps) tree → (o : Option Rejection) → IsReported f b (p ∷ ps) tree o → (rejection : Rejection) → IsBad f false piece → IsPieceRejection f piece rejection
-      → IsReported f b ((p ∷ ps) ++ piece ∷ []) tree (first_rejection o (read.Invalid rejection))
+  reported_bad : AreGoodOnes f b (p ∷ ps) tree → (o : Option Rejection) → IsRejectionOf f b (p ∷ ps) tree o → (rejection : Rejection) → IsBad f false piece → IsPieceRejection f piece rejection
+      → IsRejectionOf f b ((p ∷ ps) ++ piece ∷ []) tree (first_rejection o (read.Invalid rejection))
   reported_bad goods None reported rejection g r = (omega (arith, reported, length-append ps (piece ∷ [])), first_after goods reported g r)
   reported_bad goods (Some first) reported rejection g r = (omega (arith, reported.0, length-append ps (piece ∷ [])), first_stays (piece ∷ []) reported.1)
 
@@ -285,14 +285,14 @@ read_more {f} cutting b p ps old new piece (read.Range range) all h ranges rejec
   tree = all.tree ++ h.0 ∷ [];
   good_ones = goods_after all.good_ones (good h.1 none_left);
   retained = ranges ∙ (ap₂ (λ (xs : List VersionRange) (r : VersionRange). xs ++ option_to_list (retained_of (read.Range r))) all.retained h.2 ∙ sym (retained_more f cutting all.tree h.0));
-  reported = subst (IsReported f b ((p ∷ ps) ++ piece ∷ []) (all.tree ++ h.0 ∷ [])) (sym (rejected ∙ reported_same old.rejected range)) (reported_good f b p ps piece all.tree old.rejected all.reported h.0);
+  reported = subst (IsRejectionOf f b ((p ∷ ps) ++ piece ∷ []) (all.tree ++ h.0 ∷ [])) (sym (rejected ∙ reported_same old.rejected range)) (reported_good f b p ps piece all.tree old.rejected all.reported h.0);
   is_only = only ∙ none_only p ps piece;
 }
 read_more {f} cutting b p ps old new piece (read.Invalid rejection) all h ranges rejected only = record {
   tree = all.tree;
   good_ones = rw append-nil at (goods_after all.good_ones (bad h.0 none_left));
   retained = ranges ∙ (append-nil old.ranges ∙ all.retained);
-  reported = subst (IsReported f b ((p ∷ ps) ++ piece ∷ []) all.tree) (sym rejected) (reported_bad f b p ps piece all.tree all.good_ones old.rejected all.reported rejection h.0 h.1);
+  reported = subst (IsRejectionOf f b ((p ∷ ps) ++ piece ∷ []) all.tree) (sym rejected) (reported_bad f b p ps piece all.tree all.good_ones old.rejected all.reported rejection h.0 h.1);
   is_only = only ∙ none_only p ps piece;
 }
 
@@ -303,16 +303,16 @@ read_first {f} cutting b new piece (read.Range range) h ranges rejected only = r
   tree = h.0 ∷ [];
   good_ones = good h.1 none_left;
   retained = ranges ∙ (ap (λ (r : VersionRange). option_to_list (retained_of (read.Range r))) h.2 ∙ (sym (without_one (retained_range h.0)) ∙ sym (retained_without f cutting (h.0 ∷ []))));
-  reported = subst (IsReported f b (piece ∷ []) (h.0 ∷ [])) (sym rejected) refl;
+  reported = subst (IsRejectionOf f b (piece ∷ []) (h.0 ∷ [])) (sym rejected) refl;
   is_only = only;
 }
 read_first {f} cutting b new piece (read.Invalid rejection) h ranges rejected only =
-    let none_good : IsReported f b (piece ∷ []) [] (Some rejection) = (omega arith, this_bad h.0 h.1) in
+    let none_good : IsRejectionOf f b (piece ∷ []) [] (Some rejection) = (omega arith, this_bad h.0 h.1) in
     record {
       tree = [];
       good_ones = bad h.0 none_left;
       retained = ranges ∙ sym (retained_without f cutting []);
-      reported = subst (IsReported f b (piece ∷ []) []) (sym rejected) none_good;
+      reported = subst (IsRejectionOf f b (piece ∷ []) []) (sym rejected) none_good;
       is_only = only;
     }
 

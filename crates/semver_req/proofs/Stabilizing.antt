@@ -12,7 +12,7 @@ use Rattle.semver_base.specs.Comparators.{Caret, Comparator, Hyphen, OfPrimitive
 use Rattle.semver_base.specs.Meaning.{bound_at, everything, from, release, to_below}
 use Rattle.semver_base.specs.PartialTable.{up_to, between, without_build}
 use Rattle.semver_base.specs.Precedence.{precedence_cmp}
-use Rattle.semver_base.specs.PrecedenceLaws.{precedence-anti, precedence_total, version_eq, version_of, version_reported}
+use Rattle.semver_base.specs.PrecedenceLaws.{precedence-anti, precedence_total, version_eq, version_with, version_reported}
 use Rattle.semver_base.specs.Shortest.{ending, has_short_form, is_caret_patch, is_major, is_release_of, is_tilde, shortest_between, shortest_of, starting, whole}
 use Rattle.semver_base.specs.declared.range.RangeBound.{RangeBound}
 use Rattle.semver_base.specs.declared.range.RangeBound.TheVariants as bound
@@ -33,14 +33,14 @@ abbrev pub unbuilt : Version → Version
 unbuilt v = without_build (whole v)
 
 unbuilt_same : (v : Version) → v.build ≡ [] → unbuilt v ≡ v
-unbuilt_same v e = ap (λ (build : List (List ℕ)). version_of v.major v.minor v.patch v.pre build) (sym e)
+unbuilt_same v e = ap (λ (build : List (List ℕ)). version_with v.major v.minor v.patch v.pre build) (sym e)
 
 -- versions without builds that tie are the same
 pub same_version : (s e : Version) → s.build ≡ [] → e.build ≡ [] → precedence_cmp s e ≡ Equal → s ≡ e
 same_version s e h k tie =
     let same = precedence-anti s e tie in
     let builds : s.build ≡ e.build = h ∙ sym k in
-    let whole : version_of s.major s.minor s.patch s.pre s.build ≡ version_of e.major e.minor e.patch e.pre e.build = rw (same.major, same.minor, same.patch, same.pre, builds) refl in
+    let whole : version_with s.major s.minor s.patch s.pre s.build ≡ version_with e.major e.minor e.patch e.pre e.build = rw (same.major, same.minor, same.patch, same.pre, builds) refl in
     whole
 
 -- ---- short forms start below their end

@@ -37,11 +37,11 @@ pub record IsCutReading (f : Flavour) (text : List ℕ) (answer : RangeSetOrTag)
   pub is_read : IsRead f outcome answer
 
 -- the result for a text with this outcome, or out of memory; source is the failure in the error
-abbrev pub IsAnswer : {E : Type 0} → (E → Failure) → Flavour → Outcome → Result Requirement E → Type 0
-IsAnswer source f (Ranges tree) result =
+abbrev pub IsResultOf : {E : Type 0} → (E → Failure) → Flavour → Outcome → Result Requirement E → Type 0
+IsResultOf source f (Ranges tree) result =
     MatchResult result (λ req. IsRead f (Ranges tree) req.inner) (λ e. source e ≡ None)
-IsAnswer source f (Tag text) result = MatchResult result (λ req. IsRead f (Tag text) req.inner) (λ e. source e ≡ None)
-IsAnswer source f Rejected result = IsErr result
+IsResultOf source f (Tag text) result = MatchResult result (λ req. IsRead f (Tag text) req.inner) (λ e. source e ≡ None)
+IsResultOf source f Rejected result = IsErr result
 
 -- for every tree of the text in the grammar, the result matches what the tree matches, with or without npm's rule about
 -- pre-releases
@@ -87,7 +87,7 @@ pub record IsParserAnswer {E : Type 0} (source : E → Failure) (f : Flavour) (t
   -- it fails only if that is the outcome, or out of memory
   pub rejected : IfErr result (λ e. (source e ≡ None) ⊎ IsOutcome f text Rejected)
   -- every outcome of the text is returned, or out of memory
-  pub answer : (o : Outcome) → IsOutcome f text o → IsAnswer source f o result
+  pub answer : (o : Outcome) → IsOutcome f text o → IsResultOf source f o result
   -- a version matches exactly if it matches the text's comparators, with pre-releases restricted or admitted
   pub means : IfOk result (λ req. MeansTrees f text req.inner)
   -- ranges are kept of a tree of the text

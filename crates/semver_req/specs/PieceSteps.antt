@@ -73,16 +73,16 @@ pub record IsAdded (f : Flavour) (followed : Bool) (piece : List ℕ) (old new :
   pub more : IsOneMore answer old new
 
 -- all the pieces are valid, or the first invalid one is so for this reason
-abbrev pub IsReported : Flavour → Bool → List (List ℕ) → List (List Comparator) → Option Rejection → Type 0
-IsReported f b pieces tree None = length tree ≡ length pieces
-IsReported f b pieces tree (Some rejection) = (length tree < length pieces) × IsFirstBad f b pieces rejection
+abbrev pub IsRejectionOf : Flavour → Bool → List (List ℕ) → List (List Comparator) → Option Rejection → Type 0
+IsRejectionOf f b pieces tree None = length tree ≡ length pieces
+IsRejectionOf f b pieces tree (Some rejection) = (length tree < length pieces) × IsFirstBad f b pieces rejection
 
 -- what these pieces parse to
 pub record AreRead (f : Flavour) (b : Bool) (pieces : List (List ℕ)) (all : Alternatives) : Type 0 where
   pub tree : List (List Comparator)
   pub good_ones : AreGoodOnes f b pieces tree
   pub retained : all.ranges ≡ retained f tree
-  pub reported : IsReported f b pieces tree all.rejected
+  pub reported : IsRejectionOf f b pieces tree all.rejected
   pub is_only : all.is_only ≡ (length pieces == 1)
 
 -- what the first piece and those of what follows its `||` parse to

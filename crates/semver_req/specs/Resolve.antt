@@ -11,8 +11,8 @@ abbrev pub lower : Version → Version → Bool
 lower one other = is_lt (precedence_cmp one other)
 
 -- it is above the other
-abbrev pub greater : Version → Version → Bool
-greater one other = lower other one
+abbrev pub higher : Version → Version → Bool
+higher one other = lower other one
 
 -- the version at the index matches; no match is better, and none before it is as good. V is a version, or a line of a list that may have one.
 pub record IsBestAt {V : Type 0} (better : V → V → Bool) (means : V → Bool) (versions : List V) (place : ℕ) (version : V) :

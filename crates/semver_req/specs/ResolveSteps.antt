@@ -2,13 +2,13 @@
 use Rattle.std.specs.Prelude.{ℕ, Bool, true, Option, Some, None}
 use Rattle.std.specs.Borrow.{Bor}
 use Rattle.semver_base.specs.declared.version.Version.{Version}
-use Rattle.semver_req.specs.Resolve.{greater, lower}
+use Rattle.semver_req.specs.Resolve.{higher, lower}
 use Rattle.semver_req.specs.declared.resolve.End.{End}
 use Rattle.semver_req.specs.declared.resolve.End.TheVariants as end
 
 -- which of two versions is nearer to this end
 abbrev pub nearer : End → Version → Version → Bool
-nearer end.Highest one other = greater one other
+nearer end.Highest one other = higher one other
 nearer end.Lowest one other = lower one other
 
 -- the version is nearer than the best match so far, if any

@@ -2,7 +2,7 @@
 
 ghost use Rattle.std.specs.Prelude.{◌≡◌, ◌&&◌, None};
 ghost use Rattle.semver_req.specs.Requirement.{inner_means, inner_means_with, tag_of};
-ghost use Rattle.semver_req.specs.Resolve.{IsBestMatch, IsOnlyMatch, greater, lower};
+ghost use Rattle.semver_req.specs.Resolve.{IsBestMatch, IsOnlyMatch, higher, lower};
 ghost use Rattle.semver_req.specs.ResolveSteps.{exceeds, known_of, nearer};
 
 use crate::req::VersionReq;
@@ -65,9 +65,9 @@ fn first_best(
 /// but for builds, the first. Returns none exactly if no version matches.
 pub fn max_satisfying(versions: &[Version], requirement: &VersionReq) -> Option<usize>
     requires { tag_of requirement.now.inner ≡ None }
-    ensures highest { IsBestMatch greater (λ v. inner_means requirement.now.inner v)
+    ensures highest { IsBestMatch higher (λ v. inner_means requirement.now.inner v)
         versions.now result }
-    ensures only { IsOnlyMatch greater (λ v. inner_means requirement.now.inner v)
+    ensures only { IsOnlyMatch higher (λ v. inner_means requirement.now.inner v)
         versions.now result }
 {
     max_satisfying_with(versions, requirement, PreRelease::Restricted)
@@ -92,9 +92,9 @@ pub fn max_satisfying_with(
     pre_release: PreRelease,
 ) -> Option<usize>
     requires { tag_of requirement.now.inner ≡ None }
-    ensures highest { IsBestMatch greater
+    ensures highest { IsBestMatch higher
         (λ v. inner_means_with pre_release requirement.now.inner v) versions.now result }
-    ensures only { IsOnlyMatch greater
+    ensures only { IsOnlyMatch higher
         (λ v. inner_means_with pre_release requirement.now.inner v) versions.now result }
 {
     first_best(versions, requirement, pre_release, End::Highest)

@@ -6,7 +6,7 @@ ghost use Rattle.serde_json.specs.View.{view};
 ghost use Rattle.semver_req.specs.declared.common.values.Flavour.TheVariants.{Npm};
 ghost use Rattle.deno_semver.specs.DependencyText.{normal_dependency_text};
 ghost use Rattle.deno_semver.specs.DependencyOutcome.{IsDependencyOutcome};
-ghost use Rattle.deno_semver.specs.Json.{IsStringOf, IsTextItself, IsTextOfDependency, IsTextOfInner, IsTextOfKind, IsTextOfNv, IsTextOfReference, IsTextOfReq, IsTextOfVersion, kind_text};
+ghost use Rattle.deno_semver.specs.Json.{IsStringOf, IsTextItself, IsTextOfDependency, IsTextOfInner, IsTextOfKind, IsTextOfNv, IsTextOfReference, IsTextOfReq, IsTextOfVersion, bound_kind_text};
 ghost use Rattle.deno_semver.specs.JsonAnswers.{IsJsonAnswer};
 ghost use Rattle.deno_semver.specs.PackageOutcome.{IsPackageOutcome};
 ghost use Rattle.deno_semver.specs.RequirementText.{normal_req_text};
@@ -189,8 +189,8 @@ impl JsonForm for JsrDepPackageReq {
     }
 }
 
-fn kind_text(kind: VersionBoundKind) -> &'static str
-    ensures { result.now ≡ kind_text kind }
+fn bound_kind_text(kind: VersionBoundKind) -> &'static str
+    ensures { result.now ≡ bound_kind_text kind }
 {
     match kind {
         VersionBoundKind::Inclusive => "Inclusive",
@@ -200,12 +200,12 @@ fn kind_text(kind: VersionBoundKind) -> &'static str
 
 /// The string `Inclusive` or `Exclusive`.
 impl JsonForm for VersionBoundKind {
-    ghost json = { λ kind. string (kind_text kind) };
+    ghost json = { λ kind. string (bound_kind_text kind) };
 
     ghost parses_to = { IsStringOf IsTextOfKind };
 
     fn to_json(&self, alloc: Global) -> Result<Value, AllocError> {
-        Value::try_from_str(alloc, kind_text(*self))
+        Value::try_from_str(alloc, bound_kind_text(*self))
     }
 
     fn from_json(_alloc: Global, value: &Value) -> Result<Self, JsonError> {

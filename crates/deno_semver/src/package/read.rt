@@ -2,7 +2,7 @@
 
 ghost use Rattle.std.specs.Prelude.{◌≡◌, ◌⊎◌, IfErr, IfOk, Ok, Result, string_bytes};
 ghost use Rattle.std.specs.Option.{option_copied};
-ghost use Rattle.deno_semver.specs.PackageOutcome.{Fault, IsPackageAnswer, IsPackageOutcome, IsPackageRejection, IsOutOfMemory, IsVersionReq, rejected_by};
+ghost use Rattle.deno_semver.specs.PackageOutcome.{PackageFault, IsPackageAnswer, IsPackageOutcome, IsPackageRejection, IsOutOfMemory, IsVersionReq, rejected_by};
 ghost use Rattle.deno_semver.specs.PackageReading.{IsPartsRejection, IsPathError, IsReadPackage, ReportsSource};
 ghost use Rattle.deno_semver.specs.ReferenceReading.{IsFrontError, IsReadWithPath};
 ghost use Rattle.deno_semver.specs.declared.package.values.PackageReq.{PackageReq};
@@ -170,7 +170,8 @@ pub(crate) fn package_req(
 ) -> Result<PackageReq, PackageReqParseError>
     ensures read { IfOk result (λ req. IsPackageOutcome flavour text.now (Ok req)) }
     ensures rejected { IfErr result (IsPackageRejection flavour text.now) }
-    ensures answer { (outcome : Result PackageReq Fault) → IsPackageOutcome flavour text.now outcome
+    ensures answer { (outcome : Result PackageReq PackageFault)
+        → IsPackageOutcome flavour text.now outcome
         → IsPackageAnswer flavour text.now outcome result }
 {
     texts_have_one_outcome();
@@ -204,7 +205,7 @@ impl PackageReq {
     pub fn from_str(alloc: Global, text: &str) -> Result<PackageReq, PackageReqParseError>
         ensures read { IfOk result (λ req. IsPackageOutcome Specifier text.now (Ok req)) }
         ensures rejected { IfErr result (IsPackageRejection Specifier text.now) }
-        ensures answer { (outcome : Result PackageReq Fault)
+        ensures answer { (outcome : Result PackageReq PackageFault)
             → IsPackageOutcome Specifier text.now outcome
             → IsPackageAnswer Specifier text.now outcome result }
     {
@@ -216,7 +217,7 @@ impl PackageReq {
     pub fn from_str_loose(alloc: Global, text: &str) -> Result<PackageReq, PackageReqParseError>
         ensures read { IfOk result (λ req. IsPackageOutcome Npm text.now (Ok req)) }
         ensures rejected { IfErr result (IsPackageRejection Npm text.now) }
-        ensures answer { (outcome : Result PackageReq Fault)
+        ensures answer { (outcome : Result PackageReq PackageFault)
             → IsPackageOutcome Npm text.now outcome
             → IsPackageAnswer Npm text.now outcome result }
     {
@@ -231,7 +232,7 @@ impl PackageReq {
     ) -> Result<PackageReq, PackageReqParseError>
         ensures read { IfOk result (λ req. IsPackageOutcome Normal text.now (Ok req)) }
         ensures rejected { IfErr result (IsPackageRejection Normal text.now) }
-        ensures answer { (outcome : Result PackageReq Fault)
+        ensures answer { (outcome : Result PackageReq PackageFault)
             → IsPackageOutcome Normal text.now outcome
             → IsPackageAnswer Normal text.now outcome result }
     {

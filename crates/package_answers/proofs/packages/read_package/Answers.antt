@@ -1,5 +1,5 @@
 use Rattle.std.proofs.Common.{◌≡◌, Ok, Err, None, ap}
-use Rattle.deno_semver.specs.PackageOutcome.{Fault, IsOutOfMemory, IsPackageOutcome}
+use Rattle.deno_semver.specs.PackageOutcome.{PackageFault, IsOutOfMemory, IsPackageOutcome}
 use Rattle.deno_semver.specs.declared.package.values.PackageReq.{PackageReq}
 use Rattle.answers.specs.declared.asking.Kind.TheVariants as kinds
 use Rattle.answers.proofs.ReadArguments.{by_rejection, was_not_parsed, was_parsed}
@@ -9,7 +9,7 @@ use Rattle.package_answers.proofs.packages.read_package.Goals as goal
 
 pub returns-in-Ok-clause-answer : goal.returns-in-Ok-clause-answer
 returns-in-Ok-clause-answer c =
-    was_parsed kinds.Package 0 (IsPackageOutcome c.args.flavour c.args.text.now) c.in-Ok.req c.in-Ok.ensures.read (λ (r : PackageReq) o. c.in-Ok.ensures.answer (Ok r) o) (λ (fault : Fault) o. c.in-Ok.ensures.answer (Err fault) o)
+    was_parsed kinds.Package 0 (IsPackageOutcome c.args.flavour c.args.text.now) c.in-Ok.req c.in-Ok.ensures.read (λ (r : PackageReq) o. c.in-Ok.ensures.answer (Ok r) o) (λ (fault : PackageFault) o. c.in-Ok.ensures.answer (Err fault) o)
 
 pub returns-in-Err-clause-answer : goal.returns-in-Err-clause-answer
 returns-in-Err-clause-answer c =
