@@ -9,7 +9,7 @@ import subprocess
 import sys
 
 HERE = pathlib.Path(__file__).resolve().parent
-OUT = pathlib.Path(os.environ.get("OUT", HERE.parent / "out")) / "speed"
+OUT = pathlib.Path(os.environ.get("OUT", HERE.parent / "out")) / "rust-speed"
 MANIFEST = """[package]
 name = "{name}"
 version = "0.1.0"
