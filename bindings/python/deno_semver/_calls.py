@@ -115,7 +115,7 @@ def wrong_type(value: Any, name: str, wanted: str) -> NoReturn:
 def encoded(text: Any, name: str, error: Type[SemverError], index: Optional[int] = None) -> bytes:
     """The bytes of a text."""
     if not isinstance(text, str):
-        wrong_type(text, name, "str")
+        wrong_type(text, name if index is None else f"{name}[{index}]", "str")
     try:
         return text.encode()
     except UnicodeEncodeError as invalid:

@@ -44,7 +44,7 @@ def _versions(versions: Iterable[V]) -> Tuple[List[V], bytes]:
     if isinstance(versions, (str, Version)):
         raise TypeError(f"versions must be an iterable of versions, not {type(versions).__name__}")
     listed = list(versions)
-    return listed, _lines(_version_text(version, f"versions[{index}]", index) for index, version in enumerate(listed))
+    return listed, _lines(_version_text(version, "versions", index) for index, version in enumerate(listed))
 
 
 def matches(range: AnyRange, version: AnyVersion, *, grammar: Optional[str] = None, pre_releases: bool = False) -> bool:
