@@ -57,8 +57,8 @@ class Crate:
         searched = [f"{folder}/rlibs", *(it.rlib.parent for it in self.below())]
         return [
             *("--crate-name", self.name, root, "--links", f"{self.name}="),
-            *(word for it in externs for word in ("--extern", it)),
-            *(word for it in searched for word in ("-L", f"dependency={it}")),
+            *(argument for it in externs for argument in ("--extern", it)),
+            *(argument for it in searched for argument in ("-L", f"dependency={it}")),
             *("--antt-project", f"{folder}/rattle/logic/antt-project.json", "--logic-built", f"{folder}/logic_built"),
             *("--crate-type", "staticlib") * self.is_static,
         ]
