@@ -10,6 +10,7 @@ import shutil
 import sys
 
 TOP = pathlib.Path(__file__).resolve().parents[1]
+sys.dont_write_bytecode = True
 sys.path.insert(0, str(TOP / "bindings"))
 import library
 
