@@ -163,6 +163,14 @@ pub fn overlap<O: Write, E: Write>(
     }
 }
 
+// Two texts as JSON.
+fn pair_json(alloc: Global, one: &str, other: &str) -> Result<Value, AllocError> {
+    let mut items = Vec::new(alloc);
+    items.push(Value::try_from_str(alloc, one)?)?;
+    items.push(Value::try_from_str(alloc, other)?)?;
+    Ok(Value::Array(items))
+}
+
 fn print_overlap<O: Write, E: Write>(
     console: &mut Console<O, E>,
     apart: Option<(&str, &str)>,
@@ -171,12 +179,7 @@ fn print_overlap<O: Write, E: Write>(
         let alloc = console.alloc;
         let json = Object::new(alloc).put("overlap", Ok(Value::Bool(apart.is_none())));
         let json = match apart {
-            Some((one, other)) => {
-                let mut items = Vec::new(alloc);
-                items.push(Value::try_from_str(alloc, one)?)?;
-                items.push(Value::try_from_str(alloc, other)?)?;
-                json.put("apart", Ok(Value::Array(items)))
-            }
+            Some((one, other)) => json.put("apart", pair_json(alloc, one, other)),
             None => json,
         };
         console.json(json.into_json())?;
