@@ -1,16 +1,14 @@
 -- The best match of lines, some of which have no version.
-use Rattle.std.proofs.Common.{◌≡◌, ◌++◌, [], ◌∷◌, ℕ, List, Bool, Option, Some, None, Bor, refl}
+use Rattle.std.proofs.Common.{◌≡◌, ℕ, List, Bool, Option, Some, None, Bor, refl, is_lt}
 use Rattle.std.proofs.lemmas.List.MinMax.{IsStrictWeakOrder-flip, ranks_by}
 use Rattle.std.specs.Cmp.{IsStrictWeakOrder}
 use Rattle.std.specs.Cmp.Lexicographic.{options_total}
 use Rattle.std.specs.Option.{option_cmp}
-use Rattle.std.specs.Ordering.{is_lt}
 use Rattle.semver_base.specs.Precedence.{precedence_cmp}
 use Rattle.semver_base.specs.PrecedenceLaws.{precedence_total}
-use Rattle.semver_req.proofs.BestMatches.{IsKnown, stays}
 use Rattle.semver_base.specs.declared.version.Version.{Version}
 use Rattle.semver_req.specs.ResolveSteps.{exceeds, known_of}
-use Rattle.answers.specs.Filtering.{better_line, line_passes}
+use Rattle.answers.specs.Filtering.{better_line}
 use Rattle.answers.specs.Questions.{better}
 use Rattle.answers.specs.declared.questions.End.{End}
 use Rattle.answers.specs.declared.questions.End.TheVariants.{Highest, Lowest}
@@ -35,8 +33,3 @@ pub line_exceeds : (end : End) (v : Version) (known : Option (ℕ × Bor Version
 line_exceeds end v None = refl
 line_exceeds Highest v (Some known) = refl
 line_exceeds Lowest v (Some known) = refl
-
--- a line without a version changes nothing
-pub line_stays : (end : End) (test : Version → Bool) (lines : List (Option Version)) (known : Option (ℕ × Option Version)) → IsKnown (better_line end) (line_ranks end) (line_passes test) lines known
-    → IsKnown (better_line end) (line_ranks end) (line_passes test) (lines ++ None ∷ []) known
-line_stays end test lines known h = stays (better_line end) (line_ranks end) (line_passes test) lines known None h refl

@@ -1,6 +1,5 @@
 -- The JSON of errors and explanations.
-use Rattle.std.proofs.Common.{◌≡◌, ◌∙◌, ◌++◌, ℕ, Bool, true, false, List, [], ◌∷◌, Err, Result, ap, append-nil, inl, inr, map, refl, subst, sym}
-use Rattle.std.specs.Prelude.{◌⊎◌, codes, if◌then◌else◌}
+use Rattle.std.proofs.Common.{◌≡◌, ◌∙◌, ◌++◌, ℕ, Bool, true, false, List, [], ◌∷◌, Err, Result, ap, append-nil, inl, inr, map, refl, subst, sym, ◌⊎◌, codes, if◌then◌else◌}
 use Rattle.serde_json.specs.Data.{Data, string}
 use Rattle.semver_base.specs.declared.range.PreRelease.{PreRelease}
 use Rattle.semver_req.specs.declared.common.values.Flavour.{Flavour}

@@ -1,6 +1,5 @@
 -- JSON without floats, whose text is the compact one.
-use Rattle.std.proofs.Common.{◌≡◌, ◌∙◌, ◌||◌, ℕ, List, [], ◌∷◌, false, map, refl, ap, Option, Some, None}
-use Rattle.std.specs.Prelude.{string_bytes}
+use Rattle.std.proofs.Common.{◌≡◌, ◌∙◌, ◌||◌, ℕ, List, [], ◌∷◌, false, map, refl, ap, Option, Some, None, string_bytes}
 use Rattle.std.specs.Str.{trim}
 use Rattle.serde_json.specs.Data.{string}
 use Rattle.serde_json.specs.View.{items_of}

@@ -1,18 +1,17 @@
 -- Versions with their places: only one arrangement is ascending.
-use Rattle.std.proofs.Common.{◌≡◌, ◌+◌, ◌<◌, ℕ, suc, Bool, List, [], ◌∷◌, ◌++◌, get_or, length, map, take, Option, None, Some, Equal, IsPermutation, IsSorted, IsSortedBy, Ok, refl, sym, ap, arith, inr, ◌∙◌}
+use Rattle.std.proofs.Common.{◌≡◌, ◌+◌, ◌<◌, ℕ, suc, Bool, List, [], ◌∷◌, ◌++◌, get_or, length, map, take, Option, None, Some, Equal, IsPermutation, IsSortedBy, Ok, refl, sym, ap, arith, inr, ◌∙◌, is_lt, nat_cmp}
 use Rattle.std.proofs.lemmas.Cmp.{nat_cmp_total, tied_itself}
 use Rattle.std.proofs.lemmas.List.{get_or-map, length-map, length-take-le, map-append, take_more}
 use Rattle.std.proofs.lemmas.List.MinMax.{ranks_by}
 use Rattle.std.proofs.lemmas.List.Sorted.{IsPermutation-map, IsPermutation-sym, IsPermutation-trans}
 use Rattle.std.specs.Cmp.{IsStrictWeakOrder, IsTotalOrder, back_total, on_total, then_total}
 use Rattle.std.specs.FinMap.{nat_cmp-IsAntisymmetric}
-use Rattle.std.specs.Ordering.{is_lt, nat_cmp}
-use Rattle.semver_req.proofs.ListOrder.{Tie, sorted_ties}
+use Rattle.semver_req.specs.Ascending.{AscendingArrangementsTie, Tie}
 use Rattle.semver_base.specs.PrecedenceLaws.{precedence_total, then_second}
 use Rattle.answers.specs.Asking.{IsOutcomeOf}
-use Rattle.answers.proofs.Givens.{as_value}
+use Rattle.answers.specs.AskingLaws.{as_value}
 use Rattle.semver_base.specs.declared.version.Version.{Version}
-use Rattle.answers.specs.Sorting.{AreSortedPlaces, SortedPlaces, Standing, order_cmp, standing, standing_cmp, standing_from, standing_lines}
+use Rattle.answers.specs.Sorting.{AreOnlySortedPlaces, AreSortedPlaces, SortedPlaces, Standing, order_cmp, standing, standing_cmp, standing_from, standing_lines}
 use Rattle.answers.specs.declared.sorting.Placed.{Placed}
 use Rattle.answers.specs.declared.sorting.Order.{Order}
 use Rattle.answers.specs.declared.sorting.Order.TheVariants.{Ascending, Descending}
@@ -108,23 +107,23 @@ module _ (order : Order) where
   one_place : (a b : Standing) → standing_cmp order a b ≡ Equal → a.1 ≡ b.1
   one_place a b e = nat_cmp-IsAntisymmetric a.1 b.1 (then_second (order_cmp order a.0 b.0) (nat_cmp a.1 b.1) e)
 
-  ties_places : (xs ys : List Standing) → Tie (standing_cmp order) standing_total xs ys → map (λ (s : Standing). s.1) xs ≡ map (λ (s : Standing). s.1) ys
+  ties_places : (xs ys : List Standing) → Tie (standing_cmp order) xs ys → map (λ (s : Standing). s.1) xs ≡ map (λ (s : Standing). s.1) ys
   ties_places [] [] h = refl
   ties_places [] (y ∷ ys) h = absurd h
   ties_places (x ∷ xs) [] h = absurd h
   ties_places (x ∷ xs) (y ∷ ys) h = rw (one_place x y h.0, ties_places xs ys h.1) refl
 
-  ties_self : (xs : List Standing) → Tie (standing_cmp order) standing_total xs xs
+  ties_self : (xs : List Standing) → Tie (standing_cmp order) xs xs
   ties_self [] = tt
   ties_self (x ∷ xs) = (tied_itself standing_total x, ties_self xs)
 
   -- two ascending arrangements of the same list have the same places
-  one_order : (base xs ys : List Standing) → IsPermutation base xs → IsSorted (standing_cmp order) xs → IsPermutation base ys → IsSorted (standing_cmp order) ys → map (λ (s : Standing). s.1) ys ≡ map (λ (s : Standing). s.1) xs
-  one_order base xs ys p h q k =
-      ties_places ys xs (sorted_ties (standing_cmp order) standing_total xs xs ys h (ties_self xs) (IsPermutation-trans xs base ys (IsPermutation-sym base xs p) q) k)
+  pub only_places : AscendingArrangementsTie Standing → (versions : List Standing) (places : List ℕ) → AreSortedPlaces order versions places → AreOnlySortedPlaces order versions places
+  only_places tie versions places h others k =
+      let moved = IsPermutation-trans h.sorted versions k.sorted (IsPermutation-sym versions h.sorted h.same) k.same in
+      let tied = tie (standing_cmp order) standing_total h.sorted h.sorted k.sorted h.ascends (ties_self h.sorted) moved k.ascends in
+      k.places_are ∙ ties_places k.sorted h.sorted tied ∙ sym h.places_are
 
-  pub places_answer : {P : Type 0} (memory : P) (versions : List Standing) (places : List ℕ) → AreSortedPlaces order versions places → IsOutcomeOf memory (SortedPlaces order versions) (Ok places)
-  places_answer memory versions places h = record {
-    is = inr (places, h, refl);
-    only = λ o a. inr (ap as_value (h.places_are ∙ one_order versions a.1.sorted h.sorted a.1.same a.1.ascends h.same h.ascends ∙ sym a.1.places_are) ∙ sym a.2);
-  }
+-- the places are the outcome
+pub places_answer : {P : Type 0} (order : Order) (memory : P) (versions : List Standing) (places : List ℕ) → AreSortedPlaces order versions places → AreOnlySortedPlaces order versions places → IsOutcomeOf memory (SortedPlaces order versions) (Ok places)
+places_answer order memory versions places h only = record { is = inr (places, h, refl); only = λ o a. inr (ap as_value (sym (only a.0 a.1)) ∙ sym a.2) }

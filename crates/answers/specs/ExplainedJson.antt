@@ -1,6 +1,5 @@
 -- Explanations as JSON.
-use Rattle.std.specs.Prelude.{◌≡◌, ◌++◌, ◌==◌, ◌&&◌, ℕ, Bool, not, List, [], ◌∷◌, Option, Some, None, Result, Ok, Err, codes, length, map, string_bytes, if◌then◌else◌}
-use Rattle.std.specs.Fmt.{decimal}
+use Rattle.std.specs.Prelude.{◌≡◌, ◌++◌, ◌==◌, ◌&&◌, ℕ, Bool, not, List, [], ◌∷◌, Option, Some, None, Result, Ok, Err, codes, length, map, string_bytes, if◌then◌else◌, decimal}
 use Rattle.std.specs.Str.{trim}
 use Rattle.serde_json.specs.Data.{Data, array, member, no_members, null, object, string}
 use Rattle.serde_json.specs.View.{items_of}

@@ -8,3 +8,5 @@ pub mod Sorting
 pub mod Errors
 pub mod ExplainedJson
 pub mod Object
+pub mod AskingLaws
+pub mod ReadingLaws

@@ -1,5 +1,5 @@
 -- The parts of versions and ranges, as JSON.
-use Rattle.std.specs.Prelude.{ℕ, Bool, true, false, List, Result, codes, map}
+use Rattle.std.specs.Prelude.{ℕ, Bool, true, false, List, Result, codes, map, decimal}
 use Rattle.serde_json.specs.Data.{Data, array, boolean, member, no_members, null, object, string}
 use Rattle.serde_json.specs.View.{items_of}
 use Rattle.serde_json.specs.Written.{compact_text}
@@ -13,7 +13,6 @@ use Rattle.semver_base.specs.declared.version.Version.{Version}
 use Rattle.semver_req.specs.declared.common.values.Flavour.{Flavour}
 use Rattle.semver_req.specs.declared.range_set_or_tag.RangeSetOrTag.{RangeSetOrTag}
 use Rattle.semver_req.specs.declared.range_set_or_tag.RangeSetOrTag.TheVariants as inner
-use Rattle.std.specs.Fmt.{decimal}
 use Rattle.answers.specs.Asking.{Fault, Given, Is}
 use Rattle.answers.specs.Reading.{IsRangeAt, IsVersionAt}
 use Rattle.answers.specs.declared.asking.Answer.{Answer}

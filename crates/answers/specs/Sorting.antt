@@ -1,6 +1,5 @@
 -- The order of several versions.
-use Rattle.std.specs.Prelude.{◌≡◌, ◌+◌, ℕ, List, [], ◌∷◌, map, Option, None, Some, Result, Ok}
-use Rattle.std.specs.List.Sorted.{IsPermutation, IsSorted}
+use Rattle.std.specs.Prelude.{◌≡◌, ◌+◌, ℕ, List, [], ◌∷◌, map, Option, None, Some, Result, Ok, IsPermutation, IsSorted}
 use Rattle.std.specs.Ordering.{nat_cmp, on, then_cmp}
 use Rattle.std.specs.declared.cmp.Ordering.{Ordering}
 use Rattle.semver_base.specs.Precedence.{precedence_cmp}
@@ -44,6 +43,11 @@ pub record AreSortedPlaces (order : Order) (versions : List Standing) (places : 
   pub same : IsPermutation versions sorted
   pub ascends : IsSorted (standing_cmp order) sorted
   pub places_are : places ≡ map (λ s. s.1) sorted
+
+-- no other places are
+abbrev pub AreOnlySortedPlaces : Order → List Standing → List ℕ → Type 0
+AreOnlySortedPlaces order versions places =
+    (others : List ℕ) → AreSortedPlaces order versions others → others ≡ places
 
 abbrev pub SortedPlaces : {P : Type 0} → Order → List Standing → Result (List ℕ) P → Type 0
 SortedPlaces order versions outcome = (places : List ℕ) × AreSortedPlaces order versions places × (outcome ≡ Ok places)

@@ -6,11 +6,12 @@ ghost use Rattle.semver_base.specs.VersionGrammar.{IsVersionRejection};
 ghost use Rattle.answers.specs.Asking.{IsAnswer};
 ghost use Rattle.answers.specs.Reading.{IsFailureAmong, texts_of};
 ghost use Rattle.answers.specs.declared.asking.Kind.TheVariants as kind;
-ghost use Rattle.answers.specs.Sorting.{AreSortedPlaces, Sorts, standing, standing_cmp, standing_from, standing_lines};
+ghost use Rattle.answers.specs.Sorting.{AreOnlySortedPlaces, AreSortedPlaces, Sorts, standing, standing_cmp, standing_from, standing_lines};
 
 use crate::asking::Problem;
 use crate::reading::versions;
 use semver_base::version::Version;
+use semver_req::laws::ascending_arrangements_tie;
 use std::alloc::{AllocError, Global};
 use std::cmp::Ordering;
 
@@ -47,9 +48,12 @@ fn places_in_order(
     mut all: Vec<Placed<'_>>,
     order: Order,
 ) -> Result<Vec<usize>, AllocError>
-    ensures { IfOk result
+    ensures sorted { IfOk result
         (λ places. AreSortedPlaces order (map standing all.entry.items) places.items) }
+    ensures only { IfOk result
+        (λ places. AreOnlySortedPlaces order (map standing all.entry.items) places.items) }
 {
+    ascending_arrangements_tie::<(Version, usize)>();
     all.sort_by(|one, other| order.compare(one, other))?;
     let sorted = all.as_slice();
     let mut places = Vec::new(alloc);
@@ -66,8 +70,10 @@ pub fn sorted_places(
     versions: Vec<Version>,
     order: Order,
 ) -> Result<Vec<usize>, AllocError>
-    ensures { IfOk result
+    ensures sorted { IfOk result
         (λ places. AreSortedPlaces order (standing_from 0 versions.items) places.items) }
+    ensures only { IfOk result
+        (λ places. AreOnlySortedPlaces order (standing_from 0 versions.items) places.items) }
 {
     let listed = versions.as_slice();
     let mut all = Vec::new(alloc);
@@ -83,8 +89,10 @@ pub fn sorted_lines(
     lines: &[Option<Version>],
     order: Order,
 ) -> Result<Vec<usize>, AllocError>
-    ensures { IfOk result
+    ensures sorted { IfOk result
         (λ places. AreSortedPlaces order (standing_lines 0 lines.now) places.items) }
+    ensures only { IfOk result
+        (λ places. AreOnlySortedPlaces order (standing_lines 0 lines.now) places.items) }
 {
     let mut all = Vec::new(alloc);
     for (place, line) in lines.iter().enumerate() {

@@ -1,8 +1,7 @@
 -- What the entry of a locked requirement parses to, from the contracts of its JSON.
-use Rattle.std.proofs.Common.{◌≡◌, List, [], ◌∷◌, All, Result, Ok, Err, refl, sym, ap, subst, ◌∙◌}
+use Rattle.std.proofs.Common.{◌≡◌, List, [], ◌∷◌, All, Result, Ok, Err, refl, sym, ap, subst, ◌∙◌, IsErrAnd}
 use Rattle.std.proofs.lemmas.List.Elements.{All-cons, All-nil}
 use Rattle.std.proofs.lemmas.List.Sorted.{All-permutation}
-use Rattle.std.specs.Result.{IsErrAnd}
 use Rattle.callers.specs.Allowance.{allowance_of, yes_or_no}
 use Rattle.callers.specs.Lockfile.{IsLockedList, KeepsMeaning, Locks}
 use Rattle.deno_semver.specs.JsonAnswers.{IsJsonAnswer}

@@ -1,7 +1,6 @@
 -- The result for the text of a reference and the text of a version, from their parsers' results.
-use Rattle.std.proofs.Common.{◌≡◌, ℕ, Bool, true, false, List, [], ◌∷◌, ◌++◌, Some, None, Result, Ok, Err, inl, refl, sym, subst, ap, ap₂, ◌∙◌}
+use Rattle.std.proofs.Common.{◌≡◌, ℕ, Bool, true, false, List, [], ◌∷◌, ◌++◌, Some, None, Result, Ok, Err, inl, refl, sym, subst, ap, ap₂, ◌∙◌, ◌||◌, bytes_eq, codes, if◌then◌else◌}
 use Rattle.std.specs.List.{list_all}
-use Rattle.std.specs.Prelude.{◌||◌, bytes_eq, codes, if◌then◌else◌}
 use Rattle.std.specs.Str.{trim}
 use Rattle.std.proofs.lemmas.Bool.{and_parts}
 use Rattle.callers.specs.Allowance.{allowance_of, yes_or_no}
@@ -33,7 +32,7 @@ use Rattle.deno_semver.specs.declared.package.errors.PackageReqReferenceParseErr
 
 no_such : (stop : ℕ) (before rest : List ℕ) → list_all (is_not stop) (before ++ (stop ∷ rest)) ≡ true → is_not stop stop ≡ false → ⊥
 no_such stop [] rest h is = cc (rw is at h)
-no_such stop (b ∷ before) rest h is = no_such stop before rest ((and_parts (is_not stop b) _ h).1) is
+no_such stop (b ∷ before) rest h is = no_such stop before rest (and_parts (is_not stop b) _ h).1 is
 
 named : (b : Bool) (path other : List ℕ) → (if b then None else Some path) ≡ Some other → path ≡ other
 named true path other h = cc h

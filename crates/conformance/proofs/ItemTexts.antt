@@ -1,9 +1,7 @@
 -- What `==` of items says about their texts.
-use Rattle.std.proofs.Common.{◌≡◌, List, [], ◌∷◌, map, Option, Some, None, String, string_bytes, refl, ap, ap₂}
+use Rattle.std.proofs.Common.{◌≡◌, List, [], ◌∷◌, map, Option, Some, None, String, string_bytes, refl, ap, ap₂, Decides, string_eq}
 use Rattle.std.specs.Cmp.Lexicographic.{pointwise}
-use Rattle.std.specs.Bool.{Decides}
 use Rattle.std.specs.Option.{option_eq}
-use Rattle.std.specs.String.{string_eq}
 use Rattle.std.specs.declared.alloc.Global.{Global}
 use Rattle.semver_base.specs.Sameness.{both_reported, text_reported, reported_as}
 use Rattle.conformance.specs.RowAnswer.{item_text}

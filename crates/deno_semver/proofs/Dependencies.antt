@@ -1,6 +1,5 @@
 -- A text parses to one dependency or has one fault, and which fault an error reports.
-use Rattle.std.proofs.Common.{◌≡◌, ◌==◌, ◌++◌, ℕ, List, true, false, Result, Ok, Err, get_or, refl, sym, ap, ap₂, subst, ◌∙◌, inl, inr}
-use Rattle.std.specs.Prelude.{◌⊎◌}
+use Rattle.std.proofs.Common.{◌≡◌, ◌==◌, ◌++◌, ℕ, List, true, false, Result, Ok, Err, get_or, refl, sym, ap, ap₂, subst, ◌∙◌, inl, inr, ◌⊎◌}
 use Rattle.std.proofs.lemmas.List.{append_cancel_left}
 use Rattle.semver_req.specs.declared.common.values.Flavour.{Flavour}
 use Rattle.deno_semver.specs.DependencyOutcome.{BadRequirement, DependencyFault, IsDependencyAnswer, IsDependencyOutcome, IsDependencyRejection, IsOfPackageError, IsReportedScheme, OtherScheme, ReportsDependency, bad_requirement, is_dependency, other_scheme}

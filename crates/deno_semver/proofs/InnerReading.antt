@@ -1,6 +1,5 @@
 -- A text parses in one way to ranges or a tag, and in none if it is invalid.
-use Rattle.std.proofs.Common.{◌≡◌, ◌∙◌, ℕ, List, Bool, None, sym, inl, inr}
-use Rattle.std.specs.Prelude.{◌⊎◌, ◌↔◌, IsTrue}
+use Rattle.std.proofs.Common.{◌≡◌, ◌∙◌, ℕ, List, Bool, None, sym, inl, inr, ◌⊎◌, ◌↔◌, IsTrue}
 use Rattle.semver_req.specs.Outcome.{IsOutcome, Outcome, Ranges, Tag, Rejected, TextsHaveOneOutcome}
 use Rattle.semver_req.specs.Parsers.{Failure, IsRead, IsReading}
 use Rattle.semver_req.specs.declared.common.values.Flavour.{Flavour}

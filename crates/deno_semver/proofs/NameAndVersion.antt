@@ -1,19 +1,16 @@
 -- How a text splits into a name and version, in one way.
-use Rattle.std.proofs.Common.{◌≡◌, ◌≤◌, ◌<◌, ◌==◌, ℕ, true, false, List, [], ◌∷◌, ◌++◌, length, take, drop, get_or, Option, None, Result, Ok, Err, refl, sym, ap, ap₂, subst, ◌∙◌, arith, inl, inr, add-one, length-append}
-use Rattle.std.specs.Borrow.{Bor}
-use Rattle.std.specs.Prelude.{◌⊎◌}
+use Rattle.std.proofs.Common.{◌≡◌, ◌≤◌, ◌<◌, ◌==◌, ℕ, true, false, List, [], ◌∷◌, ◌++◌, length, take, drop, get_or, Option, None, Result, Ok, Err, refl, sym, ap, ap₂, subst, ◌∙◌, arith, inl, inr, add-one, length-append, Bor, ◌⊎◌}
 use Rattle.std.specs.List.{list_all, take_while}
 use Rattle.std.specs.Str.{IsCharBoundary, trim}
 use Rattle.std.proofs.lemmas.Bool.Decides.{nat_tests}
 use Rattle.std.proofs.lemmas.List.{nil_from_length}
 use Rattle.semver_base.specs.Failure.{message_of}
-use Rattle.semver_base.specs.Grammar.{CutsRun, Stops}
+use Rattle.semver_base.specs.Grammar.{CountedRunsAreCut, CutsRun, Stops}
 use Rattle.semver_base.specs.VersionGrammar.{IsVersionAnswer, IsVersionOutcome, IsVersionRejection, version_failure}
 use Rattle.semver_base.specs.VersionText.{VersionTextsHaveOneOutcome}
 use Rattle.semver_base.specs.declared.failure.Rejection.{Rejection}
 use Rattle.semver_base.specs.declared.failure.Rejection.TheVariants.{UnexpectedCharacter}
 use Rattle.semver_base.specs.declared.version.Version.{Version}
-use Rattle.semver_base.proofs.Numbers.{cuts_run}
 use Rattle.deno_semver.specs.Cuts.{is_not}
 use Rattle.deno_semver.specs.NameAndVersion.{IsNoNvText, IsNvAnswer, IsNvFront, IsNvMemory, IsNvName, IsNvOutcome, IsNvRejection, IsNvText, ReportsNvFault, is_bad, is_bad_version, is_followed, is_front, is_nv, is_uncut, is_version_byte}
 use Rattle.deno_semver.specs.NameAndVersionSteps.{IsFrontAnswer, IsFrontRejection, ReportsFailure, name_len}
@@ -49,12 +46,16 @@ pub record IsNameCut (text name rest : List ℕ) : Type 0 where
   pub name_is : 0 < length text → IsNvName name
   pub ends : Stops (is_not 64) rest
 
-pub name_cut : (xs name rest : List ℕ) (n : ℕ) → n ≡ name_len xs → name ≡ take n xs → rest ≡ drop n xs → IsNameCut xs name rest
-name_cut [] name rest n e f g = rw (f, g, e) (record { text_is = refl; name_is = λ h. absurd (omega (arith, h)); ends = tt })
-name_cut (x ∷ xs) name rest n e f g =
-    let m = length (take_while (is_not 64) xs) in
-    let run = cuts_run (is_not 64) xs (take m xs) (drop m xs) m refl refl refl in
-    rw (f, g, e, add-one m) (record { text_is = ap (λ t. x ∷ t) run.text_is; name_is = λ h. run.pass; ends = run.stops })
+module _ (runs : CountedRunsAreCut) where
+  pub name_cut : (xs name rest : List ℕ) (n : ℕ) → n ≡ name_len xs → name ≡ take n xs → rest ≡ drop n xs → IsNameCut xs name rest
+  name_cut [] name rest n e f g = rw (f, g, e) (record { text_is = refl; name_is = λ h. absurd (omega (arith, h)); ends = tt })
+  name_cut (x ∷ xs) name rest n e f g =
+      let m = length (take_while (is_not 64) xs) in
+      let run = runs (is_not 64) xs in
+      rw (f, g, e, add-one m) (record { text_is = ap (λ t. x ∷ t) run.text_is; name_is = λ h. run.pass; ends = run.stops })
+
+  pub version_cut : (xs version rest : List ℕ) (n : ℕ) → n ≡ length (take_while is_version_byte xs) → version ≡ take n xs → rest ≡ drop n xs → CutsRun is_version_byte xs version rest
+  version_cut xs version rest n e f g = rw (f, g, e) (runs is_version_byte xs)
 
 -- ---- one split
 

@@ -1,7 +1,5 @@
 -- A text parses to one reference to a version or has one fault, and the text of a parsed reference parses to it.
-use Rattle.std.proofs.Common.{◌≡◌, ◌==◌, ◌++◌, ◌∷◌, [], ℕ, List, Option, None, Some, Result, Ok, Err, refl, sym, ap, subst, ◌∙◌, inl, inr, append_assoc}
-use Rattle.std.specs.Prelude.{◌⊎◌}
-use Rattle.std.specs.Borrow.{Bor}
+use Rattle.std.proofs.Common.{◌≡◌, ◌==◌, ◌++◌, ◌∷◌, [], ℕ, List, Option, None, Some, Result, Ok, Err, refl, sym, ap, subst, ◌∙◌, inl, inr, append_assoc, ◌⊎◌, Bor}
 use Rattle.std.proofs.lemmas.Bool.{cases_Bool, eqb-true}
 use Rattle.semver_base.specs.Grammar.{Stops}
 use Rattle.semver_base.specs.VersionText.{ReadsBack, VersionTextsHaveOneOutcome, version_text}

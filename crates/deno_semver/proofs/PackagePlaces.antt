@@ -1,6 +1,5 @@
 -- Where the version requirement of a package stands in its text.
-use Rattle.std.proofs.Common.{◌≡◌, ◌+◌, ◌-◌, ◌==◌, ℕ, Bool, true, false, List, [], ◌∷◌, ◌++◌, length, Option, None, Some, refl, sym, subst, ap, ◌∙◌, arith, inl, inr, append_assoc, length-append}
-use Rattle.std.specs.Prelude.{if◌then◌else◌}
+use Rattle.std.proofs.Common.{◌≡◌, ◌+◌, ◌-◌, ◌==◌, ℕ, Bool, true, false, List, [], ◌∷◌, ◌++◌, length, Option, None, Some, refl, sym, subst, ap, ◌∙◌, arith, inl, inr, append_assoc, length-append, if◌then◌else◌}
 use Rattle.deno_semver.specs.PackagePlaces.{IsRequirementAt, LacksRequirement}
 use Rattle.deno_semver.specs.PackageSteps.{IsCut, IsUncut}
 use Rattle.deno_semver.specs.PackageText.{IsAfterScope, IsNamePart, IsPackageText, PackageParts, without_slash}

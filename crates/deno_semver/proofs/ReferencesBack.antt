@@ -1,6 +1,5 @@
 -- The text of a parsed reference parses to it, and `*` is any version in the strict grammar.
-use Rattle.std.proofs.Common.{◌≡◌, ◌<◌, ◌==◌, ◌++◌, ◌∷◌, [], ℕ, Bool, true, false, List, Option, None, Some, Ok, length, refl, sym, ap, subst, ◌∙◌, arith, append-nil, append_assoc, nat_eq}
-use Rattle.std.specs.Prelude.{◌||◌, bytes_eq, codes}
+use Rattle.std.proofs.Common.{◌≡◌, ◌<◌, ◌==◌, ◌++◌, ◌∷◌, [], ℕ, Bool, true, false, List, Option, None, Some, Ok, length, refl, sym, ap, subst, ◌∙◌, arith, append-nil, append_assoc, nat_eq, ◌||◌, bytes_eq, codes}
 use Rattle.std.specs.Cmp.Lexicographic.{pointwise}
 use Rattle.std.specs.List.{list_all}
 use Rattle.std.proofs.lemmas.Bool.{and_parts}

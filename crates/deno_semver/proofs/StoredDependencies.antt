@@ -1,6 +1,5 @@
 -- What the stored canonical form of a dependency parsed by npm's grammar parses to.
-use Rattle.std.proofs.Common.{◌≡◌, ℕ, List, ◌++◌, Ok, refl, sym, subst, arith}
-use Rattle.std.specs.Prelude.{IsUtf8, codes}
+use Rattle.std.proofs.Common.{◌≡◌, ℕ, List, ◌++◌, Ok, refl, sym, subst, arith, IsUtf8, codes}
 use Rattle.serde_json.specs.Data.{string}
 use Rattle.semver_req.specs.declared.common.values.Flavour.TheVariants.{Npm}
 use Rattle.deno_semver.specs.DependencyText.{normal_dependency_text}

@@ -1,8 +1,6 @@
 -- What a stored list of package requirements parses to.
-use Rattle.std.proofs.Common.{◌≡◌, List, [], ◌∷◌, All, IsSorted, Result, Ok, Err, map, refl, ◌∙◌}
+use Rattle.std.proofs.Common.{◌≡◌, List, [], ◌∷◌, All, IsSorted, Result, Ok, Err, map, refl, ◌∙◌, MatchResult, IsErrAnd}
 use Rattle.std.proofs.lemmas.List.Elements.{All-head, All-tail}
-use Rattle.std.specs.Prelude.{MatchResult}
-use Rattle.std.specs.Result.{IsErrAnd}
 use Rattle.serde_json.specs.Data.{string}
 use Rattle.serde_json.specs.View.{items_of}
 use Rattle.deno_semver.specs.Equal.{AreEqualReqs}
@@ -15,7 +13,7 @@ use Rattle.deno_semver.specs.StoredList.{AreEqualLists, IsNpmReq, IsSortedFrom, 
 use Rattle.deno_semver.specs.declared.json.JsonError.{JsonError}
 use Rattle.deno_semver.specs.declared.json.JsonError.TheVariants as error
 use Rattle.deno_semver.specs.declared.package.values.PackageReq.{PackageReq}
-use Rattle.semver_req.proofs.ListOrder.{Tie, sorted_ties}
+use Rattle.semver_req.specs.Ascending.{AscendingArrangementsTie, Tie}
 
 -- the exit of a `?` when out of memory
 pub exit_memory : {T : Type 0} (Says : T → Type 0) (r : Result T JsonError) (e : JsonError) → IsErrAnd r (λ f. f ≡ e) → e ≡ error.Memory → MatchResult r Says (λ f. f ≡ error.Memory)
@@ -66,18 +64,18 @@ stable_list reqs h =
 
 -- ---- the order
 
-tie_of : (xs ys : List PackageReq) → AreEqualLists xs ys → Tie req_cmp req_total xs ys
+tie_of : (xs ys : List PackageReq) → AreEqualLists xs ys → Tie req_cmp xs ys
 tie_of [] [] h = tt
 tie_of [] (y ∷ ys) h = absurd h
 tie_of (x ∷ xs) [] h = absurd h
 tie_of (x ∷ xs) (y ∷ ys) h = (same_req x y h.0, tie_of xs ys h.1)
 
-of_tie : (xs ys : List PackageReq) → Tie req_cmp req_total xs ys → AreEqualLists xs ys
+of_tie : (xs ys : List PackageReq) → Tie req_cmp xs ys → AreEqualLists xs ys
 of_tie [] [] h = tt
 of_tie [] (y ∷ ys) h = absurd h
 of_tie (x ∷ xs) [] h = absurd h
 of_tie (x ∷ xs) (y ∷ ys) h = (req_same x y h.0, of_tie xs ys h.1)
 
 -- what is sorted from a list equal to an ascending one is equal to the ascending one
-pub sorted_equal : (reqs stored sorted : List PackageReq) → IsSorted req_cmp reqs → AreEqualLists stored reqs → IsSortedFrom stored sorted → AreEqualLists sorted reqs
-sorted_equal reqs stored sorted h equal k = of_tie sorted reqs (sorted_ties req_cmp req_total reqs stored sorted h (tie_of stored reqs equal) k.same k.ascending)
+pub sorted_equal : AscendingArrangementsTie PackageReq → (reqs stored sorted : List PackageReq) → IsSorted req_cmp reqs → AreEqualLists stored reqs → IsSortedFrom stored sorted → AreEqualLists sorted reqs
+sorted_equal ties reqs stored sorted h equal k = of_tie sorted reqs (ties req_cmp req_total reqs stored sorted h (tie_of stored reqs equal) k.same k.ascending)

@@ -1,7 +1,6 @@
 -- What the text of a JSR package's dependency parses to, and why it is rejected. Source: the crate `deno_semver`.
-use Rattle.std.specs.Prelude.{◌≡◌, ◌++◌, ◌⊎◌, ℕ, List, Option, Result, Ok, Err, MatchOption, MatchResult, IsErrAnd, string_bytes}
+use Rattle.std.specs.Prelude.{◌≡◌, ◌++◌, ◌⊎◌, ℕ, List, Option, Result, Ok, Err, MatchOption, MatchResult, IsErrAnd, string_bytes, take_while}
 use Rattle.std.specs.Borrow.{Bor}
-use Rattle.std.specs.List.{take_while}
 use Rattle.semver_base.specs.Characters.{colon}
 use Rattle.semver_req.specs.declared.common.values.Flavour.{Flavour}
 use Rattle.deno_semver.specs.Cuts.{is_not}

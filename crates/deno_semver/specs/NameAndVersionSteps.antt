@@ -1,7 +1,6 @@
 -- The steps of parsing names with versions.
-use Rattle.std.specs.Prelude.{◌≡◌, ◌+◌, ◌∷◌, ◌⊎◌, [], ℕ, List, length, Option, None, Result, Ok, Err, MatchResult, IsErrAnd}
+use Rattle.std.specs.Prelude.{◌≡◌, ◌+◌, ◌∷◌, ◌⊎◌, [], ℕ, List, length, Option, None, Result, Ok, Err, MatchResult, IsErrAnd, take_while}
 use Rattle.std.specs.Borrow.{Bor}
-use Rattle.std.specs.List.{take_while}
 use Rattle.semver_base.specs.Characters.{at_sign}
 use Rattle.semver_base.specs.Failure.{message_of}
 use Rattle.deno_semver.specs.Cuts.{is_not}

@@ -15,6 +15,8 @@ use Rattle.semver_base.specs.declared.range.VersionRange.{VersionRange}
 use Rattle.semver_req.specs.Requirement.{tag_of}
 use Rattle.semver_req.specs.declared.range_set_or_tag.RangeSetOrTag.{RangeSetOrTag}
 use Rattle.semver_req.specs.declared.range_set_or_tag.RangeSetOrTag.TheVariants as inner
+use Rattle.deno_semver.specs.declared.package.order.By.{By}
+use Rattle.deno_semver.specs.declared.package.order.By.TheVariants.{Bounds, Builds}
 use Rattle.deno_semver.specs.declared.package.values.PackageReq.{PackageReq}
 
 abbrev pub text_cmp : List ℕ → List ℕ → Ordering
@@ -69,6 +71,11 @@ abbrev pub builds_cmp : VersionRange → VersionRange → Ordering
 builds_cmp =
     then_cmp (on (λ (r : VersionRange). build_of r.start) (slice_cmp text_cmp))
     (on (λ (r : VersionRange). build_of r.end) (slice_cmp text_cmp))
+
+-- what two ranges are compared by
+abbrev pub cmp_by : By → VersionRange → VersionRange → Ordering
+cmp_by Bounds = range_cmp
+cmp_by Builds = builds_cmp
 
 -- ---- requirements
 

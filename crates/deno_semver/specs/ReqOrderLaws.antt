@@ -1,12 +1,11 @@
 -- The order of package requirements is total, and ties only if the names are the same and the version requirements mean the
 -- same.
-use Rattle.std.proofs.Common.{◌≡◌, ◌&&◌, ℕ, List, [], ◌∷◌, Bool, Some, nat_eq, refl, sym, ap}
+use Rattle.std.proofs.Common.{◌≡◌, ◌&&◌, ℕ, List, [], ◌∷◌, Bool, Some, nat_eq, refl, sym, ap, Equal}
 use Rattle.std.proofs.lemmas.Cmp.{back_total, lists_total, nat_list_cmp_total, tied_itself}
 use Rattle.std.specs.Cmp.{Equal-is, IsPartialOrder, IsTotalOrder, both_ways, nat_cmp_total, on_total, po, then_total}
 use Rattle.std.specs.Cmp.Lexicographic.{options_total, pointwise, slice_cmp, texts_ties}
 use Rattle.std.specs.FinMap.{nat_cmp-IsAntisymmetric, slice_cmp-IsAntisymmetric}
 use Rattle.std.specs.Ordering.{eq_by_cmp, is_eq, nat_cmp}
-use Rattle.std.specs.declared.cmp.Ordering.TheVariants.{Equal}
 use Rattle.semver_base.specs.PrecedenceLaws.{SamePrecedence, precedence-anti, precedence_total, then_first, then_second, then_ties, version_with}
 use Rattle.semver_base.specs.declared.range.RangeBound.{RangeBound}
 use Rattle.semver_base.specs.declared.range.RangeBound.TheVariants as bound

@@ -1,8 +1,7 @@
 -- The derived `==` of names with versions, references and dependencies says whether they are equal. Each `.._eq` is the `==` of its type, and each
 -- `.._reported` says so of it.
 use denote.Enum.Bare.{sameb}
-use Rattle.std.proofs.Common.{Bool, ◌≡◌, ◌&&◌, ℕ, List, Option, None, Some, refl, ap}
-use Rattle.std.specs.Bool.{Decides}
+use Rattle.std.proofs.Common.{Bool, ◌≡◌, ◌&&◌, ℕ, List, Option, None, Some, refl, ap, Decides}
 use Rattle.std.specs.Option.{option_eq}
 use Rattle.semver_base.specs.PrecedenceLaws.{version_eq, version_reported}
 use Rattle.semver_base.specs.declared.version.Version.{Version}

@@ -1,6 +1,5 @@
 -- Failures that mean that memory ran out, and the registry of a text.
-use Rattle.std.proofs.Common.{◌≡◌, ◌≢◌, ◌∙◌, ℕ, List, [], Ok, Err, Some, None, Result, refl, ap, subst, inl, inr}
-use Rattle.std.specs.Prelude.{◌⊎◌}
+use Rattle.std.proofs.Common.{◌≡◌, ◌≢◌, ◌∙◌, ℕ, List, [], Ok, Err, Some, None, Result, refl, ap, subst, inl, inr, ◌⊎◌}
 use Rattle.semver_req.specs.Parsers.{Failure}
 use Rattle.deno_semver.specs.declared.package.values.PackageKind.{PackageKind}
 use Rattle.deno_semver.specs.declared.package.values.PackageKind.TheVariants.{Jsr, Npm}

@@ -1,8 +1,6 @@
 -- Where the text of a reference has a fault.
-use Rattle.std.proofs.Common.{◌≡◌, ◌≢◌, ◌∙◌, ◌+◌, ◌-◌, ◌==◌, ◌||◌, Bool, false, ◌++◌, ◌∷◌, ℕ, List, [], true, Option, None, Some, Err, Bor, MatchOption, ap, append_assoc, arith, inl, inr, length, length-append, Ok, refl, subst, sym}
-use Rattle.std.specs.Prelude.{◌⊎◌, bytes_eq, codes, if◌then◌else◌}
+use Rattle.std.proofs.Common.{◌≡◌, ◌≢◌, ◌∙◌, ◌+◌, ◌-◌, ◌==◌, ◌||◌, Bool, false, ◌++◌, ◌∷◌, ℕ, List, [], true, Option, None, Some, Err, Bor, MatchOption, ap, append_assoc, arith, inl, inr, length, length-append, Ok, refl, subst, sym, ◌⊎◌, bytes_eq, codes, if◌then◌else◌, unwrap_or}
 use Rattle.std.specs.List.{list_all}
-use Rattle.std.specs.Option.{unwrap_or}
 use Rattle.std.proofs.lemmas.List.{append_cancel_left}
 use Rattle.std.proofs.lemmas.Bool.{and_parts}
 use Rattle.std.proofs.lemmas.List.Folds.{list_all-append}

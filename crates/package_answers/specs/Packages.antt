@@ -1,6 +1,5 @@
 -- The package that a text parses to, its parts, and what is wrong with an invalid text.
-use Rattle.std.specs.Prelude.{◌≡◌, ◌⊎◌, ◌==◌, ◌+◌, ℕ, List, [], ◌∷◌, Option, None, Some, Result, Ok, Err, codes, drop, length, if◌then◌else◌}
-use Rattle.std.specs.List.{take_while}
+use Rattle.std.specs.Prelude.{◌≡◌, ◌⊎◌, ◌==◌, ◌+◌, ℕ, List, [], ◌∷◌, Option, None, Some, Result, Ok, Err, codes, drop, length, if◌then◌else◌, take_while}
 use Rattle.serde_json.specs.Data.{Data, member, no_members, object, string}
 use Rattle.serde_json.specs.Written.{compact_text}
 use Rattle.semver_base.specs.Characters.{at_sign, slash}

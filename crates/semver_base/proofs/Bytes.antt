@@ -1,8 +1,7 @@
 -- The bytes with which the texts of a grammar begin and continue.
-use Rattle.std.proofs.Common.{◌≡◌, ℕ, Bool, true, List, [], ◌∷◌, ◌++◌, Option, Some, None, refl, sym, ap, ◌∙◌, append_assoc, ◌==◌}
+use Rattle.std.proofs.Common.{◌≡◌, ℕ, Bool, true, List, [], ◌∷◌, ◌++◌, Option, Some, None, refl, sym, ap, ◌∙◌, append_assoc, ◌==◌, eq-eqb}
 use Rattle.std.specs.List.{list_all}
 use Rattle.std.proofs.lemmas.Bool.{and_from, and_parts}
-use Rattle.std.proofs.lemmas.Bool.{eq-eqb}
 use Rattle.semver_base.specs.Grammar.{Either, this, that, HasNone, Joined, Listed, last_item, closed_item, more_items, Mapped, Prefixed, Optional, Run}
 use Rattle.semver_base.proofs.Fronts.{Apart, Begins, GoesOn, NoClash, NonEmpty, fronts, same, shorter, longer}
 

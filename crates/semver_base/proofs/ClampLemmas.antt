@@ -1,31 +1,22 @@
 -- What the bounds of a clamped range include.
-use Rattle.std.proofs.Common.{◌≡◌, ◌&&◌, Bool, true, false, refl, sym, ◌∙◌, inl, inr}
+use Rattle.std.proofs.Common.{◌≡◌, ◌&&◌, Bool, true, false, refl, sym, ◌∙◌, inl, inr, is_le, ◌⊎◌, Ordering, Less, Equal, Greater}
 use Rattle.std.proofs.lemmas.Cmp.{alike_right}
-use Rattle.std.specs.Ordering.{is_ge, is_le}
-use Rattle.std.specs.Prelude.{◌⊎◌}
-use Rattle.std.specs.declared.cmp.Ordering.{Ordering}
-use Rattle.std.specs.declared.cmp.Ordering.TheVariants.{Less, Equal, Greater}
 use Rattle.semver_base.specs.Clamp.{clamped, clamped_end, clamped_start, greater_of, lesser_of, of_tied, stopped_at, stopped_by, HasPassed, HaveCrossed, HoldsBoth, HoldsNothing}
-use Rattle.semver_base.specs.Meaning.{bound_at, bounds_hold, end_holds, is_above, is_below, start_holds}
+use Rattle.semver_base.specs.Meaning.{above_ge, bound_at, bounds_hold, end_holds, is_above, is_below, start_holds}
 use Rattle.semver_base.specs.Precedence.{precedence_cmp}
-use Rattle.semver_base.specs.PrecedenceLaws.{precedence_total}
+use Rattle.semver_base.specs.PrecedenceLaws.{precedence_total, turned, le_less, less_le, le_turned}
 use Rattle.semver_base.specs.declared.version.Version.{Version}
 use Rattle.semver_base.specs.declared.range.RangeBound.{RangeBound}
 use Rattle.semver_base.specs.declared.range.RangeBound.TheVariants as bound
 use Rattle.semver_base.specs.declared.range.VersionBoundKind.{VersionBoundKind}
 use Rattle.semver_base.specs.declared.range.VersionBoundKind.TheVariants as kind
 use Rattle.semver_base.specs.declared.range.VersionRange.{VersionRange}
-use Rattle.semver_base.proofs.Orders.{and_false, and_true, implied_first, implied_second, le_less, le_turned, less_le, never_both, turned}
+use Rattle.std.proofs.Math.Bool.{and-true, and-false}
+use Rattle.semver_base.proofs.Orders.{implied_first, implied_second, never_both}
 
 -- ---- bounds and comparisons
 
--- what a start includes isn't below it, and what is above it is included
-pub above_ge : (k : VersionBoundKind) (r : Ordering) → is_above k r ≡ true → is_ge r ≡ true
-above_ge kind.Inclusive r h = h
-above_ge kind.Exclusive Less h = h
-above_ge kind.Exclusive Equal h = refl
-above_ge kind.Exclusive Greater h = refl
-
+-- what is above a start's version is included, and what an end includes isn't above it
 pub above_from : (k : VersionBoundKind) (r : Ordering) → r ≡ Greater → is_above k r ≡ true
 above_from kind.Inclusive r e = rw e refl
 above_from kind.Exclusive r e = rw e refl
@@ -94,7 +85,7 @@ tied_ends kind.Inclusive l x y v e = rw e (inclusive_below l (precedence_cmp v y
 -- a clamped start includes what both starts include
 pub start_both : (s t : RangeBound) (v : Version) → start_holds (clamped_start s t) v ≡ (start_holds s v && start_holds t v)
 start_both bound.Unbounded t v = refl
-start_both (bound.Version x) bound.Unbounded v = sym (and_true (start_holds (bound.Version x) v))
+start_both (bound.Version x) bound.Unbounded v = sym (and-true (start_holds (bound.Version x) v))
 start_both (bound.Version x) (bound.Version y) v = go (precedence_cmp x.version y.version) refl
   where
     go : (r : Ordering) → precedence_cmp x.version y.version ≡ r
@@ -106,7 +97,7 @@ start_both (bound.Version x) (bound.Version y) v = go (precedence_cmp x.version 
 -- a clamped end includes what both ends include
 pub end_both : (s t : RangeBound) (v : Version) → end_holds (clamped_end s t) v ≡ (end_holds s v && end_holds t v)
 end_both bound.Unbounded t v = refl
-end_both (bound.Version x) bound.Unbounded v = sym (and_true (end_holds (bound.Version x) v))
+end_both (bound.Version x) bound.Unbounded v = sym (and-true (end_holds (bound.Version x) v))
 end_both (bound.Version x) (bound.Version y) v = go (precedence_cmp x.version y.version) refl
   where
     go : (r : Ordering) → precedence_cmp x.version y.version ≡ r
@@ -174,4 +165,4 @@ clamped_crossed a b crossed v = stopped_holds (clamped_start a.start b.start) (c
 -- a range clamped to one that includes nothing includes nothing
 pub clamped_empty : (a b : VersionRange) → HoldsNothing a ⊎ HoldsNothing b → HoldsNothing (clamped a b)
 clamped_empty a b (inl none) v = clamped_bounds a b v ∙ rw (none v) refl
-clamped_empty a b (inr none) v = clamped_bounds a b v ∙ rw (none v) (and_false (bounds_hold a v))
+clamped_empty a b (inr none) v = clamped_bounds a b v ∙ rw (none v) (and-false (bounds_hold a v))

@@ -1,14 +1,11 @@
 -- What a clamped range matches, pre-releases included.
-use Rattle.std.proofs.Common.{◌≡◌, ◌&&◌, ◌||◌, [], ◌∷◌, Bool, true, false, refl, sym, ap, ◌∙◌, inl, inr}
+use Rattle.std.proofs.Common.{◌≡◌, ◌&&◌, ◌||◌, [], ◌∷◌, Bool, true, false, refl, sym, ap, ◌∙◌, inl, inr, is_le, Ordering, Less, Equal, Greater}
 use Rattle.std.proofs.lemmas.Bool.{and_from, and_parts, cases_Bool, or_cases, or_left, or_right}
 use Rattle.std.specs.Cmp.{both_ways}
-use Rattle.std.specs.Ordering.{is_le}
-use Rattle.std.specs.declared.cmp.Ordering.{Ordering}
-use Rattle.std.specs.declared.cmp.Ordering.TheVariants.{Less, Equal, Greater}
 use Rattle.semver_base.specs.Clamp.{clamped, clamped_end, clamped_start, greater_of, lesser_of, of_tied, stopped_at, stopped_by, AdmitsBoth, MatchesBoth, MeansBoth}
-use Rattle.semver_base.specs.Meaning.{admits_pre, alternative_means, alternative_means_with, bounds_hold, end_holds, has_pre_of, is_release, is_unrestricted, start_holds}
+use Rattle.semver_base.specs.Meaning.{admits_pre, alternative_means, alternative_means_with, bounds_hold, end_holds, has_pre_of, is_release, is_unrestricted, start_holds, above_ge}
 use Rattle.semver_base.specs.Precedence.{precedence_cmp}
-use Rattle.semver_base.specs.PrecedenceLaws.{precedence_total}
+use Rattle.semver_base.specs.PrecedenceLaws.{precedence_total, turned, le_turned}
 use Rattle.semver_base.specs.declared.version.Version.{Version}
 use Rattle.semver_base.specs.declared.range.PreRelease.{PreRelease}
 use Rattle.semver_base.specs.declared.range.PreRelease.TheVariants.{Restricted, Admitted}
@@ -18,8 +15,9 @@ use Rattle.semver_base.specs.declared.range.VersionBound.{VersionBound}
 use Rattle.semver_base.specs.declared.range.VersionBoundKind.{VersionBoundKind}
 use Rattle.semver_base.specs.declared.range.VersionBoundKind.TheVariants as kind
 use Rattle.semver_base.specs.declared.range.VersionRange.{VersionRange}
-use Rattle.semver_base.proofs.ClampLemmas.{above_ge, below_le, clamped_bounds, end_both, passed_holds, start_both}
-use Rattle.semver_base.proofs.Orders.{and_true, le_turned, or_false, same_where, turned}
+use Rattle.semver_base.proofs.ClampLemmas.{below_le, clamped_bounds, end_both, passed_holds, start_both}
+use Rattle.std.proofs.Math.Bool.{and-true, or-false}
+use Rattle.semver_base.proofs.Orders.{same_where}
 use Rattle.semver_base.proofs.Triples.{end_between, start_between}
 
 -- ---- a bound that admits a version, once dropped
@@ -157,19 +155,19 @@ admits_retained : (a b : VersionRange) (v : Version) → is_release v ≡ false 
     → (admits_pre a v || (admits_pre b v || false)) ≡ true → admits_pre (clamped a b) v ≡ true
 admits_retained a b v pre ha hb h = elim (or_cases _ _ h) [
   | inl first ↦ elim (or_cases _ _ first) [
-    | inl start ↦ starts (start_retained_first a.start b.start v pre ((and_parts _ _ hb).0) start)
-    | inr end ↦ ends (end_retained_first a.end b.end v ((and_parts _ _ hb).1) end)
+    | inl start ↦ starts (start_retained_first a.start b.start v pre (and_parts _ _ hb).0 start)
+    | inr end ↦ ends (end_retained_first a.end b.end v (and_parts _ _ hb).1 end)
   ]
-  | inr second ↦ elim (or_cases _ _ (sym (or_false (admits_pre b v)) ∙ second)) [
-    | inl start ↦ starts (start_retained_second a.start b.start v pre ((and_parts _ _ ha).0) start)
-    | inr end ↦ ends (end_retained_second a.end b.end v ((and_parts _ _ ha).1) end)
+  | inr second ↦ elim (or_cases _ _ (sym (or-false (admits_pre b v)) ∙ second)) [
+    | inl start ↦ starts (start_retained_second a.start b.start v pre (and_parts _ _ ha).0 start)
+    | inr end ↦ ends (end_retained_second a.end b.end v (and_parts _ _ ha).1 end)
   ]
 ]
   where
     starts : has_pre_of (clamped_start a.start b.start) v ≡ true → admits_pre (clamped a b) v ≡ true
     starts k =
-        let above : (start_holds a.start v && start_holds b.start v) ≡ true = and_from _ _ ((and_parts _ (end_holds a.end v) ha).0) ((and_parts _ (end_holds b.end v) hb).0) in
-        let below : (end_holds a.end v && end_holds b.end v) ≡ true = and_from _ _ ((and_parts (start_holds a.start v) _ ha).1) ((and_parts (start_holds b.start v) _ hb).1) in
+        let above : (start_holds a.start v && start_holds b.start v) ≡ true = and_from _ _ (and_parts _ (end_holds a.end v) ha).0 (and_parts _ (end_holds b.end v) hb).0 in
+        let below : (end_holds a.end v && end_holds b.end v) ≡ true = and_from _ _ (and_parts (start_holds a.start v) _ ha).1 (and_parts (start_holds b.start v) _ hb).1 in
         or_left _ _ (stop_retained (clamped_start a.start b.start) (clamped_end a.end b.end) v pre (start_both a.start b.start v ∙ above) (end_both a.end b.end v ∙ below) k)
 
     ends : has_pre_of (clamped_end a.end b.end) v ≡ true → admits_pre (clamped a b) v ≡ true
@@ -180,21 +178,21 @@ pub clamped_means : (a b : VersionRange) → MeansBoth a b (clamped a b)
 clamped_means a b flag v = same_where _ _ _ _ held (admitted flag)
   where
     held : (bounds_hold (clamped a b) v && true) ≡ (bounds_hold a v && (bounds_hold b v && true))
-    held = and_true (bounds_hold (clamped a b) v) ∙ clamped_bounds a b v ∙ ap (λ (w : Bool). bounds_hold a v && w) (sym (and_true (bounds_hold b v)))
+    held = and-true (bounds_hold (clamped a b) v) ∙ clamped_bounds a b v ∙ ap (λ (w : Bool). bounds_hold a v && w) (sym (and-true (bounds_hold b v)))
 
     admitted : (flag : PreRelease) → (bounds_hold a v && (bounds_hold b v && true)) ≡ true
         → (is_unrestricted flag v || (admits_pre (clamped a b) v || false)) ≡ (is_unrestricted flag v || (admits_pre a v || (admits_pre b v || false)))
     admitted Admitted both = refl
     admitted Restricted both = elim (cases_Bool (is_release v)) [
       | inl release ↦ rw release refl
-      | inr pre ↦ rw pre (or_false (admits_pre (clamped a b) v) ∙ both_ways _ _ (admits_from a b v) (admits_retained a b v pre ((and_parts _ _ both).0) ((and_parts _ _ ((and_parts _ _ both).1)).0)))
+      | inr pre ↦ rw pre (or-false (admits_pre (clamped a b) v) ∙ both_ways _ _ (admits_from a b v) (admits_retained a b v pre (and_parts _ _ both).0 (and_parts _ _ (and_parts _ _ both).1).0))
     ]
 
 alone : (range : VersionRange) (v : Version) → is_release v ≡ true → alternative_means (range ∷ []) v ≡ bounds_hold range v
-alone range v release = rw release (and_true (bounds_hold range v && true) ∙ and_true (bounds_hold range v))
+alone range v release = rw release (and-true (bounds_hold range v && true) ∙ and-true (bounds_hold range v))
 
 held_alone : (range : VersionRange) (v : Version) → alternative_means_with Admitted (range ∷ []) v ≡ bounds_hold range v
-held_alone range v = and_true (bounds_hold range v && true) ∙ and_true (bounds_hold range v)
+held_alone range v = and-true (bounds_hold range v && true) ∙ and-true (bounds_hold range v)
 
 -- if pre-releases are admitted, a version matches a clamped range exactly if it matches both
 pub clamped_admits : (a b : VersionRange) → AdmitsBoth a b (clamped a b)

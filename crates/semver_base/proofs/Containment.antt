@@ -1,8 +1,7 @@
 -- Whether one test passes what another does, by the lowest version that only the first one passes.
-use Rattle.std.proofs.Common.{◌≡◌, ◌&&◌, Bool, true, false, not, Option, Some, None, refl, sym, inl, inr, ◌∙◌}
+use Rattle.std.proofs.Common.{◌≡◌, ◌&&◌, Bool, true, false, not, Option, Some, None, refl, sym, inl, inr, ◌∙◌, ◌↔◌, ℕ, List, IfSome, IsTrue, Ok, is_some}
 use Rattle.std.specs.Str.{trim}
 use Rattle.std.proofs.lemmas.Bool.{and_parts, cases_Bool}
-use Rattle.std.specs.Prelude.{◌↔◌, ℕ, List, IfSome, IsTrue, Ok, is_some}
 use Rattle.semver_base.specs.Containment.{IsWithin, ReportsWithin}
 use Rattle.semver_base.specs.LowestVersion.{IsLowestPassing, IsReadable}
 use Rattle.semver_base.specs.VersionGrammar.{IsVersionOutcome, is_version}
@@ -19,9 +18,9 @@ within_reported test other None true e h = λ v readable own. elim (cases_Bool (
   | inl passes ↦ passes
   | inr fails ↦ let alone : (test v && not (other v)) ≡ true = rw (own, fails) refl in let never : true ≡ false = sym alone ∙ h v readable in cc never
 ]
-within_reported test other (Some v) false e h = (v, (and_parts (test v) _ h.0).0, not_true (other v) ((and_parts (test v) _ h.0).1))
+within_reported test other (Some v) false e h = (v, (and_parts (test v) _ h.0).0, not_true (other v) (and_parts (test v) _ h.0).1)
 
-pub back_readable : (v : Version) → ReadsBack v → IsReadable v
+back_readable : (v : Version) → ReadsBack v → IsReadable v
 back_readable v back = go (trim (version_text v)) back
   where
     go : (text : List ℕ) → IsVersionOutcome text (Ok v) → IsReadable v
@@ -35,7 +34,7 @@ within_exact test other None true e h back = (λ _. within_reported test other N
 within_exact test other (Some v) false e h back = (
   λ yes. cc yes,
   λ within.
-      let passes = within v (back_readable v back) ((and_parts (test v) _ h.0).0) in
-      let never : true ≡ false = sym passes ∙ not_true (other v) ((and_parts (test v) _ h.0).1) in
+      let passes = within v (back_readable v back) (and_parts (test v) _ h.0).0 in
+      let never : true ≡ false = sym passes ∙ not_true (other v) (and_parts (test v) _ h.0).1 in
       cc never,
 )

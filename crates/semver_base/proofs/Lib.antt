@@ -14,11 +14,9 @@ pub mod LowestWritten
 pub mod Lists
 pub mod Lowest
 pub mod LowestAsked
-pub mod MeaningLemmas
 pub mod NormalTable
 pub mod Numbers
 pub mod NumbersOrder
-pub mod OnlyLowest
 pub mod Orders
 pub mod OverlapLemmas
 pub mod PassedEnds

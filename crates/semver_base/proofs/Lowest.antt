@@ -1,15 +1,11 @@
 -- The lowest candidate that passes is the lowest version that passes. Take the highest of the starts below a passing version:
 -- the test passes from that version down to it, and the lowest version of its kind from there on is a candidate.
-use Rattle.std.proofs.Common.{◌≡◌, ◌&&◌, Bool, true, false, not, List, [], ◌∷◌, Option, Some, None, refl, sym, subst, ap, ap₂, ◌∙◌, inl, inr}
-use Rattle.std.specs.Prelude.{◌⊎◌, IfSome}
+use Rattle.std.proofs.Common.{◌≡◌, ◌&&◌, Bool, true, false, not, List, [], ◌∷◌, Option, Some, None, refl, sym, subst, ap, ap₂, ◌∙◌, inl, inr, ◌⊎◌, IfSome, is_le, Ordering, Less, Equal, Greater}
 use Rattle.std.proofs.lemmas.Bool.{and_from, and_parts, cases_Bool, or_cases, or_left, or_parts, or_right}
 use Rattle.std.specs.List.{fold, list_all, AllByRecursion}
-use Rattle.std.specs.Ordering.{is_le}
-use Rattle.std.specs.declared.cmp.Ordering.{Ordering}
-use Rattle.std.specs.declared.cmp.Ordering.TheVariants.{Less, Equal, Greater}
 use Rattle.semver_base.specs.Candidates.{after, from_ends, from_range, from_set, from_sets, from_start, filtered, lowest_free, lowest_version, lower_passing, lowest_of, own_pre, passes, some_means, with_pre, zero_identifier, zero_pre}
 use Rattle.semver_base.specs.LowestVersion.{IsLowestPassing, IsReadable}
-use Rattle.semver_base.specs.Meaning.{admits_pre, end_holds, has_pre_of, is_release, is_unrestricted, set_means_with, start_holds}
+use Rattle.semver_base.specs.Meaning.{admits_pre, end_holds, has_pre_of, is_release, is_unrestricted, set_means_with, start_holds, any_alternatives}
 use Rattle.semver_base.specs.Precedence.{numbers_cmp, precedence_cmp}
 use Rattle.semver_base.specs.declared.version.Version.{Version}
 use Rattle.semver_base.specs.declared.range.PreRelease.{PreRelease}
@@ -22,7 +18,6 @@ use Rattle.semver_base.specs.declared.range.VersionRangeSet.{VersionRangeSet}
 use Rattle.semver_base.proofs.LowestAbove.{version_lowest}
 use Rattle.semver_base.proofs.LowestFrom.{retained_passes, retained_reaches, lowest_by, lesser_keeps, lesser_reaches_first, lesser_reaches_second, lower_means, means, means_admits, means_start, pre_reached, release_reached, AreAlike, GoesDown, Reaches}
 use Rattle.semver_base.proofs.LowestPres.{lowest_pre, pre_above, pre_by}
-use Rattle.semver_base.proofs.MeaningLemmas.{any_alternatives}
 use Rattle.semver_base.proofs.PassedEnds.{after_gone, after_holds, not_meant, one_within, Within}
 use Rattle.semver_base.proofs.Triples as triples
 
@@ -225,8 +220,8 @@ module _ (flag : PreRelease) (v : Version) (Q : RangeBound → Type 0) where
       → list_all (λ (set : VersionRangeSet). some_means flag set.0 v) sets ≡ true → (u : RangeBound) × IsStart u × Within u s × AllHaveBelow u sets
   behind_sets s h [] each all = (s, h, (λ w held. held), tt)
   behind_sets s h (set ∷ sets) each all =
-      let found = behind_sets s h sets (λ t r is among. each t r (inr is) among) ((and_parts (some_means flag set.0 v) _ all).1) in
-      let here = some_range flag set.0 v ((and_parts (some_means flag set.0 v) _ all).0) in
+      let found = behind_sets s h sets (λ t r is among. each t r (inr is) among) (and_parts (some_means flag set.0 v) _ all).1 in
+      let here = some_range flag set.0 v (and_parts (some_means flag set.0 v) _ all).0 in
       let best = higher found.0 here.0.start found.1 (means_start flag here.0 v here.2, each set here.0 (inl refl) here.1) in
       (best.0, best.1, (λ w held. found.2 w (best.2 w held)), ((here.0, here.1, here.2, best.3), all_below best.0 found.0 sets best.2 found.3))
 
@@ -279,8 +274,8 @@ module _ (flag : PreRelease) (own : List VersionRange) (others : List VersionRan
   reached : (v : Version) → IsReadable v → test v ≡ true → Reaches (lowest_of flag own others without) v
   reached v readable pass =
       let matched = (and_parts (some_means flag own v && list_all (λ (set : VersionRangeSet). set_means_with flag set.0 v) others) _ pass).0 in
-      let none = triples.not_true (some_means flag without v) ((and_parts (some_means flag own v && list_all (λ (set : VersionRangeSet). set_means_with flag set.0 v) others) _ pass).1) in
-      let first = some_range flag own v ((and_parts (some_means flag own v) _ matched).0) in
+      let none = triples.not_true (some_means flag without v) (and_parts (some_means flag own v && list_all (λ (set : VersionRangeSet). set_means_with flag set.0 v) others) _ pass).1 in
+      let first = some_range flag own v (and_parts (some_means flag own v) _ matched).0 in
       let sets = behind_sets flag v Q first.0.start (means_start flag first.0 v first.2, q_own first.0 first.1) others q_others (all_same flag others v ∙ (and_parts (some_means flag own v) _ matched).1) in
       let ends = behind_ends flag v Q sets.0 sets.1 without q_ends in
       let down : GoesDown flag test ends.0 v = λ w held alike le.

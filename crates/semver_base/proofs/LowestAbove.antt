@@ -1,15 +1,13 @@
 -- The lowest version above a start, a release or not.
-use Rattle.std.proofs.Common.{◌≡◌, ◌==◌, ◌++◌, ℕ, true, false, List, [], ◌∷◌, length, Option, Some, None, refl, sym, ap, ◌∙◌, inl, inr, arith}
+use Rattle.std.proofs.Common.{◌≡◌, ◌==◌, ◌++◌, ℕ, true, false, List, [], ◌∷◌, length, Option, Some, None, refl, sym, ap, ◌∙◌, inl, inr, arith, Ordering, Less, Equal, Greater}
 use Rattle.std.proofs.lemmas.Bool.{and_from, and_parts, cases_Bool}
 use Rattle.std.proofs.lemmas.Cmp.{tied_itself}
 use Rattle.std.specs.Ordering.{is_ge, is_gt, is_le, ordering_then}
-use Rattle.std.specs.declared.cmp.Ordering.{Ordering}
-use Rattle.std.specs.declared.cmp.Ordering.TheVariants.{Less, Equal, Greater}
 use Rattle.semver_base.specs.LowestVersion.{IsLowestPassing, IsReadable}
 use Rattle.semver_base.specs.Candidates.{lowest_version, next_release, version_from, with_pre, zero_identifier, zero_of}
 use Rattle.semver_base.specs.Meaning.{bound_at, is_release, release, start_holds}
 use Rattle.semver_base.specs.Precedence.{numbers_cmp, precedence_cmp, pre_cmp}
-use Rattle.semver_base.specs.PrecedenceLaws.{precedence_total}
+use Rattle.semver_base.specs.PrecedenceLaws.{precedence_total, turned}
 use Rattle.semver_base.specs.VersionText.{AreIdentifiers}
 use Rattle.semver_base.specs.declared.version.Version.{Version}
 use Rattle.semver_base.specs.declared.range.RangeBound.{RangeBound}
@@ -21,7 +19,7 @@ use Rattle.semver_base.proofs.LowestPres as pres
 use Rattle.semver_base.proofs.LowestReleases as releases
 use Rattle.semver_base.proofs.LowestReleases.{above_under, is_release_from, next_lowest, no_pre, under_above}
 use Rattle.semver_base.proofs.NumbersOrder.{by_numbers, numbers_le, numbers_under, Under}
-use Rattle.semver_base.proofs.Orders.{greater_from, le_then_first, turned}
+use Rattle.semver_base.proofs.Orders.{greater_from, le_then_first}
 use Rattle.semver_base.proofs.OverlapLemmas.{not_none}
 
 -- ---- `0` below all of its numbers
@@ -90,7 +88,7 @@ own_held s v plain held = and_from _ _ (under_above s (own v) (numbers_over s v 
 -- the lowest pre-release of the next release is the lowest of all
 zero_next : (s : Version) → is_release s ≡ true → (next : Option Version) → IsLowestPassing (is_release_from (bound_at kind.Exclusive s)) next → IsLowestPassing (start_holds (bound_at kind.Exclusive s)) (zero_of next)
 zero_next s plain (Some w) h = (
-  under_above s (with_pre w (zero_identifier ∷ [])) (above_under s w plain ((and_parts (start_holds (bound_at kind.Exclusive s) w) _ h.0).1) ((and_parts _ (is_release w) h.0).0)),
+  under_above s (with_pre w (zero_identifier ∷ [])) (above_under s w plain (and_parts (start_holds (bound_at kind.Exclusive s) w) _ h.0).1 (and_parts _ (is_release w) h.0).0),
   λ v readable held.
       let le : is_le (precedence_cmp w (own v)) ≡ true = h.1 (own v) (own_readable v readable) (own_held s v plain held) in
       let numbers : is_le (numbers_cmp w v) ≡ true = le_then_first (numbers_cmp w v) (pre_cmp w.pre []) (rw (by_numbers w (own v)) at le) in

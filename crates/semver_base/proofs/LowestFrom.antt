@@ -1,18 +1,14 @@
 -- Of the versions that pass a test, the lowest that is found from a start. It isn't above any version that the start includes
 -- and below which the test keeps passing, as far as the start includes versions of its kind. With pre-releases admitted all
 -- versions are of one kind.
-use Rattle.std.proofs.Common.{◌≡◌, ◌&&◌, ◌||◌, Bool, true, false, not, [], ◌∷◌, Option, Some, None, refl, sym, ap, ◌∙◌, inl, inr}
-use Rattle.std.specs.Prelude.{◌⊎◌, if◌then◌else◌, IfSome}
+use Rattle.std.proofs.Common.{◌≡◌, ◌&&◌, ◌||◌, Bool, true, false, not, [], ◌∷◌, Option, Some, None, refl, sym, ap, ◌∙◌, inl, inr, ◌⊎◌, if◌then◌else◌, IfSome, is_le, Ordering, Less, Equal, Greater}
 use Rattle.std.proofs.lemmas.Bool.{and_from, and_parts, cases_Bool, or_cases, or_left, or_right}
 use Rattle.std.proofs.lemmas.Cmp.{tied_itself}
-use Rattle.std.specs.Ordering.{is_le}
-use Rattle.std.specs.declared.cmp.Ordering.{Ordering}
-use Rattle.std.specs.declared.cmp.Ordering.TheVariants.{Less, Equal, Greater}
 use Rattle.semver_base.specs.LowestVersion.{IsLowestPassing, IsReadable}
 use Rattle.semver_base.specs.Candidates.{filtered, lowest_release, lesser, lower_by}
 use Rattle.semver_base.specs.Meaning.{admits_pre, alternative_means_with, bounds_hold, end_holds, has_pre_of, is_below, is_release, is_unrestricted, start_holds}
 use Rattle.semver_base.specs.Precedence.{precedence_cmp}
-use Rattle.semver_base.specs.PrecedenceLaws.{precedence_total}
+use Rattle.semver_base.specs.PrecedenceLaws.{precedence_total, turned, le_less, le_le}
 use Rattle.semver_base.specs.declared.version.Version.{Version}
 use Rattle.semver_base.specs.declared.range.PreRelease.{PreRelease}
 use Rattle.semver_base.specs.declared.range.PreRelease.TheVariants.{Restricted, Admitted}
@@ -23,7 +19,8 @@ use Rattle.semver_base.specs.declared.range.VersionBoundKind.TheVariants as kind
 use Rattle.semver_base.specs.declared.range.VersionRange.{VersionRange}
 use Rattle.semver_base.proofs.LowestPres.{is_pre_above, lowest_pre, pre_lowest}
 use Rattle.semver_base.proofs.LowestReleases.{is_release_from, release_lowest}
-use Rattle.semver_base.proofs.Orders.{le_le, le_less, less_from, or_false, turned}
+use Rattle.std.proofs.Math.Bool.{or-false}
+use Rattle.semver_base.proofs.Orders.{less_from}
 use Rattle.semver_base.proofs.Triples as triples
 use Rattle.semver_base.proofs.Triples.{SameNumbers}
 
@@ -112,16 +109,16 @@ abbrev pub means : PreRelease → VersionRange → Version → Bool
 means flag a v = alternative_means_with flag (a ∷ []) v
 
 pub means_start : (flag : PreRelease) (a : VersionRange) (v : Version) → means flag a v ≡ true → start_holds a.start v ≡ true
-means_start flag a v h = (and_parts _ (end_holds a.end v) ((and_parts (bounds_hold a v) true ((and_parts (bounds_hold a v && true) _ h).0)).0)).0
+means_start flag a v h = (and_parts _ (end_holds a.end v) (and_parts (bounds_hold a v) true (and_parts (bounds_hold a v && true) _ h).0).0).0
 
 pub means_end : (flag : PreRelease) (a : VersionRange) (v : Version) → means flag a v ≡ true → end_holds a.end v ≡ true
-means_end flag a v h = (and_parts (start_holds a.start v) _ ((and_parts (bounds_hold a v) true ((and_parts (bounds_hold a v && true) _ h).0)).0)).1
+means_end flag a v h = (and_parts (start_holds a.start v) _ (and_parts (bounds_hold a v) true (and_parts (bounds_hold a v && true) _ h).0).0).1
 
 pub means_admits : (flag : PreRelease) (a : VersionRange) (v : Version) → means flag a v ≡ true → (is_unrestricted flag v || admits_pre a v) ≡ true
-means_admits flag a v h = rw (or_false (admits_pre a v)) at ((and_parts (bounds_hold a v && true) _ h).1)
+means_admits flag a v h = rw (or-false (admits_pre a v)) at (and_parts (bounds_hold a v && true) _ h).1
 
 pub means_from : (flag : PreRelease) (a : VersionRange) (v : Version) → start_holds a.start v ≡ true → end_holds a.end v ≡ true → (is_unrestricted flag v || admits_pre a v) ≡ true → means flag a v ≡ true
-means_from flag a v start end admitted = rw (start, end, or_false (admits_pre a v)) admitted
+means_from flag a v start end admitted = rw (start, end, or-false (admits_pre a v)) admitted
 
 -- an end that includes a version includes what isn't above it
 end_lower : (end : RangeBound) (w v : Version) → is_le (precedence_cmp w v) ≡ true → end_holds end v ≡ true → end_holds end w ≡ true
@@ -187,11 +184,11 @@ pre_reached test start x v readable held pre admitted down = retained_reaches (i
     low : (w : Version) → is_pre_above start x w ≡ true → is_le (precedence_cmp w v) ≡ true → test w ≡ true
     low w own le =
         let rest = (and_parts (start_holds start w) _ own).1 in
-        let some = triples.not_true (is_release w) ((and_parts _ (has_pre_of x w) rest).0) in
+        let some = triples.not_true (is_release w) (and_parts _ (has_pre_of x w) rest).0 in
         let of_bound = (and_parts (not (is_release w)) _ rest).1 in
-        down w ((and_parts _ (not (is_release w) && has_pre_of x w) own).0) (inr (some, pre, both_numbers x w v of_bound admitted)) le
+        down w (and_parts _ (not (is_release w) && has_pre_of x w) own).0 (inr (some, pre, both_numbers x w v of_bound admitted)) le
 
 pub release_reached : (test : Version → Bool) (start : RangeBound) (v : Version) → IsReadable v → start_holds start v ≡ true → is_release v ≡ true → GoesDown Restricted test start v
     → Reaches (filtered test (lowest_release start)) v
 release_reached test start v readable held plain down = retained_reaches (is_release_from start) test (lowest_release start) v (release_lowest start) readable (and_from _ _ held plain)
-    (λ w own le. down w ((and_parts _ (is_release w) own).0) (inl ((and_parts (start_holds start w) _ own).1, plain)) le)
+    (λ w own le. down w (and_parts _ (is_release w) own).0 (inl ((and_parts (start_holds start w) _ own).1, plain)) le)

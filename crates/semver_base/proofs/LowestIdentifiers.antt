@@ -1,5 +1,5 @@
 -- No identifier of the grammar is below `0`, so what comes next after a pre-release is the same with `0` appended.
-use Rattle.std.proofs.Common.{◌≡◌, ◌==◌, ◌<◌, ◌≤◌, ℕ, true, false, List, [], ◌∷◌, ◌++◌, Some, refl, inl, inr, arith}
+use Rattle.std.proofs.Common.{◌≡◌, ◌==◌, ◌<◌, ◌≤◌, ℕ, true, false, List, [], ◌∷◌, ◌++◌, Some, refl, inl, inr, arith, Ordering, Equal, Greater, Less}
 use Rattle.std.proofs.lemmas.Bool.{and_parts, cases_Bool}
 use Rattle.std.proofs.lemmas.Bool.Decides.{nat_tests}
 use Rattle.std.proofs.lemmas.Cmp.{ranked, tied_itself}
@@ -8,8 +8,6 @@ use Rattle.std.specs.Cmp.Lexicographic.{slice_cmp}
 use Rattle.std.specs.Ordering.{MatchOrdering, is_le, nat_cmp, ordering_then}
 use Rattle.std.specs.Str.{all_ascii_digits}
 use Rattle.std.specs.Str.Parse.{without_leading_plus}
-use Rattle.std.specs.declared.cmp.Ordering.{Ordering}
-use Rattle.std.specs.declared.cmp.Ordering.TheVariants.{Equal, Greater, Less}
 use Rattle.semver_base.specs.Candidates.{zero_identifier}
 use Rattle.semver_base.specs.Lexical.{IsIdentifier, is_identifier_byte}
 use Rattle.semver_base.specs.Precedence.{identifier_class, identifier_cmp, identifier_value, is_number, number_of}
@@ -63,15 +61,15 @@ identifier_bare b bs identifier = rw (identifier_no_plus b identifier) refl
 number_digit : (b : ℕ) (bs : List ℕ) → is_identifier_byte b ≡ true → is_number (b ∷ bs) ≡ true → 48 ≤ b
 number_digit b bs identifier number =
     let plain = identifier_bare b bs identifier in
-    let digits : all_ascii_digits (without_leading_plus (b ∷ bs)) ≡ true = (and_parts _ _ ((and_parts _ _ number).0)).1 in
+    let digits : all_ascii_digits (without_leading_plus (b ∷ bs)) ≡ true = (and_parts _ _ (and_parts _ _ number).0).1 in
     let own : all_ascii_digits (b ∷ bs) ≡ true = rw plain at digits in
-    digit_from b ((and_parts _ _ own).0)
+    digit_from b (and_parts _ _ own).0
 
 -- such an identifier isn't below `0` as a text
 zero_text : (id : List ℕ) → IsIdentifier id id → is_number id ≡ true → is_le (slice_cmp nat_cmp zero_identifier id) ≡ true
 zero_text [] identifier number = absurd (let some : 0 < 0 = identifier.some in omega arith)
 zero_text (b ∷ bs) identifier number =
-    le_then (nat_cmp 48 b) _ (nat_le_cmp 48 b (number_digit b bs ((and_parts (is_identifier_byte b) _ identifier.pass).0) number)) (λ _. nothing_lowest nat_cmp bs)
+    le_then (nat_cmp 48 b) _ (nat_le_cmp 48 b (number_digit b bs (and_parts (is_identifier_byte b) _ identifier.pass).0 number)) (λ _. nothing_lowest nat_cmp bs)
 
 class_number : (id : List ℕ) → nat_cmp 0 (identifier_class id) ≡ Equal → is_number id ≡ true
 unfolding number_of

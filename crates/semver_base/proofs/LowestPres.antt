@@ -1,19 +1,16 @@
 -- The lowest pre-release of three numbers above a start.
-use Rattle.std.proofs.Common.{◌≡◌, ◌&&◌, ◌==◌, ◌++◌, ℕ, Bool, true, false, not, List, [], ◌∷◌, length, Option, Some, None, refl, sym, ap, ◌∙◌, inl, inr}
-use Rattle.std.specs.Prelude.{if◌then◌else◌}
+use Rattle.std.proofs.Common.{◌≡◌, ◌&&◌, ◌==◌, ◌++◌, ℕ, Bool, true, false, not, List, [], ◌∷◌, length, Option, Some, None, refl, sym, ap, ◌∙◌, inl, inr, if◌then◌else◌, Ordering, Less, Equal, Greater}
 use Rattle.std.proofs.lemmas.Bool.{and_from, and_parts, cases_Bool}
 use Rattle.std.proofs.lemmas.Cmp.{nat_cmp_total, on_total, then_total, tied_itself}
 use Rattle.std.specs.FinMap.{nat_cmp-IsAntisymmetric}
 use Rattle.std.specs.Cmp.{IsTotalOrder}
 use Rattle.std.specs.Cmp.Lexicographic.{slice_cmp}
 use Rattle.std.specs.Ordering.{is_ge, is_le, nat_cmp, ordering_then}
-use Rattle.std.specs.declared.cmp.Ordering.{Ordering}
-use Rattle.std.specs.declared.cmp.Ordering.TheVariants.{Less, Equal, Greater}
 use Rattle.semver_base.specs.LowestVersion.{IsLowestPassing}
 use Rattle.semver_base.specs.Candidates.{pre_from, with_pre, zero_identifier}
-use Rattle.semver_base.specs.Meaning.{bound_at, has_pre_of, is_release, start_holds}
+use Rattle.semver_base.specs.Meaning.{bound_at, has_pre_of, is_release, start_holds, above_ge}
 use Rattle.semver_base.specs.Precedence.{identifier_cmp, numbers_cmp, precedence_cmp, pre_cmp}
-use Rattle.semver_base.specs.PrecedenceLaws.{precedence_total, then_first, then_second}
+use Rattle.semver_base.specs.PrecedenceLaws.{precedence_total, then_first, then_second, turned, le_turned}
 use Rattle.semver_base.specs.VersionText.{AreIdentifiers}
 use Rattle.semver_base.specs.declared.version.Version.{Version}
 use Rattle.semver_base.specs.declared.range.RangeBound.{RangeBound}
@@ -21,10 +18,11 @@ use Rattle.semver_base.specs.declared.range.RangeBound.TheVariants as bound
 use Rattle.semver_base.specs.declared.range.VersionBound.{VersionBound}
 use Rattle.semver_base.specs.declared.range.VersionBoundKind.{VersionBoundKind}
 use Rattle.semver_base.specs.declared.range.VersionBoundKind.TheVariants as kind
-use Rattle.semver_base.proofs.ClampLemmas.{above_from, above_ge}
+use Rattle.semver_base.proofs.ClampLemmas.{above_from}
 use Rattle.semver_base.proofs.LowestIdentifiers.{appended_above, appended_next, zeros_lowest}
 use Rattle.semver_base.proofs.NumbersOrder.{by_numbers, numbers_tied}
-use Rattle.semver_base.proofs.Orders.{and_false, greater_from, le_turned, turned}
+use Rattle.std.proofs.Math.Bool.{and-false}
+use Rattle.semver_base.proofs.Orders.{greater_from}
 use Rattle.semver_base.proofs.Triples as triples
 use Rattle.semver_base.proofs.Triples.{SameNumbers}
 use Rattle.semver_base.proofs.OverlapLemmas.{not_none}
@@ -84,8 +82,8 @@ pre_above_is start k t v h =
     let rest = (and_parts (start_holds start v) _ h).1 in
     record {
       held = (and_parts _ (not (is_release v) && has_pre_of (bound_at k t) v) h).0;
-      some = triples.not_true (is_release v) ((and_parts _ (has_pre_of (bound_at k t) v) rest).0);
-      same = triples.pre_numbers t v ((and_parts (not (is_release v)) _ rest).1);
+      some = triples.not_true (is_release v) (and_parts _ (has_pre_of (bound_at k t) v) rest).0;
+      same = triples.pre_numbers t v (and_parts (not (is_release v)) _ rest).1;
     }
 
 is_pre_above-from : (start : RangeBound) (k : VersionBoundKind) (t v : Version) → is_release t ≡ false → IsPreAbove start t v → is_pre_above start (bound_at k t) v ≡ true
@@ -203,12 +201,12 @@ from_bound (bound.Version s) l t pre = from_start s.kind l s.version t pre (numb
 -- a release isn't a pre-release of any numbers
 not_of_release : (start : RangeBound) (k : VersionBoundKind) (t v : Version) → is_release t ≡ true → is_pre_above start (bound_at k t) v ≡ true → ⊥
 not_of_release start k t v plain h =
-    let some : is_release t ≡ false = triples.pre_some t v ((and_parts (not (is_release v)) _ ((and_parts (start_holds start v) _ h).1)).1) in
+    let some : is_release t ≡ false = triples.pre_some t v (and_parts (not (is_release v)) _ (and_parts (start_holds start v) _ h).1).1 in
     let never : true ≡ false = sym plain ∙ some in
     cc never
 
 pub pre_lowest : (start b : RangeBound) → IsLowestPassing (is_pre_above start b) (lowest_pre start b)
-pre_lowest start bound.Unbounded = λ v readable. rw (and_false (not (is_release v))) (and_false (start_holds start v))
+pre_lowest start bound.Unbounded = λ v readable. rw (and-false (not (is_release v))) (and-false (start_holds start v))
 pre_lowest start (bound.Version b) = elim (cases_Bool (is_release b.version)) [
   | inl plain ↦ rw plain (lowest_none (is_pre_above start (bound.Version b)) (λ v h. not_of_release start b.kind b.version v plain h))
   | inr pre ↦ rw pre (from_bound start b.kind b.version pre)

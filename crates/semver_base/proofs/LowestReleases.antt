@@ -1,27 +1,24 @@
 -- The lowest release above a start.
-use Rattle.std.proofs.Common.{◌≡◌, ◌&&◌, ◌≤◌, ◌+◌, ◌^◌, ℕ, Bool, true, false, List, [], ◌∷◌, Some, refl, inl, inr, arith}
+use Rattle.std.proofs.Common.{◌≡◌, ◌&&◌, ◌≤◌, ◌+◌, ◌^◌, ℕ, Bool, true, false, List, [], ◌∷◌, Some, refl, inl, inr, arith, Ordering, Less, Equal, Greater}
 use Rattle.std.proofs.lemmas.Bool.{and_from, and_parts, cases_Bool, ltb-false}
 use Rattle.std.proofs.lemmas.Bool.Decides.{nat_tests}
 use Rattle.std.proofs.lemmas.List.{nil_from_length}
 use Rattle.std.specs.Ordering.{is_ge, is_gt, is_le, ordering_then}
-use Rattle.std.specs.declared.cmp.Ordering.{Ordering}
-use Rattle.std.specs.declared.cmp.Ordering.TheVariants.{Less, Equal, Greater}
 use Rattle.semver_base.specs.LowestVersion.{IsLowestPassing}
 use Rattle.semver_base.specs.Candidates.{lowest_release, next_release, release_from}
-use Rattle.semver_base.specs.Meaning.{bound_at, is_release, release, start_holds}
+use Rattle.semver_base.specs.Meaning.{bound_at, is_release, release, start_holds, above_ge}
 use Rattle.semver_base.specs.PartialTable.{number_fits}
 use Rattle.semver_base.specs.Precedence.{numbers_cmp, precedence_cmp, pre_cmp}
-use Rattle.semver_base.specs.PrecedenceLaws.{precedence_total}
+use Rattle.semver_base.specs.PrecedenceLaws.{precedence_total, le_turned}
 use Rattle.semver_base.specs.VersionGrammar.{AllNumbersFit}
 use Rattle.semver_base.specs.declared.version.Version.{Version}
 use Rattle.semver_base.specs.declared.range.RangeBound.{RangeBound}
 use Rattle.semver_base.specs.declared.range.RangeBound.TheVariants as bound
 use Rattle.semver_base.specs.declared.range.VersionBoundKind.{VersionBoundKind}
 use Rattle.semver_base.specs.declared.range.VersionBoundKind.TheVariants as kind
-use Rattle.semver_base.proofs.ClampLemmas.{above_ge}
 use Rattle.semver_base.proofs.LowestIdentifiers.{le_then}
 use Rattle.semver_base.proofs.NumbersOrder.{by_numbers, numbers_above, numbers_le, numbers_tied, numbers_under, Under}
-use Rattle.semver_base.proofs.Orders.{greater_from, le_then_first, le_turned}
+use Rattle.semver_base.proofs.Orders.{greater_from, le_then_first}
 use Rattle.semver_base.proofs.OverlapLemmas.{not_none}
 
 -- a release that the start includes
@@ -50,7 +47,7 @@ own_lowest : (k : VersionBoundKind) (s : Version) → start_holds (bound_at k s)
     → IsLowestPassing (is_release_from (bound_at k s)) (Some (release s.major s.minor s.patch))
 own_lowest k s holds = (
   and_from _ _ holds refl,
-  λ v readable h. release_le (release s.major s.minor s.patch) v refl (no_pre v ((and_parts _ _ h).1)) (start_le k s v ((and_parts _ _ h).0)),
+  λ v readable h. release_le (release s.major s.minor s.patch) v refl (no_pre v (and_parts _ _ h).1) (start_le k s v (and_parts _ _ h).0),
 )
 
 own_ge : (s : Version) → is_ge (precedence_cmp (release s.major s.minor s.patch) s) ≡ true
@@ -93,7 +90,7 @@ too_large n h = ltb-false n (2 ^ 64) h
 none_above : (s v : Version) → is_release s ≡ true → AllNumbersFit v → 2 ^ 64 ≤ s.patch + 1 → 2 ^ 64 ≤ s.minor + 1 → 2 ^ 64 ≤ s.major + 1 → is_release_from (bound_at kind.Exclusive s) v ≡ false
 none_above s v plain numbers third second first = elim (cases_Bool (is_release_from (bound_at kind.Exclusive s) v)) [
   | inl held ↦
-      let above : Under s v = above_under s v plain ((and_parts (start_holds (bound_at kind.Exclusive s) v) _ held).1) ((and_parts _ (is_release v) held).0) in
+      let above : Under s v = above_under s v plain (and_parts (start_holds (bound_at kind.Exclusive s) v) _ held).1 (and_parts _ (is_release v) held).0 in
       let patch = numbers.patch in
       let minor = numbers.minor in
       let major = numbers.major in
@@ -119,7 +116,7 @@ next_lowest s plain = elim (cases_Bool (number_fits (s.patch + 1))) [
 ]
 
 pub release_lowest : (start : RangeBound) → IsLowestPassing (is_release_from start) (lowest_release start)
-release_lowest bound.Unbounded = (refl, λ v readable h. release_le (release 0 0 0) v refl (no_pre v ((and_parts (start_holds bound.Unbounded v) _ h).1)) (numbers_le (release 0 0 0) v (omega arith) (λ _. omega arith) (λ _ _. omega arith)))
+release_lowest bound.Unbounded = (refl, λ v readable h. release_le (release 0 0 0) v refl (no_pre v (and_parts (start_holds bound.Unbounded v) _ h).1) (numbers_le (release 0 0 0) v (omega arith) (λ _. omega arith) (λ _ _. omega arith)))
 release_lowest (bound.Version s) = go s.kind
   where
     go : (k : VersionBoundKind) → IsLowestPassing (is_release_from (bound_at k s.version)) (release_from k s.version)

@@ -1,8 +1,6 @@
 -- The lowest version that ranges match has no build, and its text parses back if the texts of their bounds do.
-use Rattle.std.proofs.Common.{◌≡◌, ◌<◌, ◌+◌, ◌^◌, ◌++◌, ℕ, Bool, true, false, List, [], ◌∷◌, Option, Some, None, refl, arith}
+use Rattle.std.proofs.Common.{◌≡◌, ◌<◌, ◌+◌, ◌^◌, ◌++◌, ℕ, Bool, true, false, List, [], ◌∷◌, Option, Some, None, refl, arith, IfSome, if◌then◌else◌, ltb-true}
 use Rattle.std.specs.List.{AllByRecursion}
-use Rattle.std.specs.Prelude.{IfSome, if◌then◌else◌}
-use Rattle.std.proofs.lemmas.Bool.{ltb-true}
 use Rattle.semver_base.specs.Candidates.{after, lowest_free, lowest_release, lowest_version, lowest_of, next_release, own_pre, passes, pre_from, release_from, version_from, with_pre, zero_identifier, zero_of, zero_pre}
 use Rattle.semver_base.specs.LowestVersion.{HasNoBuild}
 use Rattle.semver_base.specs.Lexical.{IsIdentifier}

@@ -1,30 +1,8 @@
 -- Chains of comparisons, and the tests of `&&` and `||` that follow from one another.
-use Rattle.std.proofs.Common.{◌≡◌, ◌&&◌, ◌||◌, Bool, true, false, refl, sym, ap, ◌∙◌}
-use Rattle.std.proofs.lemmas.Cmp.{alike_right}
-use Rattle.std.specs.Cmp.{IsTotalOrder}
-use Rattle.std.specs.Ordering.{is_ge, is_gt, is_le, is_lt, ordering_reverse, ordering_then}
-use Rattle.std.specs.declared.cmp.Ordering.{Ordering}
-use Rattle.std.specs.declared.cmp.Ordering.TheVariants.{Less, Equal, Greater}
+use Rattle.std.proofs.Common.{◌≡◌, ◌&&◌, Bool, true, false, refl, Ordering, Less, Equal, Greater}
+use Rattle.std.specs.Ordering.{is_gt, is_le, is_lt, ordering_then}
 
 -- ---- tests
-
-pub and_true : (a : Bool) → (a && true) ≡ a
-and_true true = refl
-and_true false = refl
-
-pub and_false : (a : Bool) → (a && false) ≡ false
-and_false true = refl
-and_false false = refl
-
-pub or_false : (a : Bool) → (a || false) ≡ a
-or_false true = refl
-or_false false = refl
-
-pub and_swap : (a b : Bool) → (a && b) ≡ (b && a)
-and_swap true true = refl
-and_swap true false = refl
-and_swap false true = refl
-and_swap false false = refl
 
 -- a test that another implies adds nothing to it
 pub implied_first : (a b : Bool) → (b ≡ true → a ≡ true) → b ≡ (a && b)
@@ -59,43 +37,6 @@ pub less_from : (r : Ordering) → is_lt r ≡ true → r ≡ Less
 less_from Less h = refl
 less_from Equal h = cc h
 less_from Greater h = cc h
-
--- the comparison the other way round
-pub turned : {K : Type 0} {R : K → K → Ordering} (total : IsTotalOrder R) (x y : K) (r : Ordering) → R x y ≡ r → R y x ≡ ordering_reverse r
-turned total x y r e = total.antisymm y x ∙ ap ordering_reverse e
-
-pub le_less : {K : Type 0} {R : K → K → Ordering} (total : IsTotalOrder R) (x y z : K) → is_le (R x y) ≡ true → R y z ≡ Less → R x z ≡ Less
-le_less {K} {R} total x y z h less = go (R x y) refl h
-  where
-    go : (r : Ordering) → R x y ≡ r → is_le r ≡ true → R x z ≡ Less
-    go Less e h = total.trans x y z e less
-    go Equal e h = total.congr x y z e ∙ less
-    go Greater e h = cc h
-
-pub less_le : {K : Type 0} {R : K → K → Ordering} (total : IsTotalOrder R) (x y z : K) → R x y ≡ Less → is_le (R y z) ≡ true → R x z ≡ Less
-less_le {K} {R} total x y z less h = go (R y z) refl h
-  where
-    go : (r : Ordering) → R y z ≡ r → is_le r ≡ true → R x z ≡ Less
-    go Less e h = total.trans x y z less e
-    go Equal e h = cc (alike_right total y z x e, less)
-    go Greater e h = cc h
-
-pub le_le : {K : Type 0} {R : K → K → Ordering} (total : IsTotalOrder R) (x y z : K) → is_le (R x y) ≡ true → is_le (R y z) ≡ true → is_le (R x z) ≡ true
-le_le {K} {R} total x y z h k = go (R y z) refl k
-  where
-    go : (r : Ordering) → R y z ≡ r → is_le r ≡ true → is_le (R x z) ≡ true
-    go Less e k = rw (le_less total x y z h e) refl
-    go Equal e k = sym (ap is_le (alike_right total y z x e)) ∙ h
-    go Greater e k = cc k
-
--- what is at or above is at or below the other way round
-pub le_turned : {K : Type 0} {R : K → K → Ordering} (total : IsTotalOrder R) (x y : K) → is_ge (R x y) ≡ true → is_le (R y x) ≡ true
-le_turned {K} {R} total x y h = go (R x y) refl h
-  where
-    go : (r : Ordering) → R x y ≡ r → is_ge r ≡ true → is_le (R y x) ≡ true
-    go Less e h = cc h
-    go Equal e h = rw (turned total x y Equal e) refl
-    go Greater e h = rw (turned total x y Greater e) refl
 
 -- ---- numbers, and comparisons in a row
 

@@ -1,17 +1,15 @@
 -- Overlap is symmetric, and two ranges that both include a version overlap.
-use Rattle.std.proofs.Common.{◌≡◌, ◌&&◌, ◌||◌, ◌==◌, ◌<◌, ℕ, length, arith, List, [], ◌∷◌, Bool, true, false, refl, sym, ap, ◌∙◌, inl, inr}
+use Rattle.std.proofs.Common.{◌≡◌, ◌&&◌, ◌||◌, ◌==◌, ◌<◌, ℕ, length, arith, List, [], ◌∷◌, Bool, true, false, refl, sym, ap, ◌∙◌, inl, inr, Ordering, Less, Equal, Greater}
 use Rattle.std.proofs.lemmas.Bool.{and_from, and_parts, cases_Bool, or_cases, or_left, or_right}
 use Rattle.std.proofs.lemmas.Bool.Decides.{nat_tests}
 use Rattle.std.proofs.lemmas.Cmp.{ranked}
 use Rattle.std.specs.Bool.{OnFalse, OnTrue}
 use Rattle.std.specs.List.{list_any}
 use Rattle.std.specs.Ordering.{is_lt, nat_cmp, ordering_then, MatchOrdering}
-use Rattle.std.specs.declared.cmp.Ordering.{Ordering}
-use Rattle.std.specs.declared.cmp.Ordering.TheVariants.{Less, Equal, Greater}
-use Rattle.semver_base.specs.Meaning.{alternative_means_with, alternatives, bounds_hold, end_holds, is_above, is_below, is_release, start_holds, tree_means_with}
+use Rattle.semver_base.specs.Meaning.{alternative_means_with, alternatives, bounds_hold, end_holds, is_above, is_below, is_release, start_holds, tree_means_with, any_alternatives}
 use Rattle.semver_base.specs.Overlap.{ends_at_zero, is_exclusive, lies_within, overlap, some_overlap, starts_before, HoldNothingTogether, HoldsNoRelease, MatchNothingTogether}
 use Rattle.semver_base.specs.Precedence.{precedence_cmp, pre_cmp}
-use Rattle.semver_base.specs.PrecedenceLaws.{precedence_total}
+use Rattle.semver_base.specs.PrecedenceLaws.{precedence_total, turned, le_less, less_le, le_le, le_turned}
 use Rattle.semver_base.specs.declared.version.Version.{Version}
 use Rattle.semver_base.specs.declared.range.PreRelease.{PreRelease}
 use Rattle.semver_base.specs.declared.range.RangeBound.{RangeBound}
@@ -19,8 +17,8 @@ use Rattle.semver_base.specs.declared.range.RangeBound.TheVariants as bound
 use Rattle.semver_base.specs.declared.range.VersionBoundKind.{VersionBoundKind}
 use Rattle.semver_base.specs.declared.range.VersionBoundKind.TheVariants as kind
 use Rattle.semver_base.specs.declared.range.VersionRange.{VersionRange}
-use Rattle.semver_base.proofs.MeaningLemmas.{any_alternatives}
-use Rattle.semver_base.proofs.Orders.{and_false, and_swap, greater_from, le_le, le_less, le_turned, less_from, less_le, turned}
+use Rattle.std.proofs.Math.Bool.{and-false, and_comm}
+use Rattle.semver_base.proofs.Orders.{greater_from, less_from}
 use Rattle.semver_base.proofs.ClampLemmas.{below_le}
 
 -- ---- ranges
@@ -41,21 +39,21 @@ held_by (bound.Version x) (bound.Version y) v h k = held_between x.kind y.kind x
 -- two ranges that include one version overlap
 held_overlap : (a b : VersionRange) (v : Version) → bounds_hold a v ≡ true → bounds_hold b v ≡ true → overlap a b ≡ true
 held_overlap a b v h k = and_from (starts_before a.start b.end) (starts_before b.start a.end)
-    (held_by a.start b.end v ((and_parts _ _ h).0) ((and_parts _ _ k).1))
-    (held_by b.start a.end v ((and_parts _ _ k).0) ((and_parts _ _ h).1))
+    (held_by a.start b.end v (and_parts _ _ h).0 (and_parts _ _ k).1)
+    (held_by b.start a.end v (and_parts _ _ k).0 (and_parts _ _ h).1)
 
 -- ranges that don't overlap include nothing together
 pub range_no_common : (result : Bool) (a b : VersionRange) → result ≡ overlap a b → OnFalse result (HoldNothingTogether a b)
 range_no_common true a b e = tt
 range_no_common false a b e = λ v. elim (cases_Bool (bounds_hold a v && bounds_hold b v)) [
-  | inl both ↦ let over : overlap a b ≡ true = held_overlap a b v ((and_parts (bounds_hold a v) _ both).0) ((and_parts _ (bounds_hold b v) both).1) in cc
+  | inl both ↦ let over : overlap a b ≡ true = held_overlap a b v (and_parts (bounds_hold a v) _ both).0 (and_parts _ (bounds_hold b v) both).1 in cc
   | inr none ↦ none
 ]
 
 -- ---- sets
 
 overlap_swap : (a b : VersionRange) → overlap a b ≡ overlap b a
-overlap_swap a b = and_swap (starts_before a.start b.end) (starts_before b.start a.end)
+overlap_swap a b = and_comm (starts_before a.start b.end) (starts_before b.start a.end)
 
 any_none : {X : Type 0} (xs : List X) → false ≡ list_any (λ (x : X). false) xs
 any_none [] = refl
@@ -89,7 +87,7 @@ any_from p q passes (x ∷ xs) h = elim (or_cases (p x) (list_any p xs) h) [
 ]
 
 matches_held : (flag : PreRelease) (range : VersionRange) (v : Version) → alternative_means_with flag (range ∷ []) v ≡ true → bounds_hold range v ≡ true
-matches_held flag range v h = (and_parts _ true ((and_parts (bounds_hold range v && true) _ h).0)).0
+matches_held flag range v h = (and_parts _ true (and_parts (bounds_hold range v && true) _ h).0).0
 
 -- two sets that match one version have ranges that overlap
 matched_overlap : (flag : PreRelease) (some others : List VersionRange) (v : Version)
@@ -104,7 +102,7 @@ matched_overlap flag some others v h k =
 pub set_no_common : (result : Bool) (some others : List VersionRange) → result ≡ some_overlap some others → OnFalse result (MatchNothingTogether some others)
 set_no_common true some others e = tt
 set_no_common false some others e = λ flag v. elim (cases_Bool (tree_means_with flag (alternatives some) v && tree_means_with flag (alternatives others) v)) [
-  | inl both ↦ let over : some_overlap some others ≡ true = matched_overlap flag some others v ((and_parts (tree_means_with flag (alternatives some) v) _ both).0) ((and_parts _ (tree_means_with flag (alternatives others) v) both).1) in cc
+  | inl both ↦ let over : some_overlap some others ≡ true = matched_overlap flag some others v (and_parts (tree_means_with flag (alternatives some) v) _ both).0 (and_parts _ (tree_means_with flag (alternatives others) v) both).1 in cc
   | inr none ↦ none
 ]
 
@@ -145,12 +143,12 @@ exclusive_lt kind.Exclusive r h e = e
 -- a range that ends at 0.0.0 includes no release
 pub ends_no_release : (result : Bool) (range : VersionRange) → result ≡ ends_at_zero range.end → OnTrue result (HoldsNoRelease range)
 ends_no_release false range e = tt
-ends_no_release true range e = λ v release. rw (go range.end v release (sym e)) (and_false (start_holds range.start v))
+ends_no_release true range e = λ v release. rw (go range.end v release (sym e)) (and-false (start_holds range.start v))
   where
     go : (end : RangeBound) (v : Version) → is_release v ≡ true → ends_at_zero end ≡ true → end_holds end v ≡ false
     go bound.Unbounded v release h = cc h
     go (bound.Version x) v release h =
         let rest = (and_parts (is_exclusive x.kind) _ h).1 in
         let rest1 = (and_parts (x.version.major == 0) _ rest).1 in
-        exclusive_lt x.kind (precedence_cmp v x.version) ((and_parts (is_exclusive x.kind) _ h).0)
-        (not_below_zeros v x.version release ((and_parts (x.version.major == 0) _ rest).0) ((and_parts (x.version.minor == 0) _ rest1).0) ((and_parts (x.version.minor == 0) _ rest1).1))
+        exclusive_lt x.kind (precedence_cmp v x.version) (and_parts (is_exclusive x.kind) _ h).0
+        (not_below_zeros v x.version release (and_parts (x.version.major == 0) _ rest).0 (and_parts (x.version.minor == 0) _ rest1).0 (and_parts (x.version.minor == 0) _ rest1).1)

@@ -1,15 +1,11 @@
 -- What an end excludes, and which of two starts includes no more than the other.
-use Rattle.std.proofs.Common.{◌≡◌, ◌&&◌, true, false, refl, sym, ◌∙◌, inl, inr}
-use Rattle.std.specs.Prelude.{◌⊎◌}
+use Rattle.std.proofs.Common.{◌≡◌, ◌&&◌, true, false, refl, sym, ◌∙◌, inl, inr, ◌⊎◌, is_ge, is_le, Ordering, Less, Equal, Greater}
 use Rattle.std.proofs.lemmas.Bool.{and_parts, cases_Bool}
-use Rattle.std.specs.Ordering.{is_ge, is_le}
-use Rattle.std.specs.declared.cmp.Ordering.{Ordering}
-use Rattle.std.specs.declared.cmp.Ordering.TheVariants.{Less, Equal, Greater}
 use Rattle.semver_base.specs.Candidates.{after, other_kind}
 use Rattle.semver_base.specs.Clamp.{clamped_start, greater_of, of_tied}
 use Rattle.semver_base.specs.Meaning.{end_holds, is_above, is_below, start_holds}
 use Rattle.semver_base.specs.Precedence.{precedence_cmp}
-use Rattle.semver_base.specs.PrecedenceLaws.{precedence_total}
+use Rattle.semver_base.specs.PrecedenceLaws.{precedence_total, turned, less_le, le_le, le_turned}
 use Rattle.semver_base.specs.declared.version.Version.{Version}
 use Rattle.semver_base.specs.declared.range.PreRelease.{PreRelease}
 use Rattle.semver_base.specs.declared.range.PreRelease.TheVariants.{Restricted, Admitted}
@@ -20,7 +16,7 @@ use Rattle.semver_base.specs.declared.range.VersionBoundKind.TheVariants as kind
 use Rattle.semver_base.specs.declared.range.VersionRange.{VersionRange}
 use Rattle.semver_base.proofs.ClampLemmas.{above_from, start_both}
 use Rattle.semver_base.proofs.LowestFrom.{alike_admitted, means, means_admits, means_end, means_from, means_start, AreAlike}
-use Rattle.semver_base.proofs.Orders.{greater_from, le_le, le_turned, less_le, turned}
+use Rattle.semver_base.proofs.Orders.{greater_from}
 use Rattle.semver_base.proofs.Triples as triples
 
 -- ---- what an end excludes

@@ -1,7 +1,6 @@
 -- Two candidates decide whether some pre-release of a bound's numbers matches: the lowest one of these numbers, and the
 -- lowest of the start's numbers from it on.
-use Rattle.std.proofs.Common.{◌≡◌, ◌&&◌, Bool, true, false, not, Option, Some, None, refl, sym, subst, ◌∙◌, inl, inr}
-use Rattle.std.specs.Prelude.{◌||◌, is_some}
+use Rattle.std.proofs.Common.{◌≡◌, ◌&&◌, Bool, true, false, not, Option, Some, None, refl, sym, subst, ◌∙◌, inl, inr, ◌||◌, is_some}
 use Rattle.std.proofs.lemmas.Bool.{and_from, and_parts, cases_Bool, or_left, or_right}
 use Rattle.semver_base.specs.Candidates.{filtered, own_pre, zero_pre}
 use Rattle.semver_base.specs.LowestVersion.{IsReadable, DecidesSome}
@@ -19,10 +18,10 @@ module _ (range : VersionRange) (b : RangeBound) where
   test = is_pre_match range b
 
   pre : (v : Version) → test v ≡ true → is_release v ≡ false
-  pre v h = triples.not_true (is_release v) ((and_parts _ (has_pre_of b v) ((and_parts _ (range_means range v) h).0)).0)
+  pre v h = triples.not_true (is_release v) (and_parts _ (has_pre_of b v) (and_parts _ (range_means range v) h).0).0
 
   of_bound : (v : Version) → test v ≡ true → has_pre_of b v ≡ true
-  of_bound v h = (and_parts (not (is_release v)) _ ((and_parts _ (range_means range v) h).0)).1
+  of_bound v h = (and_parts (not (is_release v)) _ (and_parts _ (range_means range v) h).0).1
 
   meant : (v : Version) → test v ≡ true → range_means range v ≡ true
   meant v h = (and_parts (not (is_release v) && has_pre_of b v) _ h).1

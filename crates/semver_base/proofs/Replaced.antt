@@ -1,9 +1,8 @@
 -- What is replaced so far, while a text is scanned from its start.
-use Rattle.std.proofs.Common.{◌≡◌, ◌≤◌, ◌<◌, ◌+◌, ◌-◌, ℕ, List, [], ◌++◌, length, take, drop, slice_get, Some, None, refl, sym, ap, ◌∙◌, subst, arith, inl, inr, length-append}
+use Rattle.std.proofs.Common.{◌≡◌, ◌≤◌, ◌<◌, ◌+◌, ◌-◌, ℕ, List, [], ◌++◌, length, take, drop, slice_get, Some, None, refl, sym, ap, ◌∙◌, subst, arith, inl, inr, length-append, encode_utf8}
 use Rattle.std.proofs.lemmas.Bool.{cases_lt}
 use Rattle.std.proofs.lemmas.List.{append_assoc, append_cancel_left, length-drop, nil_from_length}
 use Rattle.std.proofs.lemmas.Str.{chars-nil}
-use Rattle.std.specs.Prelude.{encode_utf8}
 use Rattle.std.specs.Str.Pattern.{FindsText, HasTextAt}
 use Rattle.semver_base.specs.Texts.{IsFirstCharacter, IsReplaced, at_end, before_character, no_more, one_more}
 

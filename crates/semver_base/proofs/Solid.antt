@@ -1,6 +1,5 @@
 -- Texts that neither begin nor end with whitespace, and the bytes of the tokens of versions.
-use Rattle.std.proofs.Common.{◌≡◌, ◌<◌, ℕ, Bool, true, false, cond, List, [], ◌∷◌, ◌++◌, length, refl, sym, ap, ◌∙◌, arith, append_assoc, length-append, ◌==◌}
-use Rattle.std.specs.Prelude.{◌&&◌, not, encode_utf8_all}
+use Rattle.std.proofs.Common.{◌≡◌, ◌<◌, ℕ, Bool, true, false, cond, List, [], ◌∷◌, ◌++◌, length, refl, sym, ap, ◌∙◌, arith, append_assoc, length-append, ◌==◌, ◌&&◌, not, encode_utf8_all}
 use Rattle.std.specs.Char.{is_ascii, is_ascii_digit, is_ascii_graphic, is_whitespace}
 use Rattle.std.specs.List.{list_all}
 use Rattle.std.specs.Str.{IsAscii, drop_trailing_whitespace, skip_leading_whitespace, trim, trim_end, trim_start}

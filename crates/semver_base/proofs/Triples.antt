@@ -1,8 +1,6 @@
 -- What lies between two pre-releases of the same three numbers.
-use Rattle.std.proofs.Common.{◌≡◌, ◌==◌, ◌≤◌, ℕ, List, length, Bool, true, false, not, refl, sym, ◌∙◌, arith}
+use Rattle.std.proofs.Common.{◌≡◌, ◌==◌, ◌≤◌, ℕ, List, length, Bool, true, false, not, refl, sym, ◌∙◌, arith, is_le, nat_cmp, Equal}
 use Rattle.std.proofs.lemmas.Cmp.{nat_cmp_total, tied_itself}
-use Rattle.std.specs.Ordering.{is_le, nat_cmp}
-use Rattle.std.specs.declared.cmp.Ordering.TheVariants.{Equal}
 use Rattle.std.proofs.lemmas.Bool.{and_parts, eq-eqb, eqb-true}
 use Rattle.std.proofs.lemmas.Map.Keys.{le_from_is_le}
 use Rattle.semver_base.specs.Meaning.{bound_at, has_pre_of, is_release}
@@ -57,13 +55,13 @@ pre_numbers x v h =
     let rest = (and_parts _ _ h).1 in
     let rest1 = (and_parts _ _ rest).1 in
     record {
-      major = eqb-true _ _ ((and_parts _ _ rest).0);
-      minor = eqb-true _ _ ((and_parts _ _ rest1).0);
-      patch = eqb-true _ _ ((and_parts _ _ rest1).1);
+      major = eqb-true _ _ (and_parts _ _ rest).0;
+      minor = eqb-true _ _ (and_parts _ _ rest1).0;
+      patch = eqb-true _ _ (and_parts _ _ rest1).1;
     }
 
 pub pre_some : (x v : Version) → is_pre_of x v ≡ true → (length x.pre == 0) ≡ false
-pre_some x v h = not_true (length x.pre == 0) ((and_parts _ _ h).0)
+pre_some x v h = not_true (length x.pre == 0) (and_parts _ _ h).0
 
 pub pre_from : (x v : Version) → SameNumbers x v → (length x.pre == 0) ≡ false → is_pre_of x v ≡ true
 pre_from x v same pre = rw (pre, eq-eqb x.major v.major same.major, eq-eqb x.minor v.minor same.minor, eq-eqb x.patch v.patch same.patch) refl

@@ -1,7 +1,5 @@
 -- How the version parser's steps give the outcome of a text, and why it is the only one.
-use Rattle.std.proofs.Common.{◌≡◌, ◌≤◌, ◌<◌, ◌^◌, ℕ, Bool, true, List, [], ◌∷◌, ◌++◌, length, Option, Some, None, Result, Ok, Err, refl, sym, ap, ◌∙◌, arith, inl, inr, ◌==◌, append_assoc, append-nil, length-append}
-use Rattle.std.specs.Borrow.{Bor}
-use Rattle.std.specs.Prelude.{◌||◌, ◌⊎◌, slice_index, unwrap_or}
+use Rattle.std.proofs.Common.{◌≡◌, ◌≤◌, ◌<◌, ◌^◌, ℕ, Bool, true, List, [], ◌∷◌, ◌++◌, length, Option, Some, None, Result, Ok, Err, refl, sym, ap, ◌∙◌, arith, inl, inr, ◌==◌, append_assoc, append-nil, length-append, Bor, ◌||◌, ◌⊎◌, slice_index, unwrap_or}
 use Rattle.std.specs.Char.{is_ascii_digit}
 use Rattle.std.specs.Str.Parse.{digits_value}
 use Rattle.std.proofs.lemmas.Bool.{false_from_ne_true, or_left, or_right}

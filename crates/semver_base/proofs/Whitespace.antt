@@ -1,10 +1,8 @@
 -- Leading whitespace, and texts of only whitespace.
-use Rattle.std.proofs.Common.{◌≡◌, ◌≤◌, ◌<◌, ℕ, Bool, true, List, [], ◌∷◌, ◌++◌, length, take, get_or, refl, sym, ap, ◌∙◌, arith, inl, inr, append_assoc, append-nil, length-append}
-use Rattle.std.specs.Prelude.{◌↔◌, ◌==◌, ◌||◌, nat_le, IsTrue, IsUtf8}
+use Rattle.std.proofs.Common.{◌≡◌, ◌≤◌, ◌<◌, ℕ, Bool, true, List, [], ◌∷◌, ◌++◌, length, take, get_or, refl, sym, ap, ◌∙◌, arith, inl, inr, append_assoc, append-nil, length-append, ◌↔◌, ◌==◌, ◌||◌, nat_le, IsTrue, IsUtf8, encode_utf8}
 use Rattle.std.specs.Char.{is_not_whitespace, is_whitespace}
 use Rattle.std.specs.List.{list_all}
 use Rattle.std.specs.Str.{EmptyOrStartsWithPassing, IsTrimStart, NonePass, NoCharPasses, chars, encode_utf8_all}
-use Rattle.std.specs.Prelude.{encode_utf8}
 use Rattle.std.proofs.lemmas.Bool.Decides.{nat_tests, same_from_decides}
 use Rattle.std.proofs.lemmas.Str.{chars_from_encodes, encode_same, encodes-chars, inside_one, len_utf8_bounds, length-encode}
 use Rattle.std.proofs.lemmas.List.Sums.{list_all-from_AllPass}
@@ -100,7 +98,7 @@ all_white (c ∷ cs) h = rw (not-false (is_whitespace c) h.0) (all_white cs h.1)
 
 none_other : (cs : List ℕ) → list_all is_whitespace cs ≡ true → NonePass is_not_whitespace cs
 none_other [] h = tt
-none_other (c ∷ cs) h = (rw ((and_parts (is_whitespace c) (list_all is_whitespace cs) h).0) refl, none_other cs ((and_parts (is_whitespace c) (list_all is_whitespace cs) h).1))
+none_other (c ∷ cs) h = (rw (and_parts (is_whitespace c) (list_all is_whitespace cs) h).0 refl, none_other cs (and_parts (is_whitespace c) (list_all is_whitespace cs) h).1)
 
 -- a text is only whitespace exactly if each of its characters is
 pub whitespace_characters : (text : List ℕ) → IsUtf8 text → IsTrue (list_all is_whitespace (chars text)) ↔ IsWhitespace text tt

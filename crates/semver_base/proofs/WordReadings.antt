@@ -1,6 +1,5 @@
 -- Each text of numbers, identifiers and qualifiers has one value.
-use Rattle.std.proofs.Common.{◌≡◌, ℕ, Bool, List, [], ◌∷◌, inl, inr, refl, ◌==◌}
-use Rattle.std.specs.Prelude.{◌||◌}
+use Rattle.std.proofs.Common.{◌≡◌, ℕ, Bool, List, [], ◌∷◌, inl, inr, refl, ◌==◌, ◌||◌}
 use Rattle.std.specs.Char.{is_ascii_digit}
 use Rattle.std.proofs.lemmas.Bool.{or_left}
 use Rattle.semver_base.specs.Lexical.{IsBuild, IsIdentifiers, IsLooseNumber, IsLoosePre, IsNumber, IsPre, IsQualifier, is_identifier_byte}

@@ -1,13 +1,10 @@
 -- The text of a version matches the grammar, and parses to that version.
-use Rattle.std.proofs.Common.{◌≡◌, ◌<◌, ◌^◌, ℕ, zero, suc, true, List, [], ◌∷◌, ◌++◌, length, Option, Some, None, Ok, refl, sym, ap, ◌∙◌, arith, inl, append_assoc, append-nil}
-use Rattle.std.specs.Prelude.{slice_index}
-use Rattle.std.specs.Char.{is_ascii_digit}
-use Rattle.std.specs.Fmt.{decimal}
+use Rattle.std.proofs.Common.{◌≡◌, ◌<◌, ◌^◌, ℕ, zero, suc, true, List, [], ◌∷◌, ◌++◌, length, Option, Some, None, Ok, refl, sym, ap, ◌∙◌, arith, inl, append_assoc, append-nil, slice_index, decimal}
+use Rattle.std.specs.Char.{is_ascii_digit, is_not_whitespace}
 use Rattle.std.specs.List.{flat_map, list_all}
 use Rattle.std.specs.Str.{trim}
 use Rattle.std.proofs.lemmas.Fmt.{decimal_digit, decimal_is_IsNumeral, first_decimal}
 use Rattle.std.proofs.lemmas.Str.{NoCharPasses-nil}
-use Rattle.std.specs.Char.{is_not_whitespace}
 use Rattle.semver_base.specs.Grammar.{After, Followed, Joined, Optional, last_item, more_items}
 use Rattle.semver_base.specs.Lexical.{IsWhitespace, IsBuild, IsIdentifiers, IsLooseNumber, IsNumber, IsPre, IsQualifier, NoDigitFollows, or_none}
 use Rattle.semver_base.specs.VersionGrammar.{IsLead, IsTriple, IsVersion, IsVersionOutcome, is_version}

@@ -1,9 +1,7 @@
 -- Which versions bounds include, and which match comparators, alternatives and trees of them. Source: node-semver's
 -- description of ranges and of pre-release tags.
-use Rattle.std.specs.Prelude.{ℕ, List, [], ◌∷◌, length, map, Bool, true, false, ◌==◌, ◌&&◌, ◌||◌, not}
+use Rattle.std.proofs.Common.{◌≡◌, refl, ap, ℕ, List, [], ◌∷◌, length, map, Bool, true, false, ◌==◌, ◌&&◌, ◌||◌, not, is_ge, is_gt, is_le, is_lt, Ordering, Less, Equal, Greater}
 use Rattle.std.specs.List.{list_all, list_any}
-use Rattle.std.specs.Ordering.{is_ge, is_gt, is_le, is_lt}
-use Rattle.std.specs.declared.cmp.Ordering.{Ordering}
 use Rattle.semver_base.specs.Precedence.{precedence_cmp}
 use Rattle.semver_base.specs.declared.version.Version.{Version}
 use Rattle.semver_base.specs.declared.range.PreRelease.{PreRelease}
@@ -20,6 +18,13 @@ use Rattle.semver_base.specs.declared.range.VersionRange.{VersionRange}
 abbrev pub is_above : VersionBoundKind → Ordering → Bool
 is_above kind.Inclusive order = is_ge order
 is_above kind.Exclusive order = is_gt order
+
+-- what is above a start isn't below its version
+pub above_ge : (k : VersionBoundKind) (r : Ordering) → is_above k r ≡ true → is_ge r ≡ true
+above_ge kind.Inclusive r h = h
+above_ge kind.Exclusive Less h = h
+above_ge kind.Exclusive Equal h = refl
+above_ge kind.Exclusive Greater h = refl
 
 -- whether a version that compares so to an end is below it, or at it if the end is inclusive
 abbrev pub is_below : VersionBoundKind → Ordering → Bool
@@ -83,6 +88,13 @@ range_means_with flag range v = alternative_means_with flag (range ∷ []) v
 
 abbrev pub set_means_with : PreRelease → List VersionRange → Version → Bool
 set_means_with flag ranges v = tree_means_with flag (alternatives ranges) v
+
+-- some range alone matches the version exactly if the set does
+pub any_alternatives : (flag : PreRelease) (ranges : List VersionRange) (v : Version)
+    → list_any (λ range. range_means_with flag range v) ranges ≡ set_means_with flag ranges v
+any_alternatives flag [] v = refl
+any_alternatives flag (range ∷ ranges) v =
+    ap (λ (b : Bool). range_means_with flag range v || b) (any_alternatives flag ranges v)
 
 -- the same two by npm's rule
 abbrev pub range_means : VersionRange → Version → Bool

@@ -1,7 +1,6 @@
 -- The table of canonical forms as text, which the definition by comparators follows. s and e are the versions of the start
 -- and the end.
-use Rattle.std.specs.Prelude.{◌≡◌, ◌<◌, ◌+◌, ℕ, ◌∷◌, ◌++◌, codes}
-use Rattle.std.specs.Fmt.{decimal}
+use Rattle.std.specs.Prelude.{◌≡◌, ◌<◌, ◌+◌, ℕ, ◌∷◌, ◌++◌, codes, decimal}
 use Rattle.semver_base.specs.Characters.{dot}
 use Rattle.semver_base.specs.Meaning.{bound_at, everything, from, release, to_below}
 use Rattle.semver_base.specs.NormalText.{range_text}

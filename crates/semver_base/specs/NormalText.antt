@@ -1,7 +1,6 @@
 -- The canonical form of a requirement as text: the shortest form of each range. Source: node-semver's "Advanced Range Syntax"
 -- for the forms; the choice among them is `deno_semver`'s own.
-use Rattle.std.specs.Prelude.{ℕ, List, [], ◌∷◌, ◌++◌, codes}
-use Rattle.std.specs.Fmt.{decimal}
+use Rattle.std.specs.Prelude.{ℕ, List, [], ◌∷◌, ◌++◌, codes, decimal}
 use Rattle.std.specs.List.{AllByRecursion, join_by}
 use Rattle.semver_base.specs.Characters.{dot}
 use Rattle.semver_base.specs.Comparators.{Caret, Comparator, Hyphen, OfPrimitive, Bare, Tilde, primitive_kind_text}

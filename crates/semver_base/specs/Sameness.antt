@@ -1,7 +1,6 @@
 -- What it means for a test to decide whether two values are the same, and that the derived `==` of the public types does. Each `.._eq` is
 -- the `==` of its type, and each `.._reported` says that it decides.
-use Rattle.std.proofs.Common.{◌≡◌, ◌↔◌, IsTrue, ◌&&◌, ℕ, List, Bool, true, false, nat_eq, refl, ap}
-use Rattle.std.specs.Bool.{Decides}
+use Rattle.std.proofs.Common.{◌≡◌, ◌↔◌, IsTrue, ◌&&◌, ℕ, List, Bool, true, false, nat_eq, refl, ap, Decides}
 use Rattle.std.specs.Cmp.{unsigned_Decides}
 use Rattle.std.specs.Cmp.Lexicographic.{pointwise, pointwise_decides}
 use Rattle.semver_base.specs.PrecedenceLaws.{version_eq, version_reported}

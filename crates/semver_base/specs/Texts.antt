@@ -1,7 +1,5 @@
 -- Short texts that are stored inline, lists whose copies share their items, and what replacing means.
-use Rattle.std.specs.Prelude.{◌≡◌, ℕ, List, [], ◌∷◌, ◌++◌, ◌<◌, ◌≤◌, ◌==◌, length, take, drop, slice_get, string_bytes, encode_utf8, Some, None}
-use Rattle.std.specs.List.{take_while}
-use Rattle.std.specs.Str.{chars}
+use Rattle.std.specs.Prelude.{◌≡◌, ℕ, List, [], ◌∷◌, ◌++◌, ◌<◌, ◌≤◌, ◌==◌, length, take, drop, slice_get, string_bytes, encode_utf8, Some, None, take_while, chars}
 use Rattle.std.specs.Str.Pattern.{FindsText}
 use Rattle.std.specs.declared.borrow.CowStr.{CowStr}
 use Rattle.std.specs.declared.borrow.CowStr.TheVariants as cow

@@ -5,13 +5,14 @@
 //!
 //! Equal values hash alike: they write the same to every `Hasher`. `equal_hash_alike` says so for each type with `Hash`.
 //!
-//! The last six laws are about versions, ranges and their texts alone. Their calls do nothing: a caller cites what they
+//! The last seven laws are about versions, ranges and their texts alone. Their calls do nothing: a caller cites what they
 //! ensure.
 
 ghost use Rattle.std.specs.Prelude.{◌≡◌, ◌↔◌, IsTrue};
 ghost use Rattle.std.proofs.Common.{rules};
 ghost use Rattle.std.specs.Cmp.Lexicographic.{pointwise_decides};
 ghost use Rattle.semver_base.specs.Clamp.{ClampedRangesMeanBoth};
+ghost use Rattle.semver_base.specs.Grammar.{CountedRunsAreCut};
 ghost use Rattle.semver_base.specs.Sameness.{ReportsSame, kind_reported, range_bound_reported, range_reported, range_set_reported, text_reported, version_bound_reported};
 ghost use Rattle.semver_base.specs.LowestVersion.{ReadVersionsAreReadable};
 ghost use Rattle.semver_base.specs.NormalTable.{IsNormalTable};
@@ -136,4 +137,9 @@ pub fn read_versions_are_readable()
 /// The text of a parsed version consists of letters, digits, `-`, `.` and `+`.
 pub fn version_texts_are_bare()
     ensures { VersionTextsAreBare }
+{}
+
+/// The leading bytes that pass a test are as many as `take_while` yields, and the next one, if any, fails it.
+pub fn counted_runs_are_cut()
+    ensures { CountedRunsAreCut }
 {}

@@ -204,16 +204,6 @@ impl RangeBound {
         }
     }
 
-    // Of two bounds that tie, returns this one if its kind `kind` is exclusive, and otherwise the other.
-    fn of_tied(&self, kind: VersionBoundKind, other: &RangeBound) -> Result<RangeBound, AllocError>
-        ensures { IfOk result (λ bound. bound ≡ of_tied kind self.now other.now) }
-    {
-        match kind {
-            VersionBoundKind::Exclusive => self.copy(),
-            VersionBoundKind::Inclusive => other.copy(),
-        }
-    }
-
     /// The start of the intersection of two ranges with these starts: the higher by precedence, and of two that tie this one
     /// if it is exclusive and otherwise the other. If one is absent, it is the other.
     ///
@@ -249,7 +239,10 @@ impl RangeBound {
             (RangeBound::Version(start), RangeBound::Version(stop)) => {
                 match start.version.cmp_precedence(&stop.version) {
                     Ordering::Less => self.copy(),
-                    Ordering::Equal => self.of_tied(start.kind, end),
+                    Ordering::Equal => match start.kind {
+                        VersionBoundKind::Exclusive => self.copy(),
+                        VersionBoundKind::Inclusive => end.copy(),
+                    },
                     Ordering::Greater => Ok(RangeBound::exclusive(stop.version.copy()?)),
                 }
             }

@@ -1,12 +1,9 @@
 -- The results of calls, from those of questions about texts.
-use Rattle.std.proofs.Common.{◌≡◌, ◌∙◌, arith, ℕ, List, Ok, Err, Result, refl, sym, ap, subst, inl, inr}
-use Rattle.std.specs.Prelude.{◌⊎◌, ◌<◌}
-use Rattle.std.specs.Result.{IsErrAnd}
-use Rattle.std.specs.Str.{IsUtf8}
+use Rattle.std.proofs.Common.{◌≡◌, ◌∙◌, arith, ℕ, List, Ok, Err, Result, refl, sym, ap, subst, inl, inr, ◌⊎◌, ◌<◌, IsErrAnd, IsUtf8}
 use Rattle.semver_req.specs.declared.common.values.Flavour.{Flavour}
 use Rattle.semver_req.specs.declared.common.values.Flavour.TheVariants.{Npm, Normal, Specifier}
 use Rattle.semver_req.specs.Viable.{IsErrorPlace, IsVersionText}
-use Rattle.answers.proofs.Givens.{by_fault, by_value, out_of_memory}
+use Rattle.answers.specs.AskingLaws.{by_value, by_fault, out_of_memory}
 use Rattle.answers.specs.Asking.{Fault, Given, IsOutcomeOf, OutOfMemory, fault_of, invalid, valid}
 use Rattle.answers.specs.declared.asking.Problem.{Problem as Unanswered}
 use Rattle.answers.specs.declared.asking.Problem.TheVariants as unanswered

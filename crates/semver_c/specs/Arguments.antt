@@ -1,6 +1,5 @@
 -- The arguments of a call, in which a grammar is a number and a text is bytes, and why a call has no result.
-use Rattle.std.specs.Prelude.{◌≡◌, ◌⊎◌, ◌==◌, ◌<◌, ℕ, List, Result, Ok, Err, codes, if◌then◌else◌}
-use Rattle.std.specs.Str.{IsUtf8}
+use Rattle.std.specs.Prelude.{◌≡◌, ◌⊎◌, ◌==◌, ◌<◌, ℕ, List, Result, Ok, Err, codes, if◌then◌else◌, IsUtf8}
 use Rattle.semver_base.specs.Failure.{message_of}
 use Rattle.semver_base.specs.declared.range.PreRelease.{PreRelease}
 use Rattle.semver_base.specs.declared.range.PreRelease.TheVariants.{Restricted, Admitted}

@@ -1,6 +1,5 @@
 -- Bytes of one kind may follow the same prefixes, in the grammar of each flavour.
-use Rattle.std.proofs.Common.{◌≡◌, ◌<◌, ℕ, true, false, List, [], ◌∷◌, ◌++◌, refl, sym, subst, arith, inl, inr, append_assoc}
-use Rattle.std.specs.Prelude.{IsUtf8, codes}
+use Rattle.std.proofs.Common.{◌≡◌, ◌<◌, ℕ, true, false, List, [], ◌∷◌, ◌++◌, refl, sym, subst, arith, inl, inr, append_assoc, IsUtf8, codes}
 use Rattle.std.specs.Char.{is_ascii_digit}
 use Rattle.std.specs.List.{list_all}
 use Rattle.std.proofs.lemmas.Bool.{cases_Bool}

@@ -1,6 +1,5 @@
 -- Bytes of one kind, in the words, comparators and pieces of the grammars.
-use Rattle.std.proofs.Common.{◌≡◌, ℕ, true, List, [], ◌∷◌, ◌++◌, length, None, refl, sym, ap, ◌∙◌, arith, inl, inr, append_assoc, append-nil, length-append}
-use Rattle.std.specs.Prelude.{IsUtf8, slice_index}
+use Rattle.std.proofs.Common.{◌≡◌, ℕ, true, List, [], ◌∷◌, ◌++◌, length, None, refl, sym, ap, ◌∙◌, arith, inl, inr, append_assoc, append-nil, length-append, IsUtf8, slice_index}
 use Rattle.std.specs.Char.{is_ascii_digit}
 use Rattle.std.proofs.lemmas.Str.{IsUtf8-nil}
 use Rattle.semver_base.specs.Grammar.{Listed, last_item, closed_item, more_items}

@@ -1,17 +1,16 @@
 -- Requirements with the same ranges in any order match the same versions, and so have one lowest version.
-use Rattle.std.proofs.Common.{◌≡◌, ◌&&◌, Bool, true, false, List, [], ◌∷◌, map, not, Option, Result, Ok, Err, refl, sym, ap, ap₂, subst, ◌∙◌}
+use Rattle.std.proofs.Common.{◌≡◌, ◌&&◌, Bool, true, false, List, [], ◌∷◌, map, not, Option, Result, Ok, Err, refl, sym, ap, ap₂, subst, ◌∙◌, ◌||◌, IfOk, IfSome, IsPermutation}
 use Rattle.std.specs.List.{list_all, list_any}
-use Rattle.std.specs.Prelude.{◌||◌, IfOk, IfSome, IsPermutation}
+use Rattle.std.proofs.Math.Path.{fun_ext}
 use Rattle.std.proofs.lemmas.List.Sorted.{list_any-IsPermutation}
-use Rattle.semver_base.specs.LowestVersion.{HasNoBuild, IsLowestPassing}
-use Rattle.semver_base.specs.Meaning.{range_means_with, set_means_with}
+use Rattle.semver_base.specs.LowestVersion.{HasNoBuild, IsLowestPassing, IsOnlyLowest, ReadVersionsAreReadable}
+use Rattle.semver_base.specs.Meaning.{range_means_with, set_means_with, any_alternatives}
 use Rattle.semver_base.specs.NormalText.{AreWritableRanges}
 use Rattle.semver_base.specs.VersionText.{ReadsBack}
 use Rattle.semver_base.specs.declared.range.PreRelease.{PreRelease}
 use Rattle.semver_base.specs.declared.range.VersionRangeSet.{VersionRangeSet}
 use Rattle.semver_base.specs.declared.version.Version.{Version}
-use Rattle.semver_base.proofs.MeaningLemmas.{any_alternatives}
-use Rattle.semver_base.proofs.OnlyLowest.{only_alike, only_lowest}
+use Rattle.semver_req.proofs.OnlyLowest.{only_lowest}
 use Rattle.semver_req.specs.AnyOrder.{AllInAnyOrder, AreEachReordered, AreReordered, BothInAnyOrder, InAnyOrder, IsReordered}
 use Rattle.semver_req.specs.Parsers.{AreReadOrTags, IsReadOrTag}
 use Rattle.semver_req.specs.Requirement.{Requirement, all_inners_mean_with, inner_means_with}
@@ -66,11 +65,15 @@ all_means flag own same others rest moved v =
 
 -- ---- the results
 
+-- what is the only lowest version of one test is that of an equal one
+only_alike : (test same : Version → Bool) (lowest : Option Version) → ((v : Version) → same v ≡ test v) → IsOnlyLowest test lowest → IsOnlyLowest same lowest
+only_alike test same lowest alike h = subst (λ (t : Version → Bool). IsOnlyLowest t lowest) (sym (fun_ext alike)) h
+
 -- what is asked of two
 abbrev asked : PreRelease → (Bool → Bool → Bool) → RangeSetOrTag → RangeSetOrTag → Version → Bool
 asked flag test one other v = test (inner_means_with flag one v) (inner_means_with flag other v)
 
-module _ {E : Type 0} (flag : PreRelease) where
+module _ (readable : ReadVersionsAreReadable) {E : Type 0} (flag : PreRelease) where
   pub own_in_any_order : (one : RangeSetOrTag) (set : VersionRangeSet) (r : Result (Option Version) E) → one ≡ inner.RangeSet set
       → IfOk r (IsLowestPassing (set_means_with flag set.0)) → IfOk r (λ lowest. IfSome lowest HasNoBuild) → IfOk r (λ lowest. AreWritableRanges set.0 → IfSome lowest ReadsBack)
       → IfOk r (λ lowest. IsReadOrTag one → InAnyOrder (inner_means_with flag) one lowest)
@@ -81,7 +84,7 @@ module _ {E : Type 0} (flag : PreRelease) where
           → IfOk r (λ lowest. IsReadOrTag (inner.RangeSet set) → InAnyOrder (inner_means_with flag) (inner.RangeSet set) lowest)
       go (Ok lowest) h plain back = λ read same moved.
           only_alike (set_means_with flag set.0) (inner_means_with flag same) lowest (reordered_means flag (inner.RangeSet set) same moved)
-          (only_lowest (set_means_with flag set.0) lowest h plain (back (read_writable set.0 read)))
+          (only_lowest readable (set_means_with flag set.0) lowest h plain (back (read_writable set.0 read)))
       go (Err e) h plain back = tt
 
   pub both_in_any_order : (test : Bool → Bool → Bool) (one other : RangeSetOrTag) (set others : VersionRangeSet) (r : Result (Option Version) E)
@@ -100,7 +103,7 @@ module _ {E : Type 0} (flag : PreRelease) where
       go (Ok lowest) h plain back = λ own rest same alike moved moved_too.
           only_alike (λ v. test (set_means_with flag set.0 v) (set_means_with flag others.0 v)) (asked flag test same alike) lowest
           (λ v. ap₂ test (reordered_means flag (inner.RangeSet set) same moved v) (reordered_means flag (inner.RangeSet others) alike moved_too v))
-          (only_lowest (λ v. test (set_means_with flag set.0 v) (set_means_with flag others.0 v)) lowest h plain (back (read_writable set.0 own) (read_writable others.0 rest)))
+          (only_lowest readable (λ v. test (set_means_with flag set.0 v) (set_means_with flag others.0 v)) lowest h plain (back (read_writable set.0 own) (read_writable others.0 rest)))
       go (Err e) h plain back = tt
 
   pub all_in_any_order : (own : RangeSetOrTag) (others : List Requirement) (r : Result (Option Version) E)
@@ -109,5 +112,5 @@ module _ {E : Type 0} (flag : PreRelease) where
       → IfOk r (λ lowest. IsReadOrTag own → AreReadOrTags others → AllInAnyOrder flag own others lowest)
   all_in_any_order own others (Ok lowest) h plain back = λ read reads same rest moved.
       only_alike (all_inners_mean_with flag own others) (all_inners_mean_with flag same rest) lowest (all_means flag own same others rest moved)
-      (only_lowest (all_inners_mean_with flag own others) lowest h plain (back read reads))
+      (only_lowest readable (all_inners_mean_with flag own others) lowest h plain (back read reads))
   all_in_any_order own others (Err e) h plain back = tt

@@ -1,22 +1,21 @@
 -- The best match, as more versions are seen, or more values that are ranked in some way.
-use Rattle.std.proofs.Common.{◌≡◌, ◌&&◌, ◌++◌, [], ◌∷◌, ℕ, List, Bool, true, false, not, length, Option, Some, None, refl, sym, ap, ◌∙◌}
+use Rattle.std.proofs.Common.{◌≡◌, ◌&&◌, ◌++◌, [], ◌∷◌, ℕ, List, Bool, true, false, not, length, Option, Some, None, refl, sym, ap, ◌∙◌, append_assoc}
 use Rattle.std.proofs.lemmas.List.Folds.{list_any-append}
 use Rattle.std.proofs.lemmas.List.MinMax.{IsStrictWeakOrder-flip, ranks_by}
 use Rattle.std.specs.Cmp.{IsStrictWeakOrder}
 use Rattle.std.specs.List.{list_any}
 use Rattle.std.proofs.lemmas.Bool.{and_parts, or_from, or_left, or_parts, or_right}
-use Rattle.std.proofs.lemmas.List.{append_assoc}
 use Rattle.semver_base.specs.PrecedenceLaws.{precedence_total}
 use Rattle.semver_base.specs.declared.version.Version.{Version}
 use Rattle.semver_req.specs.Resolve.{IsBestAt, IsBestMatch, lower}
-use Rattle.semver_req.specs.ResolveSteps.{exceeds, nearer}
+use Rattle.semver_req.specs.ResolveSteps.{IsKnown, OneWalkFinds, exceeds, nearer}
 use Rattle.semver_req.specs.declared.resolve.End.{End}
 use Rattle.semver_req.specs.declared.resolve.End.TheVariants as end
 
 -- if no element passes a test, none passes a stricter one
 none_from : {X : Type 0} (p q : X → Bool) → ((x : X) → p x ≡ false → q x ≡ false) → (xs : List X) → list_any p xs ≡ false → list_any q xs ≡ false
 none_from p q fails [] h = refl
-none_from p q fails (x ∷ xs) h = or_from _ _ (fails x ((or_parts _ _ h).0)) (none_from p q fails xs ((or_parts (p x) _ h).1))
+none_from p q fails (x ∷ xs) h = or_from _ _ (fails x (or_parts _ _ h).0) (none_from p q fails xs (or_parts (p x) _ h).1)
 
 -- nearness to either end is a strict weak order
 lower_ranks : IsStrictWeakOrder lower
@@ -27,11 +26,6 @@ nearer_ranks end.Highest = IsStrictWeakOrder-flip lower lower_ranks
 nearer_ranks end.Lowest = lower_ranks
 
 module _ {V : Type 0} (near : V → V → Bool) (ranks : IsStrictWeakOrder near) (means : V → Bool) where
-  -- what is known of the values seen so far
-  abbrev pub IsKnown : List V → Option (ℕ × V) → Type 0
-  IsKnown versions None = list_any means versions ≡ false
-  IsKnown versions (Some known) = IsBestAt near means versions known.0 known.1
-
   -- another version matches and is nearer; or it matches, and this one isn't nearer
   abbrev is_better_match : V → V → Bool
   is_better_match version other = means other && near other version
@@ -63,15 +57,15 @@ module _ {V : Type 0} (near : V → V → Bool) (ranks : IsStrictWeakOrder near)
   no_match false c h k = cc k
 
   -- no match seen so far is as good as a version that is nearer than all of them
-  pub none_as_good : (versions : List V) (known : Option (ℕ × V)) (v : V) → IsKnown versions known → exceeds near v known ≡ true
+  pub none_as_good : (versions : List V) (known : Option (ℕ × V)) (v : V) → IsKnown near means versions known → exceeds near v known ≡ true
       → list_any (is_as_good v) versions ≡ false
   none_as_good versions None v h k = none_from means (is_as_good v) (λ other none. and_none (means other) _ (λ is. absurd (cc (none, is)))) versions h
   none_as_good versions (Some known) v h k = none_from (is_better_match known.1) (is_as_good v)
       (λ other none. and_none (means other) _ (λ is. ap not (nearer_than_third v known.1 other k (no_match (means other) _ none is)))) versions h.best
 
   -- a version that isn't better changes nothing
-  pub stays : (versions : List V) (known : Option (ℕ × V)) (v : V) → IsKnown versions known
-      → (means v && exceeds near v known) ≡ false → IsKnown (versions ++ v ∷ []) known
+  pub stays : (versions : List V) (known : Option (ℕ × V)) (v : V) → IsKnown near means versions known
+      → (means v && exceeds near v known) ≡ false → IsKnown near means (versions ++ v ∷ []) known
   stays versions None v h k = list_any-append means versions (v ∷ []) ∙ or_from _ _ h (or_from _ _ (unmatched (means v) k) refl)
     where
       unmatched : (b : Bool) → (b && true) ≡ false → b ≡ false
@@ -88,10 +82,10 @@ module _ {V : Type 0} (near : V → V → Bool) (ranks : IsStrictWeakOrder near)
   }
 
   -- a better version becomes the best so far
-  pub taken : (versions : List V) (known : Option (ℕ × V)) (place : ℕ) (v : V) → length versions ≡ place → IsKnown versions known
+  pub taken : (versions : List V) (known : Option (ℕ × V)) (place : ℕ) (v : V) → length versions ≡ place → IsKnown near means versions known
       → (means v && exceeds near v known) ≡ true → IsBestAt near means (versions ++ v ∷ []) place v
   taken versions known place v at h k =
-      let none : list_any (is_as_good v) versions ≡ false = none_as_good versions known v h ((and_parts (means v) _ k).1) in
+      let none : list_any (is_as_good v) versions ≡ false = none_as_good versions known v h (and_parts (means v) _ k).1 in
       record {
         before = versions;
         after = [];
@@ -116,8 +110,8 @@ module _ {V : Type 0} (near : V → V → Bool) (ranks : IsStrictWeakOrder near)
   none_better : (before after : List V) (x : V) (versions : List V) → versions ≡ before ++ x ∷ after → means x ≡ true
       → (y : V) → list_any (is_better_match y) versions ≡ false → near x y ≡ false
   none_better before after x versions is m y h =
-      no_match (means x) _ ((or_parts _ _ ((or_parts (list_any (is_better_match y) before) _
-      (sym (list_any-append (is_better_match y) before (x ∷ after)) ∙ (sym (ap (list_any (is_better_match y)) is) ∙ h))).1)).0) m
+      no_match (means x) _ (or_parts _ _ (or_parts (list_any (is_better_match y) before) _
+      (sym (list_any-append (is_better_match y) before (x ∷ after)) ∙ (sym (ap (list_any (is_better_match y)) is) ∙ h))).1).0 m
 
   head_same : (x y : V) (xs ys : List V) → x ∷ xs ≡ y ∷ ys → x ≡ y
   head_same x y xs ys e = cc e
@@ -141,7 +135,7 @@ module _ {V : Type 0} (near : V → V → Bool) (ranks : IsStrictWeakOrder near)
       absurd (never_first y x my xy (ap (is_as_good x) (sym (head_same a y (us ++ x ∷ after) later is)) ∙ (or_parts _ _ hx).0))
   same_length (a ∷ us) after x (b ∷ bs) later y is mx my xy yx hx hy =
       let rest : length us ≡ length bs = same_length us after x bs later y (tail_same a b (us ++ x ∷ after) (bs ++ y ∷ later) is) mx my xy yx
-      ((or_parts (is_as_good x a) _ hx).1) ((or_parts (is_as_good y b) _ hy).1) in
+      (or_parts (is_as_good x a) _ hx).1 (or_parts (is_as_good y b) _ hy).1 in
       rw rest refl
 
   -- if one version matches, the result isn't none
@@ -160,3 +154,6 @@ module _ {V : Type 0} (near : V → V → Bool) (ranks : IsStrictWeakOrder near)
       let b = k.1 in
       ap Some (sym b.at_place ∙ (same_length b.before b.after k.0 a.before a.after h.0 (sym b.stands ∙ a.stands) b.matches a.matches
       (none_better b.before b.after k.0 versions b.stands b.matches h.0 a.best) (none_better a.before a.after h.0 versions a.stands a.matches k.0 b.best) b.first a.first ∙ a.at_place))
+
+  pub one_walk_finds : OneWalkFinds near means
+  one_walk_finds = record { stays = stays; taken = taken; only = one_match }

@@ -1,7 +1,5 @@
 -- Where a text is split, and what its pieces are then.
-use Rattle.std.proofs.Common.{◌≡◌, ◌≤◌, ◌<◌, ◌+◌, ◌==◌, ℕ, true, false, List, [], ◌∷◌, ◌++◌, length, take, drop, Option, Some, None, refl, sym, subst, ap, ◌∙◌, arith, length-append, inl, inr}
-use Rattle.std.specs.Prelude.{MatchOption, unwrap_or}
-use Rattle.std.specs.Borrow.{Bor}
+use Rattle.std.proofs.Common.{◌≡◌, ◌≤◌, ◌<◌, ◌+◌, ◌==◌, ℕ, true, false, List, [], ◌∷◌, ◌++◌, length, take, drop, Option, Some, None, refl, sym, subst, ap, ◌∙◌, arith, length-append, inl, inr, MatchOption, unwrap_or, Bor}
 use Rattle.std.specs.Char.{is_not_whitespace}
 use Rattle.std.specs.Str.Pattern.{FindsText}
 use Rattle.std.proofs.lemmas.Bool.{cases_lt}

@@ -1,7 +1,6 @@
 -- The first character that no tag has, and the kinds that are expected.
-use Rattle.std.proofs.Common.{◌≡◌, ◌+◌, ◌<◌, ◌++◌, ℕ, Bool, true, false, List, [], ◌∷◌, Option, Some, None, length, take, get_or, sym, subst}
+use Rattle.std.proofs.Common.{◌≡◌, ◌+◌, ◌<◌, ◌++◌, ℕ, Bool, true, false, List, [], ◌∷◌, Option, Some, None, length, take, get_or, sym, subst, MatchOption}
 use Rattle.std.proofs.lemmas.List.{take_more}
-use Rattle.std.specs.Option.{MatchOption}
 use Rattle.std.specs.Str.Pattern.{FindsBy, MatchBeginsAt}
 use Rattle.semver_req.specs.declared.common.values.Flavour.{Flavour}
 use Rattle.semver_req.specs.Causes.{IsFirstOutsideTag, is_outside_tag}

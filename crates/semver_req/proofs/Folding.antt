@@ -1,19 +1,15 @@
 -- What the ranges that a parser keeps match.
-use Rattle.std.proofs.Common.{◌≡◌, ◌&&◌, ◌||◌, ◌==◌, ◌+◌, ℕ, List, [], ◌∷◌, Bool, true, false, map, not, refl, sym, ap, ap₂, ◌∙◌, inl, inr, arith}
+use Rattle.std.proofs.Common.{◌≡◌, ◌&&◌, ◌||◌, ◌==◌, ◌+◌, ℕ, List, [], ◌∷◌, Bool, true, false, map, not, refl, sym, ap, ap₂, ◌∙◌, inl, inr, arith, is_ge, is_lt, ◌⊎◌, if◌then◌else◌, nat_lt, Ordering, Less, Equal, Greater}
 use Rattle.std.proofs.lemmas.Bool.Decides.{nat_tests}
-use Rattle.std.specs.List.{fold, list_all}
-use Rattle.std.specs.Ordering.{is_ge, is_lt}
-use Rattle.std.specs.Prelude.{◌⊎◌, if◌then◌else◌, nat_lt}
-use Rattle.std.specs.declared.cmp.Ordering.{Ordering}
-use Rattle.std.specs.declared.cmp.Ordering.TheVariants.{Less, Equal, Greater}
+use Rattle.std.specs.List.{fold}
 use Rattle.std.proofs.lemmas.Bool.{and_parts}
 use Rattle.semver_base.specs.Clamp.{clamped, clamped_end, lesser_of, of_tied, HoldsNothing}
 use Rattle.semver_base.specs.Comparators.{Caret, Comparator, Hyphen, OfPrimitive, Bare, Tilde, comparator_range, primitive_line}
-use Rattle.semver_base.specs.Meaning.{alternative_means_with, alternatives, bounds_hold, everything, from, is_below, release, to_below, tree_means_with}
+use Rattle.semver_base.specs.Meaning.{alternative_means_with, alternatives, everything, from, is_below, release, to_below, tree_means_with}
 use Rattle.semver_base.specs.Overlap.{ends_at_zero, is_exclusive}
 use Rattle.semver_base.specs.PartialTable.{above_by, at_least_by, up_to, at_most_by, below_by, between, caret_by, caret_patch, equal_by, greater_range_by, lower_to_below, version_with_pre, tilde_by, upper_by, without_build}
 use Rattle.semver_base.specs.Precedence.{precedence_cmp}
-use Rattle.semver_base.specs.PrecedenceLaws.{precedence_total}
+use Rattle.semver_base.specs.PrecedenceLaws.{precedence_total, le_less, le_turned}
 use Rattle.semver_base.specs.declared.partial.Partial.{Partial}
 use Rattle.semver_base.specs.declared.partial.PrimitiveKind.{PrimitiveKind}
 use Rattle.semver_base.specs.declared.partial.PrimitiveKind.TheVariants as primitive
@@ -28,25 +24,14 @@ use Rattle.semver_base.specs.declared.range.VersionRange.{VersionRange}
 use Rattle.semver_base.specs.declared.version.Version.{Version}
 use Rattle.semver_base.proofs.ClampLemmas.{clamped_bounds, clamped_empty}
 use Rattle.semver_base.proofs.ClampMeaning.{clamped_means}
-use Rattle.semver_base.proofs.Orders.{and_false, and_true, le_less, le_turned, never_both}
+use Rattle.std.proofs.Math.Bool.{and-false}
+use Rattle.semver_base.proofs.Orders.{never_both}
 use Rattle.semver_base.proofs.OverlapLemmas.{ends_no_release}
 use Rattle.semver_req.specs.RetainedSet.{RetainedSetsMeanTheirTrees, folded, retained, retained_range}
 use Rattle.semver_req.specs.Outcome.{tree_ranges}
 use Rattle.semver_req.specs.declared.common.values.Flavour.TheVariants.{Npm, Normal, Specifier}
 
 -- ---- folding
-
-and_grouped : (a b c : Bool) → ((a && b) && c) ≡ (a && (b && c))
-and_grouped true b c = refl
-and_grouped false b c = refl
-
-folded_bounds_from : (start : VersionRange) (ranges : List VersionRange) (v : Version)
-    → bounds_hold (fold clamped start ranges) v ≡ (bounds_hold start v && list_all (λ range. bounds_hold range v) ranges)
-folded_bounds_from start [] v = sym (and_true (bounds_hold start v))
-folded_bounds_from start (range ∷ ranges) v =
-    folded_bounds_from (clamped start range) ranges v
-    ∙ ap (λ (held : Bool). held && list_all (λ next. bounds_hold next v) ranges) (clamped_bounds start range v)
-    ∙ and_grouped (bounds_hold start v) (bounds_hold range v) _
 
 -- the tests of two comparators that are replaced by one, among others
 or_joined : (r c a b o : Bool) → (r || (c || false)) ≡ (r || (a || (b || false))) → (r || (c || o)) ≡ (r || (a || (b || o)))
@@ -98,7 +83,7 @@ above_none low v end h k = go (precedence_cmp v end) refl
 -- no version from 0.0.0 on is below 0.0.0
 from_zero_empty : (end : RangeBound) → IsEmptyAtZero (between (from (release 0 0 0)) end)
 from_zero_empty bound.Unbounded h v = cc h
-from_zero_empty (bound.Version end) h v = by_kind end.kind ((and_parts (is_exclusive end.kind) _ h).0) none
+from_zero_empty (bound.Version end) h v = by_kind end.kind (and_parts (is_exclusive end.kind) _ h).0 none
   where
     none : is_below end.kind (precedence_cmp (release 0 0 0) end.version) ≡ false
     none = ends_no_release true (between (from (release 0 0 0)) (bound.Version end)) (sym h) (release 0 0 0) refl
@@ -118,7 +103,7 @@ raised_first : (n : ℕ) (b : Bool) → ((n + 1 == 0) && b) ≡ false
 raised_first n b = rw (raised n) refl
 
 raised_second : (a : Bool) (n : ℕ) (b : Bool) → (a && ((n + 1 == 0) && b)) ≡ false
-raised_second a n b = rw (raised n) (and_false a)
+raised_second a n b = rw (raised n) (and-false a)
 
 pub tilde_ends : (p : Partial) (major minor : XRange) → ends_at_zero (tilde_by p major minor).range.end ≡ false
 tilde_ends p Wildcard minor = refl

@@ -1,11 +1,10 @@
 -- Comparators that are joined, one more at a time.
-use Rattle.std.proofs.Common.{◌≡◌, Bool, true, false, List, [], ◌∷◌, ◌++◌, map, None, refl, sym, ap, ◌∙◌, inl, inr}
+use Rattle.std.proofs.Common.{◌≡◌, Bool, true, false, List, [], ◌∷◌, ◌++◌, map, None, refl, sym, ap, ◌∙◌, inl, inr, ◌&&◌, if◌then◌else◌}
 use Rattle.std.proofs.lemmas.Grind.{fold-append}
 use Rattle.std.proofs.lemmas.List.{map-append}
 use Rattle.std.proofs.lemmas.Bool.{cases_Bool}
 use Rattle.std.proofs.lemmas.List.Folds.{list_all-append}
 use Rattle.std.specs.List.{list_all}
-use Rattle.std.specs.Prelude.{◌&&◌, if◌then◌else◌}
 use Rattle.semver_base.specs.Clamp.{clamped}
 use Rattle.semver_base.specs.Comparators.{Comparator, comparator_line, comparator_range}
 use Rattle.semver_base.specs.Meaning.{everything}
@@ -14,7 +13,7 @@ use Rattle.semver_base.specs.declared.failure.Rejection.TheVariants.{BoundTooLar
 use Rattle.semver_base.specs.declared.lexical.values.Measured.TheVariants.{Fits, TooLarge}
 use Rattle.semver_base.specs.declared.partial.Partial.{Partial}
 use Rattle.semver_base.specs.declared.range.VersionRange.{VersionRange}
-use Rattle.semver_base.proofs.Orders.{and_true}
+use Rattle.std.proofs.Math.Bool.{and-true}
 use Rattle.semver_req.specs.RetainedSet.{folded}
 use Rattle.semver_req.specs.Partials.{partial_fits, sized_partial}
 use Rattle.semver_req.specs.PieceReading.{joined, numbers_fit, sums_fit}
@@ -31,7 +30,7 @@ abbrev pub read_of : Bool → Bool → VersionRange → RangeOrInvalid
 read_of numbers sums range = if numbers then (if sums then read.Range range else read.Invalid BoundTooLarge) else read.Invalid NumberTooLarge
 
 all_snoc : (p : Comparator → Bool) (cs : List Comparator) (c : Comparator) → list_all p (cs ++ c ∷ []) ≡ (list_all p cs && p c)
-all_snoc p cs c = list_all-append p cs (c ∷ []) ∙ ap (λ (b : Bool). list_all p cs && b) (and_true (p c))
+all_snoc p cs c = list_all-append p cs (c ∷ []) ∙ ap (λ (b : Bool). list_all p cs && b) (and-true (p c))
 
 folded_snoc : (cs : List Comparator) (c : Comparator) → folded (map comparator_range (cs ++ c ∷ [])) ≡ clamped (folded (map comparator_range cs)) (comparator_range c)
 folded_snoc cs c = ap folded (map-append comparator_range cs (c ∷ [])) ∙ fold-append clamped everything (map comparator_range cs) (comparator_range c ∷ [])

@@ -1,6 +1,5 @@
 -- The texts of one kind may follow the same prefixes.
-use Rattle.std.proofs.Common.{ℕ, Bool, List, ◌++◌, refl}
-use Rattle.std.specs.Prelude.{◌↔◌, IsTrue}
+use Rattle.std.proofs.Common.{ℕ, Bool, List, ◌++◌, refl, ◌↔◌, IsTrue}
 use Rattle.semver_req.specs.declared.common.values.Flavour.{Flavour}
 use Rattle.semver_req.specs.Kinds.{IsExpected, IsOfKind, capital_x, digit, itself, kind_text, letter}
 use Rattle.semver_req.specs.Viable.{IsPart, IsViablePrefix}

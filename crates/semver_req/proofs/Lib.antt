@@ -67,3 +67,4 @@ pub mod VersionEndings
 pub mod VersionTexts
 pub mod BestMatches
 pub mod ListOrder
+pub mod OnlyLowest

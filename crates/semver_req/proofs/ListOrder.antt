@@ -1,21 +1,14 @@
 -- Two ascending lists, one a permutation of the other, have items that tie at each place.
-use Rattle.std.proofs.Common.{◌≡◌, ◌<◌, ◌+◌, ℕ, suc, List, [], ◌∷◌, length, get_or, false, cond, Ordering, Less, Equal, Greater, IsPermutation, IsSorted, All, refl, sym, ap, subst, ◌∙◌, arith}
+use Rattle.std.proofs.Common.{◌≡◌, ◌<◌, ◌+◌, ℕ, suc, List, [], ◌∷◌, length, get_or, false, cond, Ordering, Less, Equal, Greater, IsPermutation, IsSorted, All, refl, sym, ap, subst, ◌∙◌, arith, sum_by}
 use Rattle.std.specs.Cmp.{IsTotalOrder}
-use Rattle.std.specs.List.{sum_by}
 use Rattle.std.specs.Ordering.{is_lt, ordering_reverse}
 use Rattle.std.proofs.lemmas.Cmp.{tied_itself}
 use Rattle.std.proofs.lemmas.List.Elements.{All-head, All-tail}
 use Rattle.std.proofs.lemmas.List.Recursion.{is_sum_by}
 use Rattle.std.proofs.lemmas.List.Sorted.{length_permutation, ranks_by, sorted_far, sum_by-IsPermutation}
+use Rattle.semver_req.specs.Ascending.{Tie}
 
 module _ {K : Type 0} (R : K → K → Ordering) (o : IsTotalOrder R) where
-  -- at each place the items tie
-  abbrev pub Tie : List K → List K → Type 0
-  Tie [] [] = Unit {0}
-  Tie [] (y ∷ ys) = ⊥
-  Tie (x ∷ xs) [] = ⊥
-  Tie (x ∷ xs) (y ∷ ys) = (R x y ≡ Equal) × Tie xs ys
-
   -- the number of items below this one
   abbrev one_below : K → K → ℕ
   one_below v x = cond (is_lt (R x v)) 1 0
@@ -47,13 +40,13 @@ module _ {K : Type 0} (R : K → K → Ordering) (o : IsTotalOrder R) where
   tie_below v x y e = ap (λ r. cond (is_lt r) 1 0) (o.congr x y v e)
 
   -- a list that ties at each place has as many items below each item
-  pub ties_below : (v : K) (xs ys : List K) → Tie xs ys → below v xs ≡ below v ys
+  pub ties_below : (v : K) (xs ys : List K) → Tie R xs ys → below v xs ≡ below v ys
   ties_below v [] [] h = refl
   ties_below v [] (y ∷ ys) h = absurd h
   ties_below v (x ∷ xs) [] h = absurd h
   ties_below v (x ∷ xs) (y ∷ ys) h = rw (tie_below v x y h.0, ties_below v xs ys h.1) refl
 
-  ties_length : (xs ys : List K) → Tie xs ys → length xs ≡ length ys
+  ties_length : (xs ys : List K) → Tie R xs ys → length xs ≡ length ys
   ties_length [] [] h = refl
   ties_length [] (y ∷ ys) h = absurd h
   ties_length (x ∷ xs) [] h = absurd h
@@ -73,7 +66,7 @@ module _ {K : Type 0} (R : K → K → Ordering) (o : IsTotalOrder R) where
       let back : R y x ≡ Less = o.antisymm y x ∙ ap ordering_reverse e in
       absurd (omega (arith, first_below x y ys back, same x, first_lowest x xs h))
 
-  pub ascending_tie : (xs ys : List K) → IsSorted R xs → IsSorted R ys → length xs ≡ length ys → ((v : K) → below v xs ≡ below v ys) → Tie xs ys
+  pub ascending_tie : (xs ys : List K) → IsSorted R xs → IsSorted R ys → length xs ≡ length ys → ((v : K) → below v xs ≡ below v ys) → Tie R xs ys
   ascending_tie [] [] h k long same = tt
   ascending_tie [] (y ∷ ys) h k long same = absurd (omega (arith, long))
   ascending_tie (x ∷ xs) [] h k long same = absurd (omega (arith, long))
@@ -82,6 +75,6 @@ module _ {K : Type 0} (R : K → K → Ordering) (o : IsTotalOrder R) where
       (first, ascending_tie xs ys (rest_sorted x xs h) (rest_sorted y ys k) (omega (arith, long)) (λ v. omega (arith, same v, tie_below v x y first)))
 
   -- an ascending list ties at each place with what is sorted from a list that does
-  pub sorted_ties : (xs ys zs : List K) → IsSorted R xs → Tie ys xs → IsPermutation ys zs → IsSorted R zs → Tie zs xs
+  pub sorted_ties : (xs ys zs : List K) → IsSorted R xs → Tie R ys xs → IsPermutation ys zs → IsSorted R zs → Tie R zs xs
   sorted_ties xs ys zs h tie moved k =
       ascending_tie zs xs k h (length_permutation ys zs moved ∙ ties_length ys xs tie) (λ v. below_moved v ys zs moved ∙ ties_below v ys xs tie)

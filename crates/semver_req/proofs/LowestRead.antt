@@ -1,7 +1,7 @@
 -- The lowest version of requirements whose ranges a parser returned has a text that parses back.
-use Rattle.std.proofs.Common.{◌≡◌, ◌&&◌, Bool, List, [], ◌∷◌, map, Option, Result, Ok, Err, refl, sym, ap₂, subst, ◌∙◌}
+use Rattle.std.proofs.Common.{◌≡◌, ◌&&◌, Bool, List, [], ◌∷◌, map, Option, Result, Ok, Err, refl, sym, ap₂, subst, ◌∙◌, IfOk, IfSome}
+use Rattle.std.proofs.Math.Path.{fun_ext}
 use Rattle.std.specs.List.{list_all, AllByRecursion}
-use Rattle.std.specs.Prelude.{IfOk, IfSome}
 use Rattle.semver_base.specs.LowestVersion.{all_mean_with, IsLowestPassing}
 use Rattle.semver_base.specs.Meaning.{set_means_with}
 use Rattle.semver_base.specs.NormalText.{AreWritableRanges}
@@ -9,7 +9,6 @@ use Rattle.semver_base.specs.VersionText.{ReadsBack}
 use Rattle.semver_base.specs.declared.range.PreRelease.{PreRelease}
 use Rattle.semver_base.specs.declared.range.VersionRangeSet.{VersionRangeSet}
 use Rattle.semver_base.specs.declared.version.Version.{Version}
-use Rattle.semver_base.proofs.LowestFrom.{lowest_as}
 use Rattle.semver_req.specs.Parsers.{IsReadOrTag}
 use Rattle.semver_req.specs.Requirement.{all_inners_mean_with, inner_means_with, ranges_of, Requirement}
 use Rattle.semver_req.specs.declared.range_set_or_tag.RangeSetOrTag.{RangeSetOrTag}
@@ -19,10 +18,11 @@ use Rattle.semver_req.proofs.ReadSets.{read_writable}
 writable : (one : RangeSetOrTag) (set : VersionRangeSet) → one ≡ inner.RangeSet set → IsReadOrTag one → AreWritableRanges set.0
 writable one set is read = read_writable set.0 (subst IsReadOrTag is read)
 
-pub common_back : {E : Type 0} (one other : RangeSetOrTag) (set others : VersionRangeSet) (r : Result (Option Version) E) → one ≡ inner.RangeSet set → other ≡ inner.RangeSet others
-    → IfOk r (λ lowest. AreWritableRanges set.0 → AreWritableRanges others.0 → IfSome lowest ReadsBack) → IfOk r (λ lowest. IsReadOrTag one → IsReadOrTag other → IfSome lowest ReadsBack)
-common_back one other set others (Ok lowest) is are h = λ own rest. h (writable one set is own) (writable other others are rest)
-common_back one other set others (Err e) is are h = tt
+-- what is said of the result for two sets whose bounds have texts that parse back
+pub common_back : {X E : Type 0} (P : X → Type 0) (one other : RangeSetOrTag) (set others : VersionRangeSet) (r : Result X E) → one ≡ inner.RangeSet set → other ≡ inner.RangeSet others
+    → IfOk r (λ x. AreWritableRanges set.0 → AreWritableRanges others.0 → P x) → IfOk r (λ x. IsReadOrTag one → IsReadOrTag other → P x)
+common_back P one other set others (Ok x) is are h = λ own rest. h (writable one set is own) (writable other others are rest)
+common_back P one other set others (Err e) is are h = tt
 
 pub own_back : {E : Type 0} (one : RangeSetOrTag) (set : VersionRangeSet) (r : Result (Option Version) E) → one ≡ inner.RangeSet set
     → IfOk r (λ lowest. AreWritableRanges set.0 → IfSome lowest ReadsBack) → IfOk r (λ lowest. IsReadOrTag one → IfSome lowest ReadsBack)
@@ -43,8 +43,8 @@ all_mean_same flag (req ∷ reqs) v = ap₂ (λ (a b : Bool). a && b) (ranges_me
 pub all_lowest : {E : Type 0} (flag : PreRelease) (own : RangeSetOrTag) (others : List Requirement) (set : VersionRangeSet) (sets : List VersionRangeSet) (r : Result (Option Version) E)
     → set ≡ ranges_of own → sets ≡ map (λ (req : Requirement). ranges_of req.inner) others → IfOk r (IsLowestPassing (all_mean_with flag set.0 sets)) → IfOk r (IsLowestPassing (all_inners_mean_with flag own others))
 all_lowest flag own others set sets (Ok lowest) is are h =
-    lowest_as (all_mean_with flag set.0 sets) (all_inners_mean_with flag own others) lowest
-    (λ v. ap₂ (λ (s : VersionRangeSet) (ss : List VersionRangeSet). all_mean_with flag s.0 ss v) is are ∙ ap₂ (λ (a b : Bool). a && b) (ranges_mean flag own v) (all_mean_same flag others v)) h
+    subst (λ (test : Version → Bool). IsLowestPassing test lowest)
+    (fun_ext (λ v. ap₂ (λ (s : VersionRangeSet) (ss : List VersionRangeSet). all_mean_with flag s.0 ss v) is are ∙ ap₂ (λ (a b : Bool). a && b) (ranges_mean flag own v) (all_mean_same flag others v))) h
 all_lowest flag own others set sets (Err e) is are h = tt
 
 ranges_writable : (one : RangeSetOrTag) → IsReadOrTag one → AreWritableRanges (ranges_of one).0

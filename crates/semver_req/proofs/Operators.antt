@@ -1,6 +1,5 @@
 -- Leading comparators, by the operator that comes first.
-use Rattle.std.proofs.Common.{◌≡◌, ℕ, true, List, [], ◌∷◌, ◌++◌, Option, Some, None, refl, sym, ap, ◌∙◌, arith}
-use Rattle.std.specs.Prelude.{slice_index}
+use Rattle.std.proofs.Common.{◌≡◌, ℕ, true, List, [], ◌∷◌, ◌++◌, Option, Some, None, refl, sym, ap, ◌∙◌, arith, slice_index}
 use Rattle.std.proofs.lemmas.Bool.Decides.{nat_tests}
 use Rattle.semver_base.specs.Grammar.{Either, this, that, HasNone, IsLongest, IsSeen}
 use Rattle.semver_base.specs.Lexical.{IsWhitespace}

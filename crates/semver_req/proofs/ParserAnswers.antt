@@ -1,7 +1,5 @@
 -- What a parser returns, from the outcome that it found.
-use Rattle.std.proofs.Common.{◌≡◌, ℕ, List, Result, Ok, Err, None, refl, sym, subst, inl, inr}
-use Rattle.std.specs.Prelude.{◌⊎◌, IfErr, IsUtf8}
-use Rattle.std.specs.Result.{IsErrAnd}
+use Rattle.std.proofs.Common.{◌≡◌, ℕ, List, Result, Ok, Err, None, refl, sym, subst, inl, inr, ◌⊎◌, IfErr, IsUtf8, IsErrAnd}
 use Rattle.semver_base.specs.Meaning.{tree_means_with}
 use Rattle.semver_req.specs.Outcome.{IsOutcome, Outcome, Ranges, Tag, Rejected, tree_ranges, worked_on}
 use Rattle.semver_req.specs.Parsers.{Failure, HasTree, IsResultOf, IsRead, IsReading, IsReadOrTag, IsParserAnswer, MeansTrees, TagReadsBack}

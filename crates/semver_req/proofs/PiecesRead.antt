@@ -1,11 +1,9 @@
 -- What a piece parses to, and the pieces of a text.
-use Rattle.std.proofs.Common.{◌≡◌, ◌≤◌, ◌<◌, ◌==◌, ℕ, Bool, true, false, List, [], ◌∷◌, ◌++◌, length, map, not, Option, Some, None, refl, sym, subst, ap, ap₂, ◌∙◌, inl, inr, arith, append-nil, length-append}
+use Rattle.std.proofs.Common.{◌≡◌, ◌≤◌, ◌<◌, ◌==◌, ℕ, Bool, true, false, List, [], ◌∷◌, ◌++◌, length, map, not, Option, Some, None, refl, sym, subst, ap, ap₂, ◌∙◌, inl, inr, arith, append-nil, length-append, option_to_list, ◌⊎◌, ◌↔◌, IsTrue, if◌then◌else◌}
 use Rattle.std.proofs.lemmas.Bool.Decides.{nat_tests}
 use Rattle.std.proofs.lemmas.List.{map-append, nil_from_length}
 use Rattle.std.specs.List.{list_all}
-use Rattle.std.specs.Option.{option_to_list}
 use Rattle.std.specs.Char.{is_not_whitespace}
-use Rattle.std.specs.Prelude.{◌⊎◌, ◌↔◌, IsTrue, if◌then◌else◌}
 use Rattle.std.proofs.lemmas.Str.{NoCharPasses-nil}
 use Rattle.std.specs.Str.{trim}
 use Rattle.std.proofs.lemmas.Bool.{and_from, and_parts}
@@ -157,16 +155,16 @@ filled_piece Specifier text [] h = absurd h
 fits_split : (cs : List Comparator) → list_all numbers_fit cs ≡ true → list_all sums_fit cs ≡ true → list_all fits cs ≡ true
 fits_split [] h k = refl
 fits_split (c ∷ cs) h k = and_from _ _
-    (and_from _ _ ((and_parts (numbers_fit c) _ h).0) ((and_parts (sums_fit c) _ k).0))
-    (fits_split cs ((and_parts (numbers_fit c) _ h).1) ((and_parts (sums_fit c) _ k).1))
+    (and_from _ _ (and_parts (numbers_fit c) _ h).0 (and_parts (sums_fit c) _ k).0)
+    (fits_split cs (and_parts (numbers_fit c) _ h).1 (and_parts (sums_fit c) _ k).1)
 
 pub numbers_of : (cs : List Comparator) → list_all fits cs ≡ true → list_all numbers_fit cs ≡ true
 numbers_of [] h = refl
-numbers_of (c ∷ cs) h = and_from _ _ ((and_parts (numbers_fit c) _ ((and_parts (fits c) _ h).0)).0) (numbers_of cs ((and_parts (fits c) _ h).1))
+numbers_of (c ∷ cs) h = and_from _ _ (and_parts (numbers_fit c) _ (and_parts (fits c) _ h).0).0 (numbers_of cs (and_parts (fits c) _ h).1)
 
 sums_of : (cs : List Comparator) → list_all fits cs ≡ true → list_all sums_fit cs ≡ true
 sums_of [] h = refl
-sums_of (c ∷ cs) h = and_from _ _ ((and_parts (numbers_fit c) _ ((and_parts (fits c) _ h).0)).1) (sums_of cs ((and_parts (fits c) _ h).1))
+sums_of (c ∷ cs) h = and_from _ _ (and_parts (numbers_fit c) _ (and_parts (fits c) _ h).0).1 (sums_of cs (and_parts (fits c) _ h).1)
 
 module _ (f : Flavour) (b : Bool) (piece : List ℕ) where
   -- a piece of comparators that fail a test which those that fit pass

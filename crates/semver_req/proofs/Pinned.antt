@@ -1,9 +1,5 @@
 -- Which versions the requirement of one version matches, and that its canonical form parses to it again.
-use Rattle.std.proofs.Common.{◌≡◌, ◌==◌, ℕ, Bool, true, false, List, [], ◌∷◌, length, Ok, refl, sym, ap, ◌∙◌}
-use Rattle.std.specs.Prelude.{◌&&◌, ◌||◌, not}
-use Rattle.std.specs.Ordering.{is_ge, is_le}
-use Rattle.std.specs.declared.cmp.Ordering.{Ordering}
-use Rattle.std.specs.declared.cmp.Ordering.TheVariants.{Less, Equal, Greater}
+use Rattle.std.proofs.Common.{◌≡◌, ◌==◌, ℕ, Bool, true, false, List, [], ◌∷◌, length, Ok, refl, sym, ap, ◌∙◌, ◌&&◌, ◌||◌, not, is_ge, is_le, Ordering, Less, Equal, Greater}
 use Rattle.std.proofs.lemmas.Bool.{and_from, and_parts, eq-eqb}
 use Rattle.semver_base.specs.Meaning.{admits_pre, alternative_means, bounds_hold, from, has_pre_of, is_release}
 use Rattle.semver_base.specs.PartialTable.{between, up_to}
@@ -15,7 +11,7 @@ use Rattle.semver_base.specs.VersionGrammar.{IsVersionOutcome, is_version}
 use Rattle.semver_base.specs.VersionText.{IsWritable}
 use Rattle.semver_base.specs.declared.range.VersionRange.{VersionRange}
 use Rattle.semver_base.specs.declared.version.Version.{Version}
-use Rattle.semver_base.proofs.Orders.{or_false}
+use Rattle.std.proofs.Math.Bool.{or-false}
 use Rattle.semver_base.proofs.ReadVersions.{read_writable}
 use Rattle.semver_req.specs.RetainedSet.{IsReadSet}
 use Rattle.semver_req.specs.Pieces.{normal}
@@ -53,13 +49,13 @@ abbrev one : Version → VersionRange
 one v = between (from v) (up_to v)
 
 same_order : (v w : Version) → bounds_hold (one v) w ≡ true → precedence_cmp w v ≡ Equal
-same_order v w held = tied (precedence_cmp w v) ((and_parts (is_ge (precedence_cmp w v)) _ held).0) ((and_parts (is_ge (precedence_cmp w v)) _ held).1)
+same_order v w held = tied (precedence_cmp w v) (and_parts (is_ge (precedence_cmp w v)) _ held).0 (and_parts (is_ge (precedence_cmp w v)) _ held).1
 
 only : (v w : Version) → inner_means (pinned v).inner w ≡ true → SamePrecedence v w
 only v w h =
-    let means : alternative_means (one v ∷ []) w ≡ true = sym (or_false (alternative_means (one v ∷ []) w)) ∙ h in
+    let means : alternative_means (one v ∷ []) w ≡ true = sym (or-false (alternative_means (one v ∷ []) w)) ∙ h in
     let held : (bounds_hold (one v) w && true) ≡ true = (and_parts (bounds_hold (one v) w && true) _ means).0 in
-    turned w v (precedence-anti w v (same_order v w ((and_parts (bounds_hold (one v) w) true held).0)))
+    turned w v (precedence-anti w v (same_order v w (and_parts (bounds_hold (one v) w) true held).0))
 
 also : (v w : Version) → SamePrecedence v w → inner_means (pinned v).inner w ≡ true
 also v w s =

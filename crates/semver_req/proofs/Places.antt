@@ -1,8 +1,6 @@
 -- Parsers at a position in a text.
-use Rattle.std.proofs.Common.{◌≡◌, ◌≤◌, ◌+◌, ◌-◌, ℕ, List, length, drop, sym, ap, ◌∙◌, refl, arith, length-append, length-drop}
-use Rattle.std.proofs.lemmas.List.{drop-drop, drop_at}
+use Rattle.std.proofs.Common.{◌≡◌, ◌≤◌, ◌+◌, ◌-◌, ℕ, List, length, drop, sym, ap, ◌∙◌, refl, arith, length-append, length-drop, drop-drop, drop_at, IsCharBoundary, IsUtf8}
 use Rattle.std.proofs.lemmas.Str.{IsCharBoundary-from_drop}
-use Rattle.std.specs.Str.{IsCharBoundary, IsUtf8}
 use Rattle.semver_base.specs.Grammar.{IsLongest, IsSeen}
 
 module _ {V : Type 0} {R : List ℕ → V → Type 0} {value : V} (text rest : List ℕ) (place : ℕ) (le : place ≤ length text) (h : IsLongest R (drop place text) value rest) where

@@ -26,7 +26,7 @@ read_writable ranges r = subst AreWritableRanges (sym r.is_retained) (outcome_wr
 
 starts_of : (ranges : List VersionRange) → list_all is_retained ranges ≡ true → list_all has_start ranges ≡ true
 starts_of [] h = refl
-starts_of (range ∷ ranges) h = and_from _ _ ((and_parts (has_start range) _ ((and_parts _ _ h).0)).0) (starts_of ranges ((and_parts (is_retained range) _ h).1))
+starts_of (range ∷ ranges) h = and_from _ _ (and_parts (has_start range) _ (and_parts _ _ h).0).0 (starts_of ranges (and_parts (is_retained range) _ h).1)
 
 -- under the premise its shortest form matches what it matches
 pub read_form_means : (ranges : List VersionRange) → IsReadSet ranges → list_all keeps_meaning ranges ≡ true

@@ -1,18 +1,15 @@
 -- The shortest form of a range matches what the range matches.
-use Rattle.std.proofs.Common.{◌≡◌, ◌&&◌, ◌||◌, ◌==◌, ◌+◌, ◌<◌, ℕ, List, [], ◌∷◌, length, Bool, true, false, map, not, refl, sym, ap, ap₂, ◌∙◌, inl, inr, arith}
+use Rattle.std.proofs.Common.{◌≡◌, ◌&&◌, ◌||◌, ◌==◌, ◌+◌, ◌<◌, ℕ, List, [], ◌∷◌, length, Bool, true, false, map, not, refl, sym, ap, ap₂, ◌∙◌, inl, inr, arith, if◌then◌else◌, nat_lt, Ordering, Less, Equal, Greater}
 use Rattle.std.proofs.lemmas.Bool.Decides.{nat_tests}
 use Rattle.std.proofs.lemmas.Cmp.{ranked}
 use Rattle.std.specs.FinMap.{nat_cmp-IsAntisymmetric}
 use Rattle.std.specs.Ordering.{is_ge, is_le, nat_cmp, ordering_then, MatchOrdering}
-use Rattle.std.specs.Prelude.{if◌then◌else◌, nat_lt}
-use Rattle.std.specs.declared.cmp.Ordering.{Ordering}
-use Rattle.std.specs.declared.cmp.Ordering.TheVariants.{Less, Equal, Greater}
 use Rattle.std.proofs.lemmas.Bool.{and_from, and_parts, eq-eqb, eqb-true, or_cases, or_left, or_right}
 use Rattle.semver_base.specs.Comparators.{Caret, Comparator, Bare, Tilde, comparator_range}
-use Rattle.semver_base.specs.Meaning.{alternative_means_with, bound_at, from, is_above, release, to_below}
+use Rattle.semver_base.specs.Meaning.{alternative_means_with, bound_at, from, is_above, release, to_below, above_ge}
 use Rattle.semver_base.specs.PartialTable.{up_to, between, caret}
 use Rattle.semver_base.specs.Precedence.{precedence_cmp, pre_cmp}
-use Rattle.semver_base.specs.PrecedenceLaws.{precedence_total, version_eq, version_reported}
+use Rattle.semver_base.specs.PrecedenceLaws.{precedence_total, version_eq, version_reported, turned, le_le, le_turned}
 use Rattle.semver_base.specs.Shortest.{ending, has_short_form, is_caret_major, is_caret_patch, is_major, is_minor, is_release_of, is_tilde, numbered, shortest, shortest_between, shortest_of, starting, whole}
 use Rattle.semver_base.specs.declared.partial.XRange.TheVariants.{Wildcard, Val}
 use Rattle.semver_base.specs.declared.range.PreRelease.{PreRelease}
@@ -22,8 +19,6 @@ use Rattle.semver_base.specs.declared.range.VersionBoundKind.{VersionBoundKind}
 use Rattle.semver_base.specs.declared.range.VersionBoundKind.TheVariants as kind
 use Rattle.semver_base.specs.declared.range.VersionRange.{VersionRange}
 use Rattle.semver_base.specs.declared.version.Version.{Version}
-use Rattle.semver_base.proofs.ClampLemmas.{above_ge}
-use Rattle.semver_base.proofs.Orders.{le_le, le_turned, turned}
 use Rattle.semver_base.proofs.ShortVersions.{short_is}
 use Rattle.semver_req.specs.Rereading.{has_own_form, is_pre_of_zero, keeps_meaning, keeps_start}
 use Rattle.semver_req.proofs.Starts.{has_start, starts_or_is_open}
@@ -119,10 +114,10 @@ short_range : {start end : Version} (s e : Version) → s ≡ start → e ≡ en
 short_range s e p q = ap₂ (λ (start end : Version). between (from start) (to_below end)) (sym p) (sym q)
 
 major_range : (s e : Version) → is_major s e ≡ true → comparator_range (Bare (numbered (Val s.major) Wildcard)) ≡ between (from s) (to_below e)
-major_range s e h = short_range s e (short_is s s.major 0 0 ((and_parts _ _ h).0)) (short_is e (s.major + 1) 0 0 ((and_parts (is_release_of s s.major 0 0) _ h).1))
+major_range s e h = short_range s e (short_is s s.major 0 0 (and_parts _ _ h).0) (short_is e (s.major + 1) 0 0 (and_parts (is_release_of s s.major 0 0) _ h).1)
 
 minor_range : (s e : Version) → is_minor s e ≡ true → comparator_range (Bare (numbered (Val s.major) (Val s.minor))) ≡ between (from s) (to_below e)
-minor_range s e h = short_range s e (short_is s s.major s.minor 0 ((and_parts _ _ h).0)) (short_is e s.major (s.minor + 1) 0 ((and_parts (is_release_of s s.major s.minor 0) _ h).1))
+minor_range s e h = short_range s e (short_is s s.major s.minor 0 (and_parts _ _ h).0) (short_is e s.major (s.minor + 1) 0 (and_parts (is_release_of s s.major s.minor 0) _ h).1)
 
 tilde_range : (s e : Version) → is_tilde s e ≡ true → comparator_range (Tilde (whole s)) ≡ between (from s) (to_below e)
 tilde_range s e h = short_range s e refl (short_is e s.major (s.minor + 1) 0 h)
@@ -138,14 +133,14 @@ caret_patch s h k = rw (h, k) refl
 
 caret_major_range : (s e : Version) → is_caret_major s e ≡ true → comparator_range (Caret (whole s)) ≡ between (from s) (to_below e)
 caret_major_range s e h =
-    caret_major s ((and_parts (nat_lt 0 s.major) _ h).0)
-    ∙ short_range s e refl (short_is e (s.major + 1) 0 0 ((and_parts (nat_lt 0 s.major) _ h).1))
+    caret_major s (and_parts (nat_lt 0 s.major) _ h).0
+    ∙ short_range s e refl (short_is e (s.major + 1) 0 0 (and_parts (nat_lt 0 s.major) _ h).1)
 
 caret_patch_range : (s e : Version) → is_caret_patch s e ≡ true → comparator_range (Caret (whole s)) ≡ between (from s) (to_below e)
 caret_patch_range s e h =
     let h1 = (and_parts (s.major == 0) _ h).1 in
-    caret_patch s (none_below s.major ((and_parts (s.major == 0) _ h).0)) (none_below s.minor ((and_parts (s.minor == 0) _ h1).0))
-    ∙ short_range s e refl (short_is e 0 0 (s.patch + 1) ((and_parts (s.minor == 0) _ h1).1))
+    caret_patch s (none_below s.major (and_parts (s.major == 0) _ h).0) (none_below s.minor (and_parts (s.minor == 0) _ h1).0)
+    ∙ short_range s e refl (short_is e 0 0 (s.patch + 1) (and_parts (s.minor == 0) _ h1).1)
 
 -- ---- ranges with a short form
 
@@ -168,7 +163,7 @@ pub by_form : (P : List Comparator → Type 0) (s e : Version)
     → P (shortest_between kind.Inclusive kind.Exclusive s e)
 by_form P s e own rest =
     by_test P (is_major s e) (λ fits. own (short_by_major s e fits) _ (major_range s e fits)) (λ no_major.
-    by_test P (is_minor s e) (λ fits. own (short_by_tilde s e ((and_parts (is_release_of s s.major s.minor 0) _ fits).1)) _ (minor_range s e fits)) (λ _.
+    by_test P (is_minor s e) (λ fits. own (short_by_tilde s e (and_parts (is_release_of s s.major s.minor 0) _ fits).1) _ (minor_range s e fits)) (λ _.
     by_test P (is_tilde s e) (λ fits. own (short_by_tilde s e fits) _ (tilde_range s e fits)) (λ no_tilde.
     by_test P (is_caret_patch s e) (λ fits. own (short_by_caret_patch s e fits) _ (caret_patch_range s e fits)) (λ no_patch.
     by_test P (is_caret_major s e) (λ fits. own (short_by_caret_major s e fits) _ (caret_major_range s e fits)) (λ no_caret.
@@ -185,9 +180,9 @@ pub short_end : (s e : Version) → is_pre_of_zero s ≡ true → (is_release_of
 short_end s e low h =
     let numbers = (and_parts (not (length s.pre == 0)) _ low).1 in
     let numbers1 = (and_parts (s.major == 0) _ numbers).1 in
-    let major : s.major ≡ 0 = eqb-true _ _ ((and_parts (s.major == 0) _ numbers).0) in
-    let minor : s.minor ≡ 0 = eqb-true _ _ ((and_parts (s.minor == 0) _ numbers1).0) in
-    let patch : s.patch ≡ 0 = eqb-true _ _ ((and_parts (s.minor == 0) _ numbers1).1) in
+    let major : s.major ≡ 0 = eqb-true _ _ (and_parts (s.major == 0) _ numbers).0 in
+    let minor : s.minor ≡ 0 = eqb-true _ _ (and_parts (s.minor == 0) _ numbers1).0 in
+    let patch : s.patch ≡ 0 = eqb-true _ _ (and_parts (s.minor == 0) _ numbers1).1 in
     elim (or_cases _ _ h) [
       | inl patches ↦ short_by_caret_patch s e (rw (major, minor, patch) patches)
       | inr minors ↦ short_by_tilde s e (rw (major, minor) minors)

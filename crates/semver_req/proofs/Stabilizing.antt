@@ -1,18 +1,14 @@
 -- What the shortest form of a range parses back to.
-use Rattle.std.proofs.Common.{◌≡◌, ◌&&◌, ◌==◌, ◌+◌, ◌<◌, ℕ, List, [], ◌∷◌, true, false, refl, sym, ap, ap₂, ◌∙◌, inl, inr, arith, subst}
+use Rattle.std.proofs.Common.{◌≡◌, ◌&&◌, ◌==◌, ◌+◌, ◌<◌, ℕ, List, [], ◌∷◌, true, false, refl, sym, ap, ap₂, ◌∙◌, inl, inr, arith, subst, is_ge, nat_cmp, nat_lt, Ordering, Less, Equal, Greater}
 use Rattle.std.proofs.lemmas.Cmp.{nat_cmp_total, tied_itself}
 use Rattle.std.specs.Cmp.{nat_cmp_is}
-use Rattle.std.specs.Ordering.{is_ge, nat_cmp}
-use Rattle.std.specs.Prelude.{nat_lt}
-use Rattle.std.specs.declared.cmp.Ordering.{Ordering}
-use Rattle.std.specs.declared.cmp.Ordering.TheVariants.{Less, Equal, Greater}
 use Rattle.std.proofs.lemmas.Bool.{and_parts, eqb-true, or_cases}
 use Rattle.semver_base.specs.Clamp.{clamped, greater_of, of_tied, stopped_at, stopped_by}
 use Rattle.semver_base.specs.Comparators.{Caret, Comparator, Hyphen, OfPrimitive, Bare, Tilde, comparator_range}
 use Rattle.semver_base.specs.Meaning.{bound_at, everything, from, release, to_below}
 use Rattle.semver_base.specs.PartialTable.{up_to, between, without_build}
 use Rattle.semver_base.specs.Precedence.{precedence_cmp}
-use Rattle.semver_base.specs.PrecedenceLaws.{precedence-anti, precedence_total, version_eq, version_with, version_reported}
+use Rattle.semver_base.specs.PrecedenceLaws.{precedence-anti, precedence_total, version_eq, version_with, version_reported, turned}
 use Rattle.semver_base.specs.Shortest.{ending, has_short_form, is_caret_patch, is_major, is_release_of, is_tilde, shortest_between, shortest_of, starting, whole}
 use Rattle.semver_base.specs.declared.range.RangeBound.{RangeBound}
 use Rattle.semver_base.specs.declared.range.RangeBound.TheVariants as bound
@@ -20,7 +16,6 @@ use Rattle.semver_base.specs.declared.range.VersionBoundKind.{VersionBoundKind}
 use Rattle.semver_base.specs.declared.range.VersionBoundKind.TheVariants as kind
 use Rattle.semver_base.specs.declared.range.VersionRange.{VersionRange}
 use Rattle.semver_base.specs.declared.version.Version.{Version}
-use Rattle.semver_base.proofs.Orders.{turned}
 use Rattle.semver_base.proofs.ShortVersions.{short_is}
 use Rattle.semver_req.specs.RetainedSet.{retained_range}
 use Rattle.semver_req.specs.Stable.{IsStable, all, no_end, one_version, short, ordered, empty_at_end, reread}
@@ -60,18 +55,18 @@ below_patch s h k =
 
 short_less : (s e : Version) → has_short_form s e ≡ true → precedence_cmp s e ≡ Less
 short_less s e h = elim (or_cases (is_major s e) _ h) [
-  | inl major ↦ rw (short_is e (s.major + 1) 0 0 ((and_parts (is_release_of s s.major 0 0) _ major).1)) (below_major s)
+  | inl major ↦ rw (short_is e (s.major + 1) 0 0 (and_parts (is_release_of s s.major 0 0) _ major).1) (below_major s)
   | inr h1 ↦ elim (or_cases (is_tilde s e) _ h1) [
     | inl tilde ↦ rw (short_is e s.major (s.minor + 1) 0 tilde) (below_minor s)
     | inr h2 ↦ elim (or_cases (is_caret_patch s e) _ h2) [
-      | inl patch ↦ patch_less ((and_parts (s.major == 0) _ patch).0) ((and_parts (s.major == 0) _ patch).1)
-      | inr major ↦ rw (short_is e (s.major + 1) 0 0 ((and_parts (nat_lt 0 s.major) _ major).1)) (below_major s)
+      | inl patch ↦ patch_less (and_parts (s.major == 0) _ patch).0 (and_parts (s.major == 0) _ patch).1
+      | inr major ↦ rw (short_is e (s.major + 1) 0 0 (and_parts (nat_lt 0 s.major) _ major).1) (below_major s)
     ]
   ]
 ]
   where
     patch_less : (s.major == 0) ≡ true → ((s.minor == 0) && is_release_of e 0 0 (s.patch + 1)) ≡ true → precedence_cmp s e ≡ Less
-    patch_less zero rest = rw (short_is e 0 0 (s.patch + 1) ((and_parts (s.minor == 0) _ rest).1)) (below_patch s zero ((and_parts (s.minor == 0) _ rest).0))
+    patch_less zero rest = rw (short_is e 0 0 (s.patch + 1) (and_parts (s.minor == 0) _ rest).1) (below_patch s zero (and_parts (s.minor == 0) _ rest).0)
 
 -- ---- what is kept of one comparator, or of two
 

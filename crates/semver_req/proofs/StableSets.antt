@@ -1,10 +1,7 @@
 -- What the shortest form of a set matches, and what it parses back to.
-use Rattle.std.proofs.Common.{◌≡◌, ◌&&◌, ◌||◌, ◌==◌, List, [], ◌∷◌, length, Bool, true, false, map, not, refl, sym, ap, ap₂, subst, ◌∙◌}
+use Rattle.std.proofs.Common.{◌≡◌, ◌&&◌, ◌||◌, ◌==◌, List, [], ◌∷◌, length, Bool, true, false, map, not, refl, sym, ap, ap₂, subst, ◌∙◌, if◌then◌else◌, Ordering, Less, Equal, Greater}
 use Rattle.std.proofs.lemmas.List.{nil_from_length}
 use Rattle.std.specs.List.{list_all}
-use Rattle.std.specs.Prelude.{if◌then◌else◌}
-use Rattle.std.specs.declared.cmp.Ordering.{Ordering}
-use Rattle.std.specs.declared.cmp.Ordering.TheVariants.{Less, Equal, Greater}
 use Rattle.std.proofs.lemmas.Bool.{and_from, and_parts, eqb-true}
 use Rattle.semver_base.specs.Comparators.{Comparator, comparator_range}
 use Rattle.semver_base.specs.Meaning.{alternatives, bound_at, from, release, to_below, tree_means_with}
@@ -37,8 +34,8 @@ forms_mean : (ranges : List VersionRange) → list_all has_start ranges ≡ true
     → (flag : PreRelease) (v : Version) → tree_means_with flag (tree_ranges (map shortest ranges)) v ≡ tree_means_with flag (alternatives ranges) v
 forms_mean [] h k flag v = refl
 forms_mean (range ∷ ranges) h k flag v = ap₂ (λ (a b : Bool). a || b)
-    (shortest_means range ((and_parts _ _ h).0) ((and_parts _ _ k).0) flag v)
-    (forms_mean ranges ((and_parts (has_start range) _ h).1) ((and_parts (keeps_meaning range) _ k).1) flag v)
+    (shortest_means range (and_parts _ _ h).0 (and_parts _ _ k).0 flag v)
+    (forms_mean ranges (and_parts (has_start range) _ h).1 (and_parts (keeps_meaning range) _ k).1 flag v)
 
 -- the shortest form of a set matches what the set matches
 pub tree_form_means : (ranges : List VersionRange) → list_all has_start ranges ≡ true → list_all keeps_meaning ranges ≡ true
@@ -86,11 +83,11 @@ bounds_end (bound.Version s) bound.Unbounded h = start_ends s.kind s.version
 bounds_end (bound.Version s) (bound.Version e) h = between_ends s.kind e.kind s.version e.version
 
 reread_retained : (range : VersionRange) → is_retained range ≡ true → not (ends_at_zero (reread range).end) ≡ true
-reread_retained range h = ap not (bounds_end range.start range.end ((and_parts (has_start range) _ h).0)) ∙ (and_parts (has_start range) _ h).1
+reread_retained range h = ap not (bounds_end range.start range.end (and_parts (has_start range) _ h).0) ∙ (and_parts (has_start range) _ h).1
 
 forms_retained : (ranges : List VersionRange) → list_all is_retained ranges ≡ true → retained Normal (map shortest ranges) ≡ map reread ranges
 forms_retained [] h = refl
-forms_retained (range ∷ ranges) h = go (not (ends_at_zero (reread range).end)) (reread_retained range ((and_parts _ _ h).0)) (forms_retained ranges ((and_parts (is_retained range) _ h).1))
+forms_retained (range ∷ ranges) h = go (not (ends_at_zero (reread range).end)) (reread_retained range (and_parts _ _ h).0) (forms_retained ranges (and_parts (is_retained range) _ h).1)
   where
     go : (b : Bool) → b ≡ true → retained Normal (map shortest ranges) ≡ map reread ranges
         → (if b then reread range ∷ retained Normal (map shortest ranges) else retained Normal (map shortest ranges)) ≡ map reread (range ∷ ranges)
@@ -107,14 +104,14 @@ set_reread (range ∷ ranges) h = forms_retained (range ∷ ranges) h
 rereads_retained : (ranges : List VersionRange) → list_all is_retained ranges ≡ true → list_all is_retained (map reread ranges) ≡ true
 rereads_retained [] h = refl
 rereads_retained (range ∷ ranges) h = and_from _ _
-    (and_from _ _ (retained_range_starts (shortest range)) (reread_retained range ((and_parts _ _ h).0)))
-    (rereads_retained ranges ((and_parts (is_retained range) _ h).1))
+    (and_from _ _ (retained_range_starts (shortest range)) (reread_retained range (and_parts _ _ h).0))
+    (rereads_retained ranges (and_parts (is_retained range) _ h).1)
 
 twice : (ranges : List VersionRange) → list_all is_retained ranges ≡ true → map reread (map reread ranges) ≡ map reread ranges
 twice [] h = refl
 twice (range ∷ ranges) h = ap₂ (λ (r : VersionRange) (rest : List VersionRange). r ∷ rest)
-    (stable_reread (reread range) (reread_stable range ((and_parts (has_start range) _ ((and_parts _ _ h).0)).0)))
-    (twice ranges ((and_parts (is_retained range) _ h).1))
+    (stable_reread (reread range) (reread_stable range (and_parts (has_start range) _ (and_parts _ _ h).0).0))
+    (twice ranges (and_parts (is_retained range) _ h).1)
 
 -- what a kept set parses back to parses back to itself
 pub set_stabilizes : (ranges : List VersionRange) → list_all is_retained ranges ≡ true → reread_set (reread_set ranges) ≡ reread_set ranges
@@ -162,19 +159,19 @@ orderly_bounds : (start end : RangeBound) → starts_or_is_open start end ≡ tr
     → IsStable (between start end)
 orderly_bounds bound.Unbounded bound.Unbounded h built below k = all
 orderly_bounds bound.Unbounded (bound.Version e) h built below k = cc h
-orderly_bounds (bound.Version s) bound.Unbounded h built below k = no_end (no_build s.version ((and_parts _ _ built).0))
+orderly_bounds (bound.Version s) bound.Unbounded h built below k = no_end (no_build s.version (and_parts _ _ built).0)
 orderly_bounds (bound.Version s) (bound.Version e) h built below k =
-    orderly_between s.kind e.kind s.version e.version (no_build s.version ((and_parts _ _ built).0)) (no_build e.version ((and_parts (has_no_build (bound.Version s)) _ built).1)) below k
+    orderly_between s.kind e.kind s.version e.version (no_build s.version (and_parts _ _ built).0) (no_build e.version (and_parts (has_no_build (bound.Version s)) _ built).1) below k
 
 -- a range without builds that starts below its end is stable, under the premise
 pub orderly_stable : (range : VersionRange) → has_start range ≡ true → is_orderly range ≡ true → keeps_meaning range ≡ true → IsStable range
-orderly_stable range h orderly k = orderly_bounds range.start range.end h ((and_parts _ _ orderly).0) ((and_parts (has_no_build range.start && has_no_build range.end) _ orderly).1) k
+orderly_stable range h orderly k = orderly_bounds range.start range.end h (and_parts _ _ orderly).0 (and_parts (has_no_build range.start && has_no_build range.end) _ orderly).1 k
 
 orderly_twice : (ranges : List VersionRange) → list_all is_retained ranges ≡ true → list_all is_orderly ranges ≡ true → list_all keeps_meaning ranges ≡ true → map reread ranges ≡ ranges
 orderly_twice [] h orderly k = refl
 orderly_twice (range ∷ ranges) h orderly k = ap₂ (λ (r : VersionRange) (rest : List VersionRange). r ∷ rest)
-    (stable_reread range (orderly_stable range ((and_parts (has_start range) _ ((and_parts _ _ h).0)).0) ((and_parts _ _ orderly).0) ((and_parts _ _ k).0)))
-    (orderly_twice ranges ((and_parts (is_retained range) _ h).1) ((and_parts (is_orderly range) _ orderly).1) ((and_parts (keeps_meaning range) _ k).1))
+    (stable_reread range (orderly_stable range (and_parts (has_start range) _ (and_parts _ _ h).0).0 (and_parts _ _ orderly).0 (and_parts _ _ k).0))
+    (orderly_twice ranges (and_parts (is_retained range) _ h).1 (and_parts (is_orderly range) _ orderly).1 (and_parts (keeps_meaning range) _ k).1)
 
 -- a kept set of such ranges parses back to itself
 pub orderly_reread : (ranges : List VersionRange) → list_all is_retained ranges ≡ true → list_all is_orderly ranges ≡ true → list_all keeps_meaning ranges ≡ true → reread_set ranges ≡ ranges

@@ -1,6 +1,5 @@
 -- Each parser parses `*` to any version.
-use Rattle.std.proofs.Common.{[], ◌∷◌, List, None, refl, sym}
-use Rattle.std.specs.Prelude.{codes}
+use Rattle.std.proofs.Common.{[], ◌∷◌, List, None, refl, sym, codes}
 use Rattle.semver_base.specs.Comparators.{Bare}
 use Rattle.semver_base.specs.Grammar.{IsLongest, that}
 use Rattle.semver_base.specs.Meaning.{everything}

@@ -1,6 +1,5 @@
 -- No character of a tag is whitespace, `|`, `@` or `/`.
-use Rattle.std.proofs.Common.{◌≡◌, ℕ, Bool, true, false, List, [], ◌∷◌, refl, arith, inl, inr, ◌==◌}
-use Rattle.std.specs.Prelude.{◌⊎◌, ◌||◌, not}
+use Rattle.std.proofs.Common.{◌≡◌, ℕ, Bool, true, false, List, [], ◌∷◌, refl, arith, inl, inr, ◌==◌, ◌⊎◌, ◌||◌, not}
 use Rattle.std.specs.Char.{is_whitespace}
 use Rattle.std.specs.List.{list_all}
 use Rattle.std.proofs.lemmas.Bool.{and_parts, eqb-true}

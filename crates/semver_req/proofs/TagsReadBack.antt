@@ -1,6 +1,5 @@
 -- If a parser makes a tag of a text that doesn't begin with whitespace, the normalized parser returns the same tag for it.
-use Rattle.std.proofs.Common.{◌≡◌, ◌<◌, ℕ, Bool, true, false, List, [], ◌∷◌, ◌++◌, length, sym, ◌∙◌, arith}
-use Rattle.std.specs.Prelude.{IsUtf8}
+use Rattle.std.proofs.Common.{◌≡◌, ◌<◌, ℕ, Bool, true, false, List, [], ◌∷◌, ◌++◌, length, sym, ◌∙◌, arith, IsUtf8}
 use Rattle.std.specs.Str.{trim, trim_start}
 use Rattle.semver_req.specs.Outcome.{IsBad, IsCutOutcome, IsOutcome, IsSpecifierOutcome, IsTagOr, Tag, no_fit, no_front, one_bad, tag}
 use Rattle.semver_req.specs.Pieces.{IsCutting, npm, normal, one_piece}

@@ -1,11 +1,9 @@
 -- What trimming leaves of a text, and the whitespace around it.
-use Rattle.std.proofs.Common.{◌≡◌, ◌<◌, ℕ, Bool, true, false, cond, List, [], ◌∷◌, ◌++◌, length, refl, sym, ap, ◌∙◌, inl, inr, arith, append_assoc, length-append}
-use Rattle.std.specs.Prelude.{◌&&◌, IsUtf8, encode_utf8, encode_utf8_all}
+use Rattle.std.proofs.Common.{◌≡◌, ◌<◌, ℕ, Bool, true, false, cond, List, [], ◌∷◌, ◌++◌, length, refl, sym, ap, ◌∙◌, inl, inr, arith, append_assoc, length-append, ◌&&◌, IsUtf8, encode_utf8, encode_utf8_all, drop_at, take_at}
 use Rattle.std.specs.Char.{is_not_whitespace, is_whitespace}
 use Rattle.std.specs.Str.{IsCharBoundary, NonePass, chars, drop_trailing_whitespace, skip_leading_whitespace, trim, trim_end, trim_start}
 use Rattle.std.proofs.lemmas.Bool.{cases_Bool, not-false}
 use Rattle.std.proofs.lemmas.Bool.Decides.{nat_tests}
-use Rattle.std.proofs.lemmas.List.{drop_at, take_at}
 use Rattle.std.proofs.lemmas.Str.{IsCharBoundary-before_ascii, IsUtf8-drop, IsUtf8-past_char, IsUtf8-take, chars-append, chars_from_encodes, chars_past_char, encode_ascii, encodes-append, encodes-chars, encodes_same}
 use Rattle.semver_base.specs.Lexical.{IsWhitespace}
 use Rattle.semver_base.proofs.Solid.{EndsSolid, StartsSolid, is_solid_byte}

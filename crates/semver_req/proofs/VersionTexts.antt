@@ -1,6 +1,5 @@
 -- From what the version parser answers to which prefixes are viable.
-use Rattle.std.proofs.Common.{◌≡◌, ◌<◌, ℕ, Bor, true, List, [], ◌∷◌, ◌++◌, length, Option, Some, None, refl, sym, ap, subst, ◌∙◌, arith, append_assoc, append-nil}
-use Rattle.std.specs.Prelude.{IsUtf8, codes}
+use Rattle.std.proofs.Common.{◌≡◌, ◌<◌, ℕ, Bor, true, List, [], ◌∷◌, ◌++◌, length, Option, Some, None, refl, sym, ap, subst, ◌∙◌, arith, append_assoc, append-nil, IsUtf8, codes}
 use Rattle.std.specs.List.{list_all}
 use Rattle.std.specs.Str.{trim}
 use Rattle.std.proofs.lemmas.Str.{IsUtf8-append, IsUtf8-nil, NoCharPasses-append}

@@ -1,6 +1,5 @@
 -- npm's grammar matches what the normalized one matches, with the same comparators.
-use Rattle.std.proofs.Common.{ℕ, List, [], ◌∷◌, Option, Some, None, refl, ◌==◌}
-use Rattle.std.specs.Prelude.{◌||◌, codes}
+use Rattle.std.proofs.Common.{ℕ, List, [], ◌∷◌, Option, Some, None, refl, ◌==◌, ◌||◌, codes}
 use Rattle.std.proofs.lemmas.Bool.{or_left}
 use Rattle.semver_base.specs.Comparators.{Comparator}
 use Rattle.semver_base.specs.Grammar.{Listed, last_item, closed_item, more_items, Optional, this, that}

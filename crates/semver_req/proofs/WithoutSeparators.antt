@@ -1,6 +1,5 @@
 -- Neither a canonical form nor a tag contains what separates a requirement from the rest of the text of a package.
-use Rattle.std.proofs.Common.{◌≡◌, ◌==◌, ℕ, true, refl, arith}
-use Rattle.std.specs.Prelude.{not}
+use Rattle.std.proofs.Common.{◌≡◌, ◌==◌, ℕ, true, refl, arith, not}
 use Rattle.std.proofs.lemmas.Bool.Decides.{nat_tests}
 use Rattle.semver_base.proofs.Solid.{is_solid_byte}
 use Rattle.semver_req.specs.Rereading.{NormalTextsHoldNoSeparator, TagsHoldNoSeparator}

@@ -1,12 +1,10 @@
 -- The words of versions and requirements: with which endings their prefixes are whole.
-use Rattle.std.proofs.Common.{◌≡◌, ◌≤◌, ◌<◌, ◌^◌, ℕ, true, false, List, [], ◌∷◌, ◌++◌, length, None, refl, sym, ap, subst, ◌∙◌, arith, inl, inr, append_assoc, append-nil, length-append, get_or}
-use Rattle.std.specs.Prelude.{IsUtf8, encode_utf8}
+use Rattle.std.proofs.Common.{◌≡◌, ◌≤◌, ◌<◌, ◌^◌, ℕ, true, false, List, [], ◌∷◌, ◌++◌, length, None, refl, sym, ap, subst, ◌∙◌, arith, inl, inr, append_assoc, append-nil, length-append, get_or, IsUtf8, encode_utf8, take_at}
 use Rattle.std.specs.Char.{is_ascii_digit, is_not_whitespace, is_whitespace}
 use Rattle.std.specs.Str.Parse.{digits_value}
 use Rattle.std.specs.Str.{IsCharBoundary, NonePass, NoCharPasses, encode_utf8_all}
 use Rattle.std.proofs.lemmas.Str.Parse.{digits_value-take-le}
 use Rattle.std.proofs.lemmas.Str.{IsUtf8-encode, IsUtf8-take, NoCharPasses-append, NoCharPasses-nil, encode_same}
-use Rattle.std.proofs.lemmas.List.{take_at}
 use Rattle.std.proofs.Math.Utf8.{low_scalar}
 use Rattle.std.proofs.lemmas.Bool.{not-false}
 use Rattle.std.proofs.lemmas.Bool.Decides.{nat_tests}

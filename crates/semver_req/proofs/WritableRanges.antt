@@ -1,11 +1,8 @@
 -- The bounds of what is kept of comparators that fit, whose identifiers match the grammar, have a text that parses back.
-use Rattle.std.proofs.Common.{◌≡◌, ◌<◌, ◌+◌, ℕ, List, [], ◌∷◌, Bool, true, false, map, not, refl, sym, ◌∙◌}
+use Rattle.std.proofs.Common.{◌≡◌, ◌<◌, ◌+◌, ℕ, List, [], ◌∷◌, Bool, true, false, map, not, refl, sym, ◌∙◌, if◌then◌else◌, nat_lt, ◌++◌, ◌^◌, Ordering, Less, Equal, Greater}
 use Rattle.std.specs.List.{fold, list_all}
 use Rattle.std.proofs.lemmas.Bool.{and_parts, ltb-true}
 use Rattle.std.proofs.lemmas.List.Folds.{list_all-append}
-use Rattle.std.specs.Prelude.{if◌then◌else◌, nat_lt, ◌++◌, ◌^◌}
-use Rattle.std.specs.declared.cmp.Ordering.{Ordering}
-use Rattle.std.specs.declared.cmp.Ordering.TheVariants.{Less, Equal, Greater}
 use Rattle.semver_base.specs.Clamp.{clamped, clamped_end, clamped_start, greater_of, lesser_of, of_tied, stopped_at, stopped_by}
 use Rattle.semver_base.specs.Comparators.{Caret, Comparator, Hyphen, OfPrimitive, Bare, Tilde, comparator_range, primitive_line}
 use Rattle.semver_base.specs.Meaning.{everything, release}
@@ -203,32 +200,32 @@ partial_fit p h =
     let both = sym (list_all-append number_fits (component_numbers p.major ++ component_numbers p.minor) (component_numbers p.patch)) ∙ h in
     let first = sym (list_all-append number_fits (component_numbers p.major) (component_numbers p.minor)) ∙ (and_parts _ _ both).0 in
     let patch = (and_parts (all_fit (component_numbers p.major ++ component_numbers p.minor)) _ both).1 in
-    (component_fit p.major ((and_parts _ _ first).0), component_fit p.minor ((and_parts (all_fit (component_numbers p.major)) _ first).1), component_fit p.patch patch)
+    (component_fit p.major (and_parts _ _ first).0, component_fit p.minor (and_parts (all_fit (component_numbers p.major)) _ first).1, component_fit p.patch patch)
 
 lowest_writable : (p : Partial) → NumbersFit p → PartialHasIdentifiers p → IsWritable (lowest p)
 lowest_writable p n has = record { numbers = record { major = small (or_zero p.major) n.0; minor = small (or_zero p.minor) n.1; patch = small (or_zero p.patch) n.2 }; pre = has.0; build = has.1 }
 
 -- the bounds of a comparator that fits
 comparator_writable : (c : Comparator) → fits c ≡ true → ComparatorHasIdentifiers c → IsWritableRange (comparator_range c)
-comparator_writable (Tilde p) h has = let n = partial_fit p ((and_parts _ _ h).0) in tilde_writable p (lowest_writable p n has) p.major p.minor n.0 ((and_parts (all_fit (numbers p)) _ h).1)
-comparator_writable (Caret p) h has = let n = partial_fit p ((and_parts _ _ h).0) in caret_writable p (lowest_writable p n has) p.major p.minor p.patch ((and_parts (all_fit (numbers p)) _ h).1)
-comparator_writable (OfPrimitive primitive_kind p) h has = let n = partial_fit p ((and_parts _ _ h).0) in primitive_writable primitive_kind p (lowest_writable p n has) n ((and_parts (all_fit (numbers p)) _ h).1)
-comparator_writable (Bare p) h has = let n = partial_fit p ((and_parts _ _ h).0) in equal_writable p (lowest_writable p n has) n p.major p.minor p.patch ((and_parts (all_fit (numbers p)) _ h).1)
+comparator_writable (Tilde p) h has = let n = partial_fit p (and_parts _ _ h).0 in tilde_writable p (lowest_writable p n has) p.major p.minor n.0 (and_parts (all_fit (numbers p)) _ h).1
+comparator_writable (Caret p) h has = let n = partial_fit p (and_parts _ _ h).0 in caret_writable p (lowest_writable p n has) p.major p.minor p.patch (and_parts (all_fit (numbers p)) _ h).1
+comparator_writable (OfPrimitive primitive_kind p) h has = let n = partial_fit p (and_parts _ _ h).0 in primitive_writable primitive_kind p (lowest_writable p n has) n (and_parts (all_fit (numbers p)) _ h).1
+comparator_writable (Bare p) h has = let n = partial_fit p (and_parts _ _ h).0 in equal_writable p (lowest_writable p n has) n p.major p.minor p.patch (and_parts (all_fit (numbers p)) _ h).1
 comparator_writable (Hyphen p q) h has =
     let both = sym (list_all-append number_fits (numbers p) (numbers q)) ∙ (and_parts _ _ h).0 in
-    let n = partial_fit p ((and_parts _ _ both).0) in
-    let m = partial_fit q ((and_parts (all_fit (numbers p)) _ both).1) in
-    record { start = lowest_writable p n has.0; end = upper_writable q (lowest_writable q m has.1) q.major q.minor q.patch m.0 m.2 ((and_parts (all_fit (numbers p ++ numbers q)) _ h).1) }
+    let n = partial_fit p (and_parts _ _ both).0 in
+    let m = partial_fit q (and_parts (all_fit (numbers p)) _ both).1 in
+    record { start = lowest_writable p n has.0; end = upper_writable q (lowest_writable q m has.1) q.major q.minor q.patch m.0 m.2 (and_parts (all_fit (numbers p ++ numbers q)) _ h).1 }
 
 folded_writable : (start : VersionRange) (comparators : List Comparator) → IsWritableRange start → list_all fits comparators ≡ true → AllHaveIdentifiers comparators
     → IsWritableRange (fold clamped start (map comparator_range comparators))
 folded_writable start [] h fit has = h
 folded_writable start (c ∷ cs) h fit has =
-    folded_writable (clamped start (comparator_range c)) cs (clamped_writable start (comparator_range c) h (comparator_writable c ((and_parts _ _ fit).0) has.0)) ((and_parts (fits c) _ fit).1) has.1
+    folded_writable (clamped start (comparator_range c)) cs (clamped_writable start (comparator_range c) h (comparator_writable c (and_parts _ _ fit).0 has.0)) (and_parts (fits c) _ fit).1 has.1
 
 -- the range of an alternative whose comparators fit
 pub retained_range_writable : (comparators : List Comparator) → list_all fits comparators ≡ true → AllHaveIdentifiers comparators → IsWritableRange (retained_range comparators)
-retained_range_writable (Hyphen p q ∷ []) fit has = comparator_writable (Hyphen p q) ((and_parts _ _ fit).0) has.0
+retained_range_writable (Hyphen p q ∷ []) fit has = comparator_writable (Hyphen p q) (and_parts _ _ fit).0 has.0
 retained_range_writable comparators fit has = folded_writable everything comparators (record { start = tt; end = tt }) fit has
 
 abbrev pub all_trees_fit : List (List Comparator) → Bool
@@ -237,15 +234,15 @@ all_trees_fit tree = list_all (λ cs. list_all fits cs) tree
 all_writable : (tree : List (List Comparator)) → all_trees_fit tree ≡ true → TreeHasIdentifiers tree → AreWritableRanges (map retained_range tree)
 all_writable [] fit has = tt
 all_writable (comparators ∷ tree) fit has =
-    (retained_range_writable comparators ((and_parts _ _ fit).0) has.0, all_writable tree ((and_parts (list_all fits comparators) _ fit).1) has.1)
+    (retained_range_writable comparators (and_parts _ _ fit).0 has.0, all_writable tree (and_parts (list_all fits comparators) _ fit).1 has.1)
 
 rest_writable : (tree : List (List Comparator)) → all_trees_fit tree ≡ true → TreeHasIdentifiers tree → AreWritableRanges (retained Normal tree)
 rest_writable [] fit has = tt
-rest_writable (comparators ∷ tree) fit has = go (ends_at_zero (retained_range comparators).end) (rest_writable tree ((and_parts (list_all fits comparators) _ fit).1) has.1)
+rest_writable (comparators ∷ tree) fit has = go (ends_at_zero (retained_range comparators).end) (rest_writable tree (and_parts (list_all fits comparators) _ fit).1 has.1)
   where
     go : (b : Bool) → AreWritableRanges (retained Normal tree) → AreWritableRanges (if not b then retained_range comparators ∷ retained Normal tree else retained Normal tree)
     go true rest = rest
-    go false rest = (retained_range_writable comparators ((and_parts _ _ fit).0) has.0, rest)
+    go false rest = (retained_range_writable comparators (and_parts _ _ fit).0 has.0, rest)
 
 -- what is kept of a tree whose comparators fit
 pub retained_writable : (f : Flavour) (tree : List (List Comparator)) → all_trees_fit tree ≡ true → TreeHasIdentifiers tree → AreWritableRanges (retained f tree)

@@ -1,7 +1,6 @@
 -- The text of a set of ranges is split into the texts of its ranges, each of which npm's and the normalized parser parse to
 -- its shortest form.
-use Rattle.std.proofs.Common.{◌≡◌, ◌≤◌, ◌<◌, ℕ, suc, Bool, true, false, List, [], ◌∷◌, ◌++◌, length, map, refl, sym, ap, ◌∙◌, arith, inl, append-nil, append_assoc, length-append, ◌==◌}
-use Rattle.std.specs.Prelude.{codes, if◌then◌else◌, not}
+use Rattle.std.proofs.Common.{◌≡◌, ◌≤◌, ◌<◌, ℕ, suc, Bool, true, false, List, [], ◌∷◌, ◌++◌, length, map, refl, sym, ap, ◌∙◌, arith, inl, append-nil, append_assoc, length-append, ◌==◌, codes, if◌then◌else◌, not}
 use Rattle.std.specs.Char.{is_ascii}
 use Rattle.std.specs.List.{AllByRecursion, list_all}
 use Rattle.std.specs.Str.{trim}

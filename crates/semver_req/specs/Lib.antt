@@ -24,3 +24,4 @@ pub mod Causes
 pub mod Resolve
 pub mod ResolveSteps
 pub mod Sameness
+pub mod Ascending

@@ -1,7 +1,6 @@
 -- The steps in which the pieces of a text are parsed; no public contract cites them.
-use Rattle.std.specs.Prelude.{◌≡◌, ◌<◌, ◌==◌, ◌⊎◌, ℕ, List, [], ◌∷◌, ◌++◌, length, Bool, true, Option, Some, None}
+use Rattle.std.specs.Prelude.{◌≡◌, ◌<◌, ◌==◌, ◌⊎◌, ℕ, List, [], ◌∷◌, ◌++◌, length, Bool, true, Option, Some, None, option_to_list}
 use Rattle.std.specs.Borrow.{Bor}
-use Rattle.std.specs.Option.{option_to_list}
 use Rattle.semver_base.specs.Comparators.{Comparator}
 use Rattle.semver_base.specs.Lexical.{IsWhitespace}
 use Rattle.semver_base.specs.declared.failure.Rejection.{Rejection}

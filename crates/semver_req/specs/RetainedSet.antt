@@ -1,7 +1,6 @@
 -- The ranges that a parser keeps of the comparators of a text. Source: node-semver's description of ranges, in which the
 -- comparators of an alternative are joined by "and", and alternatives by "or".
-use Rattle.std.specs.Prelude.{◌≡◌, ℕ, List, [], ◌∷◌, map, not}
-use Rattle.std.specs.List.{filter, fold}
+use Rattle.std.specs.Prelude.{◌≡◌, ℕ, List, [], ◌∷◌, map, not, filter, fold}
 use Rattle.semver_base.specs.Clamp.{clamped}
 use Rattle.semver_base.specs.Comparators.{Comparator, Hyphen, comparator_range}
 use Rattle.semver_base.specs.Meaning.{alternatives, everything, tree_means_with}

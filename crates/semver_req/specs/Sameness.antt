@@ -1,6 +1,5 @@
 -- The derived `==` of requirements decides whether their ranges or tags are the same.
-use Rattle.std.proofs.Common.{◌≡◌, ℕ, List, Bool, ap}
-use Rattle.std.specs.Bool.{Decides}
+use Rattle.std.proofs.Common.{◌≡◌, ℕ, List, Bool, ap, Decides}
 use Rattle.semver_base.specs.declared.range.VersionRangeSet.{VersionRangeSet}
 use Rattle.semver_base.specs.Sameness.{range_set_eq, range_set_reported, text_eq, text_reported, reported_as}
 use Rattle.semver_req.specs.contracts.range_set_or_tag.RangeSetOrTagPartialEq.TheImpl as inner_impl

@@ -1,9 +1,8 @@
 -- Which texts are valid tags. Source: npm's rule that a tag needs no escape in a URL; letters and numbers are those of the
 -- tables of `unicode`.
-use Rattle.std.specs.Prelude.{ℕ, List, Bool, true, false, not, ◌&&◌, ◌||◌, ◌==◌}
+use Rattle.std.specs.Prelude.{ℕ, List, Bool, true, false, not, ◌&&◌, ◌||◌, ◌==◌, chars}
 use Rattle.std.specs.Char.{is_whitespace}
 use Rattle.std.specs.List.{list_all}
-use Rattle.std.specs.Str.{chars}
 use Rattle.semver_base.specs.Characters.{dot, hyphen_sign, tilde_sign, underscore}
 use Rattle.unicode.specs.Binary.{is_alphabetic}
 use Rattle.unicode.specs.GeneralCategory.{general_category}

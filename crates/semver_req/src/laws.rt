@@ -8,6 +8,8 @@
 
 ghost use Rattle.std.specs.Prelude.{◌≡◌, ◌↔◌, IsTrue};
 ghost use Rattle.std.proofs.Common.{rules};
+ghost use Rattle.semver_req.specs.Ascending.{AscendingArrangementsTie};
+ghost use Rattle.semver_req.specs.ResolveSteps.{OneWalkFindsTheBest};
 ghost use Rattle.semver_req.specs.RetainedSet.{RetainedSetsMeanTheirTrees};
 ghost use Rattle.semver_req.specs.Outcome.{TextsHaveOneOutcome};
 ghost use Rattle.semver_req.specs.Pieces.{NormalPiecesAreNpms};
@@ -114,4 +116,14 @@ pub fn requirements_hold_no_separator()
 /// Each parser parses `*` to what [`wildcard_version_req`](crate::req::wildcard_version_req) returns: any version.
 pub fn star_is_any_version()
     ensures { StarIsAnyVersion }
+{}
+
+/// Two ascending arrangements of a list have items that tie at each place, whatever a sort does with those that tie.
+pub fn ascending_arrangements_tie<T>()
+    ensures { AscendingArrangementsTie T }
+{}
+
+/// One walk over a list finds its best match, and a list has only one.
+pub fn one_walk_finds_the_best<T>()
+    ensures { OneWalkFindsTheBest T }
 {}

@@ -150,7 +150,7 @@ impl RangeSetOrTag {
 
     /// Whether the two overlap: two range sets as in [`VersionRangeSet::intersects_set`], two tags if they are the same, a
     /// tag and ranges never. If two range sets don't overlap, no version matches both.
-    #[tactic(auto, using(crate::proofs::Overlaps::inner_swap, crate::proofs::Overlaps::inner_no_common, crate::proofs::Overlaps::inner_tags))]
+    #[tactic(auto, using(crate::proofs::Overlaps::tags_swap, crate::proofs::Overlaps::same_tags, crate::proofs::Overlaps::tag_matches_none))]
     pub fn intersects(&self, other: &RangeSetOrTag) -> bool
         ensures value { result ≡ inner_overlap self.now other.now }
         ensures symmetric { result ≡ inner_overlap other.now self.now }

@@ -12,6 +12,7 @@ use super::object::items_json;
 use super::{JsonError, JsonForm};
 use crate::laws::stored_requirements_are_read_again;
 use crate::package::PackageReq;
+use semver_req::laws::ascending_arrangements_tie;
 use serde_json::Value;
 use std::alloc::{AllocError, Global};
 
@@ -64,6 +65,7 @@ pub fn reqs_from_json(alloc: Global, value: &Value) -> Result<Vec<PackageReq>, J
     let Some(items) = value.as_array() else {
         return Err(JsonError::Json);
     };
+    ascending_arrangements_tie::<PackageReq>();
     let mut reqs = of_items::<PackageReq>(alloc, items.as_slice())?;
     reqs.sort()?;
     Ok(reqs)

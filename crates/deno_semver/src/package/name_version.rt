@@ -16,7 +16,7 @@ ghost use Rattle.deno_semver.specs.declared.package.values.PackageNv.{PackageNv}
 
 use super::values::{PackageName, PackageNv, PackageReq};
 use semver_base::failure::Rejection;
-use semver_base::laws::version_texts_are_bare;
+use semver_base::laws::{counted_runs_are_cut, version_texts_are_bare};
 use semver_base::lexical::after;
 use semver_base::string::{SmallStackString, StackString};
 use semver_base::version::{NpmVersionParseError, Version};
@@ -124,6 +124,7 @@ fn cut(text: &str) -> Option<Parts<'_>>
     ensures { MatchOption result (IsNoNvText text.now)
         (λ p. IsNvText text.now p.name.now p.version.now p.rest.now) }
 {
+    counted_runs_are_cut();
     let (name, rest) = text.split_at(name_len(text.as_bytes()));
     let Some(rest) = after(rest, '@') else {
         return None;

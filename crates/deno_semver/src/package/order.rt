@@ -3,7 +3,7 @@
 ghost use Rattle.std.specs.Prelude.{◌≡◌, refl};
 ghost use Rattle.std.specs.Cmp.Lexicographic.{slice_cmp};
 ghost use Rattle.std.specs.Ordering.{as_partial_cmp};
-ghost use Rattle.deno_semver.specs.ReqOrder.{bound_kinds_cmp, build_of, builds_cmp, end_cmp, inner_cmp, kind_place, range_cmp, req_cmp, start_cmp};
+ghost use Rattle.deno_semver.specs.ReqOrder.{bound_kinds_cmp, build_of, cmp_by, end_cmp, inner_cmp, kind_place, req_cmp, start_cmp};
 ghost use Rattle.deno_semver.specs.ReqOrderLaws.{req_po, req_ties, req_total};
 
 use super::values::PackageReq;
@@ -57,27 +57,6 @@ fn cmp_ends(a: &RangeBound, b: &RangeBound) -> Ordering
     }
 }
 
-fn cmp_range(a: &VersionRange, b: &VersionRange) -> Ordering
-    ensures { result ≡ range_cmp a.now b.now }
-{
-    match cmp_starts(&a.start, &b.start) {
-        Ordering::Equal => cmp_ends(&a.end, &b.end),
-        unequal => unequal,
-    }
-}
-
-fn cmp_ranges(a: &[VersionRange], b: &[VersionRange]) -> Ordering
-    ensures { result ≡ slice_cmp range_cmp a.now b.now }
-{
-    for (x, y) in a.iter().zip(b) {
-        let ordering = cmp_range(x, y);
-        if ordering != Ordering::Equal {
-            return ordering;
-        }
-    }
-    a.len().cmp(&b.len())
-}
-
 // The build of the bound's version, if it has one.
 fn build_of(bound: &RangeBound) -> &[VersionPreOrBuild]
     ensures { result.now ≡ build_of bound.now }
@@ -88,20 +67,32 @@ fn build_of(bound: &RangeBound) -> &[VersionPreOrBuild]
     }
 }
 
-fn cmp_range_builds(a: &VersionRange, b: &VersionRange) -> Ordering
-    ensures { result ≡ builds_cmp a.now b.now }
-{
-    match build_of(&a.start).cmp(build_of(&b.start)) {
-        Ordering::Equal => build_of(&a.end).cmp(build_of(&b.end)),
-        unequal => unequal,
+// What two ranges are compared by.
+#[derive(Clone, Copy)]
+enum By {
+    Bounds,
+    Builds,
+}
+
+impl By {
+    fn cmp(self, a: &VersionRange, b: &VersionRange) -> Ordering
+        ensures { result ≡ cmp_by self a.now b.now }
+    {
+        match self {
+            By::Bounds => cmp_starts(&a.start, &b.start).then(cmp_ends(&a.end, &b.end)),
+            By::Builds => build_of(&a.start)
+                .cmp(build_of(&b.start))
+                .then(build_of(&a.end).cmp(build_of(&b.end))),
+        }
     }
 }
 
-fn cmp_builds(a: &[VersionRange], b: &[VersionRange]) -> Ordering
-    ensures { result ≡ slice_cmp builds_cmp a.now b.now }
+// Compares range by range; if one list begins with the other, the shorter comes first.
+fn cmp_ranges(a: &[VersionRange], b: &[VersionRange], by: By) -> Ordering
+    ensures { result ≡ slice_cmp (cmp_by by) a.now b.now }
 {
     for (x, y) in a.iter().zip(b) {
-        let ordering = cmp_range_builds(x, y);
+        let ordering = by.cmp(x, y);
         if ordering != Ordering::Equal {
             return ordering;
         }
@@ -120,8 +111,8 @@ pub fn cmp_version_reqs(one: &VersionReq, other: &VersionReq) -> Ordering
         (RangeSetOrTag::RangeSet(_), RangeSetOrTag::Tag(_)) => Ordering::Greater,
         (RangeSetOrTag::RangeSet(a), RangeSetOrTag::RangeSet(b)) => {
             let (a, b) = (a.0.iter().as_slice(), b.0.iter().as_slice());
-            match cmp_ranges(a, b) {
-                Ordering::Equal => cmp_builds(a, b),
+            match cmp_ranges(a, b, By::Bounds) {
+                Ordering::Equal => cmp_ranges(a, b, By::Builds),
                 unequal => unequal,
             }
         }

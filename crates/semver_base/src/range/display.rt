@@ -67,13 +67,6 @@ fn is_next_minor(start: &Version, end: &Version) -> bool
         && is_unqualified(end)
 }
 
-// Whether `end` is the release 0.0 with the patch after that of `start`.
-fn is_next_patch(start: &Version, end: &Version) -> bool
-    ensures { result ≡ is_release_of end.now 0 0 (start.now.patch + 1) }
-{
-    end.major == 0 && end.minor == 0 && is_next(start.patch, end.patch) && is_unqualified(end)
-}
-
 // The first form that fits from `start` to below `end`.
 fn half_open_form(start: &Version, end: &Version) -> Form
     ensures { shortest_between VersionBoundKind.Inclusive VersionBoundKind.Exclusive
@@ -90,7 +83,11 @@ fn half_open_form(start: &Version, end: &Version) -> Form
     if is_next_minor(start, end) {
         return Form::Tilde;
     }
-    if start.major == 0 && start.minor == 0 && is_next_patch(start, end) {
+    if start.major == 0
+        && start.minor == 0
+        && is_next(start.patch, end.patch)
+        && is_release_of(end, 0, 0, end.patch)
+    {
         return Form::Caret;
     }
     if start.major > 0 && is_next_major(start, end) {

@@ -15,6 +15,7 @@ ghost use Rattle.semver_req.specs.Requirement.{all_inners_mean_with, have_no_tag
 
 use crate::range_set_or_tag::RangeSetOrTag;
 use crate::req::VersionReq;
+use semver_base::laws::read_versions_are_readable;
 use semver_base::range::{PreRelease, VersionRangeSet};
 use semver_base::string::CowVec;
 use semver_base::version::Version;
@@ -61,6 +62,7 @@ impl VersionReq {
         ensures any_order { IfOk result (λ lowest. IsReadOrTag self.now.inner
             → InAnyOrder (inner_means_with pre_release) self.now.inner lowest) }
     {
+        read_versions_are_readable();
         match &self.inner {
             RangeSetOrTag::RangeSet(set) => set.min_version(alloc, pre_release),
             RangeSetOrTag::Tag(_) => Ok(None),
@@ -93,6 +95,7 @@ impl VersionReq {
             (λ lowest. IsReadOrTag self.now.inner → IsReadOrTag other.now.inner
             → BothInAnyOrder means self.now.inner other.now.inner lowest) }
     {
+        read_versions_are_readable();
         match (&self.inner, &other.inner) {
             (RangeSetOrTag::RangeSet(set), RangeSetOrTag::RangeSet(others)) => {
                 set.common_version(alloc, others, pre_release)
@@ -126,6 +129,7 @@ impl VersionReq {
             (λ lowest. IsReadOrTag self.now.inner → AreReadOrTags others.now
             → AllInAnyOrder pre_release self.now.inner others.now lowest) }
     {
+        read_versions_are_readable();
         let own = self.ranges(alloc)?;
         let mut sets = Vec::new(alloc);
         for other in others {
@@ -160,6 +164,7 @@ impl VersionReq {
             (λ lowest. IsReadOrTag self.now.inner → IsReadOrTag other.now.inner
             → BothInAnyOrder means self.now.inner other.now.inner lowest) }
     {
+        read_versions_are_readable();
         match (&self.inner, &other.inner) {
             (RangeSetOrTag::RangeSet(set), RangeSetOrTag::RangeSet(others)) => {
                 set.version_outside(alloc, others, pre_release)
@@ -190,8 +195,12 @@ impl VersionReq {
             (λ reported. IsReadOrTag self.now.inner → IsReadOrTag other.now.inner
             → (IsTrue reported ↔ IsWithin (means self.now.inner) (means other.now.inner))) }
     {
-        let outside = self.version_outside(alloc, other, pre_release)?;
-        Ok(outside.is_none())
+        match (&self.inner, &other.inner) {
+            (RangeSetOrTag::RangeSet(set), RangeSetOrTag::RangeSet(others)) => {
+                set.is_subset(alloc, others, pre_release)
+            }
+            (_, _) => Ok(true),
+        }
     }
 
     /// Whether both requirements, neither a tag, match the same versions, with pre-releases restricted or admitted

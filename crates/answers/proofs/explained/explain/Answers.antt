@@ -1,9 +1,8 @@
-use Rattle.std.proofs.Common.{◌≡◌, Err, Result, inl, inr}
-use Rattle.std.specs.Prelude.{◌⊎◌}
+use Rattle.std.proofs.Common.{◌≡◌, Err, Result, inl, inr, ◌⊎◌}
 use Rattle.std.proofs.lemmas.Result.{err_from_is_err_and}
 use Rattle.answers.specs.Asking.{Fault, OutOfMemory, fault_of}
 use Rattle.answers.specs.Reading.{IsRangeAt}
-use Rattle.answers.proofs.Givens.{as_fault, same_fault}
+use Rattle.answers.specs.AskingLaws.{as_fault, same_fault}
 use Rattle.answers.proofs.explained.explain.Goals as goal
 
 invalid : {X : Type 0} (Asked : Result X Fault → Type 0) (fault : Fault) → (as_fault {X = X} fault ≡ as_fault OutOfMemory) ⊎ Asked (Err fault) → (fault ≡ OutOfMemory) ⊎ Asked (Err fault)

@@ -1,5 +1,4 @@
-use Rattle.std.proofs.Common.{◌≡◌, rules}
-use Rattle.std.specs.Prelude.{IfOk}
+use Rattle.std.proofs.Common.{◌≡◌, rules, IfOk}
 use Rattle.serde_json.specs.View.{view}
 use Rattle.answers.specs.Parts.{texts_json}
 use Rattle.answers.proofs.parts.version_json.Goals as goal

@@ -1,6 +1,6 @@
 use Rattle.std.proofs.lemmas.Result.{err_from_is_err_and}
 use Rattle.answers.specs.Parts.{version_json}
-use Rattle.answers.proofs.Givens.{answered, by_fault, by_value}
+use Rattle.answers.specs.AskingLaws.{by_value, by_fault, answered}
 use Rattle.answers.proofs.JsonTexts.{version_no_float}
 use Rattle.answers.proofs.parts.version_parts.Goals as goal
 

@@ -1,5 +1,5 @@
 use Rattle.std.proofs.lemmas.Result.{err_from_is_err_and}
-use Rattle.answers.proofs.Givens.{answered, by_fault, by_value}
+use Rattle.answers.specs.AskingLaws.{by_value, by_fault, answered}
 use Rattle.answers.proofs.questions.displayed.Goals as goal
 
 pub returns-in_err-version-clause-answer : goal.returns-in_err-version-clause-answer

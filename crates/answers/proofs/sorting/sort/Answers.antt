@@ -1,5 +1,5 @@
 use Rattle.std.proofs.lemmas.Result.{err_from_is_err_and}
-use Rattle.answers.proofs.Givens.{by_fault, by_value}
+use Rattle.answers.specs.AskingLaws.{by_value, by_fault}
 use Rattle.answers.proofs.Sorted.{places_answer}
 use Rattle.answers.specs.Asking.{OutOfMemory}
 use Rattle.answers.proofs.sorting.sort.Goals as goal
@@ -10,4 +10,4 @@ returns-in_err-versions-clause-answer c =
     rw (p.1, p.2) (by_fault _ _ _ _ c.in_err-versions.ensures.answer)
 
 pub returns-clause-answer : goal.returns-clause-answer
-returns-clause-answer c = by_value _ _ _ _ c.in_ok-versions.ensures.answer _ (places_answer c.args.order OutOfMemory _ _ c.in_ok-sorted_places.ensures)
+returns-clause-answer c = by_value _ _ _ _ c.in_ok-versions.ensures.answer _ (places_answer c.args.order OutOfMemory _ _ c.in_ok-sorted_places.ensures.sorted c.in_ok-sorted_places.ensures.only)

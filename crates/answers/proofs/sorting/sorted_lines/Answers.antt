@@ -1,5 +1,4 @@
-use Rattle.std.proofs.Common.{◌∙◌, ap, map, refl}
-use Rattle.std.proofs.lemmas.List.{take_all}
+use Rattle.std.proofs.Common.{◌∙◌, ap, map, refl, take_all}
 use Rattle.answers.specs.Sorting.{standing}
 use Rattle.answers.proofs.Sorted.{next_line, no_line}
 use Rattle.answers.proofs.sorting.sorted_lines.Goals as goal
@@ -15,8 +14,14 @@ loop-place-preserved c =
       | in_default w ↦ ap (λ all. map standing all.items) w.all-is ∙ l.invariant ∙ no_line lines l.place line.result line.is c.loop-place-test.true w.in_default.is
     ]
 
-pub returns : goal.returns
-returns c =
+pub returns-clause-sorted : goal.returns-clause-sorted
+returns-clause-sorted c =
     let l = c.loop-place in
     let all = rw (take_all l.place c.args.lines.now c.loop-place-test.false) at l.invariant in
-    rw all at c.places_in_order.ensures
+    rw all at c.places_in_order.ensures.sorted
+
+pub returns-clause-only : goal.returns-clause-only
+returns-clause-only c =
+    let l = c.loop-place in
+    let all = rw (take_all l.place c.args.lines.now c.loop-place-test.false) at l.invariant in
+    rw all at c.places_in_order.ensures.only

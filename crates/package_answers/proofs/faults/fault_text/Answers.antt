@@ -1,5 +1,4 @@
-use Rattle.std.proofs.Common.{rules}
-use Rattle.std.specs.Option.{option_copied}
+use Rattle.std.proofs.Common.{rules, option_copied}
 use Rattle.std.proofs.lemmas.Result.{IfOk-weaker}
 use Rattle.package_answers.specs.Faults.{fault_json}
 use Rattle.package_answers.proofs.faults.fault_text.Goals as goal

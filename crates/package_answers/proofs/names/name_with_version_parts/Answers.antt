@@ -3,10 +3,10 @@ use Rattle.semver_base.specs.declared.failure.Rejection.{Rejection}
 use Rattle.deno_semver.specs.NameAndVersion.{IsNvMemory, IsNvOutcome}
 use Rattle.deno_semver.specs.declared.package.values.PackageNv.{PackageNv}
 use Rattle.answers.specs.declared.asking.Kind.TheVariants as kinds
-use Rattle.answers.proofs.ReadArguments.{by_rejection, was_not_parsed, was_parsed}
+use Rattle.answers.specs.ReadingLaws.{was_parsed, was_not_parsed, by_rejection}
 use Rattle.package_answers.proofs.Outcomes.{no_message}
 use Rattle.package_answers.specs.Names.{nv_json}
-use Rattle.answers.proofs.Givens.{answered, by_fault, by_value}
+use Rattle.answers.specs.AskingLaws.{by_value, by_fault, answered}
 use Rattle.package_answers.proofs.names.name_with_version_parts.Goals as goal
 
 pub returns-in-Err-clause-answer : goal.returns-in-Err-clause-answer

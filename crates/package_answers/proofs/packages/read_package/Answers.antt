@@ -2,7 +2,7 @@ use Rattle.std.proofs.Common.{◌≡◌, Ok, Err, None, ap}
 use Rattle.deno_semver.specs.PackageOutcome.{PackageFault, IsOutOfMemory, IsPackageOutcome}
 use Rattle.deno_semver.specs.declared.package.values.PackageReq.{PackageReq}
 use Rattle.answers.specs.declared.asking.Kind.TheVariants as kinds
-use Rattle.answers.proofs.ReadArguments.{by_rejection, was_not_parsed, was_parsed}
+use Rattle.answers.specs.ReadingLaws.{was_parsed, was_not_parsed, by_rejection}
 use Rattle.package_answers.specs.Packages.{parts_failure}
 use Rattle.package_answers.proofs.Outcomes.{none_shown}
 use Rattle.package_answers.proofs.packages.read_package.Goals as goal

@@ -3,7 +3,7 @@ use Rattle.deno_semver.specs.ReferenceOutcome.{IsReferenceOutcome, Memory, Refer
 use Rattle.deno_semver.specs.declared.package.values.PackageKind.{PackageKind}
 use Rattle.deno_semver.specs.declared.package.reference.PackageReqReference.{PackageReqReference}
 use Rattle.answers.specs.declared.asking.Kind.TheVariants as kinds
-use Rattle.answers.proofs.ReadArguments.{by_rejection, was_not_parsed, was_parsed}
+use Rattle.answers.specs.ReadingLaws.{was_parsed, was_not_parsed, by_rejection}
 use Rattle.package_answers.specs.References.{IsRegistryOutcome, reference_failure}
 use Rattle.package_answers.specs.declared.references.Reference.{Reference}
 use Rattle.package_answers.proofs.Outcomes.{by_this, in_registry, none_shown, same_of_registry}

@@ -1,7 +1,7 @@
 use Rattle.std.proofs.Common.{rules}
 use Rattle.std.proofs.lemmas.Result.{err_from_is_err_and}
 use Rattle.package_answers.specs.References.{reference_json}
-use Rattle.answers.proofs.Givens.{answered, by_fault, by_value}
+use Rattle.answers.specs.AskingLaws.{by_value, by_fault, answered}
 use Rattle.package_answers.proofs.references.reference_parts.Goals as goal
 
 pub returns-in_err-read-clause-answer : goal.returns-in_err-read-clause-answer

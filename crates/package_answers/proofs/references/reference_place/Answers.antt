@@ -1,7 +1,7 @@
-use Rattle.std.proofs.Common.{ap}
+use Rattle.std.proofs.Common.{ap, arith}
 use Rattle.semver_req.specs.declared.common.values.Flavour.TheVariants.{Specifier}
 use Rattle.deno_semver.specs.ReferenceOutcome.{unboxed}
-use Rattle.deno_semver.proofs.PackageText.{at_last, no_at}
+use Rattle.package_answers.proofs.PackagePlaces.{at_last, lacks}
 use Rattle.package_answers.specs.References as at
 use Rattle.package_answers.proofs.ReferencePlaces.{behind, has_bad_text, has_version, lacks_scheme, no_version}
 use Rattle.package_answers.proofs.references.reference_place.Goals as goal
@@ -27,4 +27,4 @@ pub returns-in-None-rsplit_once : goal.returns-in-None-rsplit_once
 returns-in-None-rsplit_once c =
     λ kind fault o h b.
     let is = has_version kind c.args.text.now c.args.error.now fault c.in-InvalidPathWithVersion.field-0.value h (ap unboxed c.in-InvalidPathWithVersion.is) in
-    absurd (no_version (rw is.2 at o) (no_at c.args.text.now c.in-None-rsplit_once.ensures.cases).1)
+    absurd (no_version (rw is.2 at o) (lacks 64 c.args.text.now (omega arith) c.in-None-rsplit_once.ensures.cases))

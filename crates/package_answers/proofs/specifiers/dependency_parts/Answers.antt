@@ -3,9 +3,9 @@ use Rattle.deno_semver.specs.DependencyOutcome.{DependencyFault, IsDependencyOut
 use Rattle.deno_semver.specs.declared.jsr.dependency.JsrDepPackageReq.{JsrDepPackageReq}
 use Rattle.deno_semver.specs.declared.jsr.dependency.JsrDepPackageReqParseError.TheVariants as error
 use Rattle.answers.specs.declared.asking.Kind.TheVariants as kinds
-use Rattle.answers.proofs.ReadArguments.{by_rejection, was_not_parsed, was_parsed}
+use Rattle.answers.specs.ReadingLaws.{was_parsed, was_not_parsed, by_rejection}
 use Rattle.package_answers.proofs.Outcomes.{none_shown}
-use Rattle.answers.proofs.Givens.{answered, by_fault, by_value}
+use Rattle.answers.specs.AskingLaws.{by_value, by_fault, answered}
 use Rattle.package_answers.specs.Specifiers.{dependency_failure, dependency_json}
 use Rattle.package_answers.proofs.specifiers.dependency_parts.Goals as goal
 

@@ -5,10 +5,10 @@ use Rattle.deno_semver.specs.NvReference.{IsNvReferenceOutcome, nv_error}
 use Rattle.deno_semver.specs.declared.package.values.PackageKind.{PackageKind}
 use Rattle.deno_semver.specs.declared.package.nv_reference.PackageNvReference.{PackageNvReference}
 use Rattle.answers.specs.declared.asking.Kind.TheVariants as kinds
-use Rattle.answers.proofs.ReadArguments.{by_rejection, was_not_parsed, was_parsed}
+use Rattle.answers.specs.ReadingLaws.{was_parsed, was_not_parsed, by_rejection}
 use Rattle.package_answers.specs.declared.specifiers.VersionReference.{VersionReference}
 use Rattle.package_answers.proofs.Outcomes.{by_this, in_registry, no_message, same_of_registry}
-use Rattle.answers.proofs.Givens.{answered, by_fault, by_value}
+use Rattle.answers.specs.AskingLaws.{by_value, by_fault, answered}
 use Rattle.package_answers.specs.Specifiers.{IsPinnedOutcome, version_reference_json}
 use Rattle.package_answers.proofs.specifiers.version_reference_parts.Goals as goal
 

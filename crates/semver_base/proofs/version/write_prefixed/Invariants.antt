@@ -1,5 +1,4 @@
-use Rattle.std.proofs.Common.{◌≡◌, ◌<◌, take}
-use Rattle.std.specs.Prelude.{◌==◌, if◌then◌else◌}
+use Rattle.std.proofs.Common.{◌≡◌, ◌<◌, take, ◌==◌, if◌then◌else◌}
 use Rattle.std.specs.Fmt.{HasWritten, IsPlainFormatter}
 use Rattle.semver_base.specs.VersionText.{prefixed}
 use Rattle.semver_base.proofs.version.write_prefixed.Given as goal

@@ -1,5 +1,4 @@
-use Rattle.std.proofs.Common.{◌∙◌, ap, sym}
-use Rattle.std.specs.Option.{option_copied}
+use Rattle.std.proofs.Common.{◌∙◌, ap, sym, option_copied}
 use Rattle.semver_c.specs.Held.{list_lines}
 use Rattle.semver_c.proofs.Replies.{found_reply}
 use Rattle.semver_c.proofs.questions.best_held.Goals as goal

@@ -1,7 +1,7 @@
 use Rattle.std.proofs.Common.{Global, Ok, refl}
 use Rattle.std.specs.Cow.{cow_str_bytes}
 use Rattle.std.specs.declared.borrow.CowStr.{CowStr}
-use Rattle.answers.proofs.Givens as given
+use Rattle.answers.specs.AskingLaws as given
 use Rattle.semver_c.proofs.Asking.{by_answer, by_no_text, by_text}
 use Rattle.semver_c.proofs.questions.export_name_of.Goals as goal
 

@@ -1,5 +1,5 @@
 use Rattle.std.proofs.Common.{Ok, ap, refl, ◌∙◌}
-use Rattle.answers.proofs.Givens as given
+use Rattle.answers.specs.AskingLaws as given
 use Rattle.answers.specs.Questions.{match_of}
 use Rattle.semver_c.specs.Codes.{match_code}
 use Rattle.semver_c.specs.declared.arguments.Problem.TheVariants as problem

@@ -1,5 +1,5 @@
 use Rattle.std.proofs.Common.{Ok, refl}
-use Rattle.answers.proofs.Givens as given
+use Rattle.answers.specs.AskingLaws as given
 use Rattle.semver_c.specs.declared.arguments.Problem.TheVariants as problem
 use Rattle.semver_c.specs.declared.questions.Numbers.{Numbers}
 use Rattle.semver_c.proofs.Asking.{by_answer, by_no_text, by_problem, by_text}

@@ -1,9 +1,16 @@
-use Rattle.answers.proofs.Sorted.{places_answer}
-use Rattle.answers.specs.Sorting.{standing_lines}
-use Rattle.answers.specs.declared.sorting.Order.TheVariants.{Ascending}
-use Rattle.semver_c.specs.Arguments.{memory}
-use Rattle.semver_c.specs.Held.{list_lines}
+use Rattle.std.proofs.Common.{List, Ok, Result, refl, sym, ap, inr, ◌∙◌, ℕ}
+use Rattle.semver_c.specs.Arguments.{CallFault}
 use Rattle.semver_c.proofs.questions.sorted_held.Goals as goal
 
+abbrev answered : List ℕ → Result (List ℕ) CallFault
+answered places = Ok places
+
 pub returns : goal.returns
-returns c = places_answer Ascending memory (standing_lines 0 (list_lines c.args.list.now)) c.in_ok-sorted_lines.field-0.items (rw c.as_slice.ensures.value at c.in_ok-sorted_lines.ensures)
+returns c =
+    let found = c.in_ok-sorted_lines.ensures in
+    let sorted = rw c.as_slice.ensures.value at found.sorted in
+    let only = rw c.as_slice.ensures.value at found.only in
+    record {
+      is = inr (c.in_ok-sorted_lines.field-0.items, sorted, refl);
+      only = λ o a. inr (ap answered (sym (only a.0 a.1)) ∙ sym a.2);
+    }

@@ -1,5 +1,4 @@
-use Rattle.std.proofs.Common.{Ok, inr, refl, string_bytes}
-use Rattle.std.specs.Option.{option_map}
+use Rattle.std.proofs.Common.{Ok, inr, refl, string_bytes, option_map}
 use Rattle.semver_c.proofs.Asking.{one_by_grammar, one_by_memory, one_by_no_grammar, one_by_no_subject, one_by_no_text, one_by_subject, one_by_text}
 use Rattle.semver_c.specs.Arguments.{called}
 use Rattle.semver_c.specs.Questions.{WhyBy}

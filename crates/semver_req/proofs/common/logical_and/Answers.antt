@@ -1,5 +1,4 @@
-use Rattle.std.proofs.Common.{rules}
-use Rattle.std.specs.Str.{IsUtf8}
+use Rattle.std.proofs.Common.{rules, IsUtf8}
 use Rattle.semver_req.proofs.Places.{longest_at, longest_reaches}
 use Rattle.semver_req.proofs.common.logical_and.Goals as goal
 

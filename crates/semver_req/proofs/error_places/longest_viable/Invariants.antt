@@ -1,6 +1,5 @@
 -- The bisection: what ends at or before low goes on, and nothing that ends at or behind high does.
-use Rattle.std.proofs.Common.{◌≤◌, ◌<◌, ◌-◌, ℕ, length, take}
-use Rattle.std.specs.Str.{IsCharBoundary}
+use Rattle.std.proofs.Common.{◌≤◌, ◌<◌, ◌-◌, ℕ, length, take, IsCharBoundary}
 use Rattle.semver_req.specs.Viable.{IsTextOf, IsViablePrefix}
 use Rattle.semver_req.proofs.error_places.longest_viable.Given as goal
 

@@ -1,5 +1,4 @@
-use Rattle.std.proofs.Common.{◌≡◌, None, refl}
-use Rattle.std.specs.Prelude.{◌⊎◌}
+use Rattle.std.proofs.Common.{◌≡◌, None, refl, ◌⊎◌}
 use Rattle.semver_base.specs.Lexical.{IsWhitespace}
 use Rattle.semver_base.specs.PartialTable.{release_range}
 use Rattle.semver_req.specs.Requirement.{of_range}

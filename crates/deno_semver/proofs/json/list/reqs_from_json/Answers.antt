@@ -6,4 +6,4 @@ use Rattle.deno_semver.proofs.json.list.reqs_from_json.Goals as goal
 pub returns-clause-again : goal.returns-clause-again
 returns-clause-again c reqs h s =
     let sorted : IsSortedFrom s.again c.sort.new.self.items = search rules in
-    sorted_equal reqs s.again c.sort.new.self.items h s.are_equal sorted
+    sorted_equal c.ascending_arrangements_tie.ensures reqs s.again c.sort.new.self.items h s.are_equal sorted

@@ -1,5 +1,4 @@
-use Rattle.std.proofs.Common.{sym}
-use Rattle.std.proofs.lemmas.List.{take_all}
+use Rattle.std.proofs.Common.{sym, take_all}
 use Rattle.serde_json.specs.View.{view}
 use Rattle.deno_semver.specs.Json.{IsJsonOfRange}
 use Rattle.deno_semver.proofs.JsonReading.{exit_answer, item_of, next_read, only_none, pushed}

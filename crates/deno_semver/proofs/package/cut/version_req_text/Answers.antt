@@ -1,5 +1,4 @@
-use Rattle.std.proofs.Common.{ap}
-use Rattle.std.specs.Option.{option_copied}
+use Rattle.std.proofs.Common.{ap, option_copied}
 use Rattle.deno_semver.proofs.PackagePlaces.{no_parts, no_requirement, requirement_at}
 use Rattle.deno_semver.proofs.package.cut.version_req_text.Goals as goal
 

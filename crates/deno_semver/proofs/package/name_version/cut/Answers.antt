@@ -1,7 +1,5 @@
 use Rattle.std.proofs.Common.{rules, sym, ◌∙◌}
-use Rattle.semver_base.proofs.Numbers.{cuts_run}
-use Rattle.deno_semver.specs.NameAndVersion.{is_version_byte}
-use Rattle.deno_semver.proofs.NameAndVersion.{name_boundary, name_cut, no_at, no_version, parts_of, version_boundary}
+use Rattle.deno_semver.proofs.NameAndVersion.{name_boundary, name_cut, no_at, no_version, parts_of, version_boundary, version_cut}
 use Rattle.deno_semver.proofs.package.name_version.cut.Goals as goal
 
 pub split_at-requires : goal.split_at-requires
@@ -12,17 +10,17 @@ split_at-requires-2 c = version_boundary c.in-Some.rest.now c.version_len.result
 
 pub returns-in_default : goal.returns-in_default
 returns-in_default c =
-    let name = name_cut c.args.text.now c.split_at.result.0.now c.split_at.result.1.now c.name_len.result (search rules) c.split_at.ensures.front c.split_at.ensures.back in
+    let name = name_cut c.counted_runs_are_cut.ensures c.args.text.now c.split_at.result.0.now c.split_at.result.1.now c.name_len.result (search rules) c.split_at.ensures.front c.split_at.ensures.back in
     no_at name c.in_default.ensures
 
 pub returns-then-is_empty : goal.returns-then-is_empty
 returns-then-is_empty c =
-    let name = name_cut c.args.text.now c.split_at.result.0.now c.split_at.result.1.now c.name_len.result (search rules) c.split_at.ensures.front c.split_at.ensures.back in
-    let version = cuts_run is_version_byte c.in-Some.rest.now c.split_at-2.result.0.now c.split_at-2.result.1.now c.version_len.result (search rules) c.split_at-2.ensures.front c.split_at-2.ensures.back in
+    let name = name_cut c.counted_runs_are_cut.ensures c.args.text.now c.split_at.result.0.now c.split_at.result.1.now c.name_len.result (search rules) c.split_at.ensures.front c.split_at.ensures.back in
+    let version = version_cut c.counted_runs_are_cut.ensures c.in-Some.rest.now c.split_at-2.result.0.now c.split_at-2.result.1.now c.version_len.result (search rules) c.split_at-2.ensures.front c.split_at-2.ensures.back in
     no_version name c.in-Some.ensures version (sym c.is_empty.ensures ∙ c.if-is_empty.true)
 
 pub returns : goal.returns
 returns c =
-    let name = name_cut c.args.text.now c.split_at.result.0.now c.split_at.result.1.now c.name_len.result (search rules) c.split_at.ensures.front c.split_at.ensures.back in
-    let version = cuts_run is_version_byte c.in-Some.rest.now c.split_at-2.result.0.now c.split_at-2.result.1.now c.version_len.result (search rules) c.split_at-2.ensures.front c.split_at-2.ensures.back in
+    let name = name_cut c.counted_runs_are_cut.ensures c.args.text.now c.split_at.result.0.now c.split_at.result.1.now c.name_len.result (search rules) c.split_at.ensures.front c.split_at.ensures.back in
+    let version = version_cut c.counted_runs_are_cut.ensures c.in-Some.rest.now c.split_at-2.result.0.now c.split_at-2.result.1.now c.version_len.result (search rules) c.split_at-2.ensures.front c.split_at-2.ensures.back in
     parts_of name c.in-Some.ensures version (sym c.is_empty.ensures ∙ c.if-is_empty.false)

@@ -1,5 +1,4 @@
-use Rattle.std.proofs.Common.{Option, Some, None, inl, refl, List, ℕ}
-use Rattle.std.specs.Option.{option_copied}
+use Rattle.std.proofs.Common.{Option, Some, None, inl, refl, List, ℕ, option_copied}
 use Rattle.semver_req.specs.declared.common.values.Flavour.{Flavour}
 use Rattle.deno_semver.specs.PackageReading.{IsPartsRejection}
 use Rattle.deno_semver.specs.declared.package.errors.PackageReqPartsParseError.TheVariants as parts

@@ -1,5 +1,4 @@
-use Rattle.std.proofs.Common.{ap, ◌∙◌}
-use Rattle.std.specs.Prelude.{is_some}
+use Rattle.std.proofs.Common.{ap, ◌∙◌, is_some}
 use Rattle.semver_base.specs.Candidates.{filtered}
 use Rattle.semver_base.specs.Meaning.{is_pre_match}
 use Rattle.semver_base.proofs.PreMatches.{reported_lowest, reported_own}

@@ -1,5 +1,4 @@
-use Rattle.std.proofs.Common.{[]}
-use Rattle.std.specs.Prelude.{IfSome}
+use Rattle.std.proofs.Common.{[], IfSome}
 use Rattle.semver_base.specs.Candidates.{lowest_of}
 use Rattle.semver_base.specs.LowestVersion.{HasNoBuild, IsLowestPassing, all_mean_with}
 use Rattle.semver_base.specs.NormalText.{AreWritableRanges}

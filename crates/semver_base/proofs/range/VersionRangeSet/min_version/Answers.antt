@@ -1,5 +1,4 @@
-use Rattle.std.proofs.Common.{[]}
-use Rattle.std.specs.Prelude.{IfSome}
+use Rattle.std.proofs.Common.{[], IfSome}
 use Rattle.semver_base.specs.Candidates.{lowest_of}
 use Rattle.semver_base.specs.LowestVersion.{HasNoBuild, IsLowestPassing}
 use Rattle.semver_base.specs.Meaning.{set_means_with}

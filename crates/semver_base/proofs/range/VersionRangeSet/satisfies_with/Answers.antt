@@ -1,5 +1,5 @@
 use Rattle.std.proofs.Common.{◌∙◌}
-use Rattle.semver_base.proofs.MeaningLemmas.{any_alternatives}
+use Rattle.semver_base.specs.Meaning.{any_alternatives}
 use Rattle.semver_base.proofs.range.VersionRangeSet.satisfies_with.Goals as goal
 
 pub returns-2 : goal.returns-2

@@ -1,5 +1,4 @@
-use Rattle.std.proofs.Common.{◌≡◌, ◌++◌, ◌<◌, length, take, drop, rules, sym, ap, subst, ◌∙◌, arith, length-append}
-use Rattle.std.proofs.lemmas.List.{append_assoc}
+use Rattle.std.proofs.Common.{◌≡◌, ◌++◌, ◌<◌, length, take, drop, rules, sym, ap, subst, ◌∙◌, arith, length-append, append_assoc}
 use Rattle.semver_base.specs.Texts.{IsReplaced, no_more}
 use Rattle.semver_base.proofs.Replaced.{IsPartly, IsStep, first_fits, found_step, left_over, next, no_longer, second_fits}
 use Rattle.semver_base.proofs.string.ShortText.replace.Goals as goal

@@ -1,7 +1,6 @@
-use Rattle.std.proofs.Common.{◌≡◌, [], subst, sym, arith}
+use Rattle.std.proofs.Common.{◌≡◌, [], subst, sym, arith, codes}
 use Rattle.std.specs.Cmp.{unsigned_Decides}
 use Rattle.std.specs.Cmp.Lexicographic.{pointwise_decides}
-use Rattle.std.specs.Prelude.{codes}
 use Rattle.std.proofs.lemmas.Bool.Decides.{nat_tests}
 use Rattle.std.proofs.lemmas.List.{nil_from_length}
 use Rattle.semver_base.specs.Comparators.{comparator_line}

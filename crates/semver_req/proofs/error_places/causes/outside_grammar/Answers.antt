@@ -1,5 +1,4 @@
-use Rattle.std.proofs.Common.{◌≡◌, ◌∙◌, arith, inl, inr, take}
-use Rattle.std.specs.Prelude.{◌<◌, ◌⊎◌, IfSome}
+use Rattle.std.proofs.Common.{◌≡◌, ◌∙◌, arith, inl, inr, take, ◌<◌, ◌⊎◌, IfSome}
 use Rattle.semver_req.proofs.ViableParts.{slice_front}
 use Rattle.semver_req.specs.Causes.{no_tag, unexpected}
 use Rattle.semver_req.proofs.error_places.causes.outside_grammar.Goals as goal

@@ -1,5 +1,4 @@
-use Rattle.std.proofs.Common.{◌≡◌, ◌++◌, ◌∷◌, [], false, get_or, rules, true}
-use Rattle.std.proofs.lemmas.List.{take_all}
+use Rattle.std.proofs.Common.{◌≡◌, ◌++◌, ◌∷◌, [], false, get_or, rules, true, take_all}
 use Rattle.semver_req.proofs.ErrorCauses.{next_expected, next_not}
 use Rattle.semver_req.proofs.KindTexts.{expected}
 use Rattle.semver_req.specs.Kinds.{all_kinds, no_kind}

@@ -1,5 +1,4 @@
-use Rattle.std.proofs.Common.{◌∙◌}
-use Rattle.std.proofs.lemmas.List.{take_all}
+use Rattle.std.proofs.Common.{◌∙◌, take_all}
 use Rattle.semver_req.proofs.AnyOrder.{all_in_any_order}
 use Rattle.semver_req.proofs.LowestRead.{all_back, all_lowest}
 use Rattle.semver_req.proofs.req.VersionReq.common_version_of_all.Goals as goal
@@ -18,4 +17,4 @@ returns-clause-reads_back c =
 
 pub returns-clause-any_order : goal.returns-clause-any_order
 returns-clause-any_order c =
-    all_in_any_order c.args.pre_release c.args.self.now.inner c.args.others.now c.common_version_of_all.result (returns-clause-lowest c) c.common_version_of_all.ensures.no_build (returns-clause-reads_back c)
+    all_in_any_order c.read_versions_are_readable.ensures c.args.pre_release c.args.self.now.inner c.args.others.now c.common_version_of_all.result (returns-clause-lowest c) c.common_version_of_all.ensures.no_build (returns-clause-reads_back c)

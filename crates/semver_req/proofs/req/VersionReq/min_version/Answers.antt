@@ -15,4 +15,4 @@ returns-in-RangeSet-clause-any_order c =
     let arm = c.in-RangeSet in
     let is : c.args.self.now.inner ≡ inner.RangeSet arm.set = cc in
     let found = c.min_version.ensures in
-    own_in_any_order c.args.pre_release c.args.self.now.inner arm.set c.min_version.result is found.lowest found.no_build found.reads_back
+    own_in_any_order c.read_versions_are_readable.ensures c.args.pre_release c.args.self.now.inner arm.set c.min_version.result is found.lowest found.no_build found.reads_back

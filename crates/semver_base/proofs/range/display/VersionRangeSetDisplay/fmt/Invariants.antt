@@ -1,7 +1,5 @@
-use Rattle.std.proofs.Common.{◌++◌, take}
-use Rattle.std.specs.Prelude.{codes}
+use Rattle.std.proofs.Common.{◌++◌, take, codes, flat_map}
 use Rattle.std.specs.Fmt.{HasWritten, IsPlainFormatter}
-use Rattle.std.specs.List.{flat_map}
 use Rattle.semver_base.specs.NormalText.{range_text}
 use Rattle.semver_base.proofs.range.display.VersionRangeSetDisplay.fmt.Given as goal
 

@@ -1,5 +1,4 @@
-use Rattle.std.proofs.Common.{refl, sym, ◌∙◌}
-use Rattle.std.specs.declared.cmp.Ordering.TheVariants.{Less, Equal}
+use Rattle.std.proofs.Common.{refl, sym, ◌∙◌, Less, Equal}
 use Rattle.semver_base.specs.Candidates.{passes}
 use Rattle.semver_base.proofs.LowestFrom.{lower_retained}
 use Rattle.semver_base.proofs.range.lowest.Question.lower_passing.Goals as goal

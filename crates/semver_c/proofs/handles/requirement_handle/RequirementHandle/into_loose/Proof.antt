@@ -1,5 +1,5 @@
 -- `into_loose` adds the allocator's handle.
-use Rattle.std.proofs.Common.{◌≡◌, List, [], ◌∷◌, ◌++◌, refl, sym, subst}
+use Rattle.std.proofs.Common.{◌≡◌, List, [], ◌∷◌, ◌++◌, refl, sym, subst, Some}
 use mir.Val.{Val, vptr}
 use base.Logic.{SProp, ent, emp, id⊢}
 use prog.Wp.{WpFn}
@@ -13,7 +13,6 @@ use denote.Exit.{yes}
 use denote.RattleType.{RattleType, owns}
 use denote.Signature.{types_at, plain}
 use denote.RawPtr.{block_ptr}
-use Rattle.std.specs.Prelude.{Some}
 use Rattle.semver_req.specs.Requirement.{Requirement}
 use denote.Steps.{heard, nothing}
 use denote.Triple.Entry.{alive}
