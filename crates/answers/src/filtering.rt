@@ -5,8 +5,8 @@ ghost use Rattle.semver_req.specs.Requirement.{inner_means_with, tag_of};
 ghost use Rattle.semver_req.specs.TextRejection.{IsTextRejection};
 ghost use Rattle.semver_req.specs.Resolve.{IsBestMatch, IsOnlyMatch};
 ghost use Rattle.semver_req.specs.ResolveSteps.{exceeds, known_of};
-ghost use Rattle.answers.specs.Asking.{IsAnswer, IsFailureAt};
-ghost use Rattle.answers.specs.Filtering.{Filter, IsLine, VersionLines, better_line, line_answer, line_passes, list_answer, list_matches};
+ghost use Rattle.answers.specs.Asking.{Each, IsAnswer, IsFailureAt};
+ghost use Rattle.answers.specs.Filtering.{Filter, FilterOf, IsLine, LineMatch, VersionLines, better_line, line_answer, line_passes, list_answer, list_matches};
 ghost use Rattle.answers.specs.Questions.{better};
 ghost use Rattle.answers.specs.Reading.{texts_of};
 ghost use Rattle.answers.specs.declared.asking.Kind.TheVariants as kind;
@@ -25,7 +25,7 @@ use std::alloc::{AllocError, Global};
 
 // The version of a text; none if the text isn't a version.
 fn version_line(alloc: Global, place: usize, text: &str) -> Result<Option<Version>, Problem>
-    ensures answer { IsAnswer (IsLine place text.now) (λ line. line) result }
+    ensures answer { IsAnswer (IsLine (λ v. v) place text.now) (λ line. line) result }
     ensures problem { IfErr result (λ p. p ≡ problem.OutOfMemory) }
 {
     match version(alloc, place, text) {
@@ -33,6 +33,79 @@ fn version_line(alloc: Global, place: usize, text: &str) -> Result<Option<Versio
         Err(Problem::Invalid(_)) => Ok(None),
         Err(Problem::OutOfMemory) => Err(Problem::OutOfMemory),
     }
+}
+
+// Whether the version of a line matches the range, which isn't a tag.
+fn line_answer(pre_release: PreRelease, range: &VersionReq, line: &Option<Version>) -> Option<bool>
+    requires { tag_of range.now.inner ≡ None }
+    ensures { result
+        ≡ line_answer (λ v. inner_means_with pre_release range.now.inner v) line.now }
+{
+    match line {
+        Some(version) => Some(range.matches_with(version, pre_release)),
+        None => None,
+    }
+}
+
+// Whether the version of each text matches the range, which isn't a tag.
+fn line_matches(
+    alloc: Global,
+    pre_release: PreRelease,
+    range: &VersionReq,
+    texts: &[&str],
+) -> Result<Vec<Option<bool>>, Problem>
+    requires { tag_of range.now.inner ≡ None }
+    ensures answer { IsAnswer
+        (Each (LineMatch (λ v. inner_means_with pre_release range.now.inner v)) 0
+        (texts_of texts.now)) (λ answers. answers.items) result }
+    ensures problem { IfErr result (λ p. p ≡ problem.OutOfMemory) }
+{
+    let mut answers = Vec::new(alloc);
+    for text in texts {
+        let line = version_line(alloc, answers.len(), text)?;
+        let answer = line_answer(pre_release, range, &line);
+        if answers.push(answer).is_err() {
+            return Err(Problem::OutOfMemory);
+        }
+    }
+    Ok(answers)
+}
+
+// Whether the version of each text matches the range.
+fn filter_of(
+    alloc: Global,
+    pre_release: PreRelease,
+    range: &VersionReq,
+    texts: &[&str],
+) -> Result<Answer<Vec<Option<bool>>>, Problem>
+    ensures answer { IsAnswer (FilterOf pre_release range.now.inner (texts_of texts.now))
+        (λ answer. list_answer (λ list. list.items) answer) result }
+    ensures problem { IfErr result (λ p. p ≡ problem.OutOfMemory) }
+{
+    if let Some(tag) = range.tag() {
+        return Ok(Answer::Tag(PackageTag::from_str(alloc, tag)?));
+    }
+    let answers = line_matches(alloc, pre_release, range, texts)?;
+    Ok(Answer::Value(answers))
+}
+
+/// Which of the versions match the range? Of each text the answer is whether its version matches, or none if it isn't a
+/// version.
+pub fn filter(
+    alloc: Global,
+    flavour: Flavour,
+    pre_release: PreRelease,
+    range_text: &str,
+    version_texts: &[&str],
+) -> Result<Answer<Vec<Option<bool>>>, Problem>
+    ensures answer { IsAnswer
+        (Filter pre_release flavour range_text.now (texts_of version_texts.now))
+        (λ answer. list_answer (λ list. list.items) answer) result }
+    ensures failure { IfErr result
+        (IsFailureAt kind.Range 0 (IsTextRejection flavour range_text.now)) }
+{
+    let range = range(alloc, flavour, 0, range_text)?;
+    filter_of(alloc, pre_release, &range, version_texts)
 }
 
 /// Parses several versions, which can then be asked of by many ranges; none for a text that isn't a version. Fails only out of
@@ -49,18 +122,6 @@ pub fn version_lines(alloc: Global, texts: &[&str]) -> Result<Vec<Option<Version
         }
     }
     Ok(lines)
-}
-
-// Whether the version of a line matches the range, which isn't a tag.
-fn line_answer(pre_release: PreRelease, range: &VersionReq, line: &Option<Version>) -> Option<bool>
-    requires { tag_of range.now.inner ≡ None }
-    ensures { result
-        ≡ line_answer (λ v. inner_means_with pre_release range.now.inner v) line.now }
-{
-    match line {
-        Some(version) => Some(range.matches_with(version, pre_release)),
-        None => None,
-    }
 }
 
 // Whether the version of each line matches the range, which isn't a tag.
@@ -95,26 +156,6 @@ pub fn list_matches(
         Some(tag) => Ok(Answer::Tag(PackageTag::from_str(alloc, tag)?)),
         None => Ok(Answer::Value(line_answers(alloc, pre_release, range, lines)?)),
     }
-}
-
-/// Which of the versions match the range? Of each text the answer is whether its version matches, or none if it isn't a
-/// version.
-pub fn filter(
-    alloc: Global,
-    flavour: Flavour,
-    pre_release: PreRelease,
-    range_text: &str,
-    version_texts: &[&str],
-) -> Result<Answer<Vec<Option<bool>>>, Problem>
-    ensures answer { IsAnswer
-        (Filter pre_release flavour range_text.now (texts_of version_texts.now))
-        (λ answer. list_answer (λ list. list.items) answer) result }
-    ensures failure { IfErr result
-        (IsFailureAt kind.Range 0 (IsTextRejection flavour range_text.now)) }
-{
-    let range = range(alloc, flavour, 0, range_text)?;
-    let lines = version_lines(alloc, version_texts)?;
-    Ok(list_matches(alloc, pre_release, &range, lines.as_slice())?)
 }
 
 // Whether the version matches the range, which isn't a tag, and is better than the best match so far, if any.

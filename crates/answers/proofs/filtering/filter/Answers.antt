@@ -1,7 +1,5 @@
-use Rattle.std.proofs.Common.{rules}
 use Rattle.std.proofs.lemmas.Result.{err_from_is_err_and}
-use Rattle.answers.specs.AskingLaws.{by_value, by_fault, answered}
-use Rattle.answers.specs.Asking.{OutOfMemory}
+use Rattle.answers.specs.AskingLaws.{by_value, by_fault}
 use Rattle.answers.proofs.filtering.filter.Goals as goal
 
 pub returns-in_err-range-clause-answer : goal.returns-in_err-range-clause-answer
@@ -9,12 +7,5 @@ returns-in_err-range-clause-answer c =
     let p = err_from_is_err_and c.from_residual.result c.from_residual.ensures.1 in
     rw (p.1, p.2) (by_fault _ _ _ _ c.in_err-range.ensures.answer)
 
-pub returns-in_err-lines-clause-answer : goal.returns-in_err-lines-clause-answer
-returns-in_err-lines-clause-answer c =
-    let p = err_from_is_err_and c.from_residual-in_err-lines.result c.from_residual-in_err-lines.ensures.1 in
-    by_value _ _ _ _ c.in_ok-range.ensures.answer _ (rw (p.1, p.2) (by_fault _ _ _ _ c.in_err-lines.ensures.answer))
-
 pub returns-clause-answer : goal.returns-clause-answer
-returns-clause-answer c =
-    by_value _ _ _ _ c.in_ok-range.ensures.answer _ (by_value _ _ _ _ c.in_ok-lines.ensures.answer _
-    (answered OutOfMemory _ _ (search rules)))
+returns-clause-answer c = by_value _ _ _ _ c.in_ok-range.ensures.answer _ c.filter_of.ensures.answer

@@ -7,4 +7,4 @@ use Rattle.answers.specs.Reading.{texts_of}
 use Rattle.answers.proofs.filtering.version_lines.Given as goal
 
 abbrev pub invariant-loop-text : goal.invariant-loop-text
-invariant-loop-text l = AreValues OutOfMemory IsLine 0 (texts_of (take l.text-index l.texts)) l.lines.items
+invariant-loop-text l = AreValues OutOfMemory (IsLine (λ (v : Version). v)) 0 (texts_of (take l.text-index l.texts)) l.lines.items
