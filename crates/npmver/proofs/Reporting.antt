@@ -1,5 +1,7 @@
 -- What is printed for a question, from its result.
-use Rattle.std.proofs.Common.{◌≡◌, ◌==◌, ◌<◌, ℕ, false, true, Bool, suc, length, drop, get_or, map, arith, List, [], ◌∷◌, Option, Result, Ok, Err, Some, None, refl, sym, ap, subst, ◌∙◌, inl, inr, ◌⊎◌, codes, slice_index, eq-eqb}
+use Rattle.std.proofs.Common.{◌≡◌, ◌==◌, ◌<◌, ◌-◌, ℕ, false, true, Bool, suc, length, drop, take, get_or, map, arith, List, [], ◌∷◌, Option, Result, Ok, Err, Some, None, refl, sym, ap, subst, ◌∙◌, inl, inr, ◌⊎◌, codes, slice_index, eq-eqb}
+use Rattle.std.proofs.lemmas.List.{take_all}
+use Rattle.semver_base.specs.declared.range.PreRelease.{PreRelease}
 use Rattle.semver_base.specs.declared.range.PreRelease.TheVariants.{Restricted, Admitted}
 use Rattle.semver_req.specs.declared.common.values.Flavour.{Flavour}
 use Rattle.semver_req.specs.declared.common.values.Flavour.TheVariants.{Npm}
@@ -10,7 +12,7 @@ use Rattle.answers.specs.Questions.{BestMatch, Canonical, Matches, Overlaps}
 use Rattle.answers.specs.declared.asking.Answer.{Answer}
 use Rattle.answers.specs.declared.asking.Answer.TheVariants as answer
 use Rattle.answers.specs.declared.questions.Best.{Best}
-use Rattle.npmver.specs.Question.{ByParser, IsPrinted, IsAsked, IsForm, IsParser, IsStatus, NoParser, Prints, asks_best, asks_fits, asks_fits_pre, asks_meet, asks_normal, asks_nothing, by, by_none, form_best, form_fits, form_fits_pre, form_meet, form_normal, npm, normal, of_reported, of_unwritten, of_out_of_memory, prints, rejects, strict}
+use Rattle.npmver.specs.Question.{ByParser, IsPrinted, IsAsked, IsForm, IsParser, IsStatus, NoParser, Prints, asks_best, asks_fits, asks_meet, asks_normal, asks_nothing, by, by_none, form_best, form_fits, form_meet, form_normal, matching_command, npm, normal, of_reported, of_unwritten, of_out_of_memory, prints, rejects, strict}
 use Rattle.npmver.specs.Reported.{OutOfMemory, Text, Reported, Usage, status_of, reported_answer, reported_best, printed_for, reported_fault, reported_match, reported_problem, reported_whether}
 use Rattle.npmver.specs.declared.Line.{Line}
 use Rattle.npmver.specs.declared.Line.TheVariants as line
@@ -137,200 +139,164 @@ same_argument arguments others k e = ap (λ (x : List (List ℕ)). argument_at x
 same_length : (arguments others : List (List ℕ)) → arguments ≡ others → length arguments ≡ length others
 same_length arguments others e = ap (λ (x : List (List ℕ)). length x) e
 
-abbrev of_four : List ℕ → List ℕ → List ℕ → List ℕ → List (List ℕ)
-of_four command one two three = command ∷ one ∷ two ∷ three ∷ []
-
-abbrev of_versions : List ℕ → List ℕ → List ℕ → List (List ℕ) → List (List ℕ)
-of_versions command parser requirement versions = command ∷ parser ∷ requirement ∷ versions
-
 -- what follows three arguments
 same_rest : (arguments others : List (List ℕ)) → arguments ≡ others → drop 3 arguments ≡ drop 3 others
 same_rest arguments others e = ap (λ (x : List (List ℕ)). drop 3 x) e
 
--- the only text of a list
-pub alone : {S : Type 0} (bytes : S → List ℕ) (all : List S) (one : S) (text : List ℕ) → one ≡ get_or all 0 one → map bytes all ≡ text ∷ [] → bytes one ≡ text
-alone bytes [] one text is e = absurd (cc e)
-alone bytes (x ∷ xs) one text is e = ap bytes is ∙ ap (λ (l : List (List ℕ)). get_or l 0 text) e
+one_command : (p q : PreRelease) → matching_command p ≡ matching_command q → p ≡ q
+one_command Restricted Restricted e = refl
+one_command Restricted Admitted e = absurd (apart _ 4 (codes "fits") (codes "fits-pre") refl e refl)
+one_command Admitted Restricted e = absurd (apart _ 4 (codes "fits-pre") (codes "fits") refl e refl)
+one_command Admitted Admitted e = refl
 
-none_left : (command parser requirement : List ℕ) (versions : List (List ℕ)) → 0 < length versions → {a b c : List ℕ}
-    → of_versions command parser requirement versions ≡ a ∷ b ∷ c ∷ [] → ⊥
-none_left command parser requirement versions some e = let none : length versions ≡ 0 = same_length _ _ (same_rest _ _ e) in absurd (omega (arith, some, none))
+-- no other command begins as these do
+other_command : (p : PreRelease) (name : List ℕ) → matching_command p ≡ name → (102 == slice_index name 0) ≡ false → ⊥
+other_command Restricted name e d = apart _ 0 (codes "fits") name refl e d
+other_command Admitted name e d = apart _ 0 (codes "fits-pre") name refl e d
 
-one_left : (command parser requirement : List ℕ) (versions : List (List ℕ)) → 1 < length versions → {a b c d : List ℕ}
-    → of_versions command parser requirement versions ≡ a ∷ b ∷ c ∷ d ∷ [] → ⊥
-one_left command parser requirement versions more e = let one : length versions ≡ 1 = same_length _ _ (same_rest _ _ e) in absurd (omega (arith, more, one))
-
-abbrev of_three : List ℕ → List ℕ → List ℕ → List (List ℕ)
-of_three command one two = command ∷ one ∷ two ∷ []
-
-four_fits : (command parser requirement version : List ℕ) → command ≡ codes "fits" → (result : Result Line Problem)
-    → IsPrinted (ByParser parser (λ f. Prints reported_match (Matches Restricted f requirement version))) result → IsPrinted (IsAsked (command ∷ parser ∷ requirement ∷ version ∷ [])) result
-four_fits command parser requirement version is result h = same_answer _ (IsAsked (of_four command parser requirement version)) (λ reported a. asks_fits same a) from result h
-  where
-    same : of_four command parser requirement version ≡ codes "fits" ∷ parser ∷ requirement ∷ version ∷ []
-    same = ap (λ (x : List ℕ). x ∷ parser ∷ requirement ∷ version ∷ []) is
-
-    from : (reported : Reported) → IsAsked (of_four command parser requirement version) reported → ByParser parser (λ f. Prints reported_match (Matches Restricted f requirement version)) reported
-    from reported (asks_fits {parser = r} {requirement = q} {version = v} e a) =
-        subst (λ (x : List ℕ). ByParser x (λ f. Prints reported_match (Matches Restricted f requirement version)) reported) (sym (same_argument (of_four command parser requirement version) _ 1 e))
-        (subst (λ (x : List ℕ). ByParser r (λ f. Prints reported_match (Matches Restricted f x version)) reported) (sym (same_argument (of_four command parser requirement version) _ 2 e))
-        (subst (λ (x : List ℕ). ByParser r (λ f. Prints reported_match (Matches Restricted f q x)) reported) (sym (same_argument (of_four command parser requirement version) _ 3 e)) a))
-    from reported (asks_fits_pre e a) = absurd (apart command 4 (codes "fits") (codes "fits-pre") is (same_argument (of_four command parser requirement version) _ 0 e) refl)
-    from reported (asks_best e a) = absurd (apart command 0 (codes "fits") (codes "best") is (same_argument (of_four command parser requirement version) _ 0 e) refl)
-    from reported (asks_normal e a) = absurd (cc e)
-    from reported (asks_meet e a) = absurd (cc e)
-    from reported (asks_nothing n) = absurd (n (form_fits same))
-
-four_fits_pre : (command parser requirement version : List ℕ) → command ≡ codes "fits-pre" → (result : Result Line Problem)
-    → IsPrinted (ByParser parser (λ f. Prints reported_match (Matches Admitted f requirement version))) result → IsPrinted (IsAsked (command ∷ parser ∷ requirement ∷ version ∷ [])) result
-four_fits_pre command parser requirement version is result h = same_answer _ (IsAsked (of_four command parser requirement version)) (λ reported a. asks_fits_pre same a) from result h
-  where
-    same : of_four command parser requirement version ≡ codes "fits-pre" ∷ parser ∷ requirement ∷ version ∷ []
-    same = ap (λ (x : List ℕ). x ∷ parser ∷ requirement ∷ version ∷ []) is
-
-    from : (reported : Reported) → IsAsked (of_four command parser requirement version) reported → ByParser parser (λ f. Prints reported_match (Matches Admitted f requirement version)) reported
-    from reported (asks_fits_pre {parser = r} {requirement = q} {version = v} e a) =
-        subst (λ (x : List ℕ). ByParser x (λ f. Prints reported_match (Matches Admitted f requirement version)) reported) (sym (same_argument (of_four command parser requirement version) _ 1 e))
-        (subst (λ (x : List ℕ). ByParser r (λ f. Prints reported_match (Matches Admitted f x version)) reported) (sym (same_argument (of_four command parser requirement version) _ 2 e))
-        (subst (λ (x : List ℕ). ByParser r (λ f. Prints reported_match (Matches Admitted f q x)) reported) (sym (same_argument (of_four command parser requirement version) _ 3 e)) a))
-    from reported (asks_fits e a) = absurd (apart command 4 (codes "fits-pre") (codes "fits") is (same_argument (of_four command parser requirement version) _ 0 e) refl)
-    from reported (asks_best e a) = absurd (apart command 0 (codes "fits-pre") (codes "best") is (same_argument (of_four command parser requirement version) _ 0 e) refl)
-    from reported (asks_normal e a) = absurd (cc e)
-    from reported (asks_meet e a) = absurd (cc e)
-    from reported (asks_nothing n) = absurd (n (form_fits_pre same))
-
-pub versions_best : (command parser requirement : List ℕ) (versions : List (List ℕ)) → 0 < length versions → command ≡ codes "best" → (result : Result Line Problem)
-    → IsPrinted (ByParser parser (λ f. Prints reported_best (BestMatch Highest Restricted f requirement versions))) result → IsPrinted (IsAsked (of_versions command parser requirement versions)) result
-versions_best command parser requirement [] some is result h = absurd (omega (arith, some))
-versions_best command parser requirement (version ∷ others) some is result h = same_answer _ (IsAsked arguments) (λ reported a. asks_best same a) from result h
+pub fits_asked : (p : PreRelease) (parser requirement version : List ℕ) (result : Result Line Problem)
+    → IsPrinted (ByParser parser (λ f. Prints reported_match (Matches p f requirement version))) result → IsPrinted (IsAsked (matching_command p ∷ parser ∷ requirement ∷ version ∷ [])) result
+fits_asked p parser requirement version result h = same_answer _ (IsAsked arguments) (λ reported a. asks_fits p refl a) from result h
   where
     arguments : List (List ℕ)
-    arguments = of_versions command parser requirement (version ∷ others)
+    arguments = matching_command p ∷ parser ∷ requirement ∷ version ∷ []
 
-    same : arguments ≡ codes "best" ∷ parser ∷ requirement ∷ version ∷ others
-    same = ap (λ (x : List ℕ). of_versions x parser requirement (version ∷ others)) is
+    from : (reported : Reported) → IsAsked arguments reported → ByParser parser (λ f. Prints reported_match (Matches p f requirement version)) reported
+    from reported (asks_fits o {parser = r} {requirement = q} {version = v} e a) =
+        subst (λ (x : PreRelease). ByParser parser (λ f. Prints reported_match (Matches x f requirement version)) reported) (sym (one_command p o (same_argument arguments _ 0 e)))
+        (subst (λ (x : List ℕ). ByParser x (λ f. Prints reported_match (Matches o f requirement version)) reported) (sym (same_argument arguments _ 1 e))
+        (subst (λ (x : List ℕ). ByParser r (λ f. Prints reported_match (Matches o f x version)) reported) (sym (same_argument arguments _ 2 e))
+        (subst (λ (x : List ℕ). ByParser r (λ f. Prints reported_match (Matches o f q x)) reported) (sym (same_argument arguments _ 3 e)) a)))
+    from reported (asks_best e a) = absurd (other_command p (codes "best") (same_argument arguments _ 0 e) refl)
+    from reported (asks_normal e a) = absurd (cc e)
+    from reported (asks_meet e a) = absurd (cc e)
+    from reported (asks_nothing n) = absurd (n (form_fits p refl))
+
+pub best_asked : (parser requirement : List ℕ) (versions : List (List ℕ)) → 0 < length versions → (result : Result Line Problem)
+    → IsPrinted (ByParser parser (λ f. Prints reported_best (BestMatch Highest Restricted f requirement versions))) result → IsPrinted (IsAsked (codes "best" ∷ parser ∷ requirement ∷ versions)) result
+best_asked parser requirement [] some result h = absurd (omega (arith, some))
+best_asked parser requirement (version ∷ others) some result h = same_answer _ (IsAsked arguments) (λ reported a. asks_best refl a) from result h
+  where
+    arguments : List (List ℕ)
+    arguments = codes "best" ∷ parser ∷ requirement ∷ version ∷ others
 
     from : (reported : Reported) → IsAsked arguments reported → ByParser parser (λ f. Prints reported_best (BestMatch Highest Restricted f requirement (version ∷ others))) reported
     from reported (asks_best {parser = r} {requirement = q} {version = v} {versions = vs} e a) =
         subst (λ (x : List ℕ). ByParser x (λ f. Prints reported_best (BestMatch Highest Restricted f requirement (version ∷ others))) reported) (sym (same_argument arguments _ 1 e))
         (subst (λ (x : List ℕ). ByParser r (λ f. Prints reported_best (BestMatch Highest Restricted f x (version ∷ others))) reported) (sym (same_argument arguments _ 2 e))
         (subst (λ (x : List (List ℕ)). ByParser r (λ f. Prints reported_best (BestMatch Highest Restricted f q x)) reported) (sym (same_rest arguments _ e)) a))
-    from reported (asks_fits e a) = absurd (apart command 0 (codes "best") (codes "fits") is (same_argument arguments _ 0 e) refl)
-    from reported (asks_fits_pre e a) = absurd (apart command 0 (codes "best") (codes "fits-pre") is (same_argument arguments _ 0 e) refl)
-    from reported (asks_normal e a) = absurd (apart command 0 (codes "best") (codes "normal") is (same_argument arguments _ 0 e) refl)
-    from reported (asks_meet e a) = absurd (apart command 0 (codes "best") (codes "meet") is (same_argument arguments _ 0 e) refl)
-    from reported (asks_nothing n) = absurd (n (form_best same))
+    from reported (asks_fits o e a) = absurd (other_command o (codes "best") (sym (same_argument arguments _ 0 e)) refl)
+    from reported (asks_normal e a) = absurd (cc e)
+    from reported (asks_meet e a) = absurd (cc e)
+    from reported (asks_nothing n) = absurd (n (form_best refl))
 
-pub three_normal : (command parser requirement : List ℕ) → command ≡ codes "normal" → (result : Result Line Problem)
-    → IsPrinted (ByParser parser (λ f. Prints Text (Canonical f requirement))) result → IsPrinted (IsAsked (command ∷ parser ∷ requirement ∷ [])) result
-three_normal command parser requirement is result h = same_answer _ (IsAsked (of_three command parser requirement)) (λ reported a. asks_normal same a) from result h
+pub normal_asked : (parser requirement : List ℕ) (result : Result Line Problem)
+    → IsPrinted (ByParser parser (λ f. Prints Text (Canonical f requirement))) result → IsPrinted (IsAsked (codes "normal" ∷ parser ∷ requirement ∷ [])) result
+normal_asked parser requirement result h = same_answer _ (IsAsked arguments) (λ reported a. asks_normal refl a) from result h
   where
-    same : of_three command parser requirement ≡ codes "normal" ∷ parser ∷ requirement ∷ []
-    same = ap (λ (x : List ℕ). x ∷ parser ∷ requirement ∷ []) is
+    arguments : List (List ℕ)
+    arguments = codes "normal" ∷ parser ∷ requirement ∷ []
 
-    from : (reported : Reported) → IsAsked (of_three command parser requirement) reported → ByParser parser (λ f. Prints Text (Canonical f requirement)) reported
-    from reported (asks_fits e a) = absurd (cc e)
-    from reported (asks_fits_pre e a) = absurd (cc e)
+    from : (reported : Reported) → IsAsked arguments reported → ByParser parser (λ f. Prints Text (Canonical f requirement)) reported
+    from reported (asks_fits p e a) = absurd (cc e)
     from reported (asks_best e a) = absurd (cc e)
     from reported (asks_normal {parser = r} {requirement = q} e a) =
-        subst (λ (x : List ℕ). ByParser x (λ f. Prints Text (Canonical f requirement)) reported) (sym (same_argument (of_three command parser requirement) _ 1 e))
-        (subst (λ (x : List ℕ). ByParser r (λ f. Prints Text (Canonical f x)) reported) (sym (same_argument (of_three command parser requirement) _ 2 e)) a)
-    from reported (asks_meet e a) = absurd (apart command 0 (codes "normal") (codes "meet") is (same_argument (of_three command parser requirement) _ 0 e) refl)
-    from reported (asks_nothing n) = absurd (n (form_normal same))
+        subst (λ (x : List ℕ). ByParser x (λ f. Prints Text (Canonical f requirement)) reported) (sym (same_argument arguments _ 1 e))
+        (subst (λ (x : List ℕ). ByParser r (λ f. Prints Text (Canonical f x)) reported) (sym (same_argument arguments _ 2 e)) a)
+    from reported (asks_meet e a) = absurd (apart _ 0 (codes "normal") (codes "meet") refl (same_argument arguments _ 0 e) refl)
+    from reported (asks_nothing n) = absurd (n (form_normal refl))
 
-pub three_meet : (command one other : List ℕ) → command ≡ codes "meet" → (result : Result Line Problem)
-    → IsPrinted (Prints reported_whether (Overlaps Npm one other)) result → IsPrinted (IsAsked (command ∷ one ∷ other ∷ [])) result
-three_meet command one other is result h = same_answer _ (IsAsked (of_three command one other)) (λ reported a. asks_meet same a) from result h
+pub meet_asked : (one other : List ℕ) (result : Result Line Problem)
+    → IsPrinted (Prints reported_whether (Overlaps Npm one other)) result → IsPrinted (IsAsked (codes "meet" ∷ one ∷ other ∷ [])) result
+meet_asked one other result h = same_answer _ (IsAsked arguments) (λ reported a. asks_meet refl a) from result h
   where
-    same : of_three command one other ≡ codes "meet" ∷ one ∷ other ∷ []
-    same = ap (λ (x : List ℕ). x ∷ one ∷ other ∷ []) is
+    arguments : List (List ℕ)
+    arguments = codes "meet" ∷ one ∷ other ∷ []
 
-    from : (reported : Reported) → IsAsked (of_three command one other) reported → Prints reported_whether (Overlaps Npm one other) reported
-    from reported (asks_fits e a) = absurd (cc e)
-    from reported (asks_fits_pre e a) = absurd (cc e)
+    from : (reported : Reported) → IsAsked arguments reported → Prints reported_whether (Overlaps Npm one other) reported
+    from reported (asks_fits p e a) = absurd (cc e)
     from reported (asks_best e a) = absurd (cc e)
-    from reported (asks_normal e a) = absurd (apart command 0 (codes "meet") (codes "normal") is (same_argument (of_three command one other) _ 0 e) refl)
+    from reported (asks_normal e a) = absurd (apart _ 0 (codes "meet") (codes "normal") refl (same_argument arguments _ 0 e) refl)
     from reported (asks_meet {one = a} {other = b} e m) =
-        subst (λ (x : List ℕ). Prints reported_whether (Overlaps Npm x other) reported) (sym (same_argument (of_three command one other) _ 1 e)) (subst (λ (x : List ℕ). Prints reported_whether (Overlaps Npm a x) reported) (sym (same_argument (of_three command one other) _ 2 e)) m)
-    from reported (asks_nothing n) = absurd (n (form_meet same))
+        subst (λ (x : List ℕ). Prints reported_whether (Overlaps Npm x other) reported) (sym (same_argument arguments _ 1 e)) (subst (λ (x : List ℕ). Prints reported_whether (Overlaps Npm a x) reported) (sym (same_argument arguments _ 2 e)) m)
+    from reported (asks_nothing n) = absurd (n (form_meet refl))
 
--- arguments of no form print the usage
+-- ---- arguments of no form
+
+-- they print the usage
 pub no_form : (arguments : List (List ℕ)) → (IsForm arguments → ⊥) → IsPrinted (IsAsked arguments) (Err problem.Usage)
 no_form arguments n = record { reports = inr (asks_nothing n); every = every; usage = λ a. refl }
   where
     every : (reported : Reported) → IsAsked arguments reported → (Usage ≡ OutOfMemory) ⊎ (Usage ≡ reported)
-    every reported (asks_fits e a) = absurd (n (form_fits e))
-    every reported (asks_fits_pre e a) = absurd (n (form_fits_pre e))
+    every reported (asks_fits p e a) = absurd (n (form_fits p e))
     every reported (asks_best e a) = absurd (n (form_best e))
     every reported (asks_normal e a) = absurd (n (form_normal e))
     every reported (asks_meet e a) = absurd (n (form_meet e))
     every reported (asks_nothing m) = inr refl
 
--- a command with versions that takes none
-pub versions_others : (command parser requirement : List ℕ) (versions : List (List ℕ)) → 0 < length versions → (command ≡ codes "fits" → ⊥)
-    → (command ≡ codes "fits-pre" → ⊥) → (command ≡ codes "best" → ⊥) → IsForm (of_versions command parser requirement versions) → ⊥
-versions_others command parser requirement versions some never neither nor (form_fits e) = never (same_argument _ _ 0 e)
-versions_others command parser requirement versions some never neither nor (form_fits_pre e) = neither (same_argument _ _ 0 e)
-versions_others command parser requirement versions some never neither nor (form_best e) = nor (same_argument _ _ 0 e)
-versions_others command parser requirement versions some never neither nor (form_normal e) = none_left command parser requirement versions some e
-versions_others command parser requirement versions some never neither nor (form_meet e) = none_left command parser requirement versions some e
+pub no_arguments : IsForm [] → ⊥
+no_arguments (form_fits p e) = cc e
+no_arguments (form_best e) = cc e
+no_arguments (form_normal e) = cc e
+no_arguments (form_meet e) = cc e
 
--- a command with several versions that isn't `best`
-several_others : (command parser requirement : List ℕ) (versions : List (List ℕ)) → 1 < length versions → (command ≡ codes "best" → ⊥)
-    → IsForm (of_versions command parser requirement versions) → ⊥
-several_others command parser requirement versions more nor (form_fits e) = one_left command parser requirement versions more e
-several_others command parser requirement versions more nor (form_fits_pre e) = one_left command parser requirement versions more e
-several_others command parser requirement versions more nor (form_best e) = nor (same_argument _ _ 0 e)
-several_others command parser requirement versions more nor (form_normal e) = none_left command parser requirement versions (omega (arith, more)) e
-several_others command parser requirement versions more nor (form_meet e) = none_left command parser requirement versions (omega (arith, more)) e
+pub no_command : (command : List ℕ) (arguments : List (List ℕ)) → ((p : PreRelease) → command ≡ matching_command p → ⊥) → (command ≡ codes "best" → ⊥) → (command ≡ codes "normal" → ⊥)
+    → (command ≡ codes "meet" → ⊥) → IsForm (command ∷ arguments) → ⊥
+no_command command arguments no_fits no_best no_normal no_meet (form_fits p e) = no_fits p (same_argument _ _ 0 e)
+no_command command arguments no_fits no_best no_normal no_meet (form_best e) = no_best (same_argument _ _ 0 e)
+no_command command arguments no_fits no_best no_normal no_meet (form_normal e) = no_normal (same_argument _ _ 0 e)
+no_command command arguments no_fits no_best no_normal no_meet (form_meet e) = no_meet (same_argument _ _ 0 e)
 
-module _ (command parser requirement : List ℕ) (versions : List (List ℕ)) (some : 0 < length versions) (result : Result Line Problem) where
-  -- several versions print the usage if one is asked for
-  reported_several : (command ≡ codes "best" → ⊥) → 1 < length versions → result ≡ Err problem.Usage → IsPrinted (IsAsked (of_versions command parser requirement versions)) result
-  reported_several nor more is = subst (IsPrinted (IsAsked (of_versions command parser requirement versions))) (sym is) (no_form _ (several_others command parser requirement versions more nor))
+pub no_fits : (p : PreRelease) (arguments : List (List ℕ)) → (length arguments ≡ 3 → ⊥) → IsForm (matching_command p ∷ arguments) → ⊥
+no_fits p arguments other (form_fits q e) = other (let size : suc (length arguments) ≡ 4 = same_length _ _ e in omega (arith, size))
+no_fits p arguments other (form_best e) = other_command p (codes "best") (same_argument _ _ 0 e) refl
+no_fits p arguments other (form_normal e) = other_command p (codes "normal") (same_argument _ _ 0 e) refl
+no_fits p arguments other (form_meet e) = other_command p (codes "meet") (same_argument _ _ 0 e) refl
 
-  of_one : (Asked : List ℕ → Type 0) → ((version : List ℕ) → versions ≡ version ∷ [] → Asked version) → (1 < length versions → result ≡ Err problem.Usage)
-      → ((version : List ℕ) → versions ≡ version ∷ [] → Asked version → IsPrinted (IsAsked (of_versions command parser requirement versions)) result)
-      → (command ≡ codes "best" → ⊥) → IsPrinted (IsAsked (of_versions command parser requirement versions)) result
-  of_one Asked one several reported nor = go versions refl
-    where
-      go : (vs : List (List ℕ)) → versions ≡ vs → IsPrinted (IsAsked (of_versions command parser requirement versions)) result
-      go [] e = absurd (omega (arith, some, ap (λ (x : List (List ℕ)). length x) e))
-      go (v ∷ []) e = reported v e (one v e)
-      go (v ∷ w ∷ ws) e = reported_several nor more (several more)
-        where
-          more : 1 < length versions
-          more = rw e (omega arith)
+pub no_best : (arguments : List (List ℕ)) → length arguments < 3 → IsForm (codes "best" ∷ arguments) → ⊥
+no_best arguments few (form_fits p e) = other_command p (codes "best") (sym (same_argument _ _ 0 e)) refl
+no_best arguments few (form_best {versions = versions} e) = let size : suc (length arguments) ≡ suc (suc (suc (suc (length versions)))) = same_length _ _ e in omega (arith, size, few)
+no_best arguments few (form_normal e) = apart _ 0 (codes "best") (codes "normal") refl (same_argument _ _ 0 e) refl
+no_best arguments few (form_meet e) = apart _ 0 (codes "best") (codes "meet") refl (same_argument _ _ 0 e) refl
 
-  pub versions_fits : command ≡ codes "fits" → ((version : List ℕ) → versions ≡ version ∷ [] → IsPrinted (ByParser parser (λ f. Prints reported_match (Matches Restricted f requirement version))) result)
-      → (1 < length versions → result ≡ Err problem.Usage) → IsPrinted (IsAsked (of_versions command parser requirement versions)) result
-  versions_fits is one several = of_one (λ version. IsPrinted (ByParser parser (λ f. Prints reported_match (Matches Restricted f requirement version))) result) one several
-      (λ version e a. rw e (four_fits command parser requirement version is result a)) (λ best. apart command 0 (codes "fits") (codes "best") is best refl)
+pub no_normal : (arguments : List (List ℕ)) → (length arguments ≡ 2 → ⊥) → IsForm (codes "normal" ∷ arguments) → ⊥
+no_normal arguments other (form_fits p e) = other_command p (codes "normal") (sym (same_argument _ _ 0 e)) refl
+no_normal arguments other (form_best e) = apart _ 0 (codes "normal") (codes "best") refl (same_argument _ _ 0 e) refl
+no_normal arguments other (form_normal e) = other (let size : suc (length arguments) ≡ 3 = same_length _ _ e in omega (arith, size))
+no_normal arguments other (form_meet e) = apart _ 0 (codes "normal") (codes "meet") refl (same_argument _ _ 0 e) refl
 
-  pub versions_fits_pre : command ≡ codes "fits-pre" → ((version : List ℕ) → versions ≡ version ∷ [] → IsPrinted (ByParser parser (λ f. Prints reported_match (Matches Admitted f requirement version))) result)
-      → (1 < length versions → result ≡ Err problem.Usage) → IsPrinted (IsAsked (of_versions command parser requirement versions)) result
-  versions_fits_pre is one several = of_one (λ version. IsPrinted (ByParser parser (λ f. Prints reported_match (Matches Admitted f requirement version))) result) one several
-      (λ version e a. rw e (four_fits_pre command parser requirement version is result a)) (λ best. apart command 0 (codes "fits-pre") (codes "best") is best refl)
+pub no_meet : (arguments : List (List ℕ)) → (length arguments ≡ 2 → ⊥) → IsForm (codes "meet" ∷ arguments) → ⊥
+no_meet arguments other (form_fits p e) = other_command p (codes "meet") (sym (same_argument _ _ 0 e)) refl
+no_meet arguments other (form_best e) = apart _ 0 (codes "meet") (codes "best") refl (same_argument _ _ 0 e) refl
+no_meet arguments other (form_normal e) = apart _ 0 (codes "meet") (codes "normal") refl (same_argument _ _ 0 e) refl
+no_meet arguments other (form_meet e) = other (let size : suc (length arguments) ≡ 3 = same_length _ _ e in omega (arith, size))
 
-pub three_others : (command one other : List ℕ) → (command ≡ codes "normal" → ⊥) → (command ≡ codes "meet" → ⊥) → IsForm (command ∷ one ∷ other ∷ []) → ⊥
-three_others command one other never neither (form_fits e) = cc e
-three_others command one other never neither (form_fits_pre e) = cc e
-three_others command one other never neither (form_best e) = cc e
-three_others command one other never neither (form_normal e) = never (same_argument _ _ 0 e)
-three_others command one other never neither (form_meet e) = neither (same_argument _ _ 0 e)
+-- ---- the texts of a list by their places
 
-fewer_left : (arguments : List (List ℕ)) → length arguments < 3 → {a b c : List ℕ} {rest : List (List ℕ)} → arguments ≡ a ∷ b ∷ c ∷ rest → ⊥
-fewer_left arguments fewer {rest = rest} e =
-    let n : length arguments ≡ suc (suc (suc (length rest))) = same_length arguments _ e in
-    absurd (omega (arith, fewer, n))
+module _ {S : Type 0} (bytes : S → List ℕ) where
+  pub first_text : (all : List S) (one : S) → 0 < length all → one ≡ get_or all 0 one → map bytes all ≡ bytes one ∷ map bytes (take (length all - 1) (drop 1 all))
+  first_text [] one some is = absurd (omega (arith, some))
+  first_text (x ∷ xs) one some is = rw (is, take_all (length (x ∷ xs) - 1) xs (omega arith)) refl
 
--- fewer than three arguments
-pub too_few : (arguments : List (List ℕ)) → length arguments < 3 → IsForm arguments → ⊥
-too_few arguments fewer (form_fits e) = fewer_left arguments fewer e
-too_few arguments fewer (form_fits_pre e) = fewer_left arguments fewer e
-too_few arguments fewer (form_best e) = fewer_left arguments fewer e
-too_few arguments fewer (form_normal e) = fewer_left arguments fewer e
-too_few arguments fewer (form_meet e) = fewer_left arguments fewer e
+  pub two_texts : (all : List S) (one two : S) → length all ≡ 2 → one ≡ get_or all 0 one → two ≡ get_or all 1 two → map bytes all ≡ bytes one ∷ bytes two ∷ []
+  two_texts (x ∷ y ∷ []) one two size is is_two = rw (is, is_two) refl
+  two_texts [] one two size is is_two = absurd (omega (arith, size))
+  two_texts (x ∷ []) one two size is is_two = absurd (omega (arith, size))
+  two_texts (x ∷ y ∷ z ∷ zs) one two size is is_two = absurd (omega (arith, size))
+
+  pub three_texts : (all : List S) (one two three : S) → length all ≡ 3 → one ≡ get_or all 0 one → two ≡ get_or all 1 two → three ≡ get_or all 2 three
+      → map bytes all ≡ bytes one ∷ bytes two ∷ bytes three ∷ []
+  three_texts (x ∷ y ∷ z ∷ []) one two three size is is_two is_three = rw (is, is_two, is_three) refl
+  three_texts [] one two three size is is_two is_three = absurd (omega (arith, size))
+  three_texts (x ∷ []) one two three size is is_two is_three = absurd (omega (arith, size))
+  three_texts (x ∷ y ∷ []) one two three size is is_two is_three = absurd (omega (arith, size))
+  three_texts (x ∷ y ∷ z ∷ w ∷ ws) one two three size is is_two is_three = absurd (omega (arith, size))
+
+  pub two_first : (all : List S) (one two : S) → 1 < length all → one ≡ get_or all 0 one → two ≡ get_or all 1 two
+      → map bytes all ≡ bytes one ∷ bytes two ∷ map bytes (take (length all - 2) (drop 2 all))
+  two_first [] one two some is is_two = absurd (omega (arith, some))
+  two_first (x ∷ []) one two some is is_two = absurd (omega (arith, some))
+  two_first (x ∷ y ∷ xs) one two some is is_two = rw (is, is_two, take_all (length (x ∷ y ∷ xs) - 2) xs (omega arith)) refl
 
 -- ---- statuses
 

@@ -1,5 +1,6 @@
 -- What the arguments ask, and what the program prints.
 use Rattle.std.specs.Prelude.{◌≡◌, ◌⊎◌, ℕ, List, [], ◌∷◌, Result, Ok, Err, codes}
+use Rattle.semver_base.specs.declared.range.PreRelease.{PreRelease}
 use Rattle.semver_base.specs.declared.range.PreRelease.TheVariants.{Restricted, Admitted}
 use Rattle.semver_req.specs.declared.common.values.Flavour.{Flavour}
 use Rattle.semver_req.specs.declared.common.values.Flavour.TheVariants.{Npm, Normal, Specifier}
@@ -34,12 +35,15 @@ pub data ByParser (name : List ℕ) (Asked : Flavour → Reported → Type 0) : 
 
 -- ---- the arguments
 
+-- the command that asks whether a version matches
+abbrev pub matching_command : PreRelease → List ℕ
+matching_command Restricted = codes "fits"
+matching_command Admitted = codes "fits-pre"
+
 -- the forms of questions
 pub data IsForm (arguments : List (List ℕ)) : Type 0 where
-  form_fits : {parser requirement version : List ℕ} → arguments ≡ codes "fits" ∷ parser ∷ requirement ∷ version ∷ []
-      → IsForm arguments
-  form_fits_pre : {parser requirement version : List ℕ} → arguments ≡ codes "fits-pre" ∷ parser ∷ requirement ∷ version ∷ []
-      → IsForm arguments
+  form_fits : (pre_release : PreRelease) {parser requirement version : List ℕ}
+      → arguments ≡ matching_command pre_release ∷ parser ∷ requirement ∷ version ∷ [] → IsForm arguments
   form_best : {parser requirement version : List ℕ} {versions : List (List ℕ)}
       → arguments ≡ codes "best" ∷ parser ∷ requirement ∷ version ∷ versions → IsForm arguments
   form_normal : {parser requirement : List ℕ} → arguments ≡ codes "normal" ∷ parser ∷ requirement ∷ [] → IsForm arguments
@@ -47,12 +51,9 @@ pub data IsForm (arguments : List (List ℕ)) : Type 0 where
 
 -- what the arguments ask
 pub data IsAsked (arguments : List (List ℕ)) : Reported → Type 0 where
-  asks_fits : {parser requirement version : List ℕ} {reported : Reported}
-      → arguments ≡ codes "fits" ∷ parser ∷ requirement ∷ version ∷ []
-      → ByParser parser (λ f. Prints reported_match (Matches Restricted f requirement version)) reported → IsAsked arguments reported
-  asks_fits_pre : {parser requirement version : List ℕ} {reported : Reported}
-      → arguments ≡ codes "fits-pre" ∷ parser ∷ requirement ∷ version ∷ []
-      → ByParser parser (λ f. Prints reported_match (Matches Admitted f requirement version)) reported → IsAsked arguments reported
+  asks_fits : (pre_release : PreRelease) {parser requirement version : List ℕ} {reported : Reported}
+      → arguments ≡ matching_command pre_release ∷ parser ∷ requirement ∷ version ∷ []
+      → ByParser parser (λ f. Prints reported_match (Matches pre_release f requirement version)) reported → IsAsked arguments reported
   asks_best : {parser requirement version : List ℕ} {versions : List (List ℕ)} {reported : Reported}
       → arguments ≡ codes "best" ∷ parser ∷ requirement ∷ version ∷ versions
       → ByParser parser (λ f. Prints reported_best (BestMatch Highest Restricted f requirement (version ∷ versions))) reported → IsAsked arguments reported

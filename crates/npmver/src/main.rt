@@ -12,14 +12,12 @@
 //! memory `out of memory` (5). The status is 6 if standard output can't be written. `npmver --help` prints the commands (0).
 #![tactic(auto)]
 
-ghost use Rattle.std.specs.Prelude.{◌≡◌, ◌⊎◌, ◌∷◌, ◌<◌, ℕ, List, [], length, Err, IfOk, MatchOption, map, string_bytes};
-ghost use Rattle.semver_req.specs.declared.common.values.Flavour.TheVariants as flavour;
+ghost use Rattle.std.specs.Prelude.{◌≡◌, ◌⊎◌, ◌∷◌, IfOk, MatchOption, codes, map, string_bytes};
 ghost use Rattle.answers.specs.Asking as fault;
-ghost use Rattle.answers.specs.Questions.{BestMatch, Canonical, Matches, Overlaps};
 ghost use Rattle.answers.specs.declared.asking.Kind.TheVariants as kind;
 ghost use Rattle.answers.specs.declared.asking.Problem.TheVariants as unanswered;
-ghost use Rattle.npmver.specs.Question.{ByParser, IsPrinted, IsAsked, IsParser, IsStatus, NoParser, Prints};
-ghost use Rattle.npmver.specs.Reported.{Text, status_of, reported_answer, reported_best, reported_match, reported_problem, reported_whether};
+ghost use Rattle.npmver.specs.Question.{IsPrinted, IsAsked, IsParser, IsStatus, NoParser, matching_command};
+ghost use Rattle.npmver.specs.Reported.{status_of, reported_answer, reported_best, reported_match, reported_problem, reported_whether};
 ghost use Rattle.npmver.specs.declared.Problem.TheVariants as problem;
 
 use answers::asking::{Answer, Problem as Unanswered};
@@ -132,46 +130,15 @@ pub fn run<O: Write, E: Write>(alloc: Global, arguments: &[String], out: &mut O,
 fn ask(alloc: Global, arguments: &[String]) -> Result<Line, Problem>
     ensures { IsPrinted (IsAsked (map string_bytes arguments.now)) result }
 {
-    match arguments {
-        [command, one, other] => three(alloc, command.as_str(), one.as_str(), other.as_str()),
-        [command, parser, requirement, versions @ ..] => of_versions(
-            alloc,
-            command.as_str(),
-            parser.as_str(),
-            requirement.as_str(),
-            versions,
-        ),
-        _ => Err(Problem::Usage),
-    }
-}
-
-// Returns the result for a requirement and one or more versions.
-fn of_versions(
-    alloc: Global,
-    command: &str,
-    parser: &str,
-    requirement: &str,
-    versions: &[String],
-) -> Result<Line, Problem>
-    requires { 0 < length versions.now }
-    ensures { IsPrinted (IsAsked (command.now ∷ parser.now ∷ requirement.now
-        ∷ map string_bytes versions.now)) result }
-{
-    match command {
-        "fits" => fits_one(alloc, parser, requirement, versions, PreRelease::Restricted),
-        "fits-pre" => fits_one(alloc, parser, requirement, versions, PreRelease::Admitted),
-        "best" => best(alloc, parser, requirement, versions),
-        _ => Err(Problem::Usage),
-    }
-}
-
-// Returns the result for three arguments.
-fn three(alloc: Global, command: &str, one: &str, other: &str) -> Result<Line, Problem>
-    ensures { IsPrinted (IsAsked (command.now ∷ one.now ∷ other.now ∷ [])) result }
-{
-    match command {
-        "normal" => normal(alloc, one, other),
-        "meet" => meet(alloc, one, other),
+    let [command, arguments @ ..] = arguments else {
+        return Err(Problem::Usage);
+    };
+    match command.as_str() {
+        "fits" => fits(alloc, arguments, PreRelease::Restricted),
+        "fits-pre" => fits(alloc, arguments, PreRelease::Admitted),
+        "best" => best(alloc, arguments),
+        "normal" => normal(alloc, arguments),
+        "meet" => meet(alloc, arguments),
         _ => Err(Problem::Usage),
     }
 }
@@ -188,40 +155,24 @@ fn flavour_of(name: &str) -> Option<Flavour>
     }
 }
 
-// Whether the version matches the requirement; with several versions, reports the usage.
-fn fits_one(
-    alloc: Global,
-    parser: &str,
-    requirement: &str,
-    versions: &[String],
-    pre_release: PreRelease,
-) -> Result<Line, Problem>
-    ensures one { (version : List ℕ) → map string_bytes versions.now ≡ version ∷ []
-        → IsPrinted (ByParser parser.now
-        (λ f. Prints reported_match (Matches pre_release f requirement.now version))) result }
-    ensures several { 1 < length versions.now → result ≡ Err problem.Usage }
-{
-    match versions {
-        [version] => fits(alloc, parser, requirement, version.as_str(), pre_release),
-        _ => Err(Problem::Usage),
-    }
-}
-
 // Whether the version matches the requirement, by the grammar with this name.
-fn fits(
-    alloc: Global,
-    parser: &str,
-    requirement: &str,
-    version: &str,
-    pre_release: PreRelease,
-) -> Result<Line, Problem>
-    ensures { IsPrinted (ByParser parser.now
-        (λ f. Prints reported_match (Matches pre_release f requirement.now version.now))) result }
+fn fits(alloc: Global, arguments: &[String], pre_release: PreRelease) -> Result<Line, Problem>
+    ensures { IsPrinted
+        (IsAsked (matching_command pre_release ∷ map string_bytes arguments.now)) result }
 {
-    let Some(flavour) = flavour_of(parser) else {
+    let [parser, requirement, version] = arguments else {
         return Err(Problem::Usage);
     };
-    let answer = matches(alloc, flavour, pre_release, requirement, version)?;
+    let Some(flavour) = flavour_of(parser.as_str()) else {
+        return Err(Problem::Usage);
+    };
+    let answer = matches(
+        alloc,
+        flavour,
+        pre_release,
+        requirement.as_str(),
+        version.as_str(),
+    )?;
     Ok(Line::of_match(answer))
 }
 
@@ -238,16 +189,16 @@ fn slices(alloc: Global, texts: &[String]) -> Result<Vec<&str>, AllocError>
 }
 
 // The highest of the versions that matches the requirement, by the grammar with this name.
-fn best(
-    alloc: Global,
-    parser: &str,
-    requirement: &str,
-    versions: &[String],
-) -> Result<Line, Problem>
-    ensures { IsPrinted (ByParser parser.now (λ f. Prints reported_best
-        (BestMatch End.Highest PreRelease.Restricted f requirement.now (map string_bytes versions.now)))) result }
+fn best(alloc: Global, arguments: &[String]) -> Result<Line, Problem>
+    ensures { IsPrinted (IsAsked (codes "best" ∷ map string_bytes arguments.now)) result }
 {
-    let Some(flavour) = flavour_of(parser) else {
+    let [parser, requirement, versions @ ..] = arguments else {
+        return Err(Problem::Usage);
+    };
+    if versions.is_empty() {
+        return Err(Problem::Usage);
+    }
+    let Some(flavour) = flavour_of(parser.as_str()) else {
         return Err(Problem::Usage);
     };
     let versions = slices(alloc, versions)?;
@@ -256,28 +207,34 @@ fn best(
         End::Highest,
         flavour,
         PreRelease::Restricted,
-        requirement,
+        requirement.as_str(),
         versions.as_slice(),
     )?;
     Ok(Line::of_best(alloc, answer)?)
 }
 
 // The canonical form of the requirement, by the grammar with this name.
-fn normal(alloc: Global, parser: &str, requirement: &str) -> Result<Line, Problem>
-    ensures { IsPrinted
-        (ByParser parser.now (λ f. Prints Text (Canonical f requirement.now))) result }
+fn normal(alloc: Global, arguments: &[String]) -> Result<Line, Problem>
+    ensures { IsPrinted (IsAsked (codes "normal" ∷ map string_bytes arguments.now)) result }
 {
-    let Some(flavour) = flavour_of(parser) else {
+    let [parser, requirement] = arguments else {
         return Err(Problem::Usage);
     };
-    Ok(Line::Text(canonical(alloc, flavour, requirement)?))
+    let Some(flavour) = flavour_of(parser.as_str()) else {
+        return Err(Problem::Usage);
+    };
+    Ok(Line::Text(canonical(alloc, flavour, requirement.as_str())?))
 }
 
 // Whether the two requirements overlap, both by npm's grammar.
-fn meet(alloc: Global, one: &str, other: &str) -> Result<Line, Problem>
-    ensures { IsPrinted (Prints reported_whether (Overlaps flavour.Npm one.now other.now)) result }
+fn meet(alloc: Global, arguments: &[String]) -> Result<Line, Problem>
+    ensures { IsPrinted (IsAsked (codes "meet" ∷ map string_bytes arguments.now)) result }
 {
-    Ok(Line::whether(overlaps(alloc, Flavour::Npm, one, other)?))
+    let [one, other] = arguments else {
+        return Err(Problem::Usage);
+    };
+    let overlap = overlaps(alloc, Flavour::Npm, one.as_str(), other.as_str())?;
+    Ok(Line::whether(overlap))
 }
 
 // Prints the line, and returns its status, or 6 if it can't be written.
