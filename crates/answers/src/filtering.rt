@@ -1,12 +1,12 @@
 //! Which of several versions match a range, and which of those that were parsed is the best match.
 
-ghost use Rattle.std.specs.Prelude.{◌≡◌, ◌&&◌, IfErr, IfOk, None, map};
+ghost use Rattle.std.specs.Prelude.{◌≡◌, ◌&&◌, IfErr, IfOk, None};
 ghost use Rattle.semver_req.specs.Requirement.{inner_means_with, tag_of};
 ghost use Rattle.semver_req.specs.TextRejection.{IsTextRejection};
 ghost use Rattle.semver_req.specs.Resolve.{IsBestMatch, IsOnlyMatch};
 ghost use Rattle.semver_req.specs.ResolveSteps.{exceeds, known_of};
-ghost use Rattle.answers.specs.Asking.{Each, IsAnswer, IsFailureAt};
-ghost use Rattle.answers.specs.Filtering.{Filter, FilterOf, IsLine, LineMatch, VersionLines, better_line, line_answer, line_passes, list_answer, list_matches};
+ghost use Rattle.answers.specs.Asking.{IsAnswer, IsFailureAt};
+ghost use Rattle.answers.specs.Filtering.{Filter, FilterOf, IsLine, VersionLines, better_line, line_answer, line_passes, list_answer, list_matches};
 ghost use Rattle.answers.specs.Questions.{better};
 ghost use Rattle.answers.specs.Reading.{texts_of};
 ghost use Rattle.answers.specs.declared.asking.Kind.TheVariants as kind;
@@ -47,30 +47,6 @@ fn line_answer(pre_release: PreRelease, range: &VersionReq, line: &Option<Versio
     }
 }
 
-// Whether the version of each text matches the range, which isn't a tag.
-fn line_matches(
-    alloc: Global,
-    pre_release: PreRelease,
-    range: &VersionReq,
-    texts: &[&str],
-) -> Result<Vec<Option<bool>>, Problem>
-    requires { tag_of range.now.inner ≡ None }
-    ensures answer { IsAnswer
-        (Each (LineMatch (λ v. inner_means_with pre_release range.now.inner v)) 0
-        (texts_of texts.now)) (λ answers. answers.items) result }
-    ensures problem { IfErr result (λ p. p ≡ problem.OutOfMemory) }
-{
-    let mut answers = Vec::new(alloc);
-    for text in texts {
-        let line = version_line(alloc, answers.len(), text)?;
-        let answer = line_answer(pre_release, range, &line);
-        if answers.push(answer).is_err() {
-            return Err(Problem::OutOfMemory);
-        }
-    }
-    Ok(answers)
-}
-
 // Whether the version of each text matches the range.
 fn filter_of(
     alloc: Global,
@@ -85,7 +61,14 @@ fn filter_of(
     if let Some(tag) = range.tag() {
         return Ok(Answer::Tag(PackageTag::from_str(alloc, tag)?));
     }
-    let answers = line_matches(alloc, pre_release, range, texts)?;
+    let mut answers = Vec::new(alloc);
+    for text in texts {
+        let line = version_line(alloc, answers.len(), text)?;
+        let answer = line_answer(pre_release, range, &line);
+        if answers.push(answer).is_err() {
+            return Err(Problem::OutOfMemory);
+        }
+    }
     Ok(Answer::Value(answers))
 }
 
@@ -124,24 +107,6 @@ pub fn version_lines(alloc: Global, texts: &[&str]) -> Result<Vec<Option<Version
     Ok(lines)
 }
 
-// Whether the version of each line matches the range, which isn't a tag.
-fn line_answers(
-    alloc: Global,
-    pre_release: PreRelease,
-    range: &VersionReq,
-    lines: &[Option<Version>],
-) -> Result<Vec<Option<bool>>, AllocError>
-    requires { tag_of range.now.inner ≡ None }
-    ensures { IfOk result (λ answers. answers.items
-        ≡ map (line_answer (λ v. inner_means_with pre_release range.now.inner v)) lines.now) }
-{
-    let mut answers = Vec::new(alloc);
-    for line in lines {
-        answers.push(line_answer(pre_release, range, line))?;
-    }
-    Ok(answers)
-}
-
 /// Which of the versions that were parsed match the range? Fails only out of memory.
 pub fn list_matches(
     alloc: Global,
@@ -152,10 +117,14 @@ pub fn list_matches(
     ensures { IfOk result (λ answer. list_answer (λ list. list.items) answer
         ≡ list_matches pre_release range.now.inner lines.now) }
 {
-    match range.tag() {
-        Some(tag) => Ok(Answer::Tag(PackageTag::from_str(alloc, tag)?)),
-        None => Ok(Answer::Value(line_answers(alloc, pre_release, range, lines)?)),
+    if let Some(tag) = range.tag() {
+        return Ok(Answer::Tag(PackageTag::from_str(alloc, tag)?));
     }
+    let mut answers = Vec::new(alloc);
+    for line in lines {
+        answers.push(line_answer(pre_release, range, line))?;
+    }
+    Ok(Answer::Value(answers))
 }
 
 // Whether the version matches the range, which isn't a tag, and is better than the best match so far, if any.
