@@ -11,13 +11,9 @@ use std::alloc::AllocError;
 pub fn clamped(answer: &mut Answer) -> Reported {
     let one = VersionRange::parse(">=1.0.0+a <=2.0.0+a", answer)?;
     let other = VersionRange::parse(">1.0.0+b <2.0.0+b", answer)?;
-    report_clamped(&one, &other, answer)
-}
-
-fn report_clamped(one: &VersionRange, other: &VersionRange, answer: &mut Answer) -> Reported {
     let alloc = answer.alloc;
-    answer.yes_or_no(one.intersects_range(other))?;
-    notation::report(Ok(one.clamp(alloc, other)?), answer)?;
+    answer.yes_or_no(one.intersects_range(&other))?;
+    notation::report(Ok(one.clamp(alloc, &other)?), answer)?;
     let start = one.start.clamp_start(alloc, &other.start)?;
     let text = notation::bound(alloc, '>', &start);
     drop(start);
@@ -35,15 +31,11 @@ pub fn ranges(answer: &mut Answer) -> Reported {
     drop(parsed);
     let range = copy?;
     let version = Version::parse("0.0.0-a", answer)?;
-    report_matches(&range, &version, answer)
-}
-
-fn report_matches(range: &VersionRange, version: &Version, answer: &mut Answer) -> Reported {
     answer.yes_or_no(range.is_none())?;
-    answer.yes_or_no(range.satisfies(version))?;
-    answer.yes_or_no(range.satisfies_with(version, PreRelease::Admitted))?;
-    answer.yes_or_no(range.intersects_version(version))?;
-    answer.yes_or_no(range.end.has_pre_with_exact_major_minor_patch(version))
+    answer.yes_or_no(range.satisfies(&version))?;
+    answer.yes_or_no(range.satisfies_with(&version, PreRelease::Admitted))?;
+    answer.yes_or_no(range.intersects_version(&version))?;
+    answer.yes_or_no(range.end.has_pre_with_exact_major_minor_patch(&version))
 }
 
 /// What a set matches, and how it compares to another.

@@ -1,7 +1,7 @@
 //! Values whose JSON is an object or an array.
 
-ghost use Rattle.std.specs.Prelude.{◌≡◌, ◌↔◌, IfOk, IsTrue, List, MatchOption, OnOk, codes, map};
-ghost use Rattle.serde_json.specs.Data.{Data, member, no_members, object, put as with_member, string};
+ghost use Rattle.std.specs.Prelude.{◌≡◌, IfOk, List, MatchOption, OnOk, map};
+ghost use Rattle.serde_json.specs.Data.{Data, member, no_members, object, put as with_member};
 ghost use Rattle.serde_json.specs.View.{items_view, members_view, view};
 ghost use Rattle.semver_base.specs.declared.range.VersionRange.{VersionRange};
 ghost use Rattle.deno_semver.specs.Json.{AreItemsOf, IsJsonOfBound, IsJsonOfRange, IsJsonOfRangeBound, IsJsonOfSet, IsJsonOfVersionReq, IsMemberOf, bound_json, range_bound_json, range_json, set_json, version_req_json};
@@ -95,15 +95,6 @@ fn only_member<'v>(value: &'v Value, key: &str) -> Option<&'v Value>
     value.get(key)
 }
 
-fn is_unbounded(value: &Value) -> bool
-    ensures { IsTrue result ↔ (view value.now ≡ string (codes "Unbounded")) }
-{
-    match value.as_str() {
-        Some(text) => text == "Unbounded",
-        None => false,
-    }
-}
-
 /// The string `Unbounded`, or an object whose only member is `Version`; one with further members is rejected.
 impl JsonForm for RangeBound {
     ghost json = { range_bound_json };
@@ -122,7 +113,7 @@ impl JsonForm for RangeBound {
     }
 
     fn from_json(alloc: Global, value: &Value) -> Result<Self, JsonError> {
-        if is_unbounded(value) {
+        if value.as_str() == Some("Unbounded") {
             return Ok(RangeBound::Unbounded);
         }
         match only_member(value, "Version") {

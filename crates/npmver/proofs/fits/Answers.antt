@@ -1,8 +1,7 @@
-use Rattle.std.proofs.Common.{◌≡◌, List, ℕ, Err, Ok, arith, refl, string_bytes}
+use Rattle.std.proofs.Common.{Err, Ok, arith, refl, string_bytes}
 use Rattle.std.proofs.lemmas.List.{length-map}
 use Rattle.std.proofs.lemmas.Bool.Decides.{nat_tests}
 use Rattle.std.proofs.lemmas.Result.{err_from_is_err_and}
-use Rattle.semver_req.specs.declared.common.values.Flavour.{Flavour}
 use Rattle.answers.specs.Asking.{fault_of}
 use Rattle.answers.specs.Questions.{Matches}
 use Rattle.npmver.specs.Question.{Prints}
